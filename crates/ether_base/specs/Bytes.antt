@@ -1,0 +1,16 @@
+-- Lists of bytes, and the numbers that they spell: the first byte is the most significant one, as on the wire.
+use Rattle.std.specs.Prelude.{ℕ, zero, suc, ◌+◌, ◌*◌, ◌/◌, ◌%◌, ◌^◌, ◌<◌, List, [], ◌∷◌, length, slice_index}
+
+-- each element is from 0 to 255
+abbrev pub IsBytes : List ℕ → Type 0
+IsBytes bytes = (i : ℕ) → slice_index bytes i < 256
+
+-- the sum of each byte times the power of 256 that its place has, the last one's being 1
+abbrev pub number : List ℕ → ℕ
+number [] = 0
+number (b ∷ bytes) = b * 256 ^ length bytes + number bytes
+
+-- the k bytes whose number is n, for an n that has room in them
+abbrev pub spelled : ℕ → ℕ → List ℕ
+spelled zero n = []
+spelled (suc k) n = n / 256 ^ k % 256 ∷ spelled k n

@@ -1,0 +1,34 @@
+-- The laws of the wire formats.
+use Rattle.std.specs.Prelude.{◌≡◌, ◌⊎◌, ℕ, ◌<◌, ◌≤◌, ◌^◌, List, ◌++◌, length}
+use Rattle.ether_base.specs.declared.len_source.LenSource.{LenSource}
+use Rattle.ether_base.specs.Bytes.{IsBytes, number, spelled}
+use Rattle.ether_base.specs.Ethernet2.{ethernet2_of}
+use Rattle.ether_base.specs.Vlan.{vlan_of}
+use Rattle.ether_base.specs.Kind.{Kind}
+use Rattle.ether_base.specs.Header.{Header, kind_of, header_len, header_bytes, Means, FitsHeader}
+use Rattle.ether_base.specs.Header as headers
+use Rattle.ether_base.specs.Refusal.{Refusal, Refuses, Accepts}
+
+-- k bytes have one number, and each number below 256 ^ k is that of one list of k bytes
+pub record NumbersAreBytes : Type 0 where
+  pub read : (bytes : List ℕ) → IsBytes bytes → spelled (length bytes) (number bytes) ≡ bytes
+  pub written : (k n : ℕ) → n < 256 ^ k → number (spelled k n) ≡ n
+  pub below : (bytes : List ℕ) → IsBytes bytes → number bytes < 256 ^ length bytes
+
+-- at most one row of a kind holds, and it is decided whether one does
+pub record RowsAreApart : Type 0 where
+  pub one : (bound : LenSource) (bytes : List ℕ) (kind : Kind) (r s : Refusal) → Refuses bound bytes kind r → Refuses bound bytes kind s → r ≡ s
+  pub decided : (bound : LenSource) (bytes : List ℕ) (kind : Kind) → IsBytes bytes → ((r : Refusal) × Refuses bound bytes kind r) ⊎ Accepts bound bytes kind
+
+-- Accepted bytes mean a header, and a list means at most one of a kind. Of fourteen bytes and of four it is the one that
+-- their parts tell.
+pub record HeadersAreMeant : Type 0 where
+  pub some : (bound : LenSource) (bytes : List ℕ) (kind : Kind) → IsBytes bytes → Accepts bound bytes kind → (h : Header) × (kind_of h ≡ kind) × Means bytes h
+  pub one : (bytes : List ℕ) (h k : Header) → kind_of h ≡ kind_of k → Means bytes h → Means bytes k → h ≡ k
+  pub ethernet2 : (bytes : List ℕ) → IsBytes bytes → 14 ≤ length bytes → Means bytes (headers.Ethernet2 (ethernet2_of bytes))
+  pub vlan : (bytes : List ℕ) → IsBytes bytes → 4 ≤ length bytes → Means bytes (headers.Vlan (vlan_of bytes))
+
+-- the bytes of a header are as many as its length, and mean it, whatever follows them
+pub record BytesMeanTheirHeader : Type 0 where
+  pub len : (h : Header) → FitsHeader h → length (header_bytes h) ≡ header_len h
+  pub means : (h : Header) (more : List ℕ) → FitsHeader h → Means (header_bytes h ++ more) h

@@ -1,0 +1,11 @@
+pub mod Bytes
+pub mod EtherType
+pub mod Ethernet2
+pub mod Vlan
+pub mod LinuxSll
+pub mod SecTag
+pub mod Arp
+pub mod Kind
+pub mod Header
+pub mod Refusal
+pub mod Laws

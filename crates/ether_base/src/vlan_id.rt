@@ -1,0 +1,80 @@
+//! The identifier of a VLAN.
+ghost use Rattle.std.specs.Prelude.{◌≡◌, ◌≤◌, ◌↔◌, IfOk, IfErr, IsOk};
+
+use crate::err::{ValueTooBigError, ValueType};
+use std::marker::Model;
+
+/// The VLAN identifier (VID) of a tag of IEEE 802.1Q: 12 bits, 0 to 4095.
+#[derive(Clone, Copy, PartialEq, Eq, PartialOrd, Ord, Hash, Debug, Default)]
+pub struct VlanId(u16);
+
+impl Model for VlanId {
+    ghost use Rattle.std.specs.Prelude.{ℕ, ◌≤◌};
+
+    ghost Value = { ℕ };
+
+    ghost view = { λ id. id.0 };
+
+    ghost invariant = { λ id. id.0 ≤ 4095 };
+
+    ghost inverse = { λ number. record { 0 = number } };
+}
+
+impl VlanId {
+    /// The identifier 0: a tag that carries a priority alone.
+    pub const ZERO: VlanId = VlanId(0);
+
+    /// The greatest identifier, 4095.
+    pub const MAX_U16: u16 = 0b0000_1111_1111_1111;
+
+    /// The identifier of a number, refused above [`VlanId::MAX_U16`].
+    pub fn try_new(value: u16) -> Result<VlanId, ValueTooBigError<u16>>
+        ensures variant { IsOk result ↔ (value ≤ 4095) }
+        ensures ok { IfOk result (λ id. id ≡ value) }
+        ensures err { IfErr result (λ e. e ≡ record { actual = value; max_allowed = 4095; value_type = ValueType.VlanId }) }
+    {
+        if value <= VlanId::MAX_U16 {
+            Ok(VlanId(value))
+        } else {
+            Err(ValueTooBigError {
+                actual: value,
+                max_allowed: VlanId::MAX_U16,
+                value_type: ValueType::VlanId,
+            })
+        }
+    }
+
+    /// The number of the identifier.
+    pub fn value(self) -> u16
+        ensures value { result ≡ self }
+        ensures bound { result ≤ 4095 }
+    {
+        self.0
+    }
+}
+
+#[cfg(test)]
+mod tests {
+    use super::*;
+    use std::test::Fail;
+
+    #[test]
+    fn refused_above_4095(rt: HostRuntime) -> Result<(), Fail> {
+        assert_eq!(rt; VlanId::try_new(0), Ok(VlanId::ZERO));
+        assert_eq!(rt; VlanId::try_new(4095)?.value(), VlanId::MAX_U16);
+        assert_eq!(rt;
+            VlanId::try_new(4096),
+            Err(ValueTooBigError {
+                actual: 4096,
+                max_allowed: 4095,
+                value_type: ValueType::VlanId,
+            })
+        );
+        assert_eq!(rt; VlanId::default(), VlanId::ZERO);
+        assert_eq!(rt;
+            format!(in rt.alloc(); "{:?}", VlanId::try_new(0x123)?)?.as_str(),
+            "VlanId(291)"
+        );
+        Ok(())
+    }
+}

@@ -1,0 +1,80 @@
+//! The priority of a VLAN tag.
+ghost use Rattle.std.specs.Prelude.{◌≡◌, ◌≤◌, ◌↔◌, IfOk, IfErr, IsOk};
+
+use crate::err::{ValueTooBigError, ValueType};
+use std::marker::Model;
+
+/// The priority code point (PCP) of a tag of IEEE 802.1Q: 3 bits, 0 to 7.
+#[derive(Clone, Copy, PartialEq, Eq, PartialOrd, Ord, Hash, Debug, Default)]
+pub struct VlanPcp(u8);
+
+impl Model for VlanPcp {
+    ghost use Rattle.std.specs.Prelude.{ℕ, ◌≤◌};
+
+    ghost Value = { ℕ };
+
+    ghost view = { λ pcp. pcp.0 };
+
+    ghost invariant = { λ pcp. pcp.0 ≤ 7 };
+
+    ghost inverse = { λ number. record { 0 = number } };
+}
+
+impl VlanPcp {
+    /// The priority 0.
+    pub const ZERO: VlanPcp = VlanPcp(0);
+
+    /// The greatest priority code point, 7.
+    pub const MAX_U8: u8 = 0b0000_0111;
+
+    /// The priority code point of a number, refused above [`VlanPcp::MAX_U8`].
+    pub fn try_new(value: u8) -> Result<VlanPcp, ValueTooBigError<u8>>
+        ensures variant { IsOk result ↔ (value ≤ 7) }
+        ensures ok { IfOk result (λ pcp. pcp ≡ value) }
+        ensures err { IfErr result (λ e. e ≡ record { actual = value; max_allowed = 7; value_type = ValueType.VlanPcp }) }
+    {
+        if value <= VlanPcp::MAX_U8 {
+            Ok(VlanPcp(value))
+        } else {
+            Err(ValueTooBigError {
+                actual: value,
+                max_allowed: VlanPcp::MAX_U8,
+                value_type: ValueType::VlanPcp,
+            })
+        }
+    }
+
+    /// The number of the priority code point.
+    pub fn value(self) -> u8
+        ensures value { result ≡ self }
+        ensures bound { result ≤ 7 }
+    {
+        self.0
+    }
+}
+
+#[cfg(test)]
+mod tests {
+    use super::*;
+    use std::test::Fail;
+
+    #[test]
+    fn refused_above_7(rt: HostRuntime) -> Result<(), Fail> {
+        assert_eq!(rt; VlanPcp::try_new(0), Ok(VlanPcp::ZERO));
+        assert_eq!(rt; VlanPcp::try_new(7)?.value(), VlanPcp::MAX_U8);
+        assert_eq!(rt;
+            VlanPcp::try_new(8),
+            Err(ValueTooBigError {
+                actual: 8,
+                max_allowed: 7,
+                value_type: ValueType::VlanPcp,
+            })
+        );
+        assert_eq!(rt; VlanPcp::default(), VlanPcp::ZERO);
+        assert_eq!(rt;
+            format!(in rt.alloc(); "{:?}", VlanPcp::try_new(2)?)?.as_str(),
+            "VlanPcp(2)"
+        );
+        Ok(())
+    }
+}
