@@ -1,13 +1,15 @@
 -- The fields of an Ethernet II header and of a VLAN tag, read from the parts of a list.
-use Rattle.std.proofs.Common.{◌≡◌, ℕ, ◌+◌, ◌-◌, ◌*◌, ◌^◌, ◌<◌, ◌≤◌, List, length, sym, ap, ◌∙◌, arith}
+use Rattle.std.proofs.Common.{◌≡◌, ℕ, ◌+◌, ◌-◌, ◌*◌, ◌/◌, ◌%◌, ◌^◌, ◌<◌, ◌≤◌, List, [], ◌∷◌, ◌++◌, length, refl, sym, ap, subst, ◌∙◌, arith}
+use Rattle.std.proofs.lemmas.List.{length-append}
 use Rattle.std.specs.Prelude.{slice_range}
-use Rattle.ether_base.specs.Bytes.{IsBytes, number}
-use Rattle.ether_base.specs.Ethernet2.{IsEthernet2, ethernet2_of}
-use Rattle.ether_base.specs.Vlan.{IsVlan, vlan_of}
+use Rattle.ether_base.specs.Bytes.{IsBytes, number, spelled}
+use Rattle.ether_base.specs.Ethernet2.{Ethernet2Value, IsEthernet2, ethernet2_bytes, ethernet2_of}
+use Rattle.ether_base.specs.Vlan.{VlanValue, FitsVlan, IsVlan, vlan_bytes, vlan_of}
 use Rattle.ether_base.specs.Header.{Means}
 use Rattle.ether_base.specs.Header as headers
-use Rattle.ether_base.proofs.Numbers.{number-append, number_below}
-use Rattle.ether_base.proofs.Parts.{length-part, part_join, IsBytes-part}
+use Rattle.ether_base.proofs.Numbers.{IsBytes-nil, IsBytes-cons, IsBytes-append, number-append, number_below, spelled-number}
+use Rattle.ether_base.proofs.Parts.{length-part, part_all, part_join, IsBytes-part}
+use Rattle.ether_base.proofs.Cells.{cells, cells-all}
 
 -- a part that is there has a number of its length
 pub number-part_below : (bytes : List ℕ) (i j : ℕ) → IsBytes bytes → j ≤ length bytes → number (slice_range bytes i j) < 256 ^ (j - i)
@@ -40,3 +42,55 @@ vlan_read bytes ok le =
 
 pub vlan_means : (bytes : List ℕ) → IsBytes bytes → 4 ≤ length bytes → Means bytes (headers.Vlan (vlan_of bytes))
 vlan_means bytes ok le = record { whole = le; spells = vlan_read bytes ok le }
+
+-- ---- writing
+
+pub ethernet2_whole : (bytes : List ℕ) → IsBytes bytes → length bytes ≡ 14 → IsEthernet2 bytes (ethernet2_of bytes)
+ethernet2_whole bytes ok len = rw (part_all bytes 14 (omega arith)) at (ethernet2_read bytes ok (omega arith))
+
+pub vlan_whole : (bytes : List ℕ) → IsBytes bytes → length bytes ≡ 4 → IsVlan bytes (vlan_of bytes)
+vlan_whole bytes ok len = rw (part_all bytes 4 (omega arith)) at (vlan_read bytes ok (omega arith))
+
+-- bytes are those of the value that they mean
+pub ethernet2_bytes-read : (bytes : List ℕ) (e : Ethernet2Value) → IsBytes bytes → length bytes ≡ 14 → IsEthernet2 bytes e → ethernet2_bytes e ≡ bytes
+ethernet2_bytes-read bytes e ok len is = ap (spelled 14) (sym is.sum) ∙ ap (λ (n : ℕ). spelled n (number bytes)) (sym len) ∙ spelled-number bytes ok
+
+pub vlan_bytes-read : (bytes : List ℕ) (v : VlanValue) → IsBytes bytes → length bytes ≡ 4 → IsVlan bytes v → vlan_bytes v ≡ bytes
+vlan_bytes-read bytes v ok len is = ap (spelled 4) (sym is.sum) ∙ ap (λ (n : ℕ). spelled n (number bytes)) (sym len) ∙ spelled-number bytes ok
+
+-- two addresses and the two bytes of an ether type, one behind the other, mean the header that has them
+pub ethernet2_written : (d s : List ℕ) (t : ℕ) (last : List ℕ) → IsBytes d → IsBytes s → length d ≡ 6 → length s ≡ 6 → t < 2 ^ 16 → last ≡ t / 256 % 256 ∷ t % 256 ∷ []
+    → let bytes = cells 0 6 d ++ (cells 0 6 s ++ cells 0 2 last) in
+    let e : Ethernet2Value = record { destination = number d; source = number s; ether_type = t } in
+    IsEthernet2 bytes e × (bytes ≡ ethernet2_bytes e)
+ethernet2_written d s t last okd oks ld ls lt is_last =
+    let e : Ethernet2Value = record { destination = number d; source = number s; ether_type = t } in
+    let two = t / 256 % 256 ∷ t % 256 ∷ [] in
+    let bytes = cells 0 6 d ++ (cells 0 6 s ++ cells 0 2 last) in
+    let same : bytes ≡ d ++ (s ++ two) = ap (λ (l : List ℕ). l ++ (cells 0 6 s ++ cells 0 2 last)) (cells-all 6 d ld) ∙ ap (λ (l : List ℕ). d ++ (l ++ cells 0 2 last)) (cells-all 6 s ls) ∙ ap (λ (l : List ℕ). d ++ (s ++ cells 0 2 l)) is_last in
+    let a = number-append d (s ++ two) in
+    let b = number-append s two in
+    let ll : length (s ++ two) ≡ 8 = length-append s two ∙ omega arith in
+    let p : number d * 256 ^ length (s ++ two) ≡ number d * 256 ^ 8 = ap (λ (k : ℕ). number d * 256 ^ k) ll in
+    let nd = rw ld at (number_below d okd) in
+    let ns = rw ls at (number_below s oks) in
+    let is : IsEthernet2 bytes e = record { sum = ap number same ∙ omega arith; fits = record { destination = nd; source = ns; ether_type = lt } } in
+    let okt : IsBytes two = IsBytes-cons (t / 256 % 256) (t % 256 ∷ []) (omega arith) (IsBytes-cons (t % 256) [] (omega arith) IsBytes-nil) in
+    let ok : IsBytes bytes = subst IsBytes (sym same) (IsBytes-append d (s ++ two) okd (IsBytes-append s two oks okt)) in
+    (is, sym (ethernet2_bytes-read bytes e ok refl is))
+
+-- the same of a tag: the two bytes of its control information, and those of an ether type
+pub vlan_written : (c t : ℕ) (first last : List ℕ) (v : VlanValue) → c ≡ v.pcp * 2 ^ 13 + v.dei * 2 ^ 12 + v.vid → t ≡ v.ether_type → FitsVlan v
+    → first ≡ c / 256 % 256 ∷ c % 256 ∷ [] → last ≡ t / 256 % 256 ∷ t % 256 ∷ []
+    → let bytes = cells 0 2 first ++ cells 0 2 last in
+    IsVlan bytes v × (bytes ≡ vlan_bytes v)
+vlan_written c t first last v control type fits is_first is_last =
+    let bytes = cells 0 2 first ++ cells 0 2 last in
+    let two = t / 256 % 256 ∷ t % 256 ∷ [] in
+    let four = c / 256 % 256 ∷ c % 256 ∷ two in
+    let same : bytes ≡ four = ap (λ (l : List ℕ). cells 0 2 l ++ cells 0 2 last) is_first ∙ ap (λ (l : List ℕ). c / 256 % 256 ∷ c % 256 ∷ cells 0 2 l) is_last in
+    let f = fits in
+    let is : IsVlan bytes v = record { sum = ap number same ∙ omega arith; fits = fits } in
+    let okt : IsBytes two = IsBytes-cons (t / 256 % 256) (t % 256 ∷ []) (omega arith) (IsBytes-cons (t % 256) [] (omega arith) IsBytes-nil) in
+    let ok : IsBytes four = IsBytes-cons (c / 256 % 256) (c % 256 ∷ two) (omega arith) (IsBytes-cons (c % 256) two (omega arith) okt) in
+    (is, sym (vlan_bytes-read bytes v (subst IsBytes (sym same) ok) refl is))

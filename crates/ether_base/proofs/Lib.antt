@@ -5,3 +5,4 @@ pub mod Rows
 pub mod Means
 pub mod Fields
 pub mod ReadBack
+pub mod Cells

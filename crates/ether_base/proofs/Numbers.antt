@@ -9,6 +9,17 @@ use Rattle.ether_base.specs.Bytes.{IsBytes, number, spelled}
 pub IsBytes-tail : (b : ℕ) (bytes : List ℕ) → IsBytes (b ∷ bytes) → IsBytes bytes
 IsBytes-tail b bytes h i = h (suc i)
 
+pub IsBytes-nil : IsBytes []
+IsBytes-nil i = omega arith
+
+pub IsBytes-cons : (b : ℕ) (bytes : List ℕ) → b < 256 → IsBytes bytes → IsBytes (b ∷ bytes)
+IsBytes-cons b bytes lt h zero = lt
+IsBytes-cons b bytes lt h (suc i) = h i
+
+pub IsBytes-append : (a b : List ℕ) → IsBytes a → IsBytes b → IsBytes (a ++ b)
+IsBytes-append [] b ha hb = hb
+IsBytes-append (x ∷ a) b ha hb = IsBytes-cons x (a ++ b) (ha 0) (IsBytes-append a b (IsBytes-tail x a ha) hb)
+
 pub number_below : (bytes : List ℕ) → IsBytes bytes → number bytes < 256 ^ length bytes
 number_below [] h = omega arith
 number_below (b ∷ bytes) h =
@@ -26,10 +37,12 @@ number_injective (x ∷ a) (y ∷ b) len ha hb e =
     cc (both.0, rest)
 
 pub length-spelled : (k n : ℕ) → length (spelled k n) ≡ k
+unfolding spelled
 length-spelled zero n = refl
 length-spelled (suc k) n = ap suc (length-spelled k n)
 
 pub IsBytes-spelled : (k n : ℕ) → IsBytes (spelled k n)
+unfolding spelled
 IsBytes-spelled zero n i = omega arith
 IsBytes-spelled (suc k) n zero = omega arith
 IsBytes-spelled (suc k) n (suc i) = IsBytes-spelled k n i
@@ -39,6 +52,7 @@ pos_256 zero = omega arith
 pos_256 (suc k) = let h = pos_256 k in rw pow-suc (omega arith)
 
 number_spelled_mod : (k n : ℕ) → number (spelled k n) ≡ n % 256 ^ k
+unfolding spelled
 number_spelled_mod zero n = omega arith
 number_spelled_mod (suc k) n = rw (length-spelled k n, number_spelled_mod k n, pow-suc, mul_comm (256 ^ k) 256) (sym (mod-mul n {m = 256} {c = 256 ^ k} (omega arith) (pos_256 k)))
 
@@ -50,6 +64,14 @@ number-spelled k n lt = number_spelled_mod k n ∙ mod-eq_of_lt lt
 pub spelled-number : (bytes : List ℕ) → IsBytes bytes → spelled (length bytes) (number bytes) ≡ bytes
 spelled-number bytes h =
     number_injective (spelled (length bytes) (number bytes)) bytes (length-spelled (length bytes) (number bytes)) (IsBytes-spelled (length bytes) (number bytes)) h (number-spelled (length bytes) (number bytes) (number_below bytes h))
+
+-- k bytes are those of their number
+pub spelled-is : (k : ℕ) (bytes : List ℕ) → length bytes ≡ k → IsBytes bytes → spelled k (number bytes) ≡ bytes
+spelled-is k bytes len ok = ap (λ (n : ℕ). spelled n (number bytes)) (sym len) ∙ spelled-number bytes ok
+
+pub IsBytes-six : (a b c d e f : ℕ) → a < 256 → b < 256 → c < 256 → d < 256 → e < 256 → f < 256 → IsBytes (a ∷ b ∷ c ∷ d ∷ e ∷ f ∷ [])
+IsBytes-six a b c d e f ha hb hc hd he hf =
+    IsBytes-cons a (b ∷ c ∷ d ∷ e ∷ f ∷ []) ha (IsBytes-cons b (c ∷ d ∷ e ∷ f ∷ []) hb (IsBytes-cons c (d ∷ e ∷ f ∷ []) hc (IsBytes-cons d (e ∷ f ∷ []) hd (IsBytes-cons e (f ∷ []) he (IsBytes-cons f [] hf IsBytes-nil)))))
 
 -- two lists, one behind the other
 pub number-append : (a b : List ℕ) → number (a ++ b) ≡ number a * 256 ^ length b + number b

@@ -1,9 +1,10 @@
 -- Parts of lists of bytes.
-use Rattle.std.proofs.Common.{◌≡◌, ℕ, ◌+◌, ◌-◌, ◌≤◌, List, ◌++◌, length, take, drop, min, refl, sym, ap, ◌∙◌, arith, inl, inr}
+use Rattle.std.proofs.Common.{◌≡◌, ℕ, ◌+◌, ◌-◌, ◌≤◌, List, ◌++◌, length, take, drop, min, refl, sym, ap, subst, ◌∙◌, arith, inl, inr}
 use Rattle.std.specs.Prelude.{slice_range}
 use Rattle.std.proofs.lemmas.Bool.{cases_lt}
 use Rattle.std.proofs.lemmas.List.{append_assoc, drop_at, take_at, length-take, length-drop, take-append-le, drop-append-le, drop-drop, drop-take, take-take, get_or-drop, get_or-take, get_or_past, take_all, take-append-drop}
 use Rattle.ether_base.specs.Bytes.{IsBytes}
+use Rattle.ether_base.proofs.Numbers.{IsBytes-append}
 
 pub length-part : (list : List ℕ) (i j : ℕ) → j ≤ length list → length (slice_range list i j) ≡ j - i
 length-part list i j le = simp (length-take, length-drop) (omega arith)
@@ -70,3 +71,7 @@ pub part_behind : (front part more : List ℕ) (i j : ℕ) → length front ≡ 
 part_behind front part more i j len long =
     let n : j - i ≡ length part = omega arith in
     ap (λ (l : List ℕ). take (j - i) (drop i l)) (append_assoc front part more) ∙ ap (take (j - i)) (drop_at front (part ++ more) i len) ∙ ap (λ (k : ℕ). take k (part ++ more)) n ∙ take_at part more (length part) refl
+
+-- bytes in two parts that meet
+pub IsBytes-join : (list : List ℕ) (i j k : ℕ) → i ≤ j → j ≤ k → IsBytes (slice_range list i j) → IsBytes (slice_range list j k) → IsBytes (slice_range list i k)
+IsBytes-join list i j k ij jk a b = subst IsBytes (part_join list i j k ij jk) (IsBytes-append (slice_range list i j) (slice_range list j k) a b)

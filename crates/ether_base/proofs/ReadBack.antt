@@ -21,10 +21,12 @@ means_front bytes more h len spells = record {
 }
 
 length-sci : (s : Option ℕ) → length (sci_bytes s) ≡ 8 * sci_present_of s
+unfolding spelled
 length-sci None = refl
 length-sci (Some n) = refl
 
 length-type : (p : PayloadType) → length (ether_type_bytes p) ≡ ether_type_len (encrypted_of p) (changed_of p)
+unfolding spelled
 length-type (Unmodified n) = refl
 length-type Modified = refl
 length-type EncryptedUnmodified = refl
@@ -45,6 +47,7 @@ type_back a from EncryptedUnmodified more len fits = tt
 type_back a from Encrypted more len fits = tt
 
 tag_back : (t : SecTagValue) → FitsSecTag t → IsSecTag (sec_tag_bytes t) t
+unfolding spelled
 tag_back t f =
     let c = sec_tag_front_number (sec_tag_front_of 0 0 t) in
     let r = f.front in
@@ -65,9 +68,11 @@ tag_back t f =
     }
 
 length-tag : (t : SecTagValue) → length (sec_tag_bytes t) ≡ sec_tag_len (sec_tag_front_of 0 0 t)
+unfolding spelled
 length-tag t = let a = spelled 2 (sec_tag_front_number (sec_tag_front_of 0 0 t)) ++ spelled 4 t.packet_number in omega (arith, length-append (a ++ sci_bytes t.sci) (ether_type_bytes t.payload_type), length-append a (sci_bytes t.sci), length-sci t.sci, length-type t.payload_type)
 
 arp_back : (a : ArpValue) → FitsArp a → IsArp (arp_bytes a) a
+unfolding spelled
 arp_back a f =
     let r = f.front in
     let n = arp_front_number (arp_front_of a) in
@@ -91,6 +96,7 @@ arp_back a f =
     }
 
 length-arp : (a : ArpValue) → FitsArp a → length (arp_bytes a) ≡ arp_len (arp_front_of a)
+unfolding spelled
 length-arp a f =
     let x = spelled 8 (arp_front_number (arp_front_of a)) ++ a.sender_hardware in
     let y = x ++ a.sender_protocol in
@@ -99,6 +105,7 @@ length-arp a f =
     omega (arith, length-append (spelled 8 (arp_front_number (arp_front_of a))) a.sender_hardware, length-append x a.sender_protocol, length-append y a.target_hardware, length-append (y ++ a.target_hardware) a.target_protocol)
 
 pub length-header_bytes : (h : Header) → FitsHeader h → length (header_bytes h) ≡ header_len h
+unfolding spelled
 length-header_bytes (headers.Ethernet2 e) f = refl
 length-header_bytes (headers.Ethernet2Fcs e) f = refl
 length-header_bytes (headers.LinuxSll s) f = refl
@@ -107,6 +114,7 @@ length-header_bytes (headers.Macsec t) f = length-tag t
 length-header_bytes (headers.Arp a) f = length-arp a f
 
 pub spells-header_bytes : (h : Header) → FitsHeader h → Spells (header_bytes h) h
+unfolding spelled
 spells-header_bytes (headers.Ethernet2 e) f = record { sum = number-spelled 14 (ethernet2_number e) (omega arith); fits = f }
 spells-header_bytes (headers.Ethernet2Fcs e) f = record { sum = number-spelled 14 (ethernet2_number e) (omega arith); fits = f }
 spells-header_bytes (headers.LinuxSll s) f = record { sum = number-spelled 16 (linux_sll_number s) (omega arith); fits = f }

@@ -11,6 +11,6 @@ number [] = 0
 number (b ∷ bytes) = b * 256 ^ length bytes + number bytes
 
 -- the k bytes whose number is n, for an n that has room in them
-abbrev pub spelled : ℕ → ℕ → List ℕ
+unfoldable pub spelled : ℕ → ℕ → List ℕ
 spelled zero n = []
 spelled (suc k) n = n / 256 ^ k % 256 ∷ spelled k n

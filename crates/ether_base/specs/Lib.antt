@@ -8,4 +8,5 @@ pub mod Arp
 pub mod Kind
 pub mod Header
 pub mod Refusal
+pub mod RefusedLen
 pub mod Laws

@@ -1,0 +1,14 @@
+-- What callers see of a view of an Ethernet II frame.
+use Rattle.std.specs.Prelude.{ℕ, ◌-◌, List, length, slice_range, Bool, if◌then◌else◌}
+
+-- the frame's bytes as they were handed in, and whether the last four are a frame check sequence
+pub record Frame : Type 0 where
+  pub bytes : List ℕ
+  pub has_fcs : Bool
+
+abbrev pub fcs_len : Frame → ℕ
+fcs_len f = if f.has_fcs then 4 else 0
+
+-- the bytes between the header and the frame check sequence
+abbrev pub payload_of : Frame → List ℕ
+payload_of f = slice_range f.bytes 14 (length f.bytes - fcs_len f)

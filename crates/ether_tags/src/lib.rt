@@ -1,0 +1,16 @@
+//! Ethernet II frames and VLAN tags: headers as values, and views that borrow the bytes of a packet.
+#![tactic(auto)]
+
+mod ether_payload_slice;
+mod ethernet2_header;
+mod ethernet2_slice;
+mod single_vlan_header;
+mod single_vlan_slice;
+mod tag_control;
+mod wire;
+
+pub use ether_payload_slice::EtherPayloadSlice;
+pub use ethernet2_header::Ethernet2Header;
+pub use ethernet2_slice::Ethernet2Slice;
+pub use single_vlan_header::SingleVlanHeader;
+pub use single_vlan_slice::SingleVlanSlice;

@@ -1,0 +1,169 @@
+//! A view of a VLAN tag and its payload.
+ghost use Rattle.std.specs.Prelude.{⊤, ◌≡◌, ◌↔◌, ◌≤◌, ◌<◌, length, IfOk, IfErr, ◌==◌, slice_range};
+ghost use Rattle.std.proofs.Common.{rules};
+ghost use Rattle.std.specs.Cmp.Rules.{comparing};
+ghost use Rattle.std.specs.Cmp.Lexicographic.{pointwise};
+ghost use Rattle.ether_base.specs.declared.len_source.LenSource.TheVariants as sources;
+ghost use Rattle.ether_base.specs.Vlan.{vlan_of};
+ghost use Rattle.ether_base.specs.Header as headers;
+ghost use Rattle.ether_base.specs.Header.{Means};
+ghost use Rattle.ether_base.specs.Kind as kinds;
+ghost use Rattle.ether_base.specs.Refusal.{Accepts};
+ghost use Rattle.ether_base.specs.RefusedLen.{IsRefusedLen};
+ghost use Rattle.ether_tags.specs.Views.{bit, vlan_view};
+
+use crate::tag_control::{is_drop_eligible, pcp_of, vlan_id_of};
+use crate::wire::u16_at;
+use crate::{EtherPayloadSlice, SingleVlanHeader};
+use ether_base::err::{Layer, LenError};
+use ether_base::{EtherType, LenSource, VlanId, VlanPcp};
+use std::alloc::AllocError;
+use std::fmt;
+use std::marker::Model;
+
+/// A VLAN tag behind its own ether type, and its payload, in the bytes of a packet. The tag is there in full.
+///
+/// Two views are equal where their bytes are.
+#[derive(Drop)]
+pub struct SingleVlanSlice<'a> {
+    slice: &'a [u8],
+}
+
+impl<'a> Model for SingleVlanSlice<'a> {
+    ghost use Rattle.std.specs.Prelude.{ℕ, List, ◌≤◌, length};
+
+    ghost Value = { List ℕ };
+
+    ghost view = { λ a. a.slice.now };
+
+    ghost invariant = { λ a. 4 ≤ length a.slice.now };
+}
+
+impl<'a> SingleVlanSlice<'a> {
+    /// The tag that a slice begins with, and behind it the payload; refused where there are fewer than 4 bytes.
+    pub fn from_slice(slice: &'a [u8]) -> Result<SingleVlanSlice<'a>, LenError>
+        ensures bytes { IfOk result (λ v. v ≡ slice.now) }
+        ensures accepted { IfOk result (λ v. Accepts sources.Slice slice.now kinds.Vlan) }
+        ensures value { IfOk result (λ v. Means slice.now (headers.Vlan (vlan_of slice.now))) }
+        ensures refused { IfErr result (IsRefusedLen slice.now kinds.Vlan) }
+    {
+        if slice.len() < SingleVlanHeader::LEN {
+            return Err(LenError {
+                required_len: SingleVlanHeader::LEN,
+                len: slice.len(),
+                len_source: LenSource::Slice,
+                layer: Layer::VlanHeader,
+                layer_start_offset: 0,
+            });
+        }
+        Ok(SingleVlanSlice { slice })
+    }
+
+    /// All bytes of the tag and its payload, as they were handed in.
+    pub fn slice(&self) -> &'a [u8]
+        ensures { result.now ≡ self.now }
+    {
+        self.slice
+    }
+
+    /// The priority code point.
+    pub fn priority_code_point(&self) -> VlanPcp
+        ensures { result ≡ (vlan_of self.now).pcp }
+    {
+        pcp_of(u16_at(self.slice, 0))
+    }
+
+    /// Whether the frame may be dropped first under congestion.
+    pub fn drop_eligible_indicator(&self) -> bool
+        ensures { bit result ≡ (vlan_of self.now).dei }
+    {
+        is_drop_eligible(u16_at(self.slice, 0))
+    }
+
+    /// The VLAN identifier.
+    pub fn vlan_identifier(&self) -> VlanId
+        ensures { result ≡ (vlan_of self.now).vid }
+    {
+        vlan_id_of(u16_at(self.slice, 0))
+    }
+
+    /// The protocol of the payload.
+    pub fn ether_type(&self) -> EtherType
+        ensures { result.0 ≡ (vlan_of self.now).ether_type }
+    {
+        EtherType(u16_at(self.slice, 2))
+    }
+
+    /// The tag as a value.
+    pub fn to_header(&self) -> SingleVlanHeader
+        ensures { vlan_view result ≡ vlan_of self.now }
+    {
+        SingleVlanHeader {
+            pcp: self.priority_code_point(),
+            drop_eligible_indicator: self.drop_eligible_indicator(),
+            vlan_id: self.vlan_identifier(),
+            ether_type: self.ether_type(),
+        }
+    }
+
+    /// The payload and its type. Its length is always the slice's, less the tag.
+    pub fn payload(&self) -> EtherPayloadSlice<'a>
+        ensures ether_type { result.ether_type.0 ≡ (vlan_of self.now).ether_type }
+        ensures len_source { result.len_source ≡ sources.Slice }
+        ensures bytes { result.payload.now ≡ slice_range self.now 4 (length self.now) }
+    {
+        EtherPayloadSlice {
+            ether_type: self.ether_type(),
+            len_source: LenSource::Slice,
+            payload: self.payload_slice(),
+        }
+    }
+
+    /// The bytes of the payload.
+    pub fn payload_slice(&self) -> &'a [u8]
+        ensures { result.now ≡ slice_range self.now 4 (length self.now) }
+    {
+        let slice = self.slice;
+        &slice[SingleVlanHeader::LEN..]
+    }
+
+    /// The length of the tag in bytes, which is [`SingleVlanHeader::LEN`].
+    pub fn header_len(&self) -> usize
+        ensures { result ≡ 4 }
+    {
+        SingleVlanHeader::LEN
+    }
+}
+
+impl<'a> Clone for SingleVlanSlice<'a> {
+    ghost is_clone = { λ a b. b ≡ a };
+
+    ghost is_infallible = { λ _. ⊤ };
+
+    fn clone(&self) -> Result<Self, AllocError> {
+        Ok(SingleVlanSlice { slice: self.slice })
+    }
+}
+
+impl<'a> PartialEq for SingleVlanSlice<'a> {
+    ghost eq = { pointwise ◌==◌ };
+
+    ghost laws = { Prim.search (comparing, rules) };
+
+    fn eq(&self, other: &SingleVlanSlice<'a>) -> bool {
+        self.slice == other.slice
+    }
+}
+
+impl<'a> Eq for SingleVlanSlice<'a> {
+    ghost laws = { Prim.search (comparing, rules) };
+}
+
+impl fmt::Debug for SingleVlanSlice<'_> {
+    fn fmt<W: fmt::Write>(&self, f: &mut fmt::Formatter<W>) -> fmt::Result {
+        f.debug_struct("SingleVlanSlice")
+            .field("header", &self.to_header())
+            .field("payload", &self.payload())
+            .finish()
+    }
+}

@@ -1,0 +1,28 @@
+//! Fields of one shape, read at a place of a slice.
+ghost use Rattle.std.specs.Prelude.{◌≡◌, ◌+◌, ◌≤◌, length, slice_range};
+ghost use Rattle.ether_base.specs.Bytes.{IsBytes, number};
+
+/// Two bytes as a number, the first of them the higher one.
+pub fn u16_at(bytes: &[u8], at: usize) -> u16
+    requires { at + 2 ≤ length bytes.now }
+    ensures value { result ≡ number (slice_range bytes.now at (at + 2)) }
+    ensures bytes { IsBytes (slice_range bytes.now at (at + 2)) }
+{
+    u16::from_be_bytes([bytes[at], bytes[at + 1]])
+}
+
+/// A MAC address, as six bytes in their order on the wire.
+pub fn address_at(bytes: &[u8], at: usize) -> [u8; 6]
+    requires { at + 6 ≤ length bytes.now }
+    ensures value { result ≡ slice_range bytes.now at (at + 6) }
+    ensures bytes { IsBytes result }
+{
+    [
+        bytes[at],
+        bytes[at + 1],
+        bytes[at + 2],
+        bytes[at + 3],
+        bytes[at + 4],
+        bytes[at + 5],
+    ]
+}
