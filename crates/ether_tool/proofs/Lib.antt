@@ -1,0 +1,11 @@
+pub mod Stacks
+pub mod Walking
+pub mod HexLemmas
+pub mod KnownLemmas
+pub mod GatheredLemmas
+pub mod Answering
+pub mod LineLemmas
+pub mod FrameLemmas
+pub mod ProgressLemmas
+pub mod RunLemmas
+pub mod WordLemmas

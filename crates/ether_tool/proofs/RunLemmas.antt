@@ -1,0 +1,101 @@
+-- What a run has read and written, one read after another.
+use Rattle.std.proofs.Common.{◌≡◌, ℕ, List, [], ◌++◌, Option, Some, None, unwrap_or, Result, Ok, Err, IfOk, IfErr, refl, sym, ◌∙◌, subst, append-nil}
+use Rattle.std.specs.Str.Lines.{lines}
+use Rattle.std.specs.Io.KnownBytes.{Consumes, IsAtEnd}
+use Rattle.ether_tool.specs.Gathered.{contents_of, Pours}
+use Rattle.ether_tool.specs.Output.{AreAnswered, AnswersInput, StopsInput, IsLeft, OnBadLine}
+use Rattle.ether_tool.specs.Progress.{Reached, StopsWithin, Finishes}
+use Rattle.ether_tool.specs.declared.mode.Mode.{Mode}
+use Rattle.ether_tool.specs.declared.fault.Verdict.{Verdict}
+use Rattle.ether_tool.specs.declared.fault.ToolFault.{ToolFault}
+use Rattle.ether_tool.specs.declared.gathered.Gathered.{Gathered}
+use Rattle.ether_tool.specs.declared.progress.Progress.{Progress}
+use Rattle.ether_tool.proofs.KnownLemmas.{Consumes-then}
+use Rattle.ether_tool.proofs.ProgressLemmas.{OnBadLine-map, Reached-poured}
+
+-- what a reader has left, or nothing where that is unknown
+IsLeft-left_of : (after : Option (List ℕ)) → IsLeft after (unwrap_or after [])
+IsLeft-left_of None = tt
+IsLeft-left_of (Some bytes) = refl
+
+IsLeft-end : (after : Option (List ℕ)) → IsAtEnd after → IsLeft after []
+IsLeft-end None h = tt
+IsLeft-end (Some bytes) h = sym h
+
+consumed_nothing : (before mid after : Option (List ℕ)) (input nothing : List ℕ) → Consumes before mid input → Consumes mid after nothing → nothing ≡ [] → Consumes before after (input ++ [])
+consumed_nothing before mid after input nothing h k none =
+    subst (λ (bytes : List ℕ). Consumes before after (input ++ bytes)) none (Consumes-then before mid after input nothing h k)
+
+module _ {W : Type 0} (mode : Mode) (contents : W → Option (List ℕ)) (before mid after held : Option (List ℕ)) where
+  -- the last read gave nothing, and all lines are answered
+  pub finish_ok : (r : Result Verdict ToolFault) (input nothing : List ℕ) (at : Progress) (old from to : Gathered W)
+      → Consumes before mid input → Consumes mid after nothing → nothing ≡ [] → IsAtEnd after
+      → Pours contents old from → Reached mode contents held input at old
+      → IfOk r (Finishes mode contents at from to) → IfOk r (AnswersInput mode before after held (contents_of contents to))
+  finish_ok (Err fault) input nothing at old from to read last none end pours so_far h = tt
+  finish_ok (Ok verdict) input nothing at old from to read last none end pours so_far h =
+      let (text, all_accepted, written, answered, is_verdict) = h.answered held input (Reached-poured mode contents held input at old from pours so_far) in
+      record {
+        input = input ++ [];
+        text = text;
+        all_accepted = all_accepted;
+        read = consumed_nothing before mid after input nothing read last none;
+        at_end = end;
+        answered = subst (λ (bytes : List ℕ). AreAnswered mode (lines bytes) text all_accepted) (sym (append-nil input)) answered;
+        is_verdict = is_verdict;
+        written = written;
+      }
+
+  -- the last read gave nothing, and the last line is bad
+  pub finish_bad : (r : Result Verdict ToolFault) (input nothing : List ℕ) (at : Progress) (old from to : Gathered W)
+      → Consumes before mid input → Consumes mid after nothing → nothing ≡ [] → IsAtEnd after
+      → Pours contents old from → Reached mode contents held input at old
+      → IfErr r (λ fault. OnBadLine fault (StopsWithin mode contents at from [] [] to))
+      → IfErr r (λ fault. OnBadLine fault (StopsInput mode before after held (contents_of contents to)))
+  finish_bad (Ok verdict) input nothing at old from to read last none end pours so_far h = tt
+  finish_bad (Err fault) input nothing at old from to read last none end pours so_far h =
+      OnBadLine-map fault (StopsWithin mode contents at from [] [] to) (StopsInput mode before after held (contents_of contents to)) stop h
+    where
+      stop : (number : ℕ) → StopsWithin mode contents at from [] [] to number → StopsInput mode before after held (contents_of contents to) number
+      stop number k =
+          let (text, written, stops) = k.stops held input (Reached-poured mode contents held input at old from pours so_far) in
+          record {
+            taken = input ++ [];
+            left = [];
+            text = text;
+            read = consumed_nothing before mid after input nothing read last none;
+            is_left = IsLeft-end after end;
+            stops = stops;
+            written = written;
+          }
+
+  -- a line that ends in what was read is bad
+  pub chunk_bad : (fault : ToolFault) (input chunk : List ℕ) (at : Progress) (old from to : Gathered W)
+      → Consumes before mid input → Consumes mid after chunk → Pours contents old from → Reached mode contents held input at old
+      → OnBadLine fault (λ number. (later : List ℕ) → StopsWithin mode contents at from chunk later to number)
+      → OnBadLine fault (StopsInput mode before after held (contents_of contents to))
+  chunk_bad fault input chunk at old from to read last pours so_far h =
+      OnBadLine-map fault (λ number. (later : List ℕ) → StopsWithin mode contents at from chunk later to number)
+      (StopsInput mode before after held (contents_of contents to)) stop h
+    where
+      stop : (number : ℕ) → ((later : List ℕ) → StopsWithin mode contents at from chunk later to number) → StopsInput mode before after held (contents_of contents to) number
+      stop number k =
+          let (text, written, stops) = (k (unwrap_or after [])).stops held input (Reached-poured mode contents held input at old from pours so_far) in
+          record {
+            taken = input ++ chunk;
+            left = unwrap_or after [];
+            text = text;
+            read = Consumes-then before mid after input chunk read last;
+            is_left = IsLeft-left_of after;
+            stops = stops;
+            written = written;
+          }
+
+  -- the writer is the same then
+  pub chunk_writer : (fault : ToolFault) (chunk : List ℕ) (at : Progress) (first old from to : Gathered W)
+      → (old.writer.ghost_name ≡ first.writer.ghost_name) → Pours contents old from
+      → OnBadLine fault (λ number. (later : List ℕ) → StopsWithin mode contents at from chunk later to number)
+      → OnBadLine fault (λ number. to.writer.ghost_name ≡ first.writer.ghost_name)
+  chunk_writer fault chunk at first old from to same pours h =
+      OnBadLine-map fault (λ number. (later : List ℕ) → StopsWithin mode contents at from chunk later to number)
+      (λ number. to.writer.ghost_name ≡ first.writer.ghost_name) (λ number k. (k []).same_writer ∙ pours.same_writer ∙ same) h

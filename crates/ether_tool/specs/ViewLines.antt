@@ -1,0 +1,33 @@
+-- The lines of what a walker gives.
+use Rattle.std.specs.Prelude.{ℕ, List, [], ◌∷◌, ◌++◌, codes}
+use Rattle.std.specs.Fmt.{decimal}
+use Rattle.ether_base.specs.Ethernet2.{ethernet2_of}
+use Rattle.ether_base.specs.Vlan.{vlan_of}
+use Rattle.ether_tool.specs.HexText.{type_text}
+use Rattle.ether_tool.specs.Lines.{spaced, mark_text, source_text, ethernet2_text, vlan_text}
+use Rattle.ether_tool.specs.declared.peel.PeelUnit.{PeelUnit}
+use Rattle.ether_tool.specs.declared.peel.PeelUnit.TheVariants as units
+use Rattle.ether_tool.specs.declared.peel.RestKind.{RestKind}
+use Rattle.ether_tool.specs.declared.peel.RestKind.TheVariants as rests
+use Rattle.ether_tool.specs.declared.peel.PeelError.{PeelError}
+use Rattle.ether_tool.specs.declared.peel.PeelError.TheVariants as errors
+use Rattle.ether_tool.specs.declared.peel.PeelFault.{PeelFault}
+
+-- a view of a unit that starts at a place
+abbrev pub view_text : ℕ → PeelUnit → List ℕ
+view_text start (units.Ethernet2 frame) = ethernet2_text start (ethernet2_of frame.bytes)
+view_text start (units.Vlan bytes) = vlan_text start (vlan_of bytes)
+
+abbrev pub kind_view_text : RestKind → List ℕ
+kind_view_text rests.Start = []
+kind_view_text (rests.EtherType t) = codes "type " ++ type_text t.0
+
+-- a window that is left
+unfoldable pub rest_view_text : ℕ → ℕ → RestKind → List ℕ
+rest_view_text start end kind = spaced (codes "rest" ∷ decimal start ∷ decimal end ∷ kind_view_text kind ∷ [])
+
+abbrev pub error_view_text : ℕ → List ℕ → PeelError → List ℕ
+error_view_text start mark (errors.Len e) = spaced (codes "fault" ∷ decimal start ∷ mark ∷ codes "length" ∷ decimal e.required_len ∷ decimal e.len ∷ source_text e.len_source ∷ [])
+
+unfoldable pub fault_view_text : PeelFault → List ℕ
+fault_view_text f = error_view_text f.offset (mark_text f.closed) f.error

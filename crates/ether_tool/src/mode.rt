@@ -1,0 +1,28 @@
+//! The modes of the tool, and the words that name them.
+ghost use Rattle.std.specs.Prelude.{map, IfOk, OnErr};
+ghost use Rattle.ether_tool.specs.Words.{NamesMode, NamesNoMode};
+
+/// How the frames of a run begin.
+#[derive(Clone, Copy, PartialEq, Eq, Debug)]
+pub enum Mode {
+    /// With an Ethernet II header.
+    Eth,
+}
+
+/// The arguments name no mode.
+#[derive(Clone, Copy, PartialEq, Eq, Debug)]
+pub struct Usage;
+
+/// The mode that the words name: no word at all and the one word `eth` are [`Mode::Eth`].
+///
+/// The words are the arguments behind the program's own name. Their case counts.
+pub fn mode_of(words: &[&str]) -> Result<Mode, Usage>
+    ensures ok { IfOk result (NamesMode (map (λ word. word.now) words.now)) }
+    ensures err { OnErr result (NamesNoMode (map (λ word. word.now) words.now)) }
+{
+    match words {
+        [] => Ok(Mode::Eth),
+        ["eth"] => Ok(Mode::Eth),
+        _ => Err(Usage),
+    }
+}
