@@ -4,18 +4,20 @@
 //! status of [`fault::status_of`]. All that it prints goes to standard output.
 #![tactic(auto)]
 
-pub mod answer;
+mod answer;
 pub mod fault;
 pub mod frame;
-pub mod gathered;
+mod gathered;
 pub mod laws;
-pub mod lines;
+mod lines;
 pub mod mode;
 pub mod peel;
-pub mod pending;
-pub mod progress;
+mod pending;
+mod progress;
 pub mod run;
-pub mod text;
+#[cfg(test)]
+mod tests;
+mod text;
 
 use fault::{ToolFault, status_of};
 use mode::{Mode, Usage, mode_of};

@@ -208,3 +208,6 @@ fn read_vlan<'a>(bytes: &'a [u8]) -> Result<UnitRead<'a>, LenError>
         unit: PeelUnit::Vlan(slice),
     })
 }
+
+#[cfg(test)]
+mod tests;
