@@ -6,3 +6,5 @@ pub mod Means
 pub mod Fields
 pub mod ReadBack
 pub mod Cells
+pub mod ShownNumber
+pub mod SupportedHardware

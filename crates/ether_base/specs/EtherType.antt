@@ -1,6 +1,7 @@
-use Rattle.std.specs.Prelude.{ℕ, List, [], ◌∷◌, Option, Some, None, codes, ◌==◌, if◌then◌else◌}
+use Rattle.std.specs.Prelude.{ℕ, List, [], ◌∷◌, Option, Some, None, codes}
+use Rattle.ether_base.specs.ShownNumber.{description_in, hex_number, described}
 
--- the numbers that have a description, and the descriptions
+-- the ether types that have a description
 abbrev pub ether_type_descriptions : List (ℕ × List ℕ)
 ether_type_descriptions =
     (0x0800, codes "Internet Protocol version 4 (IPv4)") ∷
@@ -13,10 +14,13 @@ ether_type_descriptions =
     (0x9100, codes "VLAN Double Tagged Frame") ∷
     []
 
--- the description of a number: that of the first row that begins with it
-abbrev pub description_in : List (ℕ × List ℕ) → ℕ → Option (List ℕ)
-description_in [] number = None
-description_in (row ∷ rows) number = if number == row.0 then Some row.1 else description_in rows number
-
-abbrev pub ether_type_description : ℕ → Option (List ℕ)
+unfoldable pub ether_type_description : ℕ → Option (List ℕ)
 ether_type_description number = description_in ether_type_descriptions number
+
+abbrev pub shown : List ℕ → Option (List ℕ) → List ℕ
+shown digits None = digits
+shown digits (Some description) = described digits description
+
+-- an ether type as it is shown: its hexadecimal digits, with the description where there is one
+abbrev pub shown_ether_type : ℕ → List ℕ
+shown_ether_type number = shown (hex_number number) (ether_type_description number)

@@ -1,5 +1,4 @@
 pub mod Bytes
-pub mod EtherType
 pub mod Ethernet2
 pub mod Vlan
 pub mod LinuxSll
@@ -10,3 +9,17 @@ pub mod Header
 pub mod Refusal
 pub mod RefusedLen
 pub mod Laws
+pub mod ShownNumber
+pub mod BoundedField
+pub mod EtherType
+pub mod ArpHardwareId
+pub mod LinuxNonstandardEtherType
+pub mod LinuxSllPacketType
+pub mod LinuxSllProtocolType
+pub mod LenSource
+pub mod Layer
+pub mod ValueType
+pub mod LengthErrors
+pub mod ArpErrors
+pub mod LinuxSllErrors
+pub mod MacsecErrors

@@ -1,5 +1,5 @@
 -- The header of Linux cooked capture, version 1 (LINKTYPE_LINUX_SLL of the tcpdump group).
-use Rattle.std.specs.Prelude.{◌≡◌, ℕ, ◌+◌, ◌*◌, ◌^◌, ◌<◌, List, slice_range, Bool, nat_eq, ◌||◌, if◌then◌else◌}
+use Rattle.std.specs.Prelude.{◌≡◌, ℕ, ◌+◌, ◌*◌, ◌^◌, ◌<◌, List, slice_range, Bool, nat_eq, ◌||◌}
 use Rattle.ether_base.specs.Bytes.{number, spelled}
 
 pub record LinuxSllValue : Type 0 where
@@ -33,24 +33,6 @@ BeginsLinuxSll bytes s = IsLinuxSll (slice_range bytes 0 16) s
 abbrev pub linux_sll_bytes : LinuxSllValue → List ℕ
 linux_sll_bytes s = spelled 16 (linux_sll_number s)
 
--- ---- the protocol type, by the hardware type
-
 -- the hardware types whose protocol numbers have a meaning: netlink, GRE over IP, radiotap, frame relay, Ethernet
 abbrev pub is_supported : ℕ → Bool
 is_supported hardware = nat_eq hardware 824 || nat_eq hardware 778 || nat_eq hardware 803 || nat_eq hardware 770 || nat_eq hardware 1
-
--- what a protocol number is
-pub data Protocol : Type 0 where
-  Ignored : ℕ → Protocol
-  NetlinkProtocolType : ℕ → Protocol
-  GenericRoutingEncapsulationProtocolType : ℕ → Protocol
-  -- an ether type, or one of the nonstandard ether types of Linux
-  EtherType : ℕ → Protocol
-
--- the protocol of a number, by a supported hardware type
-abbrev pub protocol_of : ℕ → ℕ → Protocol
-protocol_of hardware n =
-    if nat_eq hardware 824 then NetlinkProtocolType n
-    else if nat_eq hardware 778 then GenericRoutingEncapsulationProtocolType n
-    else if nat_eq hardware 1 then EtherType n
-    else Ignored n

@@ -1,4 +1,6 @@
 //! Where a length comes from.
+ghost use Rattle.std.specs.Prelude.{◌≡◌};
+ghost use Rattle.ether_base.specs.LenSource.{len_source_name};
 
 /// What a length was taken from: the slice that was handed in, or a length field of a header.
 #[derive(Clone, Copy, PartialEq, Eq, PartialOrd, Ord, Hash, Debug)]
@@ -17,4 +19,67 @@ pub enum LenSource {
     TcpHeaderLen,
     /// The two address sizes of an ARP packet (RFC 826).
     ArpAddrLengths,
+}
+
+impl LenSource {
+    /// The name of the source within the text of an error.
+    pub(crate) fn name(&self) -> &'static str
+        ensures { result.now ≡ len_source_name self.now }
+    {
+        match self {
+            LenSource::Slice => "slice length",
+            LenSource::MacsecShortLength =>
+                "length calculated from the MACsec header 'short length' field",
+            LenSource::Ipv4HeaderTotalLen =>
+                "length calculated from the IPv4 header 'total length' field",
+            LenSource::Ipv6HeaderPayloadLen =>
+                "length calculated from the IPv6 header 'payload length' field",
+            LenSource::UdpHeaderLen => "length calculated from the UDP header 'length' field",
+            LenSource::TcpHeaderLen => "length calculated from the TCP header 'length' field",
+            LenSource::ArpAddrLengths =>
+                "length calculated from the ARP 'hw_addr_size' & 'proto_addr_size' fields",
+        }
+    }
+}
+
+#[cfg(test)]
+mod tests {
+    use super::*;
+
+    #[test]
+    fn every_source_in_order(rt: HostRuntime) {
+        let rows = [
+            (LenSource::Slice, "slice length"),
+            (
+                LenSource::MacsecShortLength,
+                "length calculated from the MACsec header 'short length' field",
+            ),
+            (
+                LenSource::Ipv4HeaderTotalLen,
+                "length calculated from the IPv4 header 'total length' field",
+            ),
+            (
+                LenSource::Ipv6HeaderPayloadLen,
+                "length calculated from the IPv6 header 'payload length' field",
+            ),
+            (
+                LenSource::UdpHeaderLen,
+                "length calculated from the UDP header 'length' field",
+            ),
+            (
+                LenSource::TcpHeaderLen,
+                "length calculated from the TCP header 'length' field",
+            ),
+            (
+                LenSource::ArpAddrLengths,
+                "length calculated from the ARP 'hw_addr_size' & 'proto_addr_size' fields",
+            ),
+        ];
+        let mut before = None;
+        for (source, name) in rows {
+            assert_eq!(rt; source.name(), name);
+            assert!(rt; before < Some(source), "{source:?}");
+            before = Some(source);
+        }
+    }
 }

@@ -2,6 +2,7 @@
 ghost use Rattle.std.specs.Prelude.{◌≡◌, ◌≤◌, ◌↔◌, IfOk, IfErr, IsOk};
 
 use crate::err::{ValueTooBigError, ValueType};
+use std::fmt;
 use std::marker::Model;
 
 /// The VLAN identifier (VID) of a tag of IEEE 802.1Q: 12 bits, 0 to 4095.
@@ -53,6 +54,38 @@ impl VlanId {
     }
 }
 
+impl From<VlanId> for u16 {
+    ghost from_gives = { λ id number. (number ≡ id) × (number ≤ 4095) };
+
+    fn from(id: VlanId) -> u16 {
+        id.value()
+    }
+}
+
+impl TryFrom<u16> for VlanId {
+    type Error = ValueTooBigError<u16>;
+
+    ghost use Rattle.ether_base.specs.BoundedField.{TakesUpTo};
+    ghost use Rattle.ether_base.specs.declared.err.value_type.ValueType.TheVariants as value_type;
+
+    ghost try_from_gives = { TakesUpTo 4095 value_type.VlanId };
+
+    fn try_from(value: u16) -> Result<VlanId, ValueTooBigError<u16>> {
+        VlanId::try_new(value)
+    }
+}
+
+impl fmt::Display for VlanId {
+    ghost use Rattle.std.specs.Prelude.{Some};
+    ghost use Rattle.std.specs.Fmt.{decimal};
+
+    ghost output = { λ id. Some (decimal id) };
+
+    fn fmt<W: fmt::Write>(&self, f: &mut fmt::Formatter<W>) -> fmt::Result {
+        self.0.fmt(f)
+    }
+}
+
 #[cfg(test)]
 mod tests {
     use super::*;
@@ -60,21 +93,19 @@ mod tests {
 
     #[test]
     fn refused_above_4095(rt: HostRuntime) -> Result<(), Fail> {
+        let alloc = rt.alloc();
+        let refused = ValueTooBigError {
+            actual: 4096,
+            max_allowed: 4095,
+            value_type: ValueType::VlanId,
+        };
         assert_eq!(rt; VlanId::try_new(0), Ok(VlanId::ZERO));
         assert_eq!(rt; VlanId::try_new(4095)?.value(), VlanId::MAX_U16);
-        assert_eq!(rt;
-            VlanId::try_new(4096),
-            Err(ValueTooBigError {
-                actual: 4096,
-                max_allowed: 4095,
-                value_type: ValueType::VlanId,
-            })
-        );
+        assert_eq!(rt; VlanId::try_from(4096), Err(refused));
+        assert_eq!(rt; u16::from(VlanId::try_from(4095)?), 4095);
         assert_eq!(rt; VlanId::default(), VlanId::ZERO);
-        assert_eq!(rt;
-            format!(in rt.alloc(); "{:?}", VlanId::try_new(0x123)?)?.as_str(),
-            "VlanId(291)"
-        );
+        let two = VlanId::try_new(2)?;
+        assert_eq!(rt; format!(in alloc; "{two} {two:?}")?.as_str(), "2 VlanId(2)");
         Ok(())
     }
 }

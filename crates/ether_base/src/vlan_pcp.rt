@@ -2,6 +2,7 @@
 ghost use Rattle.std.specs.Prelude.{◌≡◌, ◌≤◌, ◌↔◌, IfOk, IfErr, IsOk};
 
 use crate::err::{ValueTooBigError, ValueType};
+use std::fmt;
 use std::marker::Model;
 
 /// The priority code point (PCP) of a tag of IEEE 802.1Q: 3 bits, 0 to 7.
@@ -21,7 +22,7 @@ impl Model for VlanPcp {
 }
 
 impl VlanPcp {
-    /// The priority 0.
+    /// The priority code point 0.
     pub const ZERO: VlanPcp = VlanPcp(0);
 
     /// The greatest priority code point, 7.
@@ -53,6 +54,38 @@ impl VlanPcp {
     }
 }
 
+impl From<VlanPcp> for u8 {
+    ghost from_gives = { λ pcp number. (number ≡ pcp) × (number ≤ 7) };
+
+    fn from(pcp: VlanPcp) -> u8 {
+        pcp.value()
+    }
+}
+
+impl TryFrom<u8> for VlanPcp {
+    type Error = ValueTooBigError<u8>;
+
+    ghost use Rattle.ether_base.specs.BoundedField.{TakesUpTo};
+    ghost use Rattle.ether_base.specs.declared.err.value_type.ValueType.TheVariants as value_type;
+
+    ghost try_from_gives = { TakesUpTo 7 value_type.VlanPcp };
+
+    fn try_from(value: u8) -> Result<VlanPcp, ValueTooBigError<u8>> {
+        VlanPcp::try_new(value)
+    }
+}
+
+impl fmt::Display for VlanPcp {
+    ghost use Rattle.std.specs.Prelude.{Some};
+    ghost use Rattle.std.specs.Fmt.{decimal};
+
+    ghost output = { λ pcp. Some (decimal pcp) };
+
+    fn fmt<W: fmt::Write>(&self, f: &mut fmt::Formatter<W>) -> fmt::Result {
+        self.0.fmt(f)
+    }
+}
+
 #[cfg(test)]
 mod tests {
     use super::*;
@@ -60,20 +93,21 @@ mod tests {
 
     #[test]
     fn refused_above_7(rt: HostRuntime) -> Result<(), Fail> {
+        let alloc = rt.alloc();
+        let refused = ValueTooBigError {
+            actual: 8,
+            max_allowed: 7,
+            value_type: ValueType::VlanPcp,
+        };
         assert_eq!(rt; VlanPcp::try_new(0), Ok(VlanPcp::ZERO));
         assert_eq!(rt; VlanPcp::try_new(7)?.value(), VlanPcp::MAX_U8);
-        assert_eq!(rt;
-            VlanPcp::try_new(8),
-            Err(ValueTooBigError {
-                actual: 8,
-                max_allowed: 7,
-                value_type: ValueType::VlanPcp,
-            })
-        );
+        assert_eq!(rt; VlanPcp::try_from(8), Err(refused));
+        assert_eq!(rt; u8::from(VlanPcp::try_from(7)?), 7);
         assert_eq!(rt; VlanPcp::default(), VlanPcp::ZERO);
+        let two = VlanPcp::try_new(2)?;
         assert_eq!(rt;
-            format!(in rt.alloc(); "{:?}", VlanPcp::try_new(2)?)?.as_str(),
-            "VlanPcp(2)"
+            format!(in alloc; "{two} {two:?}")?.as_str(),
+            "2 VlanPcp(2)"
         );
         Ok(())
     }

@@ -4,8 +4,7 @@ use Rattle.std.specs.List.{flat_map}
 use Rattle.std.specs.Fmt.{padded_integral, format_spec, digits}
 use Rattle.std.proofs.lemmas.Fmt as shown
 use Rattle.std.proofs.lemmas.List.{take_more}
-use Rattle.ether_base.specs.Bytes.{spelled}
-use Rattle.ether_tool.specs.HexText.{hex_byte, hex_text, type_text}
+use Rattle.ether_tool.specs.HexText.{hex_byte, hex_text}
 
 -- a byte as it is written
 abbrev pub padded_byte : Bool → ℕ → List ℕ
@@ -28,18 +27,3 @@ hex_text-one b lt = shown.hex_byte false b lt
 pub hex_text-take : (bytes : List ℕ) (i : ℕ) → i < length bytes → get_or bytes i 0 < 256 → hex_text (take i bytes) ++ padded_byte false (get_or bytes i 0) ≡ hex_text (take (i + 1) bytes)
 hex_text-take bytes i inside lt =
     ap (λ (l : List ℕ). hex_text (take i bytes) ++ l) (hex_text-one (get_or bytes i 0) lt) ∙ sym (hex_text-append (take i bytes) (get_or bytes i 0 ∷ [])) ∙ ap hex_text (sym (take_more bytes i 0 inside))
-
--- a type as it is written: two bytes behind 0x
-abbrev pub padded_type : List ℕ → List ℕ
-padded_type bytes = 48 ∷ 120 ∷ (padded_byte true (get_or bytes 0 0) ++ padded_byte true (get_or bytes 1 0))
-
-pub padded_type-type_text : (n : ℕ) (bytes : List ℕ) → bytes ≡ n / 256 % 256 ∷ n % 256 ∷ [] → padded_type bytes ≡ type_text n
-unfolding type_text spelled
-padded_type-type_text n bytes is =
-    let a : n / 256 % 256 < 256 = omega arith in
-    let b : n % 256 < 256 = omega arith in
-    let one : n / 1 % 256 ≡ n % 256 = omega arith in
-    ap padded_type is
-    ∙ ap (λ (l : List ℕ). 48 ∷ 120 ∷ (l ++ padded_byte true (n % 256))) (shown.hex_byte true (n / 256 % 256) a)
-    ∙ ap (λ (l : List ℕ). 48 ∷ 120 ∷ (hex_byte true (n / 256 % 256) ++ l)) (shown.hex_byte true (n % 256) b)
-    ∙ ap (λ (k : ℕ). 48 ∷ 120 ∷ (hex_byte true (n / 256 % 256) ++ hex_byte true k)) (sym one)

@@ -1,7 +1,8 @@
 -- What is expected at a place, and what that announces.
 use Rattle.std.specs.Prelude.{ℕ, Option, Some, None, Bool, true, false, nat_eq, if◌then◌else◌, ◌||◌}
-use Rattle.ether_base.specs.LinuxSll.{Protocol, protocol_of}
-use Rattle.ether_base.specs.LinuxSll as protocols
+use Rattle.ether_base.specs.declared.linux_sll_protocol_type.LinuxSllProtocolType.{LinuxSllProtocolType}
+use Rattle.ether_base.specs.declared.linux_sll_protocol_type.LinuxSllProtocolType.TheVariants as protocols
+use Rattle.ether_base.specs.LinuxSllProtocolType.{protocol_of}
 use Rattle.ether_base.specs.SecTag.{PayloadType}
 use Rattle.ether_base.specs.SecTag as payloads
 use Rattle.ether_base.specs.Kind.{Kind}
@@ -13,7 +14,7 @@ pub data Expectation : Type 0 where
   -- the kind with which a walk begins
   Start : Kind → Expectation
   EtherType : ℕ → Expectation
-  Sll : Protocol → Expectation
+  Sll : LinuxSllProtocolType → Expectation
   Sealed : Expectation
   AfterArp : Expectation
 
@@ -29,8 +30,9 @@ announced (Sll protocol) = None
 announced Sealed = None
 announced AfterArp = None
 
-abbrev pub after_protocol : Protocol → Expectation
-after_protocol (protocols.EtherType n) = EtherType n
+abbrev pub after_protocol : LinuxSllProtocolType → Expectation
+after_protocol (protocols.EtherType t) = EtherType t.0
+after_protocol (protocols.LinuxNonstandardEtherType n) = EtherType n
 after_protocol (protocols.Ignored n) = Sll (protocols.Ignored n)
 after_protocol (protocols.NetlinkProtocolType n) = Sll (protocols.NetlinkProtocolType n)
 after_protocol (protocols.GenericRoutingEncapsulationProtocolType n) = Sll (protocols.GenericRoutingEncapsulationProtocolType n)

@@ -6,15 +6,16 @@ use Rattle.ether_base.specs.declared.len_source.LenSource.TheVariants as sources
 use Rattle.ether_base.specs.Bytes.{spelled}
 use Rattle.ether_base.specs.Ethernet2.{Ethernet2Value}
 use Rattle.ether_base.specs.Vlan.{VlanValue}
-use Rattle.ether_base.specs.LinuxSll.{LinuxSllValue, Protocol}
-use Rattle.ether_base.specs.LinuxSll as protocols
+use Rattle.ether_base.specs.declared.linux_sll_protocol_type.LinuxSllProtocolType.TheVariants as protocols
+use Rattle.ether_base.specs.LinuxSll.{LinuxSllValue}
 use Rattle.ether_base.specs.SecTag.{SecTagValue, PayloadType}
 use Rattle.ether_base.specs.SecTag as payloads
 use Rattle.ether_base.specs.Arp.{ArpValue}
 use Rattle.ether_base.specs.Header.{Header}
 use Rattle.ether_base.specs.Header as headers
 use Rattle.ether_base.specs.Refusal.{Refusal, Length, UnsupportedPacketType, UnsupportedHardwareType, UnexpectedVersion, InvalidShortLen}
-use Rattle.ether_tool.specs.HexText.{hex_text, type_text}
+use Rattle.ether_base.specs.ShownNumber.{hex_number}
+use Rattle.ether_tool.specs.HexText.{hex_text}
 use Rattle.ether_tool.specs.Window.{Window, payload}
 use Rattle.ether_tool.specs.Expectation.{Expectation, Start, EtherType, Sll, Sealed, AfterArp}
 use Rattle.ether_tool.specs.Stack.{Ending, Accepted, Fault}
@@ -36,7 +37,7 @@ sci_text None = codes "-"
 sci_text (Some sci) = hex_text (spelled 8 sci)
 
 unfoldable pub payload_type_text : PayloadType → List ℕ
-payload_type_text (payloads.Unmodified ether_type) = codes "unmodified " ++ type_text ether_type
+payload_type_text (payloads.Unmodified ether_type) = codes "unmodified " ++ hex_number ether_type
 payload_type_text payloads.Modified = codes "modified"
 payload_type_text payloads.EncryptedUnmodified = codes "encrypted_unmodified"
 payload_type_text payloads.Encrypted = codes "encrypted"
@@ -53,18 +54,18 @@ source_text sources.ArpAddrLengths = codes "arp_addr_lengths"
 -- ---- a unit
 
 unfoldable pub ethernet2_text : ℕ → Ethernet2Value → List ℕ
-ethernet2_text start e = spaced (codes "ethernet2" ∷ decimal start ∷ hex_text (spelled 6 e.destination) ∷ hex_text (spelled 6 e.source) ∷ type_text e.ether_type ∷ [])
+ethernet2_text start e = spaced (codes "ethernet2" ∷ decimal start ∷ hex_text (spelled 6 e.destination) ∷ hex_text (spelled 6 e.source) ∷ hex_number e.ether_type ∷ [])
 
 unfoldable pub ethernet2_fcs_text : ℕ → Ethernet2Value → List ℕ → List ℕ
-ethernet2_fcs_text start e fcs = spaced (codes "ethernet2" ∷ decimal start ∷ hex_text (spelled 6 e.destination) ∷ hex_text (spelled 6 e.source) ∷ type_text e.ether_type ∷ codes "fcs" ∷ hex_text fcs ∷ [])
+ethernet2_fcs_text start e fcs = spaced (codes "ethernet2" ∷ decimal start ∷ hex_text (spelled 6 e.destination) ∷ hex_text (spelled 6 e.source) ∷ hex_number e.ether_type ∷ codes "fcs" ∷ hex_text fcs ∷ [])
 
 unfoldable pub linux_sll_text : ℕ → LinuxSllValue → List ℕ
 linux_sll_text start s =
-    spaced (codes "linux_sll" ∷ decimal start ∷ codes "packet" ∷ decimal s.packet_type ∷ codes "hw" ∷ decimal s.hardware_type ∷ codes "alen" ∷ decimal s.address_len ∷ codes "addr" ∷ hex_text (spelled 8 s.address) ∷ type_text s.protocol ∷ [])
+    spaced (codes "linux_sll" ∷ decimal start ∷ codes "packet" ∷ decimal s.packet_type ∷ codes "hw" ∷ decimal s.hardware_type ∷ codes "alen" ∷ decimal s.address_len ∷ codes "addr" ∷ hex_text (spelled 8 s.address) ∷ hex_number s.protocol ∷ [])
 
 unfoldable pub vlan_text : ℕ → VlanValue → List ℕ
 vlan_text start v =
-    spaced (codes "vlan" ∷ decimal start ∷ codes "pcp" ∷ decimal v.pcp ∷ codes "dei" ∷ decimal v.dei ∷ codes "vid" ∷ decimal v.vid ∷ type_text v.ether_type ∷ [])
+    spaced (codes "vlan" ∷ decimal start ∷ codes "pcp" ∷ decimal v.pcp ∷ codes "dei" ∷ decimal v.dei ∷ codes "vid" ∷ decimal v.vid ∷ hex_number v.ether_type ∷ [])
 
 -- with the length and the mark of the payload's window
 unfoldable pub macsec_text : ℕ → SecTagValue → Window → List ℕ
@@ -74,7 +75,7 @@ macsec_text start t w =
 
 unfoldable pub arp_text : ℕ → ArpValue → List ℕ
 arp_text start a =
-    spaced (codes "arp" ∷ decimal start ∷ codes "hw" ∷ decimal a.hardware_type ∷ codes "proto" ∷ type_text a.protocol_type ∷ codes "hlen" ∷ decimal (length a.sender_hardware) ∷ codes "plen" ∷ decimal (length a.sender_protocol) ∷ codes "op" ∷ decimal a.operation ∷ [])
+    spaced (codes "arp" ∷ decimal start ∷ codes "hw" ∷ decimal a.hardware_type ∷ codes "proto" ∷ hex_number a.protocol_type ∷ codes "hlen" ∷ decimal (length a.sender_hardware) ∷ codes "plen" ∷ decimal (length a.sender_protocol) ∷ codes "op" ∷ decimal a.operation ∷ [])
 
 -- a unit of the list, with the window in which it stands
 unfoldable pub unit_text : List ℕ → Window → Header → List ℕ
@@ -90,11 +91,12 @@ unit_text list w (headers.Arp a) = arp_text w.start a
 -- nothing is left expected of a start kind, which announces itself
 unfoldable pub kind_text : Expectation → List ℕ
 kind_text (Start kind) = []
-kind_text (EtherType t) = codes "type " ++ type_text t
-kind_text (Sll (protocols.Ignored n)) = codes "sll ignored " ++ type_text n
-kind_text (Sll (protocols.NetlinkProtocolType n)) = codes "sll netlink " ++ type_text n
-kind_text (Sll (protocols.GenericRoutingEncapsulationProtocolType n)) = codes "sll gre " ++ type_text n
-kind_text (Sll (protocols.EtherType n)) = codes "type " ++ type_text n
+kind_text (EtherType t) = codes "type " ++ hex_number t
+kind_text (Sll (protocols.Ignored n)) = codes "sll ignored " ++ hex_number n
+kind_text (Sll (protocols.NetlinkProtocolType n)) = codes "sll netlink " ++ hex_number n
+kind_text (Sll (protocols.GenericRoutingEncapsulationProtocolType n)) = codes "sll gre " ++ hex_number n
+kind_text (Sll (protocols.EtherType t)) = codes "type " ++ hex_number t.0
+kind_text (Sll (protocols.LinuxNonstandardEtherType n)) = codes "type " ++ hex_number n
 kind_text Sealed = codes "sealed"
 kind_text AfterArp = codes "after_arp"
 

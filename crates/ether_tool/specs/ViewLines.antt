@@ -3,7 +3,7 @@ use Rattle.std.specs.Prelude.{ℕ, List, [], ◌∷◌, ◌++◌, codes}
 use Rattle.std.specs.Fmt.{decimal}
 use Rattle.ether_base.specs.Ethernet2.{ethernet2_of}
 use Rattle.ether_base.specs.Vlan.{vlan_of}
-use Rattle.ether_tool.specs.HexText.{type_text}
+use Rattle.ether_base.specs.ShownNumber.{hex_number}
 use Rattle.ether_tool.specs.Lines.{spaced, mark_text, source_text, ethernet2_text, vlan_text}
 use Rattle.ether_tool.specs.declared.peel.PeelUnit.{PeelUnit}
 use Rattle.ether_tool.specs.declared.peel.PeelUnit.TheVariants as units
@@ -20,7 +20,7 @@ view_text start (units.Vlan bytes) = vlan_text start (vlan_of bytes)
 
 abbrev pub kind_view_text : RestKind → List ℕ
 kind_view_text rests.Start = []
-kind_view_text (rests.EtherType t) = codes "type " ++ type_text t.0
+kind_view_text (rests.EtherType t) = codes "type " ++ hex_number t.0
 
 -- a window that is left
 unfoldable pub rest_view_text : ℕ → ℕ → RestKind → List ℕ

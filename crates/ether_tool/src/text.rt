@@ -26,12 +26,12 @@ pub struct HexType(pub u16);
 
 impl fmt::Display for HexType {
     ghost use Rattle.std.specs.Prelude.{Some};
-    ghost use Rattle.ether_tool.specs.HexText.{type_text};
+    ghost use Rattle.ether_base.specs.ShownNumber.{hex_number};
 
-    ghost output = { λ number. Some (type_text number.0) };
+    ghost output = { λ number. Some (hex_number number.0) };
 
     fn fmt<W: fmt::Write>(&self, f: &mut fmt::Formatter<W>) -> fmt::Result {
-        let [high, low] = self.0.to_be_bytes();
-        write!(f, "0x{high:02X}{low:02X}")
+        let number = self.0;
+        write!(f, "0x{number:04X}")
     }
 }

@@ -1,31 +1,224 @@
 //! The layer that an error speaks of.
+ghost use Rattle.std.specs.Prelude.{◌≡◌, Some};
+ghost use Rattle.ether_base.specs.Layer.{layer_title, layer_name};
 
-/// A layer of a packet: a header, a packet or a payload.
+use std::fmt;
+
+/// A layer of a packet: a header, a header with its payload, or a payload.
+///
+/// `Display` gives the name within a text, as `VLAN header`.
 #[derive(Clone, Copy, PartialEq, Eq, PartialOrd, Ord, Hash, Debug)]
 pub enum Layer {
+    /// The header of Linux cooked capture v1.
     LinuxSllHeader,
+    /// The Ethernet II header.
     Ethernet2Header,
+    /// What an ether type announces.
     EtherPayload,
+    /// The tag of IEEE 802.1Q, behind its own ether type.
     VlanHeader,
+    /// The SecTag of IEEE 802.1AE.
     MacsecHeader,
+    /// A SecTag and the payload of the length that it names.
     MacsecPacket,
+    /// An IP header of either version.
     IpHeader,
+    /// The IPv4 header.
     Ipv4Header,
+    /// An IPv4 header and its payload.
     Ipv4Packet,
+    /// The IP authentication header.
     IpAuthHeader,
+    /// The IPv6 header.
     Ipv6Header,
+    /// An IPv6 header and its payload.
     Ipv6Packet,
+    /// An IPv6 extension header.
     Ipv6ExtHeader,
+    /// The hop-by-hop options of IPv6.
     Ipv6HopByHopHeader,
+    /// The destination options of IPv6.
     Ipv6DestOptionsHeader,
+    /// The routing header of IPv6.
     Ipv6RouteHeader,
+    /// The fragment header of IPv6.
     Ipv6FragHeader,
+    /// The UDP header.
     UdpHeader,
+    /// What a UDP header announces.
     UdpPayload,
+    /// The TCP header.
     TcpHeader,
+    /// A message of ICMP for IPv4.
     Icmpv4,
+    /// A timestamp message of ICMP for IPv4.
     Icmpv4Timestamp,
+    /// A reply to a timestamp message of ICMP for IPv4.
     Icmpv4TimestampReply,
+    /// A message of ICMP for IPv6.
     Icmpv6,
+    /// An ARP packet (RFC 826).
     Arp,
+}
+
+impl Layer {
+    /// The words that an error of this layer begins with, as `VLAN Header Error`.
+    pub fn error_title(&self) -> &'static str
+        ensures { result.now ≡ layer_title self.now }
+    {
+        match self {
+            Layer::LinuxSllHeader => "Linux Cooked Capture v1 Error",
+            Layer::Ethernet2Header => "Ethernet 2 Header Error",
+            Layer::EtherPayload => "Payload with Ether Type Error",
+            Layer::VlanHeader => "VLAN Header Error",
+            Layer::MacsecHeader => "MACsec Header Error",
+            Layer::MacsecPacket => "MACsec Packet Error",
+            Layer::IpHeader => "IP Header Error",
+            Layer::Ipv4Header => "IPv4 Header Error",
+            Layer::Ipv4Packet => "IPv4 Packet Error",
+            Layer::IpAuthHeader => "IP Authentication Header Error",
+            Layer::Ipv6Header => "IPv6 Header Error",
+            Layer::Ipv6Packet => "IPv6 Packet Error",
+            Layer::Ipv6ExtHeader => "IPv6 Extension Header Error",
+            Layer::Ipv6HopByHopHeader => "IPv6 Hop-by-Hop Option Header Error",
+            Layer::Ipv6DestOptionsHeader => "IPv6 Destination Options Header Error",
+            Layer::Ipv6RouteHeader => "IPv6 Routing Header Error",
+            Layer::Ipv6FragHeader => "IPv6 Fragment Header Error",
+            Layer::UdpHeader => "UDP Header Error",
+            Layer::UdpPayload => "UDP Payload Error",
+            Layer::TcpHeader => "TCP Header Error",
+            Layer::Icmpv4 => "ICMP Packet Error",
+            Layer::Icmpv4Timestamp => "ICMP Timestamp Error",
+            Layer::Icmpv4TimestampReply => "ICMP Timestamp Reply Error",
+            Layer::Icmpv6 => "ICMPv6 Packet Error",
+            Layer::Arp => "Address Resolution Protocol Packet Error",
+        }
+    }
+}
+
+impl fmt::Display for Layer {
+    ghost output = { λ layer. Some (layer_name layer) };
+
+    fn fmt<W: fmt::Write>(&self, f: &mut fmt::Formatter<W>) -> fmt::Result {
+        match self {
+            Layer::LinuxSllHeader => write!(f, "Linux Cooked Capture v1 header"),
+            Layer::Ethernet2Header => write!(f, "Ethernet 2 header"),
+            Layer::EtherPayload => write!(f, "Ether type payload"),
+            Layer::VlanHeader => write!(f, "VLAN header"),
+            Layer::MacsecHeader => write!(f, "MACsec header"),
+            Layer::MacsecPacket => write!(f, "MACsec packet"),
+            Layer::IpHeader => write!(f, "IP header"),
+            Layer::Ipv4Header => write!(f, "IPv4 header"),
+            Layer::Ipv4Packet => write!(f, "IPv4 packet"),
+            Layer::IpAuthHeader => write!(f, "IP Authentication header"),
+            Layer::Ipv6Header => write!(f, "IPv6 header"),
+            Layer::Ipv6Packet => write!(f, "IPv6 packet"),
+            Layer::Ipv6ExtHeader => write!(f, "IPv6 extension header"),
+            Layer::Ipv6HopByHopHeader => write!(f, "IPv6 hop-by-hop option header"),
+            Layer::Ipv6DestOptionsHeader => write!(f, "IPv6 destination options header"),
+            Layer::Ipv6RouteHeader => write!(f, "IPv6 routing header"),
+            Layer::Ipv6FragHeader => write!(f, "IPv6 fragment header"),
+            Layer::UdpHeader => write!(f, "UDP header"),
+            Layer::UdpPayload => write!(f, "UDP payload"),
+            Layer::TcpHeader => write!(f, "TCP header"),
+            Layer::Icmpv4 => write!(f, "ICMP packet"),
+            Layer::Icmpv4Timestamp => write!(f, "ICMP timestamp message"),
+            Layer::Icmpv4TimestampReply => write!(f, "ICMP timestamp reply message"),
+            Layer::Icmpv6 => write!(f, "ICMPv6 packet"),
+            Layer::Arp => write!(f, "Address Resolution Protocol packet"),
+        }
+    }
+}
+
+#[cfg(test)]
+mod tests {
+    use super::*;
+    use std::test::Fail;
+
+    #[test]
+    fn every_layer_in_order(rt: HostRuntime) -> Result<(), Fail> {
+        let rows = [
+            (
+                Layer::LinuxSllHeader,
+                "Linux Cooked Capture v1 Error",
+                "Linux Cooked Capture v1 header",
+            ),
+            (
+                Layer::Ethernet2Header,
+                "Ethernet 2 Header Error",
+                "Ethernet 2 header",
+            ),
+            (
+                Layer::EtherPayload,
+                "Payload with Ether Type Error",
+                "Ether type payload",
+            ),
+            (Layer::VlanHeader, "VLAN Header Error", "VLAN header"),
+            (Layer::MacsecHeader, "MACsec Header Error", "MACsec header"),
+            (Layer::MacsecPacket, "MACsec Packet Error", "MACsec packet"),
+            (Layer::IpHeader, "IP Header Error", "IP header"),
+            (Layer::Ipv4Header, "IPv4 Header Error", "IPv4 header"),
+            (Layer::Ipv4Packet, "IPv4 Packet Error", "IPv4 packet"),
+            (
+                Layer::IpAuthHeader,
+                "IP Authentication Header Error",
+                "IP Authentication header",
+            ),
+            (Layer::Ipv6Header, "IPv6 Header Error", "IPv6 header"),
+            (Layer::Ipv6Packet, "IPv6 Packet Error", "IPv6 packet"),
+            (
+                Layer::Ipv6ExtHeader,
+                "IPv6 Extension Header Error",
+                "IPv6 extension header",
+            ),
+            (
+                Layer::Ipv6HopByHopHeader,
+                "IPv6 Hop-by-Hop Option Header Error",
+                "IPv6 hop-by-hop option header",
+            ),
+            (
+                Layer::Ipv6DestOptionsHeader,
+                "IPv6 Destination Options Header Error",
+                "IPv6 destination options header",
+            ),
+            (
+                Layer::Ipv6RouteHeader,
+                "IPv6 Routing Header Error",
+                "IPv6 routing header",
+            ),
+            (
+                Layer::Ipv6FragHeader,
+                "IPv6 Fragment Header Error",
+                "IPv6 fragment header",
+            ),
+            (Layer::UdpHeader, "UDP Header Error", "UDP header"),
+            (Layer::UdpPayload, "UDP Payload Error", "UDP payload"),
+            (Layer::TcpHeader, "TCP Header Error", "TCP header"),
+            (Layer::Icmpv4, "ICMP Packet Error", "ICMP packet"),
+            (
+                Layer::Icmpv4Timestamp,
+                "ICMP Timestamp Error",
+                "ICMP timestamp message",
+            ),
+            (
+                Layer::Icmpv4TimestampReply,
+                "ICMP Timestamp Reply Error",
+                "ICMP timestamp reply message",
+            ),
+            (Layer::Icmpv6, "ICMPv6 Packet Error", "ICMPv6 packet"),
+            (
+                Layer::Arp,
+                "Address Resolution Protocol Packet Error",
+                "Address Resolution Protocol packet",
+            ),
+        ];
+        let mut before = None;
+        for (layer, title, name) in rows {
+            assert_eq!(rt; layer.error_title(), title);
+            assert_eq!(rt; format!(in rt.alloc(); "{layer}")?.as_str(), name);
+            assert!(rt; before < Some(layer), "{layer:?}");
+            before = Some(layer);
+        }
+        Ok(())
+    }
 }

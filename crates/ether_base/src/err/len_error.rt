@@ -1,8 +1,11 @@
 //! A length that does not fit.
-ghost use Rattle.std.specs.Prelude.{◌≡◌, ◌+◌, ◌<◌, ◌^◌};
+ghost use Rattle.std.specs.Prelude.{◌≡◌, ◌+◌, ◌<◌, ◌^◌, Some};
+ghost use Rattle.ether_base.specs.LengthErrors.{len_error_text, layer_start_text};
 
 use crate::LenSource;
 use crate::err::Layer;
+use std::error::Error;
+use std::fmt;
 
 /// A length is too small for a layer, or too big for it.
 ///
@@ -35,30 +38,99 @@ impl LenError {
     }
 }
 
+impl fmt::Display for LenError {
+    ghost output = { λ error. Some (len_error_text error) };
+
+    fn fmt<W: fmt::Write>(&self, f: &mut fmt::Formatter<W>) -> fmt::Result {
+        let title = self.layer.error_title();
+        let layer = self.layer;
+        let required_len = self.required_len;
+        let len = self.len;
+        let len_source = self.len_source.name();
+        let layer_start = LayerStart {
+            layer,
+            offset: self.layer_start_offset,
+        };
+        if required_len > len {
+            write!(
+                f,
+                "{title}: Not enough data to decode '{layer}'. {required_len} byte(s) would be required, but only {len} byte(s) are available based on the {len_source}{layer_start}"
+            )
+        } else {
+            write!(
+                f,
+                "{title}: Length of {len} byte(s) is too big for an '{layer}' (maximum is {required_len} bytes). The {len_source} was used to determine the length{layer_start}"
+            )
+        }
+    }
+}
+
+impl Error for LenError {}
+
+/// The end of the text: where the layer starts, if that is not at the beginning.
+#[derive(Clone, Copy)]
+struct LayerStart {
+    layer: Layer,
+    offset: usize,
+}
+
+impl fmt::Display for LayerStart {
+    ghost output = { λ start. Some (layer_start_text start.layer start.offset) };
+
+    fn fmt<W: fmt::Write>(&self, f: &mut fmt::Formatter<W>) -> fmt::Result {
+        let layer = self.layer;
+        let offset = self.offset;
+        if offset > 0 {
+            write!(f, " ('{layer}' starts at overall parsed byte {offset}).")
+        } else {
+            write!(f, ".")
+        }
+    }
+}
+
 #[cfg(test)]
 mod tests {
     use super::*;
     use std::test::Fail;
 
+    const SHORT: LenError = LenError {
+        required_len: 4,
+        len: 2,
+        len_source: LenSource::Slice,
+        layer: Layer::VlanHeader,
+        layer_start_offset: 18,
+    };
+
+    #[test]
+    fn both_texts_letter_by_letter(rt: HostRuntime) -> Result<(), Fail> {
+        let alloc = rt.alloc();
+        assert_eq!(rt;
+            format!(in alloc; "{SHORT}")?.as_str(),
+            "VLAN Header Error: Not enough data to decode 'VLAN header'. 4 byte(s) would be required, but only 2 byte(s) are available based on the slice length ('VLAN header' starts at overall parsed byte 18)."
+        );
+        let long = LenError {
+            required_len: 5,
+            len: 5,
+            len_source: LenSource::ArpAddrLengths,
+            layer: Layer::Arp,
+            layer_start_offset: 0,
+        };
+        assert_eq!(rt;
+            format!(in alloc; "{long}")?.as_str(),
+            "Address Resolution Protocol Packet Error: Length of 5 byte(s) is too big for an 'Address Resolution Protocol packet' (maximum is 5 bytes). The length calculated from the ARP 'hw_addr_size' & 'proto_addr_size' fields was used to determine the length."
+        );
+        Ok(())
+    }
+
     #[test]
     fn an_offset_moves_the_start_alone(rt: HostRuntime) -> Result<(), Fail> {
-        let error = LenError {
-            required_len: 4,
-            len: 2,
-            len_source: LenSource::Slice,
-            layer: Layer::VlanHeader,
+        let early = LenError {
             layer_start_offset: 4,
+            ..SHORT
         };
-        let moved = LenError {
-            required_len: 4,
-            len: 2,
-            len_source: LenSource::Slice,
-            layer: Layer::VlanHeader,
-            layer_start_offset: 18,
-        };
-        assert_eq!(rt; error.clone()?.add_offset(14), moved);
+        assert_eq!(rt; early.add_offset(14), SHORT);
         assert_eq!(rt;
-            format!(in rt.alloc(); "{moved:?}")?.as_str(),
+            format!(in rt.alloc(); "{SHORT:?}")?.as_str(),
             "LenError { required_len: 4, len: 2, len_source: Slice, layer: VlanHeader, layer_start_offset: 18 }"
         );
         Ok(())

@@ -1,0 +1,359 @@
+//! The hardware type of ARP and of the cooked capture.
+ghost use Rattle.std.specs.Prelude.{◌≡◌};
+ghost use Rattle.std.specs.Option.{option_copied};
+ghost use Rattle.ether_base.specs.ShownNumber.{description_in};
+ghost use Rattle.ether_base.specs.ArpHardwareId.{arp_hardware_description, assigned_descriptions, link_descriptions, device_descriptions};
+
+use crate::shown::ShownArpHardwareId;
+use std::fmt;
+
+/// A hardware type: 16 bits that say what kind of link a packet was sent on (RFC 826, and the `ARPHRD_`
+/// numbers of Linux).
+///
+/// Every number is one; those below have a name. `Debug` shows a number that has a description in decimal
+/// digits with the description in parentheses, `VOID` and `NONE` likewise in hexadecimal digits, and any
+/// other number as `0x` and four upper-case digits.
+#[derive(Clone, Copy, PartialEq, Eq, PartialOrd, Ord, Hash, Default)]
+pub struct ArpHardwareId(pub u16);
+
+impl ArpHardwareId {
+    pub const NETROM: ArpHardwareId = ArpHardwareId(0);
+
+    pub const ETHERNET: ArpHardwareId = ArpHardwareId(1);
+
+    pub const ETHER: ArpHardwareId = ArpHardwareId::ETHERNET;
+
+    pub const EETHER: ArpHardwareId = ArpHardwareId(2);
+
+    pub const AX25: ArpHardwareId = ArpHardwareId(3);
+
+    pub const PRONET: ArpHardwareId = ArpHardwareId(4);
+
+    pub const CHAOS: ArpHardwareId = ArpHardwareId(5);
+
+    pub const IEEE802: ArpHardwareId = ArpHardwareId(6);
+
+    pub const ARCNET: ArpHardwareId = ArpHardwareId(7);
+
+    pub const HYPERCHANNEL: ArpHardwareId = ArpHardwareId(8);
+
+    pub const APPLETLK: ArpHardwareId = ArpHardwareId::HYPERCHANNEL;
+
+    pub const LANSTAR: ArpHardwareId = ArpHardwareId(9);
+
+    pub const AUTONET_SHORT_ADDRESS: ArpHardwareId = ArpHardwareId(10);
+
+    pub const LOCAL_TALK: ArpHardwareId = ArpHardwareId(11);
+
+    pub const LOCAL_NET: ArpHardwareId = ArpHardwareId(12);
+
+    pub const ULTRA_LINK: ArpHardwareId = ArpHardwareId(13);
+
+    pub const SMDS: ArpHardwareId = ArpHardwareId(14);
+
+    pub const DLCI: ArpHardwareId = ArpHardwareId(15);
+
+    pub const FRAME_RELAY: ArpHardwareId = ArpHardwareId::DLCI;
+
+    pub const ATM_JXB2: ArpHardwareId = ArpHardwareId(16);
+
+    pub const HDLC: ArpHardwareId = ArpHardwareId(17);
+
+    pub const FIBRE_CHANNEL: ArpHardwareId = ArpHardwareId(18);
+
+    pub const ATM: ArpHardwareId = ArpHardwareId(19);
+
+    pub const SERIAL_LINE: ArpHardwareId = ArpHardwareId(20);
+
+    pub const ATM_21: ArpHardwareId = ArpHardwareId(21);
+
+    pub const MIL_STD_188_220: ArpHardwareId = ArpHardwareId(22);
+
+    pub const METRICOM: ArpHardwareId = ArpHardwareId(23);
+
+    pub const IEEE1394: ArpHardwareId = ArpHardwareId(24);
+
+    pub const MAPOS: ArpHardwareId = ArpHardwareId(25);
+
+    pub const TWINAXIAL: ArpHardwareId = ArpHardwareId(26);
+
+    pub const EUI64: ArpHardwareId = ArpHardwareId(27);
+
+    pub const HIPARP: ArpHardwareId = ArpHardwareId(28);
+
+    pub const IP_AND_ARP_OVER_ISO_7816_3: ArpHardwareId = ArpHardwareId(29);
+
+    pub const ARPSEC: ArpHardwareId = ArpHardwareId(30);
+
+    pub const IPSEC_TUNNEL: ArpHardwareId = ArpHardwareId(31);
+
+    pub const INFINIBAND: ArpHardwareId = ArpHardwareId(32);
+
+    pub const CAI: ArpHardwareId = ArpHardwareId(33);
+
+    pub const WIEGAND_INTERFACE: ArpHardwareId = ArpHardwareId(34);
+
+    pub const PURE_IP: ArpHardwareId = ArpHardwareId(35);
+
+    pub const HW_EXP1: ArpHardwareId = ArpHardwareId(36);
+
+    pub const HFI: ArpHardwareId = ArpHardwareId(37);
+
+    pub const UNIFIED_BUS: ArpHardwareId = ArpHardwareId(38);
+
+    pub const SLIP: ArpHardwareId = ArpHardwareId(256);
+
+    pub const CSLIP: ArpHardwareId = ArpHardwareId(257);
+
+    pub const SLIP6: ArpHardwareId = ArpHardwareId(258);
+
+    pub const CSLIP6: ArpHardwareId = ArpHardwareId(259);
+
+    pub const RSRVD: ArpHardwareId = ArpHardwareId(260);
+
+    pub const ADAPT: ArpHardwareId = ArpHardwareId(264);
+
+    pub const ROSE: ArpHardwareId = ArpHardwareId(270);
+
+    pub const X25: ArpHardwareId = ArpHardwareId(271);
+
+    pub const HWX25: ArpHardwareId = ArpHardwareId(272);
+
+    pub const CAN: ArpHardwareId = ArpHardwareId(280);
+
+    pub const PPP: ArpHardwareId = ArpHardwareId(512);
+
+    pub const CISCO_HDLC: ArpHardwareId = ArpHardwareId(513);
+
+    pub const LAPB: ArpHardwareId = ArpHardwareId(516);
+
+    pub const DDCMP: ArpHardwareId = ArpHardwareId(517);
+
+    pub const RAWHDLC: ArpHardwareId = ArpHardwareId(518);
+
+    pub const RAWIP: ArpHardwareId = ArpHardwareId(519);
+
+    pub const TUNNEL: ArpHardwareId = ArpHardwareId(768);
+
+    pub const TUNNEL6: ArpHardwareId = ArpHardwareId(769);
+
+    pub const FRAD: ArpHardwareId = ArpHardwareId(770);
+
+    pub const SKIP: ArpHardwareId = ArpHardwareId(771);
+
+    pub const LOOPBACK: ArpHardwareId = ArpHardwareId(772);
+
+    pub const LOCALTLK: ArpHardwareId = ArpHardwareId(773);
+
+    pub const FDDI: ArpHardwareId = ArpHardwareId(774);
+
+    pub const BIF: ArpHardwareId = ArpHardwareId(775);
+
+    pub const SIT: ArpHardwareId = ArpHardwareId(776);
+
+    pub const IPDDP: ArpHardwareId = ArpHardwareId(777);
+
+    pub const IPGRE: ArpHardwareId = ArpHardwareId(778);
+
+    pub const PIMREG: ArpHardwareId = ArpHardwareId(779);
+
+    pub const HIPPI: ArpHardwareId = ArpHardwareId(780);
+
+    pub const ASH: ArpHardwareId = ArpHardwareId(781);
+
+    pub const ECONET: ArpHardwareId = ArpHardwareId(782);
+
+    pub const IRDA: ArpHardwareId = ArpHardwareId(783);
+
+    pub const FCPP: ArpHardwareId = ArpHardwareId(784);
+
+    pub const FCAL: ArpHardwareId = ArpHardwareId(785);
+
+    pub const FCPL: ArpHardwareId = ArpHardwareId(786);
+
+    pub const FCFABRIC: ArpHardwareId = ArpHardwareId(787);
+
+    pub const IEEE802_TR: ArpHardwareId = ArpHardwareId(800);
+
+    pub const IEEE80211: ArpHardwareId = ArpHardwareId(801);
+
+    pub const IEEE80211_PRISM: ArpHardwareId = ArpHardwareId(802);
+
+    pub const IEEE80211_RADIOTAP: ArpHardwareId = ArpHardwareId(803);
+
+    pub const IEEE802154: ArpHardwareId = ArpHardwareId(804);
+
+    pub const IEEE802154_MONITOR: ArpHardwareId = ArpHardwareId(805);
+
+    pub const PHONET: ArpHardwareId = ArpHardwareId(820);
+
+    pub const PHONET_PIPE: ArpHardwareId = ArpHardwareId(821);
+
+    pub const CAIF: ArpHardwareId = ArpHardwareId(822);
+
+    pub const IP6GRE: ArpHardwareId = ArpHardwareId(823);
+
+    pub const NETLINK: ArpHardwareId = ArpHardwareId(824);
+
+    pub const IPV6LOWPAN: ArpHardwareId = ArpHardwareId(825);
+
+    pub const VSOCKMON: ArpHardwareId = ArpHardwareId(826);
+
+    pub const VOID: ArpHardwareId = ArpHardwareId(65535);
+
+    pub const NONE: ArpHardwareId = ArpHardwareId(65534);
+
+    /// The description of the number, `None` where it has none.
+    pub fn name(&self) -> Option<&'static str>
+        ensures { option_copied result ≡ arp_hardware_description self.now.0 }
+    {
+        self.assigned_name()
+            .or(self.link_name())
+            .or(self.device_name())
+    }
+
+    /// The description of a hardware type that ARP has a number for.
+    #[tactic(auto, unfolding(crate::specs::ArpHardwareId::assigned_descriptions))]
+    fn assigned_name(self) -> Option<&'static str>
+        ensures { option_copied result ≡ description_in assigned_descriptions self.0 }
+    {
+        match self {
+            ArpHardwareId::NETROM => Some("from KA9Q: NET/ROM pseudo"),
+            ArpHardwareId::ETHERNET => Some("Ethernet"),
+            ArpHardwareId::EETHER => Some("Experimental Ethernet"),
+            ArpHardwareId::AX25 => Some("AX.25 Level 2"),
+            ArpHardwareId::PRONET => Some("PROnet token ring"),
+            ArpHardwareId::CHAOS => Some("Chaosnet"),
+            ArpHardwareId::IEEE802 => Some("IEEE 802.2 Ethernet/TR/TB"),
+            ArpHardwareId::ARCNET => Some("ARCnet"),
+            ArpHardwareId::HYPERCHANNEL => Some("APPLEtalk or Hyperchannel"),
+            ArpHardwareId::LANSTAR => Some("Lanstar"),
+            ArpHardwareId::AUTONET_SHORT_ADDRESS => Some("Autonet Short Address"),
+            ArpHardwareId::LOCAL_TALK => Some("LocalTalk"),
+            ArpHardwareId::LOCAL_NET => Some("LocalNet"),
+            ArpHardwareId::ULTRA_LINK => Some("Ultra link"),
+            ArpHardwareId::SMDS => Some("SMDS"),
+            ArpHardwareId::DLCI => Some("Frame Relay DLCI"),
+            ArpHardwareId::ATM_JXB2 => Some("Asynchronous Transmission Mode (ATM) JXB2"),
+            ArpHardwareId::HDLC => Some("HDLC"),
+            ArpHardwareId::FIBRE_CHANNEL => Some("Fibre Channel"),
+            ArpHardwareId::ATM => Some("ATM"),
+            ArpHardwareId::SERIAL_LINE => Some("Serial Line"),
+            ArpHardwareId::ATM_21 => Some("Asynchronous Transmission Mode (ATM)"),
+            ArpHardwareId::MIL_STD_188_220 => Some("MIL-STD-188-220"),
+            ArpHardwareId::METRICOM => Some("Metricom STRIP (new IANA id)"),
+            ArpHardwareId::IEEE1394 => Some("IEEE 1394 IPv4 - RFC 2734"),
+            ArpHardwareId::MAPOS => Some("MAPOS"),
+            ArpHardwareId::TWINAXIAL => Some("Twinaxial"),
+            ArpHardwareId::EUI64 => Some("EUI-64"),
+            ArpHardwareId::HIPARP => Some("HIPARP"),
+            ArpHardwareId::IP_AND_ARP_OVER_ISO_7816_3 => Some("IP and ARP over ISO 7816-3"),
+            ArpHardwareId::ARPSEC => Some("ARPSec"),
+            ArpHardwareId::IPSEC_TUNNEL => Some("IPsec tunnel"),
+            ArpHardwareId::INFINIBAND => Some("InfiniBand"),
+            ArpHardwareId::CAI => Some("TIA-102 Project 25 Common Air Interface (CAI)"),
+            ArpHardwareId::WIEGAND_INTERFACE => Some("Wiegand Interface"),
+            ArpHardwareId::PURE_IP => Some("Pure IP"),
+            ArpHardwareId::HW_EXP1 => Some("HW_EXP1"),
+            ArpHardwareId::HFI => Some("HFI"),
+            ArpHardwareId::UNIFIED_BUS => Some("Unified Bus (UB)"),
+            _ => None,
+        }
+    }
+
+    /// The description of a link type that Linux numbers from 256 on.
+    #[tactic(auto, unfolding(crate::specs::ArpHardwareId::link_descriptions))]
+    fn link_name(self) -> Option<&'static str>
+        ensures { option_copied result ≡ description_in link_descriptions self.0 }
+    {
+        match self {
+            ArpHardwareId::SLIP => Some("SLIP"),
+            ArpHardwareId::CSLIP => Some("CSLIP"),
+            ArpHardwareId::SLIP6 => Some("SLIP6"),
+            ArpHardwareId::CSLIP6 => Some("CSLIP6"),
+            ArpHardwareId::RSRVD => Some("Notional KISS type"),
+            ArpHardwareId::ADAPT => Some("ADAPT"),
+            ArpHardwareId::ROSE => Some("ROSE"),
+            ArpHardwareId::X25 => Some("CCITT X.25"),
+            ArpHardwareId::HWX25 => Some("Boards with X.25 in firmware"),
+            ArpHardwareId::CAN => Some("Controller Area Network"),
+            ArpHardwareId::PPP => Some("PPP"),
+            ArpHardwareId::CISCO_HDLC => Some("Cisco HDLC"),
+            ArpHardwareId::LAPB => Some("LAPB"),
+            ArpHardwareId::DDCMP => Some("Digital's DDCMP protocol"),
+            ArpHardwareId::RAWHDLC => Some("Raw HDLC"),
+            ArpHardwareId::RAWIP => Some("Raw IP"),
+            _ => None,
+        }
+    }
+
+    /// The description of a device that Linux numbers from 768 on.
+    #[tactic(auto, unfolding(crate::specs::ArpHardwareId::device_descriptions))]
+    fn device_name(self) -> Option<&'static str>
+        ensures { option_copied result ≡ description_in device_descriptions self.0 }
+    {
+        match self {
+            ArpHardwareId::TUNNEL => Some("IPIP tunnel"),
+            ArpHardwareId::TUNNEL6 => Some("IP6IP6 tunnel"),
+            ArpHardwareId::FRAD => Some("Frame Relay Access Device"),
+            ArpHardwareId::SKIP => Some("SKIP vif"),
+            ArpHardwareId::LOOPBACK => Some("Loopback device"),
+            ArpHardwareId::LOCALTLK => Some("Localtalk device"),
+            ArpHardwareId::FDDI => Some("Fiber Distributed Data Interface"),
+            ArpHardwareId::BIF => Some("AP1000 BIF"),
+            ArpHardwareId::SIT => Some("sit0 device - IPv6-in-IPv4"),
+            ArpHardwareId::IPDDP => Some("IP over DDP tunneller"),
+            ArpHardwareId::IPGRE => Some("GRE over IP"),
+            ArpHardwareId::PIMREG => Some("PIMSM register interface"),
+            ArpHardwareId::HIPPI => Some("High Performance Parallel Interface"),
+            ArpHardwareId::ASH => Some("Nexus 64Mbps Ash"),
+            ArpHardwareId::ECONET => Some("Acorn Econet"),
+            ArpHardwareId::IRDA => Some("Linux-IrDA"),
+            ArpHardwareId::FCPP => Some("Point to point fibrechannel"),
+            ArpHardwareId::FCAL => Some("Fibrechannel arbitrated loop"),
+            ArpHardwareId::FCPL => Some("Fibrechannel public loop"),
+            ArpHardwareId::FCFABRIC => Some("Fibrechannel fabric"),
+            ArpHardwareId::IEEE802_TR => Some("Magic type ident for TR"),
+            ArpHardwareId::IEEE80211 => Some("IEEE 802.11"),
+            ArpHardwareId::IEEE80211_PRISM => Some("IEEE 802.11 + Prism2 header"),
+            ArpHardwareId::IEEE80211_RADIOTAP => Some("IEEE 802.11 + radiotap header"),
+            ArpHardwareId::IEEE802154 => Some("IEEE 802.15.4"),
+            ArpHardwareId::IEEE802154_MONITOR => Some("IEEE 802.15.4 network monitor"),
+            ArpHardwareId::PHONET => Some("PhoNet media type"),
+            ArpHardwareId::PHONET_PIPE => Some("PhoNet pipe header"),
+            ArpHardwareId::CAIF => Some("CAIF media type"),
+            ArpHardwareId::IP6GRE => Some("GRE over IPv6"),
+            ArpHardwareId::NETLINK => Some("Netlink header"),
+            ArpHardwareId::IPV6LOWPAN => Some("IPv6 over LoWPAN"),
+            ArpHardwareId::VSOCKMON => Some("Vsock monitor header"),
+            ArpHardwareId::VOID => Some("Void type, nothing is known"),
+            ArpHardwareId::NONE => Some("zero header length"),
+            _ => None,
+        }
+    }
+}
+
+impl From<u16> for ArpHardwareId {
+    ghost from_gives = { λ number id. id.0 ≡ number };
+
+    fn from(number: u16) -> ArpHardwareId {
+        ArpHardwareId(number)
+    }
+}
+
+impl From<ArpHardwareId> for u16 {
+    ghost from_gives = { λ id number. number ≡ id.0 };
+
+    fn from(id: ArpHardwareId) -> u16 {
+        id.0
+    }
+}
+
+impl fmt::Debug for ArpHardwareId {
+    fn fmt<W: fmt::Write>(&self, f: &mut fmt::Formatter<W>) -> fmt::Result {
+        write!(f, "{}", ShownArpHardwareId(*self))
+    }
+}
+
+#[cfg(test)]
+mod tests;

@@ -1,0 +1,84 @@
+//! ARP packets that are not of Ethernet and IPv4.
+ghost use Rattle.std.specs.Prelude.{Some};
+ghost use Rattle.ether_base.specs.ArpErrors.{arp_eth_ipv4_from_error_text};
+
+use crate::shown::{ShownArpHardwareId, ShownEtherType};
+use crate::{ArpHardwareId, EtherType};
+use std::error::Error;
+use std::fmt;
+
+/// An ARP packet is not one of Ethernet and IPv4. Each variant holds what the packet has instead.
+#[derive(Clone, PartialEq, Eq, Hash, Debug, Drop)]
+pub enum ArpEthIpv4FromError {
+    /// The hardware type is not Ethernet's, 1.
+    NonMatchingHwType(ArpHardwareId),
+    /// The protocol type is not IPv4's, 0x0800.
+    NonMatchingProtocolType(EtherType),
+    /// The size of a hardware address is not 6.
+    NonMatchingHwAddrSize(u8),
+    /// The size of a protocol address is not 4.
+    NonMatchingProtoAddrSize(u8),
+}
+
+impl fmt::Display for ArpEthIpv4FromError {
+    ghost output = { λ error. Some (arp_eth_ipv4_from_error_text error) };
+
+    fn fmt<W: fmt::Write>(&self, f: &mut fmt::Formatter<W>) -> fmt::Result {
+        match self {
+            ArpEthIpv4FromError::NonMatchingHwType(hw_type) => {
+                let shown = ShownArpHardwareId(*hw_type);
+                write!(
+                    f,
+                    "Hardware address type is expected to have the type '1 (Ethernet)' but is '{shown}'"
+                )
+            }
+            ArpEthIpv4FromError::NonMatchingProtocolType(protocol_type) => {
+                let shown = ShownEtherType(*protocol_type);
+                write!(
+                    f,
+                    "Protocol address type is expected to have the type '0x0800 (Internet Protocol version 4 (IPv4))' but is '{shown}'"
+                )
+            }
+            ArpEthIpv4FromError::NonMatchingHwAddrSize(size) => {
+                write!(f, "Hardware address size is expected to be 6 but is {size}")
+            }
+            ArpEthIpv4FromError::NonMatchingProtoAddrSize(size) => {
+                write!(f, "Protocol address size is expected to be 4 but is {size}")
+            }
+        }
+    }
+}
+
+impl Error for ArpEthIpv4FromError {}
+
+#[cfg(test)]
+mod tests {
+    use super::*;
+    use std::test::Fail;
+
+    #[test]
+    fn all_four_texts(rt: HostRuntime) -> Result<(), Fail> {
+        let rows = [
+            (
+                ArpEthIpv4FromError::NonMatchingHwType(ArpHardwareId::IEEE802),
+                "Hardware address type is expected to have the type '1 (Ethernet)' but is '6 (IEEE 802.2 Ethernet/TR/TB)'",
+            ),
+            (
+                ArpEthIpv4FromError::NonMatchingProtocolType(EtherType::WAKE_ON_LAN),
+                "Protocol address type is expected to have the type '0x0800 (Internet Protocol version 4 (IPv4))' but is '0x0842 (Wake on LAN)'",
+            ),
+            (
+                ArpEthIpv4FromError::NonMatchingHwAddrSize(8),
+                "Hardware address size is expected to be 6 but is 8",
+            ),
+            (
+                ArpEthIpv4FromError::NonMatchingProtoAddrSize(16),
+                "Protocol address size is expected to be 4 but is 16",
+            ),
+        ];
+        for (error, text) in rows {
+            assert_eq!(rt; format!(in rt.alloc(); "{error}")?.as_str(), text);
+        }
+        Ok(())
+    }
+}

@@ -1,0 +1,59 @@
+//! Protocol addresses that an ARP packet can't hold.
+ghost use Rattle.std.specs.Prelude.{Some};
+ghost use Rattle.ether_base.specs.ArpErrors.{arp_proto_addr_error_text};
+
+use std::error::Error;
+use std::fmt;
+
+/// The two protocol addresses of an ARP packet can't be stored: the packet has one size for both (RFC 826),
+/// which is a byte.
+#[derive(Clone, PartialEq, Eq, Hash, Debug, Drop)]
+pub enum ArpProtoAddrError {
+    /// The addresses are longer than 255 bytes: their length.
+    LenTooBig(usize),
+    /// The addresses are not of one length: the length of the sender's, and of the target's.
+    LenNonMatching(usize, usize),
+}
+
+impl fmt::Display for ArpProtoAddrError {
+    ghost output = { λ error. Some (arp_proto_addr_error_text error) };
+
+    fn fmt<W: fmt::Write>(&self, f: &mut fmt::Formatter<W>) -> fmt::Result {
+        match self {
+            ArpProtoAddrError::LenTooBig(len) => write!(
+                f,
+                "ARP Protocol Address Error: Given protocol address has a length of {len} which is greater then the maximum of 255."
+            ),
+            ArpProtoAddrError::LenNonMatching(sender, target) => write!(
+                f,
+                "ARP Protocol Address Error: Given sender & target protocol addresses have differing lengths of {sender} & {target} (must be matching)."
+            ),
+        }
+    }
+}
+
+impl Error for ArpProtoAddrError {}
+
+#[cfg(test)]
+mod tests {
+    use super::*;
+    use std::test::Fail;
+
+    #[test]
+    fn both_texts(rt: HostRuntime) -> Result<(), Fail> {
+        let rows = [
+            (
+                ArpProtoAddrError::LenTooBig(256),
+                "ARP Protocol Address Error: Given protocol address has a length of 256 which is greater then the maximum of 255.",
+            ),
+            (
+                ArpProtoAddrError::LenNonMatching(5, 6),
+                "ARP Protocol Address Error: Given sender & target protocol addresses have differing lengths of 5 & 6 (must be matching).",
+            ),
+        ];
+        for (error, text) in rows {
+            assert_eq!(rt; format!(in rt.alloc(); "{error}")?.as_str(), text);
+        }
+        Ok(())
+    }
+}

@@ -1,0 +1,71 @@
+//! Contents that a header of Linux cooked capture v1 can't have.
+ghost use Rattle.std.specs.Prelude.{Some};
+ghost use Rattle.ether_base.specs.LinuxSllErrors.{header_error_text};
+
+use crate::ArpHardwareId;
+use crate::shown::ShownArpHardwareId;
+use std::error::Error;
+use std::fmt;
+
+/// A field of a header of Linux cooked capture v1 has a value that is not supported.
+#[derive(Clone, PartialEq, Eq, Hash, Debug, Drop)]
+pub enum HeaderError {
+    /// The packet type is above 7.
+    UnsupportedPacketTypeField {
+        /// The packet type of the header.
+        packet_type: u16,
+    },
+    /// Nothing is known of the protocol numbers of the hardware type.
+    UnsupportedArpHardwareId {
+        /// The hardware type of the header.
+        arp_hardware_type: ArpHardwareId,
+    },
+}
+
+impl fmt::Display for HeaderError {
+    ghost output = { λ error. Some (header_error_text error) };
+
+    fn fmt<W: fmt::Write>(&self, f: &mut fmt::Formatter<W>) -> fmt::Result {
+        match self {
+            HeaderError::UnsupportedPacketTypeField { packet_type } => write!(
+                f,
+                "Linux cooked capture v1 (SLL) Header Error: Encountered '{packet_type}' as the packet type, but its not supported."
+            ),
+            HeaderError::UnsupportedArpHardwareId { arp_hardware_type } => {
+                let shown = ShownArpHardwareId(*arp_hardware_type);
+                write!(
+                    f,
+                    "Linux cooked capture v1 (SLL)  Header Error:  Encountered '{shown}' as the ARP harware type, but its not supported."
+                )
+            }
+        }
+    }
+}
+
+impl Error for HeaderError {}
+
+#[cfg(test)]
+mod tests {
+    use super::*;
+    use std::test::Fail;
+
+    #[test]
+    fn both_texts(rt: HostRuntime) -> Result<(), Fail> {
+        let rows = [
+            (
+                HeaderError::UnsupportedPacketTypeField { packet_type: 8 },
+                "Linux cooked capture v1 (SLL) Header Error: Encountered '8' as the packet type, but its not supported.",
+            ),
+            (
+                HeaderError::UnsupportedArpHardwareId {
+                    arp_hardware_type: ArpHardwareId::CSLIP,
+                },
+                "Linux cooked capture v1 (SLL)  Header Error:  Encountered '257 (CSLIP)' as the ARP harware type, but its not supported.",
+            ),
+        ];
+        for (error, text) in rows {
+            assert_eq!(rt; format!(in rt.alloc(); "{error}")?.as_str(), text);
+        }
+        Ok(())
+    }
+}

@@ -1,0 +1,54 @@
+//! Contents that a SecTag can't have.
+ghost use Rattle.std.specs.Prelude.{Some};
+ghost use Rattle.ether_base.specs.MacsecErrors.{header_error_text};
+
+use std::error::Error;
+use std::fmt;
+
+/// A SecTag of IEEE 802.1AE has contents that are not allowed.
+#[derive(Clone, PartialEq, Eq, Hash, Debug, Drop)]
+pub enum HeaderError {
+    /// The version bit is 1.
+    UnexpectedVersion,
+    /// The short length of an unmodified packet is 1, which leaves no room for its ether type.
+    InvalidUnmodifiedShortLen,
+}
+
+impl fmt::Display for HeaderError {
+    ghost output = { λ error. Some (header_error_text error) };
+
+    fn fmt<W: fmt::Write>(&self, f: &mut fmt::Formatter<W>) -> fmt::Result {
+        match self {
+            HeaderError::UnexpectedVersion => write!(
+                f,
+                "MACsec Header Error: Encountered '1' as MACsec version in the MACsec SecTag header (must be '0')."
+            ),
+            HeaderError::InvalidUnmodifiedShortLen => write!(
+                f,
+                "MACsec Header Error: Encountered '1' as MACsec short len in an unmodified packet (must be '0' or '2' or greater)."
+            ),
+        }
+    }
+}
+
+impl Error for HeaderError {}
+
+#[cfg(test)]
+mod tests {
+    use super::*;
+    use std::test::Fail;
+
+    #[rattlefmt::skip]
+    const TEXTS: [(HeaderError, &str); 2] = [
+        (HeaderError::UnexpectedVersion, "MACsec Header Error: Encountered '1' as MACsec version in the MACsec SecTag header (must be '0')."),
+        (HeaderError::InvalidUnmodifiedShortLen, "MACsec Header Error: Encountered '1' as MACsec short len in an unmodified packet (must be '0' or '2' or greater)."),
+    ];
+
+    #[test]
+    fn both_texts(rt: HostRuntime) -> Result<(), Fail> {
+        for (error, text) in TEXTS {
+            assert_eq!(rt; format!(in rt.alloc(); "{error}")?.as_str(), text);
+        }
+        Ok(())
+    }
+}

@@ -1,0 +1,93 @@
+//! A slice that is too short to write to.
+ghost use Rattle.std.specs.Prelude.{Some};
+ghost use Rattle.ether_base.specs.LengthErrors.{slice_write_space_error_text, write_start_text};
+
+use crate::err::Layer;
+use std::error::Error;
+use std::fmt;
+
+/// A slice is too short for a layer to be written to it.
+///
+/// All numbers are bytes.
+#[derive(Clone, PartialEq, Eq, Hash, Debug, Drop)]
+pub struct SliceWriteSpaceError {
+    /// The length that the layer needs.
+    pub required_len: usize,
+    /// The length that is there, from the start of the layer.
+    pub len: usize,
+    /// The layer that was to be written.
+    pub layer: Layer,
+    /// Where the layer was to start, counted from the start of what is written.
+    pub layer_start_offset: usize,
+}
+
+impl fmt::Display for SliceWriteSpaceError {
+    ghost output = { λ error. Some (slice_write_space_error_text error) };
+
+    fn fmt<W: fmt::Write>(&self, f: &mut fmt::Formatter<W>) -> fmt::Result {
+        let layer = self.layer;
+        let required_len = self.required_len;
+        let len = self.len;
+        let write_start = WriteStart {
+            layer,
+            offset: self.layer_start_offset,
+        };
+        write!(
+            f,
+            "Not enough space to write {layer} to slice. Needed {required_len} byte(s), but only {len} byte(s) were available{write_start}"
+        )
+    }
+}
+
+impl Error for SliceWriteSpaceError {}
+
+/// The end of the text: where the layer was to start, if that is not at the beginning.
+#[derive(Clone, Copy)]
+struct WriteStart {
+    layer: Layer,
+    offset: usize,
+}
+
+impl fmt::Display for WriteStart {
+    ghost output = { λ start. Some (write_start_text start.layer start.offset) };
+
+    fn fmt<W: fmt::Write>(&self, f: &mut fmt::Formatter<W>) -> fmt::Result {
+        let layer = self.layer;
+        let offset = self.offset;
+        if offset > 0 {
+            write!(f, " (start offset of {layer} write was {offset} byte(s)).")
+        } else {
+            write!(f, ".")
+        }
+    }
+}
+
+#[cfg(test)]
+mod tests {
+    use super::*;
+    use std::test::Fail;
+
+    #[test]
+    fn with_and_without_an_offset(rt: HostRuntime) -> Result<(), Fail> {
+        let rows = [
+            (
+                0,
+                "Not enough space to write Ethernet 2 header to slice. Needed 14 byte(s), but only 13 byte(s) were available.",
+            ),
+            (
+                5,
+                "Not enough space to write Ethernet 2 header to slice. Needed 14 byte(s), but only 13 byte(s) were available (start offset of Ethernet 2 header write was 5 byte(s)).",
+            ),
+        ];
+        for (layer_start_offset, text) in rows {
+            let error = SliceWriteSpaceError {
+                required_len: 14,
+                len: 13,
+                layer: Layer::Ethernet2Header,
+                layer_start_offset,
+            };
+            assert_eq!(rt; format!(in rt.alloc(); "{error}")?.as_str(), text);
+        }
+        Ok(())
+    }
+}

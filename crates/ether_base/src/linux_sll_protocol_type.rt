@@ -1,0 +1,195 @@
+//! The protocol that a packet of a cooked capture carries.
+ghost use Rattle.std.specs.Prelude.{◌≡◌};
+ghost use Rattle.ether_base.specs.LinuxSllProtocolType.{ethernet_protocol_type, protocol_type_of, protocol_number, with_number};
+
+use crate::err::linux_sll::HeaderError;
+use crate::{ArpHardwareId, EtherType, LinuxNonstandardEtherType};
+
+/// The protocol type of Linux cooked capture v1: a number, whose meaning the hardware type decides.
+#[derive(Clone, Copy, PartialEq, Eq, PartialOrd, Ord, Hash, Debug)]
+pub enum LinuxSllProtocolType {
+    /// A number that says nothing (IEEE 802.11 with radiotap, frame relay).
+    Ignored(u16),
+    /// A protocol of netlink.
+    NetlinkProtocolType(u16),
+    /// A protocol of generic routing encapsulation (GRE), which numbers as ether types do.
+    GenericRoutingEncapsulationProtocolType(u16),
+    /// An ether type.
+    EtherType(EtherType),
+    /// A protocol that Linux numbers below the ether types.
+    LinuxNonstandardEtherType(LinuxNonstandardEtherType),
+}
+
+/// How many hardware types have a protocol table.
+const SUPPORTED: usize = 5;
+
+impl LinuxSllProtocolType {
+    /// The hardware types whose protocol numbers have a meaning here.
+    pub const SUPPORTED_ARPHWD: [ArpHardwareId; SUPPORTED] = [
+        ArpHardwareId::NETLINK,
+        ArpHardwareId::IPGRE,
+        ArpHardwareId::IEEE80211_RADIOTAP,
+        ArpHardwareId::FRAD,
+        ArpHardwareId::ETHERNET,
+    ];
+
+    /// Puts another number in place, which keeps the variant. A number of Ethernet is one of the last two
+    /// variants, whichever the new number is.
+    pub fn change_value(&mut self, value: u16)
+        ensures { self.new ≡ with_number self.old value }
+    {
+        *self = match *self {
+            LinuxSllProtocolType::Ignored(_) => LinuxSllProtocolType::Ignored(value),
+            LinuxSllProtocolType::NetlinkProtocolType(_) => {
+                LinuxSllProtocolType::NetlinkProtocolType(value)
+            }
+            LinuxSllProtocolType::GenericRoutingEncapsulationProtocolType(_) => {
+                LinuxSllProtocolType::GenericRoutingEncapsulationProtocolType(value)
+            }
+            LinuxSllProtocolType::EtherType(_)
+            | LinuxSllProtocolType::LinuxNonstandardEtherType(_) => on_ethernet(value),
+        };
+    }
+}
+
+/// The hardware type of a link, and a protocol number on it.
+type NumberOnLink = (ArpHardwareId, u16);
+
+impl TryFrom<NumberOnLink> for LinuxSllProtocolType {
+    type Error = HeaderError;
+
+    ghost use Rattle.std.specs.Prelude.{IsOk, ◌↔◌, Contains};
+    ghost use Rattle.ether_base.specs.declared.linux_sll_protocol_type.TheConstants.LinuxSllProtocolType.{SUPPORTED_ARPHWD};
+
+    ghost try_from_gives = { λ pair r. (r ≡ protocol_type_of pair.0 pair.1) × (IsOk r ↔ Contains SUPPORTED_ARPHWD pair.0) };
+
+    fn try_from(pair: NumberOnLink) -> Result<LinuxSllProtocolType, HeaderError> {
+        let (hardware, number) = pair;
+        match hardware {
+            ArpHardwareId::NETLINK => Ok(LinuxSllProtocolType::NetlinkProtocolType(number)),
+            ArpHardwareId::IPGRE => Ok(
+                LinuxSllProtocolType::GenericRoutingEncapsulationProtocolType(number),
+            ),
+            ArpHardwareId::IEEE80211_RADIOTAP => Ok(LinuxSllProtocolType::Ignored(number)),
+            ArpHardwareId::FRAD => Ok(LinuxSllProtocolType::Ignored(number)),
+            ArpHardwareId::ETHERNET => Ok(on_ethernet(number)),
+            arp_hardware_type => Err(HeaderError::UnsupportedArpHardwareId { arp_hardware_type }),
+        }
+    }
+}
+
+impl From<LinuxSllProtocolType> for u16 {
+    ghost from_gives = { λ protocol_type number. number ≡ protocol_number protocol_type };
+
+    fn from(protocol_type: LinuxSllProtocolType) -> u16 {
+        match protocol_type {
+            LinuxSllProtocolType::Ignored(number)
+            | LinuxSllProtocolType::NetlinkProtocolType(number)
+            | LinuxSllProtocolType::GenericRoutingEncapsulationProtocolType(number) => number,
+            LinuxSllProtocolType::EtherType(ether_type) => ether_type.0,
+            LinuxSllProtocolType::LinuxNonstandardEtherType(ether_type) => u16::from(ether_type),
+        }
+    }
+}
+
+/// The protocol type of a number on Ethernet.
+fn on_ethernet(number: u16) -> LinuxSllProtocolType
+    ensures { result ≡ ethernet_protocol_type number }
+{
+    match LinuxNonstandardEtherType::try_from(number) {
+        Ok(ether_type) => LinuxSllProtocolType::LinuxNonstandardEtherType(ether_type),
+        Err(()) => LinuxSllProtocolType::EtherType(EtherType(number)),
+    }
+}
+
+#[cfg(test)]
+mod tests {
+    use super::*;
+    use std::process::Abort;
+    use std::test::Fail;
+
+    fn reads(
+        rt: &impl Abort,
+        hardware: ArpHardwareId,
+        number: u16,
+        protocol_type: LinuxSllProtocolType,
+    ) {
+        let again = protocol_type;
+        let written = u16::from(again);
+        let supported = LinuxSllProtocolType::SUPPORTED_ARPHWD.contains(&hardware);
+        let read = LinuxSllProtocolType::try_from((hardware, number));
+        assert_eq!(rt; written, number, "{number}");
+        assert!(rt; supported, "{number}");
+        assert_eq!(rt; read, Ok(protocol_type), "{number}");
+    }
+
+    #[test]
+    fn by_hardware_type(rt: HostRuntime) {
+        reads(
+            &rt,
+            ArpHardwareId::NETLINK,
+            123,
+            LinuxSllProtocolType::NetlinkProtocolType(123),
+        );
+        reads(
+            &rt,
+            ArpHardwareId::IPGRE,
+            123,
+            LinuxSllProtocolType::GenericRoutingEncapsulationProtocolType(123),
+        );
+        reads(
+            &rt,
+            ArpHardwareId::IEEE80211_RADIOTAP,
+            123,
+            LinuxSllProtocolType::Ignored(123),
+        );
+        reads(
+            &rt,
+            ArpHardwareId::FRAD,
+            123,
+            LinuxSllProtocolType::Ignored(123),
+        );
+        reads(
+            &rt,
+            ArpHardwareId::ETHERNET,
+            1,
+            LinuxSllProtocolType::LinuxNonstandardEtherType(LinuxNonstandardEtherType::N802_3),
+        );
+        reads(
+            &rt,
+            ArpHardwareId::ETHERNET,
+            0x0800,
+            LinuxSllProtocolType::EtherType(EtherType::IPV4),
+        );
+        assert_eq!(rt;
+            LinuxSllProtocolType::try_from((ArpHardwareId(257), 0x0800)),
+            Err(HeaderError::UnsupportedArpHardwareId {
+                arp_hardware_type: ArpHardwareId(257)
+            })
+        );
+    }
+
+    fn changed(mut protocol_type: LinuxSllProtocolType, value: u16) -> LinuxSllProtocolType {
+        protocol_type.change_value(value);
+        protocol_type
+    }
+
+    #[test]
+    fn another_number(rt: HostRuntime) {
+        let nonstandard = LinuxSllProtocolType::LinuxNonstandardEtherType(
+            LinuxNonstandardEtherType::N802_3,
+        );
+        assert_eq!(rt;
+            changed(LinuxSllProtocolType::EtherType(EtherType::IPV4), 1),
+            nonstandard
+        );
+        assert_eq!(rt;
+            changed(nonstandard, 0),
+            LinuxSllProtocolType::EtherType(EtherType(0))
+        );
+        assert_eq!(rt;
+            changed(LinuxSllProtocolType::Ignored(5), 1),
+            LinuxSllProtocolType::Ignored(1)
+        );
+    }
+}

@@ -1,0 +1,114 @@
+//! The association number of a SecTag.
+ghost use Rattle.std.specs.Prelude.{◌≡◌, ◌≤◌, ◌↔◌, IfOk, IfErr, IsOk};
+
+use crate::err::{ValueTooBigError, ValueType};
+use std::fmt;
+use std::marker::Model;
+
+/// The association number (AN) of a SecTag of IEEE 802.1AE: 2 bits, 0 to 3.
+#[derive(Clone, Copy, PartialEq, Eq, PartialOrd, Ord, Hash, Debug, Default)]
+pub struct MacsecAn(u8);
+
+impl Model for MacsecAn {
+    ghost use Rattle.std.specs.Prelude.{ℕ, ◌≤◌};
+
+    ghost Value = { ℕ };
+
+    ghost view = { λ an. an.0 };
+
+    ghost invariant = { λ an. an.0 ≤ 3 };
+
+    ghost inverse = { λ number. record { 0 = number } };
+}
+
+impl MacsecAn {
+    /// The association number 0.
+    pub const ZERO: MacsecAn = MacsecAn(0);
+
+    /// The greatest association number, 3.
+    pub const MAX_U8: u8 = 0b0000_0011;
+
+    /// The association number of a number, refused above [`MacsecAn::MAX_U8`].
+    pub fn try_new(value: u8) -> Result<MacsecAn, ValueTooBigError<u8>>
+        ensures variant { IsOk result ↔ (value ≤ 3) }
+        ensures ok { IfOk result (λ an. an ≡ value) }
+        ensures err { IfErr result (λ e. e ≡ record { actual = value; max_allowed = 3; value_type = ValueType.MacsecAn }) }
+    {
+        if value <= MacsecAn::MAX_U8 {
+            Ok(MacsecAn(value))
+        } else {
+            Err(ValueTooBigError {
+                actual: value,
+                max_allowed: MacsecAn::MAX_U8,
+                value_type: ValueType::MacsecAn,
+            })
+        }
+    }
+
+    /// The number of the association number.
+    pub fn value(self) -> u8
+        ensures value { result ≡ self }
+        ensures bound { result ≤ 3 }
+    {
+        self.0
+    }
+}
+
+impl From<MacsecAn> for u8 {
+    ghost from_gives = { λ an number. (number ≡ an) × (number ≤ 3) };
+
+    fn from(an: MacsecAn) -> u8 {
+        an.value()
+    }
+}
+
+impl TryFrom<u8> for MacsecAn {
+    type Error = ValueTooBigError<u8>;
+
+    ghost use Rattle.ether_base.specs.BoundedField.{TakesUpTo};
+    ghost use Rattle.ether_base.specs.declared.err.value_type.ValueType.TheVariants as value_type;
+
+    ghost try_from_gives = { TakesUpTo 3 value_type.MacsecAn };
+
+    fn try_from(value: u8) -> Result<MacsecAn, ValueTooBigError<u8>> {
+        MacsecAn::try_new(value)
+    }
+}
+
+impl fmt::Display for MacsecAn {
+    ghost use Rattle.std.specs.Prelude.{Some};
+    ghost use Rattle.std.specs.Fmt.{decimal};
+
+    ghost output = { λ an. Some (decimal an) };
+
+    fn fmt<W: fmt::Write>(&self, f: &mut fmt::Formatter<W>) -> fmt::Result {
+        self.0.fmt(f)
+    }
+}
+
+#[cfg(test)]
+mod tests {
+    use super::*;
+    use std::test::Fail;
+
+    #[test]
+    fn refused_above_3(rt: HostRuntime) -> Result<(), Fail> {
+        let alloc = rt.alloc();
+        let refused = ValueTooBigError {
+            actual: 4,
+            max_allowed: 3,
+            value_type: ValueType::MacsecAn,
+        };
+        assert_eq!(rt; MacsecAn::try_new(0), Ok(MacsecAn::ZERO));
+        assert_eq!(rt; MacsecAn::try_new(3)?.value(), MacsecAn::MAX_U8);
+        assert_eq!(rt; MacsecAn::try_from(4), Err(refused));
+        assert_eq!(rt; u8::from(MacsecAn::try_from(3)?), 3);
+        assert_eq!(rt; MacsecAn::default(), MacsecAn::ZERO);
+        let two = MacsecAn::try_new(2)?;
+        assert_eq!(rt;
+            format!(in alloc; "{two} {two:?}")?.as_str(),
+            "2 MacsecAn(2)"
+        );
+        Ok(())
+    }
+}
