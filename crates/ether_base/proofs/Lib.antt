@@ -8,3 +8,7 @@ pub mod ReadBack
 pub mod Cells
 pub mod ShownNumber
 pub mod SupportedHardware
+pub mod MadeResults
+pub mod LentTails
+pub mod WrittenFronts
+pub mod ThenLends

@@ -23,3 +23,4 @@ pub mod LengthErrors
 pub mod ArpErrors
 pub mod LinuxSllErrors
 pub mod MacsecErrors
+pub mod Space

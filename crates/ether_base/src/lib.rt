@@ -16,6 +16,7 @@ mod linux_sll_protocol_type;
 mod macsec_an;
 mod macsec_short_len;
 mod shown;
+pub mod space;
 mod vlan_id;
 mod vlan_pcp;
 

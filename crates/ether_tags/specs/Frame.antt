@@ -1,5 +1,5 @@
 -- What callers see of a view of an Ethernet II frame.
-use Rattle.std.specs.Prelude.{ℕ, ◌-◌, List, length, slice_range, Bool, if◌then◌else◌}
+use Rattle.std.specs.Prelude.{ℕ, ◌-◌, List, length, slice_range, Bool, if◌then◌else◌, Option, Some, None}
 
 -- the frame's bytes as they were handed in, and whether the last four are a frame check sequence
 pub record Frame : Type 0 where
@@ -12,3 +12,7 @@ fcs_len f = if f.has_fcs then 4 else 0
 -- the bytes between the header and the frame check sequence
 abbrev pub payload_of : Frame → List ℕ
 payload_of f = slice_range f.bytes 14 (length f.bytes - fcs_len f)
+
+-- the frame check sequence, at the frame's very end
+abbrev pub fcs_of : Frame → Option (List ℕ)
+fcs_of f = if f.has_fcs then Some (slice_range f.bytes (length f.bytes - 4) (length f.bytes)) else None

@@ -1,5 +1,5 @@
 //! A view of an Ethernet II frame.
-ghost use Rattle.std.specs.Prelude.{⊤, ◌≡◌, ◌↔◌, ◌≤◌, ◌<◌, length, true, false, IfOk, IfErr, ◌==◌, ◌-◌};
+ghost use Rattle.std.specs.Prelude.{⊤, ◌≡◌, ◌↔◌, ◌≤◌, ◌<◌, length, true, false, IfOk, IfErr, ◌==◌, ◌-◌, slice_range};
 ghost use Rattle.std.proofs.Common.{rules};
 ghost use Rattle.std.specs.Cmp.Rules.{comparing};
 ghost use Rattle.std.specs.Cmp.Lexicographic.{pointwise};
@@ -12,16 +12,19 @@ ghost use Rattle.ether_base.specs.Header.{Means};
 ghost use Rattle.ether_base.specs.Kind as kinds;
 ghost use Rattle.ether_base.specs.Refusal.{Accepts};
 ghost use Rattle.ether_base.specs.RefusedLen.{IsRefusedLen};
-ghost use Rattle.ether_tags.specs.Frame.{fcs_len, payload_of};
+ghost use Rattle.ether_tags.specs.Frame.{fcs_len, fcs_of, payload_of};
 ghost use Rattle.ether_tags.specs.Views.{ethernet2_view};
 
-use crate::wire::{address_at, u16_at};
+use crate::wire::{address_at, four_at, u16_at};
 use crate::{EtherPayloadSlice, Ethernet2Header};
 use ether_base::err::{Layer, LenError};
 use ether_base::{EtherType, LenSource};
 use std::alloc::AllocError;
 use std::fmt;
 use std::marker::Model;
+
+/// The length of a frame check sequence in bytes.
+const FCS_LEN: usize = 4;
 
 /// An Ethernet II frame in the bytes of a packet, whose header is there in full.
 ///
@@ -63,6 +66,29 @@ impl<'a> Ethernet2Slice<'a> {
         Ok(Ethernet2Slice { fcs_len: 0, slice })
     }
 
+    /// The frame of a slice that ends with a frame check sequence, refused where there are fewer than 18 bytes: a header
+    /// and the sequence. The sequence is not verified.
+    pub fn from_slice_with_crc32_fcs(slice: &'a [u8]) -> Result<Ethernet2Slice<'a>, LenError>
+        ensures frame { IfOk result (λ f. f ≡ record { bytes = slice.now; has_fcs = true }) }
+        ensures accepted { IfOk result (λ f. Accepts sources.Slice slice.now kinds.Ethernet2Fcs) }
+        ensures value { IfOk result (λ f. Means slice.now (headers.Ethernet2Fcs (ethernet2_of slice.now))) }
+        ensures refused { IfErr result (IsRefusedLen slice.now kinds.Ethernet2Fcs) }
+    {
+        if slice.len() < Ethernet2Header::LEN + FCS_LEN {
+            return Err(LenError {
+                required_len: Ethernet2Header::LEN + FCS_LEN,
+                len: slice.len(),
+                len_source: LenSource::Slice,
+                layer: Layer::Ethernet2Header,
+                layer_start_offset: 0,
+            });
+        }
+        Ok(Ethernet2Slice {
+            fcs_len: FCS_LEN,
+            slice,
+        })
+    }
+
     /// All bytes of the frame, as they were handed in.
     pub fn slice(&self) -> &'a [u8]
         ensures { result.now ≡ self.now.bytes }
@@ -89,6 +115,24 @@ impl<'a> Ethernet2Slice<'a> {
         ensures { result.0 ≡ (ethernet2_of self.now.bytes).ether_type }
     {
         EtherType(u16_at(self.slice, 12))
+    }
+
+    /// The frame check sequence as it stands in the frame, unverified; `None` of a frame that was handed in without one.
+    pub fn fcs(&self) -> Option<[u8; 4]>
+        ensures { result ≡ fcs_of self.now }
+    {
+        if self.fcs_len == 0 {
+            return None;
+        }
+        Some(four_at(self.slice, self.slice.len() - FCS_LEN))
+    }
+
+    /// The 14 bytes of the header.
+    pub fn header_slice(&self) -> &[u8]
+        ensures bytes { result.now ≡ slice_range self.now.bytes 0 14 }
+        ensures len { length result.now ≡ 14 }
+    {
+        &self.slice[..Ethernet2Header::LEN]
     }
 
     /// The header as a value.
@@ -163,7 +207,93 @@ impl fmt::Debug for Ethernet2Slice<'_> {
         f.debug_struct("Ethernet2Slice")
             .field("header", &self.to_header())
             .field("payload", &self.payload())
-            .field("fcs", &None::<[u8; 4]>)
+            .field("fcs", &self.fcs())
             .finish()
+    }
+}
+
+#[cfg(test)]
+mod tests {
+    use super::*;
+    use std::test::Fail;
+
+    /// To every station, from 02:00:00:00:00:01, IPv4, and four bytes more.
+    const FRAME: [u8; 18] = [
+        0xFF, 0xFF, 0xFF, 0xFF, 0xFF, 0xFF, 2, 0, 0, 0, 0, 1, 0x08, 0x00, 0x11, 0x22, 0x33, 0x44,
+    ];
+
+    #[test]
+    fn a_frame_that_ends_in_a_check_sequence(rt: HostRuntime) -> Result<(), Fail> {
+        let frame = FRAME;
+        let view = Ethernet2Slice::from_slice_with_crc32_fcs(&frame)?;
+        assert_eq!(rt; view.slice(), frame.as_slice());
+        assert_eq!(rt; view.fcs(), Some([0x11, 0x22, 0x33, 0x44]));
+        assert_eq!(rt; view.payload_slice(), [].as_slice());
+        assert_eq!(rt; view.clone()?, view);
+        assert_ne!(rt; view, Ethernet2Slice::from_slice_without_fcs(&frame)?);
+        assert_eq!(rt;
+            format!(in rt.alloc(); "{view:?}")?.as_str(),
+            "Ethernet2Slice { header: Ethernet2Header { source: [2, 0, 0, 0, 0, 1], destination: [255, 255, 255, 255, 255, 255], ether_type: 0x0800 (Internet Protocol version 4 (IPv4)) }, payload: EtherPayloadSlice { ether_type: 0x0800 (Internet Protocol version 4 (IPv4)), len_source: Slice, payload: [] }, fcs: Some([17, 34, 51, 68]) }"
+        );
+        Ok(())
+    }
+
+    #[test]
+    fn a_frame_without_a_check_sequence(rt: HostRuntime) -> Result<(), Fail> {
+        let frame = FRAME;
+        let view = Ethernet2Slice::from_slice_without_fcs(&frame[..15])?;
+        assert_eq!(rt; view.slice(), &frame[..15]);
+        assert_eq!(rt; view.header_slice(), &frame[..14]);
+        assert_eq!(rt; view.header_len(), 14);
+        assert_eq!(rt; view.destination(), [0xFF; 6]);
+        assert_eq!(rt; view.source(), [2, 0, 0, 0, 0, 1]);
+        assert_eq!(rt; view.ether_type(), EtherType::IPV4);
+        assert_eq!(rt;
+            view.to_header(),
+            Ethernet2Header {
+                source: [2, 0, 0, 0, 0, 1],
+                destination: [0xFF; 6],
+                ether_type: EtherType::IPV4,
+            }
+        );
+        assert_eq!(rt; view.fcs(), None);
+        assert_eq!(rt;
+            view.payload(),
+            EtherPayloadSlice {
+                ether_type: EtherType::IPV4,
+                len_source: LenSource::Slice,
+                payload: &[0x11],
+            }
+        );
+        assert_eq!(rt;
+            format!(in rt.alloc(); "{view:?}")?.as_str(),
+            "Ethernet2Slice { header: Ethernet2Header { source: [2, 0, 0, 0, 0, 1], destination: [255, 255, 255, 255, 255, 255], ether_type: 0x0800 (Internet Protocol version 4 (IPv4)) }, payload: EtherPayloadSlice { ether_type: 0x0800 (Internet Protocol version 4 (IPv4)), len_source: Slice, payload: [17] }, fcs: None }"
+        );
+        Ok(())
+    }
+
+    #[test]
+    fn a_frame_cut_short(rt: HostRuntime) {
+        let frame = FRAME;
+        assert_eq!(rt;
+            Ethernet2Slice::from_slice_without_fcs(&frame[..13]).err(),
+            Some(LenError {
+                required_len: 14,
+                len: 13,
+                len_source: LenSource::Slice,
+                layer: Layer::Ethernet2Header,
+                layer_start_offset: 0,
+            })
+        );
+        assert_eq!(rt;
+            Ethernet2Slice::from_slice_with_crc32_fcs(&frame[..17]).err(),
+            Some(LenError {
+                required_len: 18,
+                len: 17,
+                len_source: LenSource::Slice,
+                layer: Layer::Ethernet2Header,
+                layer_start_offset: 0,
+            })
+        );
     }
 }

@@ -66,6 +66,14 @@ impl<'a> SingleVlanSlice<'a> {
         self.slice
     }
 
+    /// The 4 bytes of the tag.
+    pub fn header_slice(&self) -> &[u8]
+        ensures bytes { result.now ≡ slice_range self.now 0 4 }
+        ensures len { length result.now ≡ 4 }
+    {
+        &self.slice[..SingleVlanHeader::LEN]
+    }
+
     /// The priority code point.
     pub fn priority_code_point(&self) -> VlanPcp
         ensures { result ≡ (vlan_of self.now).pcp }
@@ -165,5 +173,53 @@ impl fmt::Debug for SingleVlanSlice<'_> {
             .field("header", &self.to_header())
             .field("payload", &self.payload())
             .finish()
+    }
+}
+
+#[cfg(test)]
+mod tests {
+    use super::*;
+    use std::test::Fail;
+
+    #[test]
+    fn a_tag_and_its_payload(rt: HostRuntime) -> Result<(), Fail> {
+        let bytes = [0xB1, 0x23, 0x08, 0x00, 0x45];
+        let view = SingleVlanSlice::from_slice(&bytes)?;
+        assert_eq!(rt; view.slice(), bytes.as_slice());
+        assert_eq!(rt; view.header_slice(), &bytes[..4]);
+        assert_eq!(rt; view.header_len(), 4);
+        assert_eq!(rt; view.priority_code_point(), VlanPcp::try_new(5)?);
+        assert!(rt; view.drop_eligible_indicator());
+        assert_eq!(rt; view.vlan_identifier(), VlanId::try_new(0x123)?);
+        assert_eq!(rt; view.ether_type(), EtherType::IPV4);
+        assert_eq!(rt;
+            view.to_header(),
+            SingleVlanHeader::from_bytes([0xB1, 0x23, 0x08, 0x00])
+        );
+        assert_eq!(rt; view.payload_slice(), [0x45].as_slice());
+        assert_eq!(rt;
+            view.payload(),
+            EtherPayloadSlice {
+                ether_type: EtherType::IPV4,
+                len_source: LenSource::Slice,
+                payload: &[0x45],
+            }
+        );
+        assert_eq!(rt; view.clone()?, view);
+        assert_eq!(rt;
+            format!(in rt.alloc(); "{view:?}")?.as_str(),
+            "SingleVlanSlice { header: SingleVlanHeader { pcp: VlanPcp(5), drop_eligible_indicator: true, vlan_id: VlanId(291), ether_type: 0x0800 (Internet Protocol version 4 (IPv4)) }, payload: EtherPayloadSlice { ether_type: 0x0800 (Internet Protocol version 4 (IPv4)), len_source: Slice, payload: [69] } }"
+        );
+        assert_eq!(rt;
+            SingleVlanSlice::from_slice(&bytes[..2]).err(),
+            Some(LenError {
+                required_len: 4,
+                len: 2,
+                len_source: LenSource::Slice,
+                layer: Layer::VlanHeader,
+                layer_start_offset: 0,
+            })
+        );
+        Ok(())
     }
 }

@@ -26,3 +26,11 @@ pub fn address_at(bytes: &[u8], at: usize) -> [u8; 6]
         bytes[at + 5],
     ]
 }
+
+/// Four bytes in their order on the wire.
+pub fn four_at(bytes: &[u8], at: usize) -> [u8; 4]
+    requires { at + 4 ≤ length bytes.now }
+    ensures { result ≡ slice_range bytes.now at (at + 4) }
+{
+    [bytes[at], bytes[at + 1], bytes[at + 2], bytes[at + 3]]
+}

@@ -1,0 +1,169 @@
+//! A view of an Ethernet II header.
+ghost use Rattle.std.specs.Prelude.{⊤, ◌≡◌, ◌≤◌, length, IfOk, IfErr, ◌==◌, slice_range};
+ghost use Rattle.std.proofs.Common.{rules};
+ghost use Rattle.std.specs.Cmp.Rules.{comparing};
+ghost use Rattle.std.specs.Cmp.Lexicographic.{pointwise};
+ghost use Rattle.ether_base.specs.declared.len_source.LenSource.TheVariants as sources;
+ghost use Rattle.ether_base.specs.Bytes.{spelled};
+ghost use Rattle.ether_base.specs.Ethernet2.{ethernet2_of};
+ghost use Rattle.ether_base.specs.Header as headers;
+ghost use Rattle.ether_base.specs.Header.{Means};
+ghost use Rattle.ether_base.specs.Kind as kinds;
+ghost use Rattle.ether_base.specs.Refusal.{Accepts};
+ghost use Rattle.ether_base.specs.RefusedLen.{IsRefusedLen};
+ghost use Rattle.ether_tags.specs.Views.{ethernet2_view};
+
+use crate::Ethernet2Header;
+use crate::wire::{address_at, u16_at};
+use ether_base::err::{Layer, LenError};
+use ether_base::{EtherType, LenSource};
+use std::alloc::AllocError;
+use std::marker::Model;
+
+/// The 14 bytes of an Ethernet II header in the bytes of a packet.
+///
+/// Two views are equal where their bytes are.
+#[derive(Debug, Drop)]
+pub struct Ethernet2HeaderSlice<'a> {
+    slice: &'a [u8],
+}
+
+impl<'a> Model for Ethernet2HeaderSlice<'a> {
+    ghost use Rattle.std.specs.Prelude.{ℕ, List, ◌≡◌, length};
+
+    ghost Value = { List ℕ };
+
+    ghost view = { λ a. a.slice.now };
+
+    ghost invariant = { λ a. length a.slice.now ≡ 14 };
+}
+
+impl<'a> Ethernet2HeaderSlice<'a> {
+    /// The header that a slice begins with, refused where there are fewer than 14 bytes. What follows the header is no
+    /// part of the view.
+    pub fn from_slice(slice: &'a [u8]) -> Result<Ethernet2HeaderSlice<'a>, LenError>
+        ensures bytes { IfOk result (λ h. h ≡ slice_range slice.now 0 14) }
+        ensures accepted { IfOk result (λ h. Accepts sources.Slice slice.now kinds.Ethernet2) }
+        ensures value { IfOk result (λ h. Means slice.now (headers.Ethernet2 (ethernet2_of h))) }
+        ensures refused { IfErr result (IsRefusedLen slice.now kinds.Ethernet2) }
+    {
+        if slice.len() < Ethernet2Header::LEN {
+            return Err(LenError {
+                required_len: Ethernet2Header::LEN,
+                len: slice.len(),
+                len_source: LenSource::Slice,
+                layer: Layer::Ethernet2Header,
+                layer_start_offset: 0,
+            });
+        }
+        Ok(Ethernet2HeaderSlice {
+            slice: &slice[..Ethernet2Header::LEN],
+        })
+    }
+
+    /// The 14 bytes of the header.
+    pub fn slice(&self) -> &'a [u8]
+        ensures bytes { result.now ≡ self.now }
+        ensures len { length result.now ≡ 14 }
+    {
+        self.slice
+    }
+
+    /// The destination MAC address.
+    pub fn destination(&self) -> [u8; 6]
+        ensures { result ≡ spelled 6 (ethernet2_of self.now).destination }
+    {
+        address_at(self.slice, 0)
+    }
+
+    /// The source MAC address.
+    pub fn source(&self) -> [u8; 6]
+        ensures { result ≡ spelled 6 (ethernet2_of self.now).source }
+    {
+        address_at(self.slice, 6)
+    }
+
+    /// The protocol of what follows the header.
+    pub fn ether_type(&self) -> EtherType
+        ensures { result.0 ≡ (ethernet2_of self.now).ether_type }
+    {
+        EtherType(u16_at(self.slice, 12))
+    }
+
+    /// The header as a value.
+    pub fn to_header(&self) -> Ethernet2Header
+        ensures { ethernet2_view result ≡ ethernet2_of self.now }
+    {
+        Ethernet2Header {
+            source: address_at(self.slice, 6),
+            destination: address_at(self.slice, 0),
+            ether_type: self.ether_type(),
+        }
+    }
+}
+
+impl<'a> Clone for Ethernet2HeaderSlice<'a> {
+    ghost is_clone = { λ a b. b ≡ a };
+
+    ghost is_infallible = { λ _. ⊤ };
+
+    fn clone(&self) -> Result<Self, AllocError> {
+        Ok(Ethernet2HeaderSlice { slice: self.slice })
+    }
+}
+
+impl<'a> PartialEq for Ethernet2HeaderSlice<'a> {
+    ghost eq = { pointwise ◌==◌ };
+
+    ghost laws = { Prim.search (comparing, rules) };
+
+    fn eq(&self, other: &Ethernet2HeaderSlice<'a>) -> bool {
+        self.slice == other.slice
+    }
+}
+
+impl<'a> Eq for Ethernet2HeaderSlice<'a> {
+    ghost laws = { Prim.search (comparing, rules) };
+}
+
+#[cfg(test)]
+mod tests {
+    use super::*;
+    use std::test::Fail;
+
+    #[test]
+    fn the_fields_of_a_header(rt: HostRuntime) -> Result<(), Fail> {
+        let bytes = [
+            0xFF, 0xFF, 0xFF, 0xFF, 0xFF, 0xFF, 2, 0, 0, 0, 0, 1, 0x08, 0x00, 0x45,
+        ];
+        let header = Ethernet2HeaderSlice::from_slice(&bytes)?;
+        assert_eq!(rt; header.slice(), &bytes[..14]);
+        assert_eq!(rt; header.destination(), [0xFF; 6]);
+        assert_eq!(rt; header.source(), [2, 0, 0, 0, 0, 1]);
+        assert_eq!(rt; header.ether_type(), EtherType::IPV4);
+        assert_eq!(rt;
+            header.to_header(),
+            Ethernet2Header {
+                source: [2, 0, 0, 0, 0, 1],
+                destination: [0xFF; 6],
+                ether_type: EtherType::IPV4,
+            }
+        );
+        assert_eq!(rt; header.clone()?, header);
+        assert_eq!(rt;
+            format!(in rt.alloc(); "{header:?}")?.as_str(),
+            "Ethernet2HeaderSlice { slice: [255, 255, 255, 255, 255, 255, 2, 0, 0, 0, 0, 1, 8, 0] }"
+        );
+        assert_eq!(rt;
+            Ethernet2HeaderSlice::from_slice(&bytes[..13]).err(),
+            Some(LenError {
+                required_len: 14,
+                len: 13,
+                len_source: LenSource::Slice,
+                layer: Layer::Ethernet2Header,
+                layer_start_offset: 0,
+            })
+        );
+        Ok(())
+    }
+}

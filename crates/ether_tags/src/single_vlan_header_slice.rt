@@ -1,0 +1,172 @@
+//! A view of a VLAN tag.
+ghost use Rattle.std.specs.Prelude.{⊤, ◌≡◌, ◌≤◌, length, IfOk, IfErr, ◌==◌, slice_range};
+ghost use Rattle.std.proofs.Common.{rules};
+ghost use Rattle.std.specs.Cmp.Rules.{comparing};
+ghost use Rattle.std.specs.Cmp.Lexicographic.{pointwise};
+ghost use Rattle.ether_base.specs.declared.len_source.LenSource.TheVariants as sources;
+ghost use Rattle.ether_base.specs.Vlan.{vlan_of};
+ghost use Rattle.ether_base.specs.Header as headers;
+ghost use Rattle.ether_base.specs.Header.{Means};
+ghost use Rattle.ether_base.specs.Kind as kinds;
+ghost use Rattle.ether_base.specs.Refusal.{Accepts};
+ghost use Rattle.ether_base.specs.RefusedLen.{IsRefusedLen};
+ghost use Rattle.ether_tags.specs.Views.{bit, vlan_view};
+
+use crate::SingleVlanHeader;
+use crate::tag_control::{is_drop_eligible, pcp_of, vlan_id_of};
+use crate::wire::u16_at;
+use ether_base::err::{Layer, LenError};
+use ether_base::{EtherType, LenSource, VlanId, VlanPcp};
+use std::alloc::AllocError;
+use std::marker::Model;
+
+/// The 4 bytes of a VLAN tag behind its own ether type, in the bytes of a packet.
+///
+/// Two views are equal where their bytes are.
+#[derive(Debug, Drop)]
+pub struct SingleVlanHeaderSlice<'a> {
+    slice: &'a [u8],
+}
+
+impl<'a> Model for SingleVlanHeaderSlice<'a> {
+    ghost use Rattle.std.specs.Prelude.{ℕ, List, ◌≡◌, length};
+
+    ghost Value = { List ℕ };
+
+    ghost view = { λ a. a.slice.now };
+
+    ghost invariant = { λ a. length a.slice.now ≡ 4 };
+}
+
+impl<'a> SingleVlanHeaderSlice<'a> {
+    /// The tag that a slice begins with, refused where there are fewer than 4 bytes. What follows the tag is no part of
+    /// the view.
+    pub fn from_slice(slice: &'a [u8]) -> Result<SingleVlanHeaderSlice<'a>, LenError>
+        ensures bytes { IfOk result (λ h. h ≡ slice_range slice.now 0 4) }
+        ensures accepted { IfOk result (λ h. Accepts sources.Slice slice.now kinds.Vlan) }
+        ensures value { IfOk result (λ h. Means slice.now (headers.Vlan (vlan_of h))) }
+        ensures refused { IfErr result (IsRefusedLen slice.now kinds.Vlan) }
+    {
+        if slice.len() < SingleVlanHeader::LEN {
+            return Err(LenError {
+                required_len: SingleVlanHeader::LEN,
+                len: slice.len(),
+                len_source: LenSource::Slice,
+                layer: Layer::VlanHeader,
+                layer_start_offset: 0,
+            });
+        }
+        Ok(SingleVlanHeaderSlice {
+            slice: &slice[..SingleVlanHeader::LEN],
+        })
+    }
+
+    /// The 4 bytes of the tag.
+    pub fn slice(&self) -> &'a [u8]
+        ensures bytes { result.now ≡ self.now }
+        ensures len { length result.now ≡ 4 }
+    {
+        self.slice
+    }
+
+    /// The priority code point.
+    pub fn priority_code_point(&self) -> VlanPcp
+        ensures { result ≡ (vlan_of self.now).pcp }
+    {
+        pcp_of(u16_at(self.slice, 0))
+    }
+
+    /// Whether the frame may be dropped first under congestion.
+    pub fn drop_eligible_indicator(&self) -> bool
+        ensures { bit result ≡ (vlan_of self.now).dei }
+    {
+        is_drop_eligible(u16_at(self.slice, 0))
+    }
+
+    /// The VLAN identifier.
+    pub fn vlan_identifier(&self) -> VlanId
+        ensures { result ≡ (vlan_of self.now).vid }
+    {
+        vlan_id_of(u16_at(self.slice, 0))
+    }
+
+    /// The protocol of what follows the tag.
+    pub fn ether_type(&self) -> EtherType
+        ensures { result.0 ≡ (vlan_of self.now).ether_type }
+    {
+        EtherType(u16_at(self.slice, 2))
+    }
+
+    /// The tag as a value.
+    pub fn to_header(&self) -> SingleVlanHeader
+        ensures { vlan_view result ≡ vlan_of self.now }
+    {
+        SingleVlanHeader {
+            pcp: self.priority_code_point(),
+            drop_eligible_indicator: self.drop_eligible_indicator(),
+            vlan_id: self.vlan_identifier(),
+            ether_type: self.ether_type(),
+        }
+    }
+}
+
+impl<'a> Clone for SingleVlanHeaderSlice<'a> {
+    ghost is_clone = { λ a b. b ≡ a };
+
+    ghost is_infallible = { λ _. ⊤ };
+
+    fn clone(&self) -> Result<Self, AllocError> {
+        Ok(SingleVlanHeaderSlice { slice: self.slice })
+    }
+}
+
+impl<'a> PartialEq for SingleVlanHeaderSlice<'a> {
+    ghost eq = { pointwise ◌==◌ };
+
+    ghost laws = { Prim.search (comparing, rules) };
+
+    fn eq(&self, other: &SingleVlanHeaderSlice<'a>) -> bool {
+        self.slice == other.slice
+    }
+}
+
+impl<'a> Eq for SingleVlanHeaderSlice<'a> {
+    ghost laws = { Prim.search (comparing, rules) };
+}
+
+#[cfg(test)]
+mod tests {
+    use super::*;
+    use std::test::Fail;
+
+    #[test]
+    fn the_fields_of_a_tag(rt: HostRuntime) -> Result<(), Fail> {
+        let bytes = [0xB1, 0x23, 0x08, 0x00, 0x45];
+        let tag = SingleVlanHeaderSlice::from_slice(&bytes)?;
+        assert_eq!(rt; tag.slice(), &bytes[..4]);
+        assert_eq!(rt; tag.priority_code_point(), VlanPcp::try_new(5)?);
+        assert!(rt; tag.drop_eligible_indicator());
+        assert_eq!(rt; tag.vlan_identifier(), VlanId::try_new(0x123)?);
+        assert_eq!(rt; tag.ether_type(), EtherType::IPV4);
+        assert_eq!(rt;
+            tag.to_header(),
+            SingleVlanHeader::from_bytes([0xB1, 0x23, 0x08, 0x00])
+        );
+        assert_eq!(rt; tag.clone()?, tag);
+        assert_eq!(rt;
+            format!(in rt.alloc(); "{tag:?}")?.as_str(),
+            "SingleVlanHeaderSlice { slice: [177, 35, 8, 0] }"
+        );
+        assert_eq!(rt;
+            SingleVlanHeaderSlice::from_slice(&bytes[..2]).err(),
+            Some(LenError {
+                required_len: 4,
+                len: 2,
+                len_source: LenSource::Slice,
+                layer: Layer::VlanHeader,
+                layer_start_offset: 0,
+            })
+        );
+        Ok(())
+    }
+}
