@@ -1,5 +1,5 @@
 -- A frame whose lines are written one by one.
-use Rattle.std.proofs.Common.{◌≡◌, ℕ, ◌+◌, ◌-◌, ◌≤◌, List, [], ◌∷◌, ◌++◌, length, Bool, true, false, refl, sym, ap, subst, ◌∙◌, append_assoc, append-nil, arith}
+use Rattle.std.proofs.Common.{◌≡◌, ℕ, ◌+◌, ◌-◌, List, [], ◌∷◌, ◌++◌, length, Bool, true, false, refl, sym, ap, subst, ◌∙◌, append_assoc, arith}
 use Rattle.std.specs.Prelude.{Option, Some, None, Result, Ok, Err, codes}
 use Rattle.std.specs.Fmt.{decimal}
 use Rattle.ether_base.specs.Bytes.{IsBytes}
@@ -24,7 +24,6 @@ use Rattle.ether_tool.specs.Gathered.{Gathers, GathersAnswer}
 use Rattle.ether_tool.specs.declared.mode.Mode.{Mode}
 use Rattle.ether_tool.specs.declared.gathered.Gathered.{Gathered}
 use Rattle.ether_tool.specs.declared.peel.PeelUnit.{PeelUnit}
-use Rattle.ether_tool.specs.declared.peel.PeelUnit.TheVariants as units
 use Rattle.ether_tool.specs.declared.peel.PeelFault.{PeelFault}
 use Rattle.ether_tool.specs.declared.peel.RestKind.{RestKind}
 use Rattle.ether_tool.specs.declared.peel.RestKind.TheVariants as rests

@@ -6,6 +6,7 @@ pub mod GatheredLemmas
 pub mod Answering
 pub mod LineLemmas
 pub mod FrameLemmas
+pub mod PlainLemmas
 pub mod ProgressLemmas
 pub mod RunLemmas
 pub mod WordLemmas

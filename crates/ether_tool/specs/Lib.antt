@@ -5,6 +5,7 @@ pub mod PeelState
 pub mod PeelStart
 pub mod Peel
 pub mod PeelRead
+pub mod Plain
 pub mod HexText
 pub mod Lines
 pub mod ViewLines

@@ -13,6 +13,9 @@ mod lines;
 pub mod mode;
 pub mod peel;
 mod pending;
+pub mod plain;
+#[cfg(test)]
+mod plain_tests;
 mod progress;
 pub mod run;
 #[cfg(test)]

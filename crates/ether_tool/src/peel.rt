@@ -23,7 +23,9 @@ pub enum Start {
 /// A unit of a stack, as a view of the bytes in which it was read.
 #[derive(Clone, PartialEq, Eq, Debug, Drop)]
 pub enum PeelUnit<'a> {
+    /// The frame of a list, read once and first.
     Ethernet2(Ethernet2Slice<'a>),
+    /// A VLAN tag, behind an ether type that announces one.
     Vlan(SingleVlanSlice<'a>),
 }
 
@@ -32,6 +34,7 @@ pub enum PeelUnit<'a> {
 pub enum RestKind {
     /// The header of the start, which is not read yet.
     Start,
+    /// A protocol, by the ether type of the unit before it.
     EtherType(EtherType),
 }
 

@@ -1,4 +1,4 @@
-use Rattle.std.proofs.Common.{◌≡◌, ℕ, List, ◌+◌, get_or, take, false, arith, rules}
+use Rattle.std.proofs.Common.{◌+◌, get_or, take, false, arith, rules}
 use Rattle.std.proofs.lemmas.Grind.{put_two}
 use Rattle.std.specs.Fmt.{HasWritten}
 use Rattle.ether_tool.specs.HexText.{hex_text}
