@@ -9,6 +9,7 @@ use crate::{
     LinuxSllProtocolType, MacsecAn, MacsecShortLen, VlanId, VlanPcp,
 };
 use std::alloc::AllocError;
+use std::fmt;
 use std::hash::{DefaultHasher, Hash, Hasher};
 
 pub fn clone_of_len_error(error: &LenError) -> Result<LenError, AllocError>
@@ -307,4 +308,20 @@ pub fn hashes_alike_linux_sll_protocol_type(
     ensures { IsTrue result }
 {
     *a != *b || hash_of(a) == hash_of(b)
+}
+
+/// The text of a refused whole number, whose own text is its decimal digits.
+#[derive(Drop)]
+struct ShownRefusal(ValueTooBigError<u16>);
+
+impl fmt::Display for ShownRefusal {
+    ghost use Rattle.std.specs.Prelude.{Some, codes, ◌++◌};
+    ghost use Rattle.std.specs.Fmt.{decimal};
+    ghost use Rattle.ether_base.specs.ValueType.{value_type_name};
+
+    ghost output = { λ shown. Some (codes "Error '" ++ (decimal shown.0.actual ++ (codes "' is too big to be a '" ++ (value_type_name shown.0.value_type ++ (codes "' (maximum allowed value is '" ++ (decimal shown.0.max_allowed ++ codes "')")))))) };
+
+    fn fmt<W: fmt::Write>(&self, f: &mut fmt::Formatter<W>) -> fmt::Result {
+        self.0.fmt(f)
+    }
 }

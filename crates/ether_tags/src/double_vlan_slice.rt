@@ -60,7 +60,7 @@ impl fmt::Debug for DoubleVlanSlice<'_> {
 #[cfg(test)]
 mod tests {
     use super::*;
-    use crate::SingleVlanHeader;
+    use crate::{SingleVlanHeader, VlanHeader};
     use ether_base::{EtherType, LenSource};
     use std::alloc::AllocError;
     use std::test::Fail;
@@ -84,6 +84,10 @@ mod tests {
                 outer: SingleVlanHeader::from_bytes([0x00, 0x01, 0x81, 0x00]),
                 inner: SingleVlanHeader::from_bytes([0x00, 0x02, 0x08, 0x00]),
             }
+        );
+        assert_eq!(rt;
+            VlanHeader::Double(view.to_header()).next_header(),
+            EtherType::IPV4
         );
         assert_eq!(rt; view.payload_slice(), [0x45].as_slice());
         assert_eq!(rt;
