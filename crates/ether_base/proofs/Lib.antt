@@ -12,3 +12,4 @@ pub mod MadeResults
 pub mod LentTails
 pub mod WrittenFronts
 pub mod ThenLends
+pub mod Orders

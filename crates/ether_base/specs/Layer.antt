@@ -39,3 +39,31 @@ layer_title layer = (layer_texts layer).title
 
 abbrev pub layer_name : Layer → List ℕ
 layer_name layer = (layer_texts layer).name
+
+-- the places of the layers in their order
+abbrev pub layer_place : Layer → ℕ
+layer_place LinuxSllHeader = 0
+layer_place Ethernet2Header = 1
+layer_place EtherPayload = 2
+layer_place VlanHeader = 3
+layer_place MacsecHeader = 4
+layer_place MacsecPacket = 5
+layer_place IpHeader = 6
+layer_place Ipv4Header = 7
+layer_place Ipv4Packet = 8
+layer_place IpAuthHeader = 9
+layer_place Ipv6Header = 10
+layer_place Ipv6Packet = 11
+layer_place Ipv6ExtHeader = 12
+layer_place Ipv6HopByHopHeader = 13
+layer_place Ipv6DestOptionsHeader = 14
+layer_place Ipv6RouteHeader = 15
+layer_place Ipv6FragHeader = 16
+layer_place UdpHeader = 17
+layer_place UdpPayload = 18
+layer_place TcpHeader = 19
+layer_place Icmpv4 = 20
+layer_place Icmpv4Timestamp = 21
+layer_place Icmpv4TimestampReply = 22
+layer_place Icmpv6 = 23
+layer_place Arp = 24

@@ -11,3 +11,13 @@ len_source_name Ipv6HeaderPayloadLen = codes "length calculated from the IPv6 he
 len_source_name UdpHeaderLen = codes "length calculated from the UDP header 'length' field"
 len_source_name TcpHeaderLen = codes "length calculated from the TCP header 'length' field"
 len_source_name ArpAddrLengths = codes "length calculated from the ARP 'hw_addr_size' & 'proto_addr_size' fields"
+
+-- the places of the sources in their order
+abbrev pub len_source_place : LenSource → ℕ
+len_source_place Slice = 0
+len_source_place MacsecShortLength = 1
+len_source_place Ipv4HeaderTotalLen = 2
+len_source_place Ipv6HeaderPayloadLen = 3
+len_source_place UdpHeaderLen = 4
+len_source_place TcpHeaderLen = 5
+len_source_place ArpAddrLengths = 6

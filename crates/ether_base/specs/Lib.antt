@@ -19,6 +19,7 @@ pub mod LinuxSllProtocolType
 pub mod LenSource
 pub mod Layer
 pub mod ValueType
+pub mod Orders
 pub mod LengthErrors
 pub mod ArpErrors
 pub mod LinuxSllErrors

@@ -31,6 +31,14 @@ protocol_number (GenericRoutingEncapsulationProtocolType number) = number
 protocol_number (EtherType ether_type) = ether_type.0
 protocol_number (LinuxNonstandardEtherType number) = number
 
+-- the places of the variants in their order
+abbrev pub protocol_place : LinuxSllProtocolType → ℕ
+protocol_place (Ignored number) = 0
+protocol_place (NetlinkProtocolType number) = 1
+protocol_place (GenericRoutingEncapsulationProtocolType number) = 2
+protocol_place (EtherType ether_type) = 3
+protocol_place (LinuxNonstandardEtherType number) = 4
+
 -- the protocol type of the same link with another number
 abbrev pub with_number : LinuxSllProtocolType → ℕ → LinuxSllProtocolType
 with_number (Ignored old) number = Ignored number

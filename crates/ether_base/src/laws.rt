@@ -1,6 +1,7 @@
-//! The laws of the wire formats. Each is the contract of a function that does nothing: what its clause says holds for
-//! every list of bytes.
+//! The laws of the wire formats and of the orders. Each is the contract of a function that does nothing: what its clause says holds for
+//! every list of bytes, and for every two values.
 ghost use Rattle.ether_base.specs.Laws.{NumbersAreBytes, RowsAreApart, HeadersAreMeant, BytesMeanTheirHeader};
+ghost use Rattle.ether_base.specs.Orders.{OrdersAreByVariants};
 
 /// A list of bytes has one number, and each number that has room in k bytes is that of one list of k bytes.
 pub fn numbers_are_bytes()
@@ -20,4 +21,10 @@ pub fn headers_are_meant()
 /// The bytes of a header mean that header, whatever follows them.
 pub fn bytes_mean_their_header()
     ensures { BytesMeanTheirHeader }
+{}
+
+/// Layers, kinds of value, sources of lengths and protocol types are ordered by their variants as they are written, and
+/// protocol types of one variant by their numbers.
+pub fn orders_are_by_variants()
+    ensures { OrdersAreByVariants }
 {}

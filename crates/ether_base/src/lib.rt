@@ -5,7 +5,7 @@
 mod arp_hardware_id;
 mod arp_operation;
 #[cfg(test)]
-mod derives;
+mod callers;
 pub mod err;
 pub mod ether_type;
 pub mod laws;

@@ -28,60 +28,88 @@ impl Model for LinuxNonstandardEtherType {
 }
 
 impl LinuxNonstandardEtherType {
+    /// Dummy type for 802.3 frames.
     pub const N802_3: LinuxNonstandardEtherType = LinuxNonstandardEtherType(0x01);
 
+    /// Dummy protocol id for AX.25.
     pub const AX25: LinuxNonstandardEtherType = LinuxNonstandardEtherType(0x02);
 
+    /// Every packet.
     pub const ALL: LinuxNonstandardEtherType = LinuxNonstandardEtherType(0x03);
 
+    /// 802.2 frames.
     pub const N802_2: LinuxNonstandardEtherType = LinuxNonstandardEtherType(0x04);
 
+    /// SNAP: Internal only.
     pub const SNAP: LinuxNonstandardEtherType = LinuxNonstandardEtherType(0x05);
 
+    /// DEC DDCMP: Internal only.
     pub const DDCMP: LinuxNonstandardEtherType = LinuxNonstandardEtherType(0x06);
 
+    /// Dummy type for WAN PPP frames.
     pub const WAN_PPP: LinuxNonstandardEtherType = LinuxNonstandardEtherType(0x07);
 
+    /// Dummy type for PPP MP frames.
     pub const PPP_MP: LinuxNonstandardEtherType = LinuxNonstandardEtherType(0x08);
 
+    /// Localtalk pseudo type.
     pub const LOCALTALK: LinuxNonstandardEtherType = LinuxNonstandardEtherType(0x09);
 
+    /// CAN: Controller Area Network.
     pub const CAN: LinuxNonstandardEtherType = LinuxNonstandardEtherType(0x0C);
 
+    /// CANFD: CAN flexible data rate.
     pub const CANFD: LinuxNonstandardEtherType = LinuxNonstandardEtherType(0x0D);
 
+    /// CANXL: eXtended frame Length.
     pub const CANXL: LinuxNonstandardEtherType = LinuxNonstandardEtherType(0x0E);
 
+    /// Dummy type for Atalk over PPP.
     pub const PPPTALK: LinuxNonstandardEtherType = LinuxNonstandardEtherType(0x10);
 
+    /// 802.2 frames.
     pub const TR_802_2: LinuxNonstandardEtherType = LinuxNonstandardEtherType(0x11);
 
+    /// Mobitex.
     pub const MOBITEX: LinuxNonstandardEtherType = LinuxNonstandardEtherType(0x15);
 
+    /// Card specific control frames.
     pub const CONTROL: LinuxNonstandardEtherType = LinuxNonstandardEtherType(0x16);
 
+    /// Linux-IrDA.
     pub const IRDA: LinuxNonstandardEtherType = LinuxNonstandardEtherType(0x17);
 
+    /// Acorn Econet.
     pub const ECONET: LinuxNonstandardEtherType = LinuxNonstandardEtherType(0x18);
 
+    /// HDLC frames.
     pub const HDLC: LinuxNonstandardEtherType = LinuxNonstandardEtherType(0x19);
 
+    /// 1A for ArcNet.
     pub const ARCNET: LinuxNonstandardEtherType = LinuxNonstandardEtherType(0x1A);
 
+    /// Distributed Switch Arch.
     pub const DSA: LinuxNonstandardEtherType = LinuxNonstandardEtherType(0x1B);
 
+    /// Trailer switch tagging.
     pub const TRAILER: LinuxNonstandardEtherType = LinuxNonstandardEtherType(0x1C);
 
+    /// Nokia Phonet frame.
     pub const PHONET: LinuxNonstandardEtherType = LinuxNonstandardEtherType(0xF5);
 
+    /// IEEE802.15.4 frame.
     pub const IEEE802154: LinuxNonstandardEtherType = LinuxNonstandardEtherType(0xF6);
 
+    /// ST-Ericsson CAIF protocol.
     pub const CAIF: LinuxNonstandardEtherType = LinuxNonstandardEtherType(0xF7);
 
+    /// Multiplexed DSA protocol.
     pub const XDSA: LinuxNonstandardEtherType = LinuxNonstandardEtherType(0xF8);
 
+    /// Qualcomm multiplexing and aggregation protocol.
     pub const MAP: LinuxNonstandardEtherType = LinuxNonstandardEtherType(0xF9);
 
+    /// Management component transport protocol packets.
     pub const MCTP: LinuxNonstandardEtherType = LinuxNonstandardEtherType(0xFA);
 }
 

@@ -27,20 +27,28 @@ impl Model for LinuxSllPacketType {
 }
 
 impl LinuxSllPacketType {
+    /// Sent to us.
     pub const HOST: LinuxSllPacketType = LinuxSllPacketType(0);
 
+    /// Sent to all.
     pub const BROADCAST: LinuxSllPacketType = LinuxSllPacketType(1);
 
+    /// Sent to group.
     pub const MULTICAST: LinuxSllPacketType = LinuxSllPacketType(2);
 
+    /// Sent to someone else.
     pub const OTHERHOST: LinuxSllPacketType = LinuxSllPacketType(3);
 
+    /// Sent by us.
     pub const OUTGOING: LinuxSllPacketType = LinuxSllPacketType(4);
 
+    /// MC/BRD frame looped back.
     pub const LOOPBACK: LinuxSllPacketType = LinuxSllPacketType(5);
 
+    /// Sent to user space.
     pub const USER: LinuxSllPacketType = LinuxSllPacketType(6);
 
+    /// Sent to kernel space.
     pub const KERNEL: LinuxSllPacketType = LinuxSllPacketType(7);
 
     /// The greatest packet type, 7.
