@@ -1,6 +1,8 @@
 //! Ethernet II frames and VLAN tags: headers as values, and views that borrow the bytes of a packet.
 #![tactic(auto)]
 
+#[cfg(test)]
+mod callers;
 mod double_vlan_header;
 mod double_vlan_slice;
 mod ether_payload_slice;
