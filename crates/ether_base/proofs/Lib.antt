@@ -4,6 +4,7 @@ pub mod Values
 pub mod Rows
 pub mod Means
 pub mod Fields
+pub mod LinuxSllFields
 pub mod ReadBack
 pub mod Cells
 pub mod ShownNumber
@@ -13,3 +14,4 @@ pub mod LentTails
 pub mod WrittenFronts
 pub mod ThenLends
 pub mod Orders
+pub mod SecTagFields

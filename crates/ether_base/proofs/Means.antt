@@ -4,86 +4,61 @@ use Rattle.std.specs.Prelude.{slice_range, Option, Some, None, unwrap_or}
 use Rattle.std.proofs.lemmas.Bool.{cases_lt}
 use Rattle.ether_base.specs.declared.len_source.LenSource.{LenSource}
 use Rattle.ether_base.specs.Bytes.{IsBytes, number}
-use Rattle.ether_base.specs.SecTag.{SecTagFront, BeginsSecTag, sec_tag_len, known_payload_len, PayloadType, Unmodified, Modified, Encrypted, EncryptedUnmodified, SecTagValue, encrypted_of, changed_of, sci_present_of, sec_tag_front_of, HasSci, HasEtherType, IsSecTag}
+use Rattle.ether_base.specs.SecTag.{SecTagFront, BeginsSecTag, sec_tag_len, known_payload_len, PayloadType, Unmodified, Modified, Encrypted, EncryptedUnmodified, SecTagValue, encrypted_of, changed_of, sci_present_of, sec_tag_front_of, ether_type_len, FitsSecTagFront, HasSci, HasEtherType, IsSecTag, payload_type_for, sci_for, sec_tag_with}
 use Rattle.ether_base.specs.Arp.{ArpValue, ArpFront, BeginsArp, arp_front_of, arp_len, bytes_at, IsArp}
 use Rattle.ether_base.specs.Kind.{Kind}
 use Rattle.ether_base.specs.Kind as kinds
-use Rattle.ether_base.specs.Header.{Header, kind_of, Means, trailer_len, unit_len}
+use Rattle.ether_base.specs.Header.{Header, kind_of, header_len, Spells, Means, trailer_len, unit_len}
 use Rattle.ether_base.specs.Header as headers
 use Rattle.ether_base.specs.Refusal.{IsTooShort, Accepts}
 use Rattle.ether_base.specs.Refusal as rows
 use Rattle.ether_base.proofs.Values.{ethernet2_unique, ethernet2_at, ethernet2_exists, vlan_unique, vlan_at, vlan_exists, linux_sll_unique, linux_sll_at, linux_sll_exists}
-use Rattle.ether_base.proofs.Parts.{length-part, part_of_part}
+use Rattle.ether_base.proofs.Parts.{length-part, part_of_front}
 use Rattle.ether_base.proofs.Rows.{one_sec_tag_front, one_arp_front, some_sec_tag_front, some_arp_front, below_part}
 
 -- ---- there is one
 
-type_for : ℕ → ℕ → ℕ → PayloadType
-type_for zero zero n = Unmodified n
-type_for zero (suc c) n = Modified
-type_for (suc e) zero n = EncryptedUnmodified
-type_for (suc e) (suc c) n = Encrypted
-
-sci_for : ℕ → ℕ → Option ℕ
-sci_for zero n = None
-sci_for (suc p) n = Some n
-
-encrypted_for : (e c n : ℕ) → e < 2 → encrypted_of (type_for e c n) ≡ e
-unfolding type_for
+encrypted_for : (e c n : ℕ) → e < 2 → encrypted_of (payload_type_for e c n) ≡ e
 encrypted_for zero zero n h = refl
 encrypted_for zero (suc c) n h = refl
 encrypted_for (suc e) zero n h = omega arith
 encrypted_for (suc e) (suc c) n h = omega arith
 
-changed_for : (e c n : ℕ) → c < 2 → changed_of (type_for e c n) ≡ c
-unfolding type_for
+changed_for : (e c n : ℕ) → c < 2 → changed_of (payload_type_for e c n) ≡ c
 changed_for zero zero n h = refl
 changed_for zero (suc c) n h = omega arith
 changed_for (suc e) zero n h = refl
 changed_for (suc e) (suc c) n h = omega arith
 
 present_for : (p n : ℕ) → p < 2 → sci_present_of (sci_for p n) ≡ p
-unfolding sci_for
 present_for zero n h = refl
 present_for (suc p) n h = omega arith
 
-sci_means : (bytes : List ℕ) (p : ℕ) → HasSci bytes (sci_for p (number (slice_range bytes 6 14)))
-unfolding sci_for
-sci_means bytes zero = tt
-sci_means bytes (suc p) = refl
+sci_means : (bytes : List ℕ) (n p : ℕ) → 6 + 8 * p ≤ n → HasSci (slice_range bytes 0 n) (sci_for p (number (slice_range bytes 6 14)))
+sci_means bytes n zero le = tt
+sci_means bytes n (suc p) le = ap number (part_of_front bytes n 6 14 (omega arith) (omega arith))
 
-type_means : (bytes : List ℕ) (from e c : ℕ) → HasEtherType bytes from (type_for e c (number (slice_range bytes from (from + 2))))
-unfolding type_for
-type_means bytes from zero zero = refl
-type_means bytes from zero (suc c) = tt
-type_means bytes from (suc e) zero = tt
-type_means bytes from (suc e) (suc c) = tt
+type_means : (bytes : List ℕ) (n from e c : ℕ) → from + ether_type_len e c ≤ n → HasEtherType (slice_range bytes 0 n) from (payload_type_for e c (number (slice_range bytes from (from + 2))))
+type_means bytes n from zero zero le = ap number (part_of_front bytes n from (from + 2) (omega arith) le)
+type_means bytes n from zero (suc c) le = tt
+type_means bytes n from (suc e) zero le = tt
+type_means bytes n from (suc e) (suc c) le = tt
 
 -- what the first two bytes of a part say
 begins_part : (bytes : List ℕ) (n : ℕ) (c : SecTagFront) → 2 ≤ n → BeginsSecTag bytes c → BeginsSecTag (slice_range bytes 0 n) c
-begins_part bytes n c le h = record { sum = ap number (part_of_part bytes 0 n 0 2 (omega arith) le) ∙ h.sum; fits = h.fits }
+begins_part bytes n c le h = record { sum = ap number (part_of_front bytes n 0 2 (omega arith) le) ∙ h.sum; fits = h.fits }
 
 pub begins_whole : (bytes : List ℕ) (n : ℕ) (c : SecTagFront) → 2 ≤ n → BeginsSecTag (slice_range bytes 0 n) c → BeginsSecTag bytes c
-begins_whole bytes n c le h = record { sum = ap number (sym (part_of_part bytes 0 n 0 2 (omega arith) le)) ∙ h.sum; fits = h.fits }
+begins_whole bytes n c le h = record { sum = ap number (sym (part_of_front bytes n 0 2 (omega arith) le)) ∙ h.sum; fits = h.fits }
 
-pub some_tag : (bytes : List ℕ) (c : SecTagFront) → BeginsSecTag bytes c → sec_tag_len c ≤ length bytes → (t : SecTagValue) × (sec_tag_front_of c.version c.reserved t ≡ c) × Means bytes (headers.Macsec t)
-some_tag bytes c begins whole =
-    let part = slice_range bytes 0 (sec_tag_len c) in
-    let sci = sci_for c.sci_present (number (slice_range part 6 14)) in
-    let from = 6 + 8 * sci_present_of sci in
-    let t : SecTagValue = record {
-      payload_type = type_for c.encrypted c.changed (number (slice_range part from (from + 2)));
-      end_station = c.end_station;
-      single_copy_broadcast = c.single_copy_broadcast;
-      association_number = c.association_number;
-      short_len = c.short_len;
-      packet_number = number (slice_range part 2 6);
-      sci = sci;
-    } in
-    let p = present_for c.sci_present (number (slice_range part 6 14)) begins.fits.sci_present in
-    let q = encrypted_for c.encrypted c.changed (number (slice_range part from (from + 2))) begins.fits.encrypted in
-    let r = changed_for c.encrypted c.changed (number (slice_range part from (from + 2))) begins.fits.changed in
-    let same : sec_tag_front_of c.version c.reserved t ≡ c = λ i. record {
+-- a front and what stands behind it are a value with this front
+pub same_front : (bytes : List ℕ) (c : SecTagFront) → FitsSecTagFront c → sec_tag_front_of c.version c.reserved (sec_tag_with c bytes) ≡ c
+same_front bytes c fits =
+    let at = 6 + 8 * c.sci_present in
+    let p = present_for c.sci_present (number (slice_range bytes 6 14)) fits.sci_present in
+    let q = encrypted_for c.encrypted c.changed (number (slice_range bytes at (at + 2))) fits.encrypted in
+    let r = changed_for c.encrypted c.changed (number (slice_range bytes at (at + 2))) fits.changed in
+    λ i. record {
       version = c.version;
       end_station = c.end_station;
       sci_present = p i;
@@ -93,17 +68,26 @@ some_tag bytes c begins whole =
       association_number = c.association_number;
       reserved = c.reserved;
       short_len = c.short_len;
-    } in
-    let len : sec_tag_len (sec_tag_front_of 0 0 t) ≡ sec_tag_len c = ap sec_tag_len same in
-    let means : IsSecTag part t = record {
+    }
+
+pub tag_means : (bytes : List ℕ) (c : SecTagFront) → BeginsSecTag bytes c → sec_tag_len c ≤ length bytes → Means bytes (headers.Macsec (sec_tag_with c bytes))
+tag_means bytes c begins whole =
+    let n = sec_tag_len c in
+    let t = sec_tag_with c bytes in
+    let same = same_front bytes c begins.fits in
+    let present : sci_present_of t.sci ≡ c.sci_present = ap (λ (f : SecTagFront). f.sci_present) same in
+    let len : sec_tag_len (sec_tag_front_of 0 0 t) ≡ n = ap sec_tag_len same in
+    let at : 6 + 8 * c.sci_present ≡ 6 + 8 * sci_present_of t.sci = omega arith in
+    let type = type_means bytes n (6 + 8 * c.sci_present) c.encrypted c.changed (omega arith) in
+    let means : IsSecTag (slice_range bytes 0 n) t = record {
       version = c.version;
       reserved = c.reserved;
-      front = subst (BeginsSecTag part) (sym same) (begins_part bytes (sec_tag_len c) c (omega arith) begins);
-      packet_number = refl;
-      sci = sci_means part c.sci_present;
-      ether_type = type_means part from c.encrypted c.changed;
+      front = subst (BeginsSecTag (slice_range bytes 0 n)) (sym same) (begins_part bytes n c (omega arith) begins);
+      packet_number = ap number (part_of_front bytes n 2 6 (omega arith) (omega arith));
+      sci = sci_means bytes n c.sci_present (omega arith);
+      ether_type = subst (λ (k : ℕ). HasEtherType (slice_range bytes 0 n) k t.payload_type) at type;
     } in
-    (t, same, record { whole = omega arith; spells = subst (λ (n : ℕ). IsSecTag (slice_range bytes 0 n) t) (sym len) means })
+    record { whole = omega arith; spells = subst (λ (k : ℕ). IsSecTag (slice_range bytes 0 k) t) (sym len) means }
 
 some_arp : (bytes : List ℕ) (f : ArpFront) → BeginsArp bytes f → arp_len f ≤ length bytes → (h : Header) × (kind_of h ≡ kinds.Arp) × Means bytes h
 some_arp bytes f begins whole =
@@ -126,7 +110,7 @@ some_arp bytes f begins whole =
     } in
     let same : arp_front_of a ≡ f = λ i. record { hardware_type = f.hardware_type; protocol_type = f.protocol_type; hardware_size = lh i; protocol_size = lp i; operation = f.operation } in
     let size : arp_len (arp_front_of a) ≡ arp_len f = ap arp_len same in
-    let front : BeginsArp part f = record { sum = ap number (part_of_part bytes 0 (arp_len f) 0 8 (omega arith) (omega arith)) ∙ begins.sum; fits = begins.fits } in
+    let front : BeginsArp part f = record { sum = ap number (part_of_front bytes (arp_len f) 0 8 (omega arith) (omega arith)) ∙ begins.sum; fits = begins.fits } in
     let means : IsArp part a = record {
       front = subst (BeginsArp part) (sym same) front;
       sender_hardware = ap (bytes_at part 8) lh;
@@ -141,8 +125,7 @@ some_macsec bound bytes c six begins accepted =
     let old : c.version ≡ 0 = elim (cases_lt 0 c.version) [ inl v ↦ absurd (accepted _ (rows.macsec_version c six begins (omega (arith, begins.fits.version)))) | inr v ↦ omega arith ] in
     let long : IsTooShort c → ⊥ = λ s. accepted _ (rows.macsec_short_len c six begins old s) in
     let whole : sec_tag_len c ≤ length bytes = elim (cases_lt (length bytes) (sec_tag_len c)) [ inl lt ↦ absurd (accepted _ (rows.macsec_header c six begins old long lt)) | inr le ↦ le ] in
-    let t = some_tag bytes c begins whole in
-    (headers.Macsec t.0, refl, t.2)
+    (headers.Macsec (sec_tag_with c bytes), refl, tag_means bytes c begins whole)
 
 pub some_header : (bound : LenSource) (bytes : List ℕ) (kind : Kind) → IsBytes bytes → Accepts bound bytes kind → (h : Header) × (kind_of h ≡ kind) × Means bytes h
 some_header bound bytes kinds.Ethernet2 ok accepted =
@@ -171,6 +154,13 @@ some_header bound bytes kinds.Arp ok accepted =
     let whole : arp_len c.0 ≤ length bytes = elim (cases_lt (length bytes) (arp_len c.0)) [ inl lt ↦ absurd (accepted _ (rows.arp_addresses c.0 le c.1 lt)) | inr le ↦ le ] in
     some_arp bytes c.0 c.1 whole
 
+-- what a front of a list means, the list means
+pub means_whole : (bytes : List ℕ) (n : ℕ) (h : Header) → n ≤ length bytes → Means (slice_range bytes 0 n) h → Means bytes h
+means_whole bytes n h le m =
+    let len : length (slice_range bytes 0 n) ≡ n = length-part bytes 0 n le ∙ omega arith in
+    let k : header_len h ≤ length (slice_range bytes 0 n) = m.whole in
+    record { whole = omega arith; spells = subst (λ (l : List ℕ). Spells l h) (part_of_front bytes n 0 (header_len h) (omega arith) (omega arith)) m.spells }
+
 -- ---- and no other
 
 sci_unique : (bytes : List ℕ) (a b : Option ℕ) → sci_present_of a ≡ sci_present_of b → HasSci bytes a → HasSci bytes b → a ≡ b
@@ -190,7 +180,7 @@ type_unique bytes from _ _ e f h k = absurd (omega arith)
 pub tag_begins : (bytes : List ℕ) (t : SecTagValue) → Means bytes (headers.Macsec t) → (v r : ℕ) × BeginsSecTag bytes (sec_tag_front_of v r t)
 tag_begins bytes t m = (m.spells.version, m.spells.reserved, begins_whole bytes (sec_tag_len (sec_tag_front_of 0 0 t)) (sec_tag_front_of m.spells.version m.spells.reserved t) (omega arith) m.spells.front)
 
-tag_unique : (bytes : List ℕ) (t u : SecTagValue) → Means bytes (headers.Macsec t) → Means bytes (headers.Macsec u) → t ≡ u
+pub tag_unique : (bytes : List ℕ) (t u : SecTagValue) → Means bytes (headers.Macsec t) → Means bytes (headers.Macsec u) → t ≡ u
 tag_unique bytes t u m n =
     let a = tag_begins bytes t m in
     let b = tag_begins bytes u n in
@@ -214,7 +204,7 @@ tag_unique bytes t u m n =
     }
 
 pub arp_begins : (bytes : List ℕ) (a : ArpValue) → Means bytes (headers.Arp a) → BeginsArp bytes (arp_front_of a)
-arp_begins bytes a m = record { sum = ap number (sym (part_of_part bytes 0 (arp_len (arp_front_of a)) 0 8 (omega arith) (omega arith))) ∙ m.spells.front.sum; fits = m.spells.front.fits }
+arp_begins bytes a m = record { sum = ap number (sym (part_of_front bytes (arp_len (arp_front_of a)) 0 8 (omega arith) (omega arith))) ∙ m.spells.front.sum; fits = m.spells.front.fits }
 
 arp_same : (bytes : List ℕ) (a b : ArpValue) → Means bytes (headers.Arp a) → Means bytes (headers.Arp b) → a ≡ b
 arp_same bytes a b m n =

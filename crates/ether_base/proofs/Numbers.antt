@@ -1,9 +1,10 @@
 -- Numbers and the bytes that spell them.
-use Rattle.std.proofs.Common.{◌≡◌, ℕ, zero, suc, ◌+◌, ◌*◌, ◌%◌, ◌^◌, ◌<◌, List, [], ◌∷◌, ◌++◌, length, refl, sym, ap, ◌∙◌, arith}
+use Rattle.std.proofs.Common.{◌≡◌, ℕ, zero, suc, ◌+◌, ◌*◌, ◌/◌, ◌%◌, ◌^◌, ◌<◌, List, [], ◌∷◌, ◌++◌, length, refl, sym, ap, ◌∙◌, arith}
 use Rattle.std.proofs.Math.Nat.{pow-suc, mul_comm, mod-eq_of_lt}
 use Rattle.std.proofs.Math.Arith.{mod-mul}
 use Rattle.std.proofs.lemmas.Nat.{same_from_place, mul-add-lt, pow-add}
 use Rattle.std.proofs.lemmas.List.{length-append}
+use Rattle.std.specs.Int.{bytes_high_first}
 use Rattle.ether_base.specs.Bytes.{IsBytes, number, spelled}
 
 pub IsBytes-tail : (b : ℕ) (bytes : List ℕ) → IsBytes (b ∷ bytes) → IsBytes bytes
@@ -80,3 +81,10 @@ number-append (x ∷ a) b =
     let p : x * 256 ^ length (a ++ b) ≡ x * (256 ^ length a * 256 ^ length b) = ap (λ (k : ℕ). x * 256 ^ k) (length-append a b) ∙ ap (λ (k : ℕ). x * k) (pow-add 256 (length a) (length b)) in
     let e = number-append a b in
     omega arith
+
+-- the bytes that a number gives, the highest of them first
+pub spelled-high : (k n : ℕ) → bytes_high_first k n ≡ spelled k n
+unfolding spelled
+spelled-high zero n = refl
+spelled-high (suc zero) n = let e : n % 256 ≡ n / 256 ^ 0 % 256 = omega arith in ap (λ (b : ℕ). b ∷ []) e
+spelled-high (suc (suc k)) n = ap (λ (bytes : List ℕ). n / 256 ^ suc k % 256 ∷ bytes) (spelled-high (suc k) n)

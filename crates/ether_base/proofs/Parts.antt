@@ -29,6 +29,13 @@ part_of_part list s f i j ij le =
     let d : j - i ≡ s + j - (s + i) = omega arith in
     ap (take (j - i)) (a ∙ ap (take m) b) ∙ c ∙ ap (λ (n : ℕ). take n (drop (s + i) list)) d
 
+-- a part of a front
+pub part_of_front : (list : List ℕ) (n i j : ℕ) → i ≤ j → j ≤ n → slice_range (slice_range list 0 n) i j ≡ slice_range list i j
+part_of_front list n i j ij le =
+    let first : 0 + i ≡ i = omega arith in
+    let last : 0 + j ≡ j = omega arith in
+    part_of_part list 0 n i j ij (omega arith) ∙ ap (λ (k : ℕ). slice_range list k (0 + j)) first ∙ ap (slice_range list i) last
+
 -- the rest of a part
 pub rest_of_part : (list : List ℕ) (s f i : ℕ) → s + i ≤ f → drop i (slice_range list s f) ≡ slice_range list (s + i) f
 rest_of_part list s f i le =

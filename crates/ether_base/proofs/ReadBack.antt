@@ -6,7 +6,7 @@ use Rattle.ether_base.specs.Bytes.{number, spelled}
 use Rattle.ether_base.specs.Ethernet2.{ethernet2_number}
 use Rattle.ether_base.specs.Vlan.{vlan_number}
 use Rattle.ether_base.specs.LinuxSll.{linux_sll_number}
-use Rattle.ether_base.specs.SecTag.{sec_tag_front_number, PayloadType, Unmodified, Modified, Encrypted, EncryptedUnmodified, SecTagValue, encrypted_of, changed_of, ether_type_len, sci_present_of, sec_tag_front_of, sec_tag_len, HasSci, HasEtherType, IsSecTag, FitsSci, FitsPayloadType, FitsSecTag, sci_bytes, ether_type_bytes, sec_tag_bytes}
+use Rattle.ether_base.specs.SecTag.{BeginsSecTag, sec_tag_front_number, PayloadType, Unmodified, Modified, Encrypted, EncryptedUnmodified, SecTagValue, encrypted_of, changed_of, ether_type_len, sci_present_of, sec_tag_front_of, sec_tag_len, HasSci, HasEtherType, IsSecTag, FitsSci, FitsPayloadType, FitsSecTag, sci_bytes, ether_type_bytes, sec_tag_bytes}
 use Rattle.ether_base.specs.Arp.{ArpValue, FitsArp, IsArp, arp_front_of, arp_front_number, arp_len, arp_bytes}
 use Rattle.ether_base.specs.Header.{Header, header_len, header_bytes, Spells, Means, FitsHeader}
 use Rattle.ether_base.specs.Header as headers
@@ -46,22 +46,27 @@ type_back a from Modified more len fits = tt
 type_back a from EncryptedUnmodified more len fits = tt
 type_back a from Encrypted more len fits = tt
 
+pub sec_tag_front_back : (t : SecTagValue) → FitsSecTag t → BeginsSecTag (sec_tag_bytes t) (sec_tag_front_of 0 0 t)
+unfolding spelled
+sec_tag_front_back t f =
+    let r = f.front in
+    let c = sec_tag_front_number (sec_tag_front_of 0 0 t) in
+    let small : c < 256 ^ 2 = omega arith in
+    record { sum = number-spelled 2 c small; fits = f.front }
+
 tag_back : (t : SecTagValue) → FitsSecTag t → IsSecTag (sec_tag_bytes t) t
 unfolding spelled
 tag_back t f =
-    let c = sec_tag_front_number (sec_tag_front_of 0 0 t) in
-    let r = f.front in
-    let a = spelled 2 c in
+    let a = spelled 2 (sec_tag_front_number (sec_tag_front_of 0 0 t)) in
     let b = a ++ spelled 4 t.packet_number in
     let d = b ++ sci_bytes t.sci in
-    let small : c < 256 ^ 2 = omega arith in
     let ls = length-sci t.sci in
     let p = number_behind a (sci_bytes t.sci ++ ether_type_bytes t.payload_type) 2 4 t.packet_number refl f.packet_number in
     let y = type_back d (6 + 8 * sci_present_of t.sci) t.payload_type [] (omega (arith, length-append b (sci_bytes t.sci))) f.payload_type in
     record {
       version = 0;
       reserved = 0;
-      front = record { sum = number-spelled 2 c small; fits = f.front };
+      front = sec_tag_front_back t f;
       packet_number = ap (λ (l : List ℕ). number (slice_range l 2 6)) (append_assoc b (sci_bytes t.sci) (ether_type_bytes t.payload_type)) ∙ p;
       sci = sci_back b t.sci (ether_type_bytes t.payload_type) refl f.sci;
       ether_type = subst (λ (l : List ℕ). HasEtherType l (6 + 8 * sci_present_of t.sci) t.payload_type) (append-nil (sec_tag_bytes t)) y;

@@ -7,13 +7,13 @@ use Rattle.ether_base.specs.declared.len_source.LenSource.TheVariants as sources
 use Rattle.ether_base.specs.declared.err.layer.Layer.TheVariants as layers
 use Rattle.ether_base.specs.Bytes.{IsBytes, number}
 use Rattle.ether_base.specs.LinuxSll.{LinuxSllValue, BeginsLinuxSll, is_supported}
-use Rattle.ether_base.specs.SecTag.{SecTagFront, BeginsSecTag, sec_tag_len, known_payload_len}
+use Rattle.ether_base.specs.SecTag.{SecTagFront, BeginsSecTag, sec_tag_len, known_payload_len, sec_tag_front_in}
 use Rattle.ether_base.specs.Arp.{ArpFront, BeginsArp, arp_len}
 use Rattle.ether_base.specs.Kind.{Kind}
 use Rattle.ether_base.specs.Kind as kinds
-use Rattle.ether_base.specs.Refusal.{Refusal, Length, UnsupportedPacketType, UnsupportedHardwareType, UnexpectedVersion, InvalidShortLen, IsTooShort, Refuses, Accepts}
+use Rattle.ether_base.specs.Refusal.{Refusal, Length, UnsupportedPacketType, UnsupportedHardwareType, UnexpectedVersion, InvalidShortLen, IsTooShort, Refuses, Accepts, IsOfPayload, AcceptsHeader}
 use Rattle.ether_base.proofs.Numbers.{number_below}
-use Rattle.ether_base.proofs.Values.{sec_tag_front_unique, sec_tag_front_at, sec_tag_front_exists, linux_sll_unique, linux_sll_at, linux_sll_exists, arp_front_unique, arp_front_at, arp_front_exists}
+use Rattle.ether_base.proofs.Values.{sec_tag_front_unique, sec_tag_front_exists, linux_sll_unique, linux_sll_at, linux_sll_exists, arp_front_unique, arp_front_at, arp_front_exists}
 use Rattle.ether_base.proofs.Parts.{length-part, IsBytes-part}
 use Rattle.ether_base.specs.Refusal as rows
 
@@ -35,11 +35,13 @@ below_part bytes n h le =
     let e : length (slice_range bytes 0 n) ≡ n = length-part bytes 0 n le ∙ omega arith in
     rw e at (number_below (slice_range bytes 0 n) (IsBytes-part 0 n bytes h))
 
+pub sec_tag_front_read : (bytes : List ℕ) → IsBytes bytes → 6 ≤ length bytes → BeginsSecTag bytes (sec_tag_front_in bytes)
+sec_tag_front_read bytes h le =
+    let e = sec_tag_front_exists (number (slice_range bytes 0 2)) (below_part bytes 2 h (omega arith)) in
+    record { sum = e.0; fits = e.1 }
+
 pub some_sec_tag_front : (bytes : List ℕ) → IsBytes bytes → 6 ≤ length bytes → (t : SecTagFront) × BeginsSecTag bytes t
-some_sec_tag_front bytes h le =
-    let n = number (slice_range bytes 0 2) in
-    let e = sec_tag_front_exists n (below_part bytes 2 h (omega arith)) in
-    (sec_tag_front_at n, record { sum = e.0; fits = e.1 })
+some_sec_tag_front bytes h le = (sec_tag_front_in bytes, sec_tag_front_read bytes h le)
 
 pub some_linux_sll : (bytes : List ℕ) → IsBytes bytes → 16 ≤ length bytes → (t : LinuxSllValue) × BeginsLinuxSll bytes t
 some_linux_sll bytes h le =
@@ -72,6 +74,41 @@ accepts_macsec bound bytes t six begins version short whole fits r (rows.macsec_
     let k = fits p (ap known_payload_len (sym e) ∙ s) in
     let l = ap sec_tag_len e in
     omega arith
+
+-- no row of the header holds, whatever follows it
+accepts_tag_row : (bound : LenSource) (bytes : List ℕ) (t : SecTagFront) → 6 ≤ length bytes → BeginsSecTag bytes t → t.version ≡ 0 → (IsTooShort t → ⊥) → sec_tag_len t ≤ length bytes
+    → (r : Refusal) → Refuses bound bytes kinds.Macsec r → (IsOfPayload r → ⊥) → ⊥
+accepts_tag_row bound bytes t six begins version short whole r (rows.macsec lt) h = omega arith
+accepts_tag_row bound bytes t six begins version short whole r (rows.macsec_version u le b v) h =
+    let e = ap (λ (x : SecTagFront). x.version) (one_sec_tag_front bytes u t b begins) in omega arith
+accepts_tag_row bound bytes t six begins version short whole r (rows.macsec_short_len u le b v s) h =
+    short (subst IsTooShort (one_sec_tag_front bytes u t b begins) s)
+accepts_tag_row bound bytes t six begins version short whole r (rows.macsec_header u le b v s lt) h =
+    let e = ap sec_tag_len (one_sec_tag_front bytes u t b begins) in omega arith
+accepts_tag_row bound bytes t six begins version short whole r (rows.macsec_packet u p b v s le lt) h = h refl
+
+pub accepts_tag : (bound : LenSource) (bytes : List ℕ) (t : SecTagFront) → 6 ≤ length bytes → BeginsSecTag bytes t → t.version ≡ 0 → (IsTooShort t → ⊥) → sec_tag_len t ≤ length bytes → AcceptsHeader bound bytes kinds.Macsec
+accepts_tag bound bytes t six begins version short whole r h = accepts_tag_row bound bytes t six begins version short whole r h.row h.of_header
+
+-- with the payload that it names there, a tag whose header is accepted is accepted whole
+pub accepts_packet : (bound : LenSource) (bytes : List ℕ) (t : SecTagFront) → AcceptsHeader bound bytes kinds.Macsec → BeginsSecTag bytes t → ((p : ℕ) → known_payload_len t ≡ Some p → sec_tag_len t + p ≤ length bytes) → Accepts bound bytes kinds.Macsec
+accepts_packet bound bytes t header begins fits r (rows.macsec lt) = header _ (record { row = rows.macsec lt; of_header = λ e. absurd cc })
+accepts_packet bound bytes t header begins fits r (rows.macsec_version u le b v) = header _ (record { row = rows.macsec_version u le b v; of_header = λ e. e })
+accepts_packet bound bytes t header begins fits r (rows.macsec_short_len u le b v s) = header _ (record { row = rows.macsec_short_len u le b v s; of_header = λ e. e })
+accepts_packet bound bytes t header begins fits r (rows.macsec_header u le b v s lt) = header _ (record { row = rows.macsec_header u le b v s lt; of_header = λ e. absurd cc })
+accepts_packet bound bytes t header begins fits r (rows.macsec_packet u p b v s le lt) =
+    let e = one_sec_tag_front bytes u t b begins in
+    let k = fits p (ap known_payload_len (sym e) ∙ s) in
+    let l = ap sec_tag_len e in
+    omega arith
+
+-- a tag whose header is accepted has the version bit 0
+pub accepted_version : (bound : LenSource) (bytes : List ℕ) (t : SecTagFront) → 6 ≤ length bytes → AcceptsHeader bound bytes kinds.Macsec → BeginsSecTag bytes t → t.version ≡ 0
+accepted_version bound bytes t six header begins =
+    elim (cases_lt 0 t.version) [
+      | inl v ↦ absurd (header UnexpectedVersion (record { row = rows.macsec_version t six begins (omega (arith, begins.fits.version)); of_header = λ e. e }))
+      | inr v ↦ omega arith
+    ]
 
 pub accepts_linux_sll : (bound : LenSource) (bytes : List ℕ) (t : LinuxSllValue) → 16 ≤ length bytes → BeginsLinuxSll bytes t → t.packet_type ≤ 7 → is_supported t.hardware_type ≡ true → Accepts bound bytes kinds.LinuxSll
 accepts_linux_sll bound bytes t le begins packet hardware r (rows.linux_sll lt) = omega arith

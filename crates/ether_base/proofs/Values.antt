@@ -3,7 +3,7 @@ use Rattle.std.proofs.Common.{◌≡◌, ℕ, ◌/◌, ◌%◌, ◌^◌, ◌<◌
 use Rattle.ether_base.specs.Ethernet2.{Ethernet2Value, ethernet2_number, FitsEthernet2}
 use Rattle.ether_base.specs.Vlan.{VlanValue, vlan_number, FitsVlan}
 use Rattle.ether_base.specs.LinuxSll.{LinuxSllValue, linux_sll_number, FitsLinuxSll}
-use Rattle.ether_base.specs.SecTag.{SecTagFront, sec_tag_front_number, FitsSecTagFront}
+use Rattle.ether_base.specs.SecTag.{SecTagFront, sec_tag_front_number, FitsSecTagFront, sec_tag_front_at}
 use Rattle.ether_base.specs.Arp.{ArpFront, arp_front_number, FitsArpFront}
 
 pub ethernet2_unique : (v w : Ethernet2Value) → FitsEthernet2 v → FitsEthernet2 w → ethernet2_number v ≡ ethernet2_number w → v ≡ w
@@ -69,19 +69,6 @@ linux_sll_at n = record { packet_type = n / 2 ^ 112; hardware_type = n / 2 ^ 96 
 
 pub linux_sll_exists : (n : ℕ) → n < 2 ^ 128 → (n ≡ linux_sll_number (linux_sll_at n)) × FitsLinuxSll (linux_sll_at n)
 linux_sll_exists n lt = omega arith
-
-abbrev pub sec_tag_front_at : ℕ → SecTagFront
-sec_tag_front_at n = record {
-  version = n / 2 ^ 15;
-  end_station = n / 2 ^ 14 % 2;
-  sci_present = n / 2 ^ 13 % 2;
-  single_copy_broadcast = n / 2 ^ 12 % 2;
-  encrypted = n / 2 ^ 11 % 2;
-  changed = n / 2 ^ 10 % 2;
-  association_number = n / 2 ^ 8 % 4;
-  reserved = n / 2 ^ 6 % 4;
-  short_len = n % 2 ^ 6;
-}
 
 pub sec_tag_front_exists : (n : ℕ) → n < 2 ^ 16 → (n ≡ sec_tag_front_number (sec_tag_front_at n)) × FitsSecTagFront (sec_tag_front_at n)
 sec_tag_front_exists n lt = omega arith

@@ -4,6 +4,8 @@ use Rattle.ether_base.specs.declared.len_source.LenSource.{LenSource}
 use Rattle.ether_base.specs.Bytes.{IsBytes, number, spelled}
 use Rattle.ether_base.specs.Ethernet2.{ethernet2_of}
 use Rattle.ether_base.specs.Vlan.{vlan_of}
+use Rattle.ether_base.specs.LinuxSll.{linux_sll_of}
+use Rattle.ether_base.specs.SecTag.{sec_tag_front_in, sec_tag_len, sec_tag_of}
 use Rattle.ether_base.specs.Kind.{Kind}
 use Rattle.ether_base.specs.Header.{Header, kind_of, header_len, header_bytes, Means, FitsHeader}
 use Rattle.ether_base.specs.Header as headers
@@ -20,13 +22,15 @@ pub record RowsAreApart : Type 0 where
   pub one : (bound : LenSource) (bytes : List ℕ) (kind : Kind) (r s : Refusal) → Refuses bound bytes kind r → Refuses bound bytes kind s → r ≡ s
   pub decided : (bound : LenSource) (bytes : List ℕ) (kind : Kind) → IsBytes bytes → ((r : Refusal) × Refuses bound bytes kind r) ⊎ Accepts bound bytes kind
 
--- Accepted bytes mean a header, and a list means at most one of a kind. Of fourteen bytes and of four it is the one that
--- their parts tell.
+-- Accepted bytes mean a header, and a list means at most one of a kind. Of fourteen bytes, of four, of
+-- sixteen, and of as many as the front of a security tag tells it is the one that their parts tell.
 pub record HeadersAreMeant : Type 0 where
   pub some : (bound : LenSource) (bytes : List ℕ) (kind : Kind) → IsBytes bytes → Accepts bound bytes kind → (h : Header) × (kind_of h ≡ kind) × Means bytes h
   pub one : (bytes : List ℕ) (h k : Header) → kind_of h ≡ kind_of k → Means bytes h → Means bytes k → h ≡ k
   pub ethernet2 : (bytes : List ℕ) → IsBytes bytes → 14 ≤ length bytes → Means bytes (headers.Ethernet2 (ethernet2_of bytes))
   pub vlan : (bytes : List ℕ) → IsBytes bytes → 4 ≤ length bytes → Means bytes (headers.Vlan (vlan_of bytes))
+  pub linux_sll : (bytes : List ℕ) → IsBytes bytes → 16 ≤ length bytes → Means bytes (headers.LinuxSll (linux_sll_of bytes))
+  pub macsec : (bytes : List ℕ) → IsBytes bytes → 6 ≤ length bytes → sec_tag_len (sec_tag_front_in bytes) ≤ length bytes → Means bytes (headers.Macsec (sec_tag_of bytes))
 
 -- the bytes of a header are as many as its length, and mean it, whatever follows them
 pub record BytesMeanTheirHeader : Type 0 where

@@ -33,6 +33,16 @@ BeginsLinuxSll bytes s = IsLinuxSll (slice_range bytes 0 16) s
 abbrev pub linux_sll_bytes : LinuxSllValue → List ℕ
 linux_sll_bytes s = spelled 16 (linux_sll_number s)
 
+-- the value that stands in a list of at least sixteen bytes
+abbrev pub linux_sll_of : List ℕ → LinuxSllValue
+linux_sll_of bytes = record {
+  packet_type = number (slice_range bytes 0 2);
+  hardware_type = number (slice_range bytes 2 4);
+  address_len = number (slice_range bytes 4 6);
+  address = number (slice_range bytes 6 14);
+  protocol = number (slice_range bytes 14 16);
+}
+
 -- the hardware types whose protocol numbers have a meaning: netlink, GRE over IP, radiotap, frame relay, Ethernet
 abbrev pub is_supported : ℕ → Bool
 is_supported hardware = nat_eq hardware 824 || nat_eq hardware 778 || nat_eq hardware 803 || nat_eq hardware 770 || nat_eq hardware 1

@@ -50,3 +50,22 @@ pub data Refuses (bound : LenSource) (bytes : List ℕ) : Kind → Refusal → T
 -- no row holds
 abbrev pub Accepts : LenSource → List ℕ → Kind → Type 0
 Accepts bound bytes kind = (r : Refusal) → Refuses bound bytes kind r → ⊥
+
+-- ---- of a header alone, without the payload whose length it names
+
+-- the row speaks of that payload
+abbrev pub IsOfPayload : Refusal → Type 0
+IsOfPayload (Length required len source layer) = layer ≡ layers.MacsecPacket
+IsOfPayload (UnsupportedPacketType n) = ⊥
+IsOfPayload (UnsupportedHardwareType n) = ⊥
+IsOfPayload UnexpectedVersion = ⊥
+IsOfPayload InvalidShortLen = ⊥
+
+-- a row of the header holds
+pub record RefusesHeader (bound : LenSource) (bytes : List ℕ) (kind : Kind) (r : Refusal) : Type 0 where
+  pub row : Refuses bound bytes kind r
+  pub of_header : IsOfPayload r → ⊥
+
+-- no row of the header holds
+abbrev pub AcceptsHeader : LenSource → List ℕ → Kind → Type 0
+AcceptsHeader bound bytes kind = (r : Refusal) → RefusesHeader bound bytes kind r → ⊥

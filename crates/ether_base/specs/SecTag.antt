@@ -1,5 +1,5 @@
 -- The MAC Security TAG behind its own ether type (IEEE 802.1AE, 9.3), and the ether type behind it where it can be read.
-use Rattle.std.specs.Prelude.{◌≡◌, ℕ, zero, suc, ◌+◌, ◌*◌, ◌^◌, ◌<◌, List, [], ◌++◌, slice_range, Option, Some, None}
+use Rattle.std.specs.Prelude.{◌≡◌, ℕ, zero, suc, ◌+◌, ◌*◌, ◌/◌, ◌%◌, ◌^◌, ◌<◌, List, [], ◌++◌, slice_range, Option, Some, None}
 use Rattle.ether_base.specs.Bytes.{number, spelled}
 
 -- ---- the first two bytes (9.5 tag control information, 9.6 association number, 9.7 short length)
@@ -131,6 +131,54 @@ pub record IsSecTag (bytes : List ℕ) (t : SecTagValue) : Type 0 where
   pub packet_number : number (slice_range bytes 2 6) ≡ t.packet_number
   pub sci : HasSci bytes t.sci
   pub ether_type : HasEtherType bytes (6 + 8 * sci_present_of t.sci) t.payload_type
+
+-- ---- reading
+
+-- the front whose number this is
+abbrev pub sec_tag_front_at : ℕ → SecTagFront
+sec_tag_front_at n = record {
+  version = n / 2 ^ 15;
+  end_station = n / 2 ^ 14 % 2;
+  sci_present = n / 2 ^ 13 % 2;
+  single_copy_broadcast = n / 2 ^ 12 % 2;
+  encrypted = n / 2 ^ 11 % 2;
+  changed = n / 2 ^ 10 % 2;
+  association_number = n / 2 ^ 8 % 4;
+  reserved = n / 2 ^ 6 % 4;
+  short_len = n % 2 ^ 6;
+}
+
+-- the front that stands in a list of at least two bytes
+abbrev pub sec_tag_front_in : List ℕ → SecTagFront
+sec_tag_front_in bytes = sec_tag_front_at (number (slice_range bytes 0 2))
+
+-- the payload type that E and C tell, of a tag with this ether type behind it where one can be read
+abbrev pub payload_type_for : (encrypted changed ether_type : ℕ) → PayloadType
+payload_type_for zero zero ether_type = Unmodified ether_type
+payload_type_for zero (suc changed) ether_type = Modified
+payload_type_for (suc encrypted) zero ether_type = EncryptedUnmodified
+payload_type_for (suc encrypted) (suc changed) ether_type = Encrypted
+
+-- the SCI where SC is 1
+abbrev pub sci_for : (sci_present sci : ℕ) → Option ℕ
+sci_for zero sci = None
+sci_for (suc present) sci = Some sci
+
+-- the value with this front, and what stands in the list behind it
+abbrev pub sec_tag_with : SecTagFront → List ℕ → SecTagValue
+sec_tag_with front bytes = let at = 6 + 8 * front.sci_present in record {
+  payload_type = payload_type_for front.encrypted front.changed (number (slice_range bytes at (at + 2)));
+  end_station = front.end_station;
+  single_copy_broadcast = front.single_copy_broadcast;
+  association_number = front.association_number;
+  short_len = front.short_len;
+  packet_number = number (slice_range bytes 2 6);
+  sci = sci_for front.sci_present (number (slice_range bytes 6 14));
+}
+
+-- the value that stands in a list of at least as many bytes as its front tells
+abbrev pub sec_tag_of : List ℕ → SecTagValue
+sec_tag_of bytes = sec_tag_with (sec_tag_front_in bytes) bytes
 
 -- ---- ranges and bytes
 

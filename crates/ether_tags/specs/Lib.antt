@@ -1,3 +1,5 @@
 pub mod Frame
 pub mod Tags
 pub mod Views
+pub mod SecTags
+pub mod LinkExts

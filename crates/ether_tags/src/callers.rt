@@ -4,12 +4,14 @@ ghost use Rattle.std.specs.Prelude.{◌≡◌, ◌↔◌, IsTrue, map, [], ◌�
 ghost use Rattle.std.specs.Ordering.{nat_cmp, on, then_cmp};
 ghost use Rattle.std.specs.Cmp.Lexicographic.{slice_cmp};
 ghost use Rattle.ether_base.specs.LenSource.{len_source_place};
+ghost use Rattle.ether_tags.specs.SecTags.{SamePayload, tag_bytes};
 ghost use Rattle.ether_tags.specs.Views.{ethernet2_view, vlan_view};
 
 use crate::{
     DoubleVlanHeader, DoubleVlanSlice, EtherPayloadSlice, Ethernet2Header, Ethernet2HeaderSlice,
-    Ethernet2Slice, SingleVlanHeader, SingleVlanHeaderSlice, SingleVlanSlice, VlanHeader,
-    VlanSlice,
+    Ethernet2Slice, LinkExtHeader, LinkExtSlice, MacsecHeader, MacsecHeaderSlice, MacsecPType,
+    MacsecPayloadSlice, MacsecSlice, SingleVlanHeader, SingleVlanHeaderSlice, SingleVlanSlice,
+    VlanHeader, VlanSlice,
 };
 use ether_base::EtherType;
 use std::alloc::AllocError;
@@ -93,6 +95,52 @@ pub fn clone_of_ether_payload_slice<'a>(
     value.clone()
 }
 
+pub fn clone_of_macsec_p_type(value: &MacsecPType) -> Result<MacsecPType, AllocError>
+    ensures { result ≡ Ok value.now }
+{
+    value.clone()
+}
+
+pub fn clone_of_macsec_header(value: &MacsecHeader) -> Result<MacsecHeader, AllocError>
+    ensures { result ≡ Ok value.now }
+{
+    value.clone()
+}
+
+pub fn clone_of_link_ext_header(value: &LinkExtHeader) -> Result<LinkExtHeader, AllocError>
+    ensures { result ≡ Ok value.now }
+{
+    value.clone()
+}
+
+pub fn clone_of_macsec_header_slice<'a>(
+    value: &MacsecHeaderSlice<'a>,
+) -> Result<MacsecHeaderSlice<'a>, AllocError>
+    ensures { result ≡ Ok value.now }
+{
+    value.clone()
+}
+
+pub fn clone_of_macsec_payload_slice<'a>(
+    value: &MacsecPayloadSlice<'a>,
+) -> Result<MacsecPayloadSlice<'a>, AllocError>
+    ensures { result ≡ Ok value.now }
+{
+    value.clone()
+}
+
+pub fn clone_of_macsec_slice<'a>(value: &MacsecSlice<'a>) -> Result<MacsecSlice<'a>, AllocError>
+    ensures { result ≡ Ok value.now }
+{
+    value.clone()
+}
+
+pub fn clone_of_link_ext_slice<'a>(value: &LinkExtSlice<'a>) -> Result<LinkExtSlice<'a>, AllocError>
+    ensures { result ≡ Ok value.now }
+{
+    value.clone()
+}
+
 pub fn same_ethernet2_header(a: &Ethernet2Header, b: &Ethernet2Header) -> bool
     ensures { IsTrue result ↔ (a.now ≡ b.now) }
 {
@@ -165,6 +213,24 @@ pub fn same_ether_payload_slice(a: &EtherPayloadSlice<'_>, b: &EtherPayloadSlice
     *a == *b
 }
 
+pub fn same_macsec_p_type(a: &MacsecPType, b: &MacsecPType) -> bool
+    ensures { IsTrue result ↔ (a.now ≡ b.now) }
+{
+    *a == *b
+}
+
+pub fn same_macsec_header_slice(a: &MacsecHeaderSlice<'_>, b: &MacsecHeaderSlice<'_>) -> bool
+    ensures { IsTrue result ↔ (tag_bytes a.now ≡ tag_bytes b.now) }
+{
+    *a == *b
+}
+
+pub fn same_macsec_payload_slice(a: &MacsecPayloadSlice<'_>, b: &MacsecPayloadSlice<'_>) -> bool
+    ensures { IsTrue result ↔ SamePayload a.now b.now }
+{
+    *a == *b
+}
+
 pub fn order_of_ether_payload_slices(
     a: &EtherPayloadSlice<'_>,
     b: &EtherPayloadSlice<'_>,
@@ -192,13 +258,15 @@ pub fn vlan_ether_types() -> [EtherType; 3]
     VlanHeader::VLAN_ETHER_TYPES
 }
 
-pub fn lengths() -> (usize, usize, usize, usize)
-    ensures { result ≡ (14, 14, 4, 4) }
+pub fn lengths() -> (usize, usize, usize, usize, usize, usize)
+    ensures { result ≡ (14, 14, 4, 4, 6, 16) }
 {
     (
         Ethernet2Header::LEN,
         Ethernet2Header::SERIALIZED_SIZE,
         SingleVlanHeader::LEN,
         SingleVlanHeader::SERIALIZED_SIZE,
+        MacsecHeader::MIN_LEN,
+        MacsecHeader::MAX_LEN,
     )
 }

@@ -3,6 +3,7 @@
 ghost use Rattle.std.specs.Prelude.{◌≡◌, ◌/◌, ◌%◌, ◌^◌, ◌+◌, ◌*◌, ◌<◌, ◌≤◌};
 ghost use Rattle.ether_tags.specs.Views.{bit};
 
+use crate::wire::is_set;
 use ether_base::{VlanId, VlanPcp};
 
 /// The priority code point.
@@ -16,7 +17,7 @@ pub fn pcp_of(control: u16) -> VlanPcp
 pub fn is_drop_eligible(control: u16) -> bool
     ensures { bit result ≡ control / 2 ^ 12 % 2 }
 {
-    control & 0x1000 != 0
+    is_set(control, 12)
 }
 
 /// The VLAN identifier.

@@ -1,0 +1,104 @@
+use Rattle.std.proofs.Common.{◌≡◌, ℕ, ◌∙◌, length, take, Bool, false, ap, sym, subst, refl, arith}
+use Rattle.std.specs.Prelude.{slice_range, IsTrue}
+use Rattle.std.proofs.lemmas.List.{length-take}
+use Rattle.ether_base.specs.Bytes.{IsBytes, number}
+use Rattle.ether_base.specs.declared.len_source.LenSource.TheVariants as sources
+use Rattle.ether_base.specs.declared.err.layer.Layer.TheVariants as layers
+use Rattle.ether_base.specs.SecTag.{SecTagFront, sec_tag_front_at, sec_tag_front_in, sec_tag_len}
+use Rattle.ether_base.specs.Refusal.{Length, UnexpectedVersion, InvalidShortLen, IsTooShort}
+use Rattle.ether_base.specs.Refusal as rows
+use Rattle.ether_base.proofs.Rows.{sec_tag_front_read, accepts_tag}
+use Rattle.ether_base.proofs.SecTagFields.{sec_tag_front_taken, sec_tag_taken}
+use Rattle.ether_tags.specs.SecTags.{IsRefusedTag}
+use Rattle.ether_tags.proofs.macsec_header_slice.MacsecHeaderSlice.from_slice.Goals as goal
+
+pub returns-then-slice-lt-MIN_LEN-clause-refused : goal.returns-then-slice-lt-MIN_LEN-clause-refused
+returns-then-slice-lt-MIN_LEN-clause-refused c =
+    let bytes = c.args.slice.now in
+    subst (IsRefusedTag bytes) (sym c.cut_short.ensures) (record {
+      refusal = Length 6 (length bytes) sources.Slice layers.MacsecHeader;
+      row = record { row = rows.macsec c.if-slice-lt-MIN_LEN.true; of_header = λ e. absurd cc };
+      is = (refl, refl);
+    })
+
+pub returns-then-has_version_one-clause-refused : goal.returns-then-has_version_one-clause-refused
+returns-then-has_version_one-clause-refused c =
+    let bytes = c.args.slice.now in
+    let ok : IsBytes bytes = λ i. omega (arith, c.type_inv.slice i) in
+    let same = c.u16_at-bits.ensures.value in
+    let one = c.if-has_version_one.ensures in
+    record {
+      refusal = UnexpectedVersion;
+      row = record { row = rows.macsec_version (sec_tag_front_in bytes) c.if-slice-lt-MIN_LEN.false (sec_tag_front_read bytes ok c.if-slice-lt-MIN_LEN.false) (omega arith); of_header = λ e. e };
+      is = refl;
+    }
+
+pub returns-then-is_too_short-clause-refused : goal.returns-then-is_too_short-clause-refused
+returns-then-is_too_short-clause-refused c =
+    let bytes = c.args.slice.now in
+    let ok : IsBytes bytes = λ i. omega (arith, c.type_inv.slice i) in
+    let same = c.u16_at-bits.ensures.value in
+    let zero = c.if-has_version_one.ensures in
+    let short = subst IsTooShort (ap sec_tag_front_at same) (c.is_too_short.ensures.0 c.if-is_too_short.true) in
+    record {
+      refusal = InvalidShortLen;
+      row = record { row = rows.macsec_short_len (sec_tag_front_in bytes) c.if-slice-lt-MIN_LEN.false (sec_tag_front_read bytes ok c.if-slice-lt-MIN_LEN.false) (omega arith) short; of_header = λ e. e };
+      is = refl;
+    }
+
+-- a tag that was not found too short is not
+long : (bits number : ℕ) (found : Bool) → bits ≡ number → (IsTooShort (sec_tag_front_at bits) → IsTrue found) → found ≡ false → IsTooShort (sec_tag_front_at number) → ⊥
+long bits number found same says not s = let f = says (subst (λ (k : ℕ). IsTooShort (sec_tag_front_at k)) (sym same) s) in absurd cc
+
+pub returns-then-slice-len-clause-refused : goal.returns-then-slice-len-clause-refused
+returns-then-slice-len-clause-refused c =
+    let bytes = c.args.slice.now in
+    let front = sec_tag_front_in bytes in
+    let ok : IsBytes bytes = λ i. omega (arith, c.type_inv.slice i) in
+    let same = c.u16_at-bits.ensures.value in
+    let zero = c.if-has_version_one.ensures in
+    let not_short = long c.u16_at-bits.result (number (slice_range bytes 0 2)) c.is_too_short.result same c.is_too_short.ensures.1 c.if-is_too_short.false in
+    let len : c.tag_len-len.result ≡ sec_tag_len front = c.tag_len-len.ensures ∙ ap (λ (k : ℕ). sec_tag_len (sec_tag_front_at k)) same in
+    let lt = c.if-slice-len.true in
+    subst (IsRefusedTag bytes) (sym c.cut_short-then-slice-len.ensures) (record {
+      refusal = Length (sec_tag_len front) (length bytes) sources.Slice layers.MacsecHeader;
+      row = record { row = rows.macsec_header front c.if-slice-lt-MIN_LEN.false (sec_tag_front_read bytes ok c.if-slice-lt-MIN_LEN.false) (omega arith) not_short (omega arith); of_header = λ e. absurd cc };
+      is = (ap (λ (k : ℕ). Length k (length bytes) sources.Slice layers.MacsecHeader) (sym len), refl);
+    })
+
+pub invariant_of-result : goal.invariant_of-result
+invariant_of-result c =
+    let bytes = c.args.slice.now in
+    let n = c.tag_len-len.result in
+    let same = c.u16_at-bits.ensures.value in
+    let zero = c.if-has_version_one.ensures in
+    let len : n ≡ sec_tag_len (sec_tag_front_in bytes) = c.tag_len-len.ensures ∙ ap (λ (k : ℕ). sec_tag_len (sec_tag_front_at k)) same in
+    let not_short = long c.u16_at-bits.result (number (slice_range bytes 0 2)) c.is_too_short.result same c.is_too_short.ensures.1 c.if-is_too_short.false in
+    let front = sec_tag_front_taken bytes n (omega arith) in
+    let taken : length (take n bytes) ≡ n = omega (arith, length-take n bytes) in
+    record {
+      whole = taken ∙ len ∙ ap sec_tag_len (sym front);
+      version = ap (λ (f : SecTagFront). f.version) front ∙ omega arith;
+      long = λ short. not_short (subst IsTooShort front short);
+    }
+
+pub returns-clause-accepted : goal.returns-clause-accepted
+returns-clause-accepted c =
+    let bytes = c.args.slice.now in
+    let front = sec_tag_front_in bytes in
+    let ok : IsBytes bytes = λ i. omega (arith, c.type_inv.slice i) in
+    let same = c.u16_at-bits.ensures.value in
+    let zero = c.if-has_version_one.ensures in
+    let not_short = long c.u16_at-bits.result (number (slice_range bytes 0 2)) c.is_too_short.result same c.is_too_short.ensures.1 c.if-is_too_short.false in
+    let len : c.tag_len-len.result ≡ sec_tag_len front = c.tag_len-len.ensures ∙ ap (λ (k : ℕ). sec_tag_len (sec_tag_front_at k)) same in
+    let le = c.if-slice-len.false in
+    accepts_tag sources.Slice bytes front c.if-slice-lt-MIN_LEN.false (sec_tag_front_read bytes ok c.if-slice-lt-MIN_LEN.false) (omega arith) not_short (omega arith)
+
+pub returns-clause-value : goal.returns-clause-value
+returns-clause-value c =
+    let bytes = c.args.slice.now in
+    let ok : IsBytes bytes = λ i. omega (arith, c.type_inv.slice i) in
+    let same = c.u16_at-bits.ensures.value in
+    let len : c.tag_len-len.result ≡ sec_tag_len (sec_tag_front_in bytes) = c.tag_len-len.ensures ∙ ap (λ (k : ℕ). sec_tag_len (sec_tag_front_at k)) same in
+    let le = c.if-slice-len.false in
+    sec_tag_taken bytes c.tag_len-len.result ok c.if-slice-lt-MIN_LEN.false len (omega arith)

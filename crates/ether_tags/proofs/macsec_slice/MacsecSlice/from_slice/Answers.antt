@@ -1,0 +1,45 @@
+use Rattle.std.proofs.Common.{◌≡◌, ℕ, ◌∙◌, length, sym, ap, subst, refl, arith}
+use Rattle.std.specs.Prelude.{slice_range, Option}
+use Rattle.ether_base.specs.declared.len_source.LenSource.TheVariants as sources
+use Rattle.ether_base.specs.declared.err.layer.Layer.TheVariants as layers
+use Rattle.ether_base.specs.Bytes.{IsBytes}
+use Rattle.ether_base.specs.SecTag.{SecTagValue, sec_tag_front_in, sec_tag_len, sec_tag_of}
+use Rattle.ether_base.specs.Refusal.{Length}
+use Rattle.ether_base.proofs.Means.{tag_unique}
+use Rattle.ether_base.proofs.SecTagFields.{sec_tag_means}
+use Rattle.ether_tags.specs.SecTags.{IsRefusedPacket, tag_bytes, payload_end, payload_source, readable_type}
+use Rattle.ether_tags.proofs.SecTags.{placed, packet_refused, packet_accepted, holds_same}
+use Rattle.ether_tags.proofs.macsec_slice.MacsecSlice.from_slice.Goals as goal
+
+pub returns-then-slice-end-clause-refused : goal.returns-then-slice-end-clause-refused
+returns-then-slice-end-clause-refused c =
+    let bytes = c.args.slice.now in
+    let ok : IsBytes bytes = λ i. omega (arith, c.type_inv.slice i) in
+    let h = c.in_ok-header.ensures in
+    let p = placed bytes (tag_bytes c.in_ok-header.header) c.expected_payload_len-known.result c.header_len-start.result c.end_of-end.result h.bytes c.header_len-start.ensures.tag c.expected_payload_len-known.ensures c.end_of-end.ensures in
+    subst (IsRefusedPacket bytes) (sym c.cut_short.ensures) (record {
+      refusal = Length c.end_of-end.result (length bytes) sources.MacsecShortLength layers.MacsecPacket;
+      row = packet_refused bytes c.end_of-end.result c.expected_payload_len-known.result ok h.whole h.accepted (sym p.known_is) p.finish_is c.if-slice-end.true;
+      is = (refl, refl);
+    })
+
+pub returns-clause-accepted : goal.returns-clause-accepted
+returns-clause-accepted c =
+    let bytes = c.args.slice.now in
+    let ok : IsBytes bytes = λ i. omega (arith, c.type_inv.slice i) in
+    let h = c.in_ok-header.ensures in
+    let p = placed bytes (tag_bytes c.in_ok-header.header) c.expected_payload_len-known.result c.header_len-start.result c.end_of-end.result h.bytes c.header_len-start.ensures.tag c.expected_payload_len-known.ensures c.end_of-end.ensures in
+    packet_accepted bytes c.end_of-end.result c.expected_payload_len-known.result ok h.whole h.accepted (sym p.known_is) p.finish_is c.if-slice-end.false
+
+pub returns-clause-payload : goal.returns-clause-payload
+returns-clause-payload c =
+    let bytes = c.args.slice.now in
+    let ok : IsBytes bytes = λ i. omega (arith, c.type_inv.slice i) in
+    let h = c.in_ok-header.ensures in
+    let p = placed bytes (tag_bytes c.in_ok-header.header) c.expected_payload_len-known.result c.header_len-start.result c.end_of-end.result h.bytes c.header_len-start.ensures.tag c.expected_payload_len-known.ensures c.end_of-end.ensures in
+    let finish = p.finish_is ∙ ap (λ (o : Option ℕ). payload_end o (sec_tag_len (sec_tag_front_in bytes)) (length bytes)) p.known_is in
+    let tag : sec_tag_of (tag_bytes c.in_ok-header.header) ≡ sec_tag_of bytes = tag_unique bytes (sec_tag_of (tag_bytes c.in_ok-header.header)) (sec_tag_of bytes) h.value (sec_tag_means bytes ok (omega (arith, h.whole)) h.whole) in
+    let type = c.next_ether_type.ensures ∙ ap (λ (t : SecTagValue). readable_type t.payload_type) tag in
+    let source = c.source_of.ensures ∙ ap payload_source p.known_is in
+    let window = ap (λ (n : ℕ). slice_range bytes n c.end_of-end.result) p.start_is ∙ ap (slice_range bytes (sec_tag_len (sec_tag_front_in bytes))) finish in
+    holds_same c.payload_of-payload.result _ _ _ _ _ _ type source window c.payload_of-payload.ensures

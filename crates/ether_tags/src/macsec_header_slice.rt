@@ -1,0 +1,287 @@
+//! A view of a SecTag.
+ghost use Rattle.std.specs.Prelude.{◌≡◌, ◌≤◌, length, IfOk, IfErr, slice_range};
+ghost use Rattle.ether_base.specs.declared.len_source.LenSource.TheVariants as sources;
+ghost use Rattle.ether_base.specs.SecTag.{sec_tag_front_in, sec_tag_len, sec_tag_of};
+ghost use Rattle.ether_base.specs.Header as headers;
+ghost use Rattle.ether_base.specs.Header.{Means};
+ghost use Rattle.ether_base.specs.Kind as kinds;
+ghost use Rattle.ether_base.specs.Refusal.{AcceptsHeader, IsTooShort};
+ghost use Rattle.ether_tags.specs.Views.{bit};
+
+use crate::wire::{u16_at, u32_at, u64_at};
+use crate::{MacsecHeader, MacsecPType, sec_tag_front as front};
+use ether_base::err::macsec::{HeaderError, HeaderSliceError};
+use ether_base::err::{Layer, LenError};
+use ether_base::{EtherType, LenSource, MacsecAn, MacsecShortLen};
+
+/// The bytes of a SecTag behind its own ether type (IEEE 802.1AE, 9.3), and of the ether type behind it where there is one
+/// to read: 6 to 16 bytes, in the bytes of a packet.
+///
+/// Two views are equal where their bytes are.
+#[derive(Clone, Copy, PartialEq, Eq, Debug)]
+pub struct MacsecHeaderSlice<'a> {
+    slice: &'a [u8],
+    ghost whole: { length slice.now ≡ sec_tag_len (sec_tag_front_in slice.now) },
+    ghost version: { (sec_tag_front_in slice.now).version ≡ 0 },
+    ghost long: { IsTooShort (sec_tag_front_in slice.now) → ⊥ },
+}
+
+impl<'a> MacsecHeaderSlice<'a> {
+    ghost use Rattle.std.specs.Prelude.{slice_index, ◌↔◌, IsTrue};
+    ghost use Rattle.std.specs.Option.{option_map};
+    ghost use Rattle.ether_base.specs.SecTag.{known_payload_len};
+    ghost use Rattle.ether_tags.specs.SecTags.{IsRefusedTag, tag_bytes, payload_type_view, readable_type, sec_tag_view};
+
+    /// The tag that a slice begins with, refused where it is not there in full, where its version bit is 1, and where its
+    /// short length is 1 though the ether type behind the tag takes 2 bytes. What follows the tag is no part of the view.
+    pub fn from_slice(slice: &'a [u8]) -> Result<MacsecHeaderSlice<'a>, HeaderSliceError>
+        ensures bytes { IfOk result (λ h. tag_bytes h ≡ slice_range slice.now 0 (sec_tag_len (sec_tag_front_in slice.now))) }
+        ensures whole { IfOk result (λ h. sec_tag_len (sec_tag_front_in slice.now) ≤ length slice.now) }
+        ensures accepted { IfOk result (λ h. AcceptsHeader sources.Slice slice.now kinds.Macsec) }
+        ensures value { IfOk result (λ h. Means slice.now (headers.Macsec (sec_tag_of (tag_bytes h)))) }
+        ensures refused { IfErr result (IsRefusedTag slice.now) }
+    {
+        if slice.len() < MacsecHeader::MIN_LEN {
+            return Err(cut_short(MacsecHeader::MIN_LEN, slice.len()));
+        }
+        let bits = u16_at(slice, 0);
+        if front::has_version_one(bits) {
+            return Err(HeaderSliceError::Content(HeaderError::UnexpectedVersion));
+        }
+        if front::is_too_short(bits) {
+            return Err(HeaderSliceError::Content(HeaderError::InvalidUnmodifiedShortLen));
+        }
+        let len = front::tag_len(bits);
+        if slice.len() < len {
+            return Err(cut_short(len, slice.len()));
+        }
+        Ok(MacsecHeaderSlice {
+            slice: &slice[..len],
+        })
+    }
+
+    /// All bytes of the tag, 6 to 16.
+    pub fn slice(&self) -> &'a [u8]
+        ensures { result.now ≡ tag_bytes self.now }
+    {
+        self.slice
+    }
+
+    /// The first byte of the tag: V, ES, SC, SCB, E, C and the association number.
+    pub fn tci_an_raw(&self) -> u8
+        ensures { result ≡ slice_index (tag_bytes self.now) 0 }
+    {
+        self.slice[0]
+    }
+
+    /// Whether the bit ES is set: the source address of the frame names the station that sent it (9.5).
+    pub fn endstation_id(&self) -> bool
+        ensures { bit result ≡ (sec_tag_of (tag_bytes self.now)).end_station }
+    {
+        front::is_end_station(u16_at(self.slice, 0))
+    }
+
+    /// Whether the bit SCB is set: the frame is a single copy broadcast of a passive optical network (9.5).
+    pub fn tci_scb(&self) -> bool
+        ensures { bit result ≡ (sec_tag_of (tag_bytes self.now)).single_copy_broadcast }
+    {
+        front::is_single_copy_broadcast(u16_at(self.slice, 0))
+    }
+
+    /// Whether the bit E is set: the payload is encrypted (9.5).
+    pub fn encrypted(&self) -> bool
+        ensures { bit result ≡ (sec_tag_front_in (tag_bytes self.now)).encrypted }
+    {
+        front::is_encrypted(u16_at(self.slice, 0))
+    }
+
+    /// Whether the bit C is set: the payload is changed (9.5).
+    pub fn userdata_changed(&self) -> bool
+        ensures { bit result ≡ (sec_tag_front_in (tag_bytes self.now)).changed }
+    {
+        front::is_changed(u16_at(self.slice, 0))
+    }
+
+    /// Whether the payload is neither encrypted nor changed, so that an ether type stands behind the tag.
+    pub fn is_unmodified(&self) -> bool
+        ensures { IsTrue result ↔ (((sec_tag_front_in (tag_bytes self.now)).encrypted ≡ 0) × ((sec_tag_front_in (tag_bytes self.now)).changed ≡ 0)) }
+    {
+        front::is_unmodified(u16_at(self.slice, 0))
+    }
+
+    /// Whether the payload is encrypted and changed, and its protocol where that can be read.
+    pub fn ptype(&self) -> MacsecPType
+        ensures { payload_type_view result ≡ (sec_tag_of (tag_bytes self.now)).payload_type }
+    {
+        match (self.encrypted(), self.userdata_changed()) {
+            (false, false) => {
+                let at = if self.sci_present() { 14 } else { 6 };
+                MacsecPType::Unmodified(EtherType(u16_at(self.slice, at)))
+            }
+            (false, true) => MacsecPType::Modified,
+            (true, false) => MacsecPType::EncryptedUnmodified,
+            (true, true) => MacsecPType::Encrypted,
+        }
+    }
+
+    /// The association number (9.6).
+    pub fn an(&self) -> MacsecAn
+        ensures { result ≡ (sec_tag_of (tag_bytes self.now)).association_number }
+    {
+        front::association_number_of(u16_at(self.slice, 0))
+    }
+
+    /// The short length (9.7).
+    pub fn short_len(&self) -> MacsecShortLen
+        ensures { result ≡ (sec_tag_of (tag_bytes self.now)).short_len }
+    {
+        front::short_len_of(u16_at(self.slice, 0))
+    }
+
+    /// The packet number (9.8).
+    pub fn packet_nr(&self) -> u32
+        ensures { result ≡ (sec_tag_of (tag_bytes self.now)).packet_number }
+    {
+        u32_at(self.slice, 2)
+    }
+
+    /// Whether the bit SC is set: the tag holds an SCI.
+    pub fn sci_present(&self) -> bool
+        ensures { bit result ≡ (sec_tag_front_in (tag_bytes self.now)).sci_present }
+    {
+        front::has_sci(u16_at(self.slice, 0))
+    }
+
+    /// The secure channel identifier (9.9), `None` where the tag holds none.
+    pub fn sci(&self) -> Option<u64>
+        ensures { result ≡ (sec_tag_of (tag_bytes self.now)).sci }
+    {
+        if self.sci_present() {
+            Some(u64_at(self.slice, 6))
+        } else {
+            None
+        }
+    }
+
+    /// The ether type behind the tag, `None` where the payload is encrypted or changed.
+    pub fn next_ether_type(&self) -> Option<EtherType>
+        ensures { option_map (λ ether_type. ether_type.0) result ≡ readable_type (sec_tag_of (tag_bytes self.now)).payload_type }
+    {
+        match self.ptype() {
+            MacsecPType::Unmodified(ether_type) => Some(ether_type),
+            _ => None,
+        }
+    }
+
+    /// The length of the tag in bytes, with the ether type behind it, 6 to 16.
+    pub fn header_len(&self) -> usize
+        ensures tag { result ≡ sec_tag_len (sec_tag_front_in (tag_bytes self.now)) }
+        ensures slice { result ≡ length (tag_bytes self.now) }
+    {
+        self.slice.len()
+    }
+
+    /// The payload's length that the short length names, without the ether type behind the tag; `None` where it names
+    /// none, as where the payload runs to the end of the frame.
+    pub fn expected_payload_len(&self) -> Option<usize>
+        ensures { result ≡ known_payload_len (sec_tag_front_in (tag_bytes self.now)) }
+    {
+        front::payload_len(u16_at(self.slice, 0))
+    }
+
+    /// The tag as a value.
+    pub fn to_header(&self) -> MacsecHeader
+        ensures { sec_tag_view result ≡ sec_tag_of (tag_bytes self.now) }
+    {
+        MacsecHeader {
+            ptype: self.ptype(),
+            endstation_id: self.endstation_id(),
+            scb: self.tci_scb(),
+            an: self.an(),
+            short_len: self.short_len(),
+            packet_nr: self.packet_nr(),
+            sci: self.sci(),
+        }
+    }
+}
+
+/// The error of a slice that has too few bytes for a tag.
+fn cut_short(required_len: usize, len: usize) -> HeaderSliceError
+    ensures { result ≡ HeaderSliceError.Len (record { required_len = required_len; len = len; len_source = LenSource.Slice; layer = Layer.MacsecHeader; layer_start_offset = 0 }) }
+{
+    HeaderSliceError::Len(LenError {
+        required_len,
+        len,
+        len_source: LenSource::Slice,
+        layer: Layer::MacsecHeader,
+        layer_start_offset: 0,
+    })
+}
+
+#[cfg(test)]
+mod tests {
+    use super::*;
+    use std::test::Fail;
+
+    /// A tag with reserved bits and a secure channel identifier, encrypted and changed, and a byte behind it.
+    const SEALED: [u8; 15] = [
+        0x2C, 0xC0, 0x00, 0x00, 0x00, 0x01, 0x00, 0x11, 0x22, 0x33, 0x44, 0x55, 0x66, 0x77, 0x99,
+    ];
+
+    #[test]
+    fn the_fields_of_a_sealed_tag(rt: HostRuntime) -> Result<(), Fail> {
+        let tag = MacsecHeaderSlice::from_slice(&SEALED)?;
+        assert_eq!(rt; tag.slice(), &SEALED[..14]);
+        assert_eq!(rt; tag.tci_an_raw(), 0x2C);
+        assert!(rt; !tag.endstation_id() && !tag.tci_scb());
+        assert!(rt; tag.encrypted() && tag.userdata_changed() && !tag.is_unmodified());
+        assert_eq!(rt; tag.ptype(), MacsecPType::Encrypted);
+        assert_eq!(rt; tag.an(), MacsecAn::ZERO);
+        assert_eq!(rt; tag.short_len(), MacsecShortLen::ZERO);
+        assert_eq!(rt; tag.packet_nr(), 1);
+        assert!(rt; tag.sci_present());
+        assert_eq!(rt; tag.sci(), Some(0x0011_2233_4455_6677));
+        assert_eq!(rt; tag.next_ether_type(), None);
+        assert_eq!(rt; tag.header_len(), 14);
+        assert_eq!(rt; tag.expected_payload_len(), None);
+        let mut written = SEALED;
+        written[1] = 0;
+        assert_eq!(rt; tag.to_header().to_bytes().as_slice(), &written[..14]);
+        let copy = tag;
+        assert_eq!(rt; copy, tag.clone()?);
+        assert_eq!(rt;
+            format!(in rt.alloc(); "{tag:?}")?.as_str(),
+            "MacsecHeaderSlice { slice: [44, 192, 0, 0, 0, 1, 0, 17, 34, 51, 68, 85, 102, 119] }"
+        );
+        Ok(())
+    }
+
+    #[test]
+    fn the_fields_of_a_readable_tag(rt: HostRuntime) -> Result<(), Fail> {
+        let bytes = [0x53, 0x2A, 0x01, 0x02, 0x03, 0x04, 0x08, 0x00];
+        let tag = MacsecHeaderSlice::from_slice(&bytes)?;
+        assert!(rt; tag.endstation_id() && tag.tci_scb() && tag.is_unmodified());
+        assert_eq!(rt; tag.ptype(), MacsecPType::Unmodified(EtherType::IPV4));
+        assert_eq!(rt; tag.an().value(), 3);
+        assert_eq!(rt; tag.short_len().value(), 42);
+        assert_eq!(rt; tag.packet_nr(), 0x0102_0304);
+        assert_eq!(rt; tag.sci(), None);
+        assert_eq!(rt; tag.next_ether_type(), Some(EtherType::IPV4));
+        assert_eq!(rt; tag.expected_payload_len(), Some(40));
+        Ok(())
+    }
+
+    #[test]
+    fn each_payload_type(rt: HostRuntime) -> Result<(), Fail> {
+        let rows = [
+            (0x04, MacsecPType::Modified),
+            (0x08, MacsecPType::EncryptedUnmodified),
+            (0x0C, MacsecPType::Encrypted),
+        ];
+        for (first, ptype) in rows {
+            let bytes = [first, 0, 0, 0, 0, 0];
+            assert_eq!(rt; MacsecHeaderSlice::from_slice(&bytes)?.ptype(), ptype);
+        }
+        Ok(())
+    }
+}

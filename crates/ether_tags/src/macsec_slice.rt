@@ -1,0 +1,218 @@
+//! A view of a SecTag and its payload.
+ghost use Rattle.std.specs.Prelude.{◌≡◌, ◌≤◌, IfOk, IfErr, IfSome, slice_range};
+ghost use Rattle.std.specs.Option.{option_map};
+ghost use Rattle.ether_base.specs.declared.len_source.LenSource.TheVariants as sources;
+ghost use Rattle.ether_base.specs.SecTag.{known_payload_len, sec_tag_front_in, sec_tag_len, sec_tag_of};
+ghost use Rattle.ether_base.specs.Header as headers;
+ghost use Rattle.ether_base.specs.Header.{Means};
+ghost use Rattle.ether_base.specs.Kind as kinds;
+ghost use Rattle.ether_base.specs.Refusal.{Accepts};
+ghost use Rattle.ether_tags.specs.SecTags.{HoldsPayload, HoldsTyped, IsRefusedPacket, payload_end, payload_source, readable_payload, readable_type, tag_bytes};
+
+use crate::{EtherPayloadSlice, MacsecHeaderSlice, MacsecPayloadSlice};
+use ether_base::err::macsec::HeaderSliceError;
+use ether_base::err::{Layer, LenError};
+use ether_base::{EtherType, LenSource};
+
+/// A SecTag and its payload, in the bytes of a packet. Nothing ties the two where a caller filled them.
+#[derive(Clone, PartialEq, Eq, Debug, Drop)]
+pub struct MacsecSlice<'a> {
+    /// The tag.
+    pub header: MacsecHeaderSlice<'a>,
+    /// What stands behind the tag, as far as the short length reaches where it names a length.
+    pub payload: MacsecPayloadSlice<'a>,
+}
+
+impl<'a> MacsecSlice<'a> {
+    /// The tag that a slice begins with, and its payload, refused as by [`MacsecHeaderSlice::from_slice`], and where the
+    /// payload is shorter than the short length names.
+    ///
+    /// The payload ends where the short length says. Where that names no length it is the rest of the slice, with the
+    /// integrity check value at its end.
+    pub fn from_slice(slice: &'a [u8]) -> Result<MacsecSlice<'a>, HeaderSliceError>
+        ensures header { IfOk result (λ m. tag_bytes m.header ≡ slice_range slice.now 0 (sec_tag_len (sec_tag_front_in slice.now))) }
+        ensures payload { IfOk result (λ m. HoldsPayload m.payload (sec_tag_front_in slice.now) slice.now) }
+        ensures accepted { IfOk result (λ m. Accepts sources.Slice slice.now kinds.Macsec) }
+        ensures value { IfOk result (λ m. Means slice.now (headers.Macsec (sec_tag_of (tag_bytes m.header)))) }
+        ensures refused { IfErr result (IsRefusedPacket slice.now) }
+    {
+        let header = MacsecHeaderSlice::from_slice(slice)?;
+        let start = header.header_len();
+        let known = header.expected_payload_len();
+        let end = end_of(known, start, slice.len());
+        if slice.len() < end {
+            return Err(cut_short(end, slice.len()));
+        }
+        let payload = payload_of(
+            header.next_ether_type(),
+            source_of(known),
+            &slice[start..end],
+        );
+        Ok(MacsecSlice { header, payload })
+    }
+
+    /// The payload with its type, `None` where it is encrypted or changed.
+    pub fn ether_payload(&self) -> Option<EtherPayloadSlice<'a>>
+        ensures { result ≡ readable_payload self.now.payload }
+    {
+        match self.payload {
+            MacsecPayloadSlice::Unmodified(payload) => Some(payload),
+            MacsecPayloadSlice::Modified(_) => None,
+        }
+    }
+
+    /// The ether type behind the tag, `None` where the payload is encrypted or changed.
+    pub fn next_ether_type(&self) -> Option<EtherType>
+        ensures { option_map (λ ether_type. ether_type.0) result ≡ readable_type (sec_tag_of (tag_bytes self.now.header)).payload_type }
+    {
+        self.header.next_ether_type()
+    }
+}
+
+/// The error of a slice that has too few bytes for a tag and the payload that it names.
+fn cut_short(required_len: usize, len: usize) -> HeaderSliceError
+    ensures { result ≡ HeaderSliceError.Len (record { required_len = required_len; len = len; len_source = LenSource.MacsecShortLength; layer = Layer.MacsecPacket; layer_start_offset = 0 }) }
+{
+    HeaderSliceError::Len(LenError {
+        required_len,
+        len,
+        len_source: LenSource::MacsecShortLength,
+        layer: Layer::MacsecPacket,
+        layer_start_offset: 0,
+    })
+}
+
+/// Where a payload ends that starts behind a tag: after its length where that is known, else with the slice.
+fn end_of(known: Option<usize>, start: usize, slice_len: usize) -> usize
+    requires start { start ≤ 16 }
+    requires known { IfSome known (λ len. len ≤ 63) }
+    ensures { result ≡ payload_end known start slice_len }
+{
+    match known {
+        Some(len) => start + len,
+        None => slice_len,
+    }
+}
+
+/// What named the length of a payload.
+fn source_of(known: Option<usize>) -> LenSource
+    ensures { result ≡ payload_source known }
+{
+    match known {
+        Some(_) => LenSource::MacsecShortLength,
+        None => LenSource::Slice,
+    }
+}
+
+/// A payload with its type where that can be read.
+fn payload_of<'a>(
+    ether_type: Option<EtherType>,
+    len_source: LenSource,
+    payload: &'a [u8],
+) -> MacsecPayloadSlice<'a>
+    ensures { HoldsTyped result (option_map (λ ether_type. ether_type.0) ether_type) len_source payload.entry.now }
+{
+    match ether_type {
+        Some(ether_type) => MacsecPayloadSlice::Unmodified(EtherPayloadSlice {
+            ether_type,
+            len_source,
+            payload,
+        }),
+        None => MacsecPayloadSlice::Modified(payload),
+    }
+}
+
+#[cfg(test)]
+mod tests {
+    use super::*;
+    use ether_base::err::macsec::HeaderError;
+    use std::test::Fail;
+
+    /// A tag that names 4 bytes of payload, these, and 2 bytes behind them.
+    const NAMED: [u8; 14] = [
+        0x00, 0x06, 0x00, 0x00, 0x00, 0x01, 0x81, 0x00, 0xAA, 0xBB, 0xCC, 0xDD, 0xEE, 0xEE,
+    ];
+
+    /// An encrypted and changed payload of 1 byte, behind a tag with reserved bits and a secure channel identifier.
+    const SEALED: [u8; 15] = [
+        0x2C, 0xC0, 0x00, 0x00, 0x00, 0x01, 0x00, 0x11, 0x22, 0x33, 0x44, 0x55, 0x66, 0x77, 0x99,
+    ];
+
+    #[test]
+    fn a_payload_of_named_length(rt: HostRuntime) -> Result<(), Fail> {
+        let slice = MacsecSlice::from_slice(&NAMED)?;
+        let payload = EtherPayloadSlice {
+            ether_type: EtherType(0x8100),
+            len_source: LenSource::MacsecShortLength,
+            payload: &[0xAA, 0xBB, 0xCC, 0xDD],
+        };
+        assert_eq!(rt; slice.header.slice(), &NAMED[..8]);
+        assert_eq!(rt; slice.payload, MacsecPayloadSlice::Unmodified(payload));
+        assert_eq!(rt; slice.ether_payload(), Some(payload));
+        assert_eq!(rt; slice.next_ether_type(), Some(EtherType(0x8100)));
+        assert_eq!(rt; slice.clone()?, slice);
+        assert_eq!(rt;
+            format!(in rt.alloc(); "{slice:?}")?.as_str(),
+            "MacsecSlice { header: MacsecHeaderSlice { slice: [0, 6, 0, 0, 0, 1, 129, 0] }, payload: Unmodified(EtherPayloadSlice { ether_type: 0x8100 (Customer VLAN Tag (C-TAG) as defined in IEEE Std 802.1Q), len_source: MacsecShortLength, payload: [170, 187, 204, 221] }) }"
+        );
+        Ok(())
+    }
+
+    #[test]
+    fn a_sealed_payload_runs_to_the_end(rt: HostRuntime) -> Result<(), Fail> {
+        let slice = MacsecSlice::from_slice(&SEALED)?;
+        assert_eq!(rt; slice.payload, MacsecPayloadSlice::Modified(&[0x99]));
+        assert_eq!(rt; slice.ether_payload(), None);
+        assert_eq!(rt; slice.next_ether_type(), None);
+        Ok(())
+    }
+
+    #[test]
+    fn a_sealed_payload_of_named_length(rt: HostRuntime) -> Result<(), Fail> {
+        let bytes = [0x0C, 0x01, 0x00, 0x00, 0x00, 0x01, 0xAA, 0xBB];
+        let slice = MacsecSlice::from_slice(&bytes)?;
+        assert_eq!(rt; slice.payload, MacsecPayloadSlice::Modified(&[0xAA]));
+        Ok(())
+    }
+
+    fn refusal(bytes: &[u8]) -> Option<HeaderSliceError> {
+        match MacsecSlice::from_slice(bytes) {
+            Ok(_) => None,
+            Err(error) => Some(error),
+        }
+    }
+
+    fn cut_header(required_len: usize, len: usize) -> Option<HeaderSliceError> {
+        Some(HeaderSliceError::Len(LenError {
+            required_len,
+            len,
+            len_source: LenSource::Slice,
+            layer: Layer::MacsecHeader,
+            layer_start_offset: 0,
+        }))
+    }
+
+    #[test]
+    fn each_refusal(rt: HostRuntime) {
+        assert_eq!(rt;
+            refusal(&NAMED[..10]),
+            Some(HeaderSliceError::Len(LenError {
+                required_len: 12,
+                len: 10,
+                len_source: LenSource::MacsecShortLength,
+                layer: Layer::MacsecPacket,
+                layer_start_offset: 0,
+            }))
+        );
+        assert_eq!(rt; refusal(&NAMED[..6]), cut_header(8, 6));
+        assert_eq!(rt; refusal(&[0x80, 0, 0, 0, 0]), cut_header(6, 5));
+        assert_eq!(rt;
+            refusal(&[0x80, 0, 0, 0, 0, 0]),
+            Some(HeaderSliceError::Content(HeaderError::UnexpectedVersion))
+        );
+        assert_eq!(rt;
+            refusal(&[0, 1, 0, 0, 0, 0]),
+            Some(HeaderSliceError::Content(HeaderError::InvalidUnmodifiedShortLen))
+        );
+    }
+}
