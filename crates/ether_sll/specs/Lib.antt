@@ -1,0 +1,4 @@
+pub mod Views
+pub mod Refused
+pub mod Reading
+pub mod Link

@@ -1,0 +1,136 @@
+//! What callers learn of the derived traits, of the constants, of what is read back and of what is written through a
+//! lent header, at each type of this crate. These functions are proved and never run.
+ghost use Rattle.std.specs.Prelude.{◌≡◌, ◌↔◌, IsTrue, MatchOption, Ok};
+ghost use Rattle.std.specs.Ordering.{nat_cmp, on, then_cmp};
+ghost use Rattle.std.specs.Cmp.Lexicographic.{slice_cmp};
+ghost use Rattle.ether_base.specs.LinuxSllProtocolType.{protocol_number, protocol_place, protocol_type_of};
+ghost use Rattle.ether_sll.specs.Link.{ethernet2_header, linux_sll_header};
+
+use crate::{
+    LinkHeader, LinkSlice, LinuxSllHeader, LinuxSllHeaderSlice, LinuxSllPayloadSlice, LinuxSllSlice,
+};
+use ether_base::EtherType;
+use ether_base::err::linux_sll::HeaderError;
+use ether_tags::Ethernet2Header;
+use std::alloc::AllocError;
+use std::cmp::Ordering;
+
+pub fn clone_of_linux_sll_header(value: &LinuxSllHeader) -> Result<LinuxSllHeader, AllocError>
+    ensures { result ≡ Ok value.now }
+{
+    value.clone()
+}
+
+pub fn clone_of_link_header(value: &LinkHeader) -> Result<LinkHeader, AllocError>
+    ensures { result ≡ Ok value.now }
+{
+    value.clone()
+}
+
+pub fn clone_of_linux_sll_header_slice<'a>(
+    value: &LinuxSllHeaderSlice<'a>,
+) -> Result<LinuxSllHeaderSlice<'a>, AllocError>
+    ensures { result ≡ Ok value.now }
+{
+    value.clone()
+}
+
+pub fn clone_of_linux_sll_slice<'a>(
+    value: &LinuxSllSlice<'a>,
+) -> Result<LinuxSllSlice<'a>, AllocError>
+    ensures { result ≡ Ok value.now }
+{
+    value.clone()
+}
+
+pub fn clone_of_linux_sll_payload_slice<'a>(
+    value: &LinuxSllPayloadSlice<'a>,
+) -> Result<LinuxSllPayloadSlice<'a>, AllocError>
+    ensures { result ≡ Ok value.now }
+{
+    value.clone()
+}
+
+pub fn clone_of_link_slice<'a>(value: &LinkSlice<'a>) -> Result<LinkSlice<'a>, AllocError>
+    ensures { result ≡ Ok value.now }
+{
+    value.clone()
+}
+
+pub fn same_linux_sll_header(a: &LinuxSllHeader, b: &LinuxSllHeader) -> bool
+    ensures { IsTrue result ↔ (a.now ≡ b.now) }
+{
+    *a == *b
+}
+
+pub fn same_link_header(a: &LinkHeader, b: &LinkHeader) -> bool
+    ensures { IsTrue result ↔ (a.now ≡ b.now) }
+{
+    *a == *b
+}
+
+pub fn same_linux_sll_header_slice(a: &LinuxSllHeaderSlice<'_>, b: &LinuxSllHeaderSlice<'_>) -> bool
+    ensures { IsTrue result ↔ (a.now ≡ b.now) }
+{
+    *a == *b
+}
+
+pub fn same_linux_sll_slice(a: &LinuxSllSlice<'_>, b: &LinuxSllSlice<'_>) -> bool
+    ensures { IsTrue result ↔ (a.now ≡ b.now) }
+{
+    *a == *b
+}
+
+pub fn same_linux_sll_payload_slice(
+    a: &LinuxSllPayloadSlice<'_>,
+    b: &LinuxSllPayloadSlice<'_>,
+) -> bool
+    ensures { IsTrue result ↔ ((a.now.protocol_type ≡ b.now.protocol_type) × (a.now.payload.now ≡ b.now.payload.now)) }
+{
+    *a == *b
+}
+
+pub fn order_of_linux_sll_payload_slices(
+    a: &LinuxSllPayloadSlice<'_>,
+    b: &LinuxSllPayloadSlice<'_>,
+) -> Ordering
+    ensures { result ≡ then_cmp (then_cmp (on (λ p. protocol_place p.protocol_type) nat_cmp) (on (λ p. protocol_number p.protocol_type) nat_cmp)) (on (λ p. p.payload.now) (slice_cmp nat_cmp)) a.now b.now }
+{
+    a.cmp(b)
+}
+
+pub fn len() -> usize
+    ensures { result ≡ 16 }
+{
+    LinuxSllHeader::LEN
+}
+
+pub fn read_back(header: LinuxSllHeader) -> Result<LinuxSllHeader, HeaderError>
+    ensures { (result ≡ Ok header) ↔ (protocol_type_of header.arp_hrd_type (protocol_number header.protocol_type) ≡ Ok header.protocol_type) }
+{
+    LinuxSllHeader::from_bytes(header.to_bytes())
+}
+
+pub fn set_ether_type(link: &mut LinkHeader, ether_type: EtherType)
+    ensures { MatchOption (ethernet2_header link.old) (link.new ≡ link.old) (λ h. link.new ≡ LinkHeader.Ethernet2 (record h { ether_type = ether_type })) }
+{
+    if let Some(header) = link.mut_ethernet2() {
+        header.ether_type = ether_type;
+    }
+}
+
+pub fn replace_ethernet2(link: &mut LinkHeader, header: Ethernet2Header)
+    ensures { MatchOption (ethernet2_header link.old) (link.new ≡ link.old) (λ _. link.new ≡ LinkHeader.Ethernet2 header) }
+{
+    if let Some(lent) = link.mut_ethernet2() {
+        *lent = header;
+    }
+}
+
+pub fn replace_linux_sll(link: &mut LinkHeader, header: LinuxSllHeader)
+    ensures { MatchOption (linux_sll_header link.old) (link.new ≡ link.old) (λ _. link.new ≡ LinkHeader.LinuxSll header) }
+{
+    if let Some(lent) = link.mut_linux_sll() {
+        *lent = header;
+    }
+}

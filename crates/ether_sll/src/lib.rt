@@ -1,0 +1,19 @@
+//! Linux cooked capture v1, and the headers and payloads of a link of either kind.
+#![tactic(auto)]
+
+#[cfg(test)]
+mod callers;
+mod link_header;
+mod link_slice;
+mod linux_sll_header;
+mod linux_sll_header_slice;
+mod linux_sll_payload_slice;
+mod linux_sll_slice;
+mod wire;
+
+pub use link_header::LinkHeader;
+pub use link_slice::LinkSlice;
+pub use linux_sll_header::LinuxSllHeader;
+pub use linux_sll_header_slice::LinuxSllHeaderSlice;
+pub use linux_sll_payload_slice::LinuxSllPayloadSlice;
+pub use linux_sll_slice::LinuxSllSlice;

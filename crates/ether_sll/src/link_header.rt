@@ -1,0 +1,139 @@
+//! The header of a link of either kind, as a value.
+ghost use Rattle.std.specs.Prelude.{◌≡◌};
+ghost use Rattle.std.specs.Borrow.{sem};
+ghost use Rattle.std.specs.Option.{option_copied_mut};
+ghost use Rattle.ether_sll.specs.Link.{ethernet2_header, linux_sll_header, link_header_len, LendsEthernet2, LendsLinuxSll};
+
+use crate::LinuxSllHeader;
+use ether_tags::Ethernet2Header;
+
+/// The header of a link: of Linux cooked capture v1, or of an Ethernet II frame.
+#[derive(Clone, Copy, PartialEq, Eq, Debug)]
+pub enum LinkHeader {
+    /// A header of cooked capture.
+    LinuxSll(LinuxSllHeader),
+    /// A header of an Ethernet II frame.
+    Ethernet2(Ethernet2Header),
+}
+
+impl LinkHeader {
+    /// The Ethernet II header, where it is one.
+    pub fn ethernet2(self) -> Option<Ethernet2Header>
+        ensures { result ≡ ethernet2_header self }
+    {
+        match self {
+            LinkHeader::Ethernet2(frame) => Some(frame),
+            LinkHeader::LinuxSll(_) => None,
+        }
+    }
+
+    /// The Ethernet II header, where it is one, to be changed in place.
+    pub fn mut_ethernet2(&mut self) -> Option<&mut Ethernet2Header>
+        ensures* writes_back { sem 𝓛 (LendsEthernet2 self.entry result) }
+        ensures value { option_copied_mut result ≡ ethernet2_header self.old }
+    {
+        if let LinkHeader::Ethernet2(header) = self {
+            Some(header)
+        } else {
+            None
+        }
+    }
+
+    /// The header of cooked capture, where it is one.
+    pub fn linux_sll(self) -> Option<LinuxSllHeader>
+        ensures { result ≡ linux_sll_header self }
+    {
+        match self {
+            LinkHeader::LinuxSll(capture) => Some(capture),
+            LinkHeader::Ethernet2(_) => None,
+        }
+    }
+
+    /// The header of cooked capture, where it is one, to be changed in place.
+    pub fn mut_linux_sll(&mut self) -> Option<&mut LinuxSllHeader>
+        ensures* writes_back { sem 𝓛 (LendsLinuxSll self.entry result) }
+        ensures value { option_copied_mut result ≡ linux_sll_header self.old }
+    {
+        if let LinkHeader::LinuxSll(header) = self {
+            Some(header)
+        } else {
+            None
+        }
+    }
+
+    /// The length of the header in bytes, 14 or 16.
+    pub fn header_len(&self) -> usize
+        ensures { result ≡ link_header_len self.now }
+    {
+        match self {
+            LinkHeader::LinuxSll(_) => LinuxSllHeader::LEN,
+            LinkHeader::Ethernet2(_) => Ethernet2Header::LEN,
+        }
+    }
+}
+
+#[cfg(test)]
+mod tests {
+    use super::*;
+    use ether_base::{ArpHardwareId, EtherType, LinuxSllPacketType, LinuxSllProtocolType};
+    use std::test::Fail;
+
+    const FRAME: Ethernet2Header = Ethernet2Header {
+        source: [2, 0, 0, 0, 0, 1],
+        destination: [0xFF; 6],
+        ether_type: EtherType::IPV4,
+    };
+
+    const CAPTURE: LinuxSllHeader = LinuxSllHeader {
+        packet_type: LinuxSllPacketType::OUTGOING,
+        arp_hrd_type: ArpHardwareId::NETLINK,
+        sender_address_valid_length: 0,
+        sender_address: [0; 8],
+        protocol_type: LinuxSllProtocolType::NetlinkProtocolType(1),
+    };
+
+    #[test]
+    fn a_frame_changed_in_place(rt: HostRuntime) {
+        let mut link = LinkHeader::Ethernet2(FRAME);
+        assert_eq!(rt; link.ethernet2(), Some(FRAME));
+        assert_eq!(rt; link.linux_sll(), None);
+        assert_eq!(rt; link.header_len(), 14);
+        let lent = link.mut_linux_sll().is_some();
+        assert!(rt; !lent);
+        if let Some(header) = link.mut_ethernet2() {
+            header.ether_type = EtherType(0x0806);
+        }
+        assert_eq!(rt;
+            link,
+            LinkHeader::Ethernet2(Ethernet2Header {
+                ether_type: EtherType(0x0806),
+                ..FRAME
+            })
+        );
+    }
+
+    #[test]
+    fn a_capture_changed_in_place(rt: HostRuntime) -> Result<(), Fail> {
+        let mut link = LinkHeader::LinuxSll(CAPTURE);
+        assert_eq!(rt; link.linux_sll(), Some(CAPTURE));
+        assert_eq!(rt; link.ethernet2(), None);
+        assert_eq!(rt; link.header_len(), 16);
+        let lent = link.mut_ethernet2().is_some();
+        assert!(rt; !lent);
+        if let Some(header) = link.mut_linux_sll() {
+            header.packet_type = LinuxSllPacketType::HOST;
+        }
+        assert_eq!(rt;
+            link,
+            LinkHeader::LinuxSll(LinuxSllHeader {
+                packet_type: LinuxSllPacketType::HOST,
+                ..CAPTURE
+            })
+        );
+        assert_eq!(rt;
+            format!(in rt.alloc(); "{link:?}")?.as_str(),
+            "LinuxSll(LinuxSllHeader { packet_type: 0 (Sent to us), arp_hrd_type: 824 (Netlink header), sender_address_valid_length: 0, sender_address: [0, 0, 0, 0, 0, 0, 0, 0], protocol_type: NetlinkProtocolType(1) })"
+        );
+        Ok(())
+    }
+}

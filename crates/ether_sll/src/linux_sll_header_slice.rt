@@ -1,0 +1,227 @@
+//! A view of a header of Linux cooked capture.
+ghost use Rattle.std.specs.Prelude.{⊤, ◌≡◌, ◌≤◌, length, IfOk, IfErr, ◌==◌, slice_range};
+ghost use Rattle.std.proofs.Common.{rules};
+ghost use Rattle.std.specs.Cmp.Rules.{comparing};
+ghost use Rattle.std.specs.Cmp.Lexicographic.{pointwise};
+ghost use Rattle.ether_base.specs.declared.len_source.LenSource.TheVariants as sources;
+ghost use Rattle.ether_base.specs.Bytes.{spelled};
+ghost use Rattle.ether_base.specs.LinuxSll.{linux_sll_of};
+ghost use Rattle.ether_base.specs.Header as headers;
+ghost use Rattle.ether_base.specs.Header.{Means};
+ghost use Rattle.ether_base.specs.Kind as kinds;
+ghost use Rattle.ether_base.specs.Refusal.{Accepts};
+ghost use Rattle.ether_sll.specs.Reading.{protocol_type_of_header, valid_address};
+ghost use Rattle.ether_sll.specs.Refused.{IsRefusedSll};
+ghost use Rattle.ether_sll.specs.Views.{linux_sll_view};
+
+use crate::LinuxSllHeader;
+use crate::wire::{
+    address_in, header_in, packet_type_in, protocol_type_in, sender_address_in, test, u16_at,
+};
+use ether_base::err::linux_sll::HeaderSliceError;
+use ether_base::{ArpHardwareId, LinuxSllPacketType, LinuxSllProtocolType};
+use std::alloc::AllocError;
+use std::marker::Model;
+
+/// The 16 bytes of a header of Linux cooked capture v1 in the bytes of a packet (LINKTYPE_LINUX_SLL), whose packet type
+/// and hardware type are supported.
+///
+/// Two views are equal where their bytes are.
+#[derive(Debug, Drop)]
+pub struct LinuxSllHeaderSlice<'a> {
+    slice: &'a [u8],
+}
+
+impl<'a> Model for LinuxSllHeaderSlice<'a> {
+    ghost use Rattle.std.specs.Prelude.{ℕ, List, ◌≡◌, length};
+    ghost use Rattle.ether_sll.specs.Reading.{HoldsLinuxSll};
+
+    ghost Value = { List ℕ };
+
+    ghost view = { λ a. a.slice.now };
+
+    ghost invariant = { λ a. (length a.slice.now ≡ 16) × HoldsLinuxSll a.slice.now };
+}
+
+impl<'a> LinuxSllHeaderSlice<'a> {
+    /// The header that a slice begins with. Refused are fewer than 16 bytes, then a packet type above 7, then a hardware
+    /// type whose protocol numbers have no known meaning. What follows the header is no part of the view.
+    pub fn from_slice(slice: &'a [u8]) -> Result<LinuxSllHeaderSlice<'a>, HeaderSliceError>
+        ensures bytes { IfOk result (λ h. h ≡ slice_range slice.now 0 16) }
+        ensures accepted { IfOk result (λ h. Accepts sources.Slice slice.now kinds.LinuxSll) }
+        ensures value { IfOk result (λ h. Means slice.now (headers.LinuxSll (linux_sll_of h))) }
+        ensures refused { IfErr result (IsRefusedSll slice.now) }
+    {
+        test(slice)?;
+        Ok(LinuxSllHeaderSlice {
+            slice: &slice[..LinuxSllHeader::LEN],
+        })
+    }
+
+    /// The 16 bytes of the header.
+    pub fn slice(&self) -> &'a [u8]
+        ensures bytes { result.now ≡ self.now }
+        ensures len { length result.now ≡ 16 }
+    {
+        self.slice
+    }
+
+    /// Who sent the packet to whom.
+    pub fn packet_type(&self) -> LinuxSllPacketType
+        ensures { result ≡ (linux_sll_of self.now).packet_type }
+    {
+        packet_type_in(self.slice)
+    }
+
+    /// The type of the device that the packet was seen on, as Linux numbers it.
+    pub fn arp_hardware_type(&self) -> ArpHardwareId
+        ensures { result.0 ≡ (linux_sll_of self.now).hardware_type }
+    {
+        ArpHardwareId(u16_at(self.slice, 2))
+    }
+
+    /// The length of the sender's address in bytes, which may be more than the header has room for.
+    pub fn sender_address_valid_length(&self) -> u16
+        ensures { result ≡ (linux_sll_of self.now).address_len }
+    {
+        u16_at(self.slice, 4)
+    }
+
+    /// The 8 bytes that hold the sender's address, with those that are no part of it.
+    pub fn sender_address_full(&self) -> [u8; 8]
+        ensures { result ≡ spelled 8 (linux_sll_of self.now).address }
+    {
+        address_in(self.slice)
+    }
+
+    /// The sender's address, cut off after 8 bytes where it is longer.
+    pub fn sender_address(&self) -> &'a [u8]
+        ensures { result.now ≡ valid_address self.now }
+    {
+        sender_address_in(self.slice)
+    }
+
+    /// The protocol of what follows the header.
+    pub fn protocol_type(&self) -> LinuxSllProtocolType
+        ensures { result ≡ protocol_type_of_header self.now }
+    {
+        protocol_type_in(self.slice)
+    }
+
+    /// The header as a value.
+    pub fn to_header(&self) -> LinuxSllHeader
+        ensures view { linux_sll_view result ≡ linux_sll_of self.now }
+        ensures protocol { result.protocol_type ≡ protocol_type_of_header self.now }
+    {
+        header_in(self.slice)
+    }
+}
+
+impl<'a> Clone for LinuxSllHeaderSlice<'a> {
+    ghost is_clone = { λ a b. b ≡ a };
+
+    ghost is_infallible = { λ _. ⊤ };
+
+    fn clone(&self) -> Result<Self, AllocError> {
+        Ok(LinuxSllHeaderSlice { slice: self.slice })
+    }
+}
+
+impl<'a> PartialEq for LinuxSllHeaderSlice<'a> {
+    ghost eq = { pointwise ◌==◌ };
+
+    ghost laws = { Prim.search (comparing, rules) };
+
+    fn eq(&self, other: &LinuxSllHeaderSlice<'a>) -> bool {
+        self.slice == other.slice
+    }
+}
+
+impl<'a> Eq for LinuxSllHeaderSlice<'a> {
+    ghost laws = { Prim.search (comparing, rules) };
+}
+
+#[cfg(test)]
+mod tests {
+    use super::*;
+    use ether_base::err::linux_sll::HeaderError;
+    use ether_base::err::{Layer, LenError};
+    use ether_base::{LenSource, LinuxNonstandardEtherType};
+    use std::test::Fail;
+
+    #[test]
+    fn the_fields_of_a_header(rt: HostRuntime) -> Result<(), Fail> {
+        let bytes = [0, 0, 0, 1, 0, 0xFF, 2, 0, 0, 0, 0, 1, 0, 0, 0, 1, 0xAA];
+        let protocol_type = LinuxSllProtocolType::LinuxNonstandardEtherType(
+            LinuxNonstandardEtherType::N802_3,
+        );
+        let header = LinuxSllHeaderSlice::from_slice(&bytes)?;
+        assert_eq!(rt; header.slice(), &bytes[..16]);
+        assert_eq!(rt; header.packet_type(), LinuxSllPacketType::HOST);
+        assert_eq!(rt; header.arp_hardware_type(), ArpHardwareId::ETHERNET);
+        assert_eq!(rt; header.sender_address_valid_length(), 255);
+        assert_eq!(rt; header.sender_address_full(), [2, 0, 0, 0, 0, 1, 0, 0]);
+        assert_eq!(rt;
+            header.sender_address(),
+            [2, 0, 0, 0, 0, 1, 0, 0].as_slice()
+        );
+        assert_eq!(rt; header.protocol_type(), protocol_type);
+        assert_eq!(rt;
+            header.to_header(),
+            LinuxSllHeader {
+                packet_type: LinuxSllPacketType::HOST,
+                arp_hrd_type: ArpHardwareId::ETHERNET,
+                sender_address_valid_length: 255,
+                sender_address: [2, 0, 0, 0, 0, 1, 0, 0],
+                protocol_type,
+            }
+        );
+        assert_eq!(rt; header.clone()?, header);
+        assert_eq!(rt;
+            format!(in rt.alloc(); "{header:?}")?.as_str(),
+            "LinuxSllHeaderSlice { slice: [0, 0, 0, 1, 0, 255, 2, 0, 0, 0, 0, 1, 0, 0, 0, 1] }"
+        );
+        Ok(())
+    }
+
+    #[test]
+    fn addresses_of_each_length(rt: HostRuntime) -> Result<(), Fail> {
+        let none = [0, 0, 0, 1, 0, 0, 1, 2, 3, 4, 5, 6, 7, 8, 0x08, 0x00];
+        let six = [0, 0, 0, 1, 0, 6, 1, 2, 3, 4, 5, 6, 7, 8, 0x08, 0x00];
+        let nine = [0, 0, 0, 1, 0, 9, 1, 2, 3, 4, 5, 6, 7, 8, 0x08, 0x00];
+        assert_eq!(rt;
+            LinuxSllHeaderSlice::from_slice(&none)?.sender_address(),
+            [].as_slice()
+        );
+        assert_eq!(rt;
+            LinuxSllHeaderSlice::from_slice(&six)?.sender_address(),
+            [1, 2, 3, 4, 5, 6].as_slice()
+        );
+        assert_eq!(rt;
+            LinuxSllHeaderSlice::from_slice(&nine)?.sender_address(),
+            [1, 2, 3, 4, 5, 6, 7, 8].as_slice()
+        );
+        Ok(())
+    }
+
+    #[test]
+    fn refused_by_length_before_contents(rt: HostRuntime) {
+        let bytes = [0, 8, 0x01, 0x01, 0, 0, 0, 0, 0, 0, 0, 0, 0, 0, 0, 0];
+        assert_eq!(rt;
+            LinuxSllHeaderSlice::from_slice(&bytes[..15]).err(),
+            Some(HeaderSliceError::Len(LenError {
+                required_len: 16,
+                len: 15,
+                len_source: LenSource::Slice,
+                layer: Layer::LinuxSllHeader,
+                layer_start_offset: 0,
+            }))
+        );
+        assert_eq!(rt;
+            LinuxSllHeaderSlice::from_slice(&bytes).err(),
+            Some(HeaderSliceError::Content(HeaderError::UnsupportedPacketTypeField {
+                packet_type: 8
+            }))
+        );
+    }
+}

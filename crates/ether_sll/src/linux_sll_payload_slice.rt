@@ -1,0 +1,127 @@
+//! A payload that a protocol type of cooked capture names.
+ghost use Rattle.std.specs.Prelude.{⊤, ◌≡◌};
+
+use ether_base::{EtherType, LenSource, LinuxSllProtocolType};
+use ether_tags::EtherPayloadSlice;
+use std::alloc::AllocError;
+
+/// The payload of a packet of Linux cooked capture v1, and the protocol type that says what it is.
+///
+/// Compared and ordered by the fields as they stand here. Nothing ties the fields of a value that a caller filled.
+#[derive(Copy, PartialEq, Eq, PartialOrd, Ord, Hash, Debug)]
+pub struct LinuxSllPayloadSlice<'a> {
+    /// The protocol of the payload.
+    pub protocol_type: LinuxSllProtocolType,
+    /// The bytes of the payload alone, without the header.
+    pub payload: &'a [u8],
+}
+
+// By hand, field by field: a derived clone copies the whole, and that a struct is copied which borrows and holds a type
+// with a model is not proved.
+impl<'a> Clone for LinuxSllPayloadSlice<'a> {
+    ghost is_clone = { λ a b. b ≡ a };
+
+    ghost is_infallible = { λ _. ⊤ };
+
+    fn clone(&self) -> Result<Self, AllocError> {
+        Ok(LinuxSllPayloadSlice {
+            protocol_type: self.protocol_type,
+            payload: self.payload,
+        })
+    }
+}
+
+/// The payload under its ether type. Where its length comes from is lost.
+impl<'a> From<EtherPayloadSlice<'a>> for LinuxSllPayloadSlice<'a> {
+    ghost use Rattle.ether_base.specs.declared.linux_sll_protocol_type.LinuxSllProtocolType.TheVariants as protocols;
+
+    ghost from_gives = { λ ether sll. (sll.protocol_type ≡ protocols.EtherType ether.ether_type) × (sll.payload.now ≡ ether.payload.now) };
+
+    fn from(payload: EtherPayloadSlice<'a>) -> LinuxSllPayloadSlice<'a> {
+        LinuxSllPayloadSlice {
+            protocol_type: LinuxSllProtocolType::EtherType(payload.ether_type),
+            payload: payload.payload,
+        }
+    }
+}
+
+/// The payload under the number of its protocol, an ether type or one that Linux numbers below these. Its length counts
+/// as the slice's. Refused are the protocols of netlink, of GRE and those that say nothing.
+impl<'a> TryFrom<LinuxSllPayloadSlice<'a>> for EtherPayloadSlice<'a> {
+    type Error = ();
+
+    ghost use Rattle.std.specs.Prelude.{MatchResult, Some, None};
+    ghost use Rattle.ether_base.specs.declared.len_source.LenSource.TheVariants as sources;
+    ghost use Rattle.ether_sll.specs.Link.{told_ether_type};
+
+    ghost try_from_gives = { λ sll r. MatchResult r (λ ether. (told_ether_type sll.protocol_type ≡ Some ether.ether_type.0) × (ether.len_source ≡ sources.Slice) × (ether.payload.now ≡ sll.payload.now)) (λ _. told_ether_type sll.protocol_type ≡ None) };
+
+    fn try_from(payload: LinuxSllPayloadSlice<'a>) -> Result<EtherPayloadSlice<'a>, ()> {
+        match payload.protocol_type {
+            LinuxSllProtocolType::EtherType(_)
+            | LinuxSllProtocolType::LinuxNonstandardEtherType(_) => Ok(EtherPayloadSlice {
+                ether_type: EtherType(u16::from(payload.protocol_type)),
+                len_source: LenSource::Slice,
+                payload: payload.payload,
+            }),
+            _ => Err(()),
+        }
+    }
+}
+
+#[cfg(test)]
+mod tests {
+    use super::*;
+    use ether_base::LinuxNonstandardEtherType;
+
+    fn sll(protocol_type: LinuxSllProtocolType) -> LinuxSllPayloadSlice<'static> {
+        LinuxSllPayloadSlice {
+            protocol_type,
+            payload: &[0xAA],
+        }
+    }
+
+    fn ether(ether_type: EtherType) -> EtherPayloadSlice<'static> {
+        EtherPayloadSlice {
+            ether_type,
+            len_source: LenSource::Slice,
+            payload: &[0xAA],
+        }
+    }
+
+    #[test]
+    fn payloads_that_an_ether_type_names(rt: HostRuntime) {
+        let vlan = LinuxSllPayloadSlice::from(EtherPayloadSlice {
+            ether_type: EtherType(0x8100),
+            len_source: LenSource::MacsecShortLength,
+            payload: &[0xAA],
+        });
+        assert_eq!(rt;
+            vlan,
+            sll(LinuxSllProtocolType::EtherType(EtherType(0x8100)))
+        );
+        assert_eq!(rt;
+            EtherPayloadSlice::try_from(vlan),
+            Ok(ether(EtherType(0x8100)))
+        );
+        let nonstandard = LinuxSllProtocolType::LinuxNonstandardEtherType(
+            LinuxNonstandardEtherType::N802_3,
+        );
+        assert_eq!(rt;
+            EtherPayloadSlice::try_from(sll(nonstandard)),
+            Ok(ether(EtherType(1)))
+        );
+    }
+
+    #[test]
+    fn payloads_that_none_names(rt: HostRuntime) {
+        let refused = [
+            LinuxSllProtocolType::NetlinkProtocolType(1),
+            LinuxSllProtocolType::GenericRoutingEncapsulationProtocolType(0x0800),
+            LinuxSllProtocolType::Ignored(1),
+        ];
+        for protocol_type in refused {
+            assert_eq!(rt; EtherPayloadSlice::try_from(sll(protocol_type)), Err(()));
+        }
+    }
+}
