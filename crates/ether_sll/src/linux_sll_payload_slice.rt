@@ -16,8 +16,7 @@ pub struct LinuxSllPayloadSlice<'a> {
     pub payload: &'a [u8],
 }
 
-// By hand, field by field: a derived clone copies the whole, and that a struct is copied which borrows and holds a type
-// with a model is not proved.
+// By hand, field by field: that the whole is copied is not proved of a struct that borrows and holds a type with a model.
 impl<'a> Clone for LinuxSllPayloadSlice<'a> {
     ghost is_clone = { λ a b. b ≡ a };
 

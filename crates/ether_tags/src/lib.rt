@@ -1,4 +1,4 @@
-//! Ethernet II frames and VLAN tags: headers as values, and views that borrow the bytes of a packet.
+//! Ethernet II frames, VLAN tags and SecTags of MACsec: headers as values, and views that borrow the bytes of a packet.
 #![tactic(auto)]
 
 #[cfg(test)]
