@@ -10,9 +10,8 @@ use Rattle.ether_base.specs.Header as headers
 use Rattle.ether_base.specs.Kind as kinds
 use Rattle.ether_base.specs.Refusal.{Accepts}
 use Rattle.ether_base.proofs.Numbers.{IsBytes-nil, IsBytes-cons, IsBytes-append, number-append, number_below, spelled-number}
-use Rattle.ether_base.proofs.Parts.{part_all, part_of_front}
-use Rattle.ether_base.proofs.Cells.{cells, cells-all}
-use Rattle.ether_base.proofs.Fields.{number-part_below, number-part_join}
+use Rattle.ether_base.proofs.SubLists.{part_all, part_of_front, number-part_below, number-part_join}
+use Rattle.ether_base.proofs.ArrayElements.{cells, cells-all}
 use Rattle.ether_base.proofs.Rows.{accepts_linux_sll}
 
 -- ---- reading

@@ -4,7 +4,7 @@ use Rattle.std.specs.Prelude.{slice_range, Option, Some, None, unwrap_or}
 use Rattle.std.proofs.lemmas.Bool.{cases_lt}
 use Rattle.ether_base.specs.declared.len_source.LenSource.{LenSource}
 use Rattle.ether_base.specs.Bytes.{IsBytes, number}
-use Rattle.ether_base.specs.SecTag.{SecTagFront, BeginsSecTag, sec_tag_len, known_payload_len, PayloadType, Unmodified, Modified, Encrypted, EncryptedUnmodified, SecTagValue, encrypted_of, changed_of, sci_present_of, sec_tag_front_of, ether_type_len, FitsSecTagFront, HasSci, HasEtherType, IsSecTag, payload_type_for, sci_for, sec_tag_with}
+use Rattle.ether_base.specs.Macsec.{SecTagFront, BeginsSecTag, sec_tag_len, known_payload_len, PayloadType, Unmodified, Modified, Encrypted, EncryptedUnmodified, SecTagValue, encrypted_of, changed_of, sci_present_of, sec_tag_front_of, ether_type_len, FitsSecTagFront, HasSci, HasEtherType, IsSecTag, payload_type_for, sci_for, sec_tag_with}
 use Rattle.ether_base.specs.Arp.{ArpValue, ArpFront, BeginsArp, arp_front_of, arp_len, bytes_at, IsArp}
 use Rattle.ether_base.specs.Kind.{Kind}
 use Rattle.ether_base.specs.Kind as kinds
@@ -13,7 +13,7 @@ use Rattle.ether_base.specs.Header as headers
 use Rattle.ether_base.specs.Refusal.{IsTooShort, Accepts}
 use Rattle.ether_base.specs.Refusal as rows
 use Rattle.ether_base.proofs.Values.{ethernet2_unique, ethernet2_at, ethernet2_exists, vlan_unique, vlan_at, vlan_exists, linux_sll_unique, linux_sll_at, linux_sll_exists}
-use Rattle.ether_base.proofs.Parts.{length-part, part_of_front}
+use Rattle.ether_base.proofs.SubLists.{length-part, part_of_front}
 use Rattle.ether_base.proofs.Rows.{one_sec_tag_front, one_arp_front, some_sec_tag_front, some_arp_front, below_part}
 
 -- ---- there is one

@@ -37,14 +37,14 @@ use denote.Triple.Table.{framed}
 use denote.Triple.Walked.{says as says_so, Stays, stay_dropped, walk_of, ends_at, Goes-dropped, Goes-spent_slice}
 use Rattle.ether_base.proofs.MadeResults.{row_of, answer_Lawful}
 use Rattle.ether_base.proofs.WrittenFronts.{answers, fronts, lends}
-use Rattle.ether_base.specs.Space.{AnswersRest, LendsRest}
+use Rattle.ether_base.specs.WriteFront.{AnswersRest, LendsRest}
 use Rattle.ether_base.specs.declared.err.layer.Layer.{Layer}
 use Rattle.ether_base.specs.declared.err.slice_write_space_error.SliceWriteSpaceError.{SliceWriteSpaceError}
 use Rattle.ether_base.specs.contracts.err.layer.Layer as layers
 use Rattle.ether_base.proofs.err.layer.Layer.TheLaws as layer_laws
 use Rattle.ether_base.specs.contracts.err.slice_write_space_error.SliceWriteSpaceError as SE
-use Rattle.ether_base.specs.contracts.space.rest_from as g
-use Rattle.ether_base.specs.contracts.space.rest_from.Key.{name as #rest_from}
+use Rattle.ether_base.specs.contracts.write_front.rest_from as g
+use Rattle.ether_base.specs.contracts.write_front.rest_from.Key.{name as #rest_from}
 
 abbrev pub Answer : Lft → RattleType
 Answer κ = row_of (MutSlice (named 1) κ u8) SE.the_row

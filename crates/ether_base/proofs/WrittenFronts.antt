@@ -5,7 +5,7 @@ use Rattle.std.specs.Borrow.{Array, u8}
 use Rattle.std.proofs.lemmas.Grind.{common_steps}
 use Rattle.ether_base.specs.declared.err.layer.Layer.{Layer}
 use Rattle.ether_base.specs.declared.err.slice_write_space_error.SliceWriteSpaceError.{SliceWriteSpaceError}
-use Rattle.ether_base.specs.Space.{AnswersRest, LendsRest}
+use Rattle.ether_base.specs.WriteFront.{AnswersRest, LendsRest}
 use seplogic.Ra.Ura.{Ura}
 use base.Logic.{ent}
 use base.Fml.{fres}

@@ -1,6 +1,6 @@
 use Rattle.std.specs.Prelude.{ℕ, List, [], ◌∷◌, ◌++◌, Option, Some, None, codes, nat_lt, if◌then◌else◌}
 use Rattle.std.specs.Fmt.{decimal}
-use Rattle.ether_base.specs.ShownNumber.{description_in, hex_number, described}
+use Rattle.ether_base.specs.NumberText.{description_in, hex_number, described}
 
 -- the hardware types that ARP has numbers for (IANA, "ARP Hardware Types")
 unfoldable pub assigned_descriptions : List (ℕ × List ℕ)

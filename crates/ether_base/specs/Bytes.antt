@@ -1,5 +1,5 @@
 -- Lists of bytes, and the numbers that they spell: the first byte is the most significant one, as on the wire.
-use Rattle.std.specs.Prelude.{ℕ, zero, suc, ◌+◌, ◌*◌, ◌/◌, ◌%◌, ◌^◌, ◌<◌, List, [], ◌∷◌, length, slice_index}
+use Rattle.std.specs.Prelude.{ℕ, zero, suc, ◌+◌, ◌*◌, ◌/◌, ◌%◌, ◌^◌, ◌<◌, List, [], ◌∷◌, length, slice_index, Bool, true, false}
 
 -- each element is from 0 to 255
 abbrev pub IsBytes : List ℕ → Type 0
@@ -14,3 +14,8 @@ number (b ∷ bytes) = b * 256 ^ length bytes + number bytes
 unfoldable pub spelled : ℕ → ℕ → List ℕ
 spelled zero n = []
 spelled (suc k) n = n / 256 ^ k % 256 ∷ spelled k n
+
+-- a flag as the number of its bit
+abbrev pub bit : Bool → ℕ
+bit false = 0
+bit true = 1

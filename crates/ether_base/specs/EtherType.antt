@@ -1,5 +1,5 @@
 use Rattle.std.specs.Prelude.{ℕ, List, [], ◌∷◌, Option, Some, None, codes}
-use Rattle.ether_base.specs.ShownNumber.{description_in, hex_number, described}
+use Rattle.ether_base.specs.NumberText.{description_in, hex_number, described}
 
 -- the ether types that have a description
 abbrev pub ether_type_descriptions : List (ℕ × List ℕ)

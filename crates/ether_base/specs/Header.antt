@@ -3,7 +3,7 @@ use Rattle.std.specs.Prelude.{ℕ, ◌+◌, ◌≤◌, List, length, slice_range
 use Rattle.ether_base.specs.Ethernet2.{Ethernet2Value, FitsEthernet2, IsEthernet2, ethernet2_bytes}
 use Rattle.ether_base.specs.Vlan.{VlanValue, FitsVlan, IsVlan, vlan_bytes}
 use Rattle.ether_base.specs.LinuxSll.{LinuxSllValue, FitsLinuxSll, IsLinuxSll, linux_sll_bytes}
-use Rattle.ether_base.specs.SecTag.{SecTagValue, FitsSecTag, IsSecTag, sec_tag_front_of, sec_tag_len, known_payload_len, sec_tag_bytes}
+use Rattle.ether_base.specs.Macsec.{SecTagValue, FitsSecTag, IsSecTag, sec_tag_front_of, sec_tag_len, known_payload_len, sec_tag_bytes}
 use Rattle.ether_base.specs.Arp.{ArpValue, FitsArp, IsArp, arp_front_of, arp_len, arp_bytes}
 use Rattle.ether_base.specs.Kind.{Kind}
 use Rattle.ether_base.specs.Kind as kinds

@@ -5,7 +5,7 @@ use Rattle.ether_base.specs.Bytes.{IsBytes, number, spelled}
 use Rattle.ether_base.specs.Ethernet2.{ethernet2_of}
 use Rattle.ether_base.specs.Vlan.{vlan_of}
 use Rattle.ether_base.specs.LinuxSll.{linux_sll_of}
-use Rattle.ether_base.specs.SecTag.{sec_tag_front_in, sec_tag_len, sec_tag_of}
+use Rattle.ether_base.specs.Macsec.{sec_tag_front_in, sec_tag_len, sec_tag_of}
 use Rattle.ether_base.specs.Kind.{Kind}
 use Rattle.ether_base.specs.Header.{Header, kind_of, header_len, header_bytes, Means, FitsHeader}
 use Rattle.ether_base.specs.Header as headers

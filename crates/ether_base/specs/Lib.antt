@@ -2,14 +2,14 @@ pub mod Bytes
 pub mod Ethernet2
 pub mod Vlan
 pub mod LinuxSll
-pub mod SecTag
+pub mod Macsec
 pub mod Arp
 pub mod Kind
 pub mod Header
 pub mod Refusal
 pub mod RefusedLen
 pub mod Laws
-pub mod ShownNumber
+pub mod NumberText
 pub mod BoundedField
 pub mod EtherType
 pub mod ArpHardwareId
@@ -24,4 +24,4 @@ pub mod LengthErrors
 pub mod ArpErrors
 pub mod LinuxSllErrors
 pub mod MacsecErrors
-pub mod Space
+pub mod WriteFront

@@ -1,5 +1,5 @@
 use Rattle.std.specs.Prelude.{ℕ, Bool, List, [], ◌∷◌, Option, is_some, codes}
-use Rattle.ether_base.specs.ShownNumber.{description_in}
+use Rattle.ether_base.specs.NumberText.{description_in}
 
 -- the numbers that Linux gives to protocols without an ether type (`ETH_P_` in its if_ether.h, below 0x0600)
 abbrev pub nonstandard_descriptions : List (ℕ × List ℕ)

@@ -5,7 +5,7 @@ use Rattle.ether_base.specs.declared.len_source.LenSource.TheVariants as sources
 use Rattle.ether_base.specs.declared.err.layer.Layer.{Layer}
 use Rattle.ether_base.specs.declared.err.layer.Layer.TheVariants as layers
 use Rattle.ether_base.specs.LinuxSll.{LinuxSllValue, BeginsLinuxSll, is_supported}
-use Rattle.ether_base.specs.SecTag.{SecTagFront, BeginsSecTag, sec_tag_len, known_payload_len}
+use Rattle.ether_base.specs.Macsec.{SecTagFront, BeginsSecTag, sec_tag_len, known_payload_len}
 use Rattle.ether_base.specs.Arp.{ArpFront, BeginsArp, arp_len}
 use Rattle.ether_base.specs.Kind.{Kind}
 use Rattle.ether_base.specs.Kind as kinds

@@ -1,10 +1,10 @@
 //! The hardware type of ARP and of the cooked capture.
 ghost use Rattle.std.specs.Prelude.{◌≡◌};
 ghost use Rattle.std.specs.Option.{option_copied};
-ghost use Rattle.ether_base.specs.ShownNumber.{description_in};
+ghost use Rattle.ether_base.specs.NumberText.{description_in};
 ghost use Rattle.ether_base.specs.ArpHardwareId.{arp_hardware_description, assigned_descriptions, link_descriptions, device_descriptions};
 
-use crate::shown::ShownArpHardwareId;
+use crate::number_text::ShownArpHardwareId;
 use std::fmt;
 
 /// A hardware type: 16 bits that say what kind of link a packet was sent on (RFC 826, and the `ARPHRD_`

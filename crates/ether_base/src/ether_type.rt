@@ -3,7 +3,7 @@ ghost use Rattle.std.specs.Prelude.{◌≡◌};
 ghost use Rattle.std.specs.Option.{option_copied};
 ghost use Rattle.ether_base.specs.EtherType.{ether_type_description};
 
-use crate::shown::ShownEtherType;
+use crate::number_text::ShownEtherType;
 use std::fmt;
 
 /// An ether type (IEEE 802): 16 bits that name the protocol of what follows.

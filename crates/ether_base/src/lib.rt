@@ -5,7 +5,7 @@
 mod arp_hardware_id;
 mod arp_operation;
 #[cfg(test)]
-mod callers;
+mod derived_traits;
 pub mod err;
 pub mod ether_type;
 pub mod laws;
@@ -15,8 +15,8 @@ mod linux_sll_packet_type;
 mod linux_sll_protocol_type;
 mod macsec_an;
 mod macsec_short_len;
-mod shown;
-pub mod space;
+mod number_text;
+pub mod write_front;
 mod vlan_id;
 mod vlan_pcp;
 

@@ -3,7 +3,7 @@ ghost use Rattle.std.specs.Prelude.{◌≡◌};
 ghost use Rattle.std.specs.Option.{option_copied};
 ghost use Rattle.ether_base.specs.LinuxNonstandardEtherType.{nonstandard_description};
 
-use crate::shown::HexNumber;
+use crate::number_text::HexNumber;
 use std::fmt;
 use std::marker::Model;
 

@@ -2,7 +2,7 @@
 ghost use Rattle.std.specs.Prelude.{◌≡◌, ◌≤◌, ◌<◌};
 ghost use Rattle.std.specs.Option.{option_copied};
 ghost use Rattle.ether_base.specs.LinuxSllPacketType.{packet_type_descriptions};
-ghost use Rattle.ether_base.specs.ShownNumber.{description_in};
+ghost use Rattle.ether_base.specs.NumberText.{description_in};
 
 use crate::err::linux_sll::HeaderError;
 use std::fmt;

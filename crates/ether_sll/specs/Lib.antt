@@ -1,4 +1,2 @@
-pub mod Views
-pub mod Refused
-pub mod Reading
+pub mod LinuxSll
 pub mod Link

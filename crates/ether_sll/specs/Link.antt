@@ -9,8 +9,7 @@ use Rattle.ether_base.specs.Ethernet2.{Ethernet2Value, ethernet2_of}
 use Rattle.ether_base.specs.LinuxSll.{LinuxSllValue, linux_sll_of}
 use Rattle.ether_tags.specs.declared.ethernet2_header.Ethernet2Header.{Ethernet2Header}
 use Rattle.ether_tags.specs.contracts.ethernet2_header.Ethernet2Header.{the_row as ethernet2_row}
-use Rattle.ether_tags.specs.Frame.{payload_of}
-use Rattle.ether_tags.specs.Views.{ethernet2_view}
+use Rattle.ether_tags.specs.Ethernet2.{payload_of, ethernet2_view}
 use Rattle.ether_sll.specs.declared.linux_sll_header.LinuxSllHeader.{LinuxSllHeader}
 use Rattle.ether_sll.specs.contracts.linux_sll_header.LinuxSllHeader.{the_row as linux_sll_row}
 use Rattle.ether_sll.specs.declared.link_header.LinkHeader.{LinkHeader}
@@ -18,8 +17,7 @@ use Rattle.ether_sll.specs.declared.link_header.LinkHeader.TheVariants as link_h
 use Rattle.ether_sll.specs.contracts.link_header.LinkHeader.{the_row as link_row}
 use Rattle.ether_sll.specs.declared.link_slice.LinkSlice.{LinkSlice}
 use Rattle.ether_sll.specs.declared.link_slice.LinkSlice.TheVariants as link_slices
-use Rattle.ether_sll.specs.Reading.{protocol_type_of_header}
-use Rattle.ether_sll.specs.Views.{linux_sll_view}
+use Rattle.ether_sll.specs.LinuxSll.{protocol_type_of_header, linux_sll_view}
 
 -- the ether type that a protocol type tells: its own, or a number that Linux has in the same place
 abbrev pub told_ether_type : LinuxSllProtocolType → Option ℕ

@@ -2,14 +2,14 @@
 #![tactic(auto)]
 
 #[cfg(test)]
-mod callers;
+mod derived_traits;
 mod link_header;
 mod link_slice;
+mod linux_sll_fields;
 mod linux_sll_header;
 mod linux_sll_header_slice;
 mod linux_sll_payload_slice;
 mod linux_sll_slice;
-mod wire;
 
 pub use link_header::LinkHeader;
 pub use link_slice::LinkSlice;

@@ -10,16 +10,14 @@ ghost use Rattle.ether_base.specs.Kind as kinds;
 ghost use Rattle.ether_base.specs.LinuxSll.{LinuxSllValue, IsLinuxSll, linux_sll_bytes};
 ghost use Rattle.ether_base.specs.LinuxSllProtocolType.{protocol_type_of, protocol_number};
 ghost use Rattle.ether_base.specs.Refusal.{Accepts};
-ghost use Rattle.ether_base.specs.Space.{AnswersRest, LendsRest};
-ghost use Rattle.ether_sll.specs.Reading.{AnswersHeader, protocol_type_of_header};
-ghost use Rattle.ether_sll.specs.Refused.{IsRefusedSll};
-ghost use Rattle.ether_sll.specs.Views.{linux_sll_view};
+ghost use Rattle.ether_base.specs.WriteFront.{AnswersRest, LendsRest};
+ghost use Rattle.ether_sll.specs.LinuxSll.{AnswersHeader, protocol_type_of_header, IsRefusedSll, linux_sll_view};
 
 use crate::LinuxSllHeaderSlice;
-use crate::wire::{header_in, test_content};
+use crate::linux_sll_fields::{header_in, test_content};
 use ether_base::err::linux_sll::{HeaderError, HeaderSliceError};
 use ether_base::err::{Layer, SliceWriteSpaceError};
-use ether_base::{ArpHardwareId, LinuxSllPacketType, LinuxSllProtocolType, space};
+use ether_base::{ArpHardwareId, LinuxSllPacketType, LinuxSllProtocolType, write_front};
 
 /// The header of Linux cooked capture v1 (LINKTYPE_LINUX_SLL): 16 bytes, with the fields in this order.
 #[derive(Clone, Copy, PartialEq, Eq, Debug)]
@@ -97,7 +95,7 @@ impl LinuxSllHeader {
         ensures answers { AnswersRest 16 Layer.LinuxSllHeader slice.old result }
     {
         let whole = self.put(slice);
-        space::rest_from(whole, LinuxSllHeader::LEN, Layer::LinuxSllHeader)
+        write_front::rest_from(whole, LinuxSllHeader::LEN, Layer::LinuxSllHeader)
     }
 
     /// Writes the header to the front of a slice that has room for it, and hands the whole slice back.
@@ -108,7 +106,7 @@ impl LinuxSllHeader {
         ensures width { length (linux_sll_bytes (linux_sll_view self.now)) ≡ 16 }
     {
         let bytes = self.to_bytes();
-        space::put(&bytes, slice)
+        write_front::put(&bytes, slice)
     }
 }
 

@@ -10,11 +10,9 @@ ghost use Rattle.ether_base.specs.Header as headers;
 ghost use Rattle.ether_base.specs.Header.{Means};
 ghost use Rattle.ether_base.specs.Kind as kinds;
 ghost use Rattle.ether_base.specs.Refusal.{Accepts};
-ghost use Rattle.ether_sll.specs.Reading.{protocol_type_of_header, valid_address};
-ghost use Rattle.ether_sll.specs.Refused.{IsRefusedSll};
-ghost use Rattle.ether_sll.specs.Views.{linux_sll_view};
+ghost use Rattle.ether_sll.specs.LinuxSll.{protocol_type_of_header, valid_address, IsRefusedSll, linux_sll_view};
 
-use crate::wire::{
+use crate::linux_sll_fields::{
     address_in, header_in, packet_type_in, protocol_type_in, sender_address_in, test, u16_at,
 };
 use crate::{LinuxSllHeader, LinuxSllPayloadSlice};
@@ -35,7 +33,7 @@ pub struct LinuxSllSlice<'a> {
 
 impl<'a> Model for LinuxSllSlice<'a> {
     ghost use Rattle.std.specs.Prelude.{ℕ, List};
-    ghost use Rattle.ether_sll.specs.Reading.{HoldsLinuxSll};
+    ghost use Rattle.ether_sll.specs.LinuxSll.{HoldsLinuxSll};
 
     ghost Value = { List ℕ };
 

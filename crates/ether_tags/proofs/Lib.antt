@@ -1,1 +1,1 @@
-pub mod SecTags
+pub mod Macsec

@@ -1,5 +1,4 @@
-pub mod Frame
-pub mod Tags
-pub mod Views
-pub mod SecTags
-pub mod LinkExts
+pub mod Ethernet2
+pub mod Vlan
+pub mod Macsec
+pub mod LinkExt

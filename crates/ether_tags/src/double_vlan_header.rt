@@ -1,6 +1,6 @@
 //! Two VLAN tags as a value.
 ghost use Rattle.std.specs.Prelude.{◌≡◌};
-ghost use Rattle.ether_tags.specs.Views.{vlan_view};
+ghost use Rattle.ether_tags.specs.Vlan.{vlan_view};
 
 use crate::SingleVlanHeader;
 use ether_base::EtherType;
@@ -16,7 +16,7 @@ pub struct DoubleVlanHeader {
 
 impl Default for DoubleVlanHeader {
     ghost use Rattle.std.specs.Prelude.{◌≡◌};
-    ghost use Rattle.ether_tags.specs.Views.{vlan_view};
+    ghost use Rattle.ether_tags.specs.Vlan.{vlan_view};
 
     ghost is_default = { λ h. (vlan_view h.outer ≡ record { pcp = 0; dei = 0; vid = 0; ether_type = 0x8100 }) × (vlan_view h.inner ≡ record { pcp = 0; dei = 0; vid = 0; ether_type = 0 }) };
 

@@ -9,13 +9,13 @@ ghost use Rattle.ether_base.specs.Header.{Means};
 ghost use Rattle.ether_base.specs.Kind as kinds;
 ghost use Rattle.ether_base.specs.Refusal.{Accepts};
 ghost use Rattle.ether_base.specs.RefusedLen.{IsRefusedLen};
-ghost use Rattle.ether_base.specs.Space.{AnswersRest, LendsRest};
-ghost use Rattle.ether_tags.specs.Views.{ethernet2_view};
+ghost use Rattle.ether_base.specs.WriteFront.{AnswersRest, LendsRest};
+ghost use Rattle.ether_tags.specs.Ethernet2.{ethernet2_view};
 
 use crate::Ethernet2HeaderSlice;
 use crate::wire::{address_at, u16_at};
 use ether_base::err::{Layer, LenError, SliceWriteSpaceError};
-use ether_base::{EtherType, space};
+use ether_base::{EtherType, write_front};
 
 /// The header of an Ethernet II frame: 14 bytes, destination, source and ether type in this order.
 #[derive(Clone, Copy, PartialEq, Eq, Debug, Default)]
@@ -94,7 +94,7 @@ impl Ethernet2Header {
         ensures answers { AnswersRest 14 Layer.Ethernet2Header slice.old result }
     {
         let whole = self.put(slice);
-        space::rest_from(whole, Ethernet2Header::LEN, Layer::Ethernet2Header)
+        write_front::rest_from(whole, Ethernet2Header::LEN, Layer::Ethernet2Header)
     }
 
     /// Writes the header to the front of a slice that has room for it, and hands the whole slice back.
@@ -105,7 +105,7 @@ impl Ethernet2Header {
         ensures width { length (ethernet2_bytes (ethernet2_view self.now)) ≡ 14 }
     {
         let bytes = self.to_bytes();
-        space::put(&bytes, slice)
+        write_front::put(&bytes, slice)
     }
 }
 

@@ -11,7 +11,7 @@ ghost use Rattle.ether_base.specs.Header.{Means};
 ghost use Rattle.ether_base.specs.Kind as kinds;
 ghost use Rattle.ether_base.specs.Refusal.{Accepts};
 ghost use Rattle.ether_base.specs.RefusedLen.{IsRefusedLen};
-ghost use Rattle.ether_tags.specs.Views.{ethernet2_view};
+ghost use Rattle.ether_tags.specs.Ethernet2.{ethernet2_view};
 
 use crate::Ethernet2Header;
 use crate::wire::{address_at, u16_at};

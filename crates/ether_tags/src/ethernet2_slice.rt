@@ -12,8 +12,7 @@ ghost use Rattle.ether_base.specs.Header.{Means};
 ghost use Rattle.ether_base.specs.Kind as kinds;
 ghost use Rattle.ether_base.specs.Refusal.{Accepts};
 ghost use Rattle.ether_base.specs.RefusedLen.{IsRefusedLen};
-ghost use Rattle.ether_tags.specs.Frame.{fcs_len, fcs_of, payload_of};
-ghost use Rattle.ether_tags.specs.Views.{ethernet2_view};
+ghost use Rattle.ether_tags.specs.Ethernet2.{fcs_len, fcs_of, payload_of, ethernet2_view};
 
 use crate::wire::{address_at, four_at, u16_at};
 use crate::{EtherPayloadSlice, Ethernet2Header};
@@ -37,7 +36,7 @@ pub struct Ethernet2Slice<'a> {
 
 impl<'a> Model for Ethernet2Slice<'a> {
     ghost use Rattle.std.specs.Prelude.{◌+◌, ◌≤◌, ◌≡◌, ◌⊎◌, ◌==◌, length, ℕ};
-    ghost use Rattle.ether_tags.specs.Frame.{Frame};
+    ghost use Rattle.ether_tags.specs.Ethernet2.{Frame};
 
     ghost Value = { Frame };
 

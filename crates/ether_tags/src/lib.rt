@@ -2,7 +2,7 @@
 #![tactic(auto)]
 
 #[cfg(test)]
-mod callers;
+mod derived_traits;
 mod double_vlan_header;
 mod double_vlan_slice;
 mod ether_payload_slice;
@@ -11,16 +11,16 @@ mod ethernet2_header_slice;
 mod ethernet2_slice;
 mod link_ext_header;
 mod link_ext_slice;
+mod macsec_fields;
 mod macsec_header;
 mod macsec_header_slice;
 mod macsec_p_type;
 mod macsec_payload_slice;
 mod macsec_slice;
-mod sec_tag_front;
 mod single_vlan_header;
 mod single_vlan_header_slice;
 mod single_vlan_slice;
-mod tag_control;
+mod vlan_fields;
 mod vlan_header;
 mod vlan_slice;
 mod wire;

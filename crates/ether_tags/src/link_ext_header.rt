@@ -1,6 +1,6 @@
 //! A link extension as a value.
 ghost use Rattle.std.specs.Prelude.{◌≡◌};
-ghost use Rattle.ether_tags.specs.LinkExts.{ext_header_len};
+ghost use Rattle.ether_tags.specs.LinkExt.{ext_header_len};
 
 use crate::{MacsecHeader, SingleVlanHeader};
 

@@ -1,6 +1,6 @@
 //! A view of a link extension and its payload.
 ghost use Rattle.std.specs.Prelude.{◌≡◌};
-ghost use Rattle.ether_tags.specs.LinkExts.{ext_header_view, ext_slice_len, ext_slice_header, HoldsExtPayload};
+ghost use Rattle.ether_tags.specs.LinkExt.{ext_header_view, ext_slice_len, ext_slice_header, HoldsExtPayload};
 
 use crate::{EtherPayloadSlice, LinkExtHeader, MacsecSlice, SingleVlanSlice};
 

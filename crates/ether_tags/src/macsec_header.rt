@@ -2,14 +2,13 @@
 ghost use Rattle.std.specs.Prelude.{◌≡◌, ◌≤◌, ◌<◌, ◌+◌, ◌++◌, ℕ, List, length, IfOk, IfErr};
 ghost use Rattle.std.specs.Option.{option_map};
 ghost use Rattle.ether_base.specs.declared.len_source.LenSource.TheVariants as sources;
-ghost use Rattle.ether_base.specs.Bytes.{spelled};
-ghost use Rattle.ether_base.specs.SecTag.{FitsSecTag, FitsSecTagFront, encrypted_of, changed_of, known_payload_len, sec_tag_bytes, sec_tag_front_number, sec_tag_front_of, sec_tag_len};
+ghost use Rattle.ether_base.specs.Bytes.{spelled, bit};
+ghost use Rattle.ether_base.specs.Macsec.{FitsSecTag, FitsSecTagFront, encrypted_of, changed_of, known_payload_len, sec_tag_bytes, sec_tag_front_number, sec_tag_front_of, sec_tag_len};
 ghost use Rattle.ether_base.specs.Header as headers;
 ghost use Rattle.ether_base.specs.Header.{Means};
 ghost use Rattle.ether_base.specs.Kind as kinds;
 ghost use Rattle.ether_base.specs.Refusal.{AcceptsHeader, InvalidShortLen, IsTooShort, RefusesHeader};
-ghost use Rattle.ether_tags.specs.SecTags.{IsRefusedTag, payload_type_view, readable_type, named_len_for, sec_tag_view, short_len_for};
-ghost use Rattle.ether_tags.specs.Views.{bit};
+ghost use Rattle.ether_tags.specs.Macsec.{IsRefusedTag, payload_type_view, readable_type, named_len_for, sec_tag_view, short_len_for};
 
 use crate::{MacsecHeaderSlice, MacsecPType};
 use arrayvec::ArrayVec;

@@ -1,15 +1,15 @@
 //! A view of a SecTag.
 ghost use Rattle.std.specs.Prelude.{◌≡◌, ◌≤◌, length, IfOk, IfErr, slice_range};
 ghost use Rattle.ether_base.specs.declared.len_source.LenSource.TheVariants as sources;
-ghost use Rattle.ether_base.specs.SecTag.{sec_tag_front_in, sec_tag_len, sec_tag_of};
+ghost use Rattle.ether_base.specs.Macsec.{sec_tag_front_in, sec_tag_len, sec_tag_of};
 ghost use Rattle.ether_base.specs.Header as headers;
 ghost use Rattle.ether_base.specs.Header.{Means};
 ghost use Rattle.ether_base.specs.Kind as kinds;
 ghost use Rattle.ether_base.specs.Refusal.{AcceptsHeader, IsTooShort};
-ghost use Rattle.ether_tags.specs.Views.{bit};
+ghost use Rattle.ether_base.specs.Bytes.{bit};
 
 use crate::wire::{u16_at, u32_at, u64_at};
-use crate::{MacsecHeader, MacsecPType, sec_tag_front as front};
+use crate::{MacsecHeader, MacsecPType, macsec_fields as front};
 use ether_base::err::macsec::{HeaderError, HeaderSliceError};
 use ether_base::err::{Layer, LenError};
 use ether_base::{EtherType, LenSource, MacsecAn, MacsecShortLen};
@@ -29,8 +29,8 @@ pub struct MacsecHeaderSlice<'a> {
 impl<'a> MacsecHeaderSlice<'a> {
     ghost use Rattle.std.specs.Prelude.{slice_index, ◌↔◌, IsTrue};
     ghost use Rattle.std.specs.Option.{option_map};
-    ghost use Rattle.ether_base.specs.SecTag.{known_payload_len};
-    ghost use Rattle.ether_tags.specs.SecTags.{IsRefusedTag, tag_bytes, payload_type_view, readable_type, sec_tag_view};
+    ghost use Rattle.ether_base.specs.Macsec.{known_payload_len};
+    ghost use Rattle.ether_tags.specs.Macsec.{IsRefusedTag, tag_bytes, payload_type_view, readable_type, sec_tag_view};
 
     /// The tag that a slice begins with, refused where it is not there in full, where its version bit is 1, and where its
     /// short length is 1 though the ether type behind the tag takes 2 bytes. What follows the tag is no part of the view.

@@ -7,10 +7,10 @@ ghost use Rattle.ether_base.specs.Kind as kinds;
 ghost use Rattle.ether_base.specs.Refusal.{Accepts};
 ghost use Rattle.ether_base.specs.RefusedLen.{IsRefusedLen};
 ghost use Rattle.ether_base.specs.Vlan.{VlanValue, IsVlan, vlan_bytes};
-ghost use Rattle.ether_tags.specs.Views.{vlan_view};
+ghost use Rattle.ether_tags.specs.Vlan.{vlan_view};
 
 use crate::SingleVlanHeaderSlice;
-use crate::tag_control::{is_drop_eligible, pcp_of, tag_control, vlan_id_of};
+use crate::vlan_fields::{is_drop_eligible, pcp_of, tag_control, vlan_id_of};
 use crate::wire::u16_at;
 use ether_base::err::LenError;
 use ether_base::{EtherType, VlanId, VlanPcp};

@@ -10,10 +10,11 @@ ghost use Rattle.ether_base.specs.Header.{Means};
 ghost use Rattle.ether_base.specs.Kind as kinds;
 ghost use Rattle.ether_base.specs.Refusal.{Accepts};
 ghost use Rattle.ether_base.specs.RefusedLen.{IsRefusedLen};
-ghost use Rattle.ether_tags.specs.Views.{bit, vlan_view};
+ghost use Rattle.ether_base.specs.Bytes.{bit};
+ghost use Rattle.ether_tags.specs.Vlan.{vlan_view};
 
 use crate::SingleVlanHeader;
-use crate::tag_control::{is_drop_eligible, pcp_of, vlan_id_of};
+use crate::vlan_fields::{is_drop_eligible, pcp_of, vlan_id_of};
 use crate::wire::u16_at;
 use ether_base::err::{Layer, LenError};
 use ether_base::{EtherType, LenSource, VlanId, VlanPcp};

@@ -13,7 +13,7 @@ pub enum VlanHeader {
 
 impl VlanHeader {
     ghost use Rattle.std.specs.Prelude.{◌≡◌};
-    ghost use Rattle.ether_tags.specs.Tags.{next_type};
+    ghost use Rattle.ether_tags.specs.Vlan.{next_type};
 
     /// The ether types that announce a VLAN tag: that of a customer tag, that of a service tag, and the older number
     /// for double tagging.

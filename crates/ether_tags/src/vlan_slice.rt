@@ -16,7 +16,7 @@ impl<'a> VlanSlice<'a> {
     ghost use Rattle.std.specs.Prelude.{◌≡◌, length, slice_range};
     ghost use Rattle.ether_base.specs.declared.len_source.LenSource.TheVariants as sources;
     ghost use Rattle.ether_base.specs.Vlan.{vlan_of};
-    ghost use Rattle.ether_tags.specs.Tags.{header_tags, slice_tags, innermost};
+    ghost use Rattle.ether_tags.specs.Vlan.{header_tags, slice_tags, innermost};
 
     /// The tags as a value, one for one and two for two.
     pub fn to_header(&self) -> VlanHeader

@@ -1,7 +1,6 @@
 //! Fields of one shape, read at a place of a slice, and a bit of a number.
 ghost use Rattle.std.specs.Prelude.{◌≡◌, ◌+◌, ◌≤◌, ◌<◌, ◌/◌, ◌%◌, ◌^◌, length, slice_range};
-ghost use Rattle.ether_base.specs.Bytes.{IsBytes, number};
-ghost use Rattle.ether_tags.specs.Views.{bit};
+ghost use Rattle.ether_base.specs.Bytes.{IsBytes, number, bit};
 
 /// Two bytes as a number, the first of them the higher one.
 pub fn u16_at(bytes: &[u8], at: usize) -> u16

@@ -8,9 +8,10 @@ use Rattle.ether_base.specs.Vlan.{VlanValue, vlan_of}
 use Rattle.ether_base.specs.Header.{Header, Means}
 use Rattle.ether_base.specs.Header as headers
 use Rattle.ether_base.specs.Refusal.{Refusal, Length, UnsupportedPacketType, UnsupportedHardwareType, UnexpectedVersion, InvalidShortLen}
-use Rattle.ether_base.proofs.Fields.{ethernet2_means, vlan_means}
+use Rattle.ether_base.proofs.Ethernet2Fields.{ethernet2_means}
+use Rattle.ether_base.proofs.VlanFields.{vlan_means}
 use Rattle.ether_base.proofs.Means.{one_header}
-use Rattle.ether_base.proofs.Parts.{length-part, IsBytes-part}
+use Rattle.ether_base.proofs.SubLists.{length-part, IsBytes-part}
 use Rattle.ether_tool.specs.Window.{Window, within, payload}
 use Rattle.ether_tool.specs.Expectation.{Expectation, Start, EtherType, Sll, Sealed, AfterArp}
 use Rattle.ether_tool.specs.Stack.{Ending, Accepted, Fault, whole, Walk}

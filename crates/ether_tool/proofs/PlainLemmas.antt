@@ -13,9 +13,10 @@ use Rattle.ether_base.specs.Header.{Header, kind_of, header_len, Spells, Means}
 use Rattle.ether_base.specs.Header as headers
 use Rattle.ether_base.specs.Refusal.{Length, Refuses, Accepts}
 use Rattle.ether_base.specs.Refusal as rows
-use Rattle.ether_base.proofs.Parts.{length-part, part_of_part, IsBytes-part}
-use Rattle.ether_base.proofs.Cells.{cells-is}
-use Rattle.ether_base.proofs.Fields.{number-part_below, number-part_join, ethernet2_whole, vlan_whole}
+use Rattle.ether_base.proofs.SubLists.{length-part, part_of_part, IsBytes-part, number-part_below, number-part_join}
+use Rattle.ether_base.proofs.ArrayElements.{cells-is}
+use Rattle.ether_base.proofs.Ethernet2Fields.{ethernet2_whole}
+use Rattle.ether_base.proofs.VlanFields.{vlan_whole}
 use Rattle.ether_base.proofs.Rows.{accepts_ethernet2, accepts_vlan}
 use Rattle.ether_tool.specs.Window.{Window, within, IsIn, payload}
 use Rattle.ether_tool.specs.Expectation.{Expectation, announced, after}

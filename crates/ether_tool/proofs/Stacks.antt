@@ -6,7 +6,7 @@ use Rattle.ether_base.specs.Kind.{Kind}
 use Rattle.ether_base.specs.Header.{Header, kind_of, header_len, payload_len, trailer_len}
 use Rattle.ether_base.specs.Header as headers
 use Rattle.ether_base.specs.Refusal.{Refuses, Accepts}
-use Rattle.ether_base.proofs.Parts.{length-part-is, IsBytes-part}
+use Rattle.ether_base.proofs.SubLists.{length-part-is, IsBytes-part}
 use Rattle.ether_base.proofs.Rows.{decide, one_row}
 use Rattle.ether_base.proofs.Means.{some_header, one_header, unit_fits}
 use Rattle.ether_tool.specs.Window.{bound_of, Window, within, payload_from, payload}

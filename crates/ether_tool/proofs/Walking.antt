@@ -7,7 +7,7 @@ use Rattle.ether_base.specs.Kind.{Kind}
 use Rattle.ether_base.specs.Header.{Header, kind_of, header_len, payload_len, trailer_len, Means}
 use Rattle.ether_base.specs.Refusal.{Refusal, Length, Refuses}
 use Rattle.ether_base.specs.RefusedLen.{IsRefusedLen}
-use Rattle.ether_base.proofs.Parts.{length-part, part_of_part}
+use Rattle.ether_base.proofs.SubLists.{length-part, part_of_part}
 use Rattle.ether_base.proofs.Rows.{one_row}
 use Rattle.ether_base.proofs.Means.{one_header}
 use Rattle.ether_tool.specs.Window.{Window, within, payload, payload_from}

@@ -3,8 +3,8 @@ use Rattle.std.specs.Prelude.{ℕ, Option, Some, None, Bool, true, false, nat_eq
 use Rattle.ether_base.specs.declared.linux_sll_protocol_type.LinuxSllProtocolType.{LinuxSllProtocolType}
 use Rattle.ether_base.specs.declared.linux_sll_protocol_type.LinuxSllProtocolType.TheVariants as protocols
 use Rattle.ether_base.specs.LinuxSllProtocolType.{protocol_of}
-use Rattle.ether_base.specs.SecTag.{PayloadType}
-use Rattle.ether_base.specs.SecTag as payloads
+use Rattle.ether_base.specs.Macsec.{PayloadType}
+use Rattle.ether_base.specs.Macsec as payloads
 use Rattle.ether_base.specs.Kind.{Kind}
 use Rattle.ether_base.specs.Kind as kinds
 use Rattle.ether_base.specs.Header.{Header}

@@ -8,13 +8,13 @@ use Rattle.ether_base.specs.Ethernet2.{Ethernet2Value}
 use Rattle.ether_base.specs.Vlan.{VlanValue}
 use Rattle.ether_base.specs.declared.linux_sll_protocol_type.LinuxSllProtocolType.TheVariants as protocols
 use Rattle.ether_base.specs.LinuxSll.{LinuxSllValue}
-use Rattle.ether_base.specs.SecTag.{SecTagValue, PayloadType}
-use Rattle.ether_base.specs.SecTag as payloads
+use Rattle.ether_base.specs.Macsec.{SecTagValue, PayloadType}
+use Rattle.ether_base.specs.Macsec as payloads
 use Rattle.ether_base.specs.Arp.{ArpValue}
 use Rattle.ether_base.specs.Header.{Header}
 use Rattle.ether_base.specs.Header as headers
 use Rattle.ether_base.specs.Refusal.{Refusal, Length, UnsupportedPacketType, UnsupportedHardwareType, UnexpectedVersion, InvalidShortLen}
-use Rattle.ether_base.specs.ShownNumber.{hex_number}
+use Rattle.ether_base.specs.NumberText.{hex_number}
 use Rattle.ether_tool.specs.HexText.{hex_text}
 use Rattle.ether_tool.specs.Window.{Window, payload}
 use Rattle.ether_tool.specs.Expectation.{Expectation, Start, EtherType, Sll, Sealed, AfterArp}

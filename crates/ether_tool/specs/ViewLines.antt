@@ -3,7 +3,7 @@ use Rattle.std.specs.Prelude.{ℕ, List, [], ◌∷◌, ◌++◌, codes}
 use Rattle.std.specs.Fmt.{decimal}
 use Rattle.ether_base.specs.Ethernet2.{ethernet2_of}
 use Rattle.ether_base.specs.Vlan.{vlan_of}
-use Rattle.ether_base.specs.ShownNumber.{hex_number}
+use Rattle.ether_base.specs.NumberText.{hex_number}
 use Rattle.ether_tool.specs.Lines.{spaced, mark_text, source_text, ethernet2_text, vlan_text}
 use Rattle.ether_tool.specs.declared.peel.PeelUnit.{PeelUnit}
 use Rattle.ether_tool.specs.declared.peel.PeelUnit.TheVariants as units

@@ -1,7 +1,8 @@
 use Rattle.ether_base.proofs.Means.{some_header, one_header}
-use Rattle.ether_base.proofs.Fields.{ethernet2_means, vlan_means}
+use Rattle.ether_base.proofs.Ethernet2Fields.{ethernet2_means}
+use Rattle.ether_base.proofs.VlanFields.{vlan_means}
 use Rattle.ether_base.proofs.LinuxSllFields.{linux_sll_means}
-use Rattle.ether_base.proofs.SecTagFields.{sec_tag_means}
+use Rattle.ether_base.proofs.MacsecFields.{sec_tag_means}
 use Rattle.ether_base.proofs.laws.headers_are_meant.Goals as goal
 
 pub returns : goal.returns

@@ -2,7 +2,7 @@
 ghost use Rattle.std.specs.Prelude.{Some};
 ghost use Rattle.ether_base.specs.ArpErrors.{arp_eth_ipv4_from_error_text};
 
-use crate::shown::{ShownArpHardwareId, ShownEtherType};
+use crate::number_text::{ShownArpHardwareId, ShownEtherType};
 use crate::{ArpHardwareId, EtherType};
 use std::error::Error;
 use std::fmt;

@@ -3,7 +3,7 @@ ghost use Rattle.std.specs.Prelude.{Some};
 ghost use Rattle.ether_base.specs.LinuxSllErrors.{header_error_text};
 
 use crate::ArpHardwareId;
-use crate::shown::ShownArpHardwareId;
+use crate::number_text::ShownArpHardwareId;
 use std::error::Error;
 use std::fmt;
 

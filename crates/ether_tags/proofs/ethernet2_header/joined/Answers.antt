@@ -1,5 +1,5 @@
 use Rattle.std.proofs.Common.{arith}
-use Rattle.ether_base.proofs.Fields.{ethernet2_written}
+use Rattle.ether_base.proofs.Ethernet2Fields.{ethernet2_written}
 use Rattle.ether_tags.proofs.ethernet2_header.joined.Goals as goal
 
 pub returns : goal.returns

@@ -1,5 +1,5 @@
 use Rattle.std.proofs.Common.{◌+◌, arith}
-use Rattle.ether_base.proofs.Parts.{IsBytes-part}
+use Rattle.ether_base.proofs.SubLists.{IsBytes-part}
 use Rattle.ether_tags.proofs.wire.u16_at.Goals as goal
 
 pub returns-clause-bytes : goal.returns-clause-bytes

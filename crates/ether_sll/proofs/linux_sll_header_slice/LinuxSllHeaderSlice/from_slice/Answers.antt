@@ -1,8 +1,8 @@
 use Rattle.std.proofs.Common.{arith}
 use Rattle.std.specs.Prelude.{slice_range}
-use Rattle.ether_base.proofs.Parts.{IsBytes-part, length-part}
+use Rattle.ether_base.proofs.SubLists.{IsBytes-part, length-part}
 use Rattle.ether_base.proofs.LinuxSllFields.{linux_sll_whole}
-use Rattle.ether_sll.proofs.Reading.{holds_accepts}
+use Rattle.ether_sll.proofs.LinuxSllFields.{holds_accepts}
 use Rattle.ether_sll.proofs.linux_sll_header_slice.LinuxSllHeaderSlice.from_slice.Goals as goal
 
 pub returns-clause-accepted : goal.returns-clause-accepted

@@ -1,6 +1,6 @@
 use Rattle.std.proofs.Common.{arith}
 use Rattle.ether_base.proofs.LinuxSllFields.{linux_sll_means}
-use Rattle.ether_sll.proofs.Reading.{holds_accepts}
+use Rattle.ether_sll.proofs.LinuxSllFields.{holds_accepts}
 use Rattle.ether_sll.proofs.linux_sll_slice.LinuxSllSlice.from_slice.Goals as goal
 
 pub returns-clause-accepted : goal.returns-clause-accepted

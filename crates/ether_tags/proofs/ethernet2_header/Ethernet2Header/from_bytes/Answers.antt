@@ -1,8 +1,8 @@
 use Rattle.std.proofs.Common.{◌≡◌, length, sym, ap, subst, arith, rules}
 use Rattle.ether_base.specs.Bytes.{IsBytes, number}
 use Rattle.ether_base.specs.Ethernet2.{Ethernet2Value, IsEthernet2}
-use Rattle.ether_base.proofs.Parts.{part_all, IsBytes-join}
-use Rattle.ether_base.proofs.Fields.{ethernet2_whole, ethernet2_bytes-read}
+use Rattle.ether_base.proofs.SubLists.{part_all, IsBytes-join}
+use Rattle.ether_base.proofs.Ethernet2Fields.{ethernet2_whole, ethernet2_bytes-read}
 use Rattle.ether_tags.proofs.ethernet2_header.Ethernet2Header.from_bytes.Goals as goal
 
 pub returns : goal.returns

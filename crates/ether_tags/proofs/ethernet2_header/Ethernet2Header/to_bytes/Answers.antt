@@ -1,6 +1,6 @@
 use Rattle.std.proofs.Common.{sym, ◌∙◌}
 use Rattle.ether_base.proofs.Values.{ethernet2_unique}
-use Rattle.ether_tags.specs.Views.{ethernet2_view}
+use Rattle.ether_tags.specs.Ethernet2.{ethernet2_view}
 use Rattle.ether_tags.proofs.ethernet2_header.Ethernet2Header.to_bytes.Goals as goal
 
 pub returns-clause-inverse : goal.returns-clause-inverse

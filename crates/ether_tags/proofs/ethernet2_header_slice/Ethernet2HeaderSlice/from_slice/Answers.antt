@@ -1,8 +1,8 @@
 use Rattle.std.proofs.Common.{refl, arith}
 use Rattle.std.specs.Prelude.{slice_range}
 use Rattle.ether_base.specs.Refusal as rows
-use Rattle.ether_base.proofs.Parts.{IsBytes-part, length-part}
-use Rattle.ether_base.proofs.Fields.{ethernet2_whole}
+use Rattle.ether_base.proofs.SubLists.{IsBytes-part, length-part}
+use Rattle.ether_base.proofs.Ethernet2Fields.{ethernet2_whole}
 use Rattle.ether_tags.proofs.ethernet2_header_slice.Ethernet2HeaderSlice.from_slice.Goals as goal
 
 pub returns-then-slice-lt-LEN-clause-refused : goal.returns-then-slice-lt-LEN-clause-refused

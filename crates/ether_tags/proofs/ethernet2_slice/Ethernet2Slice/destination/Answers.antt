@@ -2,7 +2,7 @@ use Rattle.std.proofs.Common.{◌≡◌, ℕ, List, length, sym, ap, ◌∙◌, 
 use Rattle.std.specs.Prelude.{slice_range}
 use Rattle.ether_base.specs.Bytes.{number, spelled}
 use Rattle.ether_base.proofs.Numbers.{spelled-is}
-use Rattle.ether_tags.specs.Frame.{Frame}
+use Rattle.ether_tags.specs.Ethernet2.{Frame}
 use Rattle.ether_tags.proofs.ethernet2_slice.Ethernet2Slice.destination.Goals as goal
 
 pub returns : goal.returns

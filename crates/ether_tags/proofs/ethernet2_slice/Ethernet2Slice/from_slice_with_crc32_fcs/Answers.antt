@@ -1,6 +1,6 @@
 use Rattle.std.proofs.Common.{refl, arith}
 use Rattle.ether_base.specs.Refusal as rows
-use Rattle.ether_base.proofs.Fields.{ethernet2_read}
+use Rattle.ether_base.proofs.Ethernet2Fields.{ethernet2_read}
 use Rattle.ether_tags.proofs.ethernet2_slice.Ethernet2Slice.from_slice_with_crc32_fcs.Goals as goal
 
 pub returns-then-slice-clause-refused : goal.returns-then-slice-clause-refused

@@ -1,6 +1,6 @@
 use Rattle.std.proofs.Common.{refl, arith}
 use Rattle.ether_base.specs.Refusal as rows
-use Rattle.ether_base.proofs.Fields.{ethernet2_means}
+use Rattle.ether_base.proofs.Ethernet2Fields.{ethernet2_means}
 use Rattle.ether_tags.proofs.ethernet2_slice.Ethernet2Slice.from_slice_without_fcs.Goals as goal
 
 pub returns-then-slice-lt-LEN-clause-refused : goal.returns-then-slice-lt-LEN-clause-refused

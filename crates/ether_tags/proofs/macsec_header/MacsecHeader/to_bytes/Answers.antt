@@ -5,8 +5,8 @@ use Rattle.ether_base.specs.Header.{Means}
 use Rattle.ether_base.specs.Kind as kinds
 use Rattle.ether_base.specs.Refusal.{AcceptsHeader, InvalidShortLen, RefusesHeader}
 use Rattle.ether_base.proofs.ReadBack.{means-header_bytes}
-use Rattle.ether_base.proofs.SecTagFields.{sec_tag_bytes_accepted, sec_tag_bytes_refused}
-use Rattle.ether_tags.specs.SecTags.{sec_tag_view}
+use Rattle.ether_base.proofs.MacsecFields.{sec_tag_bytes_accepted, sec_tag_bytes_refused}
+use Rattle.ether_tags.specs.Macsec.{sec_tag_view}
 use Rattle.ether_tags.proofs.macsec_header.MacsecHeader.to_bytes.Goals as goal
 
 pub returns-clause-read : goal.returns-clause-read

@@ -4,12 +4,12 @@ use Rattle.std.proofs.lemmas.List.{length-take}
 use Rattle.ether_base.specs.Bytes.{IsBytes, number}
 use Rattle.ether_base.specs.declared.len_source.LenSource.TheVariants as sources
 use Rattle.ether_base.specs.declared.err.layer.Layer.TheVariants as layers
-use Rattle.ether_base.specs.SecTag.{SecTagFront, sec_tag_front_at, sec_tag_front_in, sec_tag_len}
+use Rattle.ether_base.specs.Macsec.{SecTagFront, sec_tag_front_at, sec_tag_front_in, sec_tag_len}
 use Rattle.ether_base.specs.Refusal.{Length, UnexpectedVersion, InvalidShortLen, IsTooShort}
 use Rattle.ether_base.specs.Refusal as rows
 use Rattle.ether_base.proofs.Rows.{sec_tag_front_read, accepts_tag}
-use Rattle.ether_base.proofs.SecTagFields.{sec_tag_front_taken, sec_tag_taken}
-use Rattle.ether_tags.specs.SecTags.{IsRefusedTag}
+use Rattle.ether_base.proofs.MacsecFields.{sec_tag_front_taken, sec_tag_taken}
+use Rattle.ether_tags.specs.Macsec.{IsRefusedTag}
 use Rattle.ether_tags.proofs.macsec_header_slice.MacsecHeaderSlice.from_slice.Goals as goal
 
 pub returns-then-slice-lt-MIN_LEN-clause-refused : goal.returns-then-slice-lt-MIN_LEN-clause-refused

@@ -3,12 +3,12 @@ use Rattle.std.specs.Prelude.{slice_range, Option}
 use Rattle.ether_base.specs.declared.len_source.LenSource.TheVariants as sources
 use Rattle.ether_base.specs.declared.err.layer.Layer.TheVariants as layers
 use Rattle.ether_base.specs.Bytes.{IsBytes}
-use Rattle.ether_base.specs.SecTag.{SecTagValue, sec_tag_front_in, sec_tag_len, sec_tag_of}
+use Rattle.ether_base.specs.Macsec.{SecTagValue, sec_tag_front_in, sec_tag_len, sec_tag_of}
 use Rattle.ether_base.specs.Refusal.{Length}
 use Rattle.ether_base.proofs.Means.{tag_unique}
-use Rattle.ether_base.proofs.SecTagFields.{sec_tag_means}
-use Rattle.ether_tags.specs.SecTags.{IsRefusedPacket, tag_bytes, payload_end, payload_source, readable_type}
-use Rattle.ether_tags.proofs.SecTags.{placed, packet_refused, packet_accepted, holds_same}
+use Rattle.ether_base.proofs.MacsecFields.{sec_tag_means}
+use Rattle.ether_tags.specs.Macsec.{IsRefusedPacket, tag_bytes, payload_end, payload_source, readable_type}
+use Rattle.ether_tags.proofs.Macsec.{placed, packet_refused, packet_accepted, holds_same}
 use Rattle.ether_tags.proofs.macsec_slice.MacsecSlice.from_slice.Goals as goal
 
 pub returns-then-slice-end-clause-refused : goal.returns-then-slice-end-clause-refused

@@ -1,8 +1,8 @@
 use Rattle.std.proofs.Common.{◌≡◌, ◌/◌, ◌%◌, ◌^◌, ℕ, length, sym, ap, ◌∙◌, subst, arith, rules}
 use Rattle.ether_base.specs.Bytes.{IsBytes}
 use Rattle.ether_base.specs.Vlan.{VlanValue, IsVlan}
-use Rattle.ether_base.proofs.Parts.{part_all, IsBytes-join}
-use Rattle.ether_base.proofs.Fields.{vlan_whole, vlan_bytes-read}
+use Rattle.ether_base.proofs.SubLists.{part_all, IsBytes-join}
+use Rattle.ether_base.proofs.VlanFields.{vlan_whole, vlan_bytes-read}
 use Rattle.ether_tags.proofs.single_vlan_header.SingleVlanHeader.from_bytes.Goals as goal
 
 pub returns : goal.returns

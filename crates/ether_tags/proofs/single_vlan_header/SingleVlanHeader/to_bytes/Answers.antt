@@ -2,8 +2,9 @@ use Rattle.std.proofs.Common.{◌<◌, refl, sym, ◌∙◌, arith}
 use Rattle.std.proofs.lemmas.Grind.{common_steps}
 use Rattle.ether_base.specs.Vlan.{FitsVlan}
 use Rattle.ether_base.proofs.Values.{vlan_unique}
-use Rattle.ether_base.proofs.Fields.{vlan_written}
-use Rattle.ether_tags.specs.Views.{bit, vlan_view}
+use Rattle.ether_base.proofs.VlanFields.{vlan_written}
+use Rattle.ether_base.specs.Bytes.{bit}
+use Rattle.ether_tags.specs.Vlan.{vlan_view}
 use Rattle.ether_tags.proofs.single_vlan_header.SingleVlanHeader.to_bytes.Goals as goal
 
 pub returns : goal.returns

@@ -1,6 +1,6 @@
 use Rattle.std.proofs.Common.{refl, arith}
 use Rattle.ether_base.specs.Refusal as rows
-use Rattle.ether_base.proofs.Fields.{vlan_means}
+use Rattle.ether_base.proofs.VlanFields.{vlan_means}
 use Rattle.ether_tags.proofs.single_vlan_slice.SingleVlanSlice.from_slice.Goals as goal
 
 pub returns-then-slice-lt-LEN-clause-refused : goal.returns-then-slice-lt-LEN-clause-refused

@@ -1,5 +1,5 @@
 use Rattle.std.proofs.Common.{length, refl, sym, arith}
-use Rattle.ether_base.proofs.Parts.{part_all}
+use Rattle.ether_base.proofs.SubLists.{part_all}
 use Rattle.ether_tool.specs.Stack.{whole}
 use Rattle.ether_tool.specs.PeelStart.{start_of}
 use Rattle.ether_tool.proofs.Stacks.{some_stack}

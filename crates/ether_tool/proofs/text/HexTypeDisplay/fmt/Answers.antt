@@ -1,5 +1,5 @@
 use Rattle.std.proofs.Common.{arith, rules, ◌<◌}
-use Rattle.ether_base.proofs.ShownNumber.{four_digits}
+use Rattle.ether_base.proofs.NumberText.{four_digits}
 use Rattle.ether_tool.proofs.text.HexTypeDisplay.fmt.Goals as goal
 
 pub returns-clause-writes : goal.returns-clause-writes

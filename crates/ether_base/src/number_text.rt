@@ -1,0 +1,58 @@
+//! Numbers as they are shown, with their descriptions.
+ghost use Rattle.std.specs.Prelude.{Some};
+
+use crate::{ArpHardwareId, EtherType};
+use std::fmt;
+
+/// A number as `0x` and four upper-case hexadecimal digits.
+#[derive(Clone, Copy)]
+pub(crate) struct HexNumber(pub u16);
+
+impl fmt::Display for HexNumber {
+    ghost use Rattle.ether_base.specs.NumberText.{hex_number};
+
+    ghost output = { λ hex. Some (hex_number hex.0) };
+
+    fn fmt<W: fmt::Write>(&self, f: &mut fmt::Formatter<W>) -> fmt::Result {
+        let number = self.0;
+        write!(f, "0x{number:04X}")
+    }
+}
+
+/// An ether type with its description.
+#[derive(Clone, Copy)]
+pub(crate) struct ShownEtherType(pub EtherType);
+
+impl fmt::Display for ShownEtherType {
+    ghost use Rattle.ether_base.specs.EtherType.{shown_ether_type};
+
+    ghost output = { λ shown. Some (shown_ether_type shown.0.0) };
+
+    fn fmt<W: fmt::Write>(&self, f: &mut fmt::Formatter<W>) -> fmt::Result {
+        let digits = HexNumber(self.0.0);
+        match self.0.name() {
+            Some(description) => write!(f, "{digits} ({description})"),
+            None => write!(f, "{digits}"),
+        }
+    }
+}
+
+/// A hardware type with its description.
+#[derive(Clone, Copy)]
+pub(crate) struct ShownArpHardwareId(pub ArpHardwareId);
+
+impl fmt::Display for ShownArpHardwareId {
+    ghost use Rattle.ether_base.specs.ArpHardwareId.{shown_arp_hardware_id};
+
+    ghost output = { λ shown. Some (shown_arp_hardware_id shown.0.0) };
+
+    fn fmt<W: fmt::Write>(&self, f: &mut fmt::Formatter<W>) -> fmt::Result {
+        let number = self.0.0;
+        let digits = HexNumber(number);
+        match self.0.name() {
+            Some(description) if number < 0xFFFE => write!(f, "{number} ({description})"),
+            Some(description) => write!(f, "{digits} ({description})"),
+            None => write!(f, "{digits}"),
+        }
+    }
+}

@@ -1,0 +1,40 @@
+//! Room in a slice that a header is written to.
+ghost use Rattle.std.specs.Prelude.{take, ◌≡◌, ◌≤◌, ◌<◌, ◌++◌, drop, length};
+ghost use Rattle.std.specs.Borrow.{sem};
+ghost use Rattle.ether_base.specs.WriteFront.{AnswersRest, LendsRest};
+
+use crate::err::{Layer, SliceWriteSpaceError};
+
+/// Writes the bytes to the front of a slice that has room for them, and hands the whole slice back.
+pub fn put<'a>(bytes: &[u8], slice: &'a mut [u8]) -> &'a mut [u8]
+    ensures same_reference { result.ghost_name ≡ slice.entry.ghost_name }
+    ensures wrote { length bytes.now ≤ length slice.old → result.now ≡ bytes.now ++ drop (length bytes.now) slice.old }
+    ensures kept { length slice.old < length bytes.now → result.now ≡ slice.old }
+{
+    let len = bytes.len();
+    if len <= slice.len() {
+        slice[..len].copy_from_slice(bytes);
+    }
+    slice
+}
+
+/// The bytes behind the first `required_len`, lent for writing; refused where there are fewer than these.
+pub fn rest_from(
+    slice: &mut [u8],
+    required_len: usize,
+    layer: Layer,
+) -> Result<&mut [u8], SliceWriteSpaceError>
+    ensures* writes_back { sem 𝓛 (LendsRest (take required_len slice.old) slice.entry result) }
+    ensures answers { AnswersRest required_len layer slice.old result }
+{
+    let len = slice.len();
+    if len < required_len {
+        return Err(SliceWriteSpaceError {
+            required_len,
+            len,
+            layer,
+            layer_start_offset: 0,
+        });
+    }
+    Ok(&mut slice[required_len..])
+}

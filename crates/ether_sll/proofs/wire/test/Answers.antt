@@ -1,6 +1,0 @@
-use Rattle.std.proofs.Common.{refl}
-use Rattle.ether_base.specs.Refusal as rows
-use Rattle.ether_sll.proofs.wire.test.Goals as goal
-
-pub returns-then-slice-lt-LEN-clause-refused : goal.returns-then-slice-lt-LEN-clause-refused
-returns-then-slice-lt-LEN-clause-refused c = record { row = rows.linux_sll c.if-slice-lt-LEN.true; start = refl }

@@ -1,0 +1,118 @@
+-- Security tags as the values that their bytes mean, and their refusals as rows of the table.
+use Rattle.std.specs.Prelude.{◌≡◌, ℕ, ◌+◌, List, length, slice_range, Option, Some, None, nat_lt, ◌&&◌, if◌then◌else◌}
+use Rattle.ether_base.specs.declared.len_source.LenSource.{LenSource}
+use Rattle.ether_base.specs.declared.len_source.LenSource.TheVariants as sources
+use Rattle.ether_base.specs.declared.err.macsec.header_error.HeaderError.TheVariants as contents
+use Rattle.ether_base.specs.declared.err.macsec.header_slice_error.HeaderSliceError.{HeaderSliceError}
+use Rattle.ether_base.specs.declared.err.macsec.header_slice_error.HeaderSliceError.TheVariants.{Len, Content}
+use Rattle.ether_base.specs.Macsec.{PayloadType, SecTagFront, SecTagValue, known_payload_len, sec_tag_len, sec_tag_of}
+use Rattle.ether_base.specs.Macsec as payloads
+use Rattle.ether_base.specs.Kind as kinds
+use Rattle.ether_base.specs.Refusal.{Refusal, Length, UnexpectedVersion, InvalidShortLen, Refuses, RefusesHeader}
+use Rattle.ether_tags.specs.declared.macsec_p_type.MacsecPType.{MacsecPType}
+use Rattle.ether_tags.specs.declared.macsec_p_type.MacsecPType.TheVariants.{Unmodified, Modified, Encrypted, EncryptedUnmodified}
+use Rattle.ether_base.specs.Bytes.{bit}
+use Rattle.ether_tags.specs.declared.ether_payload_slice.EtherPayloadSlice.{EtherPayloadSlice}
+use Rattle.ether_tags.specs.declared.macsec_payload_slice.MacsecPayloadSlice.{MacsecPayloadSlice}
+use Rattle.ether_tags.specs.declared.macsec_payload_slice.MacsecPayloadSlice.TheVariants as kept
+use Rattle.ether_tags.specs.declared.macsec_header.MacsecHeader.{MacsecHeader}
+use Rattle.ether_tags.specs.declared.macsec_header_slice.MacsecHeaderSlice.{MacsecHeaderSlice}
+
+abbrev pub payload_type_view : MacsecPType → PayloadType
+payload_type_view (Unmodified ether_type) = payloads.Unmodified ether_type.0
+payload_type_view Modified = payloads.Modified
+payload_type_view Encrypted = payloads.Encrypted
+payload_type_view EncryptedUnmodified = payloads.EncryptedUnmodified
+
+-- the ether type that can be read behind a tag
+abbrev pub readable_type : PayloadType → Option ℕ
+readable_type (payloads.Unmodified ether_type) = Some ether_type
+readable_type payloads.Modified = None
+readable_type payloads.EncryptedUnmodified = None
+readable_type payloads.Encrypted = None
+
+-- a tag as the value of the wire format
+abbrev pub sec_tag_view : MacsecHeader → SecTagValue
+sec_tag_view h = record {
+  payload_type = payload_type_view h.ptype;
+  end_station = bit h.endstation_id;
+  single_copy_broadcast = bit h.scb;
+  association_number = h.an;
+  short_len = h.short_len;
+  packet_number = h.packet_nr;
+  sci = h.sci;
+}
+
+-- the short length that names a payload of n bytes: with the ether type's two where that can be read, and 0 above 63
+abbrev pub short_len_for : PayloadType → ℕ → ℕ
+short_len_for (payloads.Unmodified ether_type) n = if nat_lt n 62 then n + 2 else 0
+short_len_for payloads.Modified n = if nat_lt n 64 then n else 0
+short_len_for payloads.EncryptedUnmodified n = if nat_lt n 64 then n else 0
+short_len_for payloads.Encrypted n = if nat_lt n 64 then n else 0
+
+-- the payload's length that it names then: n where it has room, but 0 names none where no ether type is counted
+abbrev pub named_len_for : PayloadType → ℕ → Option ℕ
+named_len_for (payloads.Unmodified ether_type) n = if nat_lt n 62 then Some n else None
+named_len_for payloads.Modified n = if nat_lt 0 n && nat_lt n 64 then Some n else None
+named_len_for payloads.EncryptedUnmodified n = if nat_lt 0 n && nat_lt n 64 then Some n else None
+named_len_for payloads.Encrypted n = if nat_lt 0 n && nat_lt n 64 then Some n else None
+
+-- the bytes of a view of a tag
+abbrev pub tag_bytes : MacsecHeaderSlice → List ℕ
+tag_bytes h = h.slice.now
+
+-- the answer of a row as an error, which counts from the slice's start
+abbrev pub IsRow : HeaderSliceError → Refusal → Type 0
+IsRow (Len e) r = (r ≡ Length e.required_len e.len e.len_source e.layer) × (e.layer_start_offset ≡ 0)
+IsRow (Content contents.UnexpectedVersion) r = r ≡ UnexpectedVersion
+IsRow (Content contents.InvalidUnmodifiedShortLen) r = r ≡ InvalidShortLen
+
+-- a slice is refused as a tag, whatever its payload
+pub record IsRefusedTag (bytes : List ℕ) (e : HeaderSliceError) : Type 0 where
+  pub refusal : Refusal
+  pub row : RefusesHeader sources.Slice bytes kinds.Macsec refusal
+  pub is : IsRow e refusal
+
+-- a slice is refused as a tag with its payload
+pub record IsRefusedPacket (bytes : List ℕ) (e : HeaderSliceError) : Type 0 where
+  pub refusal : Refusal
+  pub row : Refuses sources.Slice bytes kinds.Macsec refusal
+  pub is : IsRow e refusal
+
+-- ---- payloads
+
+-- where the payload behind n bytes of tag ends: after the length that is named, or with the whole slice
+abbrev pub payload_end : Option ℕ → ℕ → ℕ → ℕ
+payload_end None n whole = whole
+payload_end (Some p) n whole = n + p
+
+-- what named the payload's length
+abbrev pub payload_source : Option ℕ → LenSource
+payload_source None = sources.Slice
+payload_source (Some p) = sources.MacsecShortLength
+
+-- the payload behind the tag with this front that a list begins with
+abbrev pub payload_in : SecTagFront → List ℕ → List ℕ
+payload_in front bytes = slice_range bytes (sec_tag_len front) (payload_end (known_payload_len front) (sec_tag_len front) (length bytes))
+
+-- a payload with its type exactly where E and C are 0
+abbrev pub HoldsTyped : MacsecPayloadSlice → Option ℕ → LenSource → List ℕ → Type 0
+HoldsTyped (kept.Unmodified p) (Some ether_type) source bytes = (p.ether_type.0 ≡ ether_type) × (p.len_source ≡ source) × (p.payload.now ≡ bytes)
+HoldsTyped (kept.Unmodified p) None source bytes = ⊥
+HoldsTyped (kept.Modified p) (Some ether_type) source bytes = ⊥
+HoldsTyped (kept.Modified p) None source bytes = p.now ≡ bytes
+
+abbrev pub HoldsPayload : MacsecPayloadSlice → SecTagFront → List ℕ → Type 0
+HoldsPayload p front bytes = HoldsTyped p (readable_type (sec_tag_of bytes).payload_type) (payload_source (known_payload_len front)) (payload_in front bytes)
+
+-- the payload with its type, where it is neither encrypted nor changed
+abbrev pub readable_payload : MacsecPayloadSlice → Option EtherPayloadSlice
+readable_payload (kept.Unmodified p) = Some p
+readable_payload (kept.Modified p) = None
+
+-- payloads of one variant with the same fields
+abbrev pub SamePayload : MacsecPayloadSlice → MacsecPayloadSlice → Type 0
+SamePayload (kept.Unmodified p) (kept.Unmodified q) = (p.ether_type ≡ q.ether_type) × (p.len_source ≡ q.len_source) × (p.payload.now ≡ q.payload.now)
+SamePayload (kept.Unmodified p) (kept.Modified q) = ⊥
+SamePayload (kept.Modified p) (kept.Unmodified q) = ⊥
+SamePayload (kept.Modified p) (kept.Modified q) = p.now ≡ q.now

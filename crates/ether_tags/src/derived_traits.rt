@@ -1,0 +1,273 @@
+//! What callers learn of the derived traits and of the constants, at each type of this crate. These functions are
+//! proved and never run.
+ghost use Rattle.std.specs.Prelude.{◌≡◌, ◌↔◌, IsTrue, map, [], ◌∷◌};
+ghost use Rattle.std.specs.Ordering.{nat_cmp, on, then_cmp};
+ghost use Rattle.std.specs.Cmp.Lexicographic.{slice_cmp};
+ghost use Rattle.ether_base.specs.LenSource.{len_source_place};
+ghost use Rattle.ether_tags.specs.Macsec.{SamePayload, tag_bytes};
+ghost use Rattle.ether_tags.specs.Ethernet2.{ethernet2_view};
+ghost use Rattle.ether_tags.specs.Vlan.{vlan_view};
+
+use crate::{
+    DoubleVlanHeader, DoubleVlanSlice, EtherPayloadSlice, Ethernet2Header, Ethernet2HeaderSlice,
+    Ethernet2Slice, LinkExtHeader, LinkExtSlice, MacsecHeader, MacsecHeaderSlice, MacsecPType,
+    MacsecPayloadSlice, MacsecSlice, SingleVlanHeader, SingleVlanHeaderSlice, SingleVlanSlice,
+    VlanHeader, VlanSlice,
+};
+use ether_base::EtherType;
+use std::alloc::AllocError;
+use std::cmp::Ordering;
+
+pub fn clone_of_ethernet2_header(value: &Ethernet2Header) -> Result<Ethernet2Header, AllocError>
+    ensures { result ≡ Ok value.now }
+{
+    value.clone()
+}
+
+pub fn clone_of_single_vlan_header(value: &SingleVlanHeader) -> Result<SingleVlanHeader, AllocError>
+    ensures { result ≡ Ok value.now }
+{
+    value.clone()
+}
+
+pub fn clone_of_double_vlan_header(value: &DoubleVlanHeader) -> Result<DoubleVlanHeader, AllocError>
+    ensures { result ≡ Ok value.now }
+{
+    value.clone()
+}
+
+pub fn clone_of_vlan_header(value: &VlanHeader) -> Result<VlanHeader, AllocError>
+    ensures { result ≡ Ok value.now }
+{
+    value.clone()
+}
+
+pub fn clone_of_ethernet2_header_slice<'a>(
+    value: &Ethernet2HeaderSlice<'a>,
+) -> Result<Ethernet2HeaderSlice<'a>, AllocError>
+    ensures { result ≡ Ok value.now }
+{
+    value.clone()
+}
+
+pub fn clone_of_ethernet2_slice<'a>(
+    value: &Ethernet2Slice<'a>,
+) -> Result<Ethernet2Slice<'a>, AllocError>
+    ensures { result ≡ Ok value.now }
+{
+    value.clone()
+}
+
+pub fn clone_of_single_vlan_header_slice<'a>(
+    value: &SingleVlanHeaderSlice<'a>,
+) -> Result<SingleVlanHeaderSlice<'a>, AllocError>
+    ensures { result ≡ Ok value.now }
+{
+    value.clone()
+}
+
+pub fn clone_of_single_vlan_slice<'a>(
+    value: &SingleVlanSlice<'a>,
+) -> Result<SingleVlanSlice<'a>, AllocError>
+    ensures { result ≡ Ok value.now }
+{
+    value.clone()
+}
+
+pub fn clone_of_double_vlan_slice<'a>(
+    value: &DoubleVlanSlice<'a>,
+) -> Result<DoubleVlanSlice<'a>, AllocError>
+    ensures { result ≡ Ok value.now }
+{
+    value.clone()
+}
+
+pub fn clone_of_vlan_slice<'a>(value: &VlanSlice<'a>) -> Result<VlanSlice<'a>, AllocError>
+    ensures { result ≡ Ok value.now }
+{
+    value.clone()
+}
+
+pub fn clone_of_ether_payload_slice<'a>(
+    value: &EtherPayloadSlice<'a>,
+) -> Result<EtherPayloadSlice<'a>, AllocError>
+    ensures { result ≡ Ok value.now }
+{
+    value.clone()
+}
+
+pub fn clone_of_macsec_p_type(value: &MacsecPType) -> Result<MacsecPType, AllocError>
+    ensures { result ≡ Ok value.now }
+{
+    value.clone()
+}
+
+pub fn clone_of_macsec_header(value: &MacsecHeader) -> Result<MacsecHeader, AllocError>
+    ensures { result ≡ Ok value.now }
+{
+    value.clone()
+}
+
+pub fn clone_of_link_ext_header(value: &LinkExtHeader) -> Result<LinkExtHeader, AllocError>
+    ensures { result ≡ Ok value.now }
+{
+    value.clone()
+}
+
+pub fn clone_of_macsec_header_slice<'a>(
+    value: &MacsecHeaderSlice<'a>,
+) -> Result<MacsecHeaderSlice<'a>, AllocError>
+    ensures { result ≡ Ok value.now }
+{
+    value.clone()
+}
+
+pub fn clone_of_macsec_payload_slice<'a>(
+    value: &MacsecPayloadSlice<'a>,
+) -> Result<MacsecPayloadSlice<'a>, AllocError>
+    ensures { result ≡ Ok value.now }
+{
+    value.clone()
+}
+
+pub fn clone_of_macsec_slice<'a>(value: &MacsecSlice<'a>) -> Result<MacsecSlice<'a>, AllocError>
+    ensures { result ≡ Ok value.now }
+{
+    value.clone()
+}
+
+pub fn clone_of_link_ext_slice<'a>(value: &LinkExtSlice<'a>) -> Result<LinkExtSlice<'a>, AllocError>
+    ensures { result ≡ Ok value.now }
+{
+    value.clone()
+}
+
+pub fn same_ethernet2_header(a: &Ethernet2Header, b: &Ethernet2Header) -> bool
+    ensures { IsTrue result ↔ (a.now ≡ b.now) }
+{
+    *a == *b
+}
+
+pub fn same_single_vlan_header(a: &SingleVlanHeader, b: &SingleVlanHeader) -> bool
+    ensures { IsTrue result ↔ (a.now ≡ b.now) }
+{
+    *a == *b
+}
+
+pub fn same_double_vlan_header(a: &DoubleVlanHeader, b: &DoubleVlanHeader) -> bool
+    ensures { IsTrue result ↔ (a.now ≡ b.now) }
+{
+    *a == *b
+}
+
+pub fn same_vlan_header(a: &VlanHeader, b: &VlanHeader) -> bool
+    ensures { IsTrue result ↔ (a.now ≡ b.now) }
+{
+    *a == *b
+}
+
+pub fn same_ethernet2_header_slice(
+    a: &Ethernet2HeaderSlice<'_>,
+    b: &Ethernet2HeaderSlice<'_>,
+) -> bool
+    ensures { IsTrue result ↔ (a.now ≡ b.now) }
+{
+    *a == *b
+}
+
+pub fn same_ethernet2_slice(a: &Ethernet2Slice<'_>, b: &Ethernet2Slice<'_>) -> bool
+    ensures { IsTrue result ↔ (a.now ≡ b.now) }
+{
+    *a == *b
+}
+
+pub fn same_single_vlan_header_slice(
+    a: &SingleVlanHeaderSlice<'_>,
+    b: &SingleVlanHeaderSlice<'_>,
+) -> bool
+    ensures { IsTrue result ↔ (a.now ≡ b.now) }
+{
+    *a == *b
+}
+
+pub fn same_single_vlan_slice(a: &SingleVlanSlice<'_>, b: &SingleVlanSlice<'_>) -> bool
+    ensures { IsTrue result ↔ (a.now ≡ b.now) }
+{
+    *a == *b
+}
+
+pub fn same_double_vlan_slice(a: &DoubleVlanSlice<'_>, b: &DoubleVlanSlice<'_>) -> bool
+    ensures { IsTrue result ↔ (a.now ≡ b.now) }
+{
+    *a == *b
+}
+
+pub fn same_vlan_slice(a: &VlanSlice<'_>, b: &VlanSlice<'_>) -> bool
+    ensures { IsTrue result ↔ (a.now ≡ b.now) }
+{
+    *a == *b
+}
+
+pub fn same_ether_payload_slice(a: &EtherPayloadSlice<'_>, b: &EtherPayloadSlice<'_>) -> bool
+    ensures { IsTrue result ↔ ((a.now.ether_type ≡ b.now.ether_type) × (a.now.len_source ≡ b.now.len_source) × (a.now.payload.now ≡ b.now.payload.now)) }
+{
+    *a == *b
+}
+
+pub fn same_macsec_p_type(a: &MacsecPType, b: &MacsecPType) -> bool
+    ensures { IsTrue result ↔ (a.now ≡ b.now) }
+{
+    *a == *b
+}
+
+pub fn same_macsec_header_slice(a: &MacsecHeaderSlice<'_>, b: &MacsecHeaderSlice<'_>) -> bool
+    ensures { IsTrue result ↔ (tag_bytes a.now ≡ tag_bytes b.now) }
+{
+    *a == *b
+}
+
+pub fn same_macsec_payload_slice(a: &MacsecPayloadSlice<'_>, b: &MacsecPayloadSlice<'_>) -> bool
+    ensures { IsTrue result ↔ SamePayload a.now b.now }
+{
+    *a == *b
+}
+
+pub fn order_of_ether_payload_slices(
+    a: &EtherPayloadSlice<'_>,
+    b: &EtherPayloadSlice<'_>,
+) -> Ordering
+    ensures { result ≡ then_cmp (on (λ p. p.ether_type.0) nat_cmp) (then_cmp (on (λ p. len_source_place p.len_source) nat_cmp) (on (λ p. p.payload.now) (slice_cmp nat_cmp))) a.now b.now }
+{
+    a.cmp(b)
+}
+
+pub fn default_ethernet2_header() -> Ethernet2Header
+    ensures { ethernet2_view result ≡ record { destination = 0; source = 0; ether_type = 0 } }
+{
+    Ethernet2Header::default()
+}
+
+pub fn default_single_vlan_header() -> SingleVlanHeader
+    ensures { vlan_view result ≡ record { pcp = 0; dei = 0; vid = 0; ether_type = 0 } }
+{
+    SingleVlanHeader::default()
+}
+
+pub fn vlan_ether_types() -> [EtherType; 3]
+    ensures { map (λ ether_type. ether_type.0) result ≡ 0x8100 ∷ 0x88A8 ∷ 0x9100 ∷ [] }
+{
+    VlanHeader::VLAN_ETHER_TYPES
+}
+
+pub fn lengths() -> (usize, usize, usize, usize, usize, usize)
+    ensures { result ≡ (14, 14, 4, 4, 6, 16) }
+{
+    (
+        Ethernet2Header::LEN,
+        Ethernet2Header::SERIALIZED_SIZE,
+        SingleVlanHeader::LEN,
+        SingleVlanHeader::SERIALIZED_SIZE,
+        MacsecHeader::MIN_LEN,
+        MacsecHeader::MAX_LEN,
+    )
+}
