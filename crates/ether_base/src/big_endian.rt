@@ -1,6 +1,6 @@
-//! Numbers of a fixed width, read from their bytes: the first byte is the most significant one, as on the wire.
+//! Numbers of a fixed width and their bytes: the first byte is the most significant one, as on the wire.
 ghost use Rattle.std.specs.Prelude.{◌≡◌};
-ghost use Rattle.ether_base.specs.Bytes.{IsBytes, number};
+ghost use Rattle.ether_base.specs.Bytes.{IsBytes, number, spelled};
 
 /// The number of two bytes: `u16_of([0x88, 0xA8])` is `0x88A8`.
 pub fn u16_of(bytes: [u8; 2]) -> u16
@@ -26,6 +26,27 @@ pub fn u64_of(bytes: [u8; 8]) -> u64
     u64::from_be_bytes(bytes)
 }
 
+/// The two bytes of a number: `bytes_of_u16(0x88A8)` is `[0x88, 0xA8]`.
+pub fn bytes_of_u16(number: u16) -> [u8; 2]
+    ensures { result ≡ spelled 2 number }
+{
+    number.to_be_bytes()
+}
+
+/// The four bytes of a number: `bytes_of_u32(258)` is `[0, 0, 1, 2]`.
+pub fn bytes_of_u32(number: u32) -> [u8; 4]
+    ensures { result ≡ spelled 4 number }
+{
+    number.to_be_bytes()
+}
+
+/// The eight bytes of a number: `bytes_of_u64(258)` is `[0, 0, 0, 0, 0, 0, 1, 2]`.
+pub fn bytes_of_u64(number: u64) -> [u8; 8]
+    ensures { result ≡ spelled 8 number }
+{
+    number.to_be_bytes()
+}
+
 #[cfg(test)]
 mod tests {
     use super::*;
@@ -36,5 +57,12 @@ mod tests {
         assert_eq!(rt; u32_of([192, 0, 2, 1]), 3_221_225_985);
         assert_eq!(rt; u64_of([0, 0, 0, 0, 0, 0, 1, 2]), 258);
         assert_eq!(rt; u64_of([0xFF; 8]), 18_446_744_073_709_551_615);
+    }
+
+    #[test]
+    fn the_most_significant_byte_comes_first(rt: HostRuntime) {
+        assert_eq!(rt; bytes_of_u16(0x88A8), [0x88, 0xA8]);
+        assert_eq!(rt; bytes_of_u32(258), [0, 0, 1, 2]);
+        assert_eq!(rt; bytes_of_u64(258), [0, 0, 0, 0, 0, 0, 1, 2]);
     }
 }

@@ -1,1 +1,2 @@
-pub mod Macsec
+pub mod MacsecFields
+pub mod SameValues

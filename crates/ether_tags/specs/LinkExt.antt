@@ -6,7 +6,7 @@ use Rattle.ether_base.specs.Macsec.{sec_tag_of}
 use Rattle.ether_base.specs.Header.{Header, header_len}
 use Rattle.ether_base.specs.Header as headers
 use Rattle.ether_tags.specs.Vlan.{vlan_view}
-use Rattle.ether_tags.specs.Macsec.{sec_tag_view, tag_bytes, readable_payload}
+use Rattle.ether_tags.specs.Macsec.{sec_tag_view, tag_bytes, readable_payload, SameTagged}
 use Rattle.ether_tags.specs.declared.ether_payload_slice.EtherPayloadSlice.{EtherPayloadSlice}
 use Rattle.ether_tags.specs.declared.link_ext_header.LinkExtHeader.{LinkExtHeader}
 use Rattle.ether_tags.specs.declared.link_ext_header.LinkExtHeader.TheVariants as values
@@ -35,3 +35,10 @@ abbrev pub HoldsExtPayload : LinkExtSlice → Option EtherPayloadSlice → Type 
 HoldsExtPayload (Vlan s) None = ⊥
 HoldsExtPayload (Vlan s) (Some p) = (p.ether_type.0 ≡ (vlan_of s).ether_type) × (p.len_source ≡ sources.Slice) × (p.payload.now ≡ slice_range s 4 (length s))
 HoldsExtPayload (Macsec s) answer = answer ≡ readable_payload s.payload
+
+-- views of one kind, a VLAN tag with the same bytes or a security tag with the same bytes and payload
+abbrev pub SameExt : LinkExtSlice → LinkExtSlice → Type 0
+SameExt (Vlan a) (Vlan b) = a ≡ b
+SameExt (Vlan a) (Macsec b) = ⊥
+SameExt (Macsec a) (Vlan b) = ⊥
+SameExt (Macsec a) (Macsec b) = SameTagged a b

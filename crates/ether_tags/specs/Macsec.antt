@@ -17,6 +17,7 @@ use Rattle.ether_tags.specs.declared.macsec_payload_slice.MacsecPayloadSlice.{Ma
 use Rattle.ether_tags.specs.declared.macsec_payload_slice.MacsecPayloadSlice.TheVariants as kept
 use Rattle.ether_tags.specs.declared.macsec_header.MacsecHeader.{MacsecHeader}
 use Rattle.ether_tags.specs.declared.macsec_header_slice.MacsecHeaderSlice.{MacsecHeaderSlice}
+use Rattle.ether_tags.specs.declared.macsec_slice.MacsecSlice.{MacsecSlice}
 
 abbrev pub payload_type_view : MacsecPType → PayloadType
 payload_type_view (Unmodified ether_type) = payloads.Unmodified ether_type.0
@@ -116,3 +117,7 @@ SamePayload (kept.Unmodified p) (kept.Unmodified q) = (p.ether_type ≡ q.ether_
 SamePayload (kept.Unmodified p) (kept.Modified q) = ⊥
 SamePayload (kept.Modified p) (kept.Unmodified q) = ⊥
 SamePayload (kept.Modified p) (kept.Modified q) = p.now ≡ q.now
+
+-- tags of the same bytes with the same payload
+abbrev pub SameTagged : MacsecSlice → MacsecSlice → Type 0
+SameTagged a b = (tag_bytes a.header ≡ tag_bytes b.header) × SamePayload a.payload b.payload

@@ -4,7 +4,8 @@ ghost use Rattle.std.specs.Prelude.{◌≡◌, ◌↔◌, IsTrue, map, [], ◌�
 ghost use Rattle.std.specs.Ordering.{nat_cmp, on, then_cmp};
 ghost use Rattle.std.specs.Cmp.Lexicographic.{slice_cmp};
 ghost use Rattle.ether_base.specs.LenSource.{len_source_place};
-ghost use Rattle.ether_tags.specs.Macsec.{SamePayload, tag_bytes};
+ghost use Rattle.ether_tags.specs.Macsec.{SamePayload, SameTagged, tag_bytes};
+ghost use Rattle.ether_tags.specs.LinkExt.{SameExt};
 ghost use Rattle.ether_tags.specs.Ethernet2.{ethernet2_view};
 ghost use Rattle.ether_tags.specs.Vlan.{vlan_view};
 
@@ -270,4 +271,28 @@ pub fn lengths() -> (usize, usize, usize, usize, usize, usize)
         MacsecHeader::MIN_LEN,
         MacsecHeader::MAX_LEN,
     )
+}
+
+pub fn same_macsec_header(a: &MacsecHeader, b: &MacsecHeader) -> bool
+    ensures { IsTrue result ↔ (a.now ≡ b.now) }
+{
+    *a == *b
+}
+
+pub fn same_link_ext_header(a: &LinkExtHeader, b: &LinkExtHeader) -> bool
+    ensures { IsTrue result ↔ (a.now ≡ b.now) }
+{
+    *a == *b
+}
+
+pub fn same_macsec_slice(a: &MacsecSlice<'_>, b: &MacsecSlice<'_>) -> bool
+    ensures { IsTrue result ↔ SameTagged a.now b.now }
+{
+    *a == *b
+}
+
+pub fn same_link_ext_slice(a: &LinkExtSlice<'_>, b: &LinkExtSlice<'_>) -> bool
+    ensures { IsTrue result ↔ SameExt a.now b.now }
+{
+    *a == *b
 }

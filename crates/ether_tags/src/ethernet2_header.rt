@@ -12,8 +12,7 @@ ghost use Rattle.ether_base.specs.RefusedLen.{IsRefusedLen};
 ghost use Rattle.ether_base.specs.WriteFront.{AnswersRest, LendsRest};
 ghost use Rattle.ether_tags.specs.Ethernet2.{ethernet2_view};
 
-use crate::Ethernet2HeaderSlice;
-use crate::wire::{address_at, u16_at};
+use crate::{Ethernet2HeaderSlice, ethernet2_fields};
 use ether_base::err::{Layer, LenError, SliceWriteSpaceError};
 use ether_base::{EtherType, write_front};
 
@@ -62,11 +61,7 @@ impl Ethernet2Header {
         ensures value { IsEthernet2 bytes (ethernet2_view result) }
         ensures inverse { ethernet2_bytes (ethernet2_view result) ≡ bytes }
     {
-        Ethernet2Header {
-            source: address_at(&bytes, 6),
-            destination: address_at(&bytes, 0),
-            ether_type: EtherType(u16_at(&bytes, 12)),
-        }
+        ethernet2_fields::header(&bytes)
     }
 
     /// The length of the header in bytes, which is [`Ethernet2Header::LEN`].

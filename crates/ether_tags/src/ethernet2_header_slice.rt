@@ -13,10 +13,9 @@ ghost use Rattle.ether_base.specs.Refusal.{Accepts};
 ghost use Rattle.ether_base.specs.RefusedLen.{IsRefusedLen};
 ghost use Rattle.ether_tags.specs.Ethernet2.{ethernet2_view};
 
-use crate::Ethernet2Header;
-use crate::wire::{address_at, u16_at};
-use ether_base::err::{Layer, LenError};
-use ether_base::{EtherType, LenSource};
+use crate::{Ethernet2Header, ethernet2_fields};
+use ether_base::EtherType;
+use ether_base::err::LenError;
 use std::alloc::AllocError;
 use std::marker::Model;
 
@@ -48,13 +47,7 @@ impl<'a> Ethernet2HeaderSlice<'a> {
         ensures refused { IfErr result (IsRefusedLen slice.now kinds.Ethernet2) }
     {
         if slice.len() < Ethernet2Header::LEN {
-            return Err(LenError {
-                required_len: Ethernet2Header::LEN,
-                len: slice.len(),
-                len_source: LenSource::Slice,
-                layer: Layer::Ethernet2Header,
-                layer_start_offset: 0,
-            });
+            return Err(ethernet2_fields::too_short(Ethernet2Header::LEN, slice.len()));
         }
         Ok(Ethernet2HeaderSlice {
             slice: &slice[..Ethernet2Header::LEN],
@@ -73,32 +66,28 @@ impl<'a> Ethernet2HeaderSlice<'a> {
     pub fn destination(&self) -> [u8; 6]
         ensures { result ≡ spelled 6 (ethernet2_of self.now).destination }
     {
-        address_at(self.slice, 0)
+        ethernet2_fields::destination(self.slice)
     }
 
     /// The source MAC address.
     pub fn source(&self) -> [u8; 6]
         ensures { result ≡ spelled 6 (ethernet2_of self.now).source }
     {
-        address_at(self.slice, 6)
+        ethernet2_fields::source(self.slice)
     }
 
     /// The protocol of what follows the header.
     pub fn ether_type(&self) -> EtherType
         ensures { result.0 ≡ (ethernet2_of self.now).ether_type }
     {
-        EtherType(u16_at(self.slice, 12))
+        ethernet2_fields::ether_type(self.slice)
     }
 
     /// The header as a value.
     pub fn to_header(&self) -> Ethernet2Header
         ensures { ethernet2_view result ≡ ethernet2_of self.now }
     {
-        Ethernet2Header {
-            source: address_at(self.slice, 6),
-            destination: address_at(self.slice, 0),
-            ether_type: self.ether_type(),
-        }
+        ethernet2_fields::header(self.slice)
     }
 }
 
@@ -129,6 +118,8 @@ impl<'a> Eq for Ethernet2HeaderSlice<'a> {
 #[cfg(test)]
 mod tests {
     use super::*;
+    use ether_base::LenSource;
+    use ether_base::err::Layer;
     use std::test::Fail;
 
     #[test]

@@ -14,9 +14,8 @@ ghost use Rattle.ether_base.specs.Refusal.{Accepts};
 ghost use Rattle.ether_base.specs.RefusedLen.{IsRefusedLen};
 ghost use Rattle.ether_tags.specs.Ethernet2.{fcs_len, fcs_of, payload_of, ethernet2_view};
 
-use crate::wire::{address_at, four_at, u16_at};
-use crate::{EtherPayloadSlice, Ethernet2Header};
-use ether_base::err::{Layer, LenError};
+use crate::{EtherPayloadSlice, Ethernet2Header, ethernet2_fields};
+use ether_base::err::LenError;
 use ether_base::{EtherType, LenSource};
 use std::alloc::AllocError;
 use std::fmt;
@@ -54,13 +53,7 @@ impl<'a> Ethernet2Slice<'a> {
         ensures refused { IfErr result (IsRefusedLen slice.now kinds.Ethernet2) }
     {
         if slice.len() < Ethernet2Header::LEN {
-            return Err(LenError {
-                required_len: Ethernet2Header::LEN,
-                len: slice.len(),
-                len_source: LenSource::Slice,
-                layer: Layer::Ethernet2Header,
-                layer_start_offset: 0,
-            });
+            return Err(ethernet2_fields::too_short(Ethernet2Header::LEN, slice.len()));
         }
         Ok(Ethernet2Slice { fcs_len: 0, slice })
     }
@@ -74,13 +67,7 @@ impl<'a> Ethernet2Slice<'a> {
         ensures refused { IfErr result (IsRefusedLen slice.now kinds.Ethernet2Fcs) }
     {
         if slice.len() < Ethernet2Header::LEN + FCS_LEN {
-            return Err(LenError {
-                required_len: Ethernet2Header::LEN + FCS_LEN,
-                len: slice.len(),
-                len_source: LenSource::Slice,
-                layer: Layer::Ethernet2Header,
-                layer_start_offset: 0,
-            });
+            return Err(ethernet2_fields::too_short(Ethernet2Header::LEN + FCS_LEN, slice.len()));
         }
         Ok(Ethernet2Slice {
             fcs_len: FCS_LEN,
@@ -99,21 +86,21 @@ impl<'a> Ethernet2Slice<'a> {
     pub fn destination(&self) -> [u8; 6]
         ensures { result ≡ spelled 6 (ethernet2_of self.now.bytes).destination }
     {
-        address_at(self.slice, 0)
+        ethernet2_fields::destination(self.slice)
     }
 
     /// The source MAC address.
     pub fn source(&self) -> [u8; 6]
         ensures { result ≡ spelled 6 (ethernet2_of self.now.bytes).source }
     {
-        address_at(self.slice, 6)
+        ethernet2_fields::source(self.slice)
     }
 
     /// The protocol of the payload.
     pub fn ether_type(&self) -> EtherType
         ensures { result.0 ≡ (ethernet2_of self.now.bytes).ether_type }
     {
-        EtherType(u16_at(self.slice, 12))
+        ethernet2_fields::ether_type(self.slice)
     }
 
     /// The frame check sequence as it stands in the frame, unverified; `None` of a frame that was handed in without one.
@@ -123,7 +110,7 @@ impl<'a> Ethernet2Slice<'a> {
         if self.fcs_len == 0 {
             return None;
         }
-        Some(four_at(self.slice, self.slice.len() - FCS_LEN))
+        self.slice.last_chunk::<FCS_LEN>().copied()
     }
 
     /// The 14 bytes of the header.
@@ -138,11 +125,7 @@ impl<'a> Ethernet2Slice<'a> {
     pub fn to_header(&self) -> Ethernet2Header
         ensures { ethernet2_view result ≡ ethernet2_of self.now.bytes }
     {
-        Ethernet2Header {
-            source: address_at(self.slice, 6),
-            destination: address_at(self.slice, 0),
-            ether_type: self.ether_type(),
-        }
+        ethernet2_fields::header(self.slice)
     }
 
     /// The payload and its type. Its length is the slice's, less the header and a frame check sequence.
@@ -214,6 +197,7 @@ impl fmt::Debug for Ethernet2Slice<'_> {
 #[cfg(test)]
 mod tests {
     use super::*;
+    use ether_base::err::Layer;
     use std::test::Fail;
 
     /// To every station, from 02:00:00:00:00:01, IPv4, and four bytes more.

@@ -6,6 +6,7 @@ mod derived_traits;
 mod double_vlan_header;
 mod double_vlan_slice;
 mod ether_payload_slice;
+mod ethernet2_fields;
 mod ethernet2_header;
 mod ethernet2_header_slice;
 mod ethernet2_slice;
@@ -23,7 +24,6 @@ mod single_vlan_slice;
 mod vlan_fields;
 mod vlan_header;
 mod vlan_slice;
-mod wire;
 
 pub use double_vlan_header::DoubleVlanHeader;
 pub use double_vlan_slice::DoubleVlanSlice;

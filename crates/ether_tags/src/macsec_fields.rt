@@ -1,101 +1,187 @@
-//! The first two bytes of a SecTag as one number (IEEE 802.1AE, 9.5 to 9.7): V, ES, SC, SCB, E, C, 2 bits AN, two
-//! reserved bits, 6 bits SL.
-ghost use Rattle.std.specs.Prelude.{◌≡◌, ◌↔◌, IsTrue};
-ghost use Rattle.ether_base.specs.Macsec.{known_payload_len, sec_tag_front_at, sec_tag_len};
+//! The fields of a MACsec SecTag in bytes that begin with one (IEEE 802.1AE, 9.3). Byte 0 is the TCI (9.5) with the bits V,
+//! ES, SC, SCB, E and C, and the association number (2 bits, 9.6). Byte 1 is two reserved bits and the short length (6 bits,
+//! 9.7). The packet number (4 bytes, 9.8) follows, then the SCI (8 bytes, 9.9) where SC is set, and then the ether type of
+//! the user data where E and C are clear.
+ghost use Rattle.std.specs.Prelude.{◌≡◌, ◌↔◌, ◌≤◌, ◌<◌, ◌+◌, ◌*◌, ◌/◌, ◌%◌, ◌^◌, IsTrue, length, slice_range, if◌then◌else◌};
+ghost use Rattle.ether_base.specs.Bytes.{bit, number};
+ghost use Rattle.ether_base.specs.Macsec.{known_payload_len, sec_tag_front_in, sec_tag_len, sec_tag_of, known_len};
+ghost use Rattle.ether_tags.specs.Macsec.{payload_type_view};
 ghost use Rattle.ether_base.specs.Refusal.{IsTooShort};
-ghost use Rattle.ether_base.specs.Bytes.{bit};
 
-use crate::wire::is_set;
-use ether_base::{MacsecAn, MacsecShortLen};
+use crate::MacsecPType;
+use ether_base::big_endian::{u16_of, u32_of, u64_of};
+use ether_base::{EtherType, MacsecAn, MacsecShortLen};
 
-/// The version bit V.
-pub fn has_version_one(front: u16) -> bool
-    ensures { bit result ≡ (sec_tag_front_at front).version }
+/// Whether the version bit V is set.
+pub fn has_version_one(bytes: &[u8]) -> bool
+    requires { 2 ≤ length bytes.now }
+    ensures { bit result ≡ (sec_tag_front_in bytes.now).version }
 {
-    is_set(front, 15)
+    is_set(bytes, 7)
 }
 
-/// The end station bit ES.
-pub fn is_end_station(front: u16) -> bool
-    ensures { bit result ≡ (sec_tag_front_at front).end_station }
+/// Whether the end station bit ES is set.
+pub fn endstation_id(bytes: &[u8]) -> bool
+    requires { 2 ≤ length bytes.now }
+    ensures { bit result ≡ (sec_tag_front_in bytes.now).end_station }
 {
-    is_set(front, 14)
+    is_set(bytes, 6)
 }
 
-/// The bit SC: an SCI stands in the tag.
-pub fn has_sci(front: u16) -> bool
-    ensures { bit result ≡ (sec_tag_front_at front).sci_present }
+/// Whether the bit SC is set: an SCI stands in the tag.
+pub fn sci_present(bytes: &[u8]) -> bool
+    requires { 2 ≤ length bytes.now }
+    ensures { bit result ≡ (sec_tag_front_in bytes.now).sci_present }
 {
-    is_set(front, 13)
+    is_set(bytes, 5)
 }
 
-/// The single copy broadcast bit SCB.
-pub fn is_single_copy_broadcast(front: u16) -> bool
-    ensures { bit result ≡ (sec_tag_front_at front).single_copy_broadcast }
+/// Whether the single copy broadcast bit SCB is set.
+pub fn tci_scb(bytes: &[u8]) -> bool
+    requires { 2 ≤ length bytes.now }
+    ensures { bit result ≡ (sec_tag_front_in bytes.now).single_copy_broadcast }
 {
-    is_set(front, 12)
+    is_set(bytes, 4)
 }
 
-/// The bit E: the payload is encrypted.
-pub fn is_encrypted(front: u16) -> bool
-    ensures { bit result ≡ (sec_tag_front_at front).encrypted }
+/// Whether the bit E is set: the user data is encrypted.
+pub fn encrypted(bytes: &[u8]) -> bool
+    requires { 2 ≤ length bytes.now }
+    ensures { bit result ≡ (sec_tag_front_in bytes.now).encrypted }
 {
-    is_set(front, 11)
+    is_set(bytes, 3)
 }
 
-/// The bit C: the payload is changed.
-pub fn is_changed(front: u16) -> bool
-    ensures { bit result ≡ (sec_tag_front_at front).changed }
+/// Whether the bit C is set: the user data is changed.
+pub fn userdata_changed(bytes: &[u8]) -> bool
+    requires { 2 ≤ length bytes.now }
+    ensures { bit result ≡ (sec_tag_front_in bytes.now).changed }
 {
-    is_set(front, 10)
+    is_set(bytes, 2)
 }
 
 /// The association number AN.
-pub fn association_number_of(front: u16) -> MacsecAn
-    ensures { result ≡ (sec_tag_front_at front).association_number }
+pub fn association_number(bytes: &[u8]) -> MacsecAn
+    requires { 2 ≤ length bytes.now }
+    ensures { result ≡ (sec_tag_front_in bytes.now).association_number }
 {
-    MacsecAn::try_new((front >> 8 & 0x0003) as u8).unwrap()
+    MacsecAn::try_new(bytes[0] & 0x03).unwrap()
 }
 
 /// The short length SL.
-pub fn short_len_of(front: u16) -> MacsecShortLen
-    ensures { result ≡ (sec_tag_front_at front).short_len }
+pub fn short_len(bytes: &[u8]) -> MacsecShortLen
+    requires { 2 ≤ length bytes.now }
+    ensures { result ≡ (sec_tag_front_in bytes.now).short_len }
 {
-    MacsecShortLen::try_from_u8((front & 0x003f) as u8).unwrap()
+    MacsecShortLen::try_from_u8(bytes[1] & 0x3f).unwrap()
 }
 
-/// Whether an ether type stands behind the tag: E and C are 0.
-pub fn is_unmodified(front: u16) -> bool
-    ensures { IsTrue result ↔ (((sec_tag_front_at front).encrypted ≡ 0) × ((sec_tag_front_at front).changed ≡ 0)) }
+/// The packet number PN.
+pub fn packet_nr(bytes: &[u8]) -> u32
+    requires { 6 ≤ length bytes.now }
+    ensures { result ≡ (sec_tag_of bytes.now).packet_number }
 {
-    !is_encrypted(front) && !is_changed(front)
+    u32_of([bytes[2], bytes[3], bytes[4], bytes[5]])
+}
+
+/// The secure channel identifier SCI, where SC is set.
+pub fn sci(bytes: &[u8]) -> Option<u64>
+    requires { sec_tag_len (sec_tag_front_in bytes.now) ≤ length bytes.now }
+    ensures { result ≡ (sec_tag_of bytes.now).sci }
+{
+    if sci_present(bytes) {
+        Some(u64_of([
+            bytes[6], bytes[7], bytes[8], bytes[9], bytes[10], bytes[11], bytes[12], bytes[13],
+        ]))
+    } else {
+        None
+    }
+}
+
+/// Whether the user data is encrypted and changed, and its ether type where neither is. The bytes are those of the tag
+/// alone, so an ether type stands at their end.
+pub fn ptype(bytes: &[u8]) -> MacsecPType
+    requires { length bytes.now ≡ sec_tag_len (sec_tag_front_in bytes.now) }
+    ensures { payload_type_view result ≡ (sec_tag_of bytes.now).payload_type }
+{
+    match (encrypted(bytes), userdata_changed(bytes)) {
+        (false, false) => {
+            let at = bytes.len() - 2;
+            MacsecPType::Unmodified(EtherType(u16_of([bytes[at], bytes[at + 1]])))
+        }
+        (false, true) => MacsecPType::Modified,
+        (true, false) => MacsecPType::EncryptedUnmodified,
+        (true, true) => MacsecPType::Encrypted,
+    }
+}
+
+/// Whether E and C are clear, so that the ether type of the user data stands behind the tag.
+pub fn is_unmodified(bytes: &[u8]) -> bool
+    requires { 2 ≤ length bytes.now }
+    ensures { IsTrue result ↔ (((sec_tag_front_in bytes.now).encrypted ≡ 0) × ((sec_tag_front_in bytes.now).changed ≡ 0)) }
+{
+    !encrypted(bytes) && !userdata_changed(bytes)
 }
 
 /// Whether the short length has no room for the ether type that stands behind the tag.
-pub fn is_too_short(front: u16) -> bool
-    ensures { IsTrue result ↔ IsTooShort (sec_tag_front_at front) }
+pub fn is_too_short(bytes: &[u8]) -> bool
+    requires { 2 ≤ length bytes.now }
+    ensures { IsTrue result ↔ IsTooShort (sec_tag_front_in bytes.now) }
 {
-    is_unmodified(front) && short_len_of(front).value() == 1
+    is_unmodified(bytes) && short_len(bytes).value() == 1
 }
 
 /// The length of the tag in bytes, with the ether type behind it, 6 to 16.
-pub fn tag_len(front: u16) -> usize
-    ensures { result ≡ sec_tag_len (sec_tag_front_at front) }
+pub fn header_len(bytes: &[u8]) -> usize
+    requires { 2 ≤ length bytes.now }
+    ensures { result ≡ sec_tag_len (sec_tag_front_in bytes.now) }
 {
-    let sci = if has_sci(front) { 8 } else { 0 };
-    let ether_type = if is_unmodified(front) { 2 } else { 0 };
+    tag_len(sci_present(bytes), is_unmodified(bytes))
+}
+
+/// The payload's length that the short length names, without the ether type behind the tag.
+pub fn expected_payload_len(bytes: &[u8]) -> Option<usize>
+    requires { 2 ≤ length bytes.now }
+    ensures { result ≡ known_payload_len (sec_tag_front_in bytes.now) }
+{
+    payload_len(short_len(bytes), is_unmodified(bytes))
+}
+
+/// The length of a tag in bytes, by whether there are an SCI and an ether type behind it.
+pub fn tag_len(has_sci: bool, is_unmodified: bool) -> usize
+    ensures { result ≡ 6 + 8 * bit has_sci + 2 * bit is_unmodified }
+{
+    let sci = if has_sci { 8 } else { 0 };
+    let ether_type = if is_unmodified { 2 } else { 0 };
     6 + sci + ether_type
 }
 
-/// The payload's length that the short length names, without an ether type behind the tag.
-pub fn payload_len(front: u16) -> Option<usize>
-    ensures { result ≡ known_payload_len (sec_tag_front_at front) }
+/// The length that a short length names, which counts the ether type behind the tag.
+pub fn payload_len(short_len: MacsecShortLen, is_unmodified: bool) -> Option<usize>
+    ensures { result ≡ (if is_unmodified then known_len 0 0 short_len else known_len 1 0 short_len) }
 {
-    let named = usize::from(short_len_of(front).value());
-    let ether_type = if is_unmodified(front) { 2 } else { 0 };
+    let named = usize::from(short_len.value());
+    let ether_type = if is_unmodified { 2 } else { 0 };
     if named > 0 && named >= ether_type {
         Some(named - ether_type)
     } else {
         None
     }
+}
+
+/// Whether bit `power` of the first byte is set.
+fn is_set(bytes: &[u8], power: u32) -> bool
+    requires whole { 2 ≤ length bytes.now }
+    requires power { power < 8 }
+    ensures { bit result ≡ number (slice_range bytes.now 0 2) / 2 ^ (8 + power) % 2 }
+{
+    bit_of(bytes[0], power)
+}
+
+/// Whether bit `power` is set.
+fn bit_of(byte: u8, power: u32) -> bool
+    requires { power < 8 }
+    ensures { bit result ≡ byte / 2 ^ power % 2 }
+{
+    byte >> power & 1 == 1
 }

@@ -10,8 +10,9 @@ ghost use Rattle.ether_base.specs.Kind as kinds;
 ghost use Rattle.ether_base.specs.Refusal.{AcceptsHeader, InvalidShortLen, IsTooShort, RefusesHeader};
 ghost use Rattle.ether_tags.specs.Macsec.{IsRefusedTag, payload_type_view, readable_type, named_len_for, sec_tag_view, short_len_for};
 
-use crate::{MacsecHeaderSlice, MacsecPType};
+use crate::{MacsecHeaderSlice, MacsecPType, macsec_fields};
 use arrayvec::ArrayVec;
+use ether_base::big_endian::{bytes_of_u16, bytes_of_u32, bytes_of_u64};
 use ether_base::err::macsec::HeaderSliceError;
 use ether_base::{EtherType, MacsecAn, MacsecShortLen};
 
@@ -84,13 +85,7 @@ impl MacsecHeader {
     pub fn header_len(&self) -> usize
         ensures { result ≡ sec_tag_len (sec_tag_front_of 0 0 (sec_tag_view self.now)) }
     {
-        let sci = if self.sci.is_some() { 8 } else { 0 };
-        let ether_type = if self.next_ether_type().is_some() {
-            2
-        } else {
-            0
-        };
-        MacsecHeader::MIN_LEN + sci + ether_type
+        macsec_fields::tag_len(self.sci.is_some(), self.next_ether_type().is_some())
     }
 
     /// The payload's length that the short length names, without the ether type behind the tag; `None` where it names
@@ -98,17 +93,7 @@ impl MacsecHeader {
     pub fn expected_payload_len(&self) -> Option<usize>
         ensures { result ≡ known_payload_len (sec_tag_front_of 0 0 (sec_tag_view self.now)) }
     {
-        let named = usize::from(self.short_len.value());
-        let ether_type = if self.next_ether_type().is_some() {
-            2
-        } else {
-            0
-        };
-        if named > 0 && named >= ether_type {
-            Some(named - ether_type)
-        } else {
-            None
-        }
+        macsec_fields::payload_len(self.short_len, self.next_ether_type().is_some())
     }
 
     /// Sets the short length to what names a payload of so many bytes: 0, which names none, where there are too many.
@@ -146,13 +131,13 @@ impl MacsecHeader {
         ensures fits { FitsSecTag (sec_tag_view self.now) }
     {
         let mut bytes = ArrayVec::new();
-        put_u16(&mut bytes, self.front());
-        put_u32(&mut bytes, self.packet_nr);
+        put(&mut bytes, bytes_of_u16(self.front()));
+        put(&mut bytes, bytes_of_u32(self.packet_nr));
         if let Some(sci) = self.sci {
-            put_u64(&mut bytes, sci);
+            put(&mut bytes, bytes_of_u64(sci));
         }
         if let Some(ether_type) = self.next_ether_type() {
-            put_u16(&mut bytes, ether_type.0);
+            put(&mut bytes, bytes_of_u16(ether_type.0));
         }
         bytes
     }
@@ -172,40 +157,13 @@ impl MacsecHeader {
     }
 }
 
-/// Appends a number in 2 bytes.
-fn put_u16(bytes: &mut ArrayVec<u8, 16>, number: u16)
-    requires { length bytes.old.items + 2 ≤ 16 }
-    ensures items { bytes.new.items ≡ bytes.old.items ++ spelled 2 number }
-    ensures len { length bytes.new.items ≡ length bytes.old.items + 2 }
+/// Appends the bytes of a number.
+fn put<const N: usize>(tag: &mut ArrayVec<u8, 16>, number: [u8; N])
+    requires { length tag.old.items + N ≤ 16 }
+    ensures items { tag.new.items ≡ tag.old.items ++ number.entry }
+    ensures len { length tag.new.items ≡ length tag.old.items + N }
 {
-    put(bytes, &number.to_be_bytes());
-}
-
-/// Appends a number in 4 bytes.
-fn put_u32(bytes: &mut ArrayVec<u8, 16>, number: u32)
-    requires { length bytes.old.items + 4 ≤ 16 }
-    ensures items { bytes.new.items ≡ bytes.old.items ++ spelled 4 number }
-    ensures len { length bytes.new.items ≡ length bytes.old.items + 4 }
-{
-    put(bytes, &number.to_be_bytes());
-}
-
-/// Appends a number in 8 bytes.
-fn put_u64(bytes: &mut ArrayVec<u8, 16>, number: u64)
-    requires { length bytes.old.items + 8 ≤ 16 }
-    ensures items { bytes.new.items ≡ bytes.old.items ++ spelled 8 number }
-    ensures len { length bytes.new.items ≡ length bytes.old.items + 8 }
-{
-    put(bytes, &number.to_be_bytes());
-}
-
-/// Appends bytes.
-fn put(bytes: &mut ArrayVec<u8, 16>, part: &[u8])
-    requires { length bytes.old.items + length part.now ≤ 16 }
-    ensures items { bytes.new.items ≡ bytes.old.items ++ part.now }
-    ensures len { length bytes.new.items ≡ length bytes.old.items + length part.now }
-{
-    bytes.try_extend_from_slice(part).unwrap();
+    tag.try_extend_from_slice(&number).unwrap();
 }
 
 #[cfg(test)]

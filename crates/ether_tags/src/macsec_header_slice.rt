@@ -8,8 +8,7 @@ ghost use Rattle.ether_base.specs.Kind as kinds;
 ghost use Rattle.ether_base.specs.Refusal.{AcceptsHeader, IsTooShort};
 ghost use Rattle.ether_base.specs.Bytes.{bit};
 
-use crate::wire::{u16_at, u32_at, u64_at};
-use crate::{MacsecHeader, MacsecPType, macsec_fields as front};
+use crate::{MacsecHeader, MacsecPType, macsec_fields};
 use ether_base::err::macsec::{HeaderError, HeaderSliceError};
 use ether_base::err::{Layer, LenError};
 use ether_base::{EtherType, LenSource, MacsecAn, MacsecShortLen};
@@ -44,14 +43,13 @@ impl<'a> MacsecHeaderSlice<'a> {
         if slice.len() < MacsecHeader::MIN_LEN {
             return Err(cut_short(MacsecHeader::MIN_LEN, slice.len()));
         }
-        let bits = u16_at(slice, 0);
-        if front::has_version_one(bits) {
+        if macsec_fields::has_version_one(slice) {
             return Err(HeaderSliceError::Content(HeaderError::UnexpectedVersion));
         }
-        if front::is_too_short(bits) {
+        if macsec_fields::is_too_short(slice) {
             return Err(HeaderSliceError::Content(HeaderError::InvalidUnmodifiedShortLen));
         }
-        let len = front::tag_len(bits);
+        let len = macsec_fields::header_len(slice);
         if slice.len() < len {
             return Err(cut_short(len, slice.len()));
         }
@@ -78,89 +76,77 @@ impl<'a> MacsecHeaderSlice<'a> {
     pub fn endstation_id(&self) -> bool
         ensures { bit result ≡ (sec_tag_of (tag_bytes self.now)).end_station }
     {
-        front::is_end_station(u16_at(self.slice, 0))
+        macsec_fields::endstation_id(self.slice)
     }
 
     /// Whether the bit SCB is set: the frame is a single copy broadcast of a passive optical network (9.5).
     pub fn tci_scb(&self) -> bool
         ensures { bit result ≡ (sec_tag_of (tag_bytes self.now)).single_copy_broadcast }
     {
-        front::is_single_copy_broadcast(u16_at(self.slice, 0))
+        macsec_fields::tci_scb(self.slice)
     }
 
     /// Whether the bit E is set: the payload is encrypted (9.5).
     pub fn encrypted(&self) -> bool
         ensures { bit result ≡ (sec_tag_front_in (tag_bytes self.now)).encrypted }
     {
-        front::is_encrypted(u16_at(self.slice, 0))
+        macsec_fields::encrypted(self.slice)
     }
 
     /// Whether the bit C is set: the payload is changed (9.5).
     pub fn userdata_changed(&self) -> bool
         ensures { bit result ≡ (sec_tag_front_in (tag_bytes self.now)).changed }
     {
-        front::is_changed(u16_at(self.slice, 0))
+        macsec_fields::userdata_changed(self.slice)
     }
 
     /// Whether the payload is neither encrypted nor changed, so that an ether type stands behind the tag.
     pub fn is_unmodified(&self) -> bool
         ensures { IsTrue result ↔ (((sec_tag_front_in (tag_bytes self.now)).encrypted ≡ 0) × ((sec_tag_front_in (tag_bytes self.now)).changed ≡ 0)) }
     {
-        front::is_unmodified(u16_at(self.slice, 0))
+        macsec_fields::is_unmodified(self.slice)
     }
 
     /// Whether the payload is encrypted and changed, and its protocol where that can be read.
     pub fn ptype(&self) -> MacsecPType
         ensures { payload_type_view result ≡ (sec_tag_of (tag_bytes self.now)).payload_type }
     {
-        match (self.encrypted(), self.userdata_changed()) {
-            (false, false) => {
-                let at = if self.sci_present() { 14 } else { 6 };
-                MacsecPType::Unmodified(EtherType(u16_at(self.slice, at)))
-            }
-            (false, true) => MacsecPType::Modified,
-            (true, false) => MacsecPType::EncryptedUnmodified,
-            (true, true) => MacsecPType::Encrypted,
-        }
+        macsec_fields::ptype(self.slice)
     }
 
     /// The association number (9.6).
     pub fn an(&self) -> MacsecAn
         ensures { result ≡ (sec_tag_of (tag_bytes self.now)).association_number }
     {
-        front::association_number_of(u16_at(self.slice, 0))
+        macsec_fields::association_number(self.slice)
     }
 
     /// The short length (9.7).
     pub fn short_len(&self) -> MacsecShortLen
         ensures { result ≡ (sec_tag_of (tag_bytes self.now)).short_len }
     {
-        front::short_len_of(u16_at(self.slice, 0))
+        macsec_fields::short_len(self.slice)
     }
 
     /// The packet number (9.8).
     pub fn packet_nr(&self) -> u32
         ensures { result ≡ (sec_tag_of (tag_bytes self.now)).packet_number }
     {
-        u32_at(self.slice, 2)
+        macsec_fields::packet_nr(self.slice)
     }
 
     /// Whether the bit SC is set: the tag holds an SCI.
     pub fn sci_present(&self) -> bool
         ensures { bit result ≡ (sec_tag_front_in (tag_bytes self.now)).sci_present }
     {
-        front::has_sci(u16_at(self.slice, 0))
+        macsec_fields::sci_present(self.slice)
     }
 
     /// The secure channel identifier (9.9), `None` where the tag holds none.
     pub fn sci(&self) -> Option<u64>
         ensures { result ≡ (sec_tag_of (tag_bytes self.now)).sci }
     {
-        if self.sci_present() {
-            Some(u64_at(self.slice, 6))
-        } else {
-            None
-        }
+        macsec_fields::sci(self.slice)
     }
 
     /// The ether type behind the tag, `None` where the payload is encrypted or changed.
@@ -186,7 +172,7 @@ impl<'a> MacsecHeaderSlice<'a> {
     pub fn expected_payload_len(&self) -> Option<usize>
         ensures { result ≡ known_payload_len (sec_tag_front_in (tag_bytes self.now)) }
     {
-        front::payload_len(u16_at(self.slice, 0))
+        macsec_fields::expected_payload_len(self.slice)
     }
 
     /// The tag as a value.

@@ -10,8 +10,7 @@ ghost use Rattle.ether_base.specs.Vlan.{VlanValue, IsVlan, vlan_bytes};
 ghost use Rattle.ether_tags.specs.Vlan.{vlan_view};
 
 use crate::SingleVlanHeaderSlice;
-use crate::vlan_fields::{is_drop_eligible, pcp_of, tag_control, vlan_id_of};
-use crate::wire::u16_at;
+use crate::vlan_fields::{self, tag_control_of};
 use ether_base::err::LenError;
 use ether_base::{EtherType, VlanId, VlanPcp};
 
@@ -62,13 +61,7 @@ impl SingleVlanHeader {
         ensures value { IsVlan bytes (vlan_view result) }
         ensures inverse { vlan_bytes (vlan_view result) ≡ bytes }
     {
-        let control = u16_at(&bytes, 0);
-        SingleVlanHeader {
-            pcp: pcp_of(control),
-            drop_eligible_indicator: is_drop_eligible(control),
-            vlan_id: vlan_id_of(control),
-            ether_type: EtherType(u16_at(&bytes, 2)),
-        }
+        vlan_fields::header(&bytes)
     }
 
     /// The length of the tag in bytes, which is [`SingleVlanHeader::LEN`].
@@ -83,7 +76,7 @@ impl SingleVlanHeader {
         ensures value { result ≡ vlan_bytes (vlan_view self.now) }
         ensures inverse { (v : VlanValue) → IsVlan result v → v ≡ vlan_view self.now }
     {
-        let control = tag_control(self.pcp, self.drop_eligible_indicator, self.vlan_id);
+        let control = tag_control_of(self.pcp, self.drop_eligible_indicator, self.vlan_id);
         let c = control.to_be_bytes();
         let t = self.ether_type.0.to_be_bytes();
         [c[0], c[1], t[0], t[1]]

@@ -13,10 +13,8 @@ ghost use Rattle.ether_base.specs.RefusedLen.{IsRefusedLen};
 ghost use Rattle.ether_base.specs.Bytes.{bit};
 ghost use Rattle.ether_tags.specs.Vlan.{vlan_view};
 
-use crate::vlan_fields::{is_drop_eligible, pcp_of, vlan_id_of};
-use crate::wire::u16_at;
-use crate::{EtherPayloadSlice, SingleVlanHeader};
-use ether_base::err::{Layer, LenError};
+use crate::{EtherPayloadSlice, SingleVlanHeader, vlan_fields};
+use ether_base::err::LenError;
 use ether_base::{EtherType, LenSource, VlanId, VlanPcp};
 use std::alloc::AllocError;
 use std::fmt;
@@ -49,13 +47,7 @@ impl<'a> SingleVlanSlice<'a> {
         ensures refused { IfErr result (IsRefusedLen slice.now kinds.Vlan) }
     {
         if slice.len() < SingleVlanHeader::LEN {
-            return Err(LenError {
-                required_len: SingleVlanHeader::LEN,
-                len: slice.len(),
-                len_source: LenSource::Slice,
-                layer: Layer::VlanHeader,
-                layer_start_offset: 0,
-            });
+            return Err(vlan_fields::too_short(slice.len()));
         }
         Ok(SingleVlanSlice { slice })
     }
@@ -79,40 +71,35 @@ impl<'a> SingleVlanSlice<'a> {
     pub fn priority_code_point(&self) -> VlanPcp
         ensures { result ≡ (vlan_of self.now).pcp }
     {
-        pcp_of(u16_at(self.slice, 0))
+        vlan_fields::priority_code_point(self.slice)
     }
 
     /// Whether the frame may be dropped first under congestion.
     pub fn drop_eligible_indicator(&self) -> bool
         ensures { bit result ≡ (vlan_of self.now).dei }
     {
-        is_drop_eligible(u16_at(self.slice, 0))
+        vlan_fields::drop_eligible_indicator(self.slice)
     }
 
     /// The VLAN identifier.
     pub fn vlan_identifier(&self) -> VlanId
         ensures { result ≡ (vlan_of self.now).vid }
     {
-        vlan_id_of(u16_at(self.slice, 0))
+        vlan_fields::vlan_identifier(self.slice)
     }
 
     /// The protocol of the payload.
     pub fn ether_type(&self) -> EtherType
         ensures { result.0 ≡ (vlan_of self.now).ether_type }
     {
-        EtherType(u16_at(self.slice, 2))
+        vlan_fields::ether_type(self.slice)
     }
 
     /// The tag as a value.
     pub fn to_header(&self) -> SingleVlanHeader
         ensures { vlan_view result ≡ vlan_of self.now }
     {
-        SingleVlanHeader {
-            pcp: self.priority_code_point(),
-            drop_eligible_indicator: self.drop_eligible_indicator(),
-            vlan_id: self.vlan_identifier(),
-            ether_type: self.ether_type(),
-        }
+        vlan_fields::header(self.slice)
     }
 
     /// The payload and its type. Its length is always the slice's, less the tag.
@@ -180,6 +167,7 @@ impl fmt::Debug for SingleVlanSlice<'_> {
 #[cfg(test)]
 mod tests {
     use super::*;
+    use ether_base::err::Layer;
     use std::test::Fail;
 
     #[test]

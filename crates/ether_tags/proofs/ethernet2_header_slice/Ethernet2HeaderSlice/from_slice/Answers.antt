@@ -1,12 +1,14 @@
-use Rattle.std.proofs.Common.{refl, arith}
+use Rattle.std.proofs.Common.{refl, arith, sym, subst}
 use Rattle.std.specs.Prelude.{slice_range}
+use Rattle.ether_base.specs.Kind as kinds
 use Rattle.ether_base.specs.Refusal as rows
+use Rattle.ether_base.specs.RefusedLen.{IsRefusedLen}
 use Rattle.ether_base.proofs.SubLists.{IsBytes-part, length-part}
 use Rattle.ether_base.proofs.Ethernet2Fields.{ethernet2_whole}
 use Rattle.ether_tags.proofs.ethernet2_header_slice.Ethernet2HeaderSlice.from_slice.Goals as goal
 
 pub returns-then-slice-lt-LEN-clause-refused : goal.returns-then-slice-lt-LEN-clause-refused
-returns-then-slice-lt-LEN-clause-refused c = record { row = rows.ethernet2 c.if-slice-lt-LEN.true; start = refl }
+returns-then-slice-lt-LEN-clause-refused c = subst (IsRefusedLen c.args.slice.now kinds.Ethernet2) (sym c.too_short.ensures) (record { row = rows.ethernet2 c.if-slice-lt-LEN.true; start = refl })
 
 pub returns-clause-value : goal.returns-clause-value
 returns-clause-value c =

@@ -25,7 +25,6 @@ pub returns-then-has_version_one-clause-refused : goal.returns-then-has_version_
 returns-then-has_version_one-clause-refused c =
     let bytes = c.args.slice.now in
     let ok : IsBytes bytes = λ i. omega (arith, c.type_inv.slice i) in
-    let same = c.u16_at-bits.ensures.value in
     let one = c.if-has_version_one.ensures in
     record {
       refusal = UnexpectedVersion;
@@ -37,9 +36,8 @@ pub returns-then-is_too_short-clause-refused : goal.returns-then-is_too_short-cl
 returns-then-is_too_short-clause-refused c =
     let bytes = c.args.slice.now in
     let ok : IsBytes bytes = λ i. omega (arith, c.type_inv.slice i) in
-    let same = c.u16_at-bits.ensures.value in
     let zero = c.if-has_version_one.ensures in
-    let short = subst IsTooShort (ap sec_tag_front_at same) (c.is_too_short.ensures.0 c.if-is_too_short.true) in
+    let short = c.is_too_short.ensures.0 c.if-is_too_short.true in
     record {
       refusal = InvalidShortLen;
       row = record { row = rows.macsec_short_len (sec_tag_front_in bytes) c.if-slice-lt-MIN_LEN.false (sec_tag_front_read bytes ok c.if-slice-lt-MIN_LEN.false) (omega arith) short; of_header = λ e. e };
@@ -47,18 +45,17 @@ returns-then-is_too_short-clause-refused c =
     }
 
 -- a tag that was not found too short is not
-long : (bits number : ℕ) (found : Bool) → bits ≡ number → (IsTooShort (sec_tag_front_at bits) → IsTrue found) → found ≡ false → IsTooShort (sec_tag_front_at number) → ⊥
-long bits number found same says not s = let f = says (subst (λ (k : ℕ). IsTooShort (sec_tag_front_at k)) (sym same) s) in absurd cc
+long : (front : SecTagFront) (found : Bool) → (IsTooShort front → IsTrue found) → found ≡ false → IsTooShort front → ⊥
+long front found says not s = let f = says s in absurd cc
 
 pub returns-then-slice-len-clause-refused : goal.returns-then-slice-len-clause-refused
 returns-then-slice-len-clause-refused c =
     let bytes = c.args.slice.now in
     let front = sec_tag_front_in bytes in
     let ok : IsBytes bytes = λ i. omega (arith, c.type_inv.slice i) in
-    let same = c.u16_at-bits.ensures.value in
     let zero = c.if-has_version_one.ensures in
-    let not_short = long c.u16_at-bits.result (number (slice_range bytes 0 2)) c.is_too_short.result same c.is_too_short.ensures.1 c.if-is_too_short.false in
-    let len : c.tag_len-len.result ≡ sec_tag_len front = c.tag_len-len.ensures ∙ ap (λ (k : ℕ). sec_tag_len (sec_tag_front_at k)) same in
+    let not_short = long (sec_tag_front_in bytes) c.is_too_short.result c.is_too_short.ensures.1 c.if-is_too_short.false in
+    let len : c.header_len-len.result ≡ sec_tag_len front = c.header_len-len.ensures in
     let lt = c.if-slice-len.true in
     subst (IsRefusedTag bytes) (sym c.cut_short-then-slice-len.ensures) (record {
       refusal = Length (sec_tag_len front) (length bytes) sources.Slice layers.MacsecHeader;
@@ -69,11 +66,10 @@ returns-then-slice-len-clause-refused c =
 pub invariant_of-result : goal.invariant_of-result
 invariant_of-result c =
     let bytes = c.args.slice.now in
-    let n = c.tag_len-len.result in
-    let same = c.u16_at-bits.ensures.value in
+    let n = c.header_len-len.result in
     let zero = c.if-has_version_one.ensures in
-    let len : n ≡ sec_tag_len (sec_tag_front_in bytes) = c.tag_len-len.ensures ∙ ap (λ (k : ℕ). sec_tag_len (sec_tag_front_at k)) same in
-    let not_short = long c.u16_at-bits.result (number (slice_range bytes 0 2)) c.is_too_short.result same c.is_too_short.ensures.1 c.if-is_too_short.false in
+    let len : n ≡ sec_tag_len (sec_tag_front_in bytes) = c.header_len-len.ensures in
+    let not_short = long (sec_tag_front_in bytes) c.is_too_short.result c.is_too_short.ensures.1 c.if-is_too_short.false in
     let front = sec_tag_front_taken bytes n (omega arith) in
     let taken : length (take n bytes) ≡ n = omega (arith, length-take n bytes) in
     record {
@@ -87,10 +83,9 @@ returns-clause-accepted c =
     let bytes = c.args.slice.now in
     let front = sec_tag_front_in bytes in
     let ok : IsBytes bytes = λ i. omega (arith, c.type_inv.slice i) in
-    let same = c.u16_at-bits.ensures.value in
     let zero = c.if-has_version_one.ensures in
-    let not_short = long c.u16_at-bits.result (number (slice_range bytes 0 2)) c.is_too_short.result same c.is_too_short.ensures.1 c.if-is_too_short.false in
-    let len : c.tag_len-len.result ≡ sec_tag_len front = c.tag_len-len.ensures ∙ ap (λ (k : ℕ). sec_tag_len (sec_tag_front_at k)) same in
+    let not_short = long (sec_tag_front_in bytes) c.is_too_short.result c.is_too_short.ensures.1 c.if-is_too_short.false in
+    let len : c.header_len-len.result ≡ sec_tag_len front = c.header_len-len.ensures in
     let le = c.if-slice-len.false in
     accepts_tag sources.Slice bytes front c.if-slice-lt-MIN_LEN.false (sec_tag_front_read bytes ok c.if-slice-lt-MIN_LEN.false) (omega arith) not_short (omega arith)
 
@@ -98,7 +93,6 @@ pub returns-clause-value : goal.returns-clause-value
 returns-clause-value c =
     let bytes = c.args.slice.now in
     let ok : IsBytes bytes = λ i. omega (arith, c.type_inv.slice i) in
-    let same = c.u16_at-bits.ensures.value in
-    let len : c.tag_len-len.result ≡ sec_tag_len (sec_tag_front_in bytes) = c.tag_len-len.ensures ∙ ap (λ (k : ℕ). sec_tag_len (sec_tag_front_at k)) same in
+    let len : c.header_len-len.result ≡ sec_tag_len (sec_tag_front_in bytes) = c.header_len-len.ensures in
     let le = c.if-slice-len.false in
-    sec_tag_taken bytes c.tag_len-len.result ok c.if-slice-lt-MIN_LEN.false len (omega arith)
+    sec_tag_taken bytes c.header_len-len.result ok c.if-slice-lt-MIN_LEN.false len (omega arith)

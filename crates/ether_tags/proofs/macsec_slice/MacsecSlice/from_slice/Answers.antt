@@ -8,7 +8,7 @@ use Rattle.ether_base.specs.Refusal.{Length}
 use Rattle.ether_base.proofs.Means.{tag_unique}
 use Rattle.ether_base.proofs.MacsecFields.{sec_tag_means}
 use Rattle.ether_tags.specs.Macsec.{IsRefusedPacket, tag_bytes, payload_end, payload_source, readable_type}
-use Rattle.ether_tags.proofs.Macsec.{placed, packet_refused, packet_accepted, holds_same}
+use Rattle.ether_tags.proofs.MacsecFields.{placed, packet_refused, packet_accepted, holds_same}
 use Rattle.ether_tags.proofs.macsec_slice.MacsecSlice.from_slice.Goals as goal
 
 pub returns-then-slice-end-clause-refused : goal.returns-then-slice-end-clause-refused

@@ -10,8 +10,8 @@ use Rattle.ether_tags.proofs.single_vlan_header.SingleVlanHeader.to_bytes.Goals 
 pub returns : goal.returns
 returns c =
     let h = c.args.self.now in
-    let k = c.tag_control-control.ensures in
+    let k = c.tag_control_of-control.ensures in
     let two : bit h.drop_eligible_indicator < 2 = grind (arith, common_steps) in
     let fits : FitsVlan (vlan_view h) = record { pcp = k.pcp; dei = two; vid = k.vid; ether_type = omega arith } in
-    let w = vlan_written c.tag_control-control.result h.ether_type.0 c.to_be_bytes-c.result c.to_be_bytes-t.result (vlan_view h) k.sum refl fits c.to_be_bytes-c.ensures c.to_be_bytes-t.ensures in
+    let w = vlan_written c.tag_control_of-control.result h.ether_type.0 c.to_be_bytes-c.result c.to_be_bytes-t.result (vlan_view h) k.sum refl fits c.to_be_bytes-c.ensures c.to_be_bytes-t.ensures in
     record { value = w.1; inverse = λ v is. vlan_unique v (vlan_view h) is.fits fits (sym is.sum ∙ w.0.sum) }
