@@ -4,6 +4,7 @@
 
 mod arp_hardware_id;
 mod arp_operation;
+pub mod big_endian;
 #[cfg(test)]
 mod derived_traits;
 pub mod err;
@@ -16,9 +17,9 @@ mod linux_sll_protocol_type;
 mod macsec_an;
 mod macsec_short_len;
 mod number_text;
-pub mod write_front;
 mod vlan_id;
 mod vlan_pcp;
+pub mod write_front;
 
 pub use arp_hardware_id::ArpHardwareId;
 pub use arp_operation::ArpOperation;
