@@ -9,6 +9,7 @@ pub mod big_endian;
 mod derived_traits;
 pub mod err;
 pub mod ether_type;
+pub mod header_slice_error;
 pub mod laws;
 mod len_source;
 mod linux_nonstandard_ether_type;
