@@ -17,7 +17,7 @@ mod linux_sll_packet_type;
 mod linux_sll_protocol_type;
 mod macsec_an;
 mod macsec_short_len;
-mod number_text;
+pub mod number_text;
 mod vlan_id;
 mod vlan_pcp;
 pub mod write_front;
