@@ -1,14 +1,13 @@
 -- The fields of a VLAN tag, read from the parts of a list, and the bytes of a tag.
-use Rattle.std.proofs.Common.{◌≡◌, ℕ, ◌+◌, ◌-◌, ◌*◌, ◌/◌, ◌%◌, ◌^◌, ◌<◌, ◌≤◌, List, [], ◌∷◌, ◌++◌, length, refl, sym, ap, subst, ◌∙◌, arith}
-use Rattle.std.proofs.lemmas.List.{length-append}
+use Rattle.std.proofs.Common.{◌≡◌, ℕ, ◌+◌, ◌*◌, ◌/◌, ◌%◌, ◌^◌, ◌≤◌, List, [], ◌∷◌, ◌++◌, length, refl, sym, ap, subst, ◌∙◌, arith}
 use Rattle.std.specs.Prelude.{slice_range}
 use Rattle.ether_base.specs.Bytes.{IsBytes, number, spelled}
 use Rattle.ether_base.specs.Vlan.{VlanValue, FitsVlan, IsVlan, vlan_bytes, vlan_of}
 use Rattle.ether_base.specs.Header.{Means}
 use Rattle.ether_base.specs.Header as headers
-use Rattle.ether_base.proofs.Numbers.{IsBytes-nil, IsBytes-cons, IsBytes-append, number-append, number_below, spelled-number}
+use Rattle.ether_base.proofs.Numbers.{IsBytes-nil, IsBytes-cons, spelled-number}
 use Rattle.ether_base.proofs.SubLists.{part_all, number-part_below, number-part_join}
-use Rattle.ether_base.proofs.ArrayElements.{cells, cells-all}
+use Rattle.ether_base.proofs.ArrayElements.{cells}
 
 pub vlan_read : (bytes : List ℕ) → IsBytes bytes → 4 ≤ length bytes → IsVlan (slice_range bytes 0 4) (vlan_of bytes)
 vlan_read bytes ok le =

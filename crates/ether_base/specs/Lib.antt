@@ -24,4 +24,5 @@ pub mod LengthErrors
 pub mod ArpErrors
 pub mod LinuxSllErrors
 pub mod MacsecErrors
+pub mod HeaderSliceError
 pub mod WriteFront

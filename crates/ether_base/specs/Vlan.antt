@@ -1,6 +1,16 @@
 -- The VLAN tag behind its own ether type: tag control information (IEEE 802.1Q, 9.6), and the ether type that follows.
-use Rattle.std.specs.Prelude.{◌≡◌, ℕ, ◌+◌, ◌*◌, ◌/◌, ◌%◌, ◌^◌, ◌<◌, List, slice_range}
+use Rattle.std.specs.Prelude.{◌≡◌, ℕ, ◌+◌, ◌*◌, ◌/◌, ◌%◌, ◌^◌, ◌<◌, List, [], ◌∷◌, slice_range, Bool, nat_eq}
+use Rattle.std.specs.List.{list_any}
 use Rattle.ether_base.specs.Bytes.{number, spelled}
+
+-- the ether types that announce a VLAN tag: of a customer tag and of a service tag (IEEE 802.1Q, table 9-1), and the older
+-- number for double tagging
+abbrev pub vlan_ether_types : List ℕ
+vlan_ether_types = 0x8100 ∷ 0x88A8 ∷ 0x9100 ∷ []
+
+-- whether an ether type is one of them
+abbrev pub is_vlan_ether_type : ℕ → Bool
+is_vlan_ether_type ether_type = list_any (nat_eq ether_type) vlan_ether_types
 
 -- priority code point, drop eligible indicator, VLAN identifier
 pub record VlanValue : Type 0 where

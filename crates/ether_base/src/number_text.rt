@@ -1,12 +1,12 @@
-//! Numbers as they are shown, with their descriptions.
+//! Numbers as text, with their descriptions.
 ghost use Rattle.std.specs.Prelude.{Some};
 
 use crate::{ArpHardwareId, EtherType};
 use std::fmt;
 
-/// A number as `0x` and four upper-case hexadecimal digits.
+/// A number, shown as `0x` and four upper-case hexadecimal digits: 0x01AB is `0x01AB`.
 #[derive(Clone, Copy)]
-pub(crate) struct HexNumber(pub u16);
+pub struct HexNumber(pub u16);
 
 impl fmt::Display for HexNumber {
     ghost use Rattle.ether_base.specs.NumberText.{hex_number};
@@ -19,7 +19,7 @@ impl fmt::Display for HexNumber {
     }
 }
 
-/// An ether type with its description.
+/// An ether type, shown with its description where it has one.
 #[derive(Clone, Copy)]
 pub(crate) struct ShownEtherType(pub EtherType);
 
@@ -37,7 +37,7 @@ impl fmt::Display for ShownEtherType {
     }
 }
 
-/// A hardware type with its description.
+/// A hardware type, shown with its description where it has one.
 #[derive(Clone, Copy)]
 pub(crate) struct ShownArpHardwareId(pub ArpHardwareId);
 
@@ -54,5 +54,26 @@ impl fmt::Display for ShownArpHardwareId {
             Some(description) => write!(f, "{digits} ({description})"),
             None => write!(f, "{digits}"),
         }
+    }
+}
+
+#[cfg(test)]
+mod tests {
+    use super::*;
+    use std::test::Fail;
+
+    #[test]
+    fn four_digits_in_upper_case(rt: HostRuntime) -> Result<(), Fail> {
+        let rows = [
+            (0, "0x0000"),
+            (0x01AB, "0x01AB"),
+            (0x88E5, "0x88E5"),
+            (65535, "0xFFFF"),
+        ];
+        for (number, shown) in rows {
+            let hex = HexNumber(number);
+            assert_eq!(rt; format!(in rt.alloc(); "{hex}")?.as_str(), shown);
+        }
+        Ok(())
     }
 }

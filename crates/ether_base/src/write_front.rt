@@ -6,14 +6,13 @@ ghost use Rattle.ether_base.specs.WriteFront.{AnswersRest, LendsRest};
 use crate::err::{Layer, SliceWriteSpaceError};
 
 /// Writes the bytes to the front of a slice that has room for them, and hands the whole slice back.
-pub fn put<'a>(bytes: &[u8], slice: &'a mut [u8]) -> &'a mut [u8]
+pub fn put<'a, const N: usize>(bytes: [u8; N], slice: &'a mut [u8]) -> &'a mut [u8]
     ensures same_reference { result.ghost_name ≡ slice.entry.ghost_name }
-    ensures wrote { length bytes.now ≤ length slice.old → result.now ≡ bytes.now ++ drop (length bytes.now) slice.old }
-    ensures kept { length slice.old < length bytes.now → result.now ≡ slice.old }
+    ensures wrote { N ≤ length slice.old → result.now ≡ bytes.entry ++ drop N slice.old }
+    ensures kept { length slice.old < N → result.now ≡ slice.old }
 {
-    let len = bytes.len();
-    if len <= slice.len() {
-        slice[..len].copy_from_slice(bytes);
+    if let Some(front) = slice.first_chunk_mut::<N>() {
+        *front = bytes;
     }
     slice
 }

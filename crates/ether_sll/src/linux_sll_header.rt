@@ -105,8 +105,7 @@ impl LinuxSllHeader {
         ensures kept { length slice.old < 16 → result.now ≡ slice.old }
         ensures width { length (linux_sll_bytes (linux_sll_view self.now)) ≡ 16 }
     {
-        let bytes = self.to_bytes();
-        write_front::put(&bytes, slice)
+        write_front::put(self.to_bytes(), slice)
     }
 }
 

@@ -2,9 +2,10 @@
 use Rattle.std.specs.Prelude.{◌≡◌, ℕ, ◌+◌, List, length, slice_range, Option, Some, None, nat_lt, ◌&&◌, if◌then◌else◌}
 use Rattle.ether_base.specs.declared.len_source.LenSource.{LenSource}
 use Rattle.ether_base.specs.declared.len_source.LenSource.TheVariants as sources
+use Rattle.ether_base.specs.declared.err.macsec.header_error.HeaderError.{HeaderError}
 use Rattle.ether_base.specs.declared.err.macsec.header_error.HeaderError.TheVariants as contents
-use Rattle.ether_base.specs.declared.err.macsec.header_slice_error.HeaderSliceError.{HeaderSliceError}
-use Rattle.ether_base.specs.declared.err.macsec.header_slice_error.HeaderSliceError.TheVariants.{Len, Content}
+use Rattle.ether_base.specs.declared.header_slice_error.HeaderSliceError.{HeaderSliceError}
+use Rattle.ether_base.specs.declared.header_slice_error.HeaderSliceError.TheVariants.{Len, Content}
 use Rattle.ether_base.specs.Macsec.{PayloadType, SecTagFront, SecTagValue, known_payload_len, sec_tag_len, sec_tag_of}
 use Rattle.ether_base.specs.Macsec as payloads
 use Rattle.ether_base.specs.Kind as kinds
@@ -63,19 +64,19 @@ abbrev pub tag_bytes : MacsecHeaderSlice → List ℕ
 tag_bytes h = h.slice.now
 
 -- the answer of a row as an error, which counts from the slice's start
-abbrev pub IsRow : HeaderSliceError → Refusal → Type 0
+abbrev pub IsRow : HeaderSliceError HeaderError → Refusal → Type 0
 IsRow (Len e) r = (r ≡ Length e.required_len e.len e.len_source e.layer) × (e.layer_start_offset ≡ 0)
 IsRow (Content contents.UnexpectedVersion) r = r ≡ UnexpectedVersion
 IsRow (Content contents.InvalidUnmodifiedShortLen) r = r ≡ InvalidShortLen
 
 -- a slice is refused as a tag, whatever its payload
-pub record IsRefusedTag (bytes : List ℕ) (e : HeaderSliceError) : Type 0 where
+pub record IsRefusedTag (bytes : List ℕ) (e : HeaderSliceError HeaderError) : Type 0 where
   pub refusal : Refusal
   pub row : RefusesHeader sources.Slice bytes kinds.Macsec refusal
   pub is : IsRow e refusal
 
 -- a slice is refused as a tag with its payload
-pub record IsRefusedPacket (bytes : List ℕ) (e : HeaderSliceError) : Type 0 where
+pub record IsRefusedPacket (bytes : List ℕ) (e : HeaderSliceError HeaderError) : Type 0 where
   pub refusal : Refusal
   pub row : Refuses sources.Slice bytes kinds.Macsec refusal
   pub is : IsRow e refusal

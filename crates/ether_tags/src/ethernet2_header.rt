@@ -99,8 +99,7 @@ impl Ethernet2Header {
         ensures kept { length slice.old < 14 → result.now ≡ slice.old }
         ensures width { length (ethernet2_bytes (ethernet2_view self.now)) ≡ 14 }
     {
-        let bytes = self.to_bytes();
-        write_front::put(&bytes, slice)
+        write_front::put(self.to_bytes(), slice)
     }
 }
 

@@ -1,5 +1,6 @@
 //! A view of a SecTag.
 ghost use Rattle.std.specs.Prelude.{◌≡◌, ◌≤◌, length, IfOk, IfErr, slice_range};
+ghost use Rattle.ether_base.specs.declared.header_slice_error.HeaderSliceError.TheVariants.{Len};
 ghost use Rattle.ether_base.specs.declared.len_source.LenSource.TheVariants as sources;
 ghost use Rattle.ether_base.specs.Macsec.{sec_tag_front_in, sec_tag_len, sec_tag_of};
 ghost use Rattle.ether_base.specs.Header as headers;
@@ -193,7 +194,7 @@ impl<'a> MacsecHeaderSlice<'a> {
 
 /// The error of a slice that has too few bytes for a tag.
 fn cut_short(required_len: usize, len: usize) -> HeaderSliceError
-    ensures { result ≡ HeaderSliceError.Len (record { required_len = required_len; len = len; len_source = LenSource.Slice; layer = Layer.MacsecHeader; layer_start_offset = 0 }) }
+    ensures { result ≡ Len (record { required_len = required_len; len = len; len_source = LenSource.Slice; layer = Layer.MacsecHeader; layer_start_offset = 0 }) }
 {
     HeaderSliceError::Len(LenError {
         required_len,

@@ -1,6 +1,7 @@
 //! A view of a SecTag and its payload.
 ghost use Rattle.std.specs.Prelude.{◌≡◌, ◌≤◌, IfOk, IfErr, IfSome, slice_range};
 ghost use Rattle.std.specs.Option.{option_map};
+ghost use Rattle.ether_base.specs.declared.header_slice_error.HeaderSliceError.TheVariants.{Len};
 ghost use Rattle.ether_base.specs.declared.len_source.LenSource.TheVariants as sources;
 ghost use Rattle.ether_base.specs.Macsec.{known_payload_len, sec_tag_front_in, sec_tag_len, sec_tag_of};
 ghost use Rattle.ether_base.specs.Header as headers;
@@ -71,7 +72,7 @@ impl<'a> MacsecSlice<'a> {
 
 /// The error of a slice that has too few bytes for a tag and the payload that it names.
 fn cut_short(required_len: usize, len: usize) -> HeaderSliceError
-    ensures { result ≡ HeaderSliceError.Len (record { required_len = required_len; len = len; len_source = LenSource.MacsecShortLength; layer = Layer.MacsecPacket; layer_start_offset = 0 }) }
+    ensures { result ≡ Len (record { required_len = required_len; len = len; len_source = LenSource.MacsecShortLength; layer = Layer.MacsecPacket; layer_start_offset = 0 }) }
 {
     HeaderSliceError::Len(LenError {
         required_len,

@@ -1,6 +1,9 @@
 //! The errors of Linux cooked capture v1 (SLL).
 mod header_error;
-mod header_slice_error;
 
 pub use header_error::HeaderError;
-pub use header_slice_error::HeaderSliceError;
+
+/// Why a header of Linux cooked capture v1 can't be read from a slice: it is too short, or a field is not supported.
+///
+/// `Display` gives the text of the error within.
+pub type HeaderSliceError = crate::header_slice_error::HeaderSliceError<HeaderError>;

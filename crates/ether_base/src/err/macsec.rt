@@ -1,6 +1,9 @@
-//! The errors of the SecTag of IEEE 802.1AE.
+//! The errors of the MACsec SecTag (IEEE 802.1AE).
 mod header_error;
-mod header_slice_error;
 
 pub use header_error::HeaderError;
-pub use header_slice_error::HeaderSliceError;
+
+/// Why a MACsec SecTag can't be read from a slice: it is too short, or a field is not allowed.
+///
+/// `Display` gives the text of the error within.
+pub type HeaderSliceError = crate::header_slice_error::HeaderSliceError<HeaderError>;
