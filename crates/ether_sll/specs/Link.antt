@@ -1,5 +1,5 @@
 -- The packets of links by cases: their headers, their payloads, and what names these.
-use Rattle.std.specs.Prelude.{ℕ, List, length, slice_range, Option, Some, None}
+use Rattle.std.specs.Prelude.{◌≡◌, ℕ, List, length, slice_range, Option, Some, None}
 use Rattle.std.specs.Borrow.{LendsIf, MutBor, Fml}
 use Rattle.ether_base.specs.declared.len_source.LenSource.{LenSource}
 use Rattle.ether_base.specs.declared.len_source.LenSource.TheVariants as sources
@@ -84,3 +84,13 @@ link_source (link_slices.Ethernet2 f) = sources.Slice
 link_source (link_slices.LinuxSll s) = sources.Slice
 link_source (link_slices.EtherPayload p) = p.len_source
 link_source (link_slices.LinuxSllPayload p) = sources.Slice
+
+-- ---- equality
+
+-- views of one kind with the same bytes and fields
+abbrev pub SameLink : LinkSlice → LinkSlice → Type 0
+SameLink (link_slices.Ethernet2 a) (link_slices.Ethernet2 b) = a ≡ b
+SameLink (link_slices.LinuxSll a) (link_slices.LinuxSll b) = a ≡ b
+SameLink (link_slices.EtherPayload a) (link_slices.EtherPayload b) = (a.ether_type ≡ b.ether_type) × (a.len_source ≡ b.len_source) × (a.payload.now ≡ b.payload.now)
+SameLink (link_slices.LinuxSllPayload a) (link_slices.LinuxSllPayload b) = (a.protocol_type ≡ b.protocol_type) × (a.payload.now ≡ b.payload.now)
+SameLink a b = ⊥

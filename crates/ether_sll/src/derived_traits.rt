@@ -4,7 +4,7 @@ ghost use Rattle.std.specs.Prelude.{◌≡◌, ◌↔◌, IsTrue, MatchOption, O
 ghost use Rattle.std.specs.Ordering.{nat_cmp, on, then_cmp};
 ghost use Rattle.std.specs.Cmp.Lexicographic.{slice_cmp};
 ghost use Rattle.ether_base.specs.LinuxSllProtocolType.{protocol_number, protocol_place, protocol_type_of};
-ghost use Rattle.ether_sll.specs.Link.{ethernet2_header, linux_sll_header};
+ghost use Rattle.ether_sll.specs.Link.{ethernet2_header, linux_sll_header, SameLink};
 
 use crate::{
     LinkHeader, LinkSlice, LinuxSllHeader, LinuxSllHeaderSlice, LinuxSllPayloadSlice, LinuxSllSlice,
@@ -133,4 +133,10 @@ pub fn replace_linux_sll(link: &mut LinkHeader, header: LinuxSllHeader)
     if let Some(lent) = link.mut_linux_sll() {
         *lent = header;
     }
+}
+
+pub fn same_link_slice(a: &LinkSlice<'_>, b: &LinkSlice<'_>) -> bool
+    ensures { IsTrue result ↔ SameLink a.now b.now }
+{
+    *a == *b
 }

@@ -1,36 +1,21 @@
-//! The fields of a header of cooked capture, read in bytes that begin with it.
+//! The fields of a header of Linux cooked capture v1 (LINKTYPE_LINUX_SLL) in bytes that begin with one: packet type, ARPHRD_
+//! type, length of the sender's address (2 bytes each), sender's address (8 bytes) and protocol (2 bytes), in this order.
 ghost use Rattle.std.specs.Prelude.{◌≡◌, ◌+◌, ◌≤◌, length, slice_range, IfOk, IfErr};
-ghost use Rattle.ether_base.specs.Bytes.{IsBytes, number};
+ghost use Rattle.ether_base.specs.Bytes.{IsBytes, spelled};
 ghost use Rattle.ether_base.specs.LinuxSll.{linux_sll_of};
 ghost use Rattle.ether_sll.specs.LinuxSll.{HoldsLinuxSll, protocol_type_of_header, valid_address, IsRefusedContent, IsRefusedSll, linux_sll_view};
 
 use crate::LinuxSllHeader;
+use ether_base::big_endian::u16_of;
 use ether_base::err::linux_sll::{HeaderError, HeaderSliceError};
 use ether_base::err::{Layer, LenError};
 use ether_base::{ArpHardwareId, LenSource, LinuxSllPacketType, LinuxSllProtocolType};
 
-/// Two bytes as a number, the first of them the higher one.
-pub fn u16_at(bytes: &[u8], at: usize) -> u16
-    requires { at + 2 ≤ length bytes.now }
-    ensures value { result ≡ number (slice_range bytes.now at (at + 2)) }
-    ensures bytes { IsBytes (slice_range bytes.now at (at + 2)) }
-{
-    u16::from_be_bytes([bytes[at], bytes[at + 1]])
-}
+/// Where the sender's address starts.
+const ADDRESS: usize = 6;
 
-/// The eight bytes of the sender's address in their order on the wire.
-pub fn address_in(header: &[u8]) -> [u8; 8]
-    requires { 14 ≤ length header.now }
-    ensures value { result ≡ slice_range header.now 6 14 }
-    ensures bytes { IsBytes result }
-{
-    [
-        header[6], header[7], header[8], header[9], header[10], header[11], header[12], header[13],
-    ]
-}
-
-/// Whether a slice begins with a header, and what refuses it otherwise.
-pub fn test(slice: &[u8]) -> Result<(), HeaderSliceError>
+/// Tests that a slice begins with a header whose contents are supported.
+pub fn require_header(slice: &[u8]) -> Result<(), HeaderSliceError>
     ensures holds { IfOk result (λ _. HoldsLinuxSll slice.now) }
     ensures refused { IfErr result (IsRefusedSll slice.now) }
 {
@@ -43,59 +28,81 @@ pub fn test(slice: &[u8]) -> Result<(), HeaderSliceError>
             layer_start_offset: 0,
         }));
     }
-    match test_content(slice) {
+    match require_content(slice) {
         Ok(()) => Ok(()),
         Err(error) => Err(HeaderSliceError::Content(error)),
     }
 }
 
-/// Whether the packet type and the hardware type are supported. The packet type is tested first.
-pub fn test_content(bytes: &[u8]) -> Result<(), HeaderError>
+/// Tests that the packet type, and then the hardware type, are supported.
+pub fn require_content(bytes: &[u8]) -> Result<(), HeaderError>
     requires { 16 ≤ length bytes.now }
     ensures holds { IfOk result (λ _. HoldsLinuxSll bytes.now) }
     ensures refused { IfErr result (IsRefusedContent bytes.now) }
 {
-    LinuxSllPacketType::try_from(u16_at(bytes, 0))?;
-    let hardware = ArpHardwareId(u16_at(bytes, 2));
-    LinuxSllProtocolType::try_from((hardware, u16_at(bytes, 14)))?;
+    LinuxSllPacketType::try_from(packet_number(bytes))?;
+    LinuxSllProtocolType::try_from((arp_hardware_type(bytes), protocol_number(bytes)))?;
     Ok(())
 }
 
-/// The packet type of bytes that were tested.
-pub fn packet_type_in(bytes: &[u8]) -> LinuxSllPacketType
+/// The packet type.
+pub fn packet_type(bytes: &[u8]) -> LinuxSllPacketType
     requires { HoldsLinuxSll bytes.now }
     ensures { result ≡ (linux_sll_of bytes.now).packet_type }
 {
-    match LinuxSllPacketType::try_from(u16_at(bytes, 0)) {
+    match LinuxSllPacketType::try_from(packet_number(bytes)) {
         Ok(packet_type) => packet_type,
         Err(_) => unreachable!(),
     }
 }
 
-/// The protocol type of bytes that were tested.
-pub fn protocol_type_in(bytes: &[u8]) -> LinuxSllProtocolType
+/// The ARPHRD_ type of the device.
+pub fn arp_hardware_type(bytes: &[u8]) -> ArpHardwareId
+    requires { 16 ≤ length bytes.now }
+    ensures { result.0 ≡ (linux_sll_of bytes.now).hardware_type }
+{
+    ArpHardwareId(u16_of([bytes[2], bytes[3]]))
+}
+
+/// The length of the sender's address in bytes, which may be more than there is room for.
+pub fn sender_address_valid_length(bytes: &[u8]) -> u16
+    requires { 16 ≤ length bytes.now }
+    ensures { result ≡ (linux_sll_of bytes.now).address_len }
+{
+    u16_of([bytes[4], bytes[5]])
+}
+
+/// The 8 bytes of the sender's address, used or not.
+pub fn sender_address_full(bytes: &[u8]) -> [u8; 8]
+    requires { 16 ≤ length bytes.now }
+    ensures { result ≡ spelled 8 (linux_sll_of bytes.now).address }
+{
+    address(bytes)
+}
+
+/// As many bytes of the sender's address as its length says, at most 8.
+pub fn sender_address(bytes: &[u8]) -> &[u8]
+    requires { 16 ≤ length bytes.now }
+    ensures { result.now ≡ valid_address bytes.now }
+{
+    let valid = sender_address_valid_length(bytes);
+    let len = if valid < 8 { usize::from(valid) } else { 8 };
+    &bytes[ADDRESS..ADDRESS + len]
+}
+
+/// The protocol type, in the variant that the hardware type gives it.
+pub fn protocol_type(bytes: &[u8]) -> LinuxSllProtocolType
     requires { HoldsLinuxSll bytes.now }
     ensures { result ≡ protocol_type_of_header bytes.now }
 {
-    let hardware = ArpHardwareId(u16_at(bytes, 2));
-    match LinuxSllProtocolType::try_from((hardware, u16_at(bytes, 14))) {
+    match LinuxSllProtocolType::try_from((arp_hardware_type(bytes), protocol_number(bytes))) {
         Ok(protocol_type) => protocol_type,
         Err(_) => unreachable!(),
     }
 }
 
-/// The valid bytes of the sender's address.
-pub fn sender_address_in(bytes: &[u8]) -> &[u8]
-    requires { 16 ≤ length bytes.now }
-    ensures { result.now ≡ valid_address bytes.now }
-{
-    let valid = u16_at(bytes, 4);
-    let len = if valid < 8 { usize::from(valid) } else { 8 };
-    &bytes[6..6 + len]
-}
-
-/// The header of bytes that were tested.
-pub fn header_in(bytes: &[u8]) -> LinuxSllHeader
+/// All fields.
+pub fn header(bytes: &[u8]) -> LinuxSllHeader
     requires { HoldsLinuxSll bytes.now }
     ensures view { linux_sll_view result ≡ linux_sll_of bytes.now }
     ensures address { result.sender_address ≡ slice_range bytes.now 6 14 }
@@ -103,10 +110,37 @@ pub fn header_in(bytes: &[u8]) -> LinuxSllHeader
     ensures bytes { IsBytes bytes.now }
 {
     LinuxSllHeader {
-        packet_type: packet_type_in(bytes),
-        arp_hrd_type: ArpHardwareId(u16_at(bytes, 2)),
-        sender_address_valid_length: u16_at(bytes, 4),
-        sender_address: address_in(bytes),
-        protocol_type: protocol_type_in(bytes),
+        packet_type: packet_type(bytes),
+        arp_hrd_type: arp_hardware_type(bytes),
+        sender_address_valid_length: sender_address_valid_length(bytes),
+        sender_address: address(bytes),
+        protocol_type: protocol_type(bytes),
     }
+}
+
+/// The packet type as a number.
+fn packet_number(bytes: &[u8]) -> u16
+    requires { 16 ≤ length bytes.now }
+    ensures { result ≡ (linux_sll_of bytes.now).packet_type }
+{
+    u16_of([bytes[0], bytes[1]])
+}
+
+/// The protocol type as a number.
+fn protocol_number(bytes: &[u8]) -> u16
+    requires { 16 ≤ length bytes.now }
+    ensures { result ≡ (linux_sll_of bytes.now).protocol }
+{
+    u16_of([bytes[14], bytes[15]])
+}
+
+/// The 8 bytes of the sender's address in their order on the wire.
+fn address(bytes: &[u8]) -> [u8; 8]
+    requires { 16 ≤ length bytes.now }
+    ensures value { result ≡ slice_range bytes.now 6 14 }
+    ensures bytes { IsBytes result }
+{
+    [
+        bytes[6], bytes[7], bytes[8], bytes[9], bytes[10], bytes[11], bytes[12], bytes[13],
+    ]
 }

@@ -13,8 +13,7 @@ ghost use Rattle.ether_base.specs.Refusal.{Accepts};
 ghost use Rattle.ether_base.specs.WriteFront.{AnswersRest, LendsRest};
 ghost use Rattle.ether_sll.specs.LinuxSll.{AnswersHeader, protocol_type_of_header, IsRefusedSll, linux_sll_view};
 
-use crate::LinuxSllHeaderSlice;
-use crate::linux_sll_fields::{header_in, test_content};
+use crate::{LinuxSllHeaderSlice, linux_sll_fields};
 use ether_base::err::linux_sll::{HeaderError, HeaderSliceError};
 use ether_base::err::{Layer, SliceWriteSpaceError};
 use ether_base::{ArpHardwareId, LinuxSllPacketType, LinuxSllProtocolType, write_front};
@@ -59,8 +58,8 @@ impl LinuxSllHeader {
         ensures answers { AnswersHeader bytes result }
         ensures inverse { IfOk result (λ h. linux_sll_bytes (linux_sll_view h) ≡ bytes) }
     {
-        test_content(&bytes)?;
-        Ok(header_in(&bytes))
+        linux_sll_fields::require_content(&bytes)?;
+        Ok(linux_sll_fields::header(&bytes))
     }
 
     /// The length of the header in bytes, which is [`LinuxSllHeader::LEN`].

@@ -12,10 +12,7 @@ ghost use Rattle.ether_base.specs.Kind as kinds;
 ghost use Rattle.ether_base.specs.Refusal.{Accepts};
 ghost use Rattle.ether_sll.specs.LinuxSll.{protocol_type_of_header, valid_address, IsRefusedSll, linux_sll_view};
 
-use crate::LinuxSllHeader;
-use crate::linux_sll_fields::{
-    address_in, header_in, packet_type_in, protocol_type_in, sender_address_in, test, u16_at,
-};
+use crate::{LinuxSllHeader, linux_sll_fields};
 use ether_base::err::linux_sll::HeaderSliceError;
 use ether_base::{ArpHardwareId, LinuxSllPacketType, LinuxSllProtocolType};
 use std::alloc::AllocError;
@@ -50,7 +47,7 @@ impl<'a> LinuxSllHeaderSlice<'a> {
         ensures value { IfOk result (λ h. Means slice.now (headers.LinuxSll (linux_sll_of h))) }
         ensures refused { IfErr result (IsRefusedSll slice.now) }
     {
-        test(slice)?;
+        linux_sll_fields::require_header(slice)?;
         Ok(LinuxSllHeaderSlice {
             slice: &slice[..LinuxSllHeader::LEN],
         })
@@ -68,42 +65,42 @@ impl<'a> LinuxSllHeaderSlice<'a> {
     pub fn packet_type(&self) -> LinuxSllPacketType
         ensures { result ≡ (linux_sll_of self.now).packet_type }
     {
-        packet_type_in(self.slice)
+        linux_sll_fields::packet_type(self.slice)
     }
 
     /// The type of the device that the packet was seen on, as Linux numbers it.
     pub fn arp_hardware_type(&self) -> ArpHardwareId
         ensures { result.0 ≡ (linux_sll_of self.now).hardware_type }
     {
-        ArpHardwareId(u16_at(self.slice, 2))
+        linux_sll_fields::arp_hardware_type(self.slice)
     }
 
     /// The length of the sender's address in bytes, which may be more than the header has room for.
     pub fn sender_address_valid_length(&self) -> u16
         ensures { result ≡ (linux_sll_of self.now).address_len }
     {
-        u16_at(self.slice, 4)
+        linux_sll_fields::sender_address_valid_length(self.slice)
     }
 
     /// The 8 bytes that hold the sender's address, with those that are no part of it.
     pub fn sender_address_full(&self) -> [u8; 8]
         ensures { result ≡ spelled 8 (linux_sll_of self.now).address }
     {
-        address_in(self.slice)
+        linux_sll_fields::sender_address_full(self.slice)
     }
 
     /// The sender's address, cut off after 8 bytes where it is longer.
     pub fn sender_address(&self) -> &'a [u8]
         ensures { result.now ≡ valid_address self.now }
     {
-        sender_address_in(self.slice)
+        linux_sll_fields::sender_address(self.slice)
     }
 
     /// The protocol of what follows the header.
     pub fn protocol_type(&self) -> LinuxSllProtocolType
         ensures { result ≡ protocol_type_of_header self.now }
     {
-        protocol_type_in(self.slice)
+        linux_sll_fields::protocol_type(self.slice)
     }
 
     /// The header as a value.
@@ -111,7 +108,7 @@ impl<'a> LinuxSllHeaderSlice<'a> {
         ensures view { linux_sll_view result ≡ linux_sll_of self.now }
         ensures protocol { result.protocol_type ≡ protocol_type_of_header self.now }
     {
-        header_in(self.slice)
+        linux_sll_fields::header(self.slice)
     }
 }
 
