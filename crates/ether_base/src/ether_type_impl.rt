@@ -8,14 +8,17 @@ use std::fmt;
 
 /// An ether type (IEEE 802, 9.2): the 16 bits that name the protocol of what follows a header.
 ///
-/// Every number is one. Ether types begin at 0x0600: smaller values are IEEE 802.3 lengths (802.3, 3.2.6), and are
+/// Any number is one. Ether types begin at 0x0600: smaller values are IEEE 802.3 lengths (802.3, 3.2.6), and are
 /// handed on as they are. `Debug` shows `0x` and four upper-case digits, and behind them the description of a number
 /// that has one, in parentheses.
 ///
 /// ```
-/// assert_eq!(EtherType::from(0x0806), EtherType::ARP);
-/// assert_eq!(EtherType::ARP.name(), Some("Address Resolution Protocol (ARP)"));
-/// assert_eq!(u16::from(EtherType(0x05DC)), 1500);
+/// assert_eq!(rt; EtherType::from(0x0806), EtherType::ARP);
+/// assert_eq!(rt;
+///     EtherType::ARP.name(),
+///     Some("Address Resolution Protocol (ARP)")
+/// );
+/// assert_eq!(rt; EtherType(1500).name(), None);
 /// ```
 #[derive(Clone, Copy, PartialEq, Eq, PartialOrd, Ord, Hash, Default)]
 pub struct EtherType(pub u16);
@@ -46,7 +49,7 @@ impl EtherType {
     /// The outer VLAN tag of QinQ, as some devices sent it before service tags had a number.
     pub const VLAN_DOUBLE_TAGGED_FRAME: EtherType = EtherType(0x9100);
 
-    /// The description of the number, `None` where it has none.
+    /// The description of the ether type, if it is one of the constants.
     #[tactic(auto, unfolding(crate::specs::EtherType::ether_type_description))]
     pub fn name(&self) -> Option<&'static str>
         ensures { option_copied result ≡ ether_type_description self.now.0 }
@@ -96,6 +99,16 @@ mod tests {
     use super::*;
     use crate::ether_type;
     use std::test::Fail;
+
+    #[test]
+    fn the_example(rt: HostRuntime) {
+        assert_eq!(rt; EtherType::from(0x0806), EtherType::ARP);
+        assert_eq!(rt;
+            EtherType::ARP.name(),
+            Some("Address Resolution Protocol (ARP)")
+        );
+        assert_eq!(rt; EtherType(1500).name(), None);
+    }
 
     #[test]
     fn every_ether_type_with_a_name(rt: HostRuntime) -> Result<(), Fail> {
@@ -169,7 +182,6 @@ mod tests {
             format!(in rt.alloc(); "{:?}", EtherType(0x01AB))?.as_str(),
             "0x01AB"
         );
-        assert_eq!(rt; EtherType::default(), EtherType(0));
         Ok(())
     }
 }
