@@ -4,6 +4,7 @@ use Rattle.std.specs.Prelude.{slice_range, Option, Some, None}
 use Rattle.std.proofs.lemmas.Bool.{cases_lt, cases_eq}
 use Rattle.ether_base.specs.declared.len_source.LenSource.{LenSource}
 use Rattle.ether_base.specs.declared.len_source.LenSource.TheVariants as sources
+use Rattle.ether_base.specs.declared.err.layer.Layer.{Layer}
 use Rattle.ether_base.specs.declared.err.layer.Layer.TheVariants as layers
 use Rattle.ether_base.specs.Bytes.{IsBytes, number}
 use Rattle.ether_base.specs.LinuxSll.{LinuxSllValue, BeginsLinuxSll, is_supported}
@@ -262,3 +263,27 @@ one_row bound bytes kinds.Arp r s (rows.arp a) (rows.arp_addresses u k b lt) = a
 one_row bound bytes kinds.Arp r s (rows.arp_addresses t k a lt) (rows.arp b) = absurd (omega arith)
 one_row bound bytes kinds.Arp r s (rows.arp_addresses t k a lt) (rows.arp_addresses u l b lu) =
     ap (λ (x : ArpFront). Length (arp_len x) (length bytes) sources.ArpAddrLengths layers.Arp) (one_arp_front bytes t u a b)
+
+-- ---- rows that refuse a length
+
+pub row_len : (bound source : LenSource) (bytes : List ℕ) (kind : Kind) (required n : ℕ) (layer : Layer) → Refuses bound bytes kind (Length required n source layer) → n ≡ length bytes
+row_len bound source bytes kind required n layer (rows.ethernet2 lt) = refl
+row_len bound source bytes kind required n layer (rows.ethernet2_fcs lt) = refl
+row_len bound source bytes kind required n layer (rows.linux_sll lt) = refl
+row_len bound source bytes kind required n layer (rows.vlan lt) = refl
+row_len bound source bytes kind required n layer (rows.macsec lt) = refl
+row_len bound source bytes kind required n layer (rows.macsec_header t six begins version short lt) = refl
+row_len bound source bytes kind required n layer (rows.macsec_packet t p begins version known whole lt) = refl
+row_len bound source bytes kind required n layer (rows.arp lt) = refl
+row_len bound source bytes kind required n layer (rows.arp_addresses a eight begins lt) = refl
+
+pub row_short : (bound source : LenSource) (bytes : List ℕ) (kind : Kind) (required n : ℕ) (layer : Layer) → Refuses bound bytes kind (Length required n source layer) → n < required
+row_short bound source bytes kind required n layer (rows.ethernet2 lt) = lt
+row_short bound source bytes kind required n layer (rows.ethernet2_fcs lt) = lt
+row_short bound source bytes kind required n layer (rows.linux_sll lt) = lt
+row_short bound source bytes kind required n layer (rows.vlan lt) = lt
+row_short bound source bytes kind required n layer (rows.macsec lt) = lt
+row_short bound source bytes kind required n layer (rows.macsec_header t six begins version short lt) = lt
+row_short bound source bytes kind required n layer (rows.macsec_packet t p begins version known whole lt) = lt
+row_short bound source bytes kind required n layer (rows.arp lt) = lt
+row_short bound source bytes kind required n layer (rows.arp_addresses a eight begins lt) = lt

@@ -1,5 +1,6 @@
 -- The laws of the wire formats.
 use Rattle.std.specs.Prelude.{◌≡◌, ◌⊎◌, ℕ, ◌<◌, ◌≤◌, ◌^◌, List, ◌++◌, length}
+use Rattle.ether_base.specs.declared.err.layer.Layer.{Layer}
 use Rattle.ether_base.specs.declared.len_source.LenSource.{LenSource}
 use Rattle.ether_base.specs.Bytes.{IsBytes, number, spelled}
 use Rattle.ether_base.specs.Ethernet2.{ethernet2_of}
@@ -9,21 +10,28 @@ use Rattle.ether_base.specs.Macsec.{sec_tag_front_in, sec_tag_len, sec_tag_of}
 use Rattle.ether_base.specs.Kind.{Kind}
 use Rattle.ether_base.specs.Header.{Header, kind_of, header_len, header_bytes, Means, FitsHeader}
 use Rattle.ether_base.specs.Header as headers
-use Rattle.ether_base.specs.Refusal.{Refusal, Refuses, Accepts}
+use Rattle.ether_base.specs.Refusal.{Refusal, Length, Refuses, Accepts}
 
--- k bytes have one number, and each number below 256 ^ k is that of one list of k bytes
+-- k bytes have one number, and each number below 256 ^ k is that of the k bytes that spell it
 pub record NumbersAreBytes : Type 0 where
   pub read : (bytes : List ℕ) → IsBytes bytes → spelled (length bytes) (number bytes) ≡ bytes
   pub written : (k n : ℕ) → n < 256 ^ k → number (spelled k n) ≡ n
   pub below : (bytes : List ℕ) → IsBytes bytes → number bytes < 256 ^ length bytes
+  pub len : (k n : ℕ) → length (spelled k n) ≡ k
+  pub bytes : (k n : ℕ) → IsBytes (spelled k n)
 
 -- at most one row of a kind holds, and it is decided whether one does
 pub record RowsAreApart : Type 0 where
   pub one : (bound : LenSource) (bytes : List ℕ) (kind : Kind) (r s : Refusal) → Refuses bound bytes kind r → Refuses bound bytes kind s → r ≡ s
   pub decided : (bound : LenSource) (bytes : List ℕ) (kind : Kind) → IsBytes bytes → ((r : Refusal) × Refuses bound bytes kind r) ⊎ Accepts bound bytes kind
 
--- Accepted bytes mean a header, and a list means at most one of a kind. Of fourteen bytes, of four, of
--- sixteen, and of as many as the front of a security tag tells it is the one that their parts tell.
+-- a row that refuses a length says how many bytes there are, and that more are required
+pub record LengthRowsAreShort : Type 0 where
+  pub len : (bound source : LenSource) (bytes : List ℕ) (kind : Kind) (required n : ℕ) (layer : Layer) → Refuses bound bytes kind (Length required n source layer) → n ≡ length bytes
+  pub short : (bound source : LenSource) (bytes : List ℕ) (kind : Kind) (required n : ℕ) (layer : Layer) → Refuses bound bytes kind (Length required n source layer) → n < required
+
+-- Accepted bytes mean a header, and a list means at most one of a kind. Of fourteen bytes, of four, of sixteen, and of as many as
+-- the front of a SecTag tells it is the one whose fields stand in their places.
 pub record HeadersAreMeant : Type 0 where
   pub some : (bound : LenSource) (bytes : List ℕ) (kind : Kind) → IsBytes bytes → Accepts bound bytes kind → (h : Header) × (kind_of h ≡ kind) × Means bytes h
   pub one : (bytes : List ℕ) (h k : Header) → kind_of h ≡ kind_of k → Means bytes h → Means bytes k → h ≡ k

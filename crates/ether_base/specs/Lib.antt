@@ -20,6 +20,7 @@ pub mod LenSource
 pub mod Layer
 pub mod ValueType
 pub mod Orders
+pub mod Hashes
 pub mod LengthErrors
 pub mod ArpErrors
 pub mod LinuxSllErrors

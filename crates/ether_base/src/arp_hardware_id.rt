@@ -1,4 +1,4 @@
-//! The hardware type of ARP and of the cooked capture.
+//! The hardware types of ARP and of Linux cooked capture.
 ghost use Rattle.std.specs.Prelude.{◌≡◌};
 ghost use Rattle.std.specs.Option.{option_copied};
 ghost use Rattle.ether_base.specs.NumberText.{description_in};
@@ -7,12 +7,18 @@ ghost use Rattle.ether_base.specs.ArpHardwareId.{arp_hardware_description, assig
 use crate::number_text::ShownArpHardwareId;
 use std::fmt;
 
-/// A hardware type: 16 bits that say what kind of link a packet was sent on (RFC 826, and the `ARPHRD_`
-/// numbers of Linux).
+/// A hardware type: 16 bits that say what kind of link a packet was sent on (RFC 826, and the `ARPHRD_` numbers of
+/// Linux).
 ///
-/// Every number is one; those below have a name. `Debug` shows a number that has a description in decimal
-/// digits with the description in parentheses, `VOID` and `NONE` likewise in hexadecimal digits, and any
-/// other number as `0x` and four upper-case digits.
+/// Any number is one; those with a description are constants. `Debug` shows a number with a description in decimal
+/// digits and the description in parentheses, `VOID` and `NONE` in hexadecimal digits instead, and any other number
+/// as `0x` and four upper-case digits.
+///
+/// ```
+/// assert_eq!(rt; ArpHardwareId::from(1), ArpHardwareId::ETHERNET);
+/// assert_eq!(rt; ArpHardwareId::ETHERNET.name(), Some("Ethernet"));
+/// assert_eq!(rt; ArpHardwareId(39).name(), None);
+/// ```
 #[derive(Clone, Copy, PartialEq, Eq, PartialOrd, Ord, Hash, Default)]
 pub struct ArpHardwareId(pub u16);
 
@@ -296,7 +302,7 @@ impl ArpHardwareId {
     /// Zero header length.
     pub const NONE: ArpHardwareId = ArpHardwareId(65534);
 
-    /// The description of the number, `None` where it has none.
+    /// The description of the hardware type, if it is one of the constants.
     pub fn name(&self) -> Option<&'static str>
         ensures { option_copied result ≡ arp_hardware_description self.now.0 }
     {

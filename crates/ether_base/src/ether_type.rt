@@ -1,184 +1,26 @@
-//! The number that says which protocol follows a header, and the ether types by name.
-ghost use Rattle.std.specs.Prelude.{◌≡◌};
-ghost use Rattle.std.specs.Option.{option_copied};
-ghost use Rattle.ether_base.specs.EtherType.{ether_type_description};
+//! The ether types by name, each also a constant of [`EtherType`](crate::EtherType).
+use crate::EtherType;
 
-use crate::number_text::ShownEtherType;
-use std::fmt;
+/// Internet Protocol version 4, 0x0800.
+pub const IPV4: EtherType = EtherType::IPV4;
 
-/// An ether type (IEEE 802): 16 bits that name the protocol of what follows.
-///
-/// Every number is one; those below have a name. `Debug` shows `0x` and four upper-case digits, and behind
-/// them the description of a number that has one, in parentheses.
-#[derive(Clone, Copy, PartialEq, Eq, PartialOrd, Ord, Hash, Default)]
-pub struct EtherType(pub u16);
+/// Internet Protocol version 6, 0x86DD.
+pub const IPV6: EtherType = EtherType::IPV6;
 
-/// The numbers by name are those of the module [`crate::ether_type`].
-impl EtherType {
-    pub const IPV4: EtherType = IPV4;
+/// Address Resolution Protocol, 0x0806.
+pub const ARP: EtherType = EtherType::ARP;
 
-    pub const IPV6: EtherType = IPV6;
+/// Wake on LAN, 0x0842.
+pub const WAKE_ON_LAN: EtherType = EtherType::WAKE_ON_LAN;
 
-    pub const ARP: EtherType = ARP;
+/// A customer VLAN tag, C-TAG, 0x8100.
+pub const VLAN_TAGGED_FRAME: EtherType = EtherType::VLAN_TAGGED_FRAME;
 
-    pub const WAKE_ON_LAN: EtherType = WAKE_ON_LAN;
+/// A service VLAN tag, S-TAG, 0x88A8.
+pub const PROVIDER_BRIDGING: EtherType = EtherType::PROVIDER_BRIDGING;
 
-    pub const VLAN_TAGGED_FRAME: EtherType = VLAN_TAGGED_FRAME;
+/// A MACsec SecTag, 0x88E5.
+pub const MACSEC: EtherType = EtherType::MACSEC;
 
-    pub const PROVIDER_BRIDGING: EtherType = PROVIDER_BRIDGING;
-
-    pub const MACSEC: EtherType = MACSEC;
-
-    pub const VLAN_DOUBLE_TAGGED_FRAME: EtherType = VLAN_DOUBLE_TAGGED_FRAME;
-
-    /// The description of the number, `None` where it has none.
-    #[tactic(auto, unfolding(crate::specs::EtherType::ether_type_description))]
-    pub fn name(&self) -> Option<&'static str>
-        ensures { option_copied result ≡ ether_type_description self.now.0 }
-    {
-        match *self {
-            EtherType::IPV4 => Some("Internet Protocol version 4 (IPv4)"),
-            EtherType::IPV6 => Some("Internet Protocol Version 6 (IPV6)"),
-            EtherType::ARP => Some("Address Resolution Protocol (ARP)"),
-            EtherType::WAKE_ON_LAN => Some("Wake on LAN"),
-            EtherType::VLAN_TAGGED_FRAME => {
-                Some("Customer VLAN Tag (C-TAG) as defined in IEEE Std 802.1Q")
-            }
-            EtherType::PROVIDER_BRIDGING => {
-                Some("IEEE Std 802.1Q - Service VLAN tag identifier (S-Tag)")
-            }
-            EtherType::MACSEC => Some("IEEE Std 802.1AE - Media Access Control Security"),
-            EtherType::VLAN_DOUBLE_TAGGED_FRAME => Some("VLAN Double Tagged Frame"),
-            _ => None,
-        }
-    }
-}
-
-/// Internet Protocol version 4.
-pub const IPV4: EtherType = EtherType(0x0800);
-
-/// Internet Protocol version 6.
-pub const IPV6: EtherType = EtherType(0x86DD);
-
-/// Address Resolution Protocol (RFC 826).
-pub const ARP: EtherType = EtherType(0x0806);
-
-/// Wake on LAN.
-pub const WAKE_ON_LAN: EtherType = EtherType(0x0842);
-
-/// A customer VLAN tag (IEEE 802.1Q).
-pub const VLAN_TAGGED_FRAME: EtherType = EtherType(0x8100);
-
-/// A service VLAN tag (IEEE 802.1Q).
-pub const PROVIDER_BRIDGING: EtherType = EtherType(0x88A8);
-
-/// A security tag (IEEE 802.1AE).
-pub const MACSEC: EtherType = EtherType(0x88E5);
-
-/// A VLAN tag by the number that was in use before service tags had one.
-pub const VLAN_DOUBLE_TAGGED_FRAME: EtherType = EtherType(0x9100);
-
-impl From<u16> for EtherType {
-    ghost from_gives = { λ number ether_type. ether_type.0 ≡ number };
-
-    fn from(number: u16) -> EtherType {
-        EtherType(number)
-    }
-}
-
-impl From<EtherType> for u16 {
-    ghost from_gives = { λ ether_type number. number ≡ ether_type.0 };
-
-    fn from(ether_type: EtherType) -> u16 {
-        ether_type.0
-    }
-}
-
-impl fmt::Debug for EtherType {
-    fn fmt<W: fmt::Write>(&self, f: &mut fmt::Formatter<W>) -> fmt::Result {
-        write!(f, "{}", ShownEtherType(*self))
-    }
-}
-
-#[cfg(test)]
-mod tests {
-    use super::*;
-    use crate::ether_type;
-    use std::test::Fail;
-
-    #[test]
-    fn every_ether_type_with_a_name(rt: HostRuntime) -> Result<(), Fail> {
-        let alloc = rt.alloc();
-        let rows = [
-            (
-                0x0800,
-                EtherType::IPV4,
-                ether_type::IPV4,
-                "Internet Protocol version 4 (IPv4)",
-            ),
-            (
-                0x86DD,
-                EtherType::IPV6,
-                ether_type::IPV6,
-                "Internet Protocol Version 6 (IPV6)",
-            ),
-            (
-                0x0806,
-                EtherType::ARP,
-                ether_type::ARP,
-                "Address Resolution Protocol (ARP)",
-            ),
-            (
-                0x0842,
-                EtherType::WAKE_ON_LAN,
-                ether_type::WAKE_ON_LAN,
-                "Wake on LAN",
-            ),
-            (
-                0x8100,
-                EtherType::VLAN_TAGGED_FRAME,
-                ether_type::VLAN_TAGGED_FRAME,
-                "Customer VLAN Tag (C-TAG) as defined in IEEE Std 802.1Q",
-            ),
-            (
-                0x88A8,
-                EtherType::PROVIDER_BRIDGING,
-                ether_type::PROVIDER_BRIDGING,
-                "IEEE Std 802.1Q - Service VLAN tag identifier (S-Tag)",
-            ),
-            (
-                0x88E5,
-                EtherType::MACSEC,
-                ether_type::MACSEC,
-                "IEEE Std 802.1AE - Media Access Control Security",
-            ),
-            (
-                0x9100,
-                EtherType::VLAN_DOUBLE_TAGGED_FRAME,
-                ether_type::VLAN_DOUBLE_TAGGED_FRAME,
-                "VLAN Double Tagged Frame",
-            ),
-        ];
-        for (number, constant, by_name, description) in rows {
-            assert_eq!(rt; EtherType::from(number), constant, "{number}");
-            assert_eq!(rt; u16::from(by_name), number, "{number}");
-            assert_eq!(rt; constant.name(), Some(description), "{number}");
-            assert_eq!(rt;
-                format!(in alloc; "{constant:?}")?.as_str(),
-                format!(in alloc; "0x{number:04X} ({description})")?.as_str()
-            );
-        }
-        Ok(())
-    }
-
-    #[test]
-    fn a_number_without_a_name(rt: HostRuntime) -> Result<(), Fail> {
-        assert_eq!(rt; EtherType(0x1234).name(), None);
-        assert_eq!(rt;
-            format!(in rt.alloc(); "{:?}", EtherType(0x01AB))?.as_str(),
-            "0x01AB"
-        );
-        assert_eq!(rt; EtherType::default(), EtherType(0));
-        Ok(())
-    }
-}
+/// The older outer VLAN tag of QinQ, 0x9100.
+pub const VLAN_DOUBLE_TAGGED_FRAME: EtherType = EtherType::VLAN_DOUBLE_TAGGED_FRAME;

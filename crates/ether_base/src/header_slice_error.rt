@@ -19,8 +19,8 @@ pub enum HeaderSliceError<E> {
 }
 
 impl<E> HeaderSliceError<E> {
-    /// The same error of a header that starts `offset` bytes later: for a caller that handed on the tail of a
-    /// slice and speaks of the whole. An error of the contents names no place and stays as it is.
+    /// The error with the header's start moved by `offset` bytes: for a caller that passed on the tail of a slice, and
+    /// reports places in the whole. An error of the contents names no place, and stays as it is.
     pub fn add_slice_offset(self, offset: usize) -> HeaderSliceError<E>
         requires { FitsMoved offset self }
         ensures { result ≡ moved offset self }

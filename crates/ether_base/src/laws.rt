@@ -1,9 +1,9 @@
-//! The laws of the wire formats and of the orders. Each is the contract of a function that does nothing: what its clause says holds for
-//! every list of bytes, and for every two values.
-ghost use Rattle.ether_base.specs.Laws.{NumbersAreBytes, RowsAreApart, HeadersAreMeant, BytesMeanTheirHeader};
+//! The laws of the wire formats and of the orders. Each is the contract of a function that does nothing: its clause holds for every list
+//! of bytes and for every two values.
+ghost use Rattle.ether_base.specs.Laws.{NumbersAreBytes, RowsAreApart, LengthRowsAreShort, HeadersAreMeant, BytesMeanTheirHeader};
 ghost use Rattle.ether_base.specs.Orders.{OrdersAreByVariants};
 
-/// A list of bytes has one number, and each number that has room in k bytes is that of one list of k bytes.
+/// A list of bytes has one number, and each number that has room in k bytes is that of the k bytes that spell it.
 pub fn numbers_are_bytes()
     ensures { NumbersAreBytes }
 {}
@@ -11,6 +11,11 @@ pub fn numbers_are_bytes()
 /// At most one row of the table of refusals holds for a kind of unit, and it is decided whether one does.
 pub fn rows_are_apart()
     ensures { RowsAreApart }
+{}
+
+/// A length error says how many bytes there are, and that more are required.
+pub fn length_rows_are_short()
+    ensures { LengthRowsAreShort }
 {}
 
 /// What no row refuses means a header, and a list means at most one header of a kind.

@@ -2,12 +2,18 @@
 ghost use Rattle.std.specs.Prelude.{◌≡◌};
 ghost use Rattle.ether_base.specs.LenSource.{len_source_name};
 
-/// What a length was taken from: the slice that was handed in, or a length field of a header.
+/// Where a length was taken from: the slice that was passed in, or a length field of a header.
+///
+/// Sources are ordered as they are listed.
+///
+/// ```
+/// assert!(rt; LenSource::Slice < LenSource::MacsecShortLength);
+/// ```
 #[derive(Clone, Copy, PartialEq, Eq, PartialOrd, Ord, Hash, Debug)]
 pub enum LenSource {
     /// The length of the slice.
     Slice,
-    /// The short length of a SecTag (IEEE 802.1AE).
+    /// The short length of a MACsec SecTag (IEEE 802.1AE, 9.7).
     MacsecShortLength,
     /// The total length of an IPv4 header.
     Ipv4HeaderTotalLen,
@@ -17,7 +23,7 @@ pub enum LenSource {
     UdpHeaderLen,
     /// A length from a TCP header.
     TcpHeaderLen,
-    /// The two address sizes of an ARP packet (RFC 826).
+    /// The two address lengths of an ARP packet (RFC 826).
     ArpAddrLengths,
 }
 
@@ -45,6 +51,11 @@ impl LenSource {
 #[cfg(test)]
 mod tests {
     use super::*;
+
+    #[test]
+    fn the_example(rt: HostRuntime) {
+        assert!(rt; LenSource::Slice < LenSource::MacsecShortLength);
+    }
 
     #[test]
     fn every_source_in_order(rt: HostRuntime) {

@@ -7,10 +7,16 @@ use crate::number_text::HexNumber;
 use std::fmt;
 use std::marker::Model;
 
-/// A number that Linux gives to a protocol without an ether type: one of 28 numbers below 0x0600 (`ETH_P_` in
-/// its `if_ether.h`).
+/// A number below 0x0600 that Linux gives to a protocol without an ether type, one of 28 (`ETH_P_` in its
+/// `if_ether.h`).
 ///
 /// `Debug` shows `0x` and four upper-case digits, and the description in parentheses.
+///
+/// ```
+/// let read = LinuxNonstandardEtherType::try_from(0x0C);
+/// assert_eq!(rt; read, Ok(LinuxNonstandardEtherType::CAN));
+/// assert_eq!(rt; LinuxNonstandardEtherType::try_from(0x0800), Err(()));
+/// ```
 #[derive(Clone, Copy, PartialEq, Eq, PartialOrd, Ord, Hash)]
 pub struct LinuxNonstandardEtherType(u16);
 
@@ -158,7 +164,7 @@ impl fmt::Debug for LinuxNonstandardEtherType {
     }
 }
 
-/// The description of a number, `None` where it is not one of the 28.
+/// The description of a number, if it is one of the 28.
 fn description_of(number: u16) -> Option<&'static str>
     ensures { option_copied result ≡ nonstandard_description number }
 {
@@ -199,6 +205,13 @@ fn description_of(number: u16) -> Option<&'static str>
 mod tests {
     use super::*;
     use std::test::Fail;
+
+    #[test]
+    fn the_example(rt: HostRuntime) {
+        let read = LinuxNonstandardEtherType::try_from(0x0C);
+        assert_eq!(rt; read, Ok(LinuxNonstandardEtherType::CAN));
+        assert_eq!(rt; LinuxNonstandardEtherType::try_from(0x0800), Err(()));
+    }
 
     #[test]
     fn every_nonstandard_number(rt: HostRuntime) -> Result<(), Fail> {
@@ -321,10 +334,6 @@ mod tests {
                 format!(in alloc; "0x{number:04X} ({description})")?.as_str()
             );
         }
-        assert_eq!(rt;
-            LinuxNonstandardEtherType::default(),
-            LinuxNonstandardEtherType::N802_3
-        );
         Ok(())
     }
 

@@ -5,14 +5,20 @@ ghost use Rattle.ether_base.specs.LinuxSllProtocolType.{ethernet_protocol_type, 
 use crate::err::linux_sll::HeaderError;
 use crate::{ArpHardwareId, EtherType, LinuxNonstandardEtherType};
 
-/// The protocol type of Linux cooked capture v1: a number, whose meaning the hardware type decides.
+/// The protocol type of Linux cooked capture v1: a number whose meaning depends on the hardware type of the link.
+///
+/// ```
+/// let read = LinuxSllProtocolType::try_from((ArpHardwareId::ETHERNET, 0x0800));
+/// assert_eq!(rt; read, Ok(LinuxSllProtocolType::EtherType(EtherType::IPV4)));
+/// assert!(rt; LinuxSllProtocolType::try_from((ArpHardwareId::SLIP, 0x0800)).is_err());
+/// ```
 #[derive(Clone, Copy, PartialEq, Eq, PartialOrd, Ord, Hash, Debug)]
 pub enum LinuxSllProtocolType {
-    /// A number that says nothing (IEEE 802.11 with radiotap, frame relay).
+    /// A number without a meaning (IEEE 802.11 with radiotap, frame relay).
     Ignored(u16),
-    /// A protocol of netlink.
+    /// A netlink protocol.
     NetlinkProtocolType(u16),
-    /// A protocol of generic routing encapsulation (GRE), which numbers as ether types do.
+    /// A protocol of generic routing encapsulation (GRE), numbered as ether types are.
     GenericRoutingEncapsulationProtocolType(u16),
     /// An ether type.
     EtherType(EtherType),
@@ -20,11 +26,11 @@ pub enum LinuxSllProtocolType {
     LinuxNonstandardEtherType(LinuxNonstandardEtherType),
 }
 
-/// How many hardware types have a protocol table.
+/// The number of supported hardware types.
 const SUPPORTED: usize = 5;
 
 impl LinuxSllProtocolType {
-    /// The hardware types whose protocol numbers have a meaning here.
+    /// The hardware types that can be read.
     pub const SUPPORTED_ARPHWD: [ArpHardwareId; SUPPORTED] = [
         ArpHardwareId::NETLINK,
         ArpHardwareId::IPGRE,
@@ -33,8 +39,8 @@ impl LinuxSllProtocolType {
         ArpHardwareId::ETHERNET,
     ];
 
-    /// Puts another number in place, which keeps the variant. A number of Ethernet is one of the last two
-    /// variants, whichever the new number is.
+    /// Puts `value` in place of the number, as on the same link: the variant stays, except that on Ethernet the value
+    /// decides between `EtherType` and `LinuxNonstandardEtherType`.
     pub fn change_value(&mut self, value: u16)
         ensures { self.new ≡ with_number self.old value }
     {
@@ -52,7 +58,7 @@ impl LinuxSllProtocolType {
     }
 }
 
-/// The hardware type of a link, and a protocol number on it.
+/// The hardware type of a link, and a protocol number there.
 type NumberOnLink = (ArpHardwareId, u16);
 
 impl TryFrom<NumberOnLink> for LinuxSllProtocolType {
@@ -108,6 +114,13 @@ mod tests {
     use std::process::Abort;
     use std::test::Fail;
 
+    #[test]
+    fn the_example(rt: HostRuntime) {
+        let read = LinuxSllProtocolType::try_from((ArpHardwareId::ETHERNET, 0x0800));
+        assert_eq!(rt; read, Ok(LinuxSllProtocolType::EtherType(EtherType::IPV4)));
+        assert!(rt; LinuxSllProtocolType::try_from((ArpHardwareId::SLIP, 0x0800)).is_err());
+    }
+
     fn reads(
         rt: &impl Abort,
         hardware: ArpHardwareId,
@@ -161,6 +174,10 @@ mod tests {
             0x0800,
             LinuxSllProtocolType::EtherType(EtherType::IPV4),
         );
+    }
+
+    #[test]
+    fn another_hardware_type_is_refused(rt: HostRuntime) {
         assert_eq!(rt;
             LinuxSllProtocolType::try_from((ArpHardwareId(257), 0x0800)),
             Err(HeaderError::UnsupportedArpHardwareId {

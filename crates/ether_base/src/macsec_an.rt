@@ -1,11 +1,17 @@
-//! The association number of a SecTag.
+//! The association number of a MACsec SecTag.
 ghost use Rattle.std.specs.Prelude.{◌≡◌, ◌≤◌, ◌↔◌, IfOk, IfErr, IsOk};
 
 use crate::err::{ValueTooBigError, ValueType};
 use std::fmt;
 use std::marker::Model;
 
-/// The association number (AN) of a SecTag of IEEE 802.1AE: 2 bits, 0 to 3.
+/// The association number (AN) of a MACsec SecTag (IEEE 802.1AE, 9.6): 2 bits, 0 to 3.
+///
+/// ```
+/// let number = MacsecAn::try_new(2)?;
+/// assert_eq!(rt; number.value(), 2);
+/// assert!(rt; MacsecAn::try_new(4).is_err());
+/// ```
 #[derive(Clone, Copy, PartialEq, Eq, PartialOrd, Ord, Hash, Debug, Default)]
 pub struct MacsecAn(u8);
 
@@ -28,7 +34,7 @@ impl MacsecAn {
     /// The greatest association number, 3.
     pub const MAX_U8: u8 = 0b0000_0011;
 
-    /// The association number of a number, refused above [`MacsecAn::MAX_U8`].
+    /// The association number `value`, refused above [`MacsecAn::MAX_U8`].
     pub fn try_new(value: u8) -> Result<MacsecAn, ValueTooBigError<u8>>
         ensures variant { IsOk result ↔ (value ≤ 3) }
         ensures ok { IfOk result (λ an. an ≡ value) }
@@ -92,23 +98,35 @@ mod tests {
     use std::test::Fail;
 
     #[test]
-    fn refused_above_3(rt: HostRuntime) -> Result<(), Fail> {
-        let alloc = rt.alloc();
+    fn the_example(rt: HostRuntime) -> Result<(), Fail> {
+        let number = MacsecAn::try_new(2)?;
+        assert_eq!(rt; number.value(), 2);
+        assert!(rt; MacsecAn::try_new(4).is_err());
+        Ok(())
+    }
+
+    #[test]
+    fn the_greatest_is_3(rt: HostRuntime) -> Result<(), Fail> {
+        assert_eq!(rt; MacsecAn::try_new(3)?.value(), MacsecAn::MAX_U8);
+        assert_eq!(rt; u8::from(MacsecAn::try_from(3)?), 3);
+        Ok(())
+    }
+
+    #[test]
+    fn refused_above_3(rt: HostRuntime) {
         let refused = ValueTooBigError {
             actual: 4,
             max_allowed: 3,
             value_type: ValueType::MacsecAn,
         };
-        assert_eq!(rt; MacsecAn::try_new(0), Ok(MacsecAn::ZERO));
-        assert_eq!(rt; MacsecAn::try_new(3)?.value(), MacsecAn::MAX_U8);
         assert_eq!(rt; MacsecAn::try_from(4), Err(refused));
-        assert_eq!(rt; u8::from(MacsecAn::try_from(3)?), 3);
-        assert_eq!(rt; MacsecAn::default(), MacsecAn::ZERO);
+    }
+
+    #[test]
+    fn shown_as_its_number(rt: HostRuntime) -> Result<(), Fail> {
         let two = MacsecAn::try_new(2)?;
-        assert_eq!(rt;
-            format!(in alloc; "{two} {two:?}")?.as_str(),
-            "2 MacsecAn(2)"
-        );
+        assert_eq!(rt; format!(in rt.alloc(); "{two}")?.as_str(), "2");
+        assert_eq!(rt; format!(in rt.alloc(); "{two:?}")?.as_str(), "MacsecAn(2)");
         Ok(())
     }
 }

@@ -1,14 +1,20 @@
-//! The short length of a SecTag.
+//! The short length of a MACsec SecTag.
 ghost use Rattle.std.specs.Prelude.{◌≡◌, ◌≤◌, ◌<◌, ◌↔◌, IfOk, IfErr, IsOk};
 
 use crate::err::{ValueTooBigError, ValueType};
 use std::fmt;
 use std::marker::Model;
 
-/// The short length (SL) of a SecTag of IEEE 802.1AE: 6 bits, 0 to 63.
+/// The short length (SL) of a MACsec SecTag (IEEE 802.1AE, 9.7): 6 bits, 0 to 63.
 ///
-/// It counts the bytes behind the SecTag where these are few, and is 0 where they are 64 or more. The values
-/// 48 to 63, which the standard leaves out, are taken too.
+/// It counts the bytes behind the SecTag, those of the ether type there among them, and 0 names no length. The
+/// standard ends at 47; the values from 48 to 63 are accepted, and [`MacsecShortLen::from_len`] makes them too.
+///
+/// ```
+/// let short_len = MacsecShortLen::try_from_u8(46)?;
+/// assert_eq!(rt; short_len.value(), 46);
+/// assert!(rt; MacsecShortLen::try_from_u8(64).is_err());
+/// ```
 #[derive(Clone, Copy, PartialEq, Eq, PartialOrd, Ord, Hash, Debug, Default)]
 pub struct MacsecShortLen(u8);
 
@@ -25,16 +31,16 @@ impl Model for MacsecShortLen {
 }
 
 impl MacsecShortLen {
-    /// The short length 0: no length is named.
+    /// The short length 0, which names no length.
     pub const ZERO: Self = MacsecShortLen(0);
 
     /// The greatest short length, 63.
     pub const MAX_U8: u8 = 0b0011_1111;
 
-    /// The greatest length that a short length names, 63.
+    /// The greatest short length as a number of bytes, 63.
     pub const MAX_USIZE: usize = 0b0011_1111;
 
-    /// The short length of a number, refused above [`MacsecShortLen::MAX_U8`].
+    /// The short length `value`, refused above [`MacsecShortLen::MAX_U8`].
     pub fn try_from_u8(value: u8) -> Result<MacsecShortLen, ValueTooBigError<u8>>
         ensures variant { IsOk result ↔ (value ≤ 63) }
         ensures ok { IfOk result (λ short_len. short_len ≡ value) }
@@ -51,7 +57,8 @@ impl MacsecShortLen {
         }
     }
 
-    /// The short length of so many bytes, which is 0 above [`MacsecShortLen::MAX_USIZE`].
+    /// The short length that names `len` bytes: `len` up to [`MacsecShortLen::MAX_USIZE`], and above that 0, which names no
+    /// length.
     pub fn from_len(len: usize) -> MacsecShortLen
         ensures named { len ≤ 63 → result ≡ len }
         ensures unnamed { 63 < len → result ≡ 0 }
@@ -63,7 +70,7 @@ impl MacsecShortLen {
         }
     }
 
-    /// The number of the short length.
+    /// The short length as a number.
     pub fn value(self) -> u8
         ensures value { result ≡ self }
         ensures bound { result ≤ 63 }
@@ -110,25 +117,40 @@ mod tests {
     use std::test::Fail;
 
     #[test]
-    fn refused_above_63(rt: HostRuntime) -> Result<(), Fail> {
-        let alloc = rt.alloc();
+    fn the_example(rt: HostRuntime) -> Result<(), Fail> {
+        let short_len = MacsecShortLen::try_from_u8(46)?;
+        assert_eq!(rt; short_len.value(), 46);
+        assert!(rt; MacsecShortLen::try_from_u8(64).is_err());
+        Ok(())
+    }
+
+    #[test]
+    fn the_greatest_is_63(rt: HostRuntime) -> Result<(), Fail> {
+        assert_eq!(rt;
+            MacsecShortLen::try_from_u8(63)?.value(),
+            MacsecShortLen::MAX_U8
+        );
+        assert_eq!(rt; u8::from(MacsecShortLen::try_from(63)?), 63);
+        Ok(())
+    }
+
+    #[test]
+    fn refused_above_63(rt: HostRuntime) {
         let refused = ValueTooBigError {
             actual: 64,
             max_allowed: 63,
             value_type: ValueType::MacsecShortLen,
         };
-        assert_eq!(rt; MacsecShortLen::try_from_u8(0), Ok(MacsecShortLen::ZERO));
-        assert_eq!(rt;
-            MacsecShortLen::try_from_u8(63)?.value(),
-            MacsecShortLen::MAX_U8
-        );
         assert_eq!(rt; MacsecShortLen::try_from(64), Err(refused));
-        assert_eq!(rt; u8::from(MacsecShortLen::try_from(63)?), 63);
-        assert_eq!(rt; MacsecShortLen::default(), MacsecShortLen::ZERO);
+    }
+
+    #[test]
+    fn shown_as_its_number(rt: HostRuntime) -> Result<(), Fail> {
         let two = MacsecShortLen::try_from_u8(2)?;
+        assert_eq!(rt; format!(in rt.alloc(); "{two}")?.as_str(), "2");
         assert_eq!(rt;
-            format!(in alloc; "{two} {two:?}")?.as_str(),
-            "2 MacsecShortLen(2)"
+            format!(in rt.alloc(); "{two:?}")?.as_str(),
+            "MacsecShortLen(2)"
         );
         Ok(())
     }

@@ -4,7 +4,12 @@ ghost use Rattle.std.specs.Prelude.{Some};
 use crate::{ArpHardwareId, EtherType};
 use std::fmt;
 
-/// A number, shown as `0x` and four upper-case hexadecimal digits: 0x01AB is `0x01AB`.
+/// A number, shown as `0x` and four upper-case hexadecimal digits.
+///
+/// ```
+/// let number = HexNumber(0x01AB);
+/// assert_eq!(rt; format!(in rt.alloc(); "{number}")?.as_str(), "0x01AB");
+/// ```
 #[derive(Clone, Copy)]
 pub struct HexNumber(pub u16);
 
@@ -61,6 +66,13 @@ impl fmt::Display for ShownArpHardwareId {
 mod tests {
     use super::*;
     use std::test::Fail;
+
+    #[test]
+    fn the_example(rt: HostRuntime) -> Result<(), Fail> {
+        let number = HexNumber(0x01AB);
+        assert_eq!(rt; format!(in rt.alloc(); "{number}")?.as_str(), "0x01AB");
+        Ok(())
+    }
 
     #[test]
     fn four_digits_in_upper_case(rt: HostRuntime) -> Result<(), Fail> {

@@ -5,7 +5,13 @@ use crate::err::{ValueTooBigError, ValueType};
 use std::fmt;
 use std::marker::Model;
 
-/// The VLAN identifier (VID) of a tag of IEEE 802.1Q: 12 bits, 0 to 4095.
+/// The VLAN identifier (VID) of a VLAN tag (IEEE 802.1Q, 9.6): 12 bits, 0 to 4095.
+///
+/// ```
+/// let vlan = VlanId::try_new(100)?;
+/// assert_eq!(rt; vlan.value(), 100);
+/// assert!(rt; VlanId::try_new(4096).is_err());
+/// ```
 #[derive(Clone, Copy, PartialEq, Eq, PartialOrd, Ord, Hash, Debug, Default)]
 pub struct VlanId(u16);
 
@@ -22,13 +28,13 @@ impl Model for VlanId {
 }
 
 impl VlanId {
-    /// The identifier 0: a tag that carries a priority alone.
+    /// The null identifier, 0: the tag carries a priority alone.
     pub const ZERO: VlanId = VlanId(0);
 
-    /// The greatest identifier, 4095.
+    /// The greatest VLAN identifier, 4095.
     pub const MAX_U16: u16 = 0b0000_1111_1111_1111;
 
-    /// The identifier of a number, refused above [`VlanId::MAX_U16`].
+    /// The VLAN identifier `value`, refused above [`VlanId::MAX_U16`].
     pub fn try_new(value: u16) -> Result<VlanId, ValueTooBigError<u16>>
         ensures variant { IsOk result ↔ (value ≤ 4095) }
         ensures ok { IfOk result (λ id. id ≡ value) }
@@ -45,7 +51,7 @@ impl VlanId {
         }
     }
 
-    /// The number of the identifier.
+    /// The VLAN identifier as a number.
     pub fn value(self) -> u16
         ensures value { result ≡ self }
         ensures bound { result ≤ 4095 }
@@ -92,20 +98,35 @@ mod tests {
     use std::test::Fail;
 
     #[test]
-    fn refused_above_4095(rt: HostRuntime) -> Result<(), Fail> {
-        let alloc = rt.alloc();
+    fn the_example(rt: HostRuntime) -> Result<(), Fail> {
+        let vlan = VlanId::try_new(100)?;
+        assert_eq!(rt; vlan.value(), 100);
+        assert!(rt; VlanId::try_new(4096).is_err());
+        Ok(())
+    }
+
+    #[test]
+    fn the_greatest_is_4095(rt: HostRuntime) -> Result<(), Fail> {
+        assert_eq!(rt; VlanId::try_new(4095)?.value(), VlanId::MAX_U16);
+        assert_eq!(rt; u16::from(VlanId::try_from(4095)?), 4095);
+        Ok(())
+    }
+
+    #[test]
+    fn refused_above_4095(rt: HostRuntime) {
         let refused = ValueTooBigError {
             actual: 4096,
             max_allowed: 4095,
             value_type: ValueType::VlanId,
         };
-        assert_eq!(rt; VlanId::try_new(0), Ok(VlanId::ZERO));
-        assert_eq!(rt; VlanId::try_new(4095)?.value(), VlanId::MAX_U16);
         assert_eq!(rt; VlanId::try_from(4096), Err(refused));
-        assert_eq!(rt; u16::from(VlanId::try_from(4095)?), 4095);
-        assert_eq!(rt; VlanId::default(), VlanId::ZERO);
+    }
+
+    #[test]
+    fn shown_as_its_number(rt: HostRuntime) -> Result<(), Fail> {
         let two = VlanId::try_new(2)?;
-        assert_eq!(rt; format!(in alloc; "{two} {two:?}")?.as_str(), "2 VlanId(2)");
+        assert_eq!(rt; format!(in rt.alloc(); "{two}")?.as_str(), "2");
+        assert_eq!(rt; format!(in rt.alloc(); "{two:?}")?.as_str(), "VlanId(2)");
         Ok(())
     }
 }

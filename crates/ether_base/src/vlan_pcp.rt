@@ -5,7 +5,13 @@ use crate::err::{ValueTooBigError, ValueType};
 use std::fmt;
 use std::marker::Model;
 
-/// The priority code point (PCP) of a tag of IEEE 802.1Q: 3 bits, 0 to 7.
+/// The priority code point (PCP) of a VLAN tag (IEEE 802.1Q, 9.6): 3 bits, 0 to 7.
+///
+/// ```
+/// let priority = VlanPcp::try_new(5)?;
+/// assert_eq!(rt; priority.value(), 5);
+/// assert!(rt; VlanPcp::try_new(8).is_err());
+/// ```
 #[derive(Clone, Copy, PartialEq, Eq, PartialOrd, Ord, Hash, Debug, Default)]
 pub struct VlanPcp(u8);
 
@@ -28,7 +34,7 @@ impl VlanPcp {
     /// The greatest priority code point, 7.
     pub const MAX_U8: u8 = 0b0000_0111;
 
-    /// The priority code point of a number, refused above [`VlanPcp::MAX_U8`].
+    /// The priority code point `value`, refused above [`VlanPcp::MAX_U8`].
     pub fn try_new(value: u8) -> Result<VlanPcp, ValueTooBigError<u8>>
         ensures variant { IsOk result ↔ (value ≤ 7) }
         ensures ok { IfOk result (λ pcp. pcp ≡ value) }
@@ -45,7 +51,7 @@ impl VlanPcp {
         }
     }
 
-    /// The number of the priority code point.
+    /// The priority code point as a number.
     pub fn value(self) -> u8
         ensures value { result ≡ self }
         ensures bound { result ≤ 7 }
@@ -92,23 +98,35 @@ mod tests {
     use std::test::Fail;
 
     #[test]
-    fn refused_above_7(rt: HostRuntime) -> Result<(), Fail> {
-        let alloc = rt.alloc();
+    fn the_example(rt: HostRuntime) -> Result<(), Fail> {
+        let priority = VlanPcp::try_new(5)?;
+        assert_eq!(rt; priority.value(), 5);
+        assert!(rt; VlanPcp::try_new(8).is_err());
+        Ok(())
+    }
+
+    #[test]
+    fn the_greatest_is_7(rt: HostRuntime) -> Result<(), Fail> {
+        assert_eq!(rt; VlanPcp::try_new(7)?.value(), VlanPcp::MAX_U8);
+        assert_eq!(rt; u8::from(VlanPcp::try_from(7)?), 7);
+        Ok(())
+    }
+
+    #[test]
+    fn refused_above_7(rt: HostRuntime) {
         let refused = ValueTooBigError {
             actual: 8,
             max_allowed: 7,
             value_type: ValueType::VlanPcp,
         };
-        assert_eq!(rt; VlanPcp::try_new(0), Ok(VlanPcp::ZERO));
-        assert_eq!(rt; VlanPcp::try_new(7)?.value(), VlanPcp::MAX_U8);
         assert_eq!(rt; VlanPcp::try_from(8), Err(refused));
-        assert_eq!(rt; u8::from(VlanPcp::try_from(7)?), 7);
-        assert_eq!(rt; VlanPcp::default(), VlanPcp::ZERO);
+    }
+
+    #[test]
+    fn shown_as_its_number(rt: HostRuntime) -> Result<(), Fail> {
         let two = VlanPcp::try_new(2)?;
-        assert_eq!(rt;
-            format!(in alloc; "{two} {two:?}")?.as_str(),
-            "2 VlanPcp(2)"
-        );
+        assert_eq!(rt; format!(in rt.alloc(); "{two}")?.as_str(), "2");
+        assert_eq!(rt; format!(in rt.alloc(); "{two:?}")?.as_str(), "VlanPcp(2)");
         Ok(())
     }
 }

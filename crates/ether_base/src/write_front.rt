@@ -1,4 +1,4 @@
-//! Room in a slice that a header is written to.
+//! Writing a header to the front of a slice.
 ghost use Rattle.std.specs.Prelude.{take, ◌≡◌, ◌≤◌, ◌<◌, ◌++◌, drop, length};
 ghost use Rattle.std.specs.Borrow.{sem};
 ghost use Rattle.ether_base.specs.WriteFront.{AnswersRest, LendsRest};

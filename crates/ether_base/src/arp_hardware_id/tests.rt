@@ -133,6 +133,13 @@ static ROWS: [(u16, ArpHardwareId, &str); 90] = [
 ];
 
 #[test]
+fn the_example(rt: HostRuntime) {
+    assert_eq!(rt; ArpHardwareId::from(1), ArpHardwareId::ETHERNET);
+    assert_eq!(rt; ArpHardwareId::ETHERNET.name(), Some("Ethernet"));
+    assert_eq!(rt; ArpHardwareId(39).name(), None);
+}
+
+#[test]
 fn every_hardware_type_with_a_name(rt: HostRuntime) -> Result<(), Fail> {
     let alloc = rt.alloc();
     for &(number, constant, description) in &ROWS {
@@ -146,10 +153,14 @@ fn every_hardware_type_with_a_name(rt: HostRuntime) -> Result<(), Fail> {
             );
         }
     }
+    Ok(())
+}
+
+#[test]
+fn second_names(rt: HostRuntime) {
     assert_eq!(rt; ArpHardwareId::ETHER, ArpHardwareId(1));
     assert_eq!(rt; ArpHardwareId::APPLETLK, ArpHardwareId(8));
     assert_eq!(rt; ArpHardwareId::FRAME_RELAY, ArpHardwareId(15));
-    Ok(())
 }
 
 #[test]
@@ -165,7 +176,5 @@ fn hexadecimal_digits_of_the_last_two_and_of_those_without_a_name(
     for (id, shown) in rows {
         assert_eq!(rt; format!(in rt.alloc(); "{id:?}")?.as_str(), shown);
     }
-    assert_eq!(rt; ArpHardwareId(39).name(), None);
-    assert_eq!(rt; ArpHardwareId::default(), ArpHardwareId(0));
     Ok(())
 }

@@ -1,25 +1,30 @@
-//! The layer that an error speaks of.
+//! The layer that an error is about.
 ghost use Rattle.std.specs.Prelude.{◌≡◌, Some};
 ghost use Rattle.ether_base.specs.Layer.{layer_title, layer_name};
 
 use std::fmt;
 
-/// A layer of a packet: a header, a header with its payload, or a payload.
+/// A layer of a packet, as errors name it: a header, a header with its payload, or a payload.
 ///
-/// `Display` gives the name within a text, as `VLAN header`.
+/// `Display` gives the name within a text, as `VLAN header`. Layers are ordered as they are listed.
+///
+/// ```
+/// assert_eq!(rt; Layer::VlanHeader.error_title(), "VLAN Header Error");
+/// assert!(rt; Layer::VlanHeader < Layer::MacsecHeader);
+/// ```
 #[derive(Clone, Copy, PartialEq, Eq, PartialOrd, Ord, Hash, Debug)]
 pub enum Layer {
     /// The header of Linux cooked capture v1.
     LinuxSllHeader,
     /// The Ethernet II header.
     Ethernet2Header,
-    /// What an ether type announces.
+    /// The payload behind an ether type.
     EtherPayload,
-    /// The tag of IEEE 802.1Q, behind its own ether type.
+    /// A VLAN tag (IEEE 802.1Q), from behind its own ether type.
     VlanHeader,
-    /// The SecTag of IEEE 802.1AE.
+    /// A MACsec SecTag (IEEE 802.1AE), from behind its own ether type.
     MacsecHeader,
-    /// A SecTag and the payload of the length that it names.
+    /// A MACsec SecTag, and the payload whose length its short length names.
     MacsecPacket,
     /// An IP header of either version.
     IpHeader,
@@ -45,7 +50,7 @@ pub enum Layer {
     Ipv6FragHeader,
     /// The UDP header.
     UdpHeader,
-    /// What a UDP header announces.
+    /// A UDP header's payload.
     UdpPayload,
     /// The TCP header.
     TcpHeader,
@@ -62,7 +67,7 @@ pub enum Layer {
 }
 
 impl Layer {
-    /// The words that an error of this layer begins with, as `VLAN Header Error`.
+    /// The words with which the text of an error of this layer begins, as `VLAN Header Error`.
     pub fn error_title(&self) -> &'static str
         ensures { result.now ≡ layer_title self.now }
     {
@@ -134,6 +139,12 @@ impl fmt::Display for Layer {
 mod tests {
     use super::*;
     use std::test::Fail;
+
+    #[test]
+    fn the_example(rt: HostRuntime) {
+        assert_eq!(rt; Layer::VlanHeader.error_title(), "VLAN Header Error");
+        assert!(rt; Layer::VlanHeader < Layer::MacsecHeader);
+    }
 
     #[test]
     fn every_layer_in_order(rt: HostRuntime) -> Result<(), Fail> {

@@ -1,4 +1,4 @@
-//! A length that does not fit.
+//! Too few bytes, or too many.
 ghost use Rattle.std.specs.Prelude.{◌≡◌, ◌+◌, ◌<◌, ◌^◌, Some};
 ghost use Rattle.ether_base.specs.LengthErrors.{len_error_text, layer_start_text};
 
@@ -7,26 +7,37 @@ use crate::err::Layer;
 use std::error::Error;
 use std::fmt;
 
-/// A length is too small for a layer, or too big for it.
+/// A layer has too few bytes, or too many.
 ///
 /// All numbers are bytes.
+///
+/// ```
+/// let error = LenError {
+///     required_len: 4,
+///     len: 2,
+///     len_source: LenSource::Slice,
+///     layer: Layer::VlanHeader,
+///     layer_start_offset: 0,
+/// };
+/// assert_eq!(rt; error.add_offset(14).layer_start_offset, 14);
+/// ```
 #[derive(Clone, PartialEq, Eq, Hash, Debug, Drop)]
 pub struct LenError {
-    /// The length that is needed, or, where `len` is no smaller, the greatest that is allowed.
+    /// The length that is required; where `len` is no smaller, the greatest length that is allowed.
     pub required_len: usize,
-    /// The length that is there, from the start of the layer.
+    /// The length that is available, from the start of the layer.
     pub len: usize,
-    /// What `len` was taken from.
+    /// Where `len` was taken from.
     pub len_source: LenSource,
     /// The layer that was read or written.
     pub layer: Layer,
-    /// Where the layer starts, counted from the start of what is read.
+    /// The offset at which the layer starts, from the start of what is read.
     pub layer_start_offset: usize,
 }
 
 impl LenError {
-    /// The same error of a layer that starts `offset` bytes later: for a caller that handed on the tail of a
-    /// slice and speaks of the whole.
+    /// The error with the layer's start moved by `offset` bytes: for a caller that passed on the tail of a slice, and
+    /// reports places in the whole.
     pub fn add_offset(self, offset: usize) -> LenError
         requires { self.layer_start_offset + offset < 2 ^ 64 }
         ensures { result ≡ record self { layer_start_offset = self.layer_start_offset + offset } }
@@ -67,7 +78,7 @@ impl fmt::Display for LenError {
 
 impl Error for LenError {}
 
-/// The end of the text: where the layer starts, if that is not at the beginning.
+/// The end of the text, which names the start of the layer if that is not 0.
 #[derive(Clone, Copy)]
 struct LayerStart {
     layer: Layer,
@@ -92,6 +103,18 @@ impl fmt::Display for LayerStart {
 mod tests {
     use super::*;
     use std::test::Fail;
+
+    #[test]
+    fn the_example(rt: HostRuntime) {
+        let error = LenError {
+            required_len: 4,
+            len: 2,
+            len_source: LenSource::Slice,
+            layer: Layer::VlanHeader,
+            layer_start_offset: 0,
+        };
+        assert_eq!(rt; error.add_offset(14).layer_start_offset, 14);
+    }
 
     const SHORT: LenError = LenError {
         required_len: 4,
@@ -123,12 +146,16 @@ mod tests {
     }
 
     #[test]
-    fn an_offset_moves_the_start_alone(rt: HostRuntime) -> Result<(), Fail> {
+    fn an_offset_moves_the_start_alone(rt: HostRuntime) {
         let early = LenError {
             layer_start_offset: 4,
             ..SHORT
         };
         assert_eq!(rt; early.add_offset(14), SHORT);
+    }
+
+    #[test]
+    fn shown_in_debug(rt: HostRuntime) -> Result<(), Fail> {
         assert_eq!(rt;
             format!(in rt.alloc(); "{SHORT:?}")?.as_str(),
             "LenError { required_len: 4, len: 2, len_source: Slice, layer: VlanHeader, layer_start_offset: 18 }"

@@ -6,4 +6,24 @@ pub use header_error::HeaderError;
 /// Why a header of Linux cooked capture v1 can't be read from a slice: it is too short, or a field is not supported.
 ///
 /// `Display` gives the text of the error within.
+///
+/// ```
+/// let content = HeaderError::UnsupportedPacketTypeField { packet_type: 8 };
+/// let error = HeaderSliceError::Content(content);
+/// assert_eq!(rt; error.clone()?.add_slice_offset(14), error);
+/// ```
 pub type HeaderSliceError = crate::header_slice_error::HeaderSliceError<HeaderError>;
+
+#[cfg(test)]
+mod tests {
+    use super::*;
+    use std::test::Fail;
+
+    #[test]
+    fn the_example(rt: HostRuntime) -> Result<(), Fail> {
+        let content = HeaderError::UnsupportedPacketTypeField { packet_type: 8 };
+        let error = HeaderSliceError::Content(content);
+        assert_eq!(rt; error.clone()?.add_slice_offset(14), error);
+        Ok(())
+    }
+}

@@ -1,4 +1,4 @@
-//! A slice that is too short to write to.
+//! Too little space for a layer to be written.
 ghost use Rattle.std.specs.Prelude.{Some};
 ghost use Rattle.ether_base.specs.LengthErrors.{slice_write_space_error_text, write_start_text};
 
@@ -6,18 +6,31 @@ use crate::err::Layer;
 use std::error::Error;
 use std::fmt;
 
-/// A slice is too short for a layer to be written to it.
+/// A slice is too short to write a layer to it.
 ///
 /// All numbers are bytes.
+///
+/// ```
+/// let error = SliceWriteSpaceError {
+///     required_len: 14,
+///     len: 13,
+///     layer: Layer::Ethernet2Header,
+///     layer_start_offset: 0,
+/// };
+/// assert_eq!(rt;
+///     format!(in rt.alloc(); "{error}")?.as_str(),
+///     "Not enough space to write Ethernet 2 header to slice. Needed 14 byte(s), but only 13 byte(s) were available."
+/// );
+/// ```
 #[derive(Clone, PartialEq, Eq, Hash, Debug, Drop)]
 pub struct SliceWriteSpaceError {
-    /// The length that the layer needs.
+    /// The length that the layer requires.
     pub required_len: usize,
-    /// The length that is there, from the start of the layer.
+    /// The length that is available, from the start of the layer.
     pub len: usize,
     /// The layer that was to be written.
     pub layer: Layer,
-    /// Where the layer was to start, counted from the start of what is written.
+    /// The offset at which the layer was to start, from the start of what is written.
     pub layer_start_offset: usize,
 }
 
@@ -41,7 +54,7 @@ impl fmt::Display for SliceWriteSpaceError {
 
 impl Error for SliceWriteSpaceError {}
 
-/// The end of the text: where the layer was to start, if that is not at the beginning.
+/// The end of the text, which names the start of the layer if that is not 0.
 #[derive(Clone, Copy)]
 struct WriteStart {
     layer: Layer,
@@ -66,6 +79,21 @@ impl fmt::Display for WriteStart {
 mod tests {
     use super::*;
     use std::test::Fail;
+
+    #[test]
+    fn the_example(rt: HostRuntime) -> Result<(), Fail> {
+        let error = SliceWriteSpaceError {
+            required_len: 14,
+            len: 13,
+            layer: Layer::Ethernet2Header,
+            layer_start_offset: 0,
+        };
+        assert_eq!(rt;
+            format!(in rt.alloc(); "{error}")?.as_str(),
+            "Not enough space to write Ethernet 2 header to slice. Needed 14 byte(s), but only 13 byte(s) were available."
+        );
+        Ok(())
+    }
 
     #[test]
     fn with_and_without_an_offset(rt: HostRuntime) -> Result<(), Fail> {

@@ -1,4 +1,4 @@
-//! A number above the greatest that its field can hold.
+//! A value that exceeds its field's maximum.
 ghost use Rattle.ether_base.specs.LengthErrors.{value_too_big_error_text};
 
 use crate::err::ValueType;
@@ -6,14 +6,23 @@ use std::error::Error;
 use std::fmt::{self, Debug, Display};
 use std::hash::Hash;
 
-/// A value is greater than what it should become can hold.
+/// The value exceeds the field's maximum.
+///
+/// ```
+/// let refused = ValueTooBigError {
+///     actual: 8,
+///     max_allowed: 7,
+///     value_type: ValueType::VlanPcp,
+/// };
+/// assert_eq!(rt; VlanPcp::try_new(8), Err(refused));
+/// ```
 #[derive(Clone, PartialEq, Eq, Hash, Debug, Drop)]
 pub struct ValueTooBigError<T: Clone + Display + Debug + Eq + Hash> {
-    /// The value that was handed in.
+    /// The value that was passed in.
     pub actual: T,
     /// The greatest value that is accepted.
     pub max_allowed: T,
-    /// What the value should have become.
+    /// The field that the value was meant for.
     pub value_type: ValueType,
 }
 
@@ -36,18 +45,35 @@ impl<T: Clone + Display + Debug + Eq + Hash + Drop> Error for ValueTooBigError<T
 #[cfg(test)]
 mod tests {
     use super::*;
+    use crate::VlanPcp;
     use std::test::Fail;
 
     #[test]
-    fn a_clone_and_the_text(rt: HostRuntime) -> Result<(), Fail> {
-        let error = ValueTooBigError {
-            actual: 4096u16,
-            max_allowed: 4095,
-            value_type: ValueType::VlanId,
+    fn the_example(rt: HostRuntime) {
+        let refused = ValueTooBigError {
+            actual: 8,
+            max_allowed: 7,
+            value_type: ValueType::VlanPcp,
         };
-        assert_eq!(rt; error.clone()?, error);
+        assert_eq!(rt; VlanPcp::try_new(8), Err(refused));
+    }
+
+    const REFUSED: ValueTooBigError<u16> = ValueTooBigError {
+        actual: 4096,
+        max_allowed: 4095,
+        value_type: ValueType::VlanId,
+    };
+
+    #[test]
+    fn a_clone_is_equal(rt: HostRuntime) -> Result<(), Fail> {
+        assert_eq!(rt; REFUSED.clone()?, REFUSED);
+        Ok(())
+    }
+
+    #[test]
+    fn the_text(rt: HostRuntime) -> Result<(), Fail> {
         assert_eq!(rt;
-            format!(in rt.alloc(); "{error}")?.as_str(),
+            format!(in rt.alloc(); "{REFUSED}")?.as_str(),
             "Error '4096' is too big to be a 'VLAN ID' (maximum allowed value is '4095')"
         );
         Ok(())

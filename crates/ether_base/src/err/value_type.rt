@@ -1,21 +1,26 @@
-//! The kind of a value that was too big.
+//! The field that a value was too big for.
 ghost use Rattle.std.specs.Prelude.{Some};
 ghost use Rattle.ether_base.specs.ValueType.{value_type_name};
 
 use std::fmt;
 
-/// What a value that was too big should have become.
+/// The field that a value was too big for.
 ///
-/// `Display` gives the name within a text, as `VLAN ID`.
+/// `Display` gives the name within a text, as `VLAN ID`. Fields are ordered as they are listed.
+///
+/// ```
+/// let field = ValueType::VlanId;
+/// assert_eq!(rt; format!(in rt.alloc(); "{field}")?.as_str(), "VLAN ID");
+/// ```
 #[derive(Clone, Copy, PartialEq, Eq, PartialOrd, Ord, Hash, Debug)]
 pub enum ValueType {
     /// The identifier of a VLAN tag (IEEE 802.1Q): 12 bits.
     VlanId,
     /// The priority of a VLAN tag (IEEE 802.1Q): 3 bits.
     VlanPcp,
-    /// The association number of a SecTag (IEEE 802.1AE): 2 bits.
+    /// The association number of a MACsec SecTag (IEEE 802.1AE): 2 bits.
     MacsecAn,
-    /// The short length of a SecTag (IEEE 802.1AE): 6 bits.
+    /// The short length of a MACsec SecTag (IEEE 802.1AE): 6 bits.
     MacsecShortLen,
     /// The fragment offset of an IP header: 13 bits.
     IpFragmentOffset,
@@ -25,19 +30,19 @@ pub enum ValueType {
     IpEcn,
     /// The flow label of an IPv6 header: 20 bits.
     Ipv6FlowLabel,
-    /// The length of what an IPv4 header announces.
+    /// The length of an IPv4 header's payload.
     Ipv4PayloadLength,
-    /// The length of what an IPv6 header announces.
+    /// The length of an IPv6 header's payload.
     Ipv6PayloadLength,
-    /// The length of what a UDP header within IPv4 announces.
+    /// The length of a UDP header's payload, over IPv4.
     UdpPayloadLengthIpv4,
-    /// The length of what a UDP header within IPv6 announces.
+    /// The length of a UDP header's payload, over IPv6.
     UdpPayloadLengthIpv6,
-    /// The length of what a TCP header within IPv4 announces.
+    /// The length of a TCP header's payload, over IPv4.
     TcpPayloadLengthIpv4,
-    /// The length of what a TCP header within IPv6 announces.
+    /// The length of a TCP header's payload, over IPv6.
     TcpPayloadLengthIpv6,
-    /// The length of what an ICMPv6 header announces.
+    /// The length of an ICMPv6 header's payload.
     Icmpv6PayloadLength,
     /// The packet type of Linux cooked capture v1.
     LinuxSllType,
@@ -73,6 +78,13 @@ impl fmt::Display for ValueType {
 mod tests {
     use super::*;
     use std::test::Fail;
+
+    #[test]
+    fn the_example(rt: HostRuntime) -> Result<(), Fail> {
+        let field = ValueType::VlanId;
+        assert_eq!(rt; format!(in rt.alloc(); "{field}")?.as_str(), "VLAN ID");
+        Ok(())
+    }
 
     #[rattlefmt::skip]
     const NAMES: [(ValueType, &str); 16] = [

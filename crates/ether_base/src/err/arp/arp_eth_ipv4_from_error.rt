@@ -7,7 +7,15 @@ use crate::{ArpHardwareId, EtherType};
 use std::error::Error;
 use std::fmt;
 
-/// An ARP packet is not one of Ethernet and IPv4. Each variant holds what the packet has instead.
+/// Why an ARP packet is not one of Ethernet and IPv4. Each variant holds what the packet has instead.
+///
+/// ```
+/// let error = ArpEthIpv4FromError::NonMatchingHwAddrSize(8);
+/// assert_eq!(rt;
+///     format!(in rt.alloc(); "{error}")?.as_str(),
+///     "Hardware address size is expected to be 6 but is 8"
+/// );
+/// ```
 #[derive(Clone, PartialEq, Eq, Hash, Debug, Drop)]
 pub enum ArpEthIpv4FromError {
     /// The hardware type is not Ethernet's, 1.
@@ -55,6 +63,16 @@ impl Error for ArpEthIpv4FromError {}
 mod tests {
     use super::*;
     use std::test::Fail;
+
+    #[test]
+    fn the_example(rt: HostRuntime) -> Result<(), Fail> {
+        let error = ArpEthIpv4FromError::NonMatchingHwAddrSize(8);
+        assert_eq!(rt;
+            format!(in rt.alloc(); "{error}")?.as_str(),
+            "Hardware address size is expected to be 6 but is 8"
+        );
+        Ok(())
+    }
 
     #[test]
     fn all_four_texts(rt: HostRuntime) -> Result<(), Fail> {

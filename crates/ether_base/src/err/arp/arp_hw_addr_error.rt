@@ -1,17 +1,24 @@
-//! Hardware addresses that an ARP packet can't hold.
+//! Hardware addresses that do not fit into an ARP packet.
 ghost use Rattle.std.specs.Prelude.{Some};
 ghost use Rattle.ether_base.specs.ArpErrors.{arp_hw_addr_error_text};
 
 use std::error::Error;
 use std::fmt;
 
-/// The two hardware addresses of an ARP packet can't be stored: the packet has one size for both (RFC 826),
-/// which is a byte.
+/// Why two hardware addresses do not fit into one ARP packet, which has one length byte for both (RFC 826).
+///
+/// ```
+/// let error = ArpHwAddrError::LenTooBig(256);
+/// assert_eq!(rt;
+///     format!(in rt.alloc(); "{error}")?.as_str(),
+///     "ARP Hardware Address Error: Given hardware address has a length of 256 which is greater then the maximum of 255."
+/// );
+/// ```
 #[derive(Clone, PartialEq, Eq, Hash, Debug, Drop)]
 pub enum ArpHwAddrError {
-    /// The addresses are longer than 255 bytes: their length.
+    /// The addresses are longer than 255 bytes; this is their length.
     LenTooBig(usize),
-    /// The addresses are not of one length: the length of the sender's, and of the target's.
+    /// The addresses differ in length: the length of the sender's, and of the target's.
     LenNonMatching(usize, usize),
 }
 
@@ -38,6 +45,16 @@ impl Error for ArpHwAddrError {}
 mod tests {
     use super::*;
     use std::test::Fail;
+
+    #[test]
+    fn the_example(rt: HostRuntime) -> Result<(), Fail> {
+        let error = ArpHwAddrError::LenTooBig(256);
+        assert_eq!(rt;
+            format!(in rt.alloc(); "{error}")?.as_str(),
+            "ARP Hardware Address Error: Given hardware address has a length of 256 which is greater then the maximum of 255."
+        );
+        Ok(())
+    }
 
     #[test]
     fn both_texts(rt: HostRuntime) -> Result<(), Fail> {

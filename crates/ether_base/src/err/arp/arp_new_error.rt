@@ -1,4 +1,4 @@
-//! Addresses that an ARP packet can't be made of.
+//! Addresses from which no ARP packet can be made.
 ghost use Rattle.std.specs.Prelude.{Some};
 ghost use Rattle.ether_base.specs.ArpErrors.{arp_new_error_text};
 
@@ -6,14 +6,22 @@ use crate::err::arp::{ArpHwAddrError, ArpProtoAddrError};
 use std::error::Error;
 use std::fmt;
 
-/// An ARP packet can't be made of the given addresses.
+/// Why no ARP packet can be made of the given addresses.
 ///
 /// `Display` gives the text of the error within.
+///
+/// ```
+/// let error = ArpNewError::HwAddr(ArpHwAddrError::LenTooBig(256));
+/// assert_eq!(rt;
+///     format!(in rt.alloc(); "{error}")?.as_str(),
+///     "ARP Hardware Address Error: Given hardware address has a length of 256 which is greater then the maximum of 255."
+/// );
+/// ```
 #[derive(Clone, PartialEq, Eq, Hash, Debug, Drop)]
 pub enum ArpNewError {
-    /// The hardware addresses are at fault.
+    /// The hardware addresses do not fit.
     HwAddr(ArpHwAddrError),
-    /// The protocol addresses are at fault.
+    /// The protocol addresses do not fit.
     ProtoAddr(ArpProtoAddrError),
 }
 
@@ -34,6 +42,16 @@ impl Error for ArpNewError {}
 mod tests {
     use super::*;
     use std::test::Fail;
+
+    #[test]
+    fn the_example(rt: HostRuntime) -> Result<(), Fail> {
+        let error = ArpNewError::HwAddr(ArpHwAddrError::LenTooBig(256));
+        assert_eq!(rt;
+            format!(in rt.alloc(); "{error}")?.as_str(),
+            "ARP Hardware Address Error: Given hardware address has a length of 256 which is greater then the maximum of 255."
+        );
+        Ok(())
+    }
 
     #[test]
     fn both_texts(rt: HostRuntime) -> Result<(), Fail> {

@@ -1,4 +1,4 @@
-//! Contents that a header of Linux cooked capture v1 can't have.
+//! Field values of Linux cooked capture v1 that are not supported.
 ghost use Rattle.std.specs.Prelude.{Some};
 ghost use Rattle.ether_base.specs.LinuxSllErrors.{header_error_text};
 
@@ -8,6 +8,11 @@ use std::error::Error;
 use std::fmt;
 
 /// A field of a header of Linux cooked capture v1 has a value that is not supported.
+///
+/// ```
+/// let refused = HeaderError::UnsupportedPacketTypeField { packet_type: 8 };
+/// assert_eq!(rt; LinuxSllPacketType::try_from(8), Err(refused));
+/// ```
 #[derive(Clone, PartialEq, Eq, Hash, Debug, Drop)]
 pub enum HeaderError {
     /// The packet type is above 7.
@@ -15,7 +20,7 @@ pub enum HeaderError {
         /// The packet type of the header.
         packet_type: u16,
     },
-    /// Nothing is known of the protocol numbers of the hardware type.
+    /// The meaning of protocol numbers on links of this hardware type is not known.
     UnsupportedArpHardwareId {
         /// The hardware type of the header.
         arp_hardware_type: ArpHardwareId,
@@ -47,7 +52,14 @@ impl Error for HeaderError {}
 #[cfg(test)]
 mod tests {
     use super::*;
+    use crate::LinuxSllPacketType;
     use std::test::Fail;
+
+    #[test]
+    fn the_example(rt: HostRuntime) {
+        let refused = HeaderError::UnsupportedPacketTypeField { packet_type: 8 };
+        assert_eq!(rt; LinuxSllPacketType::try_from(8), Err(refused));
+    }
 
     #[test]
     fn both_texts(rt: HostRuntime) -> Result<(), Fail> {

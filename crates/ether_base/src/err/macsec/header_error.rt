@@ -1,16 +1,24 @@
-//! Contents that a SecTag can't have.
+//! Field values of a MACsec SecTag that are not allowed.
 ghost use Rattle.std.specs.Prelude.{Some};
 ghost use Rattle.ether_base.specs.MacsecErrors.{header_error_text};
 
 use std::error::Error;
 use std::fmt;
 
-/// A SecTag of IEEE 802.1AE has contents that are not allowed.
+/// A field of a MACsec SecTag (IEEE 802.1AE) has a value that is not allowed.
+///
+/// ```
+/// let error = HeaderError::UnexpectedVersion;
+/// assert_eq!(rt;
+///     format!(in rt.alloc(); "{error}")?.as_str(),
+///     "MACsec Header Error: Encountered '1' as MACsec version in the MACsec SecTag header (must be '0')."
+/// );
+/// ```
 #[derive(Clone, PartialEq, Eq, Hash, Debug, Drop)]
 pub enum HeaderError {
-    /// The version bit is 1.
+    /// The version bit V is 1.
     UnexpectedVersion,
-    /// The short length of an unmodified packet is 1, which leaves no room for its ether type.
+    /// The short length of an unmodified payload is 1, which has no room for its ether type.
     InvalidUnmodifiedShortLen,
 }
 
@@ -37,6 +45,16 @@ impl Error for HeaderError {}
 mod tests {
     use super::*;
     use std::test::Fail;
+
+    #[test]
+    fn the_example(rt: HostRuntime) -> Result<(), Fail> {
+        let error = HeaderError::UnexpectedVersion;
+        assert_eq!(rt;
+            format!(in rt.alloc(); "{error}")?.as_str(),
+            "MACsec Header Error: Encountered '1' as MACsec version in the MACsec SecTag header (must be '0')."
+        );
+        Ok(())
+    }
 
     #[rattlefmt::skip]
     const TEXTS: [(HeaderError, &str); 2] = [

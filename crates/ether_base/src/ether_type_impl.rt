@@ -1,0 +1,187 @@
+//! The number that says which protocol follows a header.
+ghost use Rattle.std.specs.Prelude.{◌≡◌};
+ghost use Rattle.std.specs.Option.{option_copied};
+ghost use Rattle.ether_base.specs.EtherType.{ether_type_description};
+
+use crate::number_text::ShownEtherType;
+use std::fmt;
+
+/// An ether type (IEEE 802, 9.2): the 16 bits that name the protocol of what follows a header.
+///
+/// Any number is one. Ether types begin at 0x0600: smaller values are IEEE 802.3 lengths (802.3, 3.2.6), and are
+/// handed on as they are. `Debug` shows `0x` and four upper-case digits, and behind them the description of a number
+/// that has one, in parentheses.
+///
+/// ```
+/// assert_eq!(rt; EtherType::from(0x0806), EtherType::ARP);
+/// assert_eq!(rt;
+///     EtherType::ARP.name(),
+///     Some("Address Resolution Protocol (ARP)")
+/// );
+/// assert_eq!(rt; EtherType(1500).name(), None);
+/// ```
+#[derive(Clone, Copy, PartialEq, Eq, PartialOrd, Ord, Hash, Default)]
+pub struct EtherType(pub u16);
+
+/// The constants also stand in the module [`crate::ether_type`].
+impl EtherType {
+    /// Internet Protocol version 4 (RFC 894).
+    pub const IPV4: EtherType = EtherType(0x0800);
+
+    /// Internet Protocol version 6 (RFC 2464).
+    pub const IPV6: EtherType = EtherType(0x86DD);
+
+    /// Address Resolution Protocol (RFC 826).
+    pub const ARP: EtherType = EtherType(0x0806);
+
+    /// Wake on LAN: a packet that wakes a sleeping computer.
+    pub const WAKE_ON_LAN: EtherType = EtherType(0x0842);
+
+    /// A customer VLAN tag, C-TAG (IEEE 802.1Q, table 9-1).
+    pub const VLAN_TAGGED_FRAME: EtherType = EtherType(0x8100);
+
+    /// A service VLAN tag, S-TAG, the outer tag of QinQ (IEEE 802.1Q, table 9-1).
+    pub const PROVIDER_BRIDGING: EtherType = EtherType(0x88A8);
+
+    /// A MACsec SecTag (IEEE 802.1AE, 9.4).
+    pub const MACSEC: EtherType = EtherType(0x88E5);
+
+    /// The outer VLAN tag of QinQ, as some devices sent it before service tags had a number.
+    pub const VLAN_DOUBLE_TAGGED_FRAME: EtherType = EtherType(0x9100);
+
+    /// The description of the ether type, if it is one of the constants.
+    #[tactic(auto, unfolding(crate::specs::EtherType::ether_type_description))]
+    pub fn name(&self) -> Option<&'static str>
+        ensures { option_copied result ≡ ether_type_description self.now.0 }
+    {
+        match *self {
+            EtherType::IPV4 => Some("Internet Protocol version 4 (IPv4)"),
+            EtherType::IPV6 => Some("Internet Protocol Version 6 (IPV6)"),
+            EtherType::ARP => Some("Address Resolution Protocol (ARP)"),
+            EtherType::WAKE_ON_LAN => Some("Wake on LAN"),
+            EtherType::VLAN_TAGGED_FRAME => {
+                Some("Customer VLAN Tag (C-TAG) as defined in IEEE Std 802.1Q")
+            }
+            EtherType::PROVIDER_BRIDGING => {
+                Some("IEEE Std 802.1Q - Service VLAN tag identifier (S-Tag)")
+            }
+            EtherType::MACSEC => Some("IEEE Std 802.1AE - Media Access Control Security"),
+            EtherType::VLAN_DOUBLE_TAGGED_FRAME => Some("VLAN Double Tagged Frame"),
+            _ => None,
+        }
+    }
+}
+
+impl From<u16> for EtherType {
+    ghost from_gives = { λ number ether_type. ether_type.0 ≡ number };
+
+    fn from(number: u16) -> EtherType {
+        EtherType(number)
+    }
+}
+
+impl From<EtherType> for u16 {
+    ghost from_gives = { λ ether_type number. number ≡ ether_type.0 };
+
+    fn from(ether_type: EtherType) -> u16 {
+        ether_type.0
+    }
+}
+
+impl fmt::Debug for EtherType {
+    fn fmt<W: fmt::Write>(&self, f: &mut fmt::Formatter<W>) -> fmt::Result {
+        write!(f, "{}", ShownEtherType(*self))
+    }
+}
+
+#[cfg(test)]
+mod tests {
+    use super::*;
+    use crate::ether_type;
+    use std::test::Fail;
+
+    #[test]
+    fn the_example(rt: HostRuntime) {
+        assert_eq!(rt; EtherType::from(0x0806), EtherType::ARP);
+        assert_eq!(rt;
+            EtherType::ARP.name(),
+            Some("Address Resolution Protocol (ARP)")
+        );
+        assert_eq!(rt; EtherType(1500).name(), None);
+    }
+
+    #[test]
+    fn every_ether_type_with_a_name(rt: HostRuntime) -> Result<(), Fail> {
+        let alloc = rt.alloc();
+        let rows = [
+            (
+                0x0800,
+                EtherType::IPV4,
+                ether_type::IPV4,
+                "Internet Protocol version 4 (IPv4)",
+            ),
+            (
+                0x86DD,
+                EtherType::IPV6,
+                ether_type::IPV6,
+                "Internet Protocol Version 6 (IPV6)",
+            ),
+            (
+                0x0806,
+                EtherType::ARP,
+                ether_type::ARP,
+                "Address Resolution Protocol (ARP)",
+            ),
+            (
+                0x0842,
+                EtherType::WAKE_ON_LAN,
+                ether_type::WAKE_ON_LAN,
+                "Wake on LAN",
+            ),
+            (
+                0x8100,
+                EtherType::VLAN_TAGGED_FRAME,
+                ether_type::VLAN_TAGGED_FRAME,
+                "Customer VLAN Tag (C-TAG) as defined in IEEE Std 802.1Q",
+            ),
+            (
+                0x88A8,
+                EtherType::PROVIDER_BRIDGING,
+                ether_type::PROVIDER_BRIDGING,
+                "IEEE Std 802.1Q - Service VLAN tag identifier (S-Tag)",
+            ),
+            (
+                0x88E5,
+                EtherType::MACSEC,
+                ether_type::MACSEC,
+                "IEEE Std 802.1AE - Media Access Control Security",
+            ),
+            (
+                0x9100,
+                EtherType::VLAN_DOUBLE_TAGGED_FRAME,
+                ether_type::VLAN_DOUBLE_TAGGED_FRAME,
+                "VLAN Double Tagged Frame",
+            ),
+        ];
+        for (number, constant, by_name, description) in rows {
+            assert_eq!(rt; EtherType::from(number), constant, "{number}");
+            assert_eq!(rt; u16::from(by_name), number, "{number}");
+            assert_eq!(rt; constant.name(), Some(description), "{number}");
+            assert_eq!(rt;
+                format!(in alloc; "{constant:?}")?.as_str(),
+                format!(in alloc; "0x{number:04X} ({description})")?.as_str()
+            );
+        }
+        Ok(())
+    }
+
+    #[test]
+    fn a_number_without_a_name(rt: HostRuntime) -> Result<(), Fail> {
+        assert_eq!(rt; EtherType(0x1234).name(), None);
+        assert_eq!(rt;
+            format!(in rt.alloc(); "{:?}", EtherType(0x01AB))?.as_str(),
+            "0x01AB"
+        );
+        Ok(())
+    }
+}
