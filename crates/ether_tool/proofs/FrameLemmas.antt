@@ -9,7 +9,7 @@ use Rattle.hex.specs.Hex.{hex_digit_value, decode_pairs, decode_sized, pair_valu
 use Rattle.hex.specs.declared.error.FromHexError.{FromHexError}
 use Rattle.hex.proofs.HexLemmas.{decode_pairs-err, decode_sized-ok}
 use Rattle.hex.proofs.Pairs.{decode_sized-pairs}
-use Rattle.ether_tool.specs.Frames.{NameByte, IsFrame, IsBadLine, too_long, odd, no_digit}
+use Rattle.ether_tool.specs.Frame.{NameByte, IsFrame, IsBadLine, too_long, odd, no_digit}
 
 -- what a digit that read is worth
 digit_value : (o : Option ℕ) (c i v : ℕ) → digit_or_error c i o ≡ Ok v → o ≡ Some v

@@ -1,6 +1,6 @@
 //! The frame that a line names.
 ghost use Rattle.std.specs.Prelude.{◌≤◌, ◌↔◌, take, IfSome, IsNone};
-ghost use Rattle.ether_tool.specs.Frames.{IsFrame, IsBadLine};
+ghost use Rattle.ether_tool.specs.Frame.{IsFrame, IsBadLine};
 
 /// The most digits of a line.
 pub const MOST_DIGITS: usize = 4096;

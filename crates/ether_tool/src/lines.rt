@@ -3,7 +3,7 @@ ghost use Rattle.std.specs.Prelude.{◌≡◌};
 ghost use Rattle.ether_tool.specs.Lines.{mark_text, source_text};
 
 use crate::peel::{PeelError, PeelFault, PeelUnit, RestKind};
-use crate::text::{HexBytes, HexType};
+use crate::hex_text::{HexBytes, HexType};
 use ether_base::LenSource;
 use ether_tags::{Ethernet2Slice, SingleVlanSlice};
 use std::fmt;

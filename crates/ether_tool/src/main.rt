@@ -1,28 +1,28 @@
 //! Reads frames, one line of hexadecimal digits each, and answers each with the text of its walk.
 //!
 //! `main` reads the arguments, calls [`run::run`] on the standard streams, and ends with the
-//! status of [`fault::status_of`]. All that it prints goes to standard output.
+//! status of [`outcome::status_of`]. All that it prints goes to standard output.
 #![tactic(auto)]
 
-mod answer;
-pub mod fault;
+mod walk_text;
+pub mod outcome;
 pub mod frame;
-mod gathered;
+mod output_buffer;
 pub mod laws;
 mod lines;
 pub mod mode;
 pub mod peel;
-mod pending;
+mod line_buffer;
 pub mod plain;
 #[cfg(test)]
 mod plain_tests;
-mod progress;
+mod line_loop;
 pub mod run;
 #[cfg(test)]
 mod tests;
-mod text;
+mod hex_text;
 
-use fault::{ToolFault, status_of};
+use outcome::{ToolFault, status_of};
 use mode::{Mode, Usage, mode_of};
 use std::process::ExitCode;
 use std::{env, io};

@@ -1,6 +1,6 @@
 //! The modes of the tool, and the words that name them.
 ghost use Rattle.std.specs.Prelude.{map, IfOk, OnErr};
-ghost use Rattle.ether_tool.specs.Words.{NamesMode, NamesNoMode};
+ghost use Rattle.ether_tool.specs.Mode.{NamesMode, NamesNoMode};
 
 /// How the frames of a run begin.
 #[derive(Clone, Copy, PartialEq, Eq, Debug)]

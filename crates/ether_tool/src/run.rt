@@ -1,13 +1,13 @@
 //! The engine: from a reader of lines to a writer of answers.
 ghost use Rattle.std.specs.Prelude.{◌≡◌, IfOk, IfErr};
-ghost use Rattle.ether_tool.specs.Gathered.{contents_of};
-ghost use Rattle.ether_tool.specs.Output.{AnswersInput, OnBadLine, StopsInput};
-ghost use Rattle.ether_tool.specs.Progress.{IfSettled};
+ghost use Rattle.ether_tool.specs.OutputBuffer.{contents_of};
+ghost use Rattle.ether_tool.specs.Run.{AnswersInput, OnBadLine, StopsInput};
+ghost use Rattle.ether_tool.specs.LineLoop.{IfSettled};
 
-use crate::fault::{ToolFault, Verdict};
-use crate::gathered::Gathered;
+use crate::outcome::{ToolFault, Verdict};
+use crate::output_buffer::OutputBuffer;
 use crate::mode::Mode;
-use crate::progress::Progress;
+use crate::line_loop::LineLoop;
 use std::io::{Read, Write};
 
 /// The room for one read.
@@ -32,16 +32,16 @@ pub fn run<R: Read, W: Write>(
         (StopsInput mode (R.remaining reader.old) (R.remaining reader.new)
         (W.contents writer.old) (W.contents writer.new))) }
 {
-    let mut out = Gathered::new(writer);
-    match answer_lines(mode, reader, &mut out) {
+    let mut out = OutputBuffer::new(writer);
+    match read_lines(mode, reader, &mut out) {
         Ok(verdict) => {
-            if let Err(fault) = out.close() {
+            if let Err(fault) = out.flush() {
                 return Err(fault);
             }
             Ok(verdict)
         }
         Err(ToolFault::BadLine(number)) => {
-            if let Err(fault) = out.close() {
+            if let Err(fault) = out.flush() {
                 return Err(fault);
             }
             Err(ToolFault::BadLine(number))
@@ -52,10 +52,10 @@ pub fn run<R: Read, W: Write>(
 
 /// Reads the input to its end, and gathers the answers. What is gathered is written out before
 /// each read.
-fn answer_lines<R: Read, W: Write>(
+fn read_lines<R: Read, W: Write>(
     mode: Mode,
     reader: &mut R,
-    out: &mut Gathered<'_, W>,
+    out: &mut OutputBuffer<'_, W>,
 ) -> Result<Verdict, ToolFault>
     ensures same_writer { IfSettled result (out.new.writer.ghost_name ≡ out.old.writer.ghost_name) }
     ensures ok { IfOk result (AnswersInput mode (R.remaining reader.old) (R.remaining reader.new)
@@ -64,19 +64,19 @@ fn answer_lines<R: Read, W: Write>(
         (StopsInput mode (R.remaining reader.old) (R.remaining reader.new)
         (contents_of W.contents out.old) (contents_of W.contents out.new))) }
 {
-    let mut progress = Progress::new();
+    let mut lines = LineLoop::new();
     let mut chunk = [0; CHUNK];
     for _ in 0..u64::MAX {
-        if let Err(fault) = out.pour() {
+        if let Err(fault) = out.write_out() {
             return Err(fault);
         }
         let Ok(count) = reader.read(&mut chunk) else {
             return Err(ToolFault::Input);
         };
         if count == 0 {
-            return progress.finish(mode, out);
+            return lines.finish(mode, out);
         }
-        if let Err(fault) = progress.take_chunk(mode, &chunk[..count], out) {
+        if let Err(fault) = lines.take_chunk(mode, &chunk[..count], out) {
             return Err(fault);
         }
     }

@@ -1,6 +1,6 @@
 //! What no contract says, and examples of what they say.
 use super::*;
-use crate::fault::Verdict;
+use crate::outcome::Verdict;
 use crate::frame::frame_of;
 use crate::run::run;
 use arrayvec::ArrayVec;

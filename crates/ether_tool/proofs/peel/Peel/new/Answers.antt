@@ -2,8 +2,8 @@ use Rattle.std.proofs.Common.{length, refl, sym, arith}
 use Rattle.ether_base.proofs.Parts.{part_all}
 use Rattle.ether_tool.specs.Stack.{whole}
 use Rattle.ether_tool.specs.PeelStart.{start_of}
-use Rattle.ether_tool.proofs.Stacks.{some_stack}
-use Rattle.ether_tool.proofs.Walking.{no_fcs}
+use Rattle.ether_tool.proofs.StackLemmas.{some_stack}
+use Rattle.ether_tool.proofs.PeelLemmas.{no_fcs}
 use Rattle.ether_tool.proofs.peel.Peel.new.Goals as goal
 
 pub returns-clause-walk : goal.returns-clause-walk
