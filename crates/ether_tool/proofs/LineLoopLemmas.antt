@@ -5,6 +5,7 @@ use Rattle.std.specs.Str.Lines.{lines, strip_carriage_return}
 use Rattle.std.specs.Io.KnownBytes.{Appends}
 use Rattle.ether_tool.specs.OutputBuffer.{contents_of, WritesOut}
 use Rattle.ether_tool.specs.Run.{IsLineAnswered, AreAnswered, StopsAtLine, OnBadLine, verdict_of, verdict_with}
+use Rattle.ether_tool.specs.Frame.{IsBadLine}
 use Rattle.ether_tool.specs.LineBuffer.{KeepsLine, without_end}
 use Rattle.ether_tool.specs.LineLoop.{HasNoLineFeed, Reached, JudgesLine, RefusesLine, Advances, StopsWithin, Finishes, IsStart}
 use Rattle.ether_tool.specs.declared.mode.Mode.{Mode}
@@ -133,24 +134,27 @@ module _ {W : Type 0} (mode : Mode) (contents : W → Option (List ℕ)) where
         written = so_far.written;
       }
 
-  -- an LF, where the line is answered
-  pub Advances-line : (old new : LineLoop) (from to : OutputBuffer W)
-      → ((line : List ℕ) → KeepsLine old.line line → JudgesLine mode contents (without_end LineFeed line) old from new to)
-      → (to.writer.ghost_name ≡ from.writer.ghost_name) → Advances mode contents old from (10 ∷ []) new to
-  Advances-line old new from to judges same = record { same_writer = same; reached = more }
+  -- the last piece of a line and its LF, where the line is answered
+  pub Advances-line : (old new : LineLoop) (from to : OutputBuffer W) (piece : List ℕ) → HasNoLineFeed piece
+      → ((line : List ℕ) → KeepsLine old.line line → JudgesLine mode contents (without_end LineFeed (line ++ piece)) old from new to)
+      → (to.writer.ghost_name ≡ from.writer.ghost_name) → Advances mode contents old from (piece ++ 10 ∷ []) new to
+  Advances-line old new from to piece none judges same = record { same_writer = same; reached = more }
     where
-      more : (held : Option (List ℕ)) (input : List ℕ) → Reached mode contents held input old from → Reached mode contents held (input ++ 10 ∷ []) new to
+      more : (held : Option (List ℕ)) (input : List ℕ) → Reached mode contents held input old from → Reached mode contents held (input ++ (piece ++ 10 ∷ [])) new to
       more held input so_far =
           let judged = judges so_far.line so_far.kept in
-          let ended : List ℕ = strip_carriage_return so_far.line in
+          let line : List ℕ = so_far.line ++ piece in
+          let ended : List ℕ = strip_carriage_return line in
           record {
             done = so_far.done ++ ended ∷ [];
             line = [];
             text = so_far.text ++ judged.text;
             all_accepted = so_far.all_accepted && judged.accepted;
             parts = λ rest.
-                ap lines (append_assoc input (10 ∷ []) rest) ∙ so_far.parts (10 ∷ rest)
-                ∙ ap (λ (ls : List (List ℕ)). so_far.done ++ ls) (lines-line so_far.line rest so_far.in_line)
+                ap lines (append_assoc input (piece ++ 10 ∷ []) rest) ∙ so_far.parts ((piece ++ 10 ∷ []) ++ rest)
+                ∙ ap (λ (l : List ℕ). so_far.done ++ lines (so_far.line ++ l)) (append_assoc piece (10 ∷ []) rest)
+                ∙ ap (λ (l : List ℕ). so_far.done ++ lines l) (sym (append_assoc so_far.line piece (10 ∷ rest)))
+                ∙ ap (λ (ls : List (List ℕ)). so_far.done ++ ls) (lines-line line rest (HasNoLineFeed-append so_far.line piece so_far.in_line none))
                 ∙ sym (append_assoc so_far.done (ended ∷ []) (lines rest));
             in_line = HasNoLineFeed-nil;
             answered = AreAnswered-push mode so_far.done so_far.text so_far.all_accepted ended judged.text judged.accepted so_far.answered judged.answered;
@@ -160,29 +164,32 @@ module _ {W : Type 0} (mode : Mode) (contents : W → Option (List ℕ)) where
             written = Appends-then held (contents_of contents from) (contents_of contents to) so_far.text judged.text so_far.written judged.taken.grown;
           }
 
-  -- an LF, where the line is bad
-  pub StopsWithin-line : (old : LineLoop) (from to : OutputBuffer W) (number : ℕ) (after later : List ℕ)
-      → RefusesLine LineFeed old from to number → StopsWithin mode contents old from (10 ∷ after) later to number
-  StopsWithin-line old from to number after later refuses = record { same_writer = ap (λ (g : OutputBuffer W). g.writer.ghost_name) refuses.same; stops = stop }
+  -- the last piece of a line and its LF, where the line is bad
+  pub StopsWithin-line : (old : LineLoop) (from to : OutputBuffer W) (number : ℕ) (piece after later : List ℕ) → HasNoLineFeed piece
+      → RefusesLine piece LineFeed old from to number → StopsWithin mode contents old from (piece ++ 10 ∷ after) later to number
+  StopsWithin-line old from to number piece after later none refuses = record { same_writer = ap (λ (g : OutputBuffer W). g.writer.ghost_name) refuses.same; stops = stop }
     where
       stop : (held : Option (List ℕ)) (input : List ℕ) → Reached mode contents held input old from
-          → (text : List ℕ) × Appends held (contents_of contents to) text × StopsAtLine mode ((input ++ 10 ∷ after) ++ later) number text
-      stop held input so_far = (
-        so_far.text,
-        subst (λ (g : OutputBuffer W). Appends held (contents_of contents g) so_far.text) (sym refuses.same) so_far.written,
-        record {
-          good = so_far.done;
-          bad = strip_carriage_return so_far.line;
-          later = lines (after ++ later);
-          all_accepted = so_far.all_accepted;
-          parts =
-              ap lines (append_assoc input (10 ∷ after) later) ∙ so_far.parts (10 ∷ (after ++ later))
-              ∙ ap (λ (ls : List (List ℕ)). so_far.done ++ ls) (lines-line so_far.line (after ++ later) so_far.in_line);
-          answered = so_far.answered;
-          is_bad = refuses.is_bad so_far.line so_far.kept;
-          is_number = let k = refuses.is_number in let l = so_far.is_count in omega arith;
-        },
-      )
+          → (text : List ℕ) × Appends held (contents_of contents to) text × StopsAtLine mode ((input ++ (piece ++ 10 ∷ after)) ++ later) number text
+      stop held input so_far =
+          let line : List ℕ = so_far.line ++ piece in (
+            so_far.text,
+            subst (λ (g : OutputBuffer W). Appends held (contents_of contents g) so_far.text) (sym refuses.same) so_far.written,
+            record {
+              good = so_far.done;
+              bad = strip_carriage_return line;
+              later = lines (after ++ later);
+              all_accepted = so_far.all_accepted;
+              parts =
+                  ap lines (append_assoc input (piece ++ 10 ∷ after) later) ∙ so_far.parts ((piece ++ 10 ∷ after) ++ later)
+                  ∙ ap (λ (l : List ℕ). so_far.done ++ lines (so_far.line ++ l)) (append_assoc piece (10 ∷ after) later)
+                  ∙ ap (λ (l : List ℕ). so_far.done ++ lines l) (sym (append_assoc so_far.line piece (10 ∷ (after ++ later))))
+                  ∙ ap (λ (ls : List (List ℕ)). so_far.done ++ ls) (lines-line line (after ++ later) (HasNoLineFeed-append so_far.line piece so_far.in_line none));
+              answered = so_far.answered;
+              is_bad = refuses.is_bad so_far.line so_far.kept;
+              is_number = let k = refuses.is_number in let l = so_far.is_count in omega arith;
+            },
+          )
 
   pub StopsWithin-after : (old mid : LineLoop) (from between to : OutputBuffer W) (number : ℕ) (xs ys later : List ℕ)
       → Advances mode contents old from xs mid between → StopsWithin mode contents mid between ys later to number → StopsWithin mode contents old from (xs ++ ys) later to number
@@ -222,14 +229,14 @@ module _ {W : Type 0} (mode : Mode) (contents : W → Option (List ℕ)) where
 
   -- the end of the input, where it ends a line that is answered
   pub Finishes-line : (old new : LineLoop) (from to : OutputBuffer W) → ((line : List ℕ) → KeepsLine old.line line → (length line == 0) ≡ false)
-      → ((line : List ℕ) → KeepsLine old.line line → JudgesLine mode contents (without_end InputEnd line) old from new to)
+      → ((line : List ℕ) → KeepsLine old.line line → JudgesLine mode contents (without_end InputEnd (line ++ [])) old from new to)
       → (to.writer.ghost_name ≡ from.writer.ghost_name) → Finishes mode contents old from to new.verdict
   Finishes-line old new from to some judges same = record { same_writer = same; answered = all }
     where
       all : (held : Option (List ℕ)) (input : List ℕ) → Reached mode contents held input old from
           → (text : List ℕ) × (all_accepted : Bool) × Appends held (contents_of contents to) text × AreAnswered mode (lines input) text all_accepted × (new.verdict ≡ verdict_of all_accepted)
       all held input so_far =
-          let judged = judges so_far.line so_far.kept in
+          let judged = subst (λ (l : List ℕ). JudgesLine mode contents l old from new to) (append-nil so_far.line) (judges so_far.line so_far.kept) in
           let whole = ended_lines held input old from so_far (some so_far.line so_far.kept) in (
             so_far.text ++ judged.text,
             so_far.all_accepted && judged.accepted,
@@ -241,7 +248,7 @@ module _ {W : Type 0} (mode : Mode) (contents : W → Option (List ℕ)) where
 
   -- the end of the input, where it ends a bad line
   pub StopsWithin-end : (old : LineLoop) (from to : OutputBuffer W) (number : ℕ) → ((line : List ℕ) → KeepsLine old.line line → (length line == 0) ≡ false)
-      → RefusesLine InputEnd old from to number → StopsWithin mode contents old from [] [] to number
+      → RefusesLine [] InputEnd old from to number → StopsWithin mode contents old from [] [] to number
   StopsWithin-end old from to number some refuses = record { same_writer = ap (λ (g : OutputBuffer W). g.writer.ghost_name) refuses.same; stops = stop }
     where
       stop : (held : Option (List ℕ)) (input : List ℕ) → Reached mode contents held input old from
@@ -256,45 +263,41 @@ module _ {W : Type 0} (mode : Mode) (contents : W → Option (List ℕ)) where
           all_accepted = so_far.all_accepted;
           parts = ap lines (append-nil (input ++ []) ∙ append-nil input) ∙ ended_lines held input old from so_far (some so_far.line so_far.kept);
           answered = so_far.answered;
-          is_bad = refuses.is_bad so_far.line so_far.kept;
+          is_bad = subst IsBadLine (append-nil so_far.line) (refuses.is_bad so_far.line so_far.kept);
           is_number = let k = refuses.is_number in let l = so_far.is_count in omega arith;
         },
       )
 
   -- the same of a fault that names the bad line
   pub end_fault : (fault : ToolFault) (old : LineLoop) (from to : OutputBuffer W) → ((line : List ℕ) → KeepsLine old.line line → (length line == 0) ≡ false)
-      → OnBadLine fault (RefusesLine InputEnd old from to) → OnBadLine fault (StopsWithin mode contents old from [] [] to)
+      → OnBadLine fault (RefusesLine [] InputEnd old from to) → OnBadLine fault (StopsWithin mode contents old from [] [] to)
   end_fault fault old from to some refuses =
-      OnBadLine-map fault (RefusesLine InputEnd old from to) (StopsWithin mode contents old from [] [] to) (λ number h. StopsWithin-end old from to number some h) refuses
+      OnBadLine-map fault (RefusesLine [] InputEnd old from to) (StopsWithin mode contents old from [] [] to) (λ number h. StopsWithin-end old from to number some h) refuses
 
-  pub line_fault : (fault : ToolFault) (start old next : LineLoop) (first from to : OutputBuffer W) (chunk front rest line behind : List ℕ)
-      → chunk ≡ front ++ rest → Advances mode contents start first front old from → HasNoLineFeed line → rest ≡ line ++ 10 ∷ behind
-      → ((kept : List ℕ) → KeepsLine old.line kept → KeepsLine next.line (kept ++ line)) → next.count ≡ old.count → next.verdict ≡ old.verdict
-      → OnBadLine fault (RefusesLine LineFeed next from to)
+  -- a bad line of the chunk
+  pub line_fault : (fault : ToolFault) (start old : LineLoop) (first from to : OutputBuffer W) (chunk front rest piece behind : List ℕ)
+      → chunk ≡ front ++ rest → Advances mode contents start first front old from → HasNoLineFeed piece → rest ≡ piece ++ 10 ∷ behind
+      → OnBadLine fault (RefusesLine piece LineFeed old from to)
       → OnBadLine fault (λ number. (later : List ℕ) → StopsWithin mode contents start first chunk later to number)
-  line_fault fault start old next first from to chunk front rest line behind whole so_far none parts keeps count verdict refuses =
-      OnBadLine-map fault (RefusesLine LineFeed next from to) (λ number. (later : List ℕ) → StopsWithin mode contents start first chunk later to number) (λ number h later. stop number h later) refuses
+  line_fault fault start old first from to chunk front rest piece behind whole so_far none parts refuses =
+      OnBadLine-map fault (RefusesLine piece LineFeed old from to) (λ number. (later : List ℕ) → StopsWithin mode contents start first chunk later to number) (λ number h later. stop number h later) refuses
     where
-      stop : (number : ℕ) → RefusesLine LineFeed next from to number → (later : List ℕ) → StopsWithin mode contents start first chunk later to number
+      stop : (number : ℕ) → RefusesLine piece LineFeed old from to number → (later : List ℕ) → StopsWithin mode contents start first chunk later to number
       stop number h later =
-          let joined : front ++ (line ++ 10 ∷ behind) ≡ chunk = ap (λ (bytes : List ℕ). front ++ bytes) (sym parts) ∙ sym whole in
+          let joined : front ++ (piece ++ 10 ∷ behind) ≡ chunk = ap (λ (bytes : List ℕ). front ++ bytes) (sym parts) ∙ sym whole in
           subst (λ (bytes : List ℕ). StopsWithin mode contents start first bytes later to number) joined
-          (StopsWithin-after start old first from to number front (line ++ 10 ∷ behind) later so_far
-          (StopsWithin-after old next from from to number line (10 ∷ behind) later
-          (Advances-piece old next from line none keeps count verdict) (StopsWithin-line next from to number behind later h)))
+          (StopsWithin-after start old first from to number front (piece ++ 10 ∷ behind) later so_far (StopsWithin-line old from to number piece behind later none h))
 
   -- a line of the chunk more
-  pub line_taken : (start old next new : LineLoop) (first from to : OutputBuffer W) (chunk front rest line behind : List ℕ)
-      → chunk ≡ front ++ rest → Advances mode contents start first front old from → HasNoLineFeed line → rest ≡ line ++ 10 ∷ behind
-      → ((kept : List ℕ) → KeepsLine old.line kept → KeepsLine next.line (kept ++ line)) → next.count ≡ old.count → next.verdict ≡ old.verdict
-      → ((kept : List ℕ) → KeepsLine next.line kept → JudgesLine mode contents (without_end LineFeed kept) next from new to)
+  pub line_taken : (start old new : LineLoop) (first from to : OutputBuffer W) (chunk front rest piece behind : List ℕ)
+      → chunk ≡ front ++ rest → Advances mode contents start first front old from → HasNoLineFeed piece → rest ≡ piece ++ 10 ∷ behind
+      → ((line : List ℕ) → KeepsLine old.line line → JudgesLine mode contents (without_end LineFeed (line ++ piece)) old from new to)
       → (to.writer.ghost_name ≡ from.writer.ghost_name)
       → (more : List ℕ) × (chunk ≡ more ++ behind) × Advances mode contents start first more new to
-  line_taken start old next new first from to chunk front rest line behind whole so_far none parts keeps count verdict judges same = (
-    front ++ (line ++ 10 ∷ []),
-    whole ∙ ap (λ (bytes : List ℕ). front ++ bytes) (parts ∙ sym (append_assoc line (10 ∷ []) behind)) ∙ sym (append_assoc front (line ++ 10 ∷ []) behind),
-    Advances-then start old new first from to front (line ++ 10 ∷ []) so_far
-        (Advances-then old next new from from to line (10 ∷ []) (Advances-piece old next from line none keeps count verdict) (Advances-line next new from to judges same)),
+  line_taken start old new first from to chunk front rest piece behind whole so_far none parts judges same = (
+    front ++ (piece ++ 10 ∷ []),
+    whole ∙ ap (λ (bytes : List ℕ). front ++ bytes) (parts ∙ sym (append_assoc piece (10 ∷ []) behind)) ∙ sym (append_assoc front (piece ++ 10 ∷ []) behind),
+    Advances-then start old new first from to front (piece ++ 10 ∷ []) so_far (Advances-line old new from to piece none judges same),
   )
 
   -- the rest of the chunk

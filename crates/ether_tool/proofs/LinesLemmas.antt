@@ -25,10 +25,14 @@ lines-last line none some = ap lines_of_parts (slice_split_none (λ b. b == 10) 
     one_part : (line : List ℕ) → (length line == 0) ≡ false → lines_of_parts (line ∷ []) ≡ line ∷ []
     one_part line some = rw some
 
+-- a line of no byte
+pub no_byte : (line : List ℕ) → (length line == 0) ≡ true → line ≡ []
+no_byte [] none = refl
+no_byte (x ∷ xs) none = let z : length (x ∷ xs) ≡ 0 = eqb-true (length (x ∷ xs)) 0 none in absurd (omega arith)
+
 -- no byte, no line
 pub lines-nothing : (line : List ℕ) → (length line == 0) ≡ true → lines line ≡ []
-lines-nothing [] none = refl
-lines-nothing (x ∷ xs) none = let z : length (x ∷ xs) ≡ 0 = eqb-true (length (x ∷ xs)) 0 none in absurd (omega arith)
+lines-nothing line none = ap lines (no_byte line none)
 
 pub HasNoLineFeed-nil : HasNoLineFeed []
 HasNoLineFeed-nil = All-nil (λ (byte : ℕ). (byte == 10) ≡ false)

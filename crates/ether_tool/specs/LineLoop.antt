@@ -48,9 +48,9 @@ pub record JudgesLine {W : Type 0} (mode : Mode) (contents : W → Option (List 
   pub is_count : new.count ≡ number_behind old.count
   pub begins : KeepsLine new.line []
 
--- the line is bad, and nothing is written for it
-pub record RefusesLine {W : Type 0} (end : LineEnd) (old : LineLoop) (from to : OutputBuffer W) (number : ℕ) : Type 0 where
-  pub is_bad : (line : List ℕ) → KeepsLine old.line line → IsBadLine (without_end end line)
+-- the line under way and its last piece are a bad line, and nothing is written for it
+pub record RefusesLine {W : Type 0} (piece : List ℕ) (end : LineEnd) (old : LineLoop) (from to : OutputBuffer W) (number : ℕ) : Type 0 where
+  pub is_bad : (line : List ℕ) → KeepsLine old.line line → IsBadLine (without_end end (line ++ piece))
   pub is_number : number ≡ number_behind old.count
   pub same : to ≡ from
 

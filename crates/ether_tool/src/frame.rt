@@ -1,20 +1,23 @@
 //! The frame that a line names.
 ghost use Rattle.std.specs.Prelude.{◌≤◌, ◌↔◌, take, IfSome, IsNone};
-ghost use Rattle.ether_tool.specs.Frame.{IsFrame, IsBadLine};
+ghost use Rattle.ether_tool.specs.Frame.{max_frame_len, IsFrame, IsBadLine};
 
-/// The most digits of a line.
-pub const MOST_DIGITS: usize = 4096;
+/// The number of bytes of the longest frame that a line can name.
+pub const MAX_FRAME_LEN: usize = 2048;
+
+/// The number of digits of the longest line: two for each byte of a frame.
+pub const MAX_LINE_DIGITS: usize = 2 * MAX_FRAME_LEN;
 
 /// The count of bytes of the frame that `line` names, which then begin `out`.
 ///
 /// `line` is given without its end. Digits of either case count. Where the answer is `None`,
 /// nothing is said of `out`.
-pub fn frame_of(line: &[u8], out: &mut [u8; 2048]) -> Option<usize>
-    ensures within { IfSome result (λ count. count ≤ 2048) }
+pub fn frame_of(line: &[u8], out: &mut [u8; MAX_FRAME_LEN]) -> Option<usize>
+    ensures within { IfSome result (λ count. count ≤ max_frame_len) }
     ensures frame { IfSome result (λ count. IsFrame line.now (take count out.new)) }
     ensures bad { IsNone result ↔ IsBadLine line.now }
 {
-    if line.len() > MOST_DIGITS {
+    if line.len() > MAX_LINE_DIGITS {
         return None;
     }
     let count = line.len() / 2;

@@ -1,5 +1,5 @@
 //! The line under way.
-use crate::frame::frame_of;
+use crate::frame::{MAX_FRAME_LEN, MAX_LINE_DIGITS, frame_of};
 use arrayvec::ArrayVec;
 
 /// What ended a line.
@@ -11,18 +11,21 @@ pub enum LineEnd {
     InputEnd,
 }
 
+/// The room for a line: the most digits, and a CR.
+const ROOM: usize = MAX_LINE_DIGITS + 1;
+
 /// The bytes of the line under way, as far as a frame may need them.
 ///
 /// The most digits and a CR fit. Of a longer line only that it is too long is kept.
 #[derive(Drop)]
 pub struct LineBuffer {
-    bytes: ArrayVec<u8, 4097>,
+    bytes: ArrayVec<u8, ROOM>,
     is_long: bool,
 }
 
 impl LineBuffer {
     ghost use Rattle.std.specs.Prelude.{◌≡◌, ◌==◌, ◌≤◌, ℕ, List, [], ◌++◌, length, take, IfSome, IfNone};
-    ghost use Rattle.ether_tool.specs.Frame.{IsFrame, IsBadLine};
+    ghost use Rattle.ether_tool.specs.Frame.{max_frame_len, IsFrame, IsBadLine};
     ghost use Rattle.ether_tool.specs.LineBuffer.{KeepsLine, without_end};
 
     /// A line that has just begun.
@@ -59,35 +62,57 @@ impl LineBuffer {
         }
     }
 
-    /// The count of bytes of the frame that the line names, which then begin `out`. `None` where
-    /// the line is bad.
-    pub fn frame(&self, end: LineEnd, out: &mut [u8; 2048]) -> Option<usize>
-        ensures within { IfSome result (λ count. count ≤ 2048) }
+    /// Ends the line with its last piece, and begins the next: the length of the frame that the
+    /// line names, which then begins `frame`. `None` where the line is bad.
+    ///
+    /// A line that is one piece is not copied.
+    pub fn end(
+        &mut self,
+        piece: &[u8],
+        end: LineEnd,
+        frame: &mut [u8; MAX_FRAME_LEN],
+    ) -> Option<usize>
+        ensures within { IfSome result (λ len. len ≤ max_frame_len) }
+        ensures frame { (line : List ℕ) → KeepsLine self.old line
+            → IfSome result (λ len. IsFrame (without_end end (line ++ piece.now)) (take len frame.new)) }
+        ensures bad { (line : List ℕ) → KeepsLine self.old line
+            → IfNone result (IsBadLine (without_end end (line ++ piece.now))) }
+        ensures next { (line : List ℕ) → KeepsLine self.old line → KeepsLine self.new [] }
+    {
+        if self.is_empty() {
+            return frame_of(without_end(piece, end), frame);
+        }
+        self.extend(piece);
+        let len = self.frame(end, frame);
+        self.clear();
+        len
+    }
+
+    /// The length of the frame that the line names, which then begins `frame`. `None` where the
+    /// line is bad.
+    fn frame(&self, end: LineEnd, frame: &mut [u8; MAX_FRAME_LEN]) -> Option<usize>
+        ensures within { IfSome result (λ len. len ≤ max_frame_len) }
         ensures frame { (line : List ℕ) → KeepsLine self.now line
-            → IfSome result (λ count. IsFrame (without_end end line) (take count out.new)) }
+            → IfSome result (λ len. IsFrame (without_end end line) (take len frame.new)) }
         ensures bad { (line : List ℕ) → KeepsLine self.now line
             → IfNone result (IsBadLine (without_end end line)) }
     {
         if self.is_long {
             return None;
         }
-        let line = self.bytes.as_slice();
-        match end {
-            LineEnd::LineFeed => frame_of(without_carriage_return(line), out),
-            LineEnd::InputEnd => frame_of(line, out),
-        }
+        frame_of(without_end(self.bytes.as_slice(), end), frame)
     }
 }
 
 ghost use Rattle.std.specs.Prelude.{◌≡◌};
-ghost use Rattle.std.specs.Str.Lines.{strip_carriage_return};
+ghost use Rattle.ether_tool.specs.LineBuffer.{without_end as line_without_end};
 
-/// The line without the one CR that may end it.
-fn without_carriage_return(line: &[u8]) -> &[u8]
-    ensures { result.now ≡ strip_carriage_return line.now }
+/// The line without the one CR that may stand before the LF that ended it.
+fn without_end(line: &[u8], end: LineEnd) -> &[u8]
+    ensures { result.now ≡ line_without_end end line.now }
 {
-    match line {
-        [front @ .., b'\r'] => front,
+    match (end, line) {
+        (LineEnd::LineFeed, [front @ .., b'\r']) => front,
         _ => line,
     }
 }

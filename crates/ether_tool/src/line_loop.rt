@@ -1,16 +1,16 @@
 //! How far a run has come.
-use crate::walk_text::put_walk;
+use crate::frame::MAX_FRAME_LEN;
+use crate::line_buffer::{LineBuffer, LineEnd};
+use crate::mode::Mode;
 use crate::outcome::{ToolFault, Verdict};
 use crate::output_buffer::OutputBuffer;
-use crate::mode::Mode;
-use crate::line_buffer::{LineEnd, LineBuffer};
+use crate::walk_text::put_walk;
 use std::io::Write;
 
 /// The line under way, and what the lines before it gave.
 #[derive(Drop)]
 pub struct LineLoop {
     line: LineBuffer,
-    frame: [u8; 2048],
     count: u64,
     verdict: Verdict,
 }
@@ -28,35 +28,36 @@ impl LineLoop {
     {
         LineLoop {
             line: LineBuffer::new(),
-            frame: [0; 2048],
             count: 0,
             verdict: Verdict::AllAccepted,
         }
     }
 
-    /// Answers the line under way, which has ended, and begins the next.
-    pub fn judge<W: Write>(
+    /// Answers the line under way, which ends with this piece, and begins the next. `frame` is
+    /// room for the line's frame.
+    fn judge<W: Write>(
         &mut self,
         mode: Mode,
+        piece: &[u8],
         end: LineEnd,
+        frame: &mut [u8; MAX_FRAME_LEN],
         out: &mut OutputBuffer<'_, W>,
     ) -> Result<(), ToolFault>
         ensures ok { OnOk result ((line : List ℕ) → KeepsLine self.old.line line
-            → JudgesLine mode W.contents (without_end end line) self.old out.old self.new out.new) }
+            → JudgesLine mode W.contents (without_end end (line ++ piece.now)) self.old out.old self.new out.new) }
         ensures same_writer { OnOk result (out.new.writer.ghost_name ≡ out.old.writer.ghost_name) }
-        ensures bad { IfErr result (λ fault. OnBadLine fault (RefusesLine end self.old out.old out.new)) }
+        ensures bad { IfErr result (λ fault. OnBadLine fault (RefusesLine piece.now end self.old out.old out.new)) }
     {
         let number = self.count.saturating_add(1);
-        let Some(count) = self.line.frame(end, &mut self.frame) else {
+        let Some(len) = self.line.end(piece, end, frame) else {
             return Err(ToolFault::BadLine(number));
         };
-        let accepted = match put_walk(mode, &self.frame[..count], out) {
+        let accepted = match put_walk(mode, &frame[..len], out) {
             Ok(accepted) => accepted,
             Err(fault) => return Err(fault),
         };
         self.verdict = self.verdict.with(accepted);
         self.count = number;
-        self.line.clear();
         Ok(())
     }
 
@@ -71,10 +72,10 @@ impl LineLoop {
         ensures bad { IfErr result (λ fault. OnBadLine fault (λ number. (later : List ℕ)
             → StopsWithin mode W.contents self.old out.old chunk.now later out.new number)) }
     {
+        let mut frame = [0; MAX_FRAME_LEN];
         let mut rest = chunk;
-        while let Some((line, behind)) = split_line(rest) {
-            self.line.extend(line);
-            if let Err(fault) = self.judge(mode, LineEnd::LineFeed, out) {
+        while let Some((piece, behind)) = split_line(rest) {
+            if let Err(fault) = self.judge(mode, piece, LineEnd::LineFeed, &mut frame, out) {
                 return Err(fault);
             }
             rest = behind;
@@ -96,7 +97,8 @@ impl LineLoop {
         if self.line.is_empty() {
             return Ok(self.verdict);
         }
-        if let Err(fault) = self.judge(mode, LineEnd::InputEnd, out) {
+        let mut frame = [0; MAX_FRAME_LEN];
+        if let Err(fault) = self.judge(mode, &[], LineEnd::InputEnd, &mut frame, out) {
             return Err(fault);
         }
         Ok(self.verdict)

@@ -2,8 +2,8 @@
 ghost use Rattle.std.specs.Prelude.{◌≡◌};
 ghost use Rattle.ether_tool.specs.Lines.{mark_text, source_text};
 
-use crate::peel::{PeelError, PeelFault, PeelUnit, RestKind};
 use crate::hex_text::{HexBytes, HexType};
+use crate::peel::{PeelError, PeelFault, PeelUnit, RestKind};
 use ether_base::LenSource;
 use ether_tags::{Ethernet2Slice, SingleVlanSlice};
 use std::fmt;

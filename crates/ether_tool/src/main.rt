@@ -4,26 +4,26 @@
 //! status of [`outcome::status_of`]. All that it prints goes to standard output.
 #![tactic(auto)]
 
-mod walk_text;
-pub mod outcome;
 pub mod frame;
-mod output_buffer;
+mod hex_text;
 pub mod laws;
+mod line_buffer;
+mod line_loop;
 mod lines;
 pub mod mode;
+pub mod outcome;
+mod output_buffer;
 pub mod peel;
-mod line_buffer;
 pub mod plain;
 #[cfg(test)]
 mod plain_tests;
-mod line_loop;
 pub mod run;
 #[cfg(test)]
 mod tests;
-mod hex_text;
+mod walk_text;
 
-use outcome::{ToolFault, status_of};
 use mode::{Mode, Usage, mode_of};
+use outcome::{ToolFault, status_of};
 use std::process::ExitCode;
 use std::{env, io};
 

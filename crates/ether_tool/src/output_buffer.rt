@@ -4,13 +4,16 @@ use arrayvec::ArrayVec;
 use std::fmt;
 use std::io::Write;
 
+/// The room for text that waits.
+const ROOM: usize = 8192;
+
 /// Text on its way to a writer, gathered so that many short pieces cost one write.
 ///
 /// What it holds is the writer's contents followed by the text that waits. `write!` works on it.
 #[derive(Drop)]
 pub struct OutputBuffer<'a, W> {
     writer: &'a mut W,
-    waiting: ArrayVec<u8, 8192>,
+    waiting: ArrayVec<u8, ROOM>,
 }
 
 impl<'a, W: Write> OutputBuffer<'a, W> {

@@ -4,10 +4,10 @@ ghost use Rattle.ether_tool.specs.OutputBuffer.{contents_of};
 ghost use Rattle.ether_tool.specs.Run.{AnswersInput, OnBadLine, StopsInput};
 ghost use Rattle.ether_tool.specs.LineLoop.{IfSettled};
 
+use crate::line_loop::LineLoop;
+use crate::mode::Mode;
 use crate::outcome::{ToolFault, Verdict};
 use crate::output_buffer::OutputBuffer;
-use crate::mode::Mode;
-use crate::line_loop::LineLoop;
 use std::io::{Read, Write};
 
 /// The room for one read.

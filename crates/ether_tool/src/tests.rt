@@ -1,7 +1,7 @@
 //! What no contract says, and examples of what they say.
 use super::*;
-use crate::outcome::Verdict;
 use crate::frame::frame_of;
+use crate::outcome::Verdict;
 use crate::run::run;
 use arrayvec::ArrayVec;
 use std::io::{ErrorKind, Read, Write};

@@ -4,10 +4,10 @@ ghost use Rattle.ether_tool.specs.OutputBuffer.{Takes, TakesWalk};
 ghost use Rattle.ether_tool.specs.WalkText.{start_of_mode};
 ghost use Rattle.ether_tool.specs.PeelStart.{start_of};
 
-use crate::outcome::ToolFault;
-use crate::output_buffer::OutputBuffer;
 use crate::lines::{FaultLine, RestLine, UnitLine};
 use crate::mode::Mode;
+use crate::outcome::ToolFault;
+use crate::output_buffer::OutputBuffer;
 use crate::peel::{Peel, Start};
 use std::fmt::{Display, Write as _};
 use std::io::Write;

@@ -2,8 +2,8 @@ use Rattle.std.proofs.Common.{◌≡◌, ℕ, List, ◌++◌, length}
 use Rattle.ether_tool.specs.LineLoop.{Advances}
 use Rattle.ether_tool.proofs.line_loop.LineLoop.take_chunk.Given as goal
 
-abbrev pub invariant-loop-line : goal.invariant-loop-line
-invariant-loop-line g l = (front : List ℕ) × (l.chunk ≡ front ++ l.rest) × Advances l.mode g.W.Write.contents l.fn.self l.fn.out front l.self l.out
+abbrev pub invariant-loop-piece : goal.invariant-loop-piece
+invariant-loop-piece g l = (front : List ℕ) × (l.chunk ≡ front ++ l.rest) × Advances l.mode g.W.Write.contents l.fn.self l.fn.out front l.self l.out
 
-abbrev pub decreases-loop-line : goal.decreases-loop-line
-decreases-loop-line g l = length l.rest
+abbrev pub decreases-loop-piece : goal.decreases-loop-piece
+decreases-loop-piece g l = length l.rest

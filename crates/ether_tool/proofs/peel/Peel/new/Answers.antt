@@ -8,9 +8,9 @@ use Rattle.ether_tool.proofs.peel.Peel.new.Goals as goal
 
 pub returns-clause-walk : goal.returns-clause-walk
 returns-clause-walk c =
-    let list = c.args.list.now in
+    let list = c.args.bytes.now in
     let x = start_of c.args.start in
-    let s = some_stack list x (whole x list) (λ i. omega (arith, c.type_inv.list i)) in (
+    let s = some_stack list x (whole x list) (λ i. omega (arith, c.type_inv.bytes i)) in (
       s.0,
       s.1,
       s.2,
