@@ -26,3 +26,38 @@ pub fn frame_of(line: &[u8], out: &mut [u8; MAX_FRAME_LEN]) -> Option<usize>
         Err(_) => None,
     }
 }
+
+#[cfg(test)]
+mod tests {
+    use super::*;
+    use crate::test_frames::{CAPTURED, CAPTURED_IN_A_VLAN};
+
+    #[test]
+    fn reads_digits_of_either_case(rt: HostRuntime) {
+        let mut frame = [0; MAX_FRAME_LEN];
+        let len = frame_of(b"0aA9fF", &mut frame);
+        assert_eq!(rt; len, Some(3));
+        assert_eq!(rt; &frame[..3], [0x0a, 0xa9, 0xff].as_slice());
+        assert_eq!(rt; frame_of(CAPTURED, &mut frame), Some(64));
+        assert_eq!(rt; &frame[..64], CAPTURED_IN_A_VLAN.as_slice());
+    }
+
+    #[test]
+    fn refuses_what_is_no_pair_of_digits(rt: HostRuntime) {
+        let mut frame = [0; MAX_FRAME_LEN];
+        for line in [b"0g", b"g0", b"0 ", b"\r0", b"0/", b":0", b"@0", b"0`"] {
+            assert_eq!(rt; frame_of(line, &mut frame), None, "{line:?}");
+        }
+        assert_eq!(rt; frame_of(b"012", &mut frame), None);
+    }
+
+    #[test]
+    fn reads_up_to_4096_digits(rt: HostRuntime) {
+        let mut frame = [0; MAX_FRAME_LEN];
+        assert_eq!(rt; frame_of(&[], &mut frame), Some(0));
+        assert_eq!(rt; frame_of(&[b'a'; 4096], &mut frame), Some(2048));
+        assert_eq!(rt; frame, [0xaa; 2048]);
+        assert_eq!(rt; frame_of(&[b'0'; 4097], &mut frame), None);
+        assert_eq!(rt; frame_of(&[b'0'; 4098], &mut frame), None);
+    }
+}

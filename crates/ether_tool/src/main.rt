@@ -4,6 +4,8 @@
 //! status of [`outcome::status_of`]. All that it prints goes to standard output.
 #![tactic(auto)]
 
+#[cfg(test)]
+mod derived_traits;
 pub mod frame;
 mod hex_text;
 pub mod laws;
@@ -15,11 +17,9 @@ pub mod outcome;
 mod output_buffer;
 pub mod peel;
 pub mod plain;
-#[cfg(test)]
-mod plain_tests;
 pub mod run;
 #[cfg(test)]
-mod tests;
+mod test_frames;
 mod walk_text;
 
 use mode::{Mode, Usage, mode_of};
@@ -73,4 +73,17 @@ fn tool<R: Print + Input + AllocGlobal + std::rt::Env>(rt: &R) -> u8 {
 
 fn main(rt: HostRuntime) -> ExitCode {
     ExitCode::from(tool(&rt))
+}
+
+#[cfg(test)]
+mod tests {
+    use super::*;
+
+    #[test]
+    fn shows_its_usage(rt: HostRuntime) {
+        assert_eq!(rt;
+            USAGE,
+            "usage: ether_tool eth | fcs | sll | type XXXX | feed"
+        );
+    }
 }

@@ -26,3 +26,18 @@ pub fn mode_of(words: &[&str]) -> Result<Mode, Usage>
         _ => Err(Usage),
     }
 }
+
+#[cfg(test)]
+mod tests {
+    use super::*;
+
+    #[test]
+    fn names_modes(rt: HostRuntime) {
+        assert_eq!(rt; mode_of(&[]), Ok(Mode::Eth));
+        assert_eq!(rt; mode_of(&["eth"]), Ok(Mode::Eth));
+        for words in [["Eth"], ["et"], ["eth "], [""]] {
+            assert_eq!(rt; mode_of(&words), Err(Usage));
+        }
+        assert_eq!(rt; mode_of(&["eth", "eth"]), Err(Usage));
+    }
+}

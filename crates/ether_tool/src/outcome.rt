@@ -50,3 +50,40 @@ pub fn status_of(outcome: &Result<Verdict, ToolFault>) -> u8
         Err(ToolFault::Input | ToolFault::Output) => 4,
     }
 }
+
+#[cfg(test)]
+mod tests {
+    use super::*;
+    use std::test::Fail;
+
+    #[test]
+    fn gives_each_outcome_its_status(rt: HostRuntime) {
+        assert_eq!(rt; status_of(&Ok(Verdict::AllAccepted)), 0);
+        assert_eq!(rt; status_of(&Ok(Verdict::SomeRefused)), 1);
+        assert_eq!(rt; status_of(&Err(ToolFault::BadLine(7))), 3);
+        assert_eq!(rt; status_of(&Err(ToolFault::Input)), 4);
+        assert_eq!(rt; status_of(&Err(ToolFault::Output)), 4);
+    }
+
+    #[test]
+    fn shows_faults(rt: HostRuntime) -> Result<(), Fail> {
+        let texts = [
+            (ToolFault::BadLine(12), "line 12: bad line"),
+            (ToolFault::Input, "input failed"),
+            (ToolFault::Output, "output failed"),
+        ];
+        for (fault, text) in texts {
+            assert_eq!(rt; format!(in rt.alloc(); "{fault}")?.as_str(), text);
+        }
+        Ok(())
+    }
+
+    #[test]
+    fn faults_are_equal_where_their_lines_are(rt: HostRuntime) {
+        assert!(rt; ToolFault::BadLine(1) == ToolFault::BadLine(1));
+        assert!(rt; ToolFault::BadLine(1) != ToolFault::BadLine(2));
+        assert!(rt; ToolFault::BadLine(1) != ToolFault::Input);
+        assert!(rt; ToolFault::Input != ToolFault::Output);
+        assert!(rt; Verdict::AllAccepted != Verdict::SomeRefused);
+    }
+}

@@ -229,3 +229,6 @@ fn payload(window: PlainWindow, header: PlainHeader) -> PlainWindow
         closed: window.closed,
     }
 }
+
+#[cfg(test)]
+mod tests;

@@ -82,3 +82,6 @@ fn read_lines<R: Read, W: Write>(
     }
     Err(ToolFault::Input)
 }
+
+#[cfg(test)]
+mod tests;

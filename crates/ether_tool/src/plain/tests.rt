@@ -1,7 +1,8 @@
-//! The walker and the plain walk, on the same small lists.
+//! The walker and the plain walk, on the same small frames.
 use crate::peel::{Peel, PeelError, PeelFault, PeelUnit, RestKind, Start};
 use crate::plain::{PlainEnding, PlainHeader, PlainWindow, walk};
-use ether_base::err::LenError;
+use crate::test_frames::CAPTURED_IN_A_VLAN;
+use ether_base::err::{Layer, LenError};
 use ether_base::{EtherType, LenSource};
 use std::process::Abort;
 use std::test::Fail;
@@ -13,7 +14,8 @@ const TAGGED: [u8; 19] = [
 
 #[test]
 fn both_walks_of_every_front_agree(rt: HostRuntime) -> Result<(), Fail> {
-    let lists: [&[u8]; 6] = [
+    let frames: [&[u8]; 7] = [
+        &CAPTURED_IN_A_VLAN,
         &[1, 2, 3, 4, 5, 6, 7, 8, 9, 10, 11, 12, 0x08, 0x00, 0x45],
         &TAGGED,
         &[
@@ -33,10 +35,10 @@ fn both_walks_of_every_front_agree(rt: HostRuntime) -> Result<(), Fail> {
     ];
     let tag = Start::EtherType(EtherType(0x8100));
     let packet = Start::EtherType(EtherType(0x0800));
-    for list in lists {
+    for frame in frames {
         for start in [Start::Ethernet2, tag, packet] {
-            for end in 0..=list.len() {
-                compare(&rt, start, &list[..end])?;
+            for end in 0..=frame.len() {
+                compare(&rt, start, &frame[..end])?;
             }
         }
     }
@@ -70,33 +72,67 @@ fn a_tagged_frame(rt: HostRuntime) -> Result<(), Fail> {
     Ok(())
 }
 
-/// Walks a list both ways: the headers, the end or the fault, the window that is left and its announcement are the same.
-fn compare<R: Abort + AllocGlobal>(rt: &R, start: Start, list: &[u8]) -> Result<(), Fail> {
-    let plain = walk(rt.alloc(), start, list)?;
-    let mut peel = Peel::new(start, list);
+#[test]
+fn endings_are_equal_where_each_field_is(rt: HostRuntime) {
+    let window = PlainWindow {
+        start: 14,
+        end: 16,
+        closed: false,
+    };
+    let (ipv4, arp) = (
+        Start::EtherType(EtherType::IPV4),
+        Start::EtherType(EtherType::ARP),
+    );
+    let accepted = |window, expected| PlainEnding::Accepted { window, expected };
+    let fault = |required, len, layer| PlainEnding::Fault {
+        window,
+        expected: ipv4,
+        required,
+        len,
+        layer,
+    };
+    let (ethernet, vlan) = (Layer::Ethernet2Header, Layer::VlanHeader);
+    let closed = PlainWindow {
+        closed: true,
+        ..window
+    };
+    assert!(rt; accepted(window, ipv4) == accepted(window, ipv4));
+    assert!(rt; accepted(window, ipv4) != accepted(closed, ipv4));
+    assert!(rt; accepted(window, ipv4) != accepted(window, arp));
+    assert!(rt; fault(4, 2, vlan) == fault(4, 2, vlan));
+    assert!(rt; fault(4, 2, vlan) != fault(5, 2, vlan));
+    assert!(rt; fault(4, 2, vlan) != fault(4, 3, vlan));
+    assert!(rt; fault(4, 2, vlan) != fault(4, 2, ethernet));
+    assert!(rt; fault(4, 2, vlan) != accepted(window, ipv4));
+}
+
+/// Walks a frame both ways: the headers, the end or the fault, the window that is left and its announcement are the same.
+fn compare<R: Abort + AllocGlobal>(rt: &R, start: Start, frame: &[u8]) -> Result<(), Fail> {
+    let plain = walk(rt.alloc(), start, frame)?;
+    let mut peel = Peel::new(start, frame);
     for header in &plain.headers {
         match peel.next() {
-            Some(Ok(unit)) => assert_eq!(rt; shown(&unit), *header, "{list:?}"),
-            other => panic!(rt; "{other:?} in place of {header:?} in {list:?}"),
+            Some(Ok(unit)) => assert_eq!(rt; shown(&unit), *header, "{frame:?}"),
+            other => panic!(rt; "{other:?} in place of {header:?} in {frame:?}"),
         }
     }
-    assert_eq!(rt; peel.next(), last_item(plain.ending), "{list:?}");
+    assert_eq!(rt; peel.next(), last_item(plain.ending), "{frame:?}");
     let (PlainEnding::Accepted { window, expected }
     | PlainEnding::Fault {
         window,
         expected,
         ..
     }) = plain.ending;
-    assert!(rt; peel.next().is_none(), "{list:?}");
-    let left = list.get(window.start..window.end);
-    assert_eq!(rt; Some(peel.rest()), left, "{list:?}");
-    assert_eq!(rt; peel.offset(), window.start, "{list:?}");
-    assert_eq!(rt; peel.closed(), window.closed, "{list:?}");
+    assert!(rt; peel.next().is_none(), "{frame:?}");
+    let left = frame.get(window.start..window.end);
+    assert_eq!(rt; Some(peel.rest()), left, "{frame:?}");
+    assert_eq!(rt; peel.offset(), window.start, "{frame:?}");
+    assert_eq!(rt; peel.closed(), window.closed, "{frame:?}");
     let kind = match expected {
         Start::Ethernet2 => RestKind::Start,
         Start::EtherType(ether_type) => RestKind::EtherType(ether_type),
     };
-    assert_eq!(rt; peel.kind(), kind, "{list:?}");
+    assert_eq!(rt; peel.kind(), kind, "{frame:?}");
     Ok(())
 }
 
@@ -128,10 +164,10 @@ fn last_item<'a>(ending: PlainEnding) -> Option<Result<PeelUnit<'a>, PeelFault>>
 /// A unit's header, by the getters of its view.
 fn shown(unit: &PeelUnit<'_>) -> PlainHeader {
     match unit {
-        PeelUnit::Ethernet2(frame) => PlainHeader::Ethernet2 {
-            destination: address_number(frame.destination()),
-            source: address_number(frame.source()),
-            ether_type: frame.ether_type().0,
+        PeelUnit::Ethernet2(slice) => PlainHeader::Ethernet2 {
+            destination: address_number(slice.destination()),
+            source: address_number(slice.source()),
+            ether_type: slice.ether_type().0,
         },
         PeelUnit::Vlan(tag) => PlainHeader::Vlan {
             pcp: u16::from(tag.priority_code_point().value()),
