@@ -4,10 +4,10 @@ use Rattle.std.proofs.lemmas.List.{length-append}
 use Rattle.std.specs.Str.Lines.{lines, strip_carriage_return}
 use Rattle.std.specs.Io.KnownBytes.{Appends}
 use Rattle.ether_tool.specs.OutputBuffer.{contents_of, WritesOut}
-use Rattle.ether_tool.specs.Run.{IsLineAnswered, AreAnswered, StopsAtLine, OnBadLine, verdict_of, verdict_with}
+use Rattle.ether_tool.specs.Run.{HasNoLineFeed, IsLineAnswered, AreAnswered, StopsAtLine, OnBadLine, verdict_of, verdict_with}
 use Rattle.ether_tool.specs.Frame.{IsBadLine}
 use Rattle.ether_tool.specs.LineBuffer.{KeepsLine, without_end}
-use Rattle.ether_tool.specs.LineLoop.{HasNoLineFeed, Reached, JudgesLine, RefusesLine, Advances, StopsWithin, Finishes, IsStart}
+use Rattle.ether_tool.specs.LineLoop.{Reached, JudgesLine, RefusesLine, Advances, StopsWithin, Finishes, IsStart}
 use Rattle.ether_tool.specs.declared.mode.Mode.{Mode}
 use Rattle.ether_tool.specs.declared.outcome.Verdict.{Verdict}
 use Rattle.ether_tool.specs.declared.outcome.ToolFault.{ToolFault}
@@ -98,14 +98,12 @@ module _ {W : Type 0} (mode : Mode) (contents : W → Option (List ℕ)) where
   -- no byte more
   pub Advances-none : (at : LineLoop) (out : OutputBuffer W) → Advances mode contents at out [] at out
   Advances-none at out = record {
-    same_writer = refl;
     reached = λ held input so_far. subst (λ (i : List ℕ). Reached mode contents held i at out) (sym (append-nil input)) so_far;
   }
 
   pub Advances-then : (old mid new : LineLoop) (from between to : OutputBuffer W) (xs ys : List ℕ)
       → Advances mode contents old from xs mid between → Advances mode contents mid between ys new to → Advances mode contents old from (xs ++ ys) new to
   Advances-then old mid new from between to xs ys first second = record {
-    same_writer = second.same_writer ∙ first.same_writer;
     reached = λ held input so_far.
         subst (λ (i : List ℕ). Reached mode contents held i new to) (append_assoc input xs ys)
         (second.reached held (input ++ xs) (first.reached held input so_far));
@@ -115,7 +113,7 @@ module _ {W : Type 0} (mode : Mode) (contents : W → Option (List ℕ)) where
   pub Advances-piece : (old new : LineLoop) (out : OutputBuffer W) (piece : List ℕ) → HasNoLineFeed piece
       → ((line : List ℕ) → KeepsLine old.line line → KeepsLine new.line (line ++ piece)) → new.count ≡ old.count → new.verdict ≡ old.verdict
       → Advances mode contents old out piece new out
-  Advances-piece old new out piece none keeps count verdict = record { same_writer = refl; reached = more }
+  Advances-piece old new out piece none keeps count verdict = record { reached = more }
     where
       more : (held : Option (List ℕ)) (input : List ℕ) → Reached mode contents held input old out → Reached mode contents held (input ++ piece) new out
       more held input so_far = record {
@@ -137,8 +135,8 @@ module _ {W : Type 0} (mode : Mode) (contents : W → Option (List ℕ)) where
   -- the last piece of a line and its LF, where the line is answered
   pub Advances-line : (old new : LineLoop) (from to : OutputBuffer W) (piece : List ℕ) → HasNoLineFeed piece
       → ((line : List ℕ) → KeepsLine old.line line → JudgesLine mode contents (without_end LineFeed (line ++ piece)) old from new to)
-      → (to.writer.ghost_name ≡ from.writer.ghost_name) → Advances mode contents old from (piece ++ 10 ∷ []) new to
-  Advances-line old new from to piece none judges same = record { same_writer = same; reached = more }
+      → Advances mode contents old from (piece ++ 10 ∷ []) new to
+  Advances-line old new from to piece none judges = record { reached = more }
     where
       more : (held : Option (List ℕ)) (input : List ℕ) → Reached mode contents held input old from → Reached mode contents held (input ++ (piece ++ 10 ∷ [])) new to
       more held input so_far =
@@ -161,13 +159,13 @@ module _ {W : Type 0} (mode : Mode) (contents : W → Option (List ℕ)) where
             is_verdict = judged.is_verdict ∙ ap (λ (v : Verdict). verdict_with v judged.accepted) so_far.is_verdict ∙ verdict_with-verdict_of so_far.all_accepted judged.accepted;
             is_count = let k = judged.is_count in let l = so_far.is_count in omega (arith, length-append so_far.done (ended ∷ []));
             kept = judged.begins;
-            written = Appends-then held (contents_of contents from) (contents_of contents to) so_far.text judged.text so_far.written judged.taken.grown;
+            written = Appends-then held (contents_of contents from) (contents_of contents to) so_far.text judged.text so_far.written judged.taken;
           }
 
   -- the last piece of a line and its LF, where the line is bad
   pub StopsWithin-line : (old : LineLoop) (from to : OutputBuffer W) (number : ℕ) (piece after later : List ℕ) → HasNoLineFeed piece
       → RefusesLine piece LineFeed old from to number → StopsWithin mode contents old from (piece ++ 10 ∷ after) later to number
-  StopsWithin-line old from to number piece after later none refuses = record { same_writer = ap (λ (g : OutputBuffer W). g.writer.ghost_name) refuses.same; stops = stop }
+  StopsWithin-line old from to number piece after later none refuses = record { stops = stop }
     where
       stop : (held : Option (List ℕ)) (input : List ℕ) → Reached mode contents held input old from
           → (text : List ℕ) × Appends held (contents_of contents to) text × StopsAtLine mode ((input ++ (piece ++ 10 ∷ after)) ++ later) number text
@@ -194,7 +192,6 @@ module _ {W : Type 0} (mode : Mode) (contents : W → Option (List ℕ)) where
   pub StopsWithin-after : (old mid : LineLoop) (from between to : OutputBuffer W) (number : ℕ) (xs ys later : List ℕ)
       → Advances mode contents old from xs mid between → StopsWithin mode contents mid between ys later to number → StopsWithin mode contents old from (xs ++ ys) later to number
   StopsWithin-after old mid from between to number xs ys later first second = record {
-    same_writer = second.same_writer ∙ first.same_writer;
     stops = λ held input so_far.
         subst (λ (i : List ℕ). (text : List ℕ) × Appends held (contents_of contents to) text × StopsAtLine mode (i ++ later) number text) (append_assoc input xs ys)
         (second.stops held (input ++ xs) (first.reached held input so_far));
@@ -203,7 +200,7 @@ module _ {W : Type 0} (mode : Mode) (contents : W → Option (List ℕ)) where
   -- the end of the input, where no line is under way
   pub Finishes-nothing : (at : LineLoop) (out : OutputBuffer W) → ((line : List ℕ) → KeepsLine at.line line → (length line == 0) ≡ true)
       → Finishes mode contents at out out at.verdict
-  Finishes-nothing at out empty = record { same_writer = refl; answered = all }
+  Finishes-nothing at out empty = record { answered = all }
     where
       all : (held : Option (List ℕ)) (input : List ℕ) → Reached mode contents held input at out
           → (text : List ℕ) × (all_accepted : Bool) × Appends held (contents_of contents out) text × AreAnswered mode (lines input) text all_accepted × (at.verdict ≡ verdict_of all_accepted)
@@ -230,8 +227,8 @@ module _ {W : Type 0} (mode : Mode) (contents : W → Option (List ℕ)) where
   -- the end of the input, where it ends a line that is answered
   pub Finishes-line : (old new : LineLoop) (from to : OutputBuffer W) → ((line : List ℕ) → KeepsLine old.line line → (length line == 0) ≡ false)
       → ((line : List ℕ) → KeepsLine old.line line → JudgesLine mode contents (without_end InputEnd (line ++ [])) old from new to)
-      → (to.writer.ghost_name ≡ from.writer.ghost_name) → Finishes mode contents old from to new.verdict
-  Finishes-line old new from to some judges same = record { same_writer = same; answered = all }
+      → Finishes mode contents old from to new.verdict
+  Finishes-line old new from to some judges = record { answered = all }
     where
       all : (held : Option (List ℕ)) (input : List ℕ) → Reached mode contents held input old from
           → (text : List ℕ) × (all_accepted : Bool) × Appends held (contents_of contents to) text × AreAnswered mode (lines input) text all_accepted × (new.verdict ≡ verdict_of all_accepted)
@@ -240,7 +237,7 @@ module _ {W : Type 0} (mode : Mode) (contents : W → Option (List ℕ)) where
           let whole = ended_lines held input old from so_far (some so_far.line so_far.kept) in (
             so_far.text ++ judged.text,
             so_far.all_accepted && judged.accepted,
-            Appends-then held (contents_of contents from) (contents_of contents to) so_far.text judged.text so_far.written judged.taken.grown,
+            Appends-then held (contents_of contents from) (contents_of contents to) so_far.text judged.text so_far.written judged.taken,
             subst (λ (ls : List (List ℕ)). AreAnswered mode ls (so_far.text ++ judged.text) (so_far.all_accepted && judged.accepted)) (sym whole)
                 (AreAnswered-push mode so_far.done so_far.text so_far.all_accepted so_far.line judged.text judged.accepted so_far.answered judged.answered),
             judged.is_verdict ∙ ap (λ (v : Verdict). verdict_with v judged.accepted) so_far.is_verdict ∙ verdict_with-verdict_of so_far.all_accepted judged.accepted,
@@ -249,7 +246,7 @@ module _ {W : Type 0} (mode : Mode) (contents : W → Option (List ℕ)) where
   -- the end of the input, where it ends a bad line
   pub StopsWithin-end : (old : LineLoop) (from to : OutputBuffer W) (number : ℕ) → ((line : List ℕ) → KeepsLine old.line line → (length line == 0) ≡ false)
       → RefusesLine [] InputEnd old from to number → StopsWithin mode contents old from [] [] to number
-  StopsWithin-end old from to number some refuses = record { same_writer = ap (λ (g : OutputBuffer W). g.writer.ghost_name) refuses.same; stops = stop }
+  StopsWithin-end old from to number some refuses = record { stops = stop }
     where
       stop : (held : Option (List ℕ)) (input : List ℕ) → Reached mode contents held input old from
           → (text : List ℕ) × Appends held (contents_of contents to) text × StopsAtLine mode ((input ++ []) ++ []) number text
@@ -292,12 +289,11 @@ module _ {W : Type 0} (mode : Mode) (contents : W → Option (List ℕ)) where
   pub line_taken : (start old new : LineLoop) (first from to : OutputBuffer W) (chunk front rest piece behind : List ℕ)
       → chunk ≡ front ++ rest → Advances mode contents start first front old from → HasNoLineFeed piece → rest ≡ piece ++ 10 ∷ behind
       → ((line : List ℕ) → KeepsLine old.line line → JudgesLine mode contents (without_end LineFeed (line ++ piece)) old from new to)
-      → (to.writer.ghost_name ≡ from.writer.ghost_name)
       → (more : List ℕ) × (chunk ≡ more ++ behind) × Advances mode contents start first more new to
-  line_taken start old new first from to chunk front rest piece behind whole so_far none parts judges same = (
+  line_taken start old new first from to chunk front rest piece behind whole so_far none parts judges = (
     front ++ (piece ++ 10 ∷ []),
     whole ∙ ap (λ (bytes : List ℕ). front ++ bytes) (parts ∙ sym (append_assoc piece (10 ∷ []) behind)) ∙ sym (append_assoc front (piece ++ 10 ∷ []) behind),
-    Advances-then start old new first from to front (piece ++ 10 ∷ []) so_far (Advances-line old new from to piece none judges same),
+    Advances-then start old new first from to front (piece ++ 10 ∷ []) so_far (Advances-line old new from to piece none judges),
   )
 
   -- the rest of the chunk

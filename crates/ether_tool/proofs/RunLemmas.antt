@@ -1,16 +1,17 @@
 -- What a run has read and written, one read after another.
 use Rattle.std.proofs.Common.{◌≡◌, ℕ, List, [], ◌++◌, Option, Some, None, unwrap_or, Result, Ok, Err, IfOk, IfErr, refl, sym, ◌∙◌, subst, append-nil}
 use Rattle.std.specs.Str.Lines.{lines}
-use Rattle.std.specs.Io.KnownBytes.{Consumes, IsAtEnd}
+use Rattle.std.specs.Io.KnownBytes.{Consumes, IsAtEnd, Keeps}
 use Rattle.ether_tool.specs.OutputBuffer.{contents_of, WritesOut}
-use Rattle.ether_tool.specs.Run.{AreAnswered, AnswersInput, StopsInput, IsLeft, OnBadLine}
+use Rattle.ether_tool.specs.Run.{AreAnswered, AnswersInput, StopsInput, BreaksOff, IsLeft, OnBadLine, OnInput}
 use Rattle.ether_tool.specs.LineLoop.{Reached, StopsWithin, Finishes}
 use Rattle.ether_tool.specs.declared.mode.Mode.{Mode}
 use Rattle.ether_tool.specs.declared.outcome.Verdict.{Verdict}
 use Rattle.ether_tool.specs.declared.outcome.ToolFault.{ToolFault}
+use Rattle.ether_tool.specs.declared.outcome.ToolFault.TheVariants.{BadLine, Input, Output}
 use Rattle.ether_tool.specs.declared.output_buffer.OutputBuffer.{OutputBuffer}
 use Rattle.ether_tool.specs.declared.line_loop.LineLoop.{LineLoop}
-use Rattle.ether_tool.proofs.KnownBytesLemmas.{Consumes-then}
+use Rattle.ether_tool.proofs.KnownBytesLemmas.{Consumes-then, Consumes-kept, Appends-settled}
 use Rattle.ether_tool.proofs.LineLoopLemmas.{OnBadLine-map, Reached-written_out}
 
 -- what a reader has left, or nothing where that is unknown
@@ -25,6 +26,12 @@ IsLeft-end (Some bytes) h = sym h
 consumed_nothing : (before mid after : Option (List ℕ)) (input nothing : List ℕ) → Consumes before mid input → Consumes mid after nothing → nothing ≡ [] → Consumes before after (input ++ [])
 consumed_nothing before mid after input nothing h k none =
     subst (λ (bytes : List ℕ). Consumes before after (input ++ bytes)) none (Consumes-then before mid after input nothing h k)
+
+-- what is said of known bytes is said of the same bytes
+pub of_same : (P : Option (List ℕ) → Option (List ℕ) → Option (List ℕ) → Option (List ℕ) → Type 0) (before after held holds before' after' held' holds' : Option (List ℕ))
+    → before ≡ before' → after ≡ after' → held ≡ held' → holds ≡ holds' → P before after held holds → P before' after' held' holds'
+of_same P before after held holds before' after' held' holds' e f g h p =
+    subst (λ (x : Option (List ℕ)). P x after' held' holds') e (subst (λ (x : Option (List ℕ)). P before x held' holds') f (subst (λ (x : Option (List ℕ)). P before after x holds') g (subst (λ (x : Option (List ℕ)). P before after held x) h p)))
 
 module _ {W : Type 0} (mode : Mode) (contents : W → Option (List ℕ)) (before mid after held : Option (List ℕ)) where
   -- the last read gave nothing, and all lines are answered
@@ -91,11 +98,21 @@ module _ {W : Type 0} (mode : Mode) (contents : W → Option (List ℕ)) (before
             written = written;
           }
 
-  -- the writer is the same then
-  pub chunk_writer : (fault : ToolFault) (chunk : List ℕ) (at : LineLoop) (first old from to : OutputBuffer W)
-      → (old.writer.ghost_name ≡ first.writer.ghost_name) → WritesOut contents old from
-      → OnBadLine fault (λ number. (later : List ℕ) → StopsWithin mode contents at from chunk later to number)
-      → OnBadLine fault (λ number. to.writer.ghost_name ≡ first.writer.ghost_name)
-  chunk_writer fault chunk at first old from to same drains h =
-      OnBadLine-map fault (λ number. (later : List ℕ) → StopsWithin mode contents at from chunk later to number)
-      (λ number. to.writer.ghost_name ≡ first.writer.ghost_name) (λ number k. (k []).same_writer ∙ drains.same_writer ∙ same) h
+  -- a read fails
+  pub breaks_off : (fault : ToolFault) (input : List ℕ) (at : LineLoop) (old from : OutputBuffer W)
+      → Consumes before mid input → Keeps mid after → WritesOut contents old from → Reached mode contents held input at old
+      → OnInput fault (BreaksOff mode before after held (contents from.writer.now))
+  breaks_off (BadLine number) input at old from read kept drains so_far = tt
+  breaks_off Output input at old from read kept drains so_far = tt
+  breaks_off Input input at old from read kept drains so_far = record {
+    taken = input;
+    done = so_far.done;
+    begun = so_far.line;
+    text = so_far.text;
+    all_accepted = so_far.all_accepted;
+    read = Consumes-kept before mid after input read kept;
+    parts = so_far.parts;
+    in_line = so_far.in_line;
+    answered = so_far.answered;
+    written = Appends-settled held (contents old.writer.now) (contents from.writer.now) old.waiting.items so_far.text so_far.written drains.written;
+  }

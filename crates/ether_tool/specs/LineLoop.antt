@@ -1,23 +1,17 @@
 -- How far a run has come.
-use Rattle.std.specs.Prelude.{◌≡◌, ◌==◌, ℕ, ◌-◌, ◌^◌, min, List, [], ◌∷◌, ◌++◌, length, Bool, false, Option, Result, Ok, Err}
-use Rattle.std.specs.List.{All}
+use Rattle.std.specs.Prelude.{◌≡◌, ℕ, ◌-◌, ◌^◌, min, List, [], ◌∷◌, ◌++◌, length, Bool, Option}
 use Rattle.std.specs.Str.Lines.{lines}
 use Rattle.std.specs.Io.KnownBytes.{Appends}
 use Rattle.ether_tool.specs.OutputBuffer.{contents_of, Takes}
-use Rattle.ether_tool.specs.Run.{IsLineAnswered, AreAnswered, StopsAtLine, verdict_of, verdict_with, number_behind, OnBadLine}
+use Rattle.ether_tool.specs.Run.{HasNoLineFeed, IsLineAnswered, AreAnswered, StopsAtLine, verdict_of, verdict_with, number_behind}
 use Rattle.ether_tool.specs.Frame.{IsBadLine}
 use Rattle.ether_tool.specs.LineBuffer.{KeepsLine, without_end}
 use Rattle.ether_tool.specs.declared.mode.Mode.{Mode}
 use Rattle.ether_tool.specs.declared.outcome.Verdict.{Verdict}
 use Rattle.ether_tool.specs.declared.outcome.Verdict.TheVariants.{AllAccepted}
-use Rattle.ether_tool.specs.declared.outcome.ToolFault.{ToolFault}
 use Rattle.ether_tool.specs.declared.output_buffer.OutputBuffer.{OutputBuffer}
 use Rattle.ether_tool.specs.declared.line_buffer.LineEnd.{LineEnd}
 use Rattle.ether_tool.specs.declared.line_loop.LineLoop.{LineLoop}
-
--- no byte of the line is an LF
-abbrev pub HasNoLineFeed : List ℕ → Type 0
-HasNoLineFeed line = All (λ byte. (byte == 10) ≡ false) line
 
 -- the bytes are those before their first LF, the LF, and those behind it
 pub record SplitsAtLineFeed (bytes before behind : List ℕ) : Type 0 where
@@ -56,20 +50,17 @@ pub record RefusesLine {W : Type 0} (piece : List ℕ) (end : LineEnd) (old : Li
 
 -- the run has come further by these bytes
 pub record Advances {W : Type 0} (mode : Mode) (contents : W → Option (List ℕ)) (old : LineLoop) (from : OutputBuffer W) (bytes : List ℕ) (new : LineLoop) (to : OutputBuffer W) : Type 0 where
-  pub same_writer : to.writer.ghost_name ≡ from.writer.ghost_name
   pub reached : (held : Option (List ℕ)) (input : List ℕ) → Reached mode contents held input old from
       → Reached mode contents held (input ++ bytes) new to
 
 -- a bad line ends in these bytes, whatever comes later
 pub record StopsWithin {W : Type 0} (mode : Mode) (contents : W → Option (List ℕ)) (old : LineLoop) (from : OutputBuffer W) (bytes later : List ℕ) (to : OutputBuffer W) (number : ℕ) : Type 0 where
-  pub same_writer : to.writer.ghost_name ≡ from.writer.ghost_name
   pub stops : (held : Option (List ℕ)) (input : List ℕ) → Reached mode contents held input old from
       → (text : List ℕ) × Appends held (contents_of contents to) text
       × StopsAtLine mode ((input ++ bytes) ++ later) number text
 
 -- all the lines of the input are answered
 pub record Finishes {W : Type 0} (mode : Mode) (contents : W → Option (List ℕ)) (old : LineLoop) (from to : OutputBuffer W) (verdict : Verdict) : Type 0 where
-  pub same_writer : to.writer.ghost_name ≡ from.writer.ghost_name
   pub answered : (held : Option (List ℕ)) (input : List ℕ) → Reached mode contents held input old from
       → (text : List ℕ) × (all_accepted : Bool) × Appends held (contents_of contents to) text
       × AreAnswered mode (lines input) text all_accepted × (verdict ≡ verdict_of all_accepted)
@@ -79,8 +70,3 @@ pub record IsStart (at : LineLoop) : Type 0 where
   pub is_count : at.count ≡ 0
   pub is_verdict : at.verdict ≡ AllAccepted
   pub begins : KeepsLine at.line []
-
--- what is said where a run came to an end: all lines are answered, or one is bad
-abbrev pub IfSettled : Result Verdict ToolFault → Type 0 → Type 0
-IfSettled (Ok verdict) P = P
-IfSettled (Err fault) P = OnBadLine fault (λ number. P)

@@ -1,5 +1,6 @@
 -- What a run writes for its input.
-use Rattle.std.specs.Prelude.{◌≡◌, ℕ, ◌+◌, ◌-◌, ◌^◌, min, List, [], ◌∷◌, ◌++◌, length, Bool, true, false, ◌&&◌, Option, IfSome, ⊤}
+use Rattle.std.specs.Prelude.{◌≡◌, ◌==◌, ℕ, ◌+◌, ◌-◌, ◌^◌, min, List, [], ◌∷◌, ◌++◌, length, Bool, true, false, ◌&&◌, Option, Result, Ok, Err, IfSome, ⊤}
+use Rattle.std.specs.List.{All}
 use Rattle.std.specs.Str.Lines.{lines}
 use Rattle.std.specs.Io.KnownBytes.{Appends, Consumes, IsAtEnd}
 use Rattle.ether_tool.specs.WalkText.{Answers}
@@ -23,6 +24,10 @@ AreAnswered mode (line ∷ others) text all =
     (first : List ℕ) × (accepted : Bool) × (rest : List ℕ) × (others_accepted : Bool)
     × IsLineAnswered mode line first accepted × AreAnswered mode others rest others_accepted
     × (text ≡ first ++ rest) × (all ≡ (accepted && others_accepted))
+
+-- no byte of the line is an LF
+abbrev pub HasNoLineFeed : List ℕ → Type 0
+HasNoLineFeed line = All (λ byte. (byte == 10) ≡ false) line
 
 -- the verdict on frames, of which all says that each is accepted
 abbrev pub verdict_of : Bool → Verdict
@@ -75,8 +80,41 @@ pub record StopsInput (mode : Mode) (before after held holds : Option (List ℕ)
   pub stops : StopsAtLine mode (taken ++ left) number text
   pub written : Appends held holds text
 
--- what is said of a fault that names a bad line; of the other faults nothing is said
+-- From before to after the reader gave some of its bytes. In them these lines have ended, whatever follows, and the
+-- writer took the text that answers them.
+pub record BreaksOff (mode : Mode) (before after held holds : Option (List ℕ)) : Type 0 where
+  pub taken : List ℕ
+  pub done : List (List ℕ)
+  pub begun : List ℕ
+  pub text : List ℕ
+  pub all_accepted : Bool
+  pub read : Consumes before after taken
+  pub parts : (rest : List ℕ) → lines (taken ++ rest) ≡ done ++ lines (begun ++ rest)
+  pub in_line : HasNoLineFeed begun
+  pub answered : AreAnswered mode done text all_accepted
+  pub written : Appends held holds text
+
+-- ---- what is said of each outcome
+
+-- of a fault that names a bad line; of the other faults nothing is said
 abbrev pub OnBadLine : ToolFault → (ℕ → Type 0) → Type 0
 OnBadLine (BadLine number) P = P number
 OnBadLine Input P = ⊤
 OnBadLine Output P = ⊤
+
+-- of a fault of the reader
+abbrev pub OnInput : ToolFault → Type 0 → Type 0
+OnInput (BadLine number) P = ⊤
+OnInput Input P = P
+OnInput Output P = ⊤
+
+-- of a fault of the reader, and of one of the writer
+abbrev pub OnStreamFault : ToolFault → Type 0 → Type 0 → Type 0
+OnStreamFault (BadLine number) P Q = ⊤
+OnStreamFault Input P Q = P
+OnStreamFault Output P Q = Q
+
+-- where all lines are answered, or one is bad
+abbrev pub IfSettled : Result Verdict ToolFault → Type 0 → Type 0
+IfSettled (Ok verdict) P = P
+IfSettled (Err fault) P = OnBadLine fault (λ number. P)

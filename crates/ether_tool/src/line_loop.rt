@@ -16,9 +16,9 @@ pub struct LineLoop {
 }
 
 impl LineLoop {
-    ghost use Rattle.std.specs.Prelude.{◌≡◌, ◌++◌, ℕ, List, [], Option, IfOk, IfErr, OnOk};
+    ghost use Rattle.std.specs.Prelude.{◌≡◌, ◌++◌, ℕ, List, [], Option, IfOk, IfErr, OnOk, true};
     ghost use Rattle.ether_tool.specs.OutputBuffer.{contents_of};
-    ghost use Rattle.ether_tool.specs.Run.{OnBadLine};
+    ghost use Rattle.ether_tool.specs.Run.{OnBadLine, OnStreamFault};
     ghost use Rattle.ether_tool.specs.LineBuffer.{KeepsLine, without_end};
     ghost use Rattle.ether_tool.specs.LineLoop.{Advances, Finishes, IsStart, JudgesLine, RefusesLine, StopsWithin};
 
@@ -43,10 +43,11 @@ impl LineLoop {
         frame: &mut [u8; MAX_FRAME_LEN],
         out: &mut OutputBuffer<'_, W>,
     ) -> Result<(), ToolFault>
+        ensures same_writer { out.new.writer.ghost_name ≡ out.old.writer.ghost_name }
         ensures ok { OnOk result ((line : List ℕ) → KeepsLine self.old.line line
             → JudgesLine mode W.contents (without_end end (line ++ piece.now)) self.old out.old self.new out.new) }
-        ensures same_writer { OnOk result (out.new.writer.ghost_name ≡ out.old.writer.ghost_name) }
         ensures bad { IfErr result (λ fault. OnBadLine fault (RefusesLine piece.now end self.old out.old out.new)) }
+        ensures failed { IfErr result (λ fault. OnStreamFault fault ⊥ (out.new.has_failed ≡ true)) }
     {
         let number = self.count.saturating_add(1);
         let Some(len) = self.line.end(piece, end, frame) else {
@@ -68,9 +69,11 @@ impl LineLoop {
         chunk: &[u8],
         out: &mut OutputBuffer<'_, W>,
     ) -> Result<(), ToolFault>
+        ensures same_writer { out.new.writer.ghost_name ≡ out.old.writer.ghost_name }
         ensures ok { OnOk result (Advances mode W.contents self.old out.old chunk.now self.new out.new) }
         ensures bad { IfErr result (λ fault. OnBadLine fault (λ number. (later : List ℕ)
             → StopsWithin mode W.contents self.old out.old chunk.now later out.new number)) }
+        ensures failed { IfErr result (λ fault. OnStreamFault fault ⊥ (out.new.has_failed ≡ true)) }
     {
         let mut frame = [0; MAX_FRAME_LEN];
         let mut rest = chunk;
@@ -90,9 +93,11 @@ impl LineLoop {
         mode: Mode,
         out: &mut OutputBuffer<'_, W>,
     ) -> Result<Verdict, ToolFault>
+        ensures same_writer { out.new.writer.ghost_name ≡ out.old.writer.ghost_name }
         ensures ok { IfOk result (Finishes mode W.contents self out.old out.new) }
         ensures bad { IfErr result (λ fault. OnBadLine fault
             (StopsWithin mode W.contents self out.old [] [] out.new)) }
+        ensures failed { IfErr result (λ fault. OnStreamFault fault ⊥ (out.new.has_failed ≡ true)) }
     {
         if self.line.is_empty() {
             return Ok(self.verdict);
@@ -106,7 +111,8 @@ impl LineLoop {
 }
 
 ghost use Rattle.std.specs.Prelude.{IfSome, IfNone};
-ghost use Rattle.ether_tool.specs.LineLoop.{HasNoLineFeed, SplitsAtLineFeed};
+ghost use Rattle.ether_tool.specs.LineLoop.{SplitsAtLineFeed};
+ghost use Rattle.ether_tool.specs.Run.{HasNoLineFeed};
 
 /// The bytes before the first LF, and those behind it. `None` where there is no LF.
 fn split_line(bytes: &[u8]) -> Option<(&[u8], &[u8])>

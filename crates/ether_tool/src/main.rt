@@ -8,6 +8,7 @@
 mod derived_traits;
 pub mod frame;
 mod hex_text;
+mod input_reader;
 pub mod laws;
 mod line_buffer;
 mod line_loop;

@@ -1,9 +1,9 @@
 //! The engine: from a reader of lines to a writer of answers.
-ghost use Rattle.std.specs.Prelude.{◌≡◌, IfOk, IfErr};
+ghost use Rattle.std.specs.Prelude.{◌≡◌, true, IfOk, IfErr};
 ghost use Rattle.ether_tool.specs.OutputBuffer.{contents_of};
-ghost use Rattle.ether_tool.specs.Run.{AnswersInput, OnBadLine, StopsInput};
-ghost use Rattle.ether_tool.specs.LineLoop.{IfSettled};
+ghost use Rattle.ether_tool.specs.Run.{AnswersInput, BreaksOff, IfSettled, OnBadLine, OnInput, OnStreamFault, StopsInput};
 
+use crate::input_reader::InputReader;
 use crate::line_loop::LineLoop;
 use crate::mode::Mode;
 use crate::outcome::{ToolFault, Verdict};
@@ -11,16 +11,17 @@ use crate::output_buffer::OutputBuffer;
 use std::io::{Read, Write};
 
 /// The room for one read.
-const CHUNK: usize = 8192;
+const CHUNK_LEN: usize = 8192;
 
 /// Reads the input to its end, and writes the answer of each line as soon as the line has ended.
 ///
 /// A line is a frame of up to 2,048 bytes as digits of either case. At the first line that is no
 /// frame the run stops with [`ToolFault::BadLine`]. The answers of the lines before it have been
 /// written and flushed, and nothing is written for the line itself. Any fault of the reader,
-/// an interruption too, is [`ToolFault::Input`], as is a reader that comes to no end. Any fault of
-/// the writer, also at the closing flush, is [`ToolFault::Output`]. After such a fault neither is
-/// called again, and nothing is said of how much was written. No memory is taken.
+/// an interruption too, is [`ToolFault::Input`], as is a reader that comes to no end: the answers
+/// of the lines that had ended have been written, and are not flushed. Any fault of the writer,
+/// also at the closing flush, is [`ToolFault::Output`], and nothing is said of how much was
+/// written. After a fault neither is called again. No memory is taken.
 pub fn run<R: Read, W: Write>(
     mode: Mode,
     reader: &mut R,
@@ -31,9 +32,36 @@ pub fn run<R: Read, W: Write>(
     ensures bad_line { IfErr result (λ fault. OnBadLine fault
         (StopsInput mode (R.remaining reader.old) (R.remaining reader.new)
         (W.contents writer.old) (W.contents writer.new))) }
+    ensures input_fault { IfErr result (λ fault. OnInput fault
+        (BreaksOff mode (R.remaining reader.old) (R.remaining reader.new)
+        (W.contents writer.old) (W.contents writer.new))) }
 {
+    let mut input = InputReader::new(reader);
     let mut out = OutputBuffer::new(writer);
-    match read_lines(mode, reader, &mut out) {
+    answer_input(mode, &mut input, &mut out)
+}
+
+/// Reads the input to its end, and writes the answers and flushes them. After a fault of the
+/// reader or the writer neither is called again.
+fn answer_input<R: Read, W: Write>(
+    mode: Mode,
+    input: &mut InputReader<'_, R>,
+    out: &mut OutputBuffer<'_, W>,
+) -> Result<Verdict, ToolFault>
+    ensures same_reader { input.new.inner.ghost_name ≡ input.old.inner.ghost_name }
+    ensures same_writer { out.new.writer.ghost_name ≡ out.old.writer.ghost_name }
+    ensures ok { IfOk result (AnswersInput mode (R.remaining input.old.inner.now) (R.remaining input.new.inner.now)
+        (contents_of W.contents out.old) (W.contents out.new.writer.now)) }
+    ensures bad_line { IfErr result (λ fault. OnBadLine fault
+        (StopsInput mode (R.remaining input.old.inner.now) (R.remaining input.new.inner.now)
+        (contents_of W.contents out.old) (W.contents out.new.writer.now))) }
+    ensures input_fault { IfErr result (λ fault. OnInput fault
+        (BreaksOff mode (R.remaining input.old.inner.now) (R.remaining input.new.inner.now)
+        (contents_of W.contents out.old) (W.contents out.new.writer.now))) }
+    ensures failed { IfErr result (λ fault. OnStreamFault fault (input.new.has_failed ≡ true) (out.new.has_failed ≡ true)) }
+    ensures flushed { IfSettled result (out.new.is_flushed ≡ true) }
+{
+    match read_lines(mode, input, out) {
         Ok(verdict) => {
             if let Err(fault) = out.flush() {
                 return Err(fault);
@@ -54,24 +82,30 @@ pub fn run<R: Read, W: Write>(
 /// each read.
 fn read_lines<R: Read, W: Write>(
     mode: Mode,
-    reader: &mut R,
+    input: &mut InputReader<'_, R>,
     out: &mut OutputBuffer<'_, W>,
 ) -> Result<Verdict, ToolFault>
-    ensures same_writer { IfSettled result (out.new.writer.ghost_name ≡ out.old.writer.ghost_name) }
-    ensures ok { IfOk result (AnswersInput mode (R.remaining reader.old) (R.remaining reader.new)
+    ensures same_reader { input.new.inner.ghost_name ≡ input.old.inner.ghost_name }
+    ensures same_writer { out.new.writer.ghost_name ≡ out.old.writer.ghost_name }
+    ensures ok { IfOk result (AnswersInput mode (R.remaining input.old.inner.now) (R.remaining input.new.inner.now)
         (contents_of W.contents out.old) (contents_of W.contents out.new)) }
     ensures bad_line { IfErr result (λ fault. OnBadLine fault
-        (StopsInput mode (R.remaining reader.old) (R.remaining reader.new)
+        (StopsInput mode (R.remaining input.old.inner.now) (R.remaining input.new.inner.now)
         (contents_of W.contents out.old) (contents_of W.contents out.new))) }
+    ensures input_fault { IfErr result (λ fault. OnInput fault
+        (BreaksOff mode (R.remaining input.old.inner.now) (R.remaining input.new.inner.now)
+        (contents_of W.contents out.old) (W.contents out.new.writer.now))) }
+    ensures failed { IfErr result (λ fault. OnStreamFault fault (input.new.has_failed ≡ true) (out.new.has_failed ≡ true)) }
 {
     let mut lines = LineLoop::new();
-    let mut chunk = [0; CHUNK];
-    for _ in 0..u64::MAX {
+    let mut chunk = [0; CHUNK_LEN];
+    loop {
         if let Err(fault) = out.write_out() {
             return Err(fault);
         }
-        let Ok(count) = reader.read(&mut chunk) else {
-            return Err(ToolFault::Input);
+        let count = match input.read(&mut chunk, out) {
+            Ok(count) => count,
+            Err(fault) => return Err(fault),
         };
         if count == 0 {
             return lines.finish(mode, out);
@@ -80,7 +114,6 @@ fn read_lines<R: Read, W: Write>(
             return Err(fault);
         }
     }
-    Err(ToolFault::Input)
 }
 
 #[cfg(test)]

@@ -1,5 +1,5 @@
 //! The answer to one frame: the lines of its walk.
-ghost use Rattle.std.specs.Prelude.{◌≡◌, ◌++◌, codes, IfOk, IfErr, IfSome, OnOk};
+ghost use Rattle.std.specs.Prelude.{◌≡◌, ◌++◌, codes, true, IfOk, IfErr, IfSome, OnOk, OnErr};
 ghost use Rattle.ether_tool.specs.OutputBuffer.{Takes, TakesWalk};
 ghost use Rattle.ether_tool.specs.WalkText.{start_of_mode};
 ghost use Rattle.ether_tool.specs.PeelStart.{start_of};
@@ -9,6 +9,7 @@ use crate::mode::Mode;
 use crate::outcome::ToolFault;
 use crate::output_buffer::OutputBuffer;
 use crate::peel::{Peel, Start};
+use arrayvec::ArrayString;
 use std::fmt::{Display, Write as _};
 use std::io::Write;
 
@@ -20,8 +21,10 @@ pub fn put_walk<W: Write>(
     frame: &[u8],
     out: &mut OutputBuffer<'_, W>,
 ) -> Result<bool, ToolFault>
+    ensures same_writer { out.new.writer.ghost_name ≡ out.old.writer.ghost_name }
     ensures ok { IfOk result (λ accepted. TakesWalk mode W.contents frame.now out.old out.new accepted) }
-    ensures err { IfErr result (λ fault. fault ≡ ToolFault.Output) }
+    ensures fault { IfErr result (λ fault. fault ≡ ToolFault.Output) }
+    ensures failed { OnErr result (out.new.has_failed ≡ true) }
 {
     let mut peel = Peel::new(start(mode), frame);
     loop {
@@ -51,16 +54,22 @@ fn start(mode: Mode) -> Start
     }
 }
 
-/// Takes a line, and ends it.
+/// The room in which a line is put together, which is more than any has.
+const LINE_ROOM: usize = 256;
+
+/// Puts a line, and ends it.
 fn put_line<W: Write, D: Display + Drop>(
     out: &mut OutputBuffer<'_, W>,
     line: D,
 ) -> Result<(), ToolFault>
+    ensures same_writer { out.new.writer.ghost_name ≡ out.old.writer.ghost_name }
     ensures ok { OnOk result (IfSome (D.output line) (λ text. Takes W.contents out.old (text ++ codes "\n") out.new)) }
-    ensures err { IfErr result (λ fault. fault ≡ ToolFault.Output) }
+    ensures fault { IfErr result (λ fault. fault ≡ ToolFault.Output) }
+    ensures failed { OnErr result (out.new.has_failed ≡ true) }
 {
-    match writeln!(out, "{line}") {
-        Ok(()) => Ok(()),
-        Err(_) => Err(ToolFault::Output),
+    let mut text = ArrayString::<LINE_ROOM>::new();
+    if writeln!(text, "{line}").is_err() {
+        return Err(out.fail());
     }
+    out.put(text.as_str().as_bytes())
 }

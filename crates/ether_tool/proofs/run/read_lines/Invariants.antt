@@ -4,10 +4,14 @@ use Rattle.ether_tool.specs.OutputBuffer.{contents_of}
 use Rattle.ether_tool.specs.LineLoop.{Reached}
 use Rattle.ether_tool.proofs.run.read_lines.Given as goal
 
-abbrev pub invariant-loop : goal.invariant-loop
-invariant-loop g l =
-    (input : List ℕ) × record {
+abbrev pub invariant-loop-fault : goal.invariant-loop-fault
+invariant-loop-fault g l =
+    (taken : List ℕ) × record {
+      same_reader : l.input.inner.ghost_name ≡ l.fn.input.inner.ghost_name;
       same_writer : l.out.writer.ghost_name ≡ l.fn.out.writer.ghost_name;
-      read : Consumes (g.R.Read.remaining l.fn.reader) (g.R.Read.remaining l.reader) input;
-      reached : Reached l.mode g.W.Write.contents (contents_of g.W.Write.contents l.fn.out) input l.lines l.out;
+      read : Consumes (g.R.Read.remaining l.fn.input.inner.now) (g.R.Read.remaining l.input.inner.now) taken;
+      reached : Reached l.mode g.W.Write.contents (contents_of g.W.Write.contents l.fn.out) taken l.lines l.out;
     }
+
+abbrev pub decreases-loop-fault : goal.decreases-loop-fault
+decreases-loop-fault g l = l.input.reads_left

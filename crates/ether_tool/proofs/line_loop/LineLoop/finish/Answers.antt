@@ -12,4 +12,4 @@ returns-in-Err-clause-bad g c =
 
 pub returns-clause-ok : goal.returns-clause-ok
 returns-clause-ok g c =
-    Finishes-line _ _ _ _ _ _ (λ line kept. sym (c.is_empty.ensures line kept) ∙ c.if-is_empty.false) c.in_default.ensures.ok c.in_default.ensures.same_writer
+    Finishes-line _ _ _ _ _ _ (λ line kept. sym (c.is_empty.ensures line kept) ∙ c.if-is_empty.false) c.in_default.ensures.ok
