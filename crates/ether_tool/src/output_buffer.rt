@@ -4,7 +4,7 @@ use arrayvec::ArrayVec;
 use std::io::Write;
 
 /// The room for text that waits.
-const ROOM: usize = 8192;
+const ROOM: usize = 65536;
 
 /// Text on its way to a writer, gathered so that many short pieces cost one write.
 ///

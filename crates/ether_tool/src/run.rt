@@ -11,7 +11,7 @@ use crate::output_buffer::OutputBuffer;
 use std::io::{Read, Write};
 
 /// The room for one read.
-const CHUNK_LEN: usize = 8192;
+const CHUNK_LEN: usize = 65536;
 
 /// Reads the input to its end, and writes the answer of each line as soon as the line has ended.
 ///

@@ -58,6 +58,7 @@ fn start(mode: Mode) -> Start
 const LINE_ROOM: usize = 256;
 
 /// Puts a line, and ends it.
+#[inline(always)]
 fn put_line<W: Write, D: Display + Drop>(
     out: &mut OutputBuffer<'_, W>,
     line: D,
