@@ -9,7 +9,7 @@ use Rattle.hex.specs.Hex.{hex_digit_value, decode_pairs, decode_sized, pair_valu
 use Rattle.hex.specs.declared.error.FromHexError.{FromHexError}
 use Rattle.hex.proofs.HexLemmas.{decode_pairs-err, decode_sized-ok}
 use Rattle.hex.proofs.Pairs.{decode_sized-pairs}
-use Rattle.ether_tool.specs.Frames.{NameByte, IsFrame, IsBadLine, too_long, odd, no_digit}
+use Rattle.ether_tool.specs.Frame.{max_line_digits, NameByte, IsFrame, IsBadLine, too_long, odd, no_digit}
 
 -- what a digit that read is worth
 digit_value : (o : Option ℕ) (c i v : ℕ) → digit_or_error c i o ≡ Ok v → o ≡ Some v
@@ -66,7 +66,7 @@ pairs_decoded i (a ∷ b ∷ line) frame h =
     (pairs_more a b one.0 line more.0 (pair_named a b i one.0 one.1) (pairs_decoded (i + 2) line more.0 more.1))
 
 -- a line that decodes names the frame
-frame_decoded : (line frame : List ℕ) (n : ℕ) → length line ≤ 4096 → n ≡ length line / 2 → decode_sized line n ≡ Ok frame → IsFrame line frame
+frame_decoded : (line frame : List ℕ) (n : ℕ) → length line ≤ max_line_digits → n ≡ length line / 2 → decode_sized line n ≡ Ok frame → IsFrame line frame
 frame_decoded line frame n short half h =
     let twice = decode_sized-ok line n frame h in
     let pairs = pairs_decoded 0 line frame (sym (decode_sized-pairs line n (omega arith) (omega arith)) ∙ h) in
@@ -110,12 +110,12 @@ frame_or_bad line frame is (no_digit i lt none) =
 -- each line names a frame or is bad
 pub frame_decided : (line : List ℕ) → ((frame : List ℕ) × IsFrame line frame) ⊎ IsBadLine line
 frame_decided line =
-    elim (cases_lt 4096 (length line)) [
+    elim (cases_lt max_line_digits (length line)) [
       | inl long ↦ inr (too_long long)
       | inr short ↦ decided (decode_sized line (length line / 2)) refl short
     ]
   where
-    decided : (d : Result (List ℕ) FromHexError) → decode_sized line (length line / 2) ≡ d → length line ≤ 4096 → ((frame : List ℕ) × IsFrame line frame) ⊎ IsBadLine line
+    decided : (d : Result (List ℕ) FromHexError) → decode_sized line (length line / 2) ≡ d → length line ≤ max_line_digits → ((frame : List ℕ) × IsFrame line frame) ⊎ IsBadLine line
     decided (Ok frame) h short = inl (frame, frame_decoded line frame (length line / 2) short refl h)
     decided (Err e) h short = inr (bad_decoded line (length line / 2) e refl h)
 
@@ -130,7 +130,7 @@ refused (Ok bytes) r new f is h = let no : r ≡ Ok tt = h.0 in absurd (cc)
 refused (Err e) r new f is h = (e, refl)
 
 -- a line that was decoded in place names the frame there
-pub frame_in_place : (line new : List ℕ) (n : ℕ) (r : Result (Unit {0}) FromHexError) (u : Unit {0}) → length line ≤ 4096 → n ≡ length line / 2 → r ≡ Ok u
+pub frame_in_place : (line new : List ℕ) (n : ℕ) (r : Result (Unit {0}) FromHexError) (u : Unit {0}) → length line ≤ max_line_digits → n ≡ length line / 2 → r ≡ Ok u
     → MatchResult (decode_sized line n) (λ bytes. (r ≡ Ok tt) × (new ≡ bytes)) (λ e. r ≡ Err e) → IsFrame line new
 frame_in_place line new n r u short half is h = frame_decoded line new n short half (decoded (decode_sized line n) r new u is h)
 

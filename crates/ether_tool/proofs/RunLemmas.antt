@@ -1,17 +1,18 @@
 -- What a run has read and written, one read after another.
 use Rattle.std.proofs.Common.{◌≡◌, ℕ, List, [], ◌++◌, Option, Some, None, unwrap_or, Result, Ok, Err, IfOk, IfErr, refl, sym, ◌∙◌, subst, append-nil}
 use Rattle.std.specs.Str.Lines.{lines}
-use Rattle.std.specs.Io.KnownBytes.{Consumes, IsAtEnd}
-use Rattle.ether_tool.specs.Gathered.{contents_of, Pours}
-use Rattle.ether_tool.specs.Output.{AreAnswered, AnswersInput, StopsInput, IsLeft, OnBadLine}
-use Rattle.ether_tool.specs.Progress.{Reached, StopsWithin, Finishes}
+use Rattle.std.specs.Io.KnownBytes.{Consumes, IsAtEnd, Keeps}
+use Rattle.ether_tool.specs.OutputBuffer.{contents_of, WritesOut}
+use Rattle.ether_tool.specs.Run.{AreAnswered, AnswersInput, StopsInput, BreaksOff, IsLeft, OnBadLine, OnInput}
+use Rattle.ether_tool.specs.LineLoop.{Reached, StopsWithin, Finishes}
 use Rattle.ether_tool.specs.declared.mode.Mode.{Mode}
-use Rattle.ether_tool.specs.declared.fault.Verdict.{Verdict}
-use Rattle.ether_tool.specs.declared.fault.ToolFault.{ToolFault}
-use Rattle.ether_tool.specs.declared.gathered.Gathered.{Gathered}
-use Rattle.ether_tool.specs.declared.progress.Progress.{Progress}
-use Rattle.ether_tool.proofs.KnownLemmas.{Consumes-then}
-use Rattle.ether_tool.proofs.ProgressLemmas.{OnBadLine-map, Reached-poured}
+use Rattle.ether_tool.specs.declared.outcome.Verdict.{Verdict}
+use Rattle.ether_tool.specs.declared.outcome.ToolFault.{ToolFault}
+use Rattle.ether_tool.specs.declared.outcome.ToolFault.TheVariants.{BadLine, Input, Output}
+use Rattle.ether_tool.specs.declared.output_buffer.OutputBuffer.{OutputBuffer}
+use Rattle.ether_tool.specs.declared.line_loop.LineLoop.{LineLoop}
+use Rattle.ether_tool.proofs.KnownBytesLemmas.{Consumes-then, Consumes-kept, Appends-settled}
+use Rattle.ether_tool.proofs.LineLoopLemmas.{OnBadLine-map, Reached-written_out}
 
 -- what a reader has left, or nothing where that is unknown
 IsLeft-left_of : (after : Option (List ℕ)) → IsLeft after (unwrap_or after [])
@@ -26,15 +27,21 @@ consumed_nothing : (before mid after : Option (List ℕ)) (input nothing : List 
 consumed_nothing before mid after input nothing h k none =
     subst (λ (bytes : List ℕ). Consumes before after (input ++ bytes)) none (Consumes-then before mid after input nothing h k)
 
+-- what is said of known bytes is said of the same bytes
+pub of_same : (P : Option (List ℕ) → Option (List ℕ) → Option (List ℕ) → Option (List ℕ) → Type 0) (before after held holds before' after' held' holds' : Option (List ℕ))
+    → before ≡ before' → after ≡ after' → held ≡ held' → holds ≡ holds' → P before after held holds → P before' after' held' holds'
+of_same P before after held holds before' after' held' holds' e f g h p =
+    subst (λ (x : Option (List ℕ)). P x after' held' holds') e (subst (λ (x : Option (List ℕ)). P before x held' holds') f (subst (λ (x : Option (List ℕ)). P before after x holds') g (subst (λ (x : Option (List ℕ)). P before after held x) h p)))
+
 module _ {W : Type 0} (mode : Mode) (contents : W → Option (List ℕ)) (before mid after held : Option (List ℕ)) where
   -- the last read gave nothing, and all lines are answered
-  pub finish_ok : (r : Result Verdict ToolFault) (input nothing : List ℕ) (at : Progress) (old from to : Gathered W)
+  pub finish_ok : (r : Result Verdict ToolFault) (input nothing : List ℕ) (at : LineLoop) (old from to : OutputBuffer W)
       → Consumes before mid input → Consumes mid after nothing → nothing ≡ [] → IsAtEnd after
-      → Pours contents old from → Reached mode contents held input at old
+      → WritesOut contents old from → Reached mode contents held input at old
       → IfOk r (Finishes mode contents at from to) → IfOk r (AnswersInput mode before after held (contents_of contents to))
-  finish_ok (Err fault) input nothing at old from to read last none end pours so_far h = tt
-  finish_ok (Ok verdict) input nothing at old from to read last none end pours so_far h =
-      let (text, all_accepted, written, answered, is_verdict) = h.answered held input (Reached-poured mode contents held input at old from pours so_far) in
+  finish_ok (Err fault) input nothing at old from to read last none end drains so_far h = tt
+  finish_ok (Ok verdict) input nothing at old from to read last none end drains so_far h =
+      let (text, all_accepted, written, answered, is_verdict) = h.answered held input (Reached-written_out mode contents held input at old from drains so_far) in
       record {
         input = input ++ [];
         text = text;
@@ -47,18 +54,18 @@ module _ {W : Type 0} (mode : Mode) (contents : W → Option (List ℕ)) (before
       }
 
   -- the last read gave nothing, and the last line is bad
-  pub finish_bad : (r : Result Verdict ToolFault) (input nothing : List ℕ) (at : Progress) (old from to : Gathered W)
+  pub finish_bad : (r : Result Verdict ToolFault) (input nothing : List ℕ) (at : LineLoop) (old from to : OutputBuffer W)
       → Consumes before mid input → Consumes mid after nothing → nothing ≡ [] → IsAtEnd after
-      → Pours contents old from → Reached mode contents held input at old
+      → WritesOut contents old from → Reached mode contents held input at old
       → IfErr r (λ fault. OnBadLine fault (StopsWithin mode contents at from [] [] to))
       → IfErr r (λ fault. OnBadLine fault (StopsInput mode before after held (contents_of contents to)))
-  finish_bad (Ok verdict) input nothing at old from to read last none end pours so_far h = tt
-  finish_bad (Err fault) input nothing at old from to read last none end pours so_far h =
+  finish_bad (Ok verdict) input nothing at old from to read last none end drains so_far h = tt
+  finish_bad (Err fault) input nothing at old from to read last none end drains so_far h =
       OnBadLine-map fault (StopsWithin mode contents at from [] [] to) (StopsInput mode before after held (contents_of contents to)) stop h
     where
       stop : (number : ℕ) → StopsWithin mode contents at from [] [] to number → StopsInput mode before after held (contents_of contents to) number
       stop number k =
-          let (text, written, stops) = k.stops held input (Reached-poured mode contents held input at old from pours so_far) in
+          let (text, written, stops) = k.stops held input (Reached-written_out mode contents held input at old from drains so_far) in
           record {
             taken = input ++ [];
             left = [];
@@ -70,17 +77,17 @@ module _ {W : Type 0} (mode : Mode) (contents : W → Option (List ℕ)) (before
           }
 
   -- a line that ends in what was read is bad
-  pub chunk_bad : (fault : ToolFault) (input chunk : List ℕ) (at : Progress) (old from to : Gathered W)
-      → Consumes before mid input → Consumes mid after chunk → Pours contents old from → Reached mode contents held input at old
+  pub chunk_bad : (fault : ToolFault) (input chunk : List ℕ) (at : LineLoop) (old from to : OutputBuffer W)
+      → Consumes before mid input → Consumes mid after chunk → WritesOut contents old from → Reached mode contents held input at old
       → OnBadLine fault (λ number. (later : List ℕ) → StopsWithin mode contents at from chunk later to number)
       → OnBadLine fault (StopsInput mode before after held (contents_of contents to))
-  chunk_bad fault input chunk at old from to read last pours so_far h =
+  chunk_bad fault input chunk at old from to read last drains so_far h =
       OnBadLine-map fault (λ number. (later : List ℕ) → StopsWithin mode contents at from chunk later to number)
       (StopsInput mode before after held (contents_of contents to)) stop h
     where
       stop : (number : ℕ) → ((later : List ℕ) → StopsWithin mode contents at from chunk later to number) → StopsInput mode before after held (contents_of contents to) number
       stop number k =
-          let (text, written, stops) = (k (unwrap_or after [])).stops held input (Reached-poured mode contents held input at old from pours so_far) in
+          let (text, written, stops) = (k (unwrap_or after [])).stops held input (Reached-written_out mode contents held input at old from drains so_far) in
           record {
             taken = input ++ chunk;
             left = unwrap_or after [];
@@ -91,11 +98,21 @@ module _ {W : Type 0} (mode : Mode) (contents : W → Option (List ℕ)) (before
             written = written;
           }
 
-  -- the writer is the same then
-  pub chunk_writer : (fault : ToolFault) (chunk : List ℕ) (at : Progress) (first old from to : Gathered W)
-      → (old.writer.ghost_name ≡ first.writer.ghost_name) → Pours contents old from
-      → OnBadLine fault (λ number. (later : List ℕ) → StopsWithin mode contents at from chunk later to number)
-      → OnBadLine fault (λ number. to.writer.ghost_name ≡ first.writer.ghost_name)
-  chunk_writer fault chunk at first old from to same pours h =
-      OnBadLine-map fault (λ number. (later : List ℕ) → StopsWithin mode contents at from chunk later to number)
-      (λ number. to.writer.ghost_name ≡ first.writer.ghost_name) (λ number k. (k []).same_writer ∙ pours.same_writer ∙ same) h
+  -- a read fails
+  pub breaks_off : (fault : ToolFault) (input : List ℕ) (at : LineLoop) (old from : OutputBuffer W)
+      → Consumes before mid input → Keeps mid after → WritesOut contents old from → Reached mode contents held input at old
+      → OnInput fault (BreaksOff mode before after held (contents from.writer.now))
+  breaks_off (BadLine number) input at old from read kept drains so_far = tt
+  breaks_off Output input at old from read kept drains so_far = tt
+  breaks_off Input input at old from read kept drains so_far = record {
+    taken = input;
+    done = so_far.done;
+    begun = so_far.line;
+    text = so_far.text;
+    all_accepted = so_far.all_accepted;
+    read = Consumes-kept before mid after input read kept;
+    parts = so_far.parts;
+    in_line = so_far.in_line;
+    answered = so_far.answered;
+    written = Appends-settled held (contents old.writer.now) (contents from.writer.now) old.waiting.items so_far.text so_far.written drains.written;
+  }

@@ -5,7 +5,7 @@ use Rattle.ether_base.specs.Header.{Header}
 use Rattle.ether_tool.specs.Window.{Window}
 use Rattle.ether_tool.specs.Expectation.{Expectation}
 use Rattle.ether_tool.specs.Stack.{Ending, Stack}
-use Rattle.ether_tool.specs.Frames.{IsFrame, IsBadLine}
+use Rattle.ether_tool.specs.Frame.{IsFrame, IsBadLine}
 
 -- in each window of each list of bytes there is a stack from each expectation, and no second one
 pub record StacksAreOne : Type 0 where

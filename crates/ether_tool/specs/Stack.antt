@@ -33,15 +33,3 @@ whole start list = record { start = 0; finish = length list; closed = has_fcs st
 -- the stack of the whole list
 abbrev pub Walk : Expectation → List ℕ → List Header → Ending → Type 0
 Walk start list hs e = Stack list start (whole start list) hs e
-
--- ---- units with their places
-
--- a header, the window in which it is read, and the window of its payload
-pub record Piece : Type 0 where
-  pub window : Window
-  pub header : Header
-  pub rest : Window
-
-abbrev pub pieces : Window → List Header → List Piece
-pieces w [] = []
-pieces w (h ∷ hs) = record { window = w; header = h; rest = payload w h } ∷ pieces (payload w h) hs

@@ -2,8 +2,8 @@
 ghost use Rattle.std.specs.Prelude.{◌≡◌};
 ghost use Rattle.ether_tool.specs.Lines.{mark_text, source_text};
 
+use crate::hex_text::{HexAddress, HexType};
 use crate::peel::{PeelError, PeelFault, PeelUnit, RestKind};
-use crate::text::{HexBytes, HexType};
 use ether_base::LenSource;
 use ether_tags::{Ethernet2Slice, SingleVlanSlice};
 use std::fmt;
@@ -23,13 +23,12 @@ impl fmt::Display for Ethernet2Line<'_> {
     ghost output = { λ line. Some (ethernet2_text line.start (ethernet2_of line.slice.now.bytes)) };
 
     #[tactic(auto, unfolding(crate::specs::Lines::ethernet2_text))]
+    #[inline(always)]
     fn fmt<W: fmt::Write>(&self, f: &mut fmt::Formatter<W>) -> fmt::Result {
         let start = self.start;
         let slice = self.slice;
-        let destination = slice.destination();
-        let destination = HexBytes(&destination);
-        let source = slice.source();
-        let source = HexBytes(&source);
+        let destination = HexAddress(slice.destination());
+        let source = HexAddress(slice.source());
         let ether_type = HexType(slice.ether_type().0);
         write!(f, "ethernet2 {start} {destination} {source} {ether_type}")
     }
@@ -50,6 +49,7 @@ impl fmt::Display for VlanLine<'_> {
     ghost output = { λ line. Some (vlan_text line.start (vlan_of line.slice.now)) };
 
     #[tactic(auto, unfolding(crate::specs::Lines::vlan_text))]
+    #[inline(always)]
     fn fmt<W: fmt::Write>(&self, f: &mut fmt::Formatter<W>) -> fmt::Result {
         let start = self.start;
         let slice = self.slice;
@@ -74,6 +74,7 @@ impl fmt::Display for UnitLine<'_> {
 
     ghost output = { λ line. Some (view_text line.start line.unit.now) };
 
+    #[inline(always)]
     fn fmt<W: fmt::Write>(&self, f: &mut fmt::Formatter<W>) -> fmt::Result {
         let start = self.start;
         match self.unit {
@@ -104,6 +105,7 @@ impl fmt::Display for RestLine {
     ghost output = { λ line. Some (rest_view_text line.start line.end line.kind) };
 
     #[tactic(auto, unfolding(crate::specs::ViewLines::rest_view_text))]
+    #[inline(always)]
     fn fmt<W: fmt::Write>(&self, f: &mut fmt::Formatter<W>) -> fmt::Result {
         let start = self.start;
         let end = self.end;
@@ -130,6 +132,7 @@ impl fmt::Display for FaultLine<'_> {
     ghost output = { λ line. Some (fault_view_text line.fault.now) };
 
     #[tactic(auto, unfolding(crate::specs::ViewLines::fault_view_text))]
+    #[inline(always)]
     fn fmt<W: fmt::Write>(&self, f: &mut fmt::Formatter<W>) -> fmt::Result {
         let fault = self.fault;
         let offset = fault.offset;

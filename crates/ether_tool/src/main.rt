@@ -1,29 +1,30 @@
 //! Reads frames, one line of hexadecimal digits each, and answers each with the text of its walk.
 //!
 //! `main` reads the arguments, calls [`run::run`] on the standard streams, and ends with the
-//! status of [`fault::status_of`]. All that it prints goes to standard output.
+//! status of [`outcome::status_of`]. All that it prints goes to standard output.
 #![tactic(auto)]
 
-mod answer;
-pub mod fault;
+#[cfg(test)]
+mod derived_traits;
 pub mod frame;
-mod gathered;
+mod hex_text;
+mod input_reader;
 pub mod laws;
+mod line_buffer;
+mod line_loop;
 mod lines;
 pub mod mode;
+pub mod outcome;
+mod output_buffer;
 pub mod peel;
-mod pending;
 pub mod plain;
-#[cfg(test)]
-mod plain_tests;
-mod progress;
 pub mod run;
 #[cfg(test)]
-mod tests;
-mod text;
+mod test_frames;
+mod walk_text;
 
-use fault::{ToolFault, status_of};
 use mode::{Mode, Usage, mode_of};
+use outcome::{ToolFault, status_of};
 use std::process::ExitCode;
 use std::{env, io};
 
@@ -73,4 +74,17 @@ fn tool<R: Print + Input + AllocGlobal + std::rt::Env>(rt: &R) -> u8 {
 
 fn main(rt: HostRuntime) -> ExitCode {
     ExitCode::from(tool(&rt))
+}
+
+#[cfg(test)]
+mod tests {
+    use super::*;
+
+    #[test]
+    fn shows_its_usage(rt: HostRuntime) {
+        assert_eq!(rt;
+            USAGE,
+            "usage: ether_tool eth | fcs | sll | type XXXX | feed"
+        );
+    }
 }

@@ -1,6 +1,6 @@
 //! The modes of the tool, and the words that name them.
 ghost use Rattle.std.specs.Prelude.{map, IfOk, OnErr};
-ghost use Rattle.ether_tool.specs.Words.{NamesMode, NamesNoMode};
+ghost use Rattle.ether_tool.specs.Mode.{NamesMode, NamesNoMode};
 
 /// How the frames of a run begin.
 #[derive(Clone, Copy, PartialEq, Eq, Debug)]
@@ -24,5 +24,20 @@ pub fn mode_of(words: &[&str]) -> Result<Mode, Usage>
         [] => Ok(Mode::Eth),
         ["eth"] => Ok(Mode::Eth),
         _ => Err(Usage),
+    }
+}
+
+#[cfg(test)]
+mod tests {
+    use super::*;
+
+    #[test]
+    fn names_modes(rt: HostRuntime) {
+        assert_eq!(rt; mode_of(&[]), Ok(Mode::Eth));
+        assert_eq!(rt; mode_of(&["eth"]), Ok(Mode::Eth));
+        for words in [["Eth"], ["et"], ["eth "], [""]] {
+            assert_eq!(rt; mode_of(&words), Err(Usage));
+        }
+        assert_eq!(rt; mode_of(&["eth", "eth"]), Err(Usage));
     }
 }

@@ -8,13 +8,13 @@ ghost use Rattle.ether_tool.specs.PeelRead.{ReadsUnit, ReadsKind, is_vlan_type};
 
 use ether_base::EtherType;
 use ether_base::err::LenError;
-use ether_tags::{EtherPayloadSlice, Ethernet2Slice, SingleVlanSlice};
+use ether_tags::{EtherPayloadSlice, Ethernet2Slice, SingleVlanSlice, VlanHeader};
 use std::marker::Model;
 
-/// What a list of bytes begins with.
+/// What the bytes of a walk begin with.
 #[derive(Clone, Copy, PartialEq, Eq, Debug)]
 pub enum Start {
-    /// An Ethernet II header; no frame check sequence ends the list.
+    /// An Ethernet II header; no frame check sequence ends the bytes.
     Ethernet2,
     /// What an ether type announces.
     EtherType(EtherType),
@@ -23,7 +23,7 @@ pub enum Start {
 /// A unit of a stack, as a view of the bytes in which it was read.
 #[derive(Clone, PartialEq, Eq, Debug, Drop)]
 pub enum PeelUnit<'a> {
-    /// The frame of a list, read once and first.
+    /// The Ethernet II header, read once and first.
     Ethernet2(Ethernet2Slice<'a>),
     /// A VLAN tag, behind an ether type that announces one.
     Vlan(SingleVlanSlice<'a>),
@@ -48,15 +48,15 @@ pub enum PeelError {
 /// The unit that ends a walk because it is refused.
 #[derive(Clone, PartialEq, Eq, Debug, Drop)]
 pub struct PeelFault {
-    /// Where the unit starts, in bytes from the start of the list.
+    /// Where the unit starts, in bytes from the start of the bytes.
     pub offset: usize,
-    /// Whether the unit's window is closed: further bytes behind the list would not belong to it.
+    /// Whether the unit's window is closed: further bytes behind them would not belong to it.
     pub closed: bool,
     /// Why it is refused. A length error has the unit's start as its offset; its lengths count from there.
     pub error: PeelError,
 }
 
-/// A walk: the units of a list of bytes, each in the payload of the one before it, and then the fault if there is one.
+/// A walk: the units of a frame, each in the payload of the one before it, and then the fault if there is one.
 #[derive(Debug, Drop)]
 pub struct Peel<'a> {
     rest: &'a [u8],
@@ -83,12 +83,12 @@ impl<'a> Peel<'a> {
     ghost use Rattle.ether_tool.specs.Peel.{Faces};
 
     /// A walk that has read nothing yet.
-    pub fn new(start: Start, list: &'a [u8]) -> Peel<'a>
-        ensures state { result ≡ record { rest = list.now; offset = 0; closed = false; expected = start_of start; over = false } }
-        ensures walk { (hs : List Header) × (e : Ending) × Walk (start_of start) list.now hs e × Faces list.now (whole (start_of start) list.now) result hs e }
+    pub fn new(start: Start, bytes: &'a [u8]) -> Peel<'a>
+        ensures state { result ≡ record { rest = bytes.now; offset = 0; closed = false; expected = start_of start; over = false } }
+        ensures walk { (hs : List Header) × (e : Ending) × Walk (start_of start) bytes.now hs e × Faces bytes.now (whole (start_of start) bytes.now) result hs e }
     {
         Peel {
-            rest: list,
+            rest: bytes,
             offset: 0,
             is_closed: false,
             expected: start,
@@ -103,7 +103,7 @@ impl<'a> Peel<'a> {
         self.rest
     }
 
-    /// Where the window left to read starts, in bytes from the start of the list.
+    /// Where the window left to read starts, in bytes from the start of the bytes.
     pub fn offset(&self) -> usize
         ensures value { result ≡ self.now.offset }
         ensures fits { self.now.offset + length self.now.rest < 2 ^ 64 }
@@ -182,12 +182,11 @@ fn read_unit<'a>(expected: Start, bytes: &'a [u8]) -> Option<Result<UnitRead<'a>
     }
 }
 
+/// Whether an ether type announces a VLAN tag.
 fn is_vlan(ether_type: EtherType) -> bool
     ensures { result ≡ is_vlan_type ether_type.0 }
 {
-    ether_type == EtherType::VLAN_TAGGED_FRAME
-        || ether_type == EtherType::PROVIDER_BRIDGING
-        || ether_type == EtherType::VLAN_DOUBLE_TAGGED_FRAME
+    VlanHeader::VLAN_ETHER_TYPES.contains(&ether_type)
 }
 
 fn read_ethernet2<'a>(bytes: &'a [u8]) -> Result<UnitRead<'a>, LenError>

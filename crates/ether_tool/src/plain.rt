@@ -1,4 +1,4 @@
-//! The walk of a list of bytes once more, as plain as can be: places in the one list, sums and divisions.
+//! The walk of a frame once more, as plain as can be: places in the one slice, sums and divisions.
 //!
 //! It is slow and takes memory. Tests compare the walker with it.
 ghost use Rattle.std.specs.Prelude.{◌≡◌, ◌+◌, ◌≤◌, length, slice_range, map, IfOk, Some, None, if◌then◌else◌};
@@ -14,6 +14,7 @@ ghost use Rattle.ether_tool.specs.Plain.{header_of, window_of, ending_of, IsStep
 use crate::peel::Start;
 use ether_base::EtherType;
 use ether_base::err::Layer;
+use ether_tags::VlanHeader;
 use std::alloc::{AllocError, Global};
 
 /// A header as numbers. An address is its six bytes as one number, the first byte the highest.
@@ -32,12 +33,12 @@ pub enum PlainHeader {
     },
 }
 
-/// A part of a list: from `start` up to `end`, which is not in it.
+/// A part of a frame: from `start` up to `end`, which is not in it.
 #[derive(Clone, Copy, PartialEq, Eq, Debug)]
 pub struct PlainWindow {
     pub start: usize,
     pub end: usize,
-    /// Whether further bytes behind the list would not belong to it.
+    /// Whether further bytes behind the frame would not belong to it.
     pub closed: bool,
 }
 
@@ -59,26 +60,26 @@ pub enum PlainEnding {
     },
 }
 
-/// The walk of a list: its headers, each in the payload of the one before it, and how it ends.
+/// The walk of a frame: its headers, each in the payload of the one before it, and how it ends.
 #[derive(Debug, Drop)]
 pub struct PlainWalk {
     pub headers: Vec<PlainHeader>,
     pub ending: PlainEnding,
 }
 
-/// The walk of a list that begins with `start`. Where memory runs out there is no answer, and no other error comes.
-pub fn walk(alloc: Global, start: Start, list: &[u8]) -> Result<PlainWalk, AllocError>
-    ensures { IfOk result (λ w. Walk (start_of start) list.now (map header_of w.headers.items) (ending_of w.ending)) }
+/// The walk of a frame that begins with `start`. Where memory runs out there is no answer, and no other error comes.
+pub fn walk(alloc: Global, start: Start, frame: &[u8]) -> Result<PlainWalk, AllocError>
+    ensures { IfOk result (λ w. Walk (start_of start) frame.now (map header_of w.headers.items) (ending_of w.ending)) }
 {
     let mut headers = Vec::new(alloc);
     let mut expected = start;
     let mut window = PlainWindow {
         start: 0,
-        end: list.len(),
+        end: frame.len(),
         closed: false,
     };
     loop {
-        match step(list, window, expected) {
+        match step(frame, window, expected) {
             PlainStep::End(ending) => return Ok(PlainWalk { headers, ending }),
             PlainStep::Header(header) => {
                 headers.push(header)?;
@@ -97,13 +98,13 @@ enum PlainStep {
 }
 
 /// The step at the start of a window.
-fn step(list: &[u8], window: PlainWindow, expected: Start) -> PlainStep
-    requires { IsIn list.now (window_of window) }
-    ensures { IsStep list.now (start_of expected) (window_of window) result }
+fn step(frame: &[u8], window: PlainWindow, expected: Start) -> PlainStep
+    requires { IsIn frame.now (window_of window) }
+    ensures { IsStep frame.now (start_of expected) (window_of window) result }
 {
     match expected {
-        Start::Ethernet2 => ethernet2_step(list, window),
-        Start::EtherType(ether_type) if is_vlan(ether_type) => vlan_step(list, window, ether_type),
+        Start::Ethernet2 => ethernet2_step(frame, window),
+        Start::EtherType(ether_type) if is_vlan(ether_type) => vlan_step(frame, window, ether_type),
         Start::EtherType(_) => PlainStep::End(PlainEnding::Accepted { window, expected }),
     }
 }
@@ -112,13 +113,13 @@ fn step(list: &[u8], window: PlainWindow, expected: Start) -> PlainStep
 fn is_vlan(ether_type: EtherType) -> bool
     ensures { announced_by ether_type.0 ≡ (if result then Some kinds.Vlan else None) }
 {
-    ether_type.0 == 0x8100 || ether_type.0 == 0x88A8 || ether_type.0 == 0x9100
+    VlanHeader::VLAN_ETHER_TYPES.contains(&ether_type)
 }
 
 /// The step where an Ethernet II header is expected.
-fn ethernet2_step(list: &[u8], window: PlainWindow) -> PlainStep
-    requires { IsIn list.now (window_of window) }
-    ensures { IsStep list.now (start_of Start.Ethernet2) (window_of window) result }
+fn ethernet2_step(frame: &[u8], window: PlainWindow) -> PlainStep
+    requires { IsIn frame.now (window_of window) }
+    ensures { IsStep frame.now (start_of Start.Ethernet2) (window_of window) result }
 {
     let len = window.end - window.start;
     if len < 14 {
@@ -130,14 +131,14 @@ fn ethernet2_step(list: &[u8], window: PlainWindow) -> PlainStep
             layer: Layer::Ethernet2Header,
         });
     }
-    PlainStep::Header(ethernet2(list, window.start))
+    PlainStep::Header(ethernet2(frame, window.start))
 }
 
 /// The step behind an ether type that announces a VLAN tag.
-fn vlan_step(list: &[u8], window: PlainWindow, ether_type: EtherType) -> PlainStep
-    requires inside { IsIn list.now (window_of window) }
+fn vlan_step(frame: &[u8], window: PlainWindow, ether_type: EtherType) -> PlainStep
+    requires inside { IsIn frame.now (window_of window) }
     requires announced { announced_by ether_type.0 ≡ Some kinds.Vlan }
-    ensures { IsStep list.now (start_of (Start.EtherType ether_type)) (window_of window) result }
+    ensures { IsStep frame.now (start_of (Start.EtherType ether_type)) (window_of window) result }
 {
     let len = window.end - window.start;
     if len < 4 {
@@ -149,55 +150,55 @@ fn vlan_step(list: &[u8], window: PlainWindow, ether_type: EtherType) -> PlainSt
             layer: Layer::VlanHeader,
         });
     }
-    PlainStep::Header(vlan(list, window.start))
+    PlainStep::Header(vlan(frame, window.start))
 }
 
 /// The Ethernet II header at a place.
-fn ethernet2(list: &[u8], at: usize) -> PlainHeader
-    requires { at + 14 ≤ length list.now }
+fn ethernet2(frame: &[u8], at: usize) -> PlainHeader
+    requires { at + 14 ≤ length frame.now }
     ensures kind { kind_of (header_of result) ≡ kinds.Ethernet2 }
-    ensures value { Spells (slice_range list.now at (at + 14)) (header_of result) }
+    ensures value { Spells (slice_range frame.now at (at + 14)) (header_of result) }
 {
     PlainHeader::Ethernet2 {
-        destination: number(list, at, at + 6),
-        source: number(list, at + 6, at + 12),
-        ether_type: two_bytes(list, at + 12),
+        destination: number(frame, at, at + 6),
+        source: number(frame, at + 6, at + 12),
+        ether_type: two_bytes(frame, at + 12),
     }
 }
 
 /// The VLAN tag at a place. Its first two bytes are three numbers: PCP 3 bits, DEI 1 bit, VID 12 bits.
-fn vlan(list: &[u8], at: usize) -> PlainHeader
-    requires { at + 4 ≤ length list.now }
+fn vlan(frame: &[u8], at: usize) -> PlainHeader
+    requires { at + 4 ≤ length frame.now }
     ensures kind { kind_of (header_of result) ≡ kinds.Vlan }
-    ensures value { Spells (slice_range list.now at (at + 4)) (header_of result) }
+    ensures value { Spells (slice_range frame.now at (at + 4)) (header_of result) }
 {
-    let control = two_bytes(list, at);
+    let control = two_bytes(frame, at);
     PlainHeader::Vlan {
         pcp: control / 8192,
         dei: control / 4096 % 2,
         vid: control % 4096,
-        ether_type: two_bytes(list, at + 2),
+        ether_type: two_bytes(frame, at + 2),
     }
 }
 
 /// The number of two bytes.
-fn two_bytes(list: &[u8], at: usize) -> u16
-    requires { at + 2 ≤ length list.now }
-    ensures { result ≡ number_of (slice_range list.now at (at + 2)) }
+fn two_bytes(frame: &[u8], at: usize) -> u16
+    requires { at + 2 ≤ length frame.now }
+    ensures { result ≡ number_of (slice_range frame.now at (at + 2)) }
 {
-    number(list, at, at + 2) as u16
+    number(frame, at, at + 2) as u16
 }
 
 /// The number of at most six bytes, from a place up to another.
-fn number(list: &[u8], from: usize, to: usize) -> u64
+fn number(frame: &[u8], from: usize, to: usize) -> u64
     requires ordered { from ≤ to }
-    requires inside { to ≤ length list.now }
+    requires inside { to ≤ length frame.now }
     requires few { to ≤ from + 6 }
-    ensures { result ≡ number_of (slice_range list.now from to) }
+    ensures { result ≡ number_of (slice_range frame.now from to) }
 {
     let mut sum: u64 = 0;
     for i in from..to {
-        sum = sum * 256 + u64::from(list[i]);
+        sum = sum * 256 + u64::from(frame[i]);
     }
     sum
 }
@@ -228,3 +229,6 @@ fn payload(window: PlainWindow, header: PlainHeader) -> PlainWindow
         closed: window.closed,
     }
 }
+
+#[cfg(test)]
+mod tests;

@@ -1,26 +1,27 @@
 //! The engine: from a reader of lines to a writer of answers.
-ghost use Rattle.std.specs.Prelude.{◌≡◌, IfOk, IfErr};
-ghost use Rattle.ether_tool.specs.Gathered.{contents_of};
-ghost use Rattle.ether_tool.specs.Output.{AnswersInput, OnBadLine, StopsInput};
-ghost use Rattle.ether_tool.specs.Progress.{IfSettled};
+ghost use Rattle.std.specs.Prelude.{◌≡◌, true, IfOk, IfErr};
+ghost use Rattle.ether_tool.specs.OutputBuffer.{contents_of};
+ghost use Rattle.ether_tool.specs.Run.{AnswersInput, BreaksOff, IfSettled, OnBadLine, OnInput, OnStreamFault, StopsInput};
 
-use crate::fault::{ToolFault, Verdict};
-use crate::gathered::Gathered;
+use crate::input_reader::InputReader;
+use crate::line_loop::LineLoop;
 use crate::mode::Mode;
-use crate::progress::Progress;
+use crate::outcome::{ToolFault, Verdict};
+use crate::output_buffer::OutputBuffer;
 use std::io::{Read, Write};
 
 /// The room for one read.
-const CHUNK: usize = 8192;
+const CHUNK_LEN: usize = 65536;
 
 /// Reads the input to its end, and writes the answer of each line as soon as the line has ended.
 ///
 /// A line is a frame of up to 2,048 bytes as digits of either case. At the first line that is no
 /// frame the run stops with [`ToolFault::BadLine`]. The answers of the lines before it have been
 /// written and flushed, and nothing is written for the line itself. Any fault of the reader,
-/// an interruption too, is [`ToolFault::Input`], as is a reader that comes to no end. Any fault of
-/// the writer, also at the closing flush, is [`ToolFault::Output`]. After such a fault neither is
-/// called again, and nothing is said of how much was written. No memory is taken.
+/// an interruption too, is [`ToolFault::Input`], as is a reader that comes to no end: the answers
+/// of the lines that had ended have been written, and are not flushed. Any fault of the writer,
+/// also at the closing flush, is [`ToolFault::Output`], and nothing is said of how much was
+/// written. After a fault neither is called again. No memory is taken.
 pub fn run<R: Read, W: Write>(
     mode: Mode,
     reader: &mut R,
@@ -31,17 +32,44 @@ pub fn run<R: Read, W: Write>(
     ensures bad_line { IfErr result (λ fault. OnBadLine fault
         (StopsInput mode (R.remaining reader.old) (R.remaining reader.new)
         (W.contents writer.old) (W.contents writer.new))) }
+    ensures input_fault { IfErr result (λ fault. OnInput fault
+        (BreaksOff mode (R.remaining reader.old) (R.remaining reader.new)
+        (W.contents writer.old) (W.contents writer.new))) }
 {
-    let mut out = Gathered::new(writer);
-    match answer_lines(mode, reader, &mut out) {
+    let mut input = InputReader::new(reader);
+    let mut out = OutputBuffer::new(writer);
+    answer_input(mode, &mut input, &mut out)
+}
+
+/// Reads the input to its end, and writes the answers and flushes them. After a fault of the
+/// reader or the writer neither is called again.
+fn answer_input<R: Read, W: Write>(
+    mode: Mode,
+    input: &mut InputReader<'_, R>,
+    out: &mut OutputBuffer<'_, W>,
+) -> Result<Verdict, ToolFault>
+    ensures same_reader { input.new.inner.ghost_name ≡ input.old.inner.ghost_name }
+    ensures same_writer { out.new.writer.ghost_name ≡ out.old.writer.ghost_name }
+    ensures ok { IfOk result (AnswersInput mode (R.remaining input.old.inner.now) (R.remaining input.new.inner.now)
+        (contents_of W.contents out.old) (W.contents out.new.writer.now)) }
+    ensures bad_line { IfErr result (λ fault. OnBadLine fault
+        (StopsInput mode (R.remaining input.old.inner.now) (R.remaining input.new.inner.now)
+        (contents_of W.contents out.old) (W.contents out.new.writer.now))) }
+    ensures input_fault { IfErr result (λ fault. OnInput fault
+        (BreaksOff mode (R.remaining input.old.inner.now) (R.remaining input.new.inner.now)
+        (contents_of W.contents out.old) (W.contents out.new.writer.now))) }
+    ensures failed { IfErr result (λ fault. OnStreamFault fault (input.new.has_failed ≡ true) (out.new.has_failed ≡ true)) }
+    ensures flushed { IfSettled result (out.new.is_flushed ≡ true) }
+{
+    match read_lines(mode, input, out) {
         Ok(verdict) => {
-            if let Err(fault) = out.close() {
+            if let Err(fault) = out.flush() {
                 return Err(fault);
             }
             Ok(verdict)
         }
         Err(ToolFault::BadLine(number)) => {
-            if let Err(fault) = out.close() {
+            if let Err(fault) = out.flush() {
                 return Err(fault);
             }
             Err(ToolFault::BadLine(number))
@@ -52,33 +80,41 @@ pub fn run<R: Read, W: Write>(
 
 /// Reads the input to its end, and gathers the answers. What is gathered is written out before
 /// each read.
-fn answer_lines<R: Read, W: Write>(
+fn read_lines<R: Read, W: Write>(
     mode: Mode,
-    reader: &mut R,
-    out: &mut Gathered<'_, W>,
+    input: &mut InputReader<'_, R>,
+    out: &mut OutputBuffer<'_, W>,
 ) -> Result<Verdict, ToolFault>
-    ensures same_writer { IfSettled result (out.new.writer.ghost_name ≡ out.old.writer.ghost_name) }
-    ensures ok { IfOk result (AnswersInput mode (R.remaining reader.old) (R.remaining reader.new)
+    ensures same_reader { input.new.inner.ghost_name ≡ input.old.inner.ghost_name }
+    ensures same_writer { out.new.writer.ghost_name ≡ out.old.writer.ghost_name }
+    ensures ok { IfOk result (AnswersInput mode (R.remaining input.old.inner.now) (R.remaining input.new.inner.now)
         (contents_of W.contents out.old) (contents_of W.contents out.new)) }
     ensures bad_line { IfErr result (λ fault. OnBadLine fault
-        (StopsInput mode (R.remaining reader.old) (R.remaining reader.new)
+        (StopsInput mode (R.remaining input.old.inner.now) (R.remaining input.new.inner.now)
         (contents_of W.contents out.old) (contents_of W.contents out.new))) }
+    ensures input_fault { IfErr result (λ fault. OnInput fault
+        (BreaksOff mode (R.remaining input.old.inner.now) (R.remaining input.new.inner.now)
+        (contents_of W.contents out.old) (W.contents out.new.writer.now))) }
+    ensures failed { IfErr result (λ fault. OnStreamFault fault (input.new.has_failed ≡ true) (out.new.has_failed ≡ true)) }
 {
-    let mut progress = Progress::new();
-    let mut chunk = [0; CHUNK];
-    for _ in 0..u64::MAX {
-        if let Err(fault) = out.pour() {
+    let mut lines = LineLoop::new();
+    let mut chunk = [0; CHUNK_LEN];
+    loop {
+        if let Err(fault) = out.write_out() {
             return Err(fault);
         }
-        let Ok(count) = reader.read(&mut chunk) else {
-            return Err(ToolFault::Input);
+        let count = match input.read(&mut chunk, out) {
+            Ok(count) => count,
+            Err(fault) => return Err(fault),
         };
         if count == 0 {
-            return progress.finish(mode, out);
+            return lines.finish(mode, out);
         }
-        if let Err(fault) = progress.take_chunk(mode, &chunk[..count], out) {
+        if let Err(fault) = lines.take_chunk(mode, &chunk[..count], out) {
             return Err(fault);
         }
     }
-    Err(ToolFault::Input)
 }
+
+#[cfg(test)]
+mod tests;

@@ -1,5 +1,6 @@
 //! Worked examples of walks, by the calls of `Peel`.
 use super::*;
+use crate::test_frames::{ADDRESSES, CAPTURED_IN_A_VLAN};
 use arrayvec::ArrayVec;
 use ether_base::LenSource;
 use ether_base::err::Layer;
@@ -9,8 +10,7 @@ use std::test::Fail;
 /// An Ethernet II header of an ether type, and the bytes behind it.
 fn ethernet(ether_type: [u8; 2], rest: &[u8]) -> ArrayVec<u8, 32> {
     let mut frame = ArrayVec::new();
-    let header = [0xff, 0xff, 0xff, 0xff, 0xff, 0xff, 2, 0, 0, 0, 0, 1];
-    for bytes in [header.as_slice(), ether_type.as_slice(), rest] {
+    for bytes in [ADDRESSES.as_slice(), ether_type.as_slice(), rest] {
         let _ = frame.try_extend_from_slice(bytes);
     }
     frame
@@ -160,13 +160,69 @@ fn no_more_calls_than_a_quarter_of_the_bytes(rt: HostRuntime) {
 }
 
 #[test]
-fn values_show_and_compare(rt: HostRuntime) -> Result<(), Fail> {
+fn a_captured_frame(rt: HostRuntime) {
+    let mut peel = Peel::new(Start::Ethernet2, &CAPTURED_IN_A_VLAN);
+    let Some(Ok(PeelUnit::Ethernet2(slice))) = peel.next() else {
+        panic!(rt; "an Ethernet II frame");
+    };
+    assert_eq!(rt; slice.destination(), [0x00, 0x10, 0xdb, 0xff, 0x10, 0x00]);
+    assert_eq!(rt; slice.source(), [0x00, 0x15, 0x2c, 0x9d, 0xcc, 0x00]);
+    gives_vlan(&rt, &mut peel, 0, false, 503, 0x0800);
+    let kind = RestKind::EtherType(EtherType::IPV4);
+    ends(&rt, &mut peel, 18, &CAPTURED_IN_A_VLAN[18..], kind);
+}
+
+#[test]
+fn units_are_equal_where_their_bytes_are(rt: HostRuntime) -> Result<(), Fail> {
     let frame = ethernet([0x81, 0x00], &[0xB1, 0x23, 0x08, 0x00]);
     let mut peel = Peel::new(Start::Ethernet2, &frame);
     let unit = peel.next().ok_or("a unit")?.ok().ok_or("a unit")?;
-    assert_eq!(rt; unit.clone()?, unit);
     let tag = peel.next().ok_or("a unit")?.ok().ok_or("a unit")?;
+    assert_eq!(rt; unit.clone()?, unit);
     assert!(rt; tag != unit);
+    let other = ethernet([0x81, 0x00], &[0xB1, 0x23, 0x08, 0x01]);
+    let mut peel = Peel::new(Start::Ethernet2, &other);
+    let other_unit = peel.next().ok_or("a unit")?.ok().ok_or("a unit")?;
+    let other_tag = peel.next().ok_or("a unit")?.ok().ok_or("a unit")?;
+    assert!(rt; other_unit != unit);
+    assert!(rt; other_tag != tag);
+    Ok(())
+}
+
+#[test]
+fn values_are_equal_where_each_field_is(rt: HostRuntime) -> Result<(), Fail> {
+    let error = fault(18, 4, 2, Layer::VlanHeader);
+    assert_eq!(rt; error.clone()?, error);
+    let mut closed = error.clone()?;
+    closed.closed = true;
+    assert!(rt; closed != error);
+    let mut moved = error.clone()?;
+    moved.offset = 14;
+    assert!(rt; moved != error);
+    for other in [
+        fault(18, 5, 2, Layer::VlanHeader),
+        fault(18, 4, 3, Layer::VlanHeader),
+        fault(18, 4, 2, Layer::Ethernet2Header),
+    ] {
+        assert!(rt; other != error);
+        assert!(rt; other.error != error.error);
+    }
+    let (ipv4, arp) = (EtherType::IPV4, EtherType::ARP);
+    assert!(rt; Start::EtherType(ipv4) == Start::EtherType(ipv4));
+    assert!(rt; Start::EtherType(ipv4) != Start::EtherType(arp));
+    assert!(rt; Start::EtherType(ipv4) != Start::Ethernet2);
+    assert!(rt; RestKind::EtherType(ipv4) == RestKind::EtherType(ipv4));
+    assert!(rt; RestKind::EtherType(ipv4) != RestKind::EtherType(arp));
+    assert!(rt; RestKind::EtherType(ipv4) != RestKind::Start);
+    Ok(())
+}
+
+#[test]
+fn values_show(rt: HostRuntime) -> Result<(), Fail> {
+    let frame = ethernet([0x81, 0x00], &[0xB1, 0x23, 0x08, 0x00]);
+    let mut peel = Peel::new(Start::Ethernet2, &frame);
+    gives_ethernet(&rt, &mut peel, 0x8100);
+    let tag = peel.next().ok_or("a unit")?.ok().ok_or("a unit")?;
     let texts = [
         (
             format!(in rt.alloc(); "{tag:?}")?,
@@ -185,7 +241,5 @@ fn values_show_and_compare(rt: HostRuntime) -> Result<(), Fail> {
     for (shown, wanted) in &texts {
         assert_eq!(rt; shown.as_str(), *wanted);
     }
-    let error = fault(0, 14, 0, Layer::Ethernet2Header);
-    assert_eq!(rt; error.clone()?, error);
     Ok(())
 }

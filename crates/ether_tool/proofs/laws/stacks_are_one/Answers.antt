@@ -1,4 +1,4 @@
-use Rattle.ether_tool.proofs.Stacks.{some_stack, one_stack}
+use Rattle.ether_tool.proofs.StackLemmas.{some_stack, one_stack}
 use Rattle.ether_tool.proofs.laws.stacks_are_one.Goals as goal
 
 pub returns : goal.returns

@@ -1,4 +1,4 @@
-use Rattle.ether_tool.proofs.WordLemmas.{NamesMode-none, NamesMode-eth}
+use Rattle.ether_tool.proofs.ModeLemmas.{NamesMode-none, NamesMode-eth}
 use Rattle.ether_tool.proofs.mode.mode_of.Goals as goal
 
 pub returns-in-empty-clause-ok : goal.returns-in-empty-clause-ok

@@ -4,5 +4,5 @@ use Rattle.ether_tool.proofs.plain.two_bytes.Goals as goal
 
 pub overflow_cast-result : goal.overflow_cast-result
 overflow_cast-result c =
-    let two = number_of_two c.args.list.now c.args.at (λ i. omega (arith, c.type_inv.list i)) c.requires in
+    let two = number_of_two c.args.frame.now c.args.at (λ i. omega (arith, c.type_inv.frame i)) c.requires in
     omega arith

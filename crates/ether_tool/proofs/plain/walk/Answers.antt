@@ -8,13 +8,13 @@ use Rattle.ether_tool.proofs.plain.walk.Goals as goal
 
 pub returns-in-End : goal.returns-in-End
 returns-in-End c =
-    let list = c.args.list.now in
+    let list = c.args.frame.now in
     let x = start_of c.args.start in
     led_stack list x (whole x list) (map header_of c.loop-ending.headers.items) (start_of c.loop-ending.expected) (window_of c.loop-ending.window) (ending_of c.in-End.ending) c.loop-ending.invariant.led c.in-End.ensures
 
 pub loop-ending-preserved : goal.loop-ending-preserved
 loop-ending-preserved c =
-    let list = c.args.list.now in
+    let list = c.args.frame.now in
     let x = start_of c.args.start in
     let y = start_of c.loop-ending.expected in
     let w = window_of c.loop-ending.window in

@@ -8,8 +8,8 @@ use Rattle.ether_tool.proofs.plain.walk.Given as goal
 
 abbrev pub invariant-loop-ending : goal.invariant-loop-ending
 invariant-loop-ending l = record {
-  inside : IsIn l.list (window_of l.window);
-  led : Leads l.list (start_of l.fn.start) (whole (start_of l.fn.start) l.list) (map header_of l.headers.items) (start_of l.expected) (window_of l.window);
+  inside : IsIn l.frame (window_of l.window);
+  led : Leads l.frame (start_of l.fn.start) (whole (start_of l.fn.start) l.frame) (map header_of l.headers.items) (start_of l.expected) (window_of l.window);
 }
 
 abbrev pub decreases-loop-ending : goal.decreases-loop-ending

@@ -6,7 +6,7 @@ use Rattle.ether_tool.specs.PeelStart.{start_of}
 use Rattle.ether_tool.specs.Peel.{Gives, GivesNext}
 use Rattle.ether_tool.specs.declared.peel.PeelFault.{PeelFault}
 use Rattle.ether_tool.specs.declared.peel.PeelError.TheVariants as errors
-use Rattle.ether_tool.proofs.Walking.{gives_unit, gives_fault, fault_at, ended}
+use Rattle.ether_tool.proofs.PeelLemmas.{gives_unit, gives_fault, fault_at, ended}
 use Rattle.ether_tool.proofs.peel.PeelIterator.next.Goals as goal
 
 not_over : (b : Bool) → b ≡ false → b ≡ true → ⊥

@@ -1,0 +1,25 @@
+-- A writer and the text that waits for it.
+use Rattle.std.specs.Prelude.{◌≡◌, ℕ, List, [], Option, Bool}
+use Rattle.std.specs.Io.KnownBytes.{Appends, append_known}
+use Rattle.ether_tool.specs.WalkText.{Answers}
+use Rattle.ether_tool.specs.declared.mode.Mode.{Mode}
+use Rattle.ether_tool.specs.declared.output_buffer.OutputBuffer.{OutputBuffer}
+
+-- the writer's contents, where they are known, followed by the text that waits
+abbrev pub contents_of : {W : Type 0} → (W → Option (List ℕ)) → OutputBuffer W → Option (List ℕ)
+contents_of contents g = append_known (contents g.writer.now) g.waiting.items
+
+-- the writer holds bytes more, with the text that waits
+abbrev pub Takes : {W : Type 0} → (W → Option (List ℕ)) → OutputBuffer W → List ℕ → OutputBuffer W → Type 0
+Takes contents old bytes new = Appends (contents_of contents old) (contents_of contents new) bytes
+
+-- the writer holds what waited, and no text waits
+pub record WritesOut {W : Type 0} (contents : W → Option (List ℕ)) (old new : OutputBuffer W) : Type 0 where
+  pub written : Appends (contents old.writer.now) (contents new.writer.now) old.waiting.items
+  pub none_waits : new.waiting.items ≡ []
+
+-- the writer holds the text that answers the frame, with the text that waits
+pub record TakesWalk {W : Type 0} (mode : Mode) (contents : W → Option (List ℕ)) (frame : List ℕ) (old new : OutputBuffer W) (accepted : Bool) : Type 0 where
+  pub text : List ℕ
+  pub answers : Answers mode frame text accepted
+  pub taken : Takes contents old text new

@@ -1,0 +1,120 @@
+-- What a run writes for its input.
+use Rattle.std.specs.Prelude.{◌≡◌, ◌==◌, ℕ, ◌+◌, ◌-◌, ◌^◌, min, List, [], ◌∷◌, ◌++◌, length, Bool, true, false, ◌&&◌, Option, Result, Ok, Err, IfSome, ⊤}
+use Rattle.std.specs.List.{All}
+use Rattle.std.specs.Str.Lines.{lines}
+use Rattle.std.specs.Io.KnownBytes.{Appends, Consumes, IsAtEnd}
+use Rattle.ether_tool.specs.WalkText.{Answers}
+use Rattle.ether_tool.specs.Frame.{IsFrame, IsBadLine}
+use Rattle.ether_tool.specs.declared.mode.Mode.{Mode}
+use Rattle.ether_tool.specs.declared.outcome.Verdict.{Verdict}
+use Rattle.ether_tool.specs.declared.outcome.Verdict.TheVariants.{AllAccepted, SomeRefused}
+use Rattle.ether_tool.specs.declared.outcome.ToolFault.{ToolFault}
+use Rattle.ether_tool.specs.declared.outcome.ToolFault.TheVariants.{BadLine, Input, Output}
+
+-- the line names a frame, and the text answers it
+pub record IsLineAnswered (mode : Mode) (line text : List ℕ) (accepted : Bool) : Type 0 where
+  pub frame : List ℕ
+  pub named : IsFrame line frame
+  pub answered : Answers mode frame text accepted
+
+-- the text answers the lines in order, and all says that each of their frames is accepted
+abbrev pub AreAnswered : Mode → List (List ℕ) → List ℕ → Bool → Type 0
+AreAnswered mode [] text all = (text ≡ []) × (all ≡ true)
+AreAnswered mode (line ∷ others) text all =
+    (first : List ℕ) × (accepted : Bool) × (rest : List ℕ) × (others_accepted : Bool)
+    × IsLineAnswered mode line first accepted × AreAnswered mode others rest others_accepted
+    × (text ≡ first ++ rest) × (all ≡ (accepted && others_accepted))
+
+-- no byte of the line is an LF
+abbrev pub HasNoLineFeed : List ℕ → Type 0
+HasNoLineFeed line = All (λ byte. (byte == 10) ≡ false) line
+
+-- the verdict on frames, of which all says that each is accepted
+abbrev pub verdict_of : Bool → Verdict
+verdict_of true = AllAccepted
+verdict_of false = SomeRefused
+
+-- the verdict with one frame more
+abbrev pub verdict_with : Verdict → Bool → Verdict
+verdict_with AllAccepted accepted = verdict_of accepted
+verdict_with SomeRefused accepted = SomeRefused
+
+-- the number of the line behind this many lines: counted from 1, it stays at its greatest value
+abbrev pub number_behind : ℕ → ℕ
+number_behind count = min (count + 1) (2 ^ 64 - 1)
+
+-- The line of this number is the first bad line of the input, and the text answers the lines before it.
+pub record StopsAtLine (mode : Mode) (input : List ℕ) (number : ℕ) (text : List ℕ) : Type 0 where
+  pub good : List (List ℕ)
+  pub bad : List ℕ
+  pub later : List (List ℕ)
+  pub all_accepted : Bool
+  pub parts : lines input ≡ good ++ bad ∷ later
+  pub answered : AreAnswered mode good text all_accepted
+  pub is_bad : IsBadLine bad
+  pub is_number : number ≡ number_behind (length good)
+
+-- From before to after the reader gave all its bytes, and the writer took the text that answers their lines.
+pub record AnswersInput (mode : Mode) (before after held holds : Option (List ℕ)) (verdict : Verdict) : Type 0 where
+  pub input : List ℕ
+  pub text : List ℕ
+  pub all_accepted : Bool
+  pub read : Consumes before after input
+  pub at_end : IsAtEnd after
+  pub answered : AreAnswered mode (lines input) text all_accepted
+  pub is_verdict : verdict ≡ verdict_of all_accepted
+  pub written : Appends held holds text
+
+-- these are the bytes that a reader has left, where they are known
+abbrev pub IsLeft : Option (List ℕ) → List ℕ → Type 0
+IsLeft after bytes = IfSome after (λ known. bytes ≡ known)
+
+-- From before to after the reader gave some of its bytes. The line of this number is the first bad line of all of
+-- them, and the writer took the text that answers the lines before it.
+pub record StopsInput (mode : Mode) (before after held holds : Option (List ℕ)) (number : ℕ) : Type 0 where
+  pub taken : List ℕ
+  pub left : List ℕ
+  pub text : List ℕ
+  pub read : Consumes before after taken
+  pub is_left : IsLeft after left
+  pub stops : StopsAtLine mode (taken ++ left) number text
+  pub written : Appends held holds text
+
+-- From before to after the reader gave some of its bytes. In them these lines have ended, whatever follows, and the
+-- writer took the text that answers them.
+pub record BreaksOff (mode : Mode) (before after held holds : Option (List ℕ)) : Type 0 where
+  pub taken : List ℕ
+  pub done : List (List ℕ)
+  pub begun : List ℕ
+  pub text : List ℕ
+  pub all_accepted : Bool
+  pub read : Consumes before after taken
+  pub parts : (rest : List ℕ) → lines (taken ++ rest) ≡ done ++ lines (begun ++ rest)
+  pub in_line : HasNoLineFeed begun
+  pub answered : AreAnswered mode done text all_accepted
+  pub written : Appends held holds text
+
+-- ---- what is said of each outcome
+
+-- of a fault that names a bad line; of the other faults nothing is said
+abbrev pub OnBadLine : ToolFault → (ℕ → Type 0) → Type 0
+OnBadLine (BadLine number) P = P number
+OnBadLine Input P = ⊤
+OnBadLine Output P = ⊤
+
+-- of a fault of the reader
+abbrev pub OnInput : ToolFault → Type 0 → Type 0
+OnInput (BadLine number) P = ⊤
+OnInput Input P = P
+OnInput Output P = ⊤
+
+-- of a fault of the reader, and of one of the writer
+abbrev pub OnStreamFault : ToolFault → Type 0 → Type 0 → Type 0
+OnStreamFault (BadLine number) P Q = ⊤
+OnStreamFault Input P Q = P
+OnStreamFault Output P Q = Q
+
+-- where all lines are answered, or one is bad
+abbrev pub IfSettled : Result Verdict ToolFault → Type 0 → Type 0
+IfSettled (Ok verdict) P = P
+IfSettled (Err fault) P = OnBadLine fault (λ number. P)

@@ -1,0 +1,126 @@
+//! How far a run has come.
+use crate::frame::MAX_FRAME_LEN;
+use crate::line_buffer::{LineBuffer, LineEnd};
+use crate::mode::Mode;
+use crate::outcome::{ToolFault, Verdict};
+use crate::output_buffer::OutputBuffer;
+use crate::walk_text::put_walk;
+use std::io::Write;
+
+/// The line under way, and what the lines before it gave.
+#[derive(Drop)]
+pub struct LineLoop {
+    line: LineBuffer,
+    count: u64,
+    verdict: Verdict,
+}
+
+impl LineLoop {
+    ghost use Rattle.std.specs.Prelude.{◌≡◌, ◌++◌, ℕ, List, [], Option, IfOk, IfErr, OnOk, true};
+    ghost use Rattle.ether_tool.specs.OutputBuffer.{contents_of};
+    ghost use Rattle.ether_tool.specs.Run.{OnBadLine, OnStreamFault};
+    ghost use Rattle.ether_tool.specs.LineBuffer.{KeepsLine, without_end};
+    ghost use Rattle.ether_tool.specs.LineLoop.{Advances, Finishes, IsStart, JudgesLine, RefusesLine, StopsWithin};
+
+    /// The state of a run that has read nothing.
+    pub fn new() -> Self
+        ensures { IsStart result }
+    {
+        LineLoop {
+            line: LineBuffer::new(),
+            count: 0,
+            verdict: Verdict::AllAccepted,
+        }
+    }
+
+    /// Answers the line under way, which ends with this piece, and begins the next. `frame` is
+    /// room for the line's frame.
+    fn judge<W: Write>(
+        &mut self,
+        mode: Mode,
+        piece: &[u8],
+        end: LineEnd,
+        frame: &mut [u8; MAX_FRAME_LEN],
+        out: &mut OutputBuffer<'_, W>,
+    ) -> Result<(), ToolFault>
+        ensures same_writer { out.new.writer.ghost_name ≡ out.old.writer.ghost_name }
+        ensures ok { OnOk result ((line : List ℕ) → KeepsLine self.old.line line
+            → JudgesLine mode W.contents (without_end end (line ++ piece.now)) self.old out.old self.new out.new) }
+        ensures bad { IfErr result (λ fault. OnBadLine fault (RefusesLine piece.now end self.old out.old out.new)) }
+        ensures failed { IfErr result (λ fault. OnStreamFault fault ⊥ (out.new.has_failed ≡ true)) }
+    {
+        let number = self.count.saturating_add(1);
+        let Some(len) = self.line.end(piece, end, frame) else {
+            return Err(ToolFault::BadLine(number));
+        };
+        let accepted = match put_walk(mode, &frame[..len], out) {
+            Ok(accepted) => accepted,
+            Err(fault) => return Err(fault),
+        };
+        self.verdict = self.verdict.with(accepted);
+        self.count = number;
+        Ok(())
+    }
+
+    /// Takes the next bytes of the input, and answers each line that ends in them.
+    pub fn take_chunk<W: Write>(
+        &mut self,
+        mode: Mode,
+        chunk: &[u8],
+        out: &mut OutputBuffer<'_, W>,
+    ) -> Result<(), ToolFault>
+        ensures same_writer { out.new.writer.ghost_name ≡ out.old.writer.ghost_name }
+        ensures ok { OnOk result (Advances mode W.contents self.old out.old chunk.now self.new out.new) }
+        ensures bad { IfErr result (λ fault. OnBadLine fault (λ number. (later : List ℕ)
+            → StopsWithin mode W.contents self.old out.old chunk.now later out.new number)) }
+        ensures failed { IfErr result (λ fault. OnStreamFault fault ⊥ (out.new.has_failed ≡ true)) }
+    {
+        let mut frame = [0; MAX_FRAME_LEN];
+        let mut rest = chunk;
+        while let Some((piece, behind)) = split_line(rest) {
+            if let Err(fault) = self.judge(mode, piece, LineEnd::LineFeed, &mut frame, out) {
+                return Err(fault);
+            }
+            rest = behind;
+        }
+        self.line.extend(rest);
+        Ok(())
+    }
+
+    /// Answers the last line, where the input ends in one without an LF, and tells the verdict.
+    pub fn finish<W: Write>(
+        mut self,
+        mode: Mode,
+        out: &mut OutputBuffer<'_, W>,
+    ) -> Result<Verdict, ToolFault>
+        ensures same_writer { out.new.writer.ghost_name ≡ out.old.writer.ghost_name }
+        ensures ok { IfOk result (Finishes mode W.contents self out.old out.new) }
+        ensures bad { IfErr result (λ fault. OnBadLine fault
+            (StopsWithin mode W.contents self out.old [] [] out.new)) }
+        ensures failed { IfErr result (λ fault. OnStreamFault fault ⊥ (out.new.has_failed ≡ true)) }
+    {
+        if self.line.is_empty() {
+            return Ok(self.verdict);
+        }
+        let mut frame = [0; MAX_FRAME_LEN];
+        if let Err(fault) = self.judge(mode, &[], LineEnd::InputEnd, &mut frame, out) {
+            return Err(fault);
+        }
+        Ok(self.verdict)
+    }
+}
+
+ghost use Rattle.std.specs.Prelude.{IfSome, IfNone};
+ghost use Rattle.ether_tool.specs.LineLoop.{SplitsAtLineFeed};
+ghost use Rattle.ether_tool.specs.Run.{HasNoLineFeed};
+
+/// The bytes before the first LF, and those behind it. `None` where there is no LF.
+fn split_line(bytes: &[u8]) -> Option<(&[u8], &[u8])>
+    ensures some { IfSome result (λ parts. SplitsAtLineFeed bytes.now parts.0.now parts.1.now) }
+    ensures none { IfNone result (HasNoLineFeed bytes.now) }
+{
+    match bytes.iter().position(|byte| *byte == b'\n') {
+        Some(end) => Some((&bytes[..end], &bytes[end + 1..])),
+        None => None,
+    }
+}
