@@ -28,7 +28,7 @@ pub struct HexType(pub u16);
 
 impl fmt::Display for HexType {
     ghost use Rattle.std.specs.Prelude.{Some};
-    ghost use Rattle.ether_base.specs.ShownNumber.{hex_number};
+    ghost use Rattle.ether_base.specs.NumberText.{hex_number};
 
     ghost output = { λ number. Some (hex_number number.0) };
 

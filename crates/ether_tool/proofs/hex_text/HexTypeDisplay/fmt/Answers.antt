@@ -1,6 +1,6 @@
 use Rattle.std.proofs.Common.{◌≡◌, ℕ, List, [], ◌∷◌, Some, subst}
 use Rattle.std.specs.Fmt.{DisplaysOnOk}
-use Rattle.ether_base.specs.ShownNumber.{hex_number}
+use Rattle.ether_base.specs.NumberText.{hex_number}
 use Rattle.ether_tool.proofs.hex_text.HexTypeDisplay.fmt.Goals as goal
 
 pub returns-clause-writes : goal.returns-clause-writes
