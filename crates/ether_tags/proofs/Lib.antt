@@ -1,2 +1,3 @@
 pub mod MacsecFields
 pub mod SameValues
+pub mod SameHeaders

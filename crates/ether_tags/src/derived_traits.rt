@@ -296,3 +296,15 @@ pub fn same_link_ext_slice(a: &LinkExtSlice<'_>, b: &LinkExtSlice<'_>) -> bool
 {
     *a == *b
 }
+
+pub fn read_back_ethernet2_header(header: Ethernet2Header) -> Ethernet2Header
+    ensures { result ≡ header }
+{
+    Ethernet2Header::from_bytes(header.to_bytes())
+}
+
+pub fn read_back_single_vlan_header(header: SingleVlanHeader) -> SingleVlanHeader
+    ensures { result ≡ header }
+{
+    SingleVlanHeader::from_bytes(header.to_bytes())
+}

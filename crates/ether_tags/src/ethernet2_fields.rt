@@ -3,7 +3,7 @@
 ghost use Rattle.std.specs.Prelude.{◌≡◌, ◌+◌, ◌≤◌, ◌<◌, length, slice_range};
 ghost use Rattle.ether_base.specs.Bytes.{IsBytes, spelled};
 ghost use Rattle.ether_base.specs.Ethernet2.{ethernet2_of};
-ghost use Rattle.ether_tags.specs.Ethernet2.{ethernet2_view};
+ghost use Rattle.ether_tags.specs.Ethernet2.{ethernet2_header_of, ethernet2_view};
 
 use crate::Ethernet2Header;
 use ether_base::big_endian::u16_of;
@@ -40,6 +40,7 @@ pub fn ether_type(bytes: &[u8]) -> EtherType
 /// All fields.
 pub fn header(bytes: &[u8]) -> Ethernet2Header
     requires { 14 ≤ length bytes.now }
+    ensures fields { result ≡ ethernet2_header_of bytes.now }
     ensures value { ethernet2_view result ≡ ethernet2_of bytes.now }
     ensures bytes { IsBytes bytes.now }
 {

@@ -1,5 +1,5 @@
 //! The Ethernet II header as a value.
-ghost use Rattle.std.specs.Prelude.{◌≡◌, ◌≤◌, ◌<◌, ◌++◌, length, drop, slice_range, IfOk, IfErr};
+ghost use Rattle.std.specs.Prelude.{ℕ, List, ◌≡◌, ◌≤◌, ◌<◌, ◌++◌, length, drop, slice_range, IfOk, IfErr};
 ghost use Rattle.std.specs.Borrow.{sem};
 ghost use Rattle.ether_base.specs.declared.len_source.LenSource.TheVariants as sources;
 ghost use Rattle.ether_base.specs.Bytes.{number};
@@ -10,7 +10,7 @@ ghost use Rattle.ether_base.specs.Kind as kinds;
 ghost use Rattle.ether_base.specs.Refusal.{Accepts};
 ghost use Rattle.ether_base.specs.RefusedLen.{IsRefusedLen};
 ghost use Rattle.ether_base.specs.WriteFront.{AnswersRest, LendsRest};
-ghost use Rattle.ether_tags.specs.Ethernet2.{ethernet2_view};
+ghost use Rattle.ether_tags.specs.Ethernet2.{ethernet2_header_of, ethernet2_view};
 
 use crate::{Ethernet2HeaderSlice, ethernet2_fields};
 use ether_base::err::{Layer, LenError, SliceWriteSpaceError};
@@ -38,6 +38,7 @@ impl Ethernet2Header {
     /// bytes.
     pub fn from_slice(slice: &[u8]) -> Result<(Ethernet2Header, &[u8]), LenError>
         ensures accepted { IfOk result (λ answer. Accepts sources.Slice slice.now kinds.Ethernet2) }
+        ensures fields { IfOk result (λ answer. answer.0 ≡ ethernet2_header_of slice.now) }
         ensures value { IfOk result (λ answer. Means slice.now (headers.Ethernet2 (ethernet2_view answer.0))) }
         ensures rest { IfOk result (λ answer. answer.1.now ≡ slice_range slice.now 14 (length slice.now)) }
         ensures refused { IfErr result (IsRefusedLen slice.now kinds.Ethernet2) }
@@ -49,6 +50,7 @@ impl Ethernet2Header {
     /// The same as [`Ethernet2Header::from_slice`], under its older name.
     pub fn read_from_slice(slice: &[u8]) -> Result<(Ethernet2Header, &[u8]), LenError>
         ensures accepted { IfOk result (λ answer. Accepts sources.Slice slice.now kinds.Ethernet2) }
+        ensures fields { IfOk result (λ answer. answer.0 ≡ ethernet2_header_of slice.now) }
         ensures value { IfOk result (λ answer. Means slice.now (headers.Ethernet2 (ethernet2_view answer.0))) }
         ensures rest { IfOk result (λ answer. answer.1.now ≡ slice_range slice.now 14 (length slice.now)) }
         ensures refused { IfErr result (IsRefusedLen slice.now kinds.Ethernet2) }
@@ -58,6 +60,7 @@ impl Ethernet2Header {
 
     /// The header that 14 bytes hold. Each 14 bytes hold one.
     pub fn from_bytes(bytes: [u8; 14]) -> Ethernet2Header
+        ensures fields { result ≡ ethernet2_header_of bytes }
         ensures value { IsEthernet2 bytes (ethernet2_view result) }
         ensures inverse { ethernet2_bytes (ethernet2_view result) ≡ bytes }
     {
@@ -75,6 +78,9 @@ impl Ethernet2Header {
     pub fn to_bytes(&self) -> [u8; 14]
         ensures value { result ≡ ethernet2_bytes (ethernet2_view self.now) }
         ensures inverse { (e : Ethernet2Value) → IsEthernet2 result e → e ≡ ethernet2_view self.now }
+        ensures accepted { (more : List ℕ) → Accepts sources.Slice (result ++ more) kinds.Ethernet2 }
+        ensures read_back { (more : List ℕ) → ethernet2_header_of (result ++ more) ≡ self.now }
+        ensures same { ethernet2_header_of result ≡ self.now }
     {
         joined(&self.destination, &self.source, self.ether_type.0)
     }
@@ -107,6 +113,9 @@ impl Ethernet2Header {
 fn joined(destination: &[u8], source: &[u8], ether_type: u16) -> [u8; 14]
     requires destination { length destination.now ≡ 6 }
     requires source { length source.now ≡ 6 }
+    ensures destination { slice_range result 0 6 ≡ destination.now }
+    ensures source { slice_range result 6 12 ≡ source.now }
+    ensures ether_type { number (slice_range result 12 14) ≡ ether_type }
     ensures value { IsEthernet2 result (record { destination = number destination.now; source = number source.now; ether_type = ether_type }) }
     ensures bytes { result ≡ ethernet2_bytes (record { destination = number destination.now; source = number source.now; ether_type = ether_type }) }
 {

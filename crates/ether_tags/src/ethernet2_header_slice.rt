@@ -11,7 +11,7 @@ ghost use Rattle.ether_base.specs.Header.{Means};
 ghost use Rattle.ether_base.specs.Kind as kinds;
 ghost use Rattle.ether_base.specs.Refusal.{Accepts};
 ghost use Rattle.ether_base.specs.RefusedLen.{IsRefusedLen};
-ghost use Rattle.ether_tags.specs.Ethernet2.{ethernet2_view};
+ghost use Rattle.ether_tags.specs.Ethernet2.{ethernet2_header_of, ethernet2_view};
 
 use crate::{Ethernet2Header, ethernet2_fields};
 use ether_base::EtherType;
@@ -85,7 +85,8 @@ impl<'a> Ethernet2HeaderSlice<'a> {
 
     /// The header as a value.
     pub fn to_header(&self) -> Ethernet2Header
-        ensures { ethernet2_view result ≡ ethernet2_of self.now }
+        ensures fields { result ≡ ethernet2_header_of self.now }
+        ensures value { ethernet2_view result ≡ ethernet2_of self.now }
     {
         ethernet2_fields::header(self.slice)
     }

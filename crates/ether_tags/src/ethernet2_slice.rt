@@ -12,7 +12,7 @@ ghost use Rattle.ether_base.specs.Header.{Means};
 ghost use Rattle.ether_base.specs.Kind as kinds;
 ghost use Rattle.ether_base.specs.Refusal.{Accepts};
 ghost use Rattle.ether_base.specs.RefusedLen.{IsRefusedLen};
-ghost use Rattle.ether_tags.specs.Ethernet2.{fcs_len, fcs_of, payload_of, ethernet2_view};
+ghost use Rattle.ether_tags.specs.Ethernet2.{fcs_len, fcs_of, payload_of, ethernet2_header_of, ethernet2_view};
 
 use crate::{EtherPayloadSlice, Ethernet2Header, ethernet2_fields};
 use ether_base::err::LenError;
@@ -123,7 +123,8 @@ impl<'a> Ethernet2Slice<'a> {
 
     /// The header as a value.
     pub fn to_header(&self) -> Ethernet2Header
-        ensures { ethernet2_view result ≡ ethernet2_of self.now.bytes }
+        ensures fields { result ≡ ethernet2_header_of self.now.bytes }
+        ensures value { ethernet2_view result ≡ ethernet2_of self.now.bytes }
     {
         ethernet2_fields::header(self.slice)
     }

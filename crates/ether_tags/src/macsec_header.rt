@@ -119,6 +119,7 @@ impl MacsecHeader {
     pub fn to_bytes(&self) -> ArrayVec<u8, 16>
         ensures value { result.items ≡ sec_tag_bytes (sec_tag_view self.now) }
         ensures read { (more : List ℕ) → Means (result.items ++ more) (headers.Macsec (sec_tag_view self.now)) }
+        ensures read_back { (more : List ℕ) (h : MacsecHeader) → Means (result.items ++ more) (headers.Macsec (sec_tag_view h)) → h ≡ self.now }
         ensures accepted { (more : List ℕ) → (IsTooShort (sec_tag_front_of 0 0 (sec_tag_view self.now)) → ⊥) → AcceptsHeader sources.Slice (result.items ++ more) kinds.Macsec }
         ensures refused { (more : List ℕ) → IsTooShort (sec_tag_front_of 0 0 (sec_tag_view self.now)) → RefusesHeader sources.Slice (result.items ++ more) kinds.Macsec InvalidShortLen }
     {

@@ -1,5 +1,5 @@
 //! A VLAN tag as a value.
-ghost use Rattle.std.specs.Prelude.{◌≡◌, length, slice_range, IfOk, IfErr};
+ghost use Rattle.std.specs.Prelude.{ℕ, List, ◌++◌, ◌≡◌, length, slice_range, IfOk, IfErr};
 ghost use Rattle.ether_base.specs.declared.len_source.LenSource.TheVariants as sources;
 ghost use Rattle.ether_base.specs.Header as headers;
 ghost use Rattle.ether_base.specs.Header.{Means};
@@ -75,6 +75,9 @@ impl SingleVlanHeader {
     pub fn to_bytes(&self) -> [u8; 4]
         ensures value { result ≡ vlan_bytes (vlan_view self.now) }
         ensures inverse { (v : VlanValue) → IsVlan result v → v ≡ vlan_view self.now }
+        ensures accepted { (more : List ℕ) → Accepts sources.Slice (result ++ more) kinds.Vlan }
+        ensures read_back { (more : List ℕ) (h : SingleVlanHeader) → Means (result ++ more) (headers.Vlan (vlan_view h)) → h ≡ self.now }
+        ensures same { (h : SingleVlanHeader) → IsVlan result (vlan_view h) → h ≡ self.now }
     {
         let control = tag_control_of(self.pcp, self.drop_eligible_indicator, self.vlan_id);
         let c = control.to_be_bytes();

@@ -9,4 +9,4 @@ returns c =
     let len : length b ≡ 14 = search rules in
     let h = c.header.ensures in
     let value = subst (IsEthernet2 b) (sym h.value) (ethernet2_whole b h.bytes len) in
-    record { value = value; inverse = ethernet2_bytes-read b _ h.bytes len value }
+    record { fields = h.fields; value = value; inverse = ethernet2_bytes-read b _ h.bytes len value }

@@ -4,6 +4,8 @@ use Rattle.ether_base.specs.Header as headers
 use Rattle.ether_base.specs.Header.{Means}
 use Rattle.ether_base.specs.Kind as kinds
 use Rattle.ether_base.specs.Refusal.{AcceptsHeader, InvalidShortLen, RefusesHeader}
+use Rattle.ether_base.proofs.Means.{tag_unique}
+use Rattle.ether_tags.proofs.SameHeaders.{macsec_headers_same}
 use Rattle.ether_base.proofs.ReadBack.{means-header_bytes}
 use Rattle.ether_base.proofs.MacsecFields.{sec_tag_bytes_accepted, sec_tag_bytes_refused}
 use Rattle.ether_tags.specs.Macsec.{sec_tag_view}
@@ -21,3 +23,9 @@ returns-clause-accepted c more long =
 pub returns-clause-refused : goal.returns-clause-refused
 returns-clause-refused c more short =
     subst (λ (l : List ℕ). RefusesHeader sources.Slice (l ++ more) kinds.Macsec InvalidShortLen) (sym c.spelled.ensures.value) (sec_tag_bytes_refused sources.Slice (sec_tag_view c.args.self.now) more c.spelled.ensures.fits short)
+
+pub returns-clause-read_back : goal.returns-clause-read_back
+returns-clause-read_back c more h means =
+    let tag = sec_tag_view c.args.self.now in
+    let own = subst (λ (l : List ℕ). Means (l ++ more) (headers.Macsec tag)) (sym c.spelled.ensures.value) (means-header_bytes (headers.Macsec tag) more c.spelled.ensures.fits) in
+    macsec_headers_same h c.args.self.now (tag_unique (c.spelled.result.items ++ more) (sec_tag_view h) tag means own)
