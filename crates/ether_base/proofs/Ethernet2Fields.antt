@@ -6,7 +6,7 @@ use Rattle.ether_base.specs.Bytes.{IsBytes, number, spelled}
 use Rattle.ether_base.specs.Ethernet2.{Ethernet2Value, IsEthernet2, ethernet2_bytes, ethernet2_of}
 use Rattle.ether_base.specs.Header.{Means}
 use Rattle.ether_base.specs.Header as headers
-use Rattle.ether_base.proofs.Numbers.{IsBytes-nil, IsBytes-cons, IsBytes-append, number-append, number_below, spelled-number}
+use Rattle.ether_base.proofs.Numbers.{IsBytes-two, IsBytes-append, number-append, number_below, spelled-is}
 use Rattle.ether_base.proofs.SubLists.{part_all, number-part_below, number-part_join}
 use Rattle.ether_base.proofs.ArrayElements.{cells, cells-all}
 
@@ -27,7 +27,7 @@ ethernet2_whole bytes ok len = rw (part_all bytes 14 (omega arith)) at (ethernet
 
 -- bytes are those of the value that they mean
 pub ethernet2_bytes-read : (bytes : List ℕ) (e : Ethernet2Value) → IsBytes bytes → length bytes ≡ 14 → IsEthernet2 bytes e → ethernet2_bytes e ≡ bytes
-ethernet2_bytes-read bytes e ok len is = ap (spelled 14) (sym is.sum) ∙ ap (λ (n : ℕ). spelled n (number bytes)) (sym len) ∙ spelled-number bytes ok
+ethernet2_bytes-read bytes e ok len is = ap (spelled 14) (sym is.sum) ∙ spelled-is 14 bytes len ok
 
 -- two addresses and the two bytes of an ether type, one behind the other, mean the header that has them
 pub ethernet2_written : (d s : List ℕ) (t : ℕ) (last : List ℕ) → IsBytes d → IsBytes s → length d ≡ 6 → length s ≡ 6 → t < 2 ^ 16 → last ≡ t / 256 % 256 ∷ t % 256 ∷ []
@@ -46,6 +46,5 @@ ethernet2_written d s t last okd oks ld ls lt is_last =
     let nd = rw ld at (number_below d okd) in
     let ns = rw ls at (number_below s oks) in
     let is : IsEthernet2 bytes e = record { sum = ap number same ∙ omega arith; fits = record { destination = nd; source = ns; ether_type = lt } } in
-    let okt : IsBytes two = IsBytes-cons (t / 256 % 256) (t % 256 ∷ []) (omega arith) (IsBytes-cons (t % 256) [] (omega arith) IsBytes-nil) in
-    let ok : IsBytes bytes = subst IsBytes (sym same) (IsBytes-append d (s ++ two) okd (IsBytes-append s two oks okt)) in
+    let ok : IsBytes bytes = subst IsBytes (sym same) (IsBytes-append d (s ++ two) okd (IsBytes-append s two oks (IsBytes-two t))) in
     (is, sym (ethernet2_bytes-read bytes e ok refl is))

@@ -9,7 +9,7 @@ use Rattle.ether_base.specs.Header.{Means}
 use Rattle.ether_base.specs.Header as headers
 use Rattle.ether_base.specs.Kind as kinds
 use Rattle.ether_base.specs.Refusal.{Accepts}
-use Rattle.ether_base.proofs.Numbers.{IsBytes-nil, IsBytes-cons, IsBytes-append, number-append, number_below, spelled-number}
+use Rattle.ether_base.proofs.Numbers.{IsBytes-two, IsBytes-append, number-append, number_below, spelled-is}
 use Rattle.ether_base.proofs.SubLists.{part_all, part_of_front, number-part_below, number-part_join}
 use Rattle.ether_base.proofs.ArrayElements.{cells, cells-all}
 use Rattle.ether_base.proofs.Rows.{accepts_linux_sll}
@@ -54,11 +54,7 @@ linux_sll_accepted bound bytes ok le packet hardware = accepts_linux_sll bound b
 
 -- bytes are those of the value that they mean
 pub linux_sll_bytes-read : (bytes : List ℕ) (s : LinuxSllValue) → IsBytes bytes → length bytes ≡ 16 → IsLinuxSll bytes s → linux_sll_bytes s ≡ bytes
-linux_sll_bytes-read bytes s ok len is = ap (spelled 16) (sym is.sum) ∙ ap (λ (n : ℕ). spelled n (number bytes)) (sym len) ∙ spelled-number bytes ok
-
--- a number's two bytes
-IsBytes-two : (n : ℕ) → IsBytes (n / 256 % 256 ∷ n % 256 ∷ [])
-IsBytes-two n = IsBytes-cons (n / 256 % 256) (n % 256 ∷ []) (omega arith) (IsBytes-cons (n % 256) [] (omega arith) IsBytes-nil)
+linux_sll_bytes-read bytes s ok len is = ap (spelled 16) (sym is.sum) ∙ spelled-is 16 bytes len ok
 
 -- three numbers of two bytes, an address and a number of two bytes, one behind the other, mean the header that has them
 pub linux_sll_written : (p h l : ℕ) (a : List ℕ) (t : ℕ) (bp bh bl bt : List ℕ) → p < 2 ^ 16 → h < 2 ^ 16 → l < 2 ^ 16 → IsBytes a → length a ≡ 8 → t < 2 ^ 16

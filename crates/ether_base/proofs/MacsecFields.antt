@@ -1,4 +1,4 @@
--- The fields of a security tag, read from the parts of a list.
+-- The fields of a MACsec SecTag, read from the parts of a list.
 use Rattle.std.proofs.Common.{◌≡◌, ℕ, ◌-◌, ◌≤◌, List, ◌++◌, length, take, refl, sym, ap, subst, ◌∙◌, arith}
 use Rattle.std.specs.Prelude.{slice_range}
 use Rattle.std.proofs.lemmas.List.{length-append}

@@ -1,20 +1,25 @@
 -- Bytes that are accepted mean one header.
-use Rattle.std.proofs.Common.{◌≡◌, ℕ, zero, suc, ◌+◌, ◌*◌, ◌<◌, ◌≤◌, List, length, refl, sym, ap, subst, ◌∙◌, arith, inl, inr}
+use Rattle.std.proofs.Common.{◌≡◌, ℕ, zero, suc, ◌+◌, ◌*◌, ◌<◌, ◌≤◌, List, length, refl, sym, ap, subst, ◌∙◌, arith}
 use Rattle.std.specs.Prelude.{slice_range, Option, Some, None, unwrap_or}
-use Rattle.std.proofs.lemmas.Bool.{cases_lt}
 use Rattle.ether_base.specs.declared.len_source.LenSource.{LenSource}
 use Rattle.ether_base.specs.Bytes.{IsBytes, number}
 use Rattle.ether_base.specs.Macsec.{SecTagFront, BeginsSecTag, sec_tag_len, known_payload_len, PayloadType, Unmodified, Modified, Encrypted, EncryptedUnmodified, SecTagValue, encrypted_of, changed_of, sci_present_of, sec_tag_front_of, ether_type_len, FitsSecTagFront, HasSci, HasEtherType, IsSecTag, payload_type_for, sci_for, sec_tag_with}
 use Rattle.ether_base.specs.Arp.{ArpValue, ArpFront, BeginsArp, arp_front_of, arp_len, bytes_at, IsArp}
 use Rattle.ether_base.specs.Kind.{Kind}
 use Rattle.ether_base.specs.Kind as kinds
+use Rattle.ether_base.specs.Ethernet2.{ethernet2_of}
+use Rattle.ether_base.specs.Vlan.{vlan_of}
+use Rattle.ether_base.specs.LinuxSll.{linux_sll_of}
 use Rattle.ether_base.specs.Header.{Header, kind_of, header_len, Spells, Means, trailer_len, unit_len}
 use Rattle.ether_base.specs.Header as headers
 use Rattle.ether_base.specs.Refusal.{IsTooShort, Accepts}
 use Rattle.ether_base.specs.Refusal as rows
-use Rattle.ether_base.proofs.Values.{ethernet2_unique, ethernet2_at, ethernet2_exists, vlan_unique, vlan_at, vlan_exists, linux_sll_unique, linux_sll_at, linux_sll_exists}
+use Rattle.ether_base.proofs.Values.{ethernet2_unique, vlan_unique, linux_sll_unique}
+use Rattle.ether_base.proofs.Ethernet2Fields.{ethernet2_means, ethernet2_read}
+use Rattle.ether_base.proofs.VlanFields.{vlan_means}
+use Rattle.ether_base.proofs.LinuxSllFields.{linux_sll_means}
 use Rattle.ether_base.proofs.SubLists.{length-part, part_of_front}
-use Rattle.ether_base.proofs.Rows.{one_sec_tag_front, one_arp_front, some_sec_tag_front, some_arp_front, below_part}
+use Rattle.ether_base.proofs.Rows.{at_least, version_zero, one_sec_tag_front, one_arp_front, some_sec_tag_front, some_arp_front}
 
 -- ---- there is one
 
@@ -122,36 +127,29 @@ some_arp bytes f begins whole =
 
 some_macsec : (bound : LenSource) (bytes : List ℕ) (c : SecTagFront) → 6 ≤ length bytes → BeginsSecTag bytes c → Accepts bound bytes kinds.Macsec → (h : Header) × (kind_of h ≡ kinds.Macsec) × Means bytes h
 some_macsec bound bytes c six begins accepted =
-    let old : c.version ≡ 0 = elim (cases_lt 0 c.version) [ inl v ↦ absurd (accepted _ (rows.macsec_version c six begins (omega (arith, begins.fits.version)))) | inr v ↦ omega arith ] in
+    let old : c.version ≡ 0 = version_zero bound bytes c six begins (accepted _) in
     let long : IsTooShort c → ⊥ = λ s. accepted _ (rows.macsec_short_len c six begins old s) in
-    let whole : sec_tag_len c ≤ length bytes = elim (cases_lt (length bytes) (sec_tag_len c)) [ inl lt ↦ absurd (accepted _ (rows.macsec_header c six begins old long lt)) | inr le ↦ le ] in
+    let whole : sec_tag_len c ≤ length bytes = at_least (length bytes) (sec_tag_len c) (λ lt. accepted _ (rows.macsec_header c six begins old long lt)) in
     (headers.Macsec (sec_tag_with c bytes), refl, tag_means bytes c begins whole)
 
 pub some_header : (bound : LenSource) (bytes : List ℕ) (kind : Kind) → IsBytes bytes → Accepts bound bytes kind → (h : Header) × (kind_of h ≡ kind) × Means bytes h
 some_header bound bytes kinds.Ethernet2 ok accepted =
-    let le : 14 ≤ length bytes = elim (cases_lt (length bytes) 14) [ inl lt ↦ absurd (accepted _ (rows.ethernet2 lt)) | inr le ↦ le ] in
-    let e = ethernet2_exists (number (slice_range bytes 0 14)) (below_part bytes 14 ok le) in
-    (headers.Ethernet2 (ethernet2_at (number (slice_range bytes 0 14))), refl, record { whole = le; spells = record { sum = e.0; fits = e.1 } })
+    (headers.Ethernet2 (ethernet2_of bytes), refl, ethernet2_means bytes ok (at_least (length bytes) 14 (λ lt. accepted _ (rows.ethernet2 lt))))
 some_header bound bytes kinds.Ethernet2Fcs ok accepted =
-    let le : 18 ≤ length bytes = elim (cases_lt (length bytes) 18) [ inl lt ↦ absurd (accepted _ (rows.ethernet2_fcs lt)) | inr le ↦ le ] in
-    let e = ethernet2_exists (number (slice_range bytes 0 14)) (below_part bytes 14 ok (omega arith)) in
-    (headers.Ethernet2Fcs (ethernet2_at (number (slice_range bytes 0 14))), refl, record { whole = omega arith; spells = record { sum = e.0; fits = e.1 } })
+    let le : 18 ≤ length bytes = at_least (length bytes) 18 (λ lt. accepted _ (rows.ethernet2_fcs lt)) in
+    (headers.Ethernet2Fcs (ethernet2_of bytes), refl, record { whole = omega arith; spells = ethernet2_read bytes ok (omega arith) })
 some_header bound bytes kinds.LinuxSll ok accepted =
-    let le : 16 ≤ length bytes = elim (cases_lt (length bytes) 16) [ inl lt ↦ absurd (accepted _ (rows.linux_sll lt)) | inr le ↦ le ] in
-    let e = linux_sll_exists (number (slice_range bytes 0 16)) (below_part bytes 16 ok le) in
-    (headers.LinuxSll (linux_sll_at (number (slice_range bytes 0 16))), refl, record { whole = le; spells = record { sum = e.0; fits = e.1 } })
+    (headers.LinuxSll (linux_sll_of bytes), refl, linux_sll_means bytes ok (at_least (length bytes) 16 (λ lt. accepted _ (rows.linux_sll lt))))
 some_header bound bytes kinds.Vlan ok accepted =
-    let le : 4 ≤ length bytes = elim (cases_lt (length bytes) 4) [ inl lt ↦ absurd (accepted _ (rows.vlan lt)) | inr le ↦ le ] in
-    let e = vlan_exists (number (slice_range bytes 0 4)) (below_part bytes 4 ok le) in
-    (headers.Vlan (vlan_at (number (slice_range bytes 0 4))), refl, record { whole = le; spells = record { sum = e.0; fits = e.1 } })
+    (headers.Vlan (vlan_of bytes), refl, vlan_means bytes ok (at_least (length bytes) 4 (λ lt. accepted _ (rows.vlan lt))))
 some_header bound bytes kinds.Macsec ok accepted =
-    let six : 6 ≤ length bytes = elim (cases_lt (length bytes) 6) [ inl lt ↦ absurd (accepted _ (rows.macsec lt)) | inr le ↦ le ] in
+    let six : 6 ≤ length bytes = at_least (length bytes) 6 (λ lt. accepted _ (rows.macsec lt)) in
     let c = some_sec_tag_front bytes ok six in
     some_macsec bound bytes c.0 six c.1 accepted
 some_header bound bytes kinds.Arp ok accepted =
-    let le : 8 ≤ length bytes = elim (cases_lt (length bytes) 8) [ inl lt ↦ absurd (accepted _ (rows.arp lt)) | inr le ↦ le ] in
+    let le : 8 ≤ length bytes = at_least (length bytes) 8 (λ lt. accepted _ (rows.arp lt)) in
     let c = some_arp_front bytes ok le in
-    let whole : arp_len c.0 ≤ length bytes = elim (cases_lt (length bytes) (arp_len c.0)) [ inl lt ↦ absurd (accepted _ (rows.arp_addresses c.0 le c.1 lt)) | inr le ↦ le ] in
+    let whole : arp_len c.0 ≤ length bytes = at_least (length bytes) (arp_len c.0) (λ lt. accepted _ (rows.arp_addresses c.0 le c.1 lt)) in
     some_arp bytes c.0 c.1 whole
 
 -- what a front of a list means, the list means
@@ -235,18 +233,18 @@ unknown_or_fits : (bound : LenSource) (bytes : List ℕ) (c : SecTagFront) (o : 
     → sec_tag_len c + unwrap_or o 0 ≤ length bytes
 unknown_or_fits bound bytes c None e begins old whole accepted = omega arith
 unknown_or_fits bound bytes c (Some p) e begins old whole accepted =
-    elim (cases_lt (length bytes) (sec_tag_len c + p)) [ inl lt ↦ absurd (accepted _ (rows.macsec_packet c p begins old e whole lt)) | inr le ↦ le ]
+    at_least (length bytes) (sec_tag_len c + p) (λ lt. accepted _ (rows.macsec_packet c p begins old e whole lt))
 
 pub unit_fits : (bound : LenSource) (bytes : List ℕ) (h : Header) → Accepts bound bytes (kind_of h) → Means bytes h → unit_len h + trailer_len h ≤ length bytes
 unit_fits bound bytes (headers.Ethernet2 e) accepted m = let k = m.whole in omega arith
-unit_fits bound bytes (headers.Ethernet2Fcs e) accepted m = elim (cases_lt (length bytes) 18) [ inl lt ↦ absurd (accepted _ (rows.ethernet2_fcs lt)) | inr le ↦ le ]
+unit_fits bound bytes (headers.Ethernet2Fcs e) accepted m = at_least (length bytes) 18 (λ lt. accepted _ (rows.ethernet2_fcs lt))
 unit_fits bound bytes (headers.LinuxSll s) accepted m = let k = m.whole in omega arith
 unit_fits bound bytes (headers.Vlan v) accepted m = let k = m.whole in omega arith
 unit_fits bound bytes (headers.Macsec t) accepted m =
     let a = tag_begins bytes t m in
     let c = sec_tag_front_of a.0 a.1 t in
     let whole : sec_tag_len c ≤ length bytes = m.whole in
-    let old : a.0 ≡ 0 = elim (cases_lt 0 a.0) [ inl v ↦ absurd (accepted _ (rows.macsec_version c (omega arith) a.2 (omega (arith, a.2.fits.version)))) | inr v ↦ omega arith ] in
+    let old : a.0 ≡ 0 = version_zero bound bytes c (omega arith) a.2 (accepted _) in
     let fits = unknown_or_fits bound bytes c (known_payload_len c) refl a.2 old whole accepted in
     omega arith
 unit_fits bound bytes (headers.Arp a) accepted m = let k = m.whole in omega arith

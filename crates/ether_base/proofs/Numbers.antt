@@ -70,6 +70,10 @@ spelled-number bytes h =
 pub spelled-is : (k : ℕ) (bytes : List ℕ) → length bytes ≡ k → IsBytes bytes → spelled k (number bytes) ≡ bytes
 spelled-is k bytes len ok = ap (λ (n : ℕ). spelled n (number bytes)) (sym len) ∙ spelled-number bytes ok
 
+-- the two bytes of a number
+pub IsBytes-two : (n : ℕ) → IsBytes (n / 256 % 256 ∷ n % 256 ∷ [])
+IsBytes-two n = IsBytes-cons (n / 256 % 256) (n % 256 ∷ []) (omega arith) (IsBytes-cons (n % 256) [] (omega arith) IsBytes-nil)
+
 pub IsBytes-six : (a b c d e f : ℕ) → a < 256 → b < 256 → c < 256 → d < 256 → e < 256 → f < 256 → IsBytes (a ∷ b ∷ c ∷ d ∷ e ∷ f ∷ [])
 IsBytes-six a b c d e f ha hb hc hd he hf =
     IsBytes-cons a (b ∷ c ∷ d ∷ e ∷ f ∷ []) ha (IsBytes-cons b (c ∷ d ∷ e ∷ f ∷ []) hb (IsBytes-cons c (d ∷ e ∷ f ∷ []) hc (IsBytes-cons d (e ∷ f ∷ []) hd (IsBytes-cons e (f ∷ []) he (IsBytes-cons f [] hf IsBytes-nil)))))

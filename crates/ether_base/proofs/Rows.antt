@@ -18,6 +18,10 @@ use Rattle.ether_base.proofs.Values.{sec_tag_front_unique, sec_tag_front_exists,
 use Rattle.ether_base.proofs.SubLists.{length-part, IsBytes-part}
 use Rattle.ether_base.specs.Refusal as rows
 
+-- what is not below a number is at least that number
+pub at_least : (a b : ℕ) → (a < b → ⊥) → b ≤ a
+at_least a b never = elim (cases_lt a b) [ inl lt ↦ absurd (never lt) | inr le ↦ le ]
+
 -- ---- what the first bytes say is one
 
 pub one_sec_tag_front : (bytes : List ℕ) (t u : SecTagFront) → BeginsSecTag bytes t → BeginsSecTag bytes u → t ≡ u
@@ -103,13 +107,14 @@ accepts_packet bound bytes t header begins fits r (rows.macsec_packet u p b v s 
     let l = ap sec_tag_len e in
     omega arith
 
+-- where the version is not refused, it is 0
+pub version_zero : (bound : LenSource) (bytes : List ℕ) (t : SecTagFront) → 6 ≤ length bytes → BeginsSecTag bytes t → (Refuses bound bytes kinds.Macsec UnexpectedVersion → ⊥) → t.version ≡ 0
+version_zero bound bytes t six begins never =
+    let none = at_least 0 t.version (λ v. never (rows.macsec_version t six begins (omega (arith, begins.fits.version)))) in omega arith
+
 -- a tag whose header is accepted has the version bit 0
 pub accepted_version : (bound : LenSource) (bytes : List ℕ) (t : SecTagFront) → 6 ≤ length bytes → AcceptsHeader bound bytes kinds.Macsec → BeginsSecTag bytes t → t.version ≡ 0
-accepted_version bound bytes t six header begins =
-    elim (cases_lt 0 t.version) [
-      | inl v ↦ absurd (header UnexpectedVersion (record { row = rows.macsec_version t six begins (omega (arith, begins.fits.version)); of_header = λ e. e }))
-      | inr v ↦ omega arith
-    ]
+accepted_version bound bytes t six header begins = version_zero bound bytes t six begins (λ row. header UnexpectedVersion (record { row = row; of_header = λ e. e }))
 
 pub accepts_linux_sll : (bound : LenSource) (bytes : List ℕ) (t : LinuxSllValue) → 16 ≤ length bytes → BeginsLinuxSll bytes t → t.packet_type ≤ 7 → is_supported t.hardware_type ≡ true → Accepts bound bytes kinds.LinuxSll
 accepts_linux_sll bound bytes t le begins packet hardware r (rows.linux_sll lt) = omega arith
@@ -266,24 +271,13 @@ one_row bound bytes kinds.Arp r s (rows.arp_addresses t k a lt) (rows.arp_addres
 
 -- ---- rows that refuse a length
 
-pub row_len : (bound source : LenSource) (bytes : List ℕ) (kind : Kind) (required n : ℕ) (layer : Layer) → Refuses bound bytes kind (Length required n source layer) → n ≡ length bytes
-row_len bound source bytes kind required n layer (rows.ethernet2 lt) = refl
-row_len bound source bytes kind required n layer (rows.ethernet2_fcs lt) = refl
-row_len bound source bytes kind required n layer (rows.linux_sll lt) = refl
-row_len bound source bytes kind required n layer (rows.vlan lt) = refl
-row_len bound source bytes kind required n layer (rows.macsec lt) = refl
-row_len bound source bytes kind required n layer (rows.macsec_header t six begins version short lt) = refl
-row_len bound source bytes kind required n layer (rows.macsec_packet t p begins version known whole lt) = refl
-row_len bound source bytes kind required n layer (rows.arp lt) = refl
-row_len bound source bytes kind required n layer (rows.arp_addresses a eight begins lt) = refl
-
-pub row_short : (bound source : LenSource) (bytes : List ℕ) (kind : Kind) (required n : ℕ) (layer : Layer) → Refuses bound bytes kind (Length required n source layer) → n < required
-row_short bound source bytes kind required n layer (rows.ethernet2 lt) = lt
-row_short bound source bytes kind required n layer (rows.ethernet2_fcs lt) = lt
-row_short bound source bytes kind required n layer (rows.linux_sll lt) = lt
-row_short bound source bytes kind required n layer (rows.vlan lt) = lt
-row_short bound source bytes kind required n layer (rows.macsec lt) = lt
-row_short bound source bytes kind required n layer (rows.macsec_header t six begins version short lt) = lt
-row_short bound source bytes kind required n layer (rows.macsec_packet t p begins version known whole lt) = lt
-row_short bound source bytes kind required n layer (rows.arp lt) = lt
-row_short bound source bytes kind required n layer (rows.arp_addresses a eight begins lt) = lt
+pub row_short : (bound source : LenSource) (bytes : List ℕ) (kind : Kind) (required n : ℕ) (layer : Layer) → Refuses bound bytes kind (Length required n source layer) → (n ≡ length bytes) × (n < required)
+row_short bound source bytes kind required n layer (rows.ethernet2 lt) = (refl, lt)
+row_short bound source bytes kind required n layer (rows.ethernet2_fcs lt) = (refl, lt)
+row_short bound source bytes kind required n layer (rows.linux_sll lt) = (refl, lt)
+row_short bound source bytes kind required n layer (rows.vlan lt) = (refl, lt)
+row_short bound source bytes kind required n layer (rows.macsec lt) = (refl, lt)
+row_short bound source bytes kind required n layer (rows.macsec_header t six begins version short lt) = (refl, lt)
+row_short bound source bytes kind required n layer (rows.macsec_packet t p begins version known whole lt) = (refl, lt)
+row_short bound source bytes kind required n layer (rows.arp lt) = (refl, lt)
+row_short bound source bytes kind required n layer (rows.arp_addresses a eight begins lt) = (refl, lt)

@@ -52,18 +52,6 @@ arp_front_unique v w f g e =
     let k : v.operation ≡ w.operation = omega arith in
     λ i. record { hardware_type = a i; protocol_type = b i; hardware_size = c i; protocol_size = d i; operation = k i }
 
-abbrev pub ethernet2_at : ℕ → Ethernet2Value
-ethernet2_at n = record { destination = n / 2 ^ 64; source = n / 2 ^ 16 % 2 ^ 48; ether_type = n % 2 ^ 16 }
-
-pub ethernet2_exists : (n : ℕ) → n < 2 ^ 112 → (n ≡ ethernet2_number (ethernet2_at n)) × FitsEthernet2 (ethernet2_at n)
-ethernet2_exists n lt = omega arith
-
-abbrev pub vlan_at : ℕ → VlanValue
-vlan_at n = record { pcp = n / 2 ^ 29; dei = n / 2 ^ 28 % 2; vid = n / 2 ^ 16 % 2 ^ 12; ether_type = n % 2 ^ 16 }
-
-pub vlan_exists : (n : ℕ) → n < 2 ^ 32 → (n ≡ vlan_number (vlan_at n)) × FitsVlan (vlan_at n)
-vlan_exists n lt = omega arith
-
 abbrev pub linux_sll_at : ℕ → LinuxSllValue
 linux_sll_at n = record { packet_type = n / 2 ^ 112; hardware_type = n / 2 ^ 96 % 2 ^ 16; address_len = n / 2 ^ 80 % 2 ^ 16; address = n / 2 ^ 16 % 2 ^ 64; protocol = n % 2 ^ 16 }
 

@@ -26,9 +26,11 @@ pub record RowsAreApart : Type 0 where
   pub decided : (bound : LenSource) (bytes : List ℕ) (kind : Kind) → IsBytes bytes → ((r : Refusal) × Refuses bound bytes kind r) ⊎ Accepts bound bytes kind
 
 -- a row that refuses a length says how many bytes there are, and that more are required
-pub record LengthRowsAreShort : Type 0 where
-  pub len : (bound source : LenSource) (bytes : List ℕ) (kind : Kind) (required n : ℕ) (layer : Layer) → Refuses bound bytes kind (Length required n source layer) → n ≡ length bytes
-  pub short : (bound source : LenSource) (bytes : List ℕ) (kind : Kind) (required n : ℕ) (layer : Layer) → Refuses bound bytes kind (Length required n source layer) → n < required
+abbrev pub LengthRowsAreShort : Type 0
+LengthRowsAreShort =
+    (bound source : LenSource) (bytes : List ℕ) (kind : Kind) (required n : ℕ) (layer : Layer)
+    → Refuses bound bytes kind (Length required n source layer)
+    → (n ≡ length bytes) × (n < required)
 
 -- Accepted bytes mean a header, and a list means at most one of a kind. Of fourteen bytes, of four, of sixteen, and of as many as
 -- the front of a SecTag tells it is the one whose fields stand in their places.

@@ -3,6 +3,7 @@ ghost use Rattle.std.specs.Prelude.{◌≡◌};
 ghost use Rattle.std.specs.Option.{option_copied};
 ghost use Rattle.ether_base.specs.EtherType.{ether_type_description};
 
+use crate::ether_type;
 use crate::number_text::ShownEtherType;
 use std::fmt;
 
@@ -26,28 +27,28 @@ pub struct EtherType(pub u16);
 /// The constants also stand in the module [`crate::ether_type`].
 impl EtherType {
     /// Internet Protocol version 4 (RFC 894).
-    pub const IPV4: EtherType = EtherType(0x0800);
+    pub const IPV4: EtherType = ether_type::IPV4;
 
     /// Internet Protocol version 6 (RFC 2464).
-    pub const IPV6: EtherType = EtherType(0x86DD);
+    pub const IPV6: EtherType = ether_type::IPV6;
 
     /// Address Resolution Protocol (RFC 826).
-    pub const ARP: EtherType = EtherType(0x0806);
+    pub const ARP: EtherType = ether_type::ARP;
 
     /// Wake on LAN: a packet that wakes a sleeping computer.
-    pub const WAKE_ON_LAN: EtherType = EtherType(0x0842);
+    pub const WAKE_ON_LAN: EtherType = ether_type::WAKE_ON_LAN;
 
     /// A customer VLAN tag, C-TAG (IEEE 802.1Q, table 9-1).
-    pub const VLAN_TAGGED_FRAME: EtherType = EtherType(0x8100);
+    pub const VLAN_TAGGED_FRAME: EtherType = ether_type::VLAN_TAGGED_FRAME;
 
     /// A service VLAN tag, S-TAG, the outer tag of QinQ (IEEE 802.1Q, table 9-1).
-    pub const PROVIDER_BRIDGING: EtherType = EtherType(0x88A8);
+    pub const PROVIDER_BRIDGING: EtherType = ether_type::PROVIDER_BRIDGING;
 
     /// A MACsec SecTag (IEEE 802.1AE, 9.4).
-    pub const MACSEC: EtherType = EtherType(0x88E5);
+    pub const MACSEC: EtherType = ether_type::MACSEC;
 
     /// The outer VLAN tag of QinQ, as some devices sent it before service tags had a number.
-    pub const VLAN_DOUBLE_TAGGED_FRAME: EtherType = EtherType(0x9100);
+    pub const VLAN_DOUBLE_TAGGED_FRAME: EtherType = ether_type::VLAN_DOUBLE_TAGGED_FRAME;
 
     /// The description of the ether type, if it is one of the constants.
     #[tactic(auto, unfolding(crate::specs::EtherType::ether_type_description))]
@@ -97,7 +98,6 @@ impl fmt::Debug for EtherType {
 #[cfg(test)]
 mod tests {
     use super::*;
-    use crate::ether_type;
     use std::test::Fail;
 
     #[test]

@@ -1,5 +1,5 @@
-use Rattle.ether_base.proofs.Rows.{row_len, row_short}
+use Rattle.ether_base.proofs.Rows.{row_short}
 use Rattle.ether_base.proofs.laws.length_rows_are_short.Goals as goal
 
 pub returns : goal.returns
-returns c = record { len = row_len; short = row_short }
+returns c = row_short

@@ -25,8 +25,8 @@ use denote.Slice.{MutSlice, Room, slice_val, mut_slice_vals, mut_slice_Tells}
 use denote.Steps.{nothing, owned}
 use denote.Triple.Walked.{says, Stays, stay_dropped, walk_of, ends_at, Goes-dropped, Goes-spent_slice}
 use borrow.Table.Elements.{at, at_mul, length-take-le}
-use Rattle.ether_base.proofs.MadeResults.{ok_of, err_of, row_of}
-use Rattle.ether_base.proofs.LentTails.{lends_tail, tail_lent}
+use Rattle.ether_base.proofs.WriteFrontResult.{ok_of, err_of, row_of}
+use Rattle.ether_base.proofs.WriteFrontLoan.{lends_tail, tail_lent}
 use denote.Struct.Laws as structs
 use Rattle.ether_base.specs.contracts.err.layer.Layer as layers
 use Rattle.ether_base.proofs.err.layer.Layer.TheLaws as layer_laws

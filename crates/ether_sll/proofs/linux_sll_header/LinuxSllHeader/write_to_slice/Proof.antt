@@ -2,7 +2,7 @@
 use Rattle.std.proofs.Common.{[], refl}
 use Rattle.ether_base.specs.LinuxSll.{linux_sll_bytes}
 use Rattle.ether_base.specs.declared.err.layer.Layer.TheVariants as layers
-use Rattle.ether_base.proofs.ThenLends.{meets}
+use Rattle.ether_base.proofs.WriteToSlice.{meets}
 use Rattle.ether_base.proofs.write_front.rest_from.Met.{met as rest-met}
 use Rattle.ether_sll.specs.LinuxSll.{linux_sll_view}
 use Rattle.ether_sll.specs.contracts.linux_sll_header.LinuxSllHeader.{the_row}

@@ -2,7 +2,7 @@
 use Rattle.std.proofs.Common.{[], refl}
 use Rattle.ether_base.specs.Ethernet2.{ethernet2_bytes}
 use Rattle.ether_base.specs.declared.err.layer.Layer.TheVariants as layers
-use Rattle.ether_base.proofs.ThenLends.{meets}
+use Rattle.ether_base.proofs.WriteToSlice.{meets}
 use Rattle.ether_base.proofs.write_front.rest_from.Met.{met as rest-met}
 use Rattle.ether_tags.specs.Ethernet2.{ethernet2_view}
 use Rattle.ether_tags.specs.contracts.ethernet2_header.Ethernet2Header.{the_row}

@@ -35,8 +35,8 @@ use denote.Triple.Clauses.{Ended, Clauses, closing, lasts}
 use denote.Triple.Spec.{Meets, triple_of}
 use denote.Triple.Table.{framed}
 use denote.Triple.Walked.{says as says_so, Stays, stay_dropped, walk_of, ends_at, Goes-dropped, Goes-spent_slice}
-use Rattle.ether_base.proofs.MadeResults.{row_of, answer_Lawful}
-use Rattle.ether_base.proofs.WrittenFronts.{answers, fronts, lends}
+use Rattle.ether_base.proofs.WriteFrontResult.{row_of, answer_Lawful}
+use Rattle.ether_base.proofs.WriteFront.{answers, fronts, lends}
 use Rattle.ether_base.specs.WriteFront.{AnswersRest, LendsRest}
 use Rattle.ether_base.specs.declared.err.layer.Layer.{Layer}
 use Rattle.ether_base.specs.declared.err.slice_write_space_error.SliceWriteSpaceError.{SliceWriteSpaceError}

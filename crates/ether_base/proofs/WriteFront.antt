@@ -1,7 +1,8 @@
 -- A slice whose front was written where it has room: what a call on it then answers of its rest, and what it lends.
-use Rattle.std.proofs.Common.{◌≡◌, ℕ, ◌≤◌, ◌<◌, ◌⊎◌, inl, inr, true, false, List, [], ◌∷◌, ◌++◌, length, refl, ap, ◌∙◌, arith, length-append, length-drop, ltb→lt, nltb→le, MutBor, Ok, Err, ltb, not, T}
+use Rattle.std.proofs.Common.{◌≡◌, ℕ, ◌≤◌, ◌<◌, inl, inr, List, [], ◌∷◌, ◌++◌, length, refl, ap, ◌∙◌, arith, length-append, length-drop, MutBor, Ok, Err}
 use Rattle.std.specs.Prelude.{take, drop, MatchResult, Result}
 use Rattle.std.specs.Borrow.{Array, u8}
+use Rattle.std.proofs.lemmas.Bool.{cases_lt}
 use Rattle.std.proofs.lemmas.Grind.{common_steps}
 use Rattle.ether_base.specs.declared.err.layer.Layer.{Layer}
 use Rattle.ether_base.specs.declared.err.slice_write_space_error.SliceWriteSpaceError.{SliceWriteSpaceError}
@@ -12,9 +13,6 @@ use base.Fml.{fres}
 use types.Logic.{Logic, sem}
 use types.Kit.{‵, ◌$◌, ◌∵◌, !, qed, rewrite, done}
 use denote.Follow.{follows, follows_by}
-
-either : (a b : ℕ) → (a ≤ b) ⊎ (b < a)
-either a b = (elim (ltb b a) as (λ v. (T v → b < a) → (T (not v) → a ≤ b) → (a ≤ b) ⊎ (b < a)) [ true ↦ λ f g. inr (f tt) | false ↦ λ f g. inl (g tt) ]) (ltb→lt b a) (nltb→le b a)
 
 take_front : (bytes more : List ℕ) (m : ℕ) → length bytes ≡ m → take m (bytes ++ more) ≡ bytes
 take_front bytes more m e = grind (arith, common_steps)
@@ -28,9 +26,9 @@ Fronts m whole bytes old r = MatchResult r (λ rest. take m whole ≡ bytes) (λ
 
 module _ (m : ℕ) (layer : Layer) (whole bytes old : List ℕ) (width : length bytes ≡ m) (wrote : m ≤ length old → whole ≡ bytes ++ drop m old) (kept : length old < m → whole ≡ old) where
   pub same_length : length whole ≡ length old
-  same_length = elim (either m (length old)) [
-    | inl le ↦ ap length (wrote le) ∙ length-append bytes (drop m old) ∙ (let d = length-drop m old in omega arith)
-    | inr lt ↦ ap length (kept lt)
+  same_length = elim (cases_lt (length old) m) [
+    | inl lt ↦ ap length (kept lt)
+    | inr le ↦ ap length (wrote le) ∙ length-append bytes (drop m old) ∙ (let d = length-drop m old in omega arith)
   ]
 
   pub answers : (r : Result (MutBor (List ℕ)) SliceWriteSpaceError) → AnswersRest m layer whole r → AnswersRest m layer old r
