@@ -1,7 +1,7 @@
 //! The lines that a walk is printed as, one for each unit and one for the ending.
 //!
 //! Each is put into the output piece by piece: through the formatter it would take twice as long.
-ghost use Rattle.std.specs.Prelude.{◌≡◌, ◌++◌, ◌≤◌, codes, decimal, length, true, IfErr, OnOk, OnErr};
+ghost use Rattle.std.specs.Prelude.{◌≡◌, ◌++◌, ◌+◌, ◌≤◌, ◌<◌, codes, decimal, length, true, IfErr, OnOk, OnErr};
 ghost use Rattle.ether_base.specs.Ethernet2.{ethernet2_of};
 ghost use Rattle.ether_base.specs.Vlan.{vlan_of};
 ghost use Rattle.ether_tool.specs.Lines.{ethernet2_text, mark_text, source_text, vlan_text};
@@ -49,14 +49,18 @@ fn put_ethernet2<W: Write>(
     ensures fault { IfErr result (λ fault. fault ≡ ToolFault.Output) }
     ensures failed { OnErr result (out.new.has_failed ≡ true) }
 {
+    // Bytes that were just written one by one are slow to copy, so the digits come first.
+    let destination = hex_address(slice.destination());
+    let source = hex_address(slice.source());
+    let ether_type = hex_type(slice.ether_type());
     out.put(b"ethernet2 ")?;
     put_decimal(out, start)?;
     out.put(b" ")?;
-    out.put(&hex_address(slice.destination()))?;
+    out.put(&destination)?;
     out.put(b" ")?;
-    out.put(&hex_address(slice.source()))?;
+    out.put(&source)?;
     out.put(b" ")?;
-    out.put(&hex_type(slice.ether_type()))
+    out.put(&ether_type)
 }
 
 /// Puts the text of a VLAN tag.
@@ -71,6 +75,7 @@ fn put_vlan<W: Write>(
     ensures fault { IfErr result (λ fault. fault ≡ ToolFault.Output) }
     ensures failed { OnErr result (out.new.has_failed ≡ true) }
 {
+    let ether_type = hex_type(slice.ether_type());
     out.put(b"vlan ")?;
     put_decimal(out, start)?;
     out.put(b" pcp ")?;
@@ -80,7 +85,7 @@ fn put_vlan<W: Write>(
     out.put(b" vid ")?;
     put_decimal(out, usize::from(slice.vlan_identifier().value()))?;
     out.put(b" ")?;
-    out.put(&hex_type(slice.ether_type()))
+    out.put(&ether_type)
 }
 
 /// Puts the line of what is left of a frame that was accepted: from a start to an end, and what it
@@ -115,8 +120,9 @@ fn put_kind<W: Write>(out: &mut OutputBuffer<'_, W>, kind: RestKind) -> Result<(
     match kind {
         RestKind::Start => out.put(b" "),
         RestKind::EtherType(ether_type) => {
+            let ether_type = hex_type(ether_type);
             out.put(b" type ")?;
-            out.put(&hex_type(ether_type))
+            out.put(&ether_type)
         }
     }
 }
@@ -176,8 +182,38 @@ fn put_decimal<W: Write>(out: &mut OutputBuffer<'_, W>, number: usize) -> Result
     ensures failed { OnErr result (out.new.has_failed ≡ true) }
 {
     if number < 10 {
-        return out.put(&[b'0' + number as u8]);
+        return out.put(&[digit(number)]);
     }
+    if number < 100 {
+        return out.put(&[digit(number / 10), digit(number % 10)]);
+    }
+    if number < 1000 {
+        return out.put(&[
+            digit(number / 100),
+            digit(number / 10 % 10),
+            digit(number % 10),
+        ]);
+    }
+    put_long_decimal(out, number)
+}
+
+/// The decimal digit of a number below 10.
+#[inline(always)]
+fn digit(number: usize) -> u8
+    requires { number < 10 }
+    ensures { result ≡ 48 + number }
+{
+    b'0' + number as u8
+}
+
+/// Puts a number of many digits.
+#[inline(never)]
+fn put_long_decimal<W: Write>(out: &mut OutputBuffer<'_, W>, number: usize) -> Result<(), ToolFault>
+    ensures same_writer { out.new.writer.ghost_name ≡ out.old.writer.ghost_name }
+    ensures ok { OnOk result (Takes W.contents out.old (decimal number) out.new) }
+    ensures fault { IfErr result (λ fault. fault ≡ ToolFault.Output) }
+    ensures failed { OnErr result (out.new.has_failed ≡ true) }
+{
     let mut text = ArrayString::<20>::new();
     if write!(text, "{number}").is_err() {
         return Err(out.fail());

@@ -12,7 +12,7 @@ returns-clause-ok g c =
     let dei = Takes-same (ap decimal (c.from-2.ensures ∙ c.drop_eligible_indicator.ensures)) c.in_ok-put_decimal-3.ensures.ok in
     let vid = Takes-same (ap decimal (c.from-3.ensures ∙ c.value-2.ensures.value ∙ c.vlan_identifier.ensures)) c.in_ok-put_decimal-4.ensures.ok in
     OnOk-then c.put-6.result (λ last.
-    let ether_type = Takes-same (c.hex_type.ensures ∙ ap hex_number c.ether_type.ensures) last in
+    let ether_type = Takes-same (c.hex_type-ether_type.ensures ∙ ap hex_number c.ether_type.ensures) last in
     Takes-then c.in_ok-put.ensures.ok (Takes-then c.in_ok-put_decimal.ensures.ok (Takes-then c.in_ok-put-2.ensures.ok (Takes-then pcp
     (Takes-then c.in_ok-put-3.ensures.ok (Takes-then dei (Takes-then c.in_ok-put-4.ensures.ok (Takes-then vid
     (Takes-then c.in_ok-put-5.ensures.ok ether_type))))))))) c.put-6.ensures.ok
