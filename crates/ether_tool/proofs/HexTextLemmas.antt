@@ -1,7 +1,6 @@
 -- What the kit's hexadecimal text is in the formatter's digits.
-use Rattle.std.proofs.Common.{◌≡◌, ℕ, zero, suc, ◌+◌, ◌/◌, ◌%◌, ◌<◌, ◌==◌, ◌&&◌, Bool, true, false, List, [], ◌∷◌, slice_index, IsAscii, nat_lt, refl, inl, inr, arith}
+use Rattle.std.proofs.Common.{◌≡◌, ℕ, zero, suc, ◌+◌, ◌/◌, ◌%◌, ◌<◌, ◌==◌, ◌&&◌, Bool, true, false, List, [], ◌∷◌, slice_index, nat_lt, refl, inl, inr, arith}
 use Rattle.std.proofs.lemmas.Bool.{and_parts, cases_lt, eqb-true, ltb-true}
-use Rattle.std.proofs.lemmas.Str.Ascii.{IsAscii-nil, IsAscii-cons}
 use Rattle.std.specs.Fmt.{digit_glyph}
 use Rattle.hex.specs.Hex.{lower_digits, encode_with, encode_lower}
 use Rattle.ether_base.specs.Bytes.{IsBytes}
@@ -39,16 +38,3 @@ encoded (b ∷ bytes) h =
     let low = same_digit (b % 16) (omega arith) in
     let more = encoded bytes (λ i. h (suc i)) in
     λ i. high i ∷ low i ∷ more i
-
-abbrev are_low : List ℕ → Bool
-are_low [] = true
-are_low (x ∷ xs) = nat_lt x 128 && are_low xs
-
-low_are_ascii : (xs : List ℕ) → are_low xs ≡ true → IsAscii xs
-low_are_ascii [] h = IsAscii-nil
-low_are_ascii (x ∷ xs) h =
-    let parts = and_parts (nat_lt x 128) (are_low xs) h in
-    IsAscii-cons x xs (ltb-true x 128 parts.0) (low_are_ascii xs parts.1)
-
-pub are_ascii : IsAscii lower_digits
-are_ascii = low_are_ascii lower_digits refl

@@ -1,5 +1,6 @@
 pub mod StackLemmas
 pub mod PeelLemmas
+pub mod DecimalLemmas
 pub mod HexTextLemmas
 pub mod KnownBytesLemmas
 pub mod OutputBufferLemmas

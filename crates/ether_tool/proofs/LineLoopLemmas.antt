@@ -159,7 +159,7 @@ module _ {W : Type 0} (mode : Mode) (contents : W → Option (List ℕ)) where
             is_verdict = judged.is_verdict ∙ ap (λ (v : Verdict). verdict_with v judged.accepted) so_far.is_verdict ∙ verdict_with-verdict_of so_far.all_accepted judged.accepted;
             is_count = let k = judged.is_count in let l = so_far.is_count in omega (arith, length-append so_far.done (ended ∷ []));
             kept = judged.begins;
-            written = Appends-then held (contents_of contents from) (contents_of contents to) so_far.text judged.text so_far.written judged.taken;
+            written = Appends-then held (contents_of contents from) (contents_of contents to) so_far.text judged.text so_far.written judged.taken.grown;
           }
 
   -- the last piece of a line and its LF, where the line is bad
@@ -237,7 +237,7 @@ module _ {W : Type 0} (mode : Mode) (contents : W → Option (List ℕ)) where
           let whole = ended_lines held input old from so_far (some so_far.line so_far.kept) in (
             so_far.text ++ judged.text,
             so_far.all_accepted && judged.accepted,
-            Appends-then held (contents_of contents from) (contents_of contents to) so_far.text judged.text so_far.written judged.taken,
+            Appends-then held (contents_of contents from) (contents_of contents to) so_far.text judged.text so_far.written judged.taken.grown,
             subst (λ (ls : List (List ℕ)). AreAnswered mode ls (so_far.text ++ judged.text) (so_far.all_accepted && judged.accepted)) (sym whole)
                 (AreAnswered-push mode so_far.done so_far.text so_far.all_accepted so_far.line judged.text judged.accepted so_far.answered judged.answered),
             judged.is_verdict ∙ ap (λ (v : Verdict). verdict_with v judged.accepted) so_far.is_verdict ∙ verdict_with-verdict_of so_far.all_accepted judged.accepted,

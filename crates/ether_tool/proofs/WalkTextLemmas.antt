@@ -157,7 +157,7 @@ module _ {W : Type 0} (contents : W → Option (List ℕ)) where
         faces = n.5;
         going = n.4;
         text = a.text ++ written;
-        taken = Takes-then contents old mid new a.text written a.taken (subst (λ (l : List ℕ). Takes contents mid (l ++ codes "\n") new) is line);
+        taken = Takes-then a.taken (subst (λ (l : List ℕ). Takes contents mid (l ++ codes "\n") new) is line);
         parts = a.parts ∙ ap (λ (l : List Header). a.text ++ frame_text frame a.window l a.ending) n.2 ∙ sym (append_assoc a.text written (frame_text frame (payload a.window h) hs a.ending));
       }
 
@@ -173,7 +173,7 @@ module _ {W : Type 0} (contents : W → Option (List ℕ)) where
       lines = ap (λ (l : List ℕ). a.text ++ (l ++ codes "\n")) is ∙ sym (a.parts ∙ ap (λ (l : List Header). a.text ++ frame_text frame a.window l a.ending) none);
       verdict = verdict;
     };
-    taken = Takes-then contents old mid new a.text (last ++ codes "\n") a.taken line;
+    taken = Takes-then a.taken line;
   }
 
   -- the line of a fault

@@ -1,5 +1,9 @@
--- The exit statuses.
-use Rattle.std.specs.Prelude.{ℕ, Result, Ok, Err}
+-- How the program ends: what it prints last, and its exit status.
+use Rattle.std.specs.Prelude.{ℕ, List, ◌++◌, codes, Option, Some, None, Result, Ok, Err}
+use Rattle.std.specs.Fmt.{decimal}
+use Rattle.ether_tool.specs.declared.mode.Usage.{Usage}
+use Rattle.ether_tool.specs.declared.outcome.LastLine.{LastLine}
+use Rattle.ether_tool.specs.declared.outcome.LastLine.TheVariants as last_lines
 use Rattle.ether_tool.specs.declared.outcome.Verdict.{Verdict}
 use Rattle.ether_tool.specs.declared.outcome.Verdict.TheVariants.{AllAccepted, SomeRefused}
 use Rattle.ether_tool.specs.declared.outcome.ToolFault.{ToolFault}
@@ -12,3 +16,25 @@ exit_status (Ok SomeRefused) = 1
 exit_status (Err (BadLine number)) = 3
 exit_status (Err Input) = 4
 exit_status (Err Output) = 4
+
+abbrev pub usage_text : List ℕ
+usage_text = codes "usage: ether_tool eth | fcs | sll | type XXXX | feed"
+
+abbrev pub bad_line_text : ℕ → List ℕ
+bad_line_text number = codes "line " ++ (decimal number ++ codes ": bad line")
+
+-- what the program prints last, without its line feed: the usage where the arguments name no mode
+abbrev pub last_text : Result (Result Verdict ToolFault) Usage → Option (List ℕ)
+last_text (Err usage) = Some usage_text
+last_text (Ok (Ok verdict)) = None
+last_text (Ok (Err (BadLine number))) = Some (bad_line_text number)
+last_text (Ok (Err Input)) = None
+last_text (Ok (Err Output)) = None
+
+abbrev pub program_status : Result (Result Verdict ToolFault) Usage → ℕ
+program_status (Err usage) = 2
+program_status (Ok outcome) = exit_status outcome
+
+abbrev pub last_line_text : LastLine → List ℕ
+last_line_text last_lines.Usage = usage_text
+last_line_text (last_lines.BadLine number) = bad_line_text number

@@ -10,8 +10,8 @@ abbrev pub contents_of : {W : Type 0} → (W → Option (List ℕ)) → OutputBu
 contents_of contents g = append_known (contents g.writer.now) g.waiting.items
 
 -- the writer holds bytes more, with the text that waits
-abbrev pub Takes : {W : Type 0} → (W → Option (List ℕ)) → OutputBuffer W → List ℕ → OutputBuffer W → Type 0
-Takes contents old bytes new = Appends (contents_of contents old) (contents_of contents new) bytes
+pub record Takes {W : Type 0} (contents : W → Option (List ℕ)) (old : OutputBuffer W) (bytes : List ℕ) (new : OutputBuffer W) : Type 0 where
+  pub grown : Appends (contents_of contents old) (contents_of contents new) bytes
 
 -- the writer holds what waited, and no text waits
 pub record WritesOut {W : Type 0} (contents : W → Option (List ℕ)) (old new : OutputBuffer W) : Type 0 where

@@ -4,6 +4,7 @@ use Rattle.std.specs.Fmt.{decimal}
 use Rattle.ether_base.specs.Ethernet2.{ethernet2_of}
 use Rattle.ether_base.specs.Vlan.{vlan_of}
 use Rattle.ether_base.specs.NumberText.{hex_number}
+use Rattle.ether_base.specs.declared.err.len_error.LenError.{LenError}
 use Rattle.ether_tool.specs.Lines.{spaced, mark_text, source_text, ethernet2_text, vlan_text}
 use Rattle.ether_tool.specs.declared.peel.PeelUnit.{PeelUnit}
 use Rattle.ether_tool.specs.declared.peel.PeelUnit.TheVariants as units
@@ -26,8 +27,11 @@ kind_view_text (rests.EtherType t) = codes "type " ++ hex_number t.0
 unfoldable pub rest_view_text : ℕ → ℕ → RestKind → List ℕ
 rest_view_text start end kind = spaced (codes "rest" ∷ decimal start ∷ decimal end ∷ kind_view_text kind ∷ [])
 
-abbrev pub error_view_text : ℕ → List ℕ → PeelError → List ℕ
-error_view_text start mark (errors.Len e) = spaced (codes "fault" ∷ decimal start ∷ mark ∷ codes "length" ∷ decimal e.required_len ∷ decimal e.len ∷ source_text e.len_source ∷ [])
+abbrev pub len_view_text : LenError → List ℕ
+len_view_text e = spaced (codes "length" ∷ decimal e.required_len ∷ decimal e.len ∷ source_text e.len_source ∷ [])
+
+abbrev pub error_view_text : PeelError → List ℕ
+error_view_text (errors.Len e) = len_view_text e
 
 unfoldable pub fault_view_text : PeelFault → List ℕ
-fault_view_text f = error_view_text f.offset (mark_text f.closed) f.error
+fault_view_text f = spaced (codes "fault" ∷ decimal f.offset ∷ mark_text f.closed ∷ error_view_text f.error ∷ [])

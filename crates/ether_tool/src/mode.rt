@@ -1,6 +1,9 @@
 //! The modes of the tool, and the words that name them.
 ghost use Rattle.std.specs.Prelude.{map, IfOk, OnErr};
-ghost use Rattle.ether_tool.specs.Mode.{NamesMode, NamesNoMode};
+ghost use Rattle.std.specs.Vec.Iter.{into_iter_items};
+ghost use Rattle.ether_tool.specs.Mode.{NamesMode, NamesNoMode, words_behind};
+
+use std::env;
 
 /// How the frames of a run begin.
 #[derive(Clone, Copy, PartialEq, Eq, Debug)]
@@ -25,6 +28,24 @@ pub fn mode_of(words: &[&str]) -> Result<Mode, Usage>
         ["eth"] => Ok(Mode::Eth),
         _ => Err(Usage),
     }
+}
+
+/// The mode that the program's arguments name. The first of them is its own name.
+pub fn mode_of_args(mut args: env::Args) -> Result<Mode, Usage>
+    ensures ok { IfOk result (NamesMode (words_behind (into_iter_items args))) }
+    ensures err { OnErr result (NamesNoMode (words_behind (into_iter_items args))) }
+{
+    let _program = args.next();
+    let Some(first) = args.next() else {
+        return mode_of(&[]);
+    };
+    let Some(second) = args.next() else {
+        return mode_of(&[first.as_str()]);
+    };
+    if args.next().is_some() {
+        return Err(Usage);
+    }
+    mode_of(&[first.as_str(), second.as_str()])
 }
 
 #[cfg(test)]

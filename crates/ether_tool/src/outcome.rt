@@ -1,7 +1,10 @@
 //! How a run ends, and the exit status of each ending.
 ghost use Rattle.std.specs.Prelude.{◌≡◌};
-ghost use Rattle.ether_tool.specs.Outcome.{exit_status};
+ghost use Rattle.std.specs.Option.{option_map};
+ghost use Rattle.ether_tool.specs.Outcome.{exit_status, last_line_text, last_text, program_status};
 
+use crate::mode::Usage;
+use std::fmt;
 use thiserror::Error;
 
 /// What a run that read all its input found.
@@ -51,6 +54,59 @@ pub fn status_of(outcome: &Result<Verdict, ToolFault>) -> u8
     }
 }
 
+/// The line that is printed where the arguments name no mode, without its LF.
+pub const USAGE: &str = "usage: ether_tool eth | fcs | sll | type XXXX | feed";
+
+/// A line that the program prints behind all answers.
+#[derive(Clone, Copy, PartialEq, Eq, Debug)]
+pub enum LastLine {
+    /// The arguments name no mode.
+    Usage,
+    /// The line of this number is no frame.
+    BadLine(u64),
+}
+
+impl fmt::Display for LastLine {
+    ghost use Rattle.std.specs.Prelude.{Some};
+    ghost use Rattle.ether_tool.specs.Outcome.{last_line_text};
+
+    ghost output = { λ line. Some (last_line_text line) };
+
+    fn fmt<W: fmt::Write>(&self, f: &mut fmt::Formatter<W>) -> fmt::Result {
+        match *self {
+            LastLine::Usage => write!(f, "{USAGE}"),
+            LastLine::BadLine(number) => write!(f, "line {number}: bad line"),
+        }
+    }
+}
+
+/// How the program ends.
+#[derive(Clone, Copy, PartialEq, Eq, Debug)]
+pub struct Ending {
+    pub line: Option<LastLine>,
+    pub status: u8,
+}
+
+/// The ending of a program whose arguments named a mode, by the outcome of its run, or named none.
+pub fn ending_of(outcome: &Result<Result<Verdict, ToolFault>, Usage>) -> Ending
+    ensures line { option_map last_line_text result.line ≡ last_text outcome.now }
+    ensures status { result.status ≡ program_status outcome.now }
+{
+    match outcome {
+        Ok(outcome) => Ending {
+            line: match outcome {
+                Err(ToolFault::BadLine(number)) => Some(LastLine::BadLine(*number)),
+                _ => None,
+            },
+            status: status_of(outcome),
+        },
+        Err(Usage) => Ending {
+            line: Some(LastLine::Usage),
+            status: 2,
+        },
+    }
+}
+
 #[cfg(test)]
 mod tests {
     use super::*;
@@ -63,6 +119,34 @@ mod tests {
         assert_eq!(rt; status_of(&Err(ToolFault::BadLine(7))), 3);
         assert_eq!(rt; status_of(&Err(ToolFault::Input)), 4);
         assert_eq!(rt; status_of(&Err(ToolFault::Output)), 4);
+    }
+
+    #[test]
+    fn ends_with_a_line_and_a_status(rt: HostRuntime) -> Result<(), Fail> {
+        let endings = [
+            (
+                Err(Usage),
+                "usage: ether_tool eth | fcs | sll | type XXXX | feed",
+                2,
+            ),
+            (Ok(Err(ToolFault::BadLine(12))), "line 12: bad line", 3),
+        ];
+        for (outcome, text, status) in endings {
+            let ending = ending_of(&outcome);
+            let line = ending.line.ok_or("a line")?;
+            assert_eq!(rt; format!(in rt.alloc(); "{line}")?.as_str(), text);
+            assert_eq!(rt; ending.status, status);
+        }
+        let silent = [
+            (Ok(Verdict::AllAccepted), 0),
+            (Ok(Verdict::SomeRefused), 1),
+            (Err(ToolFault::Input), 4),
+            (Err(ToolFault::Output), 4),
+        ];
+        for (outcome, status) in silent {
+            assert_eq!(rt; ending_of(&Ok(outcome)), Ending { line: None, status });
+        }
+        Ok(())
     }
 
     #[test]

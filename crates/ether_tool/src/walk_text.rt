@@ -1,16 +1,14 @@
 //! The answer to one frame: the lines of its walk.
-ghost use Rattle.std.specs.Prelude.{◌≡◌, ◌++◌, codes, true, IfOk, IfErr, IfSome, OnOk, OnErr};
-ghost use Rattle.ether_tool.specs.OutputBuffer.{Takes, TakesWalk};
+ghost use Rattle.std.specs.Prelude.{◌≡◌, ◌++◌, true, IfOk, IfErr, OnErr};
+ghost use Rattle.ether_tool.specs.OutputBuffer.{TakesWalk};
 ghost use Rattle.ether_tool.specs.WalkText.{start_of_mode};
 ghost use Rattle.ether_tool.specs.PeelStart.{start_of};
 
-use crate::lines::{FaultLine, RestLine, UnitLine};
+use crate::lines::{put_fault, put_rest, put_unit};
 use crate::mode::Mode;
 use crate::outcome::ToolFault;
 use crate::output_buffer::OutputBuffer;
 use crate::peel::{Peel, Start};
-use arrayvec::ArrayString;
-use std::fmt::{Display, Write as _};
 use std::io::Write;
 
 /// Takes the lines of a frame's walk, and answers whether the frame is accepted.
@@ -30,15 +28,15 @@ pub fn put_walk<W: Write>(
     loop {
         let start = peel.offset();
         match peel.next() {
-            Some(Ok(unit)) => put_line(out, UnitLine { start, unit: &unit })?,
+            Some(Ok(unit)) => put_unit(out, start, &unit)?,
             Some(Err(fault)) => {
-                put_line(out, FaultLine { fault: &fault })?;
+                put_fault(out, &fault)?;
                 return Ok(false);
             }
             None => {
                 let end = start + peel.rest().len();
                 let kind = peel.kind();
-                put_line(out, RestLine { start, end, kind })?;
+                put_rest(out, start, end, kind)?;
                 return Ok(true);
             }
         }
@@ -52,25 +50,4 @@ fn start(mode: Mode) -> Start
     match mode {
         Mode::Eth => Start::Ethernet2,
     }
-}
-
-/// The room in which a line is put together, which is more than any has.
-const LINE_ROOM: usize = 256;
-
-/// Puts a line, and ends it.
-#[inline(always)]
-fn put_line<W: Write, D: Display + Drop>(
-    out: &mut OutputBuffer<'_, W>,
-    line: D,
-) -> Result<(), ToolFault>
-    ensures same_writer { out.new.writer.ghost_name ≡ out.old.writer.ghost_name }
-    ensures ok { OnOk result (IfSome (D.output line) (λ text. Takes W.contents out.old (text ++ codes "\n") out.new)) }
-    ensures fault { IfErr result (λ fault. fault ≡ ToolFault.Output) }
-    ensures failed { OnErr result (out.new.has_failed ≡ true) }
-{
-    let mut text = ArrayString::<LINE_ROOM>::new();
-    if writeln!(text, "{line}").is_err() {
-        return Err(out.fail());
-    }
-    out.put(text.as_str().as_bytes())
 }

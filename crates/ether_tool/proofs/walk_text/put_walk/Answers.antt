@@ -11,19 +11,19 @@ loop-unit-preserved g c =
     let contents = g.W.Write.contents in
     let u = c.in-Some-Ok.unit in
     let gives = rw c.in-Some-Ok.field-0-is at c.in-Some-Ok.ensures.steps in
-    let line = subst (λ (n : ℕ). Takes contents c.loop-unit.out (view_text n u ++ codes "\n") c.put_line.new.out) c.offset-start.ensures.value c.in_ok-put_line-in-Some-Ok.ensures.ok in
-    (c.put_line.ensures.same_writer ∙ c.loop-unit.invariant.0, walk_unit contents (start_of_mode c.args.mode) c.args.frame.now c.loop-unit.peel c.next.new.self c.args.out.now c.loop-unit.out c.put_line.new.out u (λ i. omega (arith, c.type_inv.frame i)) c.loop-unit.invariant.1 gives line)
+    let line = subst (λ (n : ℕ). Takes contents c.loop-unit.out (view_text n u ++ codes "\n") c.put_unit.new.out) c.offset-start.ensures.value c.in_ok-put_unit-in-Some-Ok.ensures.ok in
+    (c.put_unit.ensures.same_writer ∙ c.loop-unit.invariant.0, walk_unit contents (start_of_mode c.args.mode) c.args.frame.now c.loop-unit.peel c.next.new.self c.args.out.now c.loop-unit.out c.put_unit.new.out u (λ i. omega (arith, c.type_inv.frame i)) c.loop-unit.invariant.1 gives line)
 
 pub returns-in-Some-Err-clause-ok : goal.returns-in-Some-Err-clause-ok
 returns-in-Some-Err-clause-ok g c =
     let gives = rw c.in-Some-Err.field-0-is at c.in-Some-Err.ensures.steps in
-    walk_fault g.W.Write.contents c.args.mode c.args.frame.now c.loop-unit.peel c.next.new.self c.args.out.now c.loop-unit.out c.put_line-in-Some-Err.new.out c.in-Some-Err.fault c.loop-unit.invariant.1 gives c.in_ok-put_line-in-Some-Err.ensures.ok
+    walk_fault g.W.Write.contents c.args.mode c.args.frame.now c.loop-unit.peel c.next.new.self c.args.out.now c.loop-unit.out c.put_fault.new.out c.in-Some-Err.fault c.loop-unit.invariant.1 gives c.in_ok-put_fault-in-Some-Err.ensures.ok
 
 pub returns-in-None-clause-ok : goal.returns-in-None-clause-ok
 returns-in-None-clause-ok g c =
     let contents = g.W.Write.contents in
     let k = c.kind-kind.result in
     let end = c.offset-start.result + length c.rest.result.now in
-    let line = subst (λ (n : ℕ). Takes contents c.loop-unit.out (rest_view_text n end k ++ codes "\n") c.put_line-in-None.new.out) c.offset-start.ensures.value c.in_ok-put_line-in-None.ensures.ok in
+    let line = subst (λ (n : ℕ). Takes contents c.loop-unit.out (rest_view_text n end k ++ codes "\n") c.put_rest.new.out) c.offset-start.ensures.value c.in_ok-put_rest-in-None.ensures.ok in
     let to : end ≡ c.loop-unit.peel.offset + length c.next.new.self.rest = ap (λ (n : ℕ). n + length c.rest.result.now) c.offset-start.ensures.value ∙ ap (λ (l : List ℕ). c.loop-unit.peel.offset + length l) c.rest.ensures in
-    walk_rest contents c.args.mode c.args.frame.now c.loop-unit.peel c.next.new.self c.args.out.now c.loop-unit.out c.put_line-in-None.new.out end k c.loop-unit.invariant.1 c.in-None.ensures.steps to c.kind-kind.ensures line
+    walk_rest contents c.args.mode c.args.frame.now c.loop-unit.peel c.next.new.self c.args.out.now c.loop-unit.out c.put_rest.new.out end k c.loop-unit.invariant.1 c.in-None.ensures.steps to c.kind-kind.ensures line
