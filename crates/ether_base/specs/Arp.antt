@@ -1,6 +1,6 @@
 -- The packet of the Address Resolution Protocol (RFC 826, "Packet format").
-use Rattle.std.specs.Prelude.{◌≡◌, ℕ, ◌+◌, ◌*◌, ◌^◌, ◌<◌, List, ◌++◌, length, slice_range}
-use Rattle.ether_base.specs.Bytes.{number, spelled}
+use Rattle.std.specs.Prelude.{◌≡◌, ℕ, ◌+◌, ◌*◌, ◌^◌, ◌<◌, List, ◌++◌, length, slice_index, slice_range}
+use Rattle.ether_base.specs.Bytes.{IsBytes, number, spelled}
 
 -- three numbers and four addresses
 pub record ArpValue : Type 0 where
@@ -64,12 +64,44 @@ pub record IsArp (bytes : List ℕ) (a : ArpValue) : Type 0 where
   pub target_hardware : bytes_at bytes (8 + length a.sender_hardware + length a.sender_protocol) (length a.sender_hardware) ≡ a.target_hardware
   pub target_protocol : bytes_at bytes (8 + 2 * length a.sender_hardware + length a.sender_protocol) (length a.sender_protocol) ≡ a.target_protocol
 
--- the addresses of a kind are of one length, which a byte can tell
+-- the addresses are bytes, and those of a kind are of one length, which a byte can tell
 pub record FitsArp (a : ArpValue) : Type 0 where
   pub front : FitsArpFront (arp_front_of a)
   pub hardware : length a.target_hardware ≡ length a.sender_hardware
   pub protocol : length a.target_protocol ≡ length a.sender_protocol
+  pub sender_hardware : IsBytes a.sender_hardware
+  pub sender_protocol : IsBytes a.sender_protocol
+  pub target_hardware : IsBytes a.target_hardware
+  pub target_protocol : IsBytes a.target_protocol
 
 -- the bytes of a value
 abbrev pub arp_bytes : ArpValue → List ℕ
 arp_bytes a = spelled 8 (arp_front_number (arp_front_of a)) ++ a.sender_hardware ++ a.sender_protocol ++ a.target_hardware ++ a.target_protocol
+
+-- ---- what stands in a list
+
+-- the front that stands in a list of at least eight bytes
+abbrev pub arp_front_in : List ℕ → ArpFront
+arp_front_in bytes = record {
+  hardware_type = number (slice_range bytes 0 2);
+  protocol_type = number (slice_range bytes 2 4);
+  hardware_size = slice_index bytes 4;
+  protocol_size = slice_index bytes 5;
+  operation = number (slice_range bytes 6 8);
+}
+
+-- the packet with a front that a list begins with
+abbrev pub arp_with : ArpFront → List ℕ → ArpValue
+arp_with front bytes = record {
+  hardware_type = front.hardware_type;
+  protocol_type = front.protocol_type;
+  operation = front.operation;
+  sender_hardware = bytes_at bytes 8 front.hardware_size;
+  sender_protocol = bytes_at bytes (8 + front.hardware_size) front.protocol_size;
+  target_hardware = bytes_at bytes (8 + front.hardware_size + front.protocol_size) front.hardware_size;
+  target_protocol = bytes_at bytes (8 + 2 * front.hardware_size + front.protocol_size) front.protocol_size;
+}
+
+-- the packet that stands in a list of at least as many bytes as its front tells
+abbrev pub arp_of : List ℕ → ArpValue
+arp_of bytes = arp_with (arp_front_in bytes) bytes
