@@ -1,0 +1,9 @@
+use Rattle.std.proofs.Common.{◌≡◌, arith}
+use Rattle.ether_arp.specs.ArpAddresses as rows
+use Rattle.ether_arp.proofs.arp_packet.ArpPacket.set_hw_addrs.Goals as goal
+
+pub returns-then-sender_hw_addr-target_hw_addr-clause-answers : goal.returns-then-sender_hw_addr-target_hw_addr-clause-answers
+returns-then-sender_hw_addr-target_hw_addr-clause-answers c = rows.hw_unequal c.if-sender_hw_addr-target_hw_addr.true
+
+pub returns-then-sender_hw_addr-gt255-clause-answers : goal.returns-then-sender_hw_addr-gt255-clause-answers
+returns-then-sender_hw_addr-gt255-clause-answers c = rows.hw_too_long c.if-sender_hw_addr-target_hw_addr.false c.if-sender_hw_addr-gt255.true

@@ -1,0 +1,170 @@
+//! A view of an ARP packet.
+ghost use Rattle.std.specs.Prelude.{⊤, ◌≡◌, length, slice_range, IfOk, IfErr, ◌==◌};
+ghost use Rattle.std.proofs.Common.{rules};
+ghost use Rattle.std.specs.Cmp.Rules.{comparing};
+ghost use Rattle.std.specs.Cmp.Lexicographic.{pointwise};
+ghost use Rattle.ether_base.specs.declared.len_source.LenSource.TheVariants as sources;
+ghost use Rattle.ether_base.specs.Arp.{arp_front_in, arp_len, arp_of};
+ghost use Rattle.ether_base.specs.Header as headers;
+ghost use Rattle.ether_base.specs.Header.{Means};
+ghost use Rattle.ether_base.specs.Kind as kinds;
+ghost use Rattle.ether_base.specs.Refusal.{Accepts};
+ghost use Rattle.ether_base.specs.RefusedLen.{IsRefusedLen};
+
+use crate::ArpPacket;
+use crate::arp_fields;
+use ether_base::err::LenError;
+use ether_base::{ArpHardwareId, ArpOperation, EtherType};
+use std::alloc::AllocError;
+use std::marker::Model;
+
+/// An ARP packet in the bytes of a frame (RFC 826): 8 to 1028 bytes, without what follows it, as the padding of a short
+/// frame.
+///
+/// Two views are equal where their bytes are.
+#[derive(Debug, Drop)]
+pub struct ArpPacketSlice<'a> {
+    slice: &'a [u8],
+}
+
+impl<'a> Model for ArpPacketSlice<'a> {
+    ghost use Rattle.std.specs.Prelude.{ℕ, List};
+    ghost use Rattle.ether_arp.specs.Arp.{HoldsArp};
+
+    ghost Value = { List ℕ };
+
+    ghost view = { λ a. a.slice.now };
+
+    ghost invariant = { λ a. HoldsArp a.slice.now };
+}
+
+impl<'a> ArpPacketSlice<'a> {
+    /// The packet that a slice begins with. Refused are fewer than 8 bytes, and fewer bytes than the sizes of the
+    /// addresses tell. What follows the packet is no part of the view.
+    pub fn from_slice(slice: &'a [u8]) -> Result<ArpPacketSlice<'a>, LenError>
+        ensures bytes { IfOk result (λ p. p ≡ slice_range slice.now 0 (arp_len (arp_front_in slice.now))) }
+        ensures accepted { IfOk result (λ p. Accepts sources.Slice slice.now kinds.Arp) }
+        ensures value { IfOk result (λ p. Means slice.now (headers.Arp (arp_of p))) }
+        ensures refused { IfErr result (IsRefusedLen slice.now kinds.Arp) }
+    {
+        arp_fields::test(slice)?;
+        Ok(ArpPacketSlice {
+            slice: &slice[..arp_fields::packet_len(slice)],
+        })
+    }
+
+    /// The bytes of the packet.
+    pub fn slice(&self) -> &'a [u8]
+        ensures bytes { result.now ≡ self.now }
+        ensures len { length result.now ≡ arp_len (arp_front_in self.now) }
+    {
+        self.slice
+    }
+
+    /// The hardware type: what kind of link the hardware addresses belong to.
+    pub fn hw_addr_type(&self) -> ArpHardwareId
+        ensures { result.0 ≡ (arp_of self.now).hardware_type }
+    {
+        arp_fields::hw_addr_type(self.slice)
+    }
+
+    /// The protocol type: the protocol that the protocol addresses belong to, as an ether type.
+    pub fn proto_addr_type(&self) -> EtherType
+        ensures { result.0 ≡ (arp_of self.now).protocol_type }
+    {
+        arp_fields::proto_addr_type(self.slice)
+    }
+
+    /// The size of a hardware address in bytes.
+    pub fn hw_addr_size(&self) -> u8
+        ensures front { result ≡ (arp_front_in self.now).hardware_size }
+        ensures sender { result ≡ length (arp_of self.now).sender_hardware }
+        ensures target { result ≡ length (arp_of self.now).target_hardware }
+    {
+        arp_fields::hw_addr_size(self.slice)
+    }
+
+    /// The size of a protocol address in bytes.
+    pub fn proto_addr_size(&self) -> u8
+        ensures front { result ≡ (arp_front_in self.now).protocol_size }
+        ensures sender { result ≡ length (arp_of self.now).sender_protocol }
+        ensures target { result ≡ length (arp_of self.now).target_protocol }
+    {
+        arp_fields::proto_addr_size(self.slice)
+    }
+
+    /// What the packet asks or answers.
+    pub fn operation(&self) -> ArpOperation
+        ensures { result.0 ≡ (arp_of self.now).operation }
+    {
+        arp_fields::operation(self.slice)
+    }
+
+    /// The hardware address of the sender.
+    pub fn sender_hw_addr(&self) -> &[u8]
+        ensures { result.now ≡ (arp_of self.now).sender_hardware }
+    {
+        arp_fields::sender_hw_addr(self.slice)
+    }
+
+    /// The protocol address of the sender.
+    pub fn sender_protocol_addr(&self) -> &[u8]
+        ensures { result.now ≡ (arp_of self.now).sender_protocol }
+    {
+        arp_fields::sender_protocol_addr(self.slice)
+    }
+
+    /// The hardware address of the target, which a request does not know.
+    pub fn target_hw_addr(&self) -> &[u8]
+        ensures { result.now ≡ (arp_of self.now).target_hardware }
+    {
+        arp_fields::target_hw_addr(self.slice)
+    }
+
+    /// The protocol address of the target.
+    pub fn target_protocol_addr(&self) -> &[u8]
+        ensures { result.now ≡ (arp_of self.now).target_protocol }
+    {
+        arp_fields::target_protocol_addr(self.slice)
+    }
+
+    /// The packet as a value of its own.
+    pub fn to_packet(&self) -> ArpPacket
+        ensures { result ≡ arp_of self.now }
+    {
+        let bytes = self.slice;
+        ArpPacket::holding(
+            arp_fields::hw_addr_type(bytes),
+            arp_fields::proto_addr_type(bytes),
+            arp_fields::operation(bytes),
+            arp_fields::sender_hw_addr(bytes),
+            arp_fields::sender_protocol_addr(bytes),
+            arp_fields::target_hw_addr(bytes),
+            arp_fields::target_protocol_addr(bytes),
+        )
+    }
+}
+
+impl<'a> Clone for ArpPacketSlice<'a> {
+    ghost is_clone = { λ a b. b ≡ a };
+
+    ghost is_infallible = { λ _. ⊤ };
+
+    fn clone(&self) -> Result<Self, AllocError> {
+        Ok(ArpPacketSlice { slice: self.slice })
+    }
+}
+
+impl<'a> PartialEq for ArpPacketSlice<'a> {
+    ghost eq = { pointwise ◌==◌ };
+
+    ghost laws = { Prim.search (comparing, rules) };
+
+    fn eq(&self, other: &ArpPacketSlice<'a>) -> bool {
+        self.slice == other.slice
+    }
+}
+
+impl<'a> Eq for ArpPacketSlice<'a> {
+    ghost laws = { Prim.search (comparing, rules) };
+}
