@@ -1,10 +1,10 @@
 -- The packet that bytes hold, read from their parts.
-use Rattle.std.proofs.Common.{◌≡◌, ℕ, ◌+◌, ◌-◌, ◌*◌, ◌^◌, ◌<◌, ◌≤◌, List, length, take, refl, sym, ap, subst, ◌∙◌, arith, inl, inr}
+use Rattle.std.proofs.Common.{◌≡◌, ℕ, ◌+◌, ◌-◌, ◌*◌, ◌<◌, ◌≤◌, List, length, take, sym, ap, subst, ◌∙◌, arith, inl, inr}
 use Rattle.std.specs.Prelude.{slice_range, slice_index}
 use Rattle.std.proofs.lemmas.Bool.{cases_lt}
 use Rattle.std.proofs.lemmas.List.{get_or-take}
 use Rattle.ether_base.specs.declared.len_source.LenSource.{LenSource}
-use Rattle.ether_base.specs.Arp.{ArpValue, ArpFront, BeginsArp, FitsArp, IsArp, arp_bytes, arp_front_in, arp_front_of, arp_len, arp_of, arp_with, bytes_at}
+use Rattle.ether_base.specs.Arp.{ArpValue, ArpFront, BeginsArp, FitsArp, IsArp, arp_front_in, arp_front_of, arp_len, arp_of, arp_with, bytes_at}
 use Rattle.ether_base.specs.Bytes.{IsBytes, number}
 use Rattle.ether_base.specs.Header.{Means}
 use Rattle.ether_base.specs.Header as headers

@@ -1,16 +1,20 @@
 -- The bytes of a packet.
-use Rattle.std.proofs.Common.{◌≡◌, ℕ, ◌+◌, ◌*◌, ◌/◌, ◌%◌, ◌^◌, ◌<◌, List, [], ◌∷◌, ◌++◌, length, refl, sym, ap, ◌∙◌, arith}
+use Rattle.std.proofs.Common.{◌≡◌, ℕ, ◌/◌, ◌%◌, ◌^◌, ◌<◌, List, [], ◌∷◌, ◌++◌, Ok, Err, refl, sym, ap, ◌∙◌, arith}
+use Rattle.std.specs.Prelude.{Result, IfOk, IfErr}
 use Rattle.ether_base.specs.Arp.{ArpValue, ArpFront, FitsArp, arp_bytes, arp_front_number, arp_front_of}
 use Rattle.ether_base.specs.Bytes.{IsBytes, number, spelled}
+use Rattle.ether_base.specs.declared.err.len_error.LenError.{LenError}
 use Rattle.ether_base.specs.declared.len_source.LenSource.{LenSource}
+use Rattle.ether_base.specs.declared.len_source.LenSource.TheVariants as sources
 use Rattle.ether_base.specs.Header as headers
 use Rattle.ether_base.specs.Header.{Means}
 use Rattle.ether_base.specs.Kind as kinds
 use Rattle.ether_base.specs.Refusal.{Accepts}
+use Rattle.ether_base.specs.RefusedLen.{IsRefusedLen}
 use Rattle.ether_base.proofs.Numbers.{IsBytes-nil, IsBytes-cons, IsBytes-append, IsBytes-spelled, spelled-is}
 use Rattle.ether_base.proofs.Cells.{cells}
 use Rattle.ether_base.proofs.ReadBack.{means-header_bytes}
-use Rattle.ether_base.proofs.Means.{arp_begins}
+use Rattle.ether_base.proofs.Means.{arp_begins, one_header}
 use Rattle.ether_base.proofs.Rows.{accepts_arp}
 
 pub arp_bytes_are_bytes : (a : ArpValue) → FitsArp a → IsBytes (arp_bytes a)
@@ -49,3 +53,8 @@ front_written f bh bp bo lt lu lh lp lo is_h is_p is_o =
     let ok : IsBytes list = IsBytes-cons (t / 256 % 256) (t % 256 ∷ u / 256 % 256 ∷ u % 256 ∷ h ∷ p ∷ o / 256 % 256 ∷ o % 256 ∷ []) (omega arith) (IsBytes-cons (t % 256) (u / 256 % 256 ∷ u % 256 ∷ h ∷ p ∷ o / 256 % 256 ∷ o % 256 ∷ []) (omega arith) six) in
     let n : number list ≡ arp_front_number f = omega arith in
     same ∙ sym (spelled-is 8 list refl ok) ∙ ap (spelled 8) n
+
+-- what reading these bytes answers is the packet
+pub read_is : (bytes : List ℕ) (a : ArpValue) (r : Result ArpValue LenError) → Means bytes (headers.Arp a) → IfOk r (λ p. Means bytes (headers.Arp p)) → IfErr r (IsRefusedLen bytes kinds.Arp) → r ≡ Ok a
+read_is bytes a (Ok p) m ok err = let e = one_header bytes (headers.Arp p) (headers.Arp a) refl ok m in let same : p ≡ a = cc in ap Ok same
+read_is bytes a (Err e) m ok err = absurd (meant_accepted sources.Slice bytes a m _ err.row)

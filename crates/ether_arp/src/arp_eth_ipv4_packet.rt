@@ -116,3 +116,107 @@ impl TryFrom<ArpPacket> for ArpEthIpv4Packet {
         packet.try_eth_ipv4()
     }
 }
+
+#[cfg(test)]
+mod tests {
+    use super::*;
+    use std::hash::{DefaultHasher, Hash, Hasher};
+    use std::test::Fail;
+
+    const REQUEST: ArpEthIpv4Packet = ArpEthIpv4Packet {
+        operation: ArpOperation::REQUEST,
+        sender_mac: [0x02, 0x00, 0x00, 0x00, 0x00, 0x01],
+        sender_ipv4: [10, 0, 0, 1],
+        target_mac: [0; 6],
+        target_ipv4: [10, 0, 0, 2],
+    };
+
+    const BYTES: [u8; 28] = [
+        0x00, 0x01, 0x08, 0x00, 0x06, 0x04, 0x00, 0x01, 0x02, 0x00, 0x00, 0x00, 0x00, 0x01, 0x0A,
+        0x00, 0x00, 0x01, 0x00, 0x00, 0x00, 0x00, 0x00, 0x00, 0x0A, 0x00, 0x00, 0x02,
+    ];
+
+    fn hash_of(packet: &ArpEthIpv4Packet) -> u64 {
+        let mut state = DefaultHasher::new();
+        packet.hash(&mut state);
+        state.finish()
+    }
+
+    #[test]
+    fn a_request_in_bytes(rt: HostRuntime) {
+        assert_eq!(rt; REQUEST.to_bytes(), BYTES);
+        assert_eq!(rt; BYTES.len(), ArpEthIpv4Packet::LEN);
+        assert_eq!(rt;
+            REQUEST.to_arp_packet().to_bytes().as_slice(),
+            BYTES.as_slice()
+        );
+    }
+
+    #[test]
+    fn there_and_back(rt: HostRuntime) -> Result<(), Fail> {
+        assert_eq!(rt; REQUEST.to_arp_packet().try_eth_ipv4(), Ok(REQUEST));
+        let packet = ArpPacket::from(REQUEST);
+        assert_eq!(rt; packet, ArpPacket::from_slice(&BYTES)?);
+        assert_eq!(rt; ArpEthIpv4Packet::try_from(packet), Ok(REQUEST));
+        let mut other = REQUEST.to_arp_packet();
+        other.set_protocol_addrs(&[0; 16], &[0; 16])?;
+        assert_eq!(rt;
+            ArpEthIpv4Packet::try_from(other),
+            Err(ArpEthIpv4FromError::NonMatchingProtoAddrSize(16))
+        );
+        Ok(())
+    }
+
+    #[test]
+    fn the_addresses_of_ipv4(rt: HostRuntime) {
+        assert_eq!(rt; REQUEST.sender_ipv4_addr(), Ipv4Addr::new(10, 0, 0, 1));
+        assert_eq!(rt; REQUEST.target_ipv4_addr(), Ipv4Addr::new(10, 0, 0, 2));
+    }
+
+    #[test]
+    fn copied_compared_hashed_and_shown(rt: HostRuntime) -> Result<(), Fail> {
+        let copy = REQUEST;
+        assert_eq!(rt; copy, REQUEST.clone()?);
+        assert_eq!(rt; hash_of(&copy), hash_of(&REQUEST));
+        assert_ne!(rt;
+            copy,
+            ArpEthIpv4Packet {
+                operation: ArpOperation::REPLY,
+                ..copy
+            }
+        );
+        assert_ne!(rt;
+            copy,
+            ArpEthIpv4Packet {
+                sender_mac: [9; 6],
+                ..copy
+            }
+        );
+        assert_ne!(rt;
+            copy,
+            ArpEthIpv4Packet {
+                sender_ipv4: [9; 4],
+                ..copy
+            }
+        );
+        assert_ne!(rt;
+            copy,
+            ArpEthIpv4Packet {
+                target_mac: [9; 6],
+                ..copy
+            }
+        );
+        assert_ne!(rt;
+            copy,
+            ArpEthIpv4Packet {
+                target_ipv4: [9; 4],
+                ..copy
+            }
+        );
+        assert_eq!(rt;
+            format!(in rt.alloc(); "{copy:?}")?.as_str(),
+            "ArpEthIpv4Packet { operation: ArpOperation(1), sender_mac: [2, 0, 0, 0, 0, 1], sender_ipv4: [10, 0, 0, 1], target_mac: [0, 0, 0, 0, 0, 0], target_ipv4: [10, 0, 0, 2] }"
+        );
+        Ok(())
+    }
+}

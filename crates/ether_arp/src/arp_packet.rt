@@ -83,18 +83,16 @@ impl ArpPacket {
         target_hw_addr: &[u8],
         target_protocol_addr: &[u8],
     ) -> Result<ArpPacket, ArpNewError>
-        ensures answers {
-            let given : ArpValue = record {
-              hardware_type = hw_addr_type.0;
-              protocol_type = proto_addr_type.0;
-              operation = operation.0;
-              sender_hardware = sender_hw_addr.now;
-              sender_protocol = sender_protocol_addr.now;
-              target_hardware = target_hw_addr.now;
-              target_protocol = target_protocol_addr.now;
-            } in
-            MatchResult result (IsMade given) (RefusesAddresses given)
-        }
+        ensures answers { let given : ArpValue = record {
+          hardware_type = hw_addr_type.0;
+          protocol_type = proto_addr_type.0;
+          operation = operation.0;
+          sender_hardware = sender_hw_addr.now;
+          sender_protocol = sender_protocol_addr.now;
+          target_hardware = target_hw_addr.now;
+          target_protocol = target_protocol_addr.now;
+        } in
+            MatchResult result (IsMade given) (RefusesAddresses given) }
     {
         if sender_hw_addr.len() != target_hw_addr.len() {
             return Err(ArpNewError::HwAddr(ArpHwAddrError::LenNonMatching(
@@ -109,9 +107,7 @@ impl ArpPacket {
             )));
         }
         if sender_hw_addr.len() > 255 {
-            return Err(ArpNewError::HwAddr(ArpHwAddrError::LenTooBig(
-                sender_hw_addr.len(),
-            )));
+            return Err(ArpNewError::HwAddr(ArpHwAddrError::LenTooBig(sender_hw_addr.len())));
         }
         if sender_protocol_addr.len() > 255 {
             return Err(ArpNewError::ProtoAddr(ArpProtoAddrError::LenTooBig(
@@ -222,10 +218,7 @@ impl ArpPacket {
         ensures unchanged { OnErr result (self.new ≡ self.old) }
     {
         if sender_hw_addr.len() != target_hw_addr.len() {
-            return Err(ArpHwAddrError::LenNonMatching(
-                sender_hw_addr.len(),
-                target_hw_addr.len(),
-            ));
+            return Err(ArpHwAddrError::LenNonMatching(sender_hw_addr.len(), target_hw_addr.len()));
         }
         if sender_hw_addr.len() > 255 {
             return Err(ArpHwAddrError::LenTooBig(sender_hw_addr.len()));
@@ -319,19 +312,13 @@ impl ArpPacket {
             return Err(ArpEthIpv4FromError::NonMatchingHwType(self.hw_addr_type));
         }
         if self.proto_addr_type != EtherType::IPV4 {
-            return Err(ArpEthIpv4FromError::NonMatchingProtocolType(
-                self.proto_addr_type,
-            ));
+            return Err(ArpEthIpv4FromError::NonMatchingProtocolType(self.proto_addr_type));
         }
         if self.hw_addr_size() != 6 {
-            return Err(ArpEthIpv4FromError::NonMatchingHwAddrSize(
-                self.hw_addr_size(),
-            ));
+            return Err(ArpEthIpv4FromError::NonMatchingHwAddrSize(self.hw_addr_size()));
         }
         if self.protocol_addr_size() != 4 {
-            return Err(ArpEthIpv4FromError::NonMatchingProtoAddrSize(
-                self.protocol_addr_size(),
-            ));
+            return Err(ArpEthIpv4FromError::NonMatchingProtoAddrSize(self.protocol_addr_size()));
         }
         Ok(ArpEthIpv4Packet {
             operation: self.operation,
@@ -461,3 +448,6 @@ impl fmt::Debug for ArpPacket {
             .finish()
     }
 }
+
+#[cfg(test)]
+mod tests;

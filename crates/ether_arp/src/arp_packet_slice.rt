@@ -11,8 +11,7 @@ ghost use Rattle.ether_base.specs.Kind as kinds;
 ghost use Rattle.ether_base.specs.Refusal.{Accepts};
 ghost use Rattle.ether_base.specs.RefusedLen.{IsRefusedLen};
 
-use crate::ArpPacket;
-use crate::arp_fields;
+use crate::{ArpPacket, arp_fields};
 use ether_base::err::LenError;
 use ether_base::{ArpHardwareId, ArpOperation, EtherType};
 use std::alloc::AllocError;
@@ -167,4 +166,175 @@ impl<'a> PartialEq for ArpPacketSlice<'a> {
 
 impl<'a> Eq for ArpPacketSlice<'a> {
     ghost laws = { Prim.search (comparing, rules) };
+}
+
+#[cfg(test)]
+mod tests {
+    use super::*;
+    use ether_base::LenSource;
+    use ether_base::err::Layer;
+    use std::test::Fail;
+
+    /// A request as Linux sent it: who has 10.0.0.2, tell 10.0.0.1 at 02:00:00:00:00:01.
+    const REQUEST: [u8; 28] = [
+        0x00, 0x01, 0x08, 0x00, 0x06, 0x04, 0x00, 0x01, 0x02, 0x00, 0x00, 0x00, 0x00, 0x01, 0x0A,
+        0x00, 0x00, 0x01, 0x00, 0x00, 0x00, 0x00, 0x00, 0x00, 0x0A, 0x00, 0x00, 0x02,
+    ];
+
+    /// The reply to it: 10.0.0.2 is at 02:00:00:00:00:02.
+    const REPLY: [u8; 28] = [
+        0x00, 0x01, 0x08, 0x00, 0x06, 0x04, 0x00, 0x02, 0x02, 0x00, 0x00, 0x00, 0x00, 0x02, 0x0A,
+        0x00, 0x00, 0x02, 0x02, 0x00, 0x00, 0x00, 0x00, 0x01, 0x0A, 0x00, 0x00, 0x01,
+    ];
+
+    fn cut_short(required_len: usize, len: usize, len_source: LenSource) -> LenError {
+        LenError {
+            required_len,
+            len,
+            len_source,
+            layer: Layer::Arp,
+            layer_start_offset: 0,
+        }
+    }
+
+    #[test]
+    fn a_captured_request(rt: HostRuntime) -> Result<(), Fail> {
+        let packet = ArpPacketSlice::from_slice(&REQUEST)?;
+        assert_eq!(rt; packet.slice(), REQUEST.as_slice());
+        assert_eq!(rt; packet.hw_addr_type(), ArpHardwareId::ETHERNET);
+        assert_eq!(rt; packet.proto_addr_type(), EtherType::IPV4);
+        assert_eq!(rt; packet.hw_addr_size(), 6);
+        assert_eq!(rt; packet.proto_addr_size(), 4);
+        assert_eq!(rt; packet.operation(), ArpOperation::REQUEST);
+        assert_eq!(rt; packet.sender_hw_addr(), [2, 0, 0, 0, 0, 1].as_slice());
+        assert_eq!(rt; packet.sender_protocol_addr(), [10, 0, 0, 1].as_slice());
+        assert_eq!(rt; packet.target_hw_addr(), [0; 6].as_slice());
+        assert_eq!(rt; packet.target_protocol_addr(), [10, 0, 0, 2].as_slice());
+        assert_eq!(rt; packet.to_packet(), ArpPacket::from_slice(&REQUEST)?);
+        assert_eq!(rt;
+            packet.to_packet().to_bytes().as_slice(),
+            REQUEST.as_slice()
+        );
+        assert_eq!(rt; packet.clone()?, packet);
+        assert_eq!(rt;
+            format!(in rt.alloc(); "{packet:?}")?.as_str(),
+            "ArpPacketSlice { slice: [0, 1, 8, 0, 6, 4, 0, 1, 2, 0, 0, 0, 0, 1, 10, 0, 0, 1, 0, 0, 0, 0, 0, 0, 10, 0, 0, 2] }"
+        );
+        Ok(())
+    }
+
+    #[test]
+    fn a_captured_reply(rt: HostRuntime) -> Result<(), Fail> {
+        let packet = ArpPacketSlice::from_slice(&REPLY)?;
+        assert_eq!(rt; packet.operation(), ArpOperation::REPLY);
+        assert_eq!(rt; packet.sender_hw_addr(), [2, 0, 0, 0, 0, 2].as_slice());
+        assert_eq!(rt; packet.sender_protocol_addr(), [10, 0, 0, 2].as_slice());
+        assert_eq!(rt; packet.target_hw_addr(), [2, 0, 0, 0, 0, 1].as_slice());
+        assert_eq!(rt; packet.target_protocol_addr(), [10, 0, 0, 1].as_slice());
+        assert_eq!(rt; packet.to_packet().to_bytes().as_slice(), REPLY.as_slice());
+        Ok(())
+    }
+
+    #[test]
+    fn addresses_of_other_sizes(rt: HostRuntime) -> Result<(), Fail> {
+        let bytes = [
+            0x01, 0x02, 0x86, 0xDD, 2, 3, 0xAB, 0xCD, 1, 2, 3, 4, 5, 6, 7, 8, 9, 10,
+        ];
+        let packet = ArpPacketSlice::from_slice(&bytes)?;
+        assert_eq!(rt; packet.hw_addr_type(), ArpHardwareId(0x0102));
+        assert_eq!(rt; packet.proto_addr_type(), EtherType::IPV6);
+        assert_eq!(rt; packet.operation(), ArpOperation(0xABCD));
+        assert_eq!(rt; packet.sender_hw_addr(), [1, 2].as_slice());
+        assert_eq!(rt; packet.sender_protocol_addr(), [3, 4, 5].as_slice());
+        assert_eq!(rt; packet.target_hw_addr(), [6, 7].as_slice());
+        assert_eq!(rt; packet.target_protocol_addr(), [8, 9, 10].as_slice());
+        Ok(())
+    }
+
+    #[test]
+    fn padding_is_no_part_of_the_packet(rt: HostRuntime) -> Result<(), Fail> {
+        let mut frame = [0; 46];
+        frame[..28].copy_from_slice(&REQUEST);
+        let packet = ArpPacketSlice::from_slice(&frame)?;
+        assert_eq!(rt; packet.slice(), REQUEST.as_slice());
+        frame[28] = 0x55;
+        assert_eq!(rt;
+            ArpPacketSlice::from_slice(&frame)?,
+            ArpPacketSlice::from_slice(&REQUEST)?
+        );
+        Ok(())
+    }
+
+    #[test]
+    fn views_of_other_bytes_differ(rt: HostRuntime) -> Result<(), Fail> {
+        let request = ArpPacketSlice::from_slice(&REQUEST)?;
+        let mut other = REQUEST;
+        other[27] = 3;
+        assert_ne!(rt; request, ArpPacketSlice::from_slice(&other)?);
+        assert_ne!(rt; request, ArpPacketSlice::from_slice(&REPLY)?);
+        Ok(())
+    }
+
+    #[test]
+    fn the_front_alone(rt: HostRuntime) {
+        assert_eq!(rt;
+            ArpPacketSlice::from_slice(&REQUEST[..8]).err(),
+            Some(cut_short(28, 8, LenSource::ArpAddrLengths))
+        );
+    }
+
+    #[test]
+    fn the_front_is_asked_for_before_the_addresses(rt: HostRuntime) {
+        assert_eq!(rt;
+            ArpPacketSlice::from_slice(&[0, 1, 8, 0, 0, 1, 0]).err(),
+            Some(cut_short(8, 7, LenSource::Slice))
+        );
+        assert_eq!(rt;
+            ArpPacketSlice::from_slice(&[0, 1, 8, 0, 0, 1, 0, 1]).err(),
+            Some(cut_short(10, 8, LenSource::ArpAddrLengths))
+        );
+        assert_eq!(rt;
+            ArpPacketSlice::from_slice(&[]).err(),
+            Some(cut_short(8, 0, LenSource::Slice))
+        );
+    }
+
+    #[test]
+    fn the_greatest_sizes(rt: HostRuntime) -> Result<(), Fail> {
+        let mut bytes = [7; 1028];
+        bytes[4] = 255;
+        bytes[5] = 255;
+        let packet = ArpPacketSlice::from_slice(&bytes)?;
+        assert_eq!(rt; packet.slice().len(), 1028);
+        assert_eq!(rt; packet.target_protocol_addr(), [7; 255].as_slice());
+        assert_eq!(rt;
+            ArpPacketSlice::from_slice(&bytes[..1027]).err(),
+            Some(cut_short(1028, 1027, LenSource::ArpAddrLengths))
+        );
+        Ok(())
+    }
+
+    #[test]
+    fn no_addresses(rt: HostRuntime) -> Result<(), Fail> {
+        let packet = ArpPacketSlice::from_slice(&[0, 1, 8, 0, 0, 0, 0, 1])?;
+        assert_eq!(rt; packet.slice().len(), 8);
+        assert_eq!(rt; packet.sender_hw_addr(), [].as_slice());
+        assert_eq!(rt; packet.target_protocol_addr(), [].as_slice());
+        Ok(())
+    }
+
+    #[test]
+    fn addresses_of_one_kind(rt: HostRuntime) -> Result<(), Fail> {
+        let mut bytes = [7; 518];
+        bytes[4] = 255;
+        bytes[5] = 0;
+        let packet = ArpPacketSlice::from_slice(&bytes)?;
+        assert_eq!(rt; packet.target_hw_addr(), [7; 255].as_slice());
+        assert_eq!(rt; packet.target_protocol_addr(), [].as_slice());
+        assert_eq!(rt;
+            ArpPacketSlice::from_slice(&bytes[..517]).err(),
+            Some(cut_short(518, 517, LenSource::ArpAddrLengths))
+        );
+        Ok(())
+    }
 }

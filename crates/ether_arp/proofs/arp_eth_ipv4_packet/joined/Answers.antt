@@ -1,6 +1,5 @@
-use Rattle.std.proofs.Common.{◌≡◌, ℕ, List, ◌++◌, ap, ◌∙◌}
+use Rattle.std.proofs.Common.{ℕ, List, ◌++◌, ap, ◌∙◌}
 use Rattle.ether_base.proofs.Cells.{cells, cells-all}
-use Rattle.std.proofs.lemmas.List.{append_assoc}
 use Rattle.ether_arp.proofs.arp_eth_ipv4_packet.joined.Goals as goal
 
 pub returns : goal.returns

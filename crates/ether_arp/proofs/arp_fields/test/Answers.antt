@@ -1,5 +1,5 @@
-use Rattle.std.proofs.Common.{◌≡◌, ℕ, ◌<◌, length, refl, sym, subst, arith}
-use Rattle.ether_base.specs.Arp.{arp_front_in, arp_len}
+use Rattle.std.proofs.Common.{ℕ, length, refl, sym, subst, arith}
+use Rattle.ether_base.specs.Arp.{arp_front_in}
 use Rattle.ether_base.specs.declared.err.layer.Layer.TheVariants as layers
 use Rattle.ether_base.specs.declared.len_source.LenSource.TheVariants as sources
 use Rattle.ether_base.specs.Kind as kinds

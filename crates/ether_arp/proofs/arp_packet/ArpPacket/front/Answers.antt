@@ -1,4 +1,4 @@
-use Rattle.std.proofs.Common.{◌≡◌, ℕ, ◌<◌, subst, arith}
+use Rattle.std.proofs.Common.{ℕ, ◌<◌, subst}
 use Rattle.ether_base.specs.Arp.{FitsArp}
 use Rattle.ether_arp.proofs.arp_packet.ArpPacket.front.Goals as goal
 

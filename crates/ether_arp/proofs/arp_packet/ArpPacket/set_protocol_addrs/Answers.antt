@@ -1,4 +1,3 @@
-use Rattle.std.proofs.Common.{◌≡◌, arith}
 use Rattle.ether_arp.specs.ArpAddresses as rows
 use Rattle.ether_arp.proofs.arp_packet.ArpPacket.set_protocol_addrs.Goals as goal
 

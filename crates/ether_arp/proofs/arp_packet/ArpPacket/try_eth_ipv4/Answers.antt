@@ -1,4 +1,4 @@
-use Rattle.std.proofs.Common.{◌≡◌, ap, sym, ◌∙◌}
+use Rattle.std.proofs.Common.{ap, sym, ◌∙◌}
 use Rattle.ether_base.specs.Arp.{ArpValue}
 use Rattle.ether_arp.proofs.Refusals.{agrees, differs, row_hardware_type, row_protocol_type, row_hardware_size, row_protocol_size}
 use Rattle.ether_arp.proofs.arp_packet.ArpPacket.try_eth_ipv4.Goals as goal
