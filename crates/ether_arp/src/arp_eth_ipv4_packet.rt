@@ -1,5 +1,5 @@
 //! ARP packets of Ethernet and IPv4 as values.
-ghost use Rattle.std.specs.Prelude.{◌≡◌, ◌++◌, length, Ok, Result};
+ghost use Rattle.std.specs.Prelude.{◌≡◌, ◌++◌, Ok, Result};
 ghost use Rattle.std.specs.Net.Addr.{ipv4_octets};
 ghost use Rattle.ether_base.specs.declared.err.arp.arp_eth_ipv4_from_error.ArpEthIpv4FromError.{ArpEthIpv4FromError as from_error};
 ghost use Rattle.ether_base.specs.Arp.{arp_bytes};
@@ -58,11 +58,11 @@ impl ArpEthIpv4Packet {
             self.operation.0,
         );
         joined(
-            &front,
-            &self.sender_mac,
-            &self.sender_ipv4,
-            &self.target_mac,
-            &self.target_ipv4,
+            front,
+            self.sender_mac,
+            self.sender_ipv4,
+            self.target_mac,
+            self.target_ipv4,
         )
     }
 
@@ -86,18 +86,13 @@ impl ArpEthIpv4Packet {
 
 /// Eight bytes and four addresses, one behind the other.
 fn joined(
-    front: &[u8],
-    sender_mac: &[u8],
-    sender_ipv4: &[u8],
-    target_mac: &[u8],
-    target_ipv4: &[u8],
+    front: [u8; 8],
+    sender_mac: [u8; 6],
+    sender_ipv4: [u8; 4],
+    target_mac: [u8; 6],
+    target_ipv4: [u8; 4],
 ) -> [u8; 28]
-    requires front { length front.now ≡ 8 }
-    requires sender_mac { length sender_mac.now ≡ 6 }
-    requires sender_ipv4 { length sender_ipv4.now ≡ 4 }
-    requires target_mac { length target_mac.now ≡ 6 }
-    requires target_ipv4 { length target_ipv4.now ≡ 4 }
-    ensures { result ≡ front.now ++ sender_mac.now ++ sender_ipv4.now ++ target_mac.now ++ target_ipv4.now }
+    ensures { result ≡ front ++ sender_mac ++ sender_ipv4 ++ target_mac ++ target_ipv4 }
 {
     let (f, s, i, t, j) = (front, sender_mac, sender_ipv4, target_mac, target_ipv4);
     [

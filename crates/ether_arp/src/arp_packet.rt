@@ -266,6 +266,7 @@ impl ArpPacket {
     /// Read again, whatever follows them, they are this packet.
     pub fn to_bytes(&self) -> ArrayVec<u8, 1028>
         ensures value { result.items ≡ arp_bytes self.now }
+        ensures len { length result.items ≡ arp_len (arp_front_of self.now) }
         ensures fits { FitsArp self.now }
         ensures accepted { (more : List ℕ) → Accepts sources.Slice (result.items ++ more) kinds.Arp }
         ensures read { (more : List ℕ) → Means (result.items ++ more) (headers.Arp self.now) }
@@ -314,11 +315,13 @@ impl ArpPacket {
         if self.proto_addr_type != EtherType::IPV4 {
             return Err(ArpEthIpv4FromError::NonMatchingProtocolType(self.proto_addr_type));
         }
-        if self.hw_addr_size() != 6 {
-            return Err(ArpEthIpv4FromError::NonMatchingHwAddrSize(self.hw_addr_size()));
+        let hw_addr_size = self.hw_addr_size();
+        if hw_addr_size != 6 {
+            return Err(ArpEthIpv4FromError::NonMatchingHwAddrSize(hw_addr_size));
         }
-        if self.protocol_addr_size() != 4 {
-            return Err(ArpEthIpv4FromError::NonMatchingProtoAddrSize(self.protocol_addr_size()));
+        let protocol_addr_size = self.protocol_addr_size();
+        if protocol_addr_size != 4 {
+            return Err(ArpEthIpv4FromError::NonMatchingProtoAddrSize(protocol_addr_size));
         }
         Ok(ArpEthIpv4Packet {
             operation: self.operation,

@@ -1,12 +1,15 @@
-use Rattle.std.proofs.Common.{ℕ, List, ◌++◌, sym, subst}
+use Rattle.std.proofs.Common.{ℕ, List, ◌++◌, length, ap, sym, subst, ◌∙◌}
 use Rattle.ether_base.specs.declared.len_source.LenSource.TheVariants as sources
 use Rattle.ether_base.specs.Header as headers
 use Rattle.ether_base.specs.Header.{Means}
 use Rattle.ether_base.specs.Kind as kinds
 use Rattle.ether_base.specs.Refusal.{Accepts}
-use Rattle.ether_base.proofs.ReadBack.{means-header_bytes}
+use Rattle.ether_base.proofs.ReadBack.{length-header_bytes, means-header_bytes}
 use Rattle.ether_arp.proofs.Writing.{written_accepted}
 use Rattle.ether_arp.proofs.arp_packet.ArpPacket.to_bytes.Goals as goal
+
+pub returns-clause-len : goal.returns-clause-len
+returns-clause-len c = ap length c.spelled.ensures.value ∙ length-header_bytes (headers.Arp c.args.self.now) c.spelled.ensures.fits
 
 pub returns-clause-accepted : goal.returns-clause-accepted
 returns-clause-accepted c more =

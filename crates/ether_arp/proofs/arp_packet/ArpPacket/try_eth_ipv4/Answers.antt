@@ -21,16 +21,12 @@ returns-then-hw_addr_size-ne6 c =
     let p = c.self.inside in
     let t = ap (λ (a : ArpValue). a.hardware_type) (sym c.self.view_is) ∙ agrees p.hw_addr_type.0 1 c.if-ne.ensures in
     let u = ap (λ (a : ArpValue). a.protocol_type) (sym c.self.view_is) ∙ agrees p.proto_addr_type.0 2048 c.if-ne-2.ensures in
-    let again = c.hw_addr_size-then-hw_addr_size-ne6 in
-    let size = again.ensures.sender in
-    row_hardware_size c.args.self.now again.result t u size (λ e. c.if-hw_addr_size-ne6.true (c.hw_addr_size.ensures.sender ∙ sym size ∙ e))
+    row_hardware_size c.args.self.now c.hw_addr_size-hw_addr_size.result t u c.hw_addr_size-hw_addr_size.ensures.sender c.if-hw_addr_size-ne6.true
 
 pub returns-then-protocol_addr_size-ne4 : goal.returns-then-protocol_addr_size-ne4
 returns-then-protocol_addr_size-ne4 c =
     let p = c.self.inside in
     let t = ap (λ (a : ArpValue). a.hardware_type) (sym c.self.view_is) ∙ agrees p.hw_addr_type.0 1 c.if-ne.ensures in
     let u = ap (λ (a : ArpValue). a.protocol_type) (sym c.self.view_is) ∙ agrees p.proto_addr_type.0 2048 c.if-ne-2.ensures in
-    let h = sym c.hw_addr_size.ensures.sender ∙ c.if-hw_addr_size-ne6.false in
-    let again = c.protocol_addr_size-then-protocol_addr_size-ne4 in
-    let size = again.ensures.sender in
-    row_protocol_size c.args.self.now again.result t u h size (λ e. c.if-protocol_addr_size-ne4.true (c.protocol_addr_size.ensures.sender ∙ sym size ∙ e))
+    let h = sym c.hw_addr_size-hw_addr_size.ensures.sender ∙ c.if-hw_addr_size-ne6.false in
+    row_protocol_size c.args.self.now c.protocol_addr_size-protocol_addr_size.result t u h c.protocol_addr_size-protocol_addr_size.ensures.sender c.if-protocol_addr_size-ne4.true
