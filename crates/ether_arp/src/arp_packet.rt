@@ -217,11 +217,12 @@ impl ArpPacket {
         ensures set { OnOk result (self.new ≡ record self.old { sender_hardware = sender_hw_addr.now; target_hardware = target_hw_addr.now }) }
         ensures unchanged { OnErr result (self.new ≡ self.old) }
     {
-        if sender_hw_addr.len() != target_hw_addr.len() {
-            return Err(ArpHwAddrError::LenNonMatching(sender_hw_addr.len(), target_hw_addr.len()));
+        let len = sender_hw_addr.len();
+        if len != target_hw_addr.len() {
+            return Err(ArpHwAddrError::LenNonMatching(len, target_hw_addr.len()));
         }
-        if sender_hw_addr.len() > 255 {
-            return Err(ArpHwAddrError::LenTooBig(sender_hw_addr.len()));
+        if len > 255 {
+            return Err(ArpHwAddrError::LenTooBig(len));
         }
         self.sender_hardware = kept(sender_hw_addr);
         self.target_hardware = kept(target_hw_addr);
@@ -240,14 +241,12 @@ impl ArpPacket {
         ensures set { OnOk result (self.new ≡ record self.old { sender_protocol = sender_protocol_addr.now; target_protocol = target_protocol_addr.now }) }
         ensures unchanged { OnErr result (self.new ≡ self.old) }
     {
-        if sender_protocol_addr.len() != target_protocol_addr.len() {
-            return Err(ArpProtoAddrError::LenNonMatching(
-                sender_protocol_addr.len(),
-                target_protocol_addr.len(),
-            ));
+        let len = sender_protocol_addr.len();
+        if len != target_protocol_addr.len() {
+            return Err(ArpProtoAddrError::LenNonMatching(len, target_protocol_addr.len()));
         }
-        if sender_protocol_addr.len() > 255 {
-            return Err(ArpProtoAddrError::LenTooBig(sender_protocol_addr.len()));
+        if len > 255 {
+            return Err(ArpProtoAddrError::LenTooBig(len));
         }
         self.sender_protocol = kept(sender_protocol_addr);
         self.target_protocol = kept(target_protocol_addr);
