@@ -13,7 +13,7 @@ use Rattle.ether_base.specs.declared.err.arp.arp_new_error.ArpNewError.{ArpNewEr
 use Rattle.ether_base.specs.declared.err.arp.arp_new_error.ArpNewError.TheVariants.{HwAddr, ProtoAddr}
 use Rattle.ether_base.specs.declared.err.arp.arp_eth_ipv4_from_error.ArpEthIpv4FromError.{ArpEthIpv4FromError}
 use Rattle.ether_base.specs.declared.err.arp.arp_eth_ipv4_from_error.ArpEthIpv4FromError.TheVariants.{NonMatchingHwType, NonMatchingProtocolType, NonMatchingHwAddrSize, NonMatchingProtoAddrSize}
-use Rattle.ether_arp.specs.ArpAddresses.{RefusesHwAddrs, AcceptsHwAddrs, RefusesProtoAddrs, AcceptsProtoAddrs, RefusesAddresses, AcceptsAddresses}
+use Rattle.ether_arp.specs.ArpAddresses.{RefusesHwAddrs, AcceptsHwAddrs, RefusesProtoAddrs, AcceptsProtoAddrs, RefusesAddrs, AcceptsAddrs}
 use Rattle.ether_arp.specs.ArpAddresses as rows
 use Rattle.ether_arp.specs.ArpEthIpv4.{RefusesEthIpv4, AcceptsEthIpv4}
 use Rattle.ether_arp.specs.ArpEthIpv4 as readings
@@ -28,11 +28,11 @@ pub accepts_proto : (s t : ℕ) → s ≡ t → s ≤ 255 → AcceptsProtoAddrs 
 accepts_proto s t e le d (rows.proto_unequal n) = n e
 accepts_proto s t e le d (rows.proto_too_long f lt) = omega arith
 
-pub accepts_addresses : (a : ArpValue) → length a.sender_hardware ≡ length a.target_hardware → length a.sender_protocol ≡ length a.target_protocol → length a.sender_hardware ≤ 255 → length a.sender_protocol ≤ 255 → AcceptsAddresses a
-accepts_addresses a h p lh lp d (rows.hardware_unequal n) = n h
-accepts_addresses a h p lh lp d (rows.protocol_unequal e n) = n p
-accepts_addresses a h p lh lp d (rows.hardware_too_long e f lt) = omega arith
-accepts_addresses a h p lh lp d (rows.protocol_too_long e f le lt) = omega arith
+pub accepts_addrs : (s p t q : ℕ) → s ≡ t → p ≡ q → s ≤ 255 → p ≤ 255 → AcceptsAddrs s p t q
+accepts_addrs s p t q h e ls lp d (rows.hardware_unequal n) = n h
+accepts_addrs s p t q h e ls lp d (rows.protocol_unequal f n) = n e
+accepts_addrs s p t q h e ls lp d (rows.hardware_too_long f g lt) = omega arith
+accepts_addrs s p t q h e ls lp d (rows.protocol_too_long f g le lt) = omega arith
 
 pub accepts_eth_ipv4 : (a : ArpValue) → a.hardware_type ≡ 1 → a.protocol_type ≡ 2048 → length a.sender_hardware ≡ 6 → length a.sender_protocol ≡ 4 → AcceptsEthIpv4 a
 accepts_eth_ipv4 a t u h p d (readings.hardware_type n) = n t
@@ -54,23 +54,23 @@ one_proto s t d e (rows.proto_unequal n) (rows.proto_too_long f lt) = absurd (n 
 one_proto s t d e (rows.proto_too_long f lt) (rows.proto_unequal n) = absurd (n f)
 one_proto s t d e (rows.proto_too_long f lt) (rows.proto_too_long g mt) = refl
 
-pub one_new : (a : ArpValue) (d e : ArpNewError) → RefusesAddresses a d → RefusesAddresses a e → d ≡ e
-one_new a d e (rows.hardware_unequal n) (rows.hardware_unequal m) = refl
-one_new a d e (rows.hardware_unequal n) (rows.protocol_unequal h m) = absurd (n h)
-one_new a d e (rows.hardware_unequal n) (rows.hardware_too_long h p lt) = absurd (n h)
-one_new a d e (rows.hardware_unequal n) (rows.protocol_too_long h p le lt) = absurd (n h)
-one_new a d e (rows.protocol_unequal i n) (rows.hardware_unequal m) = absurd (m i)
-one_new a d e (rows.protocol_unequal i n) (rows.protocol_unequal h m) = refl
-one_new a d e (rows.protocol_unequal i n) (rows.hardware_too_long h p lt) = absurd (n p)
-one_new a d e (rows.protocol_unequal i n) (rows.protocol_too_long h p le lt) = absurd (n p)
-one_new a d e (rows.hardware_too_long i q lt) (rows.hardware_unequal m) = absurd (m i)
-one_new a d e (rows.hardware_too_long i q lt) (rows.protocol_unequal h m) = absurd (m q)
-one_new a d e (rows.hardware_too_long i q lt) (rows.hardware_too_long h p mt) = refl
-one_new a d e (rows.hardware_too_long i q lt) (rows.protocol_too_long h p le mt) = absurd (omega arith)
-one_new a d e (rows.protocol_too_long i q ke lt) (rows.hardware_unequal m) = absurd (m i)
-one_new a d e (rows.protocol_too_long i q ke lt) (rows.protocol_unequal h m) = absurd (m q)
-one_new a d e (rows.protocol_too_long i q ke lt) (rows.hardware_too_long h p mt) = absurd (omega arith)
-one_new a d e (rows.protocol_too_long i q ke lt) (rows.protocol_too_long h p le mt) = refl
+pub one_new : (s p t q : ℕ) (d e : ArpNewError) → RefusesAddrs s p t q d → RefusesAddrs s p t q e → d ≡ e
+one_new _ _ _ _ d e (rows.hardware_unequal n) (rows.hardware_unequal m) = refl
+one_new _ _ _ _ d e (rows.hardware_unequal n) (rows.protocol_unequal h m) = absurd (n h)
+one_new _ _ _ _ d e (rows.hardware_unequal n) (rows.hardware_too_long h p lt) = absurd (n h)
+one_new _ _ _ _ d e (rows.hardware_unequal n) (rows.protocol_too_long h p le lt) = absurd (n h)
+one_new _ _ _ _ d e (rows.protocol_unequal i n) (rows.hardware_unequal m) = absurd (m i)
+one_new _ _ _ _ d e (rows.protocol_unequal i n) (rows.protocol_unequal h m) = refl
+one_new _ _ _ _ d e (rows.protocol_unequal i n) (rows.hardware_too_long h p lt) = absurd (n p)
+one_new _ _ _ _ d e (rows.protocol_unequal i n) (rows.protocol_too_long h p le lt) = absurd (n p)
+one_new _ _ _ _ d e (rows.hardware_too_long i q lt) (rows.hardware_unequal m) = absurd (m i)
+one_new _ _ _ _ d e (rows.hardware_too_long i q lt) (rows.protocol_unequal h m) = absurd (m q)
+one_new _ _ _ _ d e (rows.hardware_too_long i q lt) (rows.hardware_too_long h p mt) = refl
+one_new _ _ _ _ d e (rows.hardware_too_long i q lt) (rows.protocol_too_long h p le mt) = absurd (omega arith)
+one_new _ _ _ _ d e (rows.protocol_too_long i q ke lt) (rows.hardware_unequal m) = absurd (m i)
+one_new _ _ _ _ d e (rows.protocol_too_long i q ke lt) (rows.protocol_unequal h m) = absurd (m q)
+one_new _ _ _ _ d e (rows.protocol_too_long i q ke lt) (rows.hardware_too_long h p mt) = absurd (omega arith)
+one_new _ _ _ _ d e (rows.protocol_too_long i q ke lt) (rows.protocol_too_long h p le mt) = refl
 
 pub one_eth_ipv4 : (a : ArpValue) (d e : ArpEthIpv4FromError) → RefusesEthIpv4 a d → RefusesEthIpv4 a e → d ≡ e
 one_eth_ipv4 a d e (readings.hardware_type n) (readings.hardware_type m) = refl
@@ -106,19 +106,17 @@ decide_proto s t =
       | inr n ↦ inl (proto.LenNonMatching s t, rows.proto_unequal n)
     ]
 
-pub decide_new : (a : ArpValue) → ((e : ArpNewError) × RefusesAddresses a e) ⊎ AcceptsAddresses a
-decide_new a =
-    let sh = length a.sender_hardware in
-    let sp = length a.sender_protocol in
-    elim (cases_eq sh (length a.target_hardware)) [
-      | inl h ↦ elim (cases_eq sp (length a.target_protocol)) [
-        | inl p ↦ elim (cases_lt 255 sh) [
-          | inl lt ↦ inl (HwAddr (hw.LenTooBig sh), rows.hardware_too_long h p lt)
-          | inr le ↦ elim (cases_lt 255 sp) [ inl lt ↦ inl (ProtoAddr (proto.LenTooBig sp), rows.protocol_too_long h p le lt) | inr ke ↦ inr (accepts_addresses a h p le ke) ]
+pub decide_new : (s p t q : ℕ) → ((e : ArpNewError) × RefusesAddrs s p t q e) ⊎ AcceptsAddrs s p t q
+decide_new s p t q =
+    elim (cases_eq s t) [
+      | inl h ↦ elim (cases_eq p q) [
+        | inl e ↦ elim (cases_lt 255 s) [
+          | inl lt ↦ inl (HwAddr (hw.LenTooBig s), rows.hardware_too_long h e lt)
+          | inr le ↦ elim (cases_lt 255 p) [ inl lt ↦ inl (ProtoAddr (proto.LenTooBig p), rows.protocol_too_long h e le lt) | inr ke ↦ inr (accepts_addrs s p t q h e le ke) ]
         ]
-        | inr n ↦ inl (ProtoAddr (proto.LenNonMatching sp (length a.target_protocol)), rows.protocol_unequal h n)
+        | inr n ↦ inl (ProtoAddr (proto.LenNonMatching p q), rows.protocol_unequal h n)
       ]
-      | inr n ↦ inl (HwAddr (hw.LenNonMatching sh (length a.target_hardware)), rows.hardware_unequal n)
+      | inr n ↦ inl (HwAddr (hw.LenNonMatching s t), rows.hardware_unequal n)
     ]
 
 pub decide_eth_ipv4 : (a : ArpValue) → ((e : ArpEthIpv4FromError) × RefusesEthIpv4 a e) ⊎ AcceptsEthIpv4 a

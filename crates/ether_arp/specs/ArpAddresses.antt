@@ -1,6 +1,5 @@
 -- The addresses that a packet can't hold: it has one size for both of a kind, which is a byte (RFC 826, "Packet format").
-use Rattle.std.specs.Prelude.{◌≡◌, ℕ, ◌<◌, ◌≤◌, length}
-use Rattle.ether_base.specs.Arp.{ArpValue}
+use Rattle.std.specs.Prelude.{◌≡◌, ℕ, ◌<◌, ◌≤◌}
 use Rattle.ether_base.specs.declared.err.arp.arp_hw_addr_error.ArpHwAddrError.{ArpHwAddrError}
 use Rattle.ether_base.specs.declared.err.arp.arp_hw_addr_error.ArpHwAddrError.TheVariants as hw
 use Rattle.ether_base.specs.declared.err.arp.arp_proto_addr_error.ArpProtoAddrError.{ArpProtoAddrError}
@@ -19,15 +18,15 @@ pub data RefusesProtoAddrs (sender target : ℕ) : ArpProtoAddrError → Type 0 
   proto_too_long : sender ≡ target → 255 < sender → RefusesProtoAddrs sender target (proto.LenTooBig sender)
 
 -- the rows of all four: both kinds are compared before either is measured
-pub data RefusesAddresses (a : ArpValue) : ArpNewError → Type 0 where
-  hardware_unequal : (length a.sender_hardware ≡ length a.target_hardware → ⊥)
-      → RefusesAddresses a (HwAddr (hw.LenNonMatching (length a.sender_hardware) (length a.target_hardware)))
-  protocol_unequal : length a.sender_hardware ≡ length a.target_hardware → (length a.sender_protocol ≡ length a.target_protocol → ⊥)
-      → RefusesAddresses a (ProtoAddr (proto.LenNonMatching (length a.sender_protocol) (length a.target_protocol)))
-  hardware_too_long : length a.sender_hardware ≡ length a.target_hardware → length a.sender_protocol ≡ length a.target_protocol → 255 < length a.sender_hardware
-      → RefusesAddresses a (HwAddr (hw.LenTooBig (length a.sender_hardware)))
-  protocol_too_long : length a.sender_hardware ≡ length a.target_hardware → length a.sender_protocol ≡ length a.target_protocol → length a.sender_hardware ≤ 255 → 255 < length a.sender_protocol
-      → RefusesAddresses a (ProtoAddr (proto.LenTooBig (length a.sender_protocol)))
+pub data RefusesAddrs (sender_hw sender_proto target_hw target_proto : ℕ) : ArpNewError → Type 0 where
+  hardware_unequal : (sender_hw ≡ target_hw → ⊥)
+      → RefusesAddrs sender_hw sender_proto target_hw target_proto (HwAddr (hw.LenNonMatching sender_hw target_hw))
+  protocol_unequal : sender_hw ≡ target_hw → (sender_proto ≡ target_proto → ⊥)
+      → RefusesAddrs sender_hw sender_proto target_hw target_proto (ProtoAddr (proto.LenNonMatching sender_proto target_proto))
+  hardware_too_long : sender_hw ≡ target_hw → sender_proto ≡ target_proto → 255 < sender_hw
+      → RefusesAddrs sender_hw sender_proto target_hw target_proto (HwAddr (hw.LenTooBig sender_hw))
+  protocol_too_long : sender_hw ≡ target_hw → sender_proto ≡ target_proto → sender_hw ≤ 255 → 255 < sender_proto
+      → RefusesAddrs sender_hw sender_proto target_hw target_proto (ProtoAddr (proto.LenTooBig sender_proto))
 
 -- no row holds
 abbrev pub AcceptsHwAddrs : ℕ → ℕ → Type 0
@@ -36,10 +35,5 @@ AcceptsHwAddrs sender target = (e : ArpHwAddrError) → RefusesHwAddrs sender ta
 abbrev pub AcceptsProtoAddrs : ℕ → ℕ → Type 0
 AcceptsProtoAddrs sender target = (e : ArpProtoAddrError) → RefusesProtoAddrs sender target e → ⊥
 
-abbrev pub AcceptsAddresses : ArpValue → Type 0
-AcceptsAddresses a = (e : ArpNewError) → RefusesAddresses a e → ⊥
-
--- a packet was made, and holds what was given
-pub record IsMade (given a : ArpValue) : Type 0 where
-  pub accepted : AcceptsAddresses given
-  pub value : a ≡ given
+abbrev pub AcceptsAddrs : ℕ → ℕ → ℕ → ℕ → Type 0
+AcceptsAddrs sender_hw sender_proto target_hw target_proto = (e : ArpNewError) → RefusesAddrs sender_hw sender_proto target_hw target_proto e → ⊥

@@ -11,7 +11,7 @@ use Rattle.ether_base.specs.Header.{Means}
 use Rattle.ether_base.specs.Header as headers
 use Rattle.ether_base.specs.Kind as kinds
 use Rattle.ether_base.specs.Refusal.{Accepts}
-use Rattle.ether_arp.specs.ArpAddresses.{RefusesHwAddrs, AcceptsHwAddrs, RefusesProtoAddrs, AcceptsProtoAddrs, RefusesAddresses, AcceptsAddresses}
+use Rattle.ether_arp.specs.ArpAddresses.{RefusesHwAddrs, AcceptsHwAddrs, RefusesProtoAddrs, AcceptsProtoAddrs, RefusesAddrs, AcceptsAddrs}
 use Rattle.ether_arp.specs.ArpEthIpv4.{RefusesEthIpv4, AcceptsEthIpv4}
 
 -- at most one row of each table holds, and it is decided whether one does
@@ -20,8 +20,8 @@ pub record ArpRowsAreApart : Type 0 where
   pub decided_hw : (sender target : ℕ) → ((e : ArpHwAddrError) × RefusesHwAddrs sender target e) ⊎ AcceptsHwAddrs sender target
   pub one_proto : (sender target : ℕ) (d e : ArpProtoAddrError) → RefusesProtoAddrs sender target d → RefusesProtoAddrs sender target e → d ≡ e
   pub decided_proto : (sender target : ℕ) → ((e : ArpProtoAddrError) × RefusesProtoAddrs sender target e) ⊎ AcceptsProtoAddrs sender target
-  pub one_new : (a : ArpValue) (d e : ArpNewError) → RefusesAddresses a d → RefusesAddresses a e → d ≡ e
-  pub decided_new : (a : ArpValue) → ((e : ArpNewError) × RefusesAddresses a e) ⊎ AcceptsAddresses a
+  pub one_new : (s p t q : ℕ) (d e : ArpNewError) → RefusesAddrs s p t q d → RefusesAddrs s p t q e → d ≡ e
+  pub decided_new : (s p t q : ℕ) → ((e : ArpNewError) × RefusesAddrs s p t q e) ⊎ AcceptsAddrs s p t q
   pub one_eth_ipv4 : (a : ArpValue) (d e : ArpEthIpv4FromError) → RefusesEthIpv4 a d → RefusesEthIpv4 a e → d ≡ e
   pub decided_eth_ipv4 : (a : ArpValue) → ((e : ArpEthIpv4FromError) × RefusesEthIpv4 a e) ⊎ AcceptsEthIpv4 a
 

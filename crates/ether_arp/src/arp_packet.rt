@@ -13,7 +13,7 @@ ghost use Rattle.ether_base.specs.Header.{Means};
 ghost use Rattle.ether_base.specs.Kind as kinds;
 ghost use Rattle.ether_base.specs.Refusal.{Accepts};
 ghost use Rattle.ether_base.specs.RefusedLen.{IsRefusedLen};
-ghost use Rattle.ether_arp.specs.ArpAddresses.{AcceptsHwAddrs, AcceptsProtoAddrs, IsMade, RefusesAddresses, RefusesHwAddrs, RefusesProtoAddrs};
+ghost use Rattle.ether_arp.specs.ArpAddresses.{AcceptsAddrs, AcceptsHwAddrs, AcceptsProtoAddrs, RefusesAddrs, RefusesHwAddrs, RefusesProtoAddrs};
 ghost use Rattle.ether_arp.specs.ArpEthIpv4.{AnswersEthIpv4};
 
 use crate::{ArpEthIpv4Packet, ArpPacketSlice, arp_fields};
@@ -25,6 +25,9 @@ use std::alloc::AllocError;
 use std::fmt;
 use std::hash::{Hash, Hasher};
 use std::marker::Model;
+
+/// The greatest length of an address, whose size is a byte.
+const MAX_ADDR_LEN: usize = 255;
 
 /// A packet of the Address Resolution Protocol (RFC 826): it asks which hardware address belongs to a protocol address, or
 /// answers.
@@ -74,6 +77,7 @@ impl ArpPacket {
     ///
     /// Refused are, in this order: hardware addresses of two lengths, protocol addresses of two lengths, hardware
     /// addresses of more than 255 bytes, protocol addresses of more than 255 bytes.
+    #[tactic(auto, using(crate::specs::ArpAddresses::hardware_unequal, crate::specs::ArpAddresses::protocol_unequal, crate::specs::ArpAddresses::hardware_too_long, crate::specs::ArpAddresses::protocol_too_long))]
     pub fn new(
         hw_addr_type: ArpHardwareId,
         proto_addr_type: EtherType,
@@ -83,16 +87,8 @@ impl ArpPacket {
         target_hw_addr: &[u8],
         target_protocol_addr: &[u8],
     ) -> Result<ArpPacket, ArpNewError>
-        ensures answers { let given : ArpValue = record {
-          hardware_type = hw_addr_type.0;
-          protocol_type = proto_addr_type.0;
-          operation = operation.0;
-          sender_hardware = sender_hw_addr.now;
-          sender_protocol = sender_protocol_addr.now;
-          target_hardware = target_hw_addr.now;
-          target_protocol = target_protocol_addr.now;
-        } in
-            MatchResult result (IsMade given) (RefusesAddresses given) }
+        ensures answers { MatchResult result (λ _. AcceptsAddrs (length sender_hw_addr.now) (length sender_protocol_addr.now) (length target_hw_addr.now) (length target_protocol_addr.now)) (RefusesAddrs (length sender_hw_addr.now) (length sender_protocol_addr.now) (length target_hw_addr.now) (length target_protocol_addr.now)) }
+        ensures holds { IfOk result (λ p. p ≡ record { hardware_type = hw_addr_type.0; protocol_type = proto_addr_type.0; operation = operation.0; sender_hardware = sender_hw_addr.now; sender_protocol = sender_protocol_addr.now; target_hardware = target_hw_addr.now; target_protocol = target_protocol_addr.now }) }
     {
         if sender_hw_addr.len() != target_hw_addr.len() {
             return Err(ArpNewError::HwAddr(ArpHwAddrError::LenNonMatching(
@@ -106,10 +102,10 @@ impl ArpPacket {
                 target_protocol_addr.len(),
             )));
         }
-        if sender_hw_addr.len() > 255 {
+        if sender_hw_addr.len() > MAX_ADDR_LEN {
             return Err(ArpNewError::HwAddr(ArpHwAddrError::LenTooBig(sender_hw_addr.len())));
         }
-        if sender_protocol_addr.len() > 255 {
+        if sender_protocol_addr.len() > MAX_ADDR_LEN {
             return Err(ArpNewError::ProtoAddr(ArpProtoAddrError::LenTooBig(
                 sender_protocol_addr.len(),
             )));
@@ -208,6 +204,7 @@ impl ArpPacket {
     /// Replaces both hardware addresses, and with them their size.
     ///
     /// Refused are addresses of two lengths, then addresses of more than 255 bytes. The packet is then as it was.
+    #[tactic(auto, using(crate::specs::ArpAddresses::hw_unequal, crate::specs::ArpAddresses::hw_too_long))]
     pub fn set_hw_addrs(
         &mut self,
         sender_hw_addr: &[u8],
@@ -221,7 +218,7 @@ impl ArpPacket {
         if len != target_hw_addr.len() {
             return Err(ArpHwAddrError::LenNonMatching(len, target_hw_addr.len()));
         }
-        if len > 255 {
+        if len > MAX_ADDR_LEN {
             return Err(ArpHwAddrError::LenTooBig(len));
         }
         self.sender_hardware = kept(sender_hw_addr);
@@ -232,6 +229,7 @@ impl ArpPacket {
     /// Replaces both protocol addresses, and with them their size.
     ///
     /// Refused are addresses of two lengths, then addresses of more than 255 bytes. The packet is then as it was.
+    #[tactic(auto, using(crate::specs::ArpAddresses::proto_unequal, crate::specs::ArpAddresses::proto_too_long))]
     pub fn set_protocol_addrs(
         &mut self,
         sender_protocol_addr: &[u8],
@@ -245,7 +243,7 @@ impl ArpPacket {
         if len != target_protocol_addr.len() {
             return Err(ArpProtoAddrError::LenNonMatching(len, target_protocol_addr.len()));
         }
-        if len > 255 {
+        if len > MAX_ADDR_LEN {
             return Err(ArpProtoAddrError::LenTooBig(len));
         }
         self.sender_protocol = kept(sender_protocol_addr);
@@ -305,6 +303,7 @@ impl ArpPacket {
     ///
     /// Refused are, in this order: another hardware type than Ethernet's, another protocol type than that of IPv4,
     /// hardware addresses that have not 6 bytes, protocol addresses that have not 4.
+    #[tactic(auto, using(crate::proofs::Refusals::row_hardware_type, crate::proofs::Refusals::row_protocol_type, crate::proofs::Refusals::row_hardware_size, crate::proofs::Refusals::row_protocol_size, crate::proofs::Refusals::differs, crate::proofs::Refusals::agrees))]
     pub fn try_eth_ipv4(&self) -> Result<ArpEthIpv4Packet, ArpEthIpv4FromError>
         ensures { AnswersEthIpv4 self.now result }
     {
