@@ -1,4 +1,4 @@
--- Packets that ask for a hardware address of Ethernet by an address of IPv4, and answer (RFC 826 with RFC 894's types).
+-- Packets of Ethernet and IPv4: hardware type 1 and 6 bytes (RFC 826), protocol type 0x0800 (RFC 894) and 4 bytes.
 use Rattle.std.specs.Prelude.{◌≡◌, ℕ, ◌*◌, ◌+◌, ◌^◌, List, ◌++◌, length, Result, MatchResult}
 use Rattle.ether_base.specs.Arp.{ArpValue}
 use Rattle.ether_base.specs.Bytes.{spelled}
@@ -6,7 +6,7 @@ use Rattle.ether_base.specs.declared.err.arp.arp_eth_ipv4_from_error.ArpEthIpv4F
 use Rattle.ether_base.specs.declared.err.arp.arp_eth_ipv4_from_error.ArpEthIpv4FromError.TheVariants.{NonMatchingHwType, NonMatchingProtocolType, NonMatchingHwAddrSize, NonMatchingProtoAddrSize}
 use Rattle.ether_arp.specs.declared.arp_eth_ipv4_packet.ArpEthIpv4Packet.{ArpEthIpv4Packet}
 
--- the packet as a value: hardware type 1 is Ethernet's, protocol type 2048, which is 0x0800, that of IPv4
+-- the packet as a value; 2048 is 0x0800
 abbrev pub eth_ipv4_view : ArpEthIpv4Packet → ArpValue
 eth_ipv4_view p = record {
   hardware_type = 1;

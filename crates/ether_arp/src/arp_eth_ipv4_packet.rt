@@ -12,6 +12,20 @@ use std::net::Ipv4Addr;
 
 /// An ARP packet that asks for the MAC address of an IPv4 address, or answers: hardware type 1, protocol type 0x0800,
 /// addresses of 6 and of 4 bytes (RFC 826).
+///
+/// Who has 10.0.0.2?
+///
+/// ```
+/// let request = ArpEthIpv4Packet {
+///     operation: ArpOperation::REQUEST,
+///     sender_mac: [0x02, 0x00, 0x00, 0x00, 0x00, 0x01],
+///     sender_ipv4: [10, 0, 0, 1],
+///     target_mac: [0; 6],
+///     target_ipv4: [10, 0, 0, 2],
+/// };
+/// let read = ArpPacket::from_slice(&request.to_bytes())?;
+/// assert_eq!(read.try_eth_ipv4(), Ok(request));
+/// ```
 #[derive(Clone, Copy, PartialEq, Eq, Hash, Debug)]
 pub struct ArpEthIpv4Packet {
     /// What the packet asks or answers.
@@ -149,6 +163,8 @@ mod tests {
 
     #[test]
     fn there_and_back(rt: HostRuntime) -> Result<(), Fail> {
+        let read = ArpPacket::from_slice(&REQUEST.to_bytes())?;
+        assert_eq!(rt; read.try_eth_ipv4(), Ok(REQUEST));
         assert_eq!(rt; REQUEST.to_arp_packet().try_eth_ipv4(), Ok(REQUEST));
         let packet = ArpPacket::from(REQUEST);
         assert_eq!(rt; packet, ArpPacket::from_slice(&BYTES)?);

@@ -34,6 +34,16 @@ const MAX_ADDR_LEN: usize = 255;
 ///
 /// The two hardware addresses have one length, at most 255 bytes, and so have the two protocol addresses. Equality and
 /// hashing are of what the packet says: types, sizes, operation and addresses.
+///
+/// The answer to a request for 10.0.0.2:
+///
+/// ```
+/// let mut packet = ArpPacket::from_slice(&request)?;
+/// packet.operation = ArpOperation::REPLY;
+/// packet.set_hw_addrs(&[2, 0, 0, 0, 0, 2], &[2, 0, 0, 0, 0, 1])?;
+/// packet.set_protocol_addrs(&[10, 0, 0, 2], &[10, 0, 0, 1])?;
+/// assert_eq!(packet.to_bytes().as_slice(), &reply);
+/// ```
 #[derive(Drop)]
 pub struct ArpPacket {
     /// What kind of link the hardware addresses belong to.

@@ -20,7 +20,14 @@ use std::marker::Model;
 /// An ARP packet in the bytes of a frame (RFC 826): 8 to 1028 bytes, without what follows it, as the padding of a short
 /// frame.
 ///
-/// Two views are equal where their bytes are.
+/// Two views are equal where their bytes are. A request that fills up a short frame of Ethernet:
+///
+/// ```
+/// let packet = ArpPacketSlice::from_slice(&payload)?; // 28 bytes of the packet and 18 of padding
+/// assert_eq!(packet.operation(), ArpOperation::REQUEST);
+/// assert_eq!(packet.target_protocol_addr(), [10, 0, 0, 2].as_slice());
+/// assert_eq!(packet.slice().len(), 28);
+/// ```
 #[derive(Debug, Drop)]
 pub struct ArpPacketSlice<'a> {
     slice: &'a [u8],
@@ -256,6 +263,8 @@ mod tests {
         let mut frame = [0; 46];
         frame[..28].copy_from_slice(&REQUEST);
         let packet = ArpPacketSlice::from_slice(&frame)?;
+        assert_eq!(rt; packet.operation(), ArpOperation::REQUEST);
+        assert_eq!(rt; packet.target_protocol_addr(), [10, 0, 0, 2].as_slice());
         assert_eq!(rt; packet.slice(), REQUEST.as_slice());
         frame[28] = 0x55;
         assert_eq!(rt;

@@ -1,3 +1,4 @@
+//! Packets of each size read, made, changed, compared and written.
 use super::*;
 use ether_base::LenSource;
 use ether_base::err::Layer;
@@ -51,6 +52,20 @@ fn a_request_read_and_written(rt: HostRuntime) -> Result<(), Fail> {
     assert_eq!(rt; packet.packet_len(), 28);
     assert_eq!(rt; packet.to_bytes().as_slice(), REQUEST.as_slice());
     assert_eq!(rt; packet.clone()?, packet);
+    Ok(())
+}
+
+#[test]
+fn the_answer_to_a_request(rt: HostRuntime) -> Result<(), Fail> {
+    let reply = [
+        0x00, 0x01, 0x08, 0x00, 0x06, 0x04, 0x00, 0x02, 0x02, 0x00, 0x00, 0x00, 0x00, 0x02, 0x0A,
+        0x00, 0x00, 0x02, 0x02, 0x00, 0x00, 0x00, 0x00, 0x01, 0x0A, 0x00, 0x00, 0x01,
+    ];
+    let mut packet = ArpPacket::from_slice(&REQUEST)?;
+    packet.operation = ArpOperation::REPLY;
+    packet.set_hw_addrs(&[2, 0, 0, 0, 0, 2], &[2, 0, 0, 0, 0, 1])?;
+    packet.set_protocol_addrs(&[10, 0, 0, 2], &[10, 0, 0, 1])?;
+    assert_eq!(rt; packet.to_bytes().as_slice(), reply.as_slice());
     Ok(())
 }
 
