@@ -1,0 +1,39 @@
+-- The addresses that a packet can't hold: it has one size for both of a kind, which is a byte (RFC 826, "Packet format").
+use Rattle.std.specs.Prelude.{◌≡◌, ℕ, ◌<◌, ◌≤◌}
+use Rattle.ether_base.specs.declared.err.arp.arp_hw_addr_error.ArpHwAddrError.{ArpHwAddrError}
+use Rattle.ether_base.specs.declared.err.arp.arp_hw_addr_error.ArpHwAddrError.TheVariants as hw
+use Rattle.ether_base.specs.declared.err.arp.arp_proto_addr_error.ArpProtoAddrError.{ArpProtoAddrError}
+use Rattle.ether_base.specs.declared.err.arp.arp_proto_addr_error.ArpProtoAddrError.TheVariants as proto
+use Rattle.ether_base.specs.declared.err.arp.arp_new_error.ArpNewError.{ArpNewError}
+use Rattle.ether_base.specs.declared.err.arp.arp_new_error.ArpNewError.TheVariants.{HwAddr, ProtoAddr}
+
+-- the rows of two hardware addresses of these lengths
+pub data RefusesHwAddrs (sender target : ℕ) : ArpHwAddrError → Type 0 where
+  hw_unequal : (sender ≡ target → ⊥) → RefusesHwAddrs sender target (hw.LenNonMatching sender target)
+  hw_too_long : sender ≡ target → 255 < sender → RefusesHwAddrs sender target (hw.LenTooBig sender)
+
+-- the rows of two protocol addresses of these lengths
+pub data RefusesProtoAddrs (sender target : ℕ) : ArpProtoAddrError → Type 0 where
+  proto_unequal : (sender ≡ target → ⊥) → RefusesProtoAddrs sender target (proto.LenNonMatching sender target)
+  proto_too_long : sender ≡ target → 255 < sender → RefusesProtoAddrs sender target (proto.LenTooBig sender)
+
+-- the rows of all four: both kinds are compared before either is measured
+pub data RefusesAddrs (sender_hw sender_proto target_hw target_proto : ℕ) : ArpNewError → Type 0 where
+  hardware_unequal : (sender_hw ≡ target_hw → ⊥)
+      → RefusesAddrs sender_hw sender_proto target_hw target_proto (HwAddr (hw.LenNonMatching sender_hw target_hw))
+  protocol_unequal : sender_hw ≡ target_hw → (sender_proto ≡ target_proto → ⊥)
+      → RefusesAddrs sender_hw sender_proto target_hw target_proto (ProtoAddr (proto.LenNonMatching sender_proto target_proto))
+  hardware_too_long : sender_hw ≡ target_hw → sender_proto ≡ target_proto → 255 < sender_hw
+      → RefusesAddrs sender_hw sender_proto target_hw target_proto (HwAddr (hw.LenTooBig sender_hw))
+  protocol_too_long : sender_hw ≡ target_hw → sender_proto ≡ target_proto → sender_hw ≤ 255 → 255 < sender_proto
+      → RefusesAddrs sender_hw sender_proto target_hw target_proto (ProtoAddr (proto.LenTooBig sender_proto))
+
+-- no row holds
+abbrev pub AcceptsHwAddrs : ℕ → ℕ → Type 0
+AcceptsHwAddrs sender target = (e : ArpHwAddrError) → RefusesHwAddrs sender target e → ⊥
+
+abbrev pub AcceptsProtoAddrs : ℕ → ℕ → Type 0
+AcceptsProtoAddrs sender target = (e : ArpProtoAddrError) → RefusesProtoAddrs sender target e → ⊥
+
+abbrev pub AcceptsAddrs : ℕ → ℕ → ℕ → ℕ → Type 0
+AcceptsAddrs sender_hw sender_proto target_hw target_proto = (e : ArpNewError) → RefusesAddrs sender_hw sender_proto target_hw target_proto e → ⊥

@@ -1,0 +1,233 @@
+//! ARP packets of Ethernet and IPv4 as values.
+ghost use Rattle.std.specs.Prelude.{◌≡◌, ◌++◌, Ok, Result};
+ghost use Rattle.std.specs.Net.Addr.{ipv4_octets};
+ghost use Rattle.ether_base.specs.declared.err.arp.arp_eth_ipv4_from_error.ArpEthIpv4FromError.{ArpEthIpv4FromError as from_error};
+ghost use Rattle.ether_base.specs.Arp.{arp_bytes};
+ghost use Rattle.ether_arp.specs.ArpEthIpv4.{AnswersEthIpv4, eth_ipv4_bytes, eth_ipv4_view};
+
+use crate::{ArpPacket, arp_fields};
+use ether_base::err::arp::ArpEthIpv4FromError;
+use ether_base::{ArpHardwareId, ArpOperation, EtherType};
+use std::net::Ipv4Addr;
+
+/// An ARP packet that asks for the MAC address of an IPv4 address, or answers: hardware type 1, protocol type 0x0800,
+/// addresses of 6 and of 4 bytes (RFC 826).
+///
+/// Who has 10.0.0.2?
+///
+/// ```
+/// let request = ArpEthIpv4Packet {
+///     operation: ArpOperation::REQUEST,
+///     sender_mac: [0x02, 0x00, 0x00, 0x00, 0x00, 0x01],
+///     sender_ipv4: [10, 0, 0, 1],
+///     target_mac: [0; 6],
+///     target_ipv4: [10, 0, 0, 2],
+/// };
+/// let read = ArpPacket::from_slice(&request.to_bytes())?;
+/// assert_eq!(read.try_eth_ipv4(), Ok(request));
+/// ```
+#[derive(Clone, Copy, PartialEq, Eq, Hash, Debug)]
+pub struct ArpEthIpv4Packet {
+    /// What the packet asks or answers.
+    pub operation: ArpOperation,
+    /// The MAC address of the sender.
+    pub sender_mac: [u8; 6],
+    /// The IPv4 address of the sender.
+    pub sender_ipv4: [u8; 4],
+    /// The MAC address of the target, which a request does not know.
+    pub target_mac: [u8; 6],
+    /// The IPv4 address of the target.
+    pub target_ipv4: [u8; 4],
+}
+
+impl ArpEthIpv4Packet {
+    /// The length of the packet in bytes.
+    pub const LEN: usize = 28;
+
+    /// The IPv4 address of the sender.
+    pub fn sender_ipv4_addr(&self) -> Ipv4Addr
+        ensures { ipv4_octets result ≡ self.now.sender_ipv4 }
+    {
+        let [a, b, c, d] = self.sender_ipv4;
+        Ipv4Addr::new(a, b, c, d)
+    }
+
+    /// The IPv4 address of the target.
+    pub fn target_ipv4_addr(&self) -> Ipv4Addr
+        ensures { ipv4_octets result ≡ self.now.target_ipv4 }
+    {
+        let [a, b, c, d] = self.target_ipv4;
+        Ipv4Addr::new(a, b, c, d)
+    }
+
+    /// The packet as it stands on the wire, numbers in network byte order.
+    pub fn to_bytes(&self) -> [u8; 28]
+        ensures { result ≡ eth_ipv4_bytes self.now }
+    {
+        let front = arp_fields::front_bytes(
+            ArpHardwareId::ETHERNET.0,
+            EtherType::IPV4.0,
+            6,
+            4,
+            self.operation.0,
+        );
+        joined(
+            front,
+            self.sender_mac,
+            self.sender_ipv4,
+            self.target_mac,
+            self.target_ipv4,
+        )
+    }
+
+    /// The packet as one of any hardware and any protocol. Read as a packet of Ethernet and IPv4, it is this packet.
+    pub fn to_arp_packet(&self) -> ArpPacket
+        ensures value { result ≡ eth_ipv4_view self.now }
+        ensures bytes { arp_bytes result ≡ eth_ipv4_bytes self.now }
+        ensures reads_back { (r : Result ArpEthIpv4Packet from_error) → AnswersEthIpv4 result r → r ≡ Ok self.now }
+    {
+        ArpPacket::holding(
+            ArpHardwareId::ETHERNET,
+            EtherType::IPV4,
+            self.operation,
+            &self.sender_mac,
+            &self.sender_ipv4,
+            &self.target_mac,
+            &self.target_ipv4,
+        )
+    }
+}
+
+/// Eight bytes and four addresses, one behind the other.
+fn joined(
+    front: [u8; 8],
+    sender_mac: [u8; 6],
+    sender_ipv4: [u8; 4],
+    target_mac: [u8; 6],
+    target_ipv4: [u8; 4],
+) -> [u8; 28]
+    ensures { result ≡ front ++ sender_mac ++ sender_ipv4 ++ target_mac ++ target_ipv4 }
+{
+    let (f, s, i, t, j) = (front, sender_mac, sender_ipv4, target_mac, target_ipv4);
+    [
+        f[0], f[1], f[2], f[3], f[4], f[5], f[6], f[7], s[0], s[1], s[2], s[3], s[4], s[5], i[0],
+        i[1], i[2], i[3], t[0], t[1], t[2], t[3], t[4], t[5], j[0], j[1], j[2], j[3],
+    ]
+}
+
+/// Refused as by [`ArpPacket::try_eth_ipv4`]; a refused packet is dropped.
+impl TryFrom<ArpPacket> for ArpEthIpv4Packet {
+    type Error = ArpEthIpv4FromError;
+
+    ghost try_from_gives = { λ packet r. AnswersEthIpv4 packet r };
+
+    fn try_from(packet: ArpPacket) -> Result<ArpEthIpv4Packet, ArpEthIpv4FromError> {
+        packet.try_eth_ipv4()
+    }
+}
+
+#[cfg(test)]
+mod tests {
+    use super::*;
+    use std::hash::{DefaultHasher, Hash, Hasher};
+    use std::test::Fail;
+
+    const REQUEST: ArpEthIpv4Packet = ArpEthIpv4Packet {
+        operation: ArpOperation::REQUEST,
+        sender_mac: [0x02, 0x00, 0x00, 0x00, 0x00, 0x01],
+        sender_ipv4: [10, 0, 0, 1],
+        target_mac: [0; 6],
+        target_ipv4: [10, 0, 0, 2],
+    };
+
+    const BYTES: [u8; 28] = [
+        0x00, 0x01, 0x08, 0x00, 0x06, 0x04, 0x00, 0x01, 0x02, 0x00, 0x00, 0x00, 0x00, 0x01, 0x0A,
+        0x00, 0x00, 0x01, 0x00, 0x00, 0x00, 0x00, 0x00, 0x00, 0x0A, 0x00, 0x00, 0x02,
+    ];
+
+    fn hash_of(packet: &ArpEthIpv4Packet) -> u64 {
+        let mut state = DefaultHasher::new();
+        packet.hash(&mut state);
+        state.finish()
+    }
+
+    #[test]
+    fn a_request_in_bytes(rt: HostRuntime) {
+        assert_eq!(rt; REQUEST.to_bytes(), BYTES);
+        assert_eq!(rt; BYTES.len(), ArpEthIpv4Packet::LEN);
+        assert_eq!(rt;
+            REQUEST.to_arp_packet().to_bytes().as_slice(),
+            BYTES.as_slice()
+        );
+    }
+
+    #[test]
+    fn there_and_back(rt: HostRuntime) -> Result<(), Fail> {
+        let read = ArpPacket::from_slice(&REQUEST.to_bytes())?;
+        assert_eq!(rt; read.try_eth_ipv4(), Ok(REQUEST));
+        assert_eq!(rt; REQUEST.to_arp_packet().try_eth_ipv4(), Ok(REQUEST));
+        let packet = ArpPacket::from(REQUEST);
+        assert_eq!(rt; packet, ArpPacket::from_slice(&BYTES)?);
+        assert_eq!(rt; ArpEthIpv4Packet::try_from(packet), Ok(REQUEST));
+        let mut other = REQUEST.to_arp_packet();
+        other.set_protocol_addrs(&[0; 16], &[0; 16])?;
+        assert_eq!(rt;
+            ArpEthIpv4Packet::try_from(other),
+            Err(ArpEthIpv4FromError::NonMatchingProtoAddrSize(16))
+        );
+        Ok(())
+    }
+
+    #[test]
+    fn the_addresses_of_ipv4(rt: HostRuntime) {
+        assert_eq!(rt; REQUEST.sender_ipv4_addr(), Ipv4Addr::new(10, 0, 0, 1));
+        assert_eq!(rt; REQUEST.target_ipv4_addr(), Ipv4Addr::new(10, 0, 0, 2));
+    }
+
+    #[test]
+    fn copied_compared_hashed_and_shown(rt: HostRuntime) -> Result<(), Fail> {
+        let copy = REQUEST;
+        assert_eq!(rt; copy, REQUEST.clone()?);
+        assert_eq!(rt; hash_of(&copy), hash_of(&REQUEST));
+        assert_ne!(rt;
+            copy,
+            ArpEthIpv4Packet {
+                operation: ArpOperation::REPLY,
+                ..copy
+            }
+        );
+        assert_ne!(rt;
+            copy,
+            ArpEthIpv4Packet {
+                sender_mac: [9; 6],
+                ..copy
+            }
+        );
+        assert_ne!(rt;
+            copy,
+            ArpEthIpv4Packet {
+                sender_ipv4: [9; 4],
+                ..copy
+            }
+        );
+        assert_ne!(rt;
+            copy,
+            ArpEthIpv4Packet {
+                target_mac: [9; 6],
+                ..copy
+            }
+        );
+        assert_ne!(rt;
+            copy,
+            ArpEthIpv4Packet {
+                target_ipv4: [9; 4],
+                ..copy
+            }
+        );
+        assert_eq!(rt;
+            format!(in rt.alloc(); "{copy:?}")?.as_str(),
+            "ArpEthIpv4Packet { operation: ArpOperation(1), sender_mac: [2, 0, 0, 0, 0, 1], sender_ipv4: [10, 0, 0, 1], target_mac: [0, 0, 0, 0, 0, 0], target_ipv4: [10, 0, 0, 2] }"
+        );
+        Ok(())
+    }
+}

@@ -1,0 +1,170 @@
+//! The fields of an ARP packet in the bytes that begin with it (RFC 826, "Packet format"): hardware type, protocol type,
+//! the two sizes and the operation in eight bytes, then the addresses of the sender and those of the target.
+ghost use Rattle.std.specs.Prelude.{◌≡◌, ◌+◌, ◌≤◌, ◌<◌, length, slice_range, IfOk, IfErr};
+ghost use Rattle.ether_base.specs.Arp.{ArpFront, FitsArpFront, arp_front_in, arp_front_number, arp_len, arp_of};
+ghost use Rattle.ether_base.specs.Bytes.{number, spelled};
+ghost use Rattle.ether_base.specs.Kind as kinds;
+ghost use Rattle.ether_base.specs.RefusedLen.{IsRefusedLen};
+ghost use Rattle.ether_arp.specs.Arp.{BeginsWithArp};
+
+use ether_base::err::{Layer, LenError};
+use ether_base::{ArpHardwareId, ArpOperation, EtherType, LenSource};
+
+/// The length of what stands before the addresses.
+const FRONT_LEN: usize = 8;
+
+/// Whether a slice begins with a packet, and what refuses it otherwise.
+pub fn test(slice: &[u8]) -> Result<(), LenError>
+    ensures holds { IfOk result (λ _. BeginsWithArp slice.now) }
+    ensures refused { IfErr result (IsRefusedLen slice.now kinds.Arp) }
+{
+    if slice.len() < FRONT_LEN {
+        return Err(cut_short(FRONT_LEN, slice.len(), LenSource::Slice));
+    }
+    let required_len = packet_len(slice);
+    if slice.len() < required_len {
+        return Err(cut_short(required_len, slice.len(), LenSource::ArpAddrLengths));
+    }
+    Ok(())
+}
+
+/// The length of the packet that the sizes tell.
+pub fn packet_len(packet: &[u8]) -> usize
+    requires { 8 ≤ length packet.now }
+    ensures { result ≡ arp_len (arp_front_in packet.now) }
+{
+    FRONT_LEN + 2 * usize::from(hw_addr_size(packet)) + 2 * usize::from(proto_addr_size(packet))
+}
+
+/// The hardware type.
+pub fn hw_addr_type(packet: &[u8]) -> ArpHardwareId
+    requires { 8 ≤ length packet.now }
+    ensures { result.0 ≡ (arp_front_in packet.now).hardware_type }
+{
+    ArpHardwareId(u16_at(packet, 0))
+}
+
+/// The protocol type.
+pub fn proto_addr_type(packet: &[u8]) -> EtherType
+    requires { 8 ≤ length packet.now }
+    ensures { result.0 ≡ (arp_front_in packet.now).protocol_type }
+{
+    EtherType(u16_at(packet, 2))
+}
+
+/// The size of a hardware address.
+pub fn hw_addr_size(packet: &[u8]) -> u8
+    requires { 8 ≤ length packet.now }
+    ensures { result ≡ (arp_front_in packet.now).hardware_size }
+{
+    packet[4]
+}
+
+/// The size of a protocol address.
+pub fn proto_addr_size(packet: &[u8]) -> u8
+    requires { 8 ≤ length packet.now }
+    ensures { result ≡ (arp_front_in packet.now).protocol_size }
+{
+    packet[5]
+}
+
+/// The operation.
+pub fn operation(packet: &[u8]) -> ArpOperation
+    requires { 8 ≤ length packet.now }
+    ensures { result.0 ≡ (arp_front_in packet.now).operation }
+{
+    ArpOperation(u16_at(packet, 6))
+}
+
+/// The sender's hardware address.
+pub fn sender_hw_addr(packet: &[u8]) -> &[u8]
+    requires { BeginsWithArp packet.now }
+    ensures address { result.now ≡ (arp_of packet.now).sender_hardware }
+    ensures len { length result.now ≡ (arp_front_in packet.now).hardware_size }
+    ensures fits { length result.now ≤ 255 }
+{
+    let hardware = usize::from(hw_addr_size(packet));
+    &packet[FRONT_LEN..FRONT_LEN + hardware]
+}
+
+/// The sender's protocol address.
+pub fn sender_protocol_addr(packet: &[u8]) -> &[u8]
+    requires { BeginsWithArp packet.now }
+    ensures address { result.now ≡ (arp_of packet.now).sender_protocol }
+    ensures len { length result.now ≡ (arp_front_in packet.now).protocol_size }
+    ensures fits { length result.now ≤ 255 }
+{
+    let start = FRONT_LEN + usize::from(hw_addr_size(packet));
+    &packet[start..start + usize::from(proto_addr_size(packet))]
+}
+
+/// The target's hardware address.
+pub fn target_hw_addr(packet: &[u8]) -> &[u8]
+    requires { BeginsWithArp packet.now }
+    ensures address { result.now ≡ (arp_of packet.now).target_hardware }
+    ensures len { length result.now ≡ (arp_front_in packet.now).hardware_size }
+    ensures fits { length result.now ≤ 255 }
+{
+    let hardware = usize::from(hw_addr_size(packet));
+    let start = FRONT_LEN + hardware + usize::from(proto_addr_size(packet));
+    &packet[start..start + hardware]
+}
+
+/// The target's protocol address.
+pub fn target_protocol_addr(packet: &[u8]) -> &[u8]
+    requires { BeginsWithArp packet.now }
+    ensures address { result.now ≡ (arp_of packet.now).target_protocol }
+    ensures len { length result.now ≡ (arp_front_in packet.now).protocol_size }
+    ensures fits { length result.now ≤ 255 }
+{
+    let protocol = usize::from(proto_addr_size(packet));
+    let start = FRONT_LEN + 2 * usize::from(hw_addr_size(packet)) + protocol;
+    &packet[start..start + protocol]
+}
+
+/// The bytes before the addresses.
+pub fn front_bytes(
+    hw_addr_type: u16,
+    proto_addr_type: u16,
+    hw_addr_size: u8,
+    proto_addr_size: u8,
+    operation: u16,
+) -> [u8; 8]
+    ensures { let front : ArpFront = record { hardware_type = hw_addr_type; protocol_type = proto_addr_type; hardware_size = hw_addr_size; protocol_size = proto_addr_size; operation = operation } in
+        (result ≡ spelled 8 (arp_front_number front)) × FitsArpFront front }
+{
+    let h = hw_addr_type.to_be_bytes();
+    let p = proto_addr_type.to_be_bytes();
+    let o = operation.to_be_bytes();
+    [
+        h[0],
+        h[1],
+        p[0],
+        p[1],
+        hw_addr_size,
+        proto_addr_size,
+        o[0],
+        o[1],
+    ]
+}
+
+/// Two bytes as a number, the first of them the higher one.
+fn u16_at(bytes: &[u8], at: usize) -> u16
+    requires { at + 2 ≤ length bytes.now }
+    ensures { result ≡ number (slice_range bytes.now at (at + 2)) }
+{
+    u16::from_be_bytes([bytes[at], bytes[at + 1]])
+}
+
+/// The error of a slice that is too short for a packet.
+fn cut_short(required_len: usize, len: usize, len_source: LenSource) -> LenError
+    ensures { result ≡ record { required_len = required_len; len = len; len_source = len_source; layer = Layer.Arp; layer_start_offset = 0 } }
+{
+    LenError {
+        required_len,
+        len,
+        len_source,
+        layer: Layer::Arp,
+        layer_start_offset: 0,
+    }
+}

@@ -1,0 +1,464 @@
+//! ARP packets as values.
+ghost use Rattle.std.specs.Hash as fed;
+ghost use Rattle.std.specs.Prelude.{⊤, ℕ, List, ◌≡◌, ◌+◌, ◌≤◌, ◌<◌, ◌++◌, ◌==◌, length, IfOk, IfErr, OnOk, OnErr, MatchResult};
+ghost use Rattle.std.proofs.Common.{rules};
+ghost use Rattle.std.specs.Cmp.Rules.{comparing, hashing};
+ghost use Rattle.std.specs.Cmp.Lexicographic.{pointwise};
+ghost use Rattle.std.specs.Ordering.{on, eq_of_both};
+ghost use Rattle.ether_base.specs.declared.len_source.LenSource.TheVariants as sources;
+ghost use Rattle.ether_base.specs.Arp.{ArpValue, FitsArp, arp_bytes, arp_front_number, arp_front_of, arp_len};
+ghost use Rattle.ether_base.specs.Bytes.{IsBytes, spelled};
+ghost use Rattle.ether_base.specs.Header as headers;
+ghost use Rattle.ether_base.specs.Header.{Means};
+ghost use Rattle.ether_base.specs.Kind as kinds;
+ghost use Rattle.ether_base.specs.Refusal.{Accepts};
+ghost use Rattle.ether_base.specs.RefusedLen.{IsRefusedLen};
+ghost use Rattle.ether_arp.specs.ArpAddresses.{AcceptsAddrs, AcceptsHwAddrs, AcceptsProtoAddrs, RefusesAddrs, RefusesHwAddrs, RefusesProtoAddrs};
+ghost use Rattle.ether_arp.specs.ArpEthIpv4.{AnswersEthIpv4};
+
+use crate::{ArpEthIpv4Packet, ArpPacketSlice, arp_fields};
+use arrayvec::ArrayVec;
+use ether_base::err::LenError;
+use ether_base::err::arp::{ArpEthIpv4FromError, ArpHwAddrError, ArpNewError, ArpProtoAddrError};
+use ether_base::{ArpHardwareId, ArpOperation, EtherType};
+use std::alloc::AllocError;
+use std::fmt;
+use std::hash::{Hash, Hasher};
+use std::marker::Model;
+
+/// The greatest length of an address, whose size is a byte.
+const MAX_ADDR_LEN: usize = 255;
+
+/// A packet of the Address Resolution Protocol (RFC 826): it asks which hardware address belongs to a protocol address, or
+/// answers.
+///
+/// The two hardware addresses have one length, at most 255 bytes, and so have the two protocol addresses. Equality and
+/// hashing are of what the packet says: types, sizes, operation and addresses.
+///
+/// The answer to a request for 10.0.0.2:
+///
+/// ```
+/// let mut packet = ArpPacket::from_slice(&request)?;
+/// packet.operation = ArpOperation::REPLY;
+/// packet.set_hw_addrs(&[2, 0, 0, 0, 0, 2], &[2, 0, 0, 0, 0, 1])?;
+/// packet.set_protocol_addrs(&[10, 0, 0, 2], &[10, 0, 0, 1])?;
+/// assert_eq!(packet.to_bytes().as_slice(), &reply);
+/// ```
+#[derive(Drop)]
+pub struct ArpPacket {
+    /// What kind of link the hardware addresses belong to.
+    pub hw_addr_type: ArpHardwareId,
+    /// The protocol that the protocol addresses belong to, as an ether type.
+    pub proto_addr_type: EtherType,
+    /// What the packet asks or answers.
+    pub operation: ArpOperation,
+    sender_hardware: ArrayVec<u8, 255>,
+    sender_protocol: ArrayVec<u8, 255>,
+    target_hardware: ArrayVec<u8, 255>,
+    target_protocol: ArrayVec<u8, 255>,
+}
+
+impl Model for ArpPacket {
+    ghost use Rattle.std.specs.Prelude.{◌≡◌, length};
+    ghost use Rattle.ether_base.specs.Arp.{ArpValue};
+    ghost use Rattle.ether_base.specs.Bytes.{IsBytes};
+
+    ghost Value = { ArpValue };
+
+    ghost view = { λ a. record {
+      hardware_type = a.hw_addr_type.0;
+      protocol_type = a.proto_addr_type.0;
+      operation = a.operation.0;
+      sender_hardware = a.sender_hardware.items;
+      sender_protocol = a.sender_protocol.items;
+      target_hardware = a.target_hardware.items;
+      target_protocol = a.target_protocol.items;
+    } };
+
+    ghost invariant = { λ a. (length a.target_hardware.items ≡ length a.sender_hardware.items) × (length a.target_protocol.items ≡ length a.sender_protocol.items)
+        × IsBytes a.sender_hardware.items × IsBytes a.sender_protocol.items × IsBytes a.target_hardware.items × IsBytes a.target_protocol.items };
+}
+
+impl ArpPacket {
+    /// The greatest length of a packet in bytes: with four addresses of 255 bytes.
+    pub const MAX_LEN: usize = 1028;
+
+    /// A packet with the given types, operation and addresses.
+    ///
+    /// Refused are, in this order: hardware addresses of two lengths, protocol addresses of two lengths, hardware
+    /// addresses of more than 255 bytes, protocol addresses of more than 255 bytes.
+    #[tactic(auto, using(crate::specs::ArpAddresses::hardware_unequal, crate::specs::ArpAddresses::protocol_unequal, crate::specs::ArpAddresses::hardware_too_long, crate::specs::ArpAddresses::protocol_too_long))]
+    pub fn new(
+        hw_addr_type: ArpHardwareId,
+        proto_addr_type: EtherType,
+        operation: ArpOperation,
+        sender_hw_addr: &[u8],
+        sender_protocol_addr: &[u8],
+        target_hw_addr: &[u8],
+        target_protocol_addr: &[u8],
+    ) -> Result<ArpPacket, ArpNewError>
+        ensures answers { MatchResult result (λ _. AcceptsAddrs (length sender_hw_addr.now) (length sender_protocol_addr.now) (length target_hw_addr.now) (length target_protocol_addr.now)) (RefusesAddrs (length sender_hw_addr.now) (length sender_protocol_addr.now) (length target_hw_addr.now) (length target_protocol_addr.now)) }
+        ensures holds { IfOk result (λ p. p ≡ record { hardware_type = hw_addr_type.0; protocol_type = proto_addr_type.0; operation = operation.0; sender_hardware = sender_hw_addr.now; sender_protocol = sender_protocol_addr.now; target_hardware = target_hw_addr.now; target_protocol = target_protocol_addr.now }) }
+    {
+        if sender_hw_addr.len() != target_hw_addr.len() {
+            return Err(ArpNewError::HwAddr(ArpHwAddrError::LenNonMatching(
+                sender_hw_addr.len(),
+                target_hw_addr.len(),
+            )));
+        }
+        if sender_protocol_addr.len() != target_protocol_addr.len() {
+            return Err(ArpNewError::ProtoAddr(ArpProtoAddrError::LenNonMatching(
+                sender_protocol_addr.len(),
+                target_protocol_addr.len(),
+            )));
+        }
+        if sender_hw_addr.len() > MAX_ADDR_LEN {
+            return Err(ArpNewError::HwAddr(ArpHwAddrError::LenTooBig(sender_hw_addr.len())));
+        }
+        if sender_protocol_addr.len() > MAX_ADDR_LEN {
+            return Err(ArpNewError::ProtoAddr(ArpProtoAddrError::LenTooBig(
+                sender_protocol_addr.len(),
+            )));
+        }
+        Ok(ArpPacket::holding(
+            hw_addr_type,
+            proto_addr_type,
+            operation,
+            sender_hw_addr,
+            sender_protocol_addr,
+            target_hw_addr,
+            target_protocol_addr,
+        ))
+    }
+
+    /// The packet of addresses that are known to fit.
+    pub(crate) fn holding(
+        hw_addr_type: ArpHardwareId,
+        proto_addr_type: EtherType,
+        operation: ArpOperation,
+        sender_hw_addr: &[u8],
+        sender_protocol_addr: &[u8],
+        target_hw_addr: &[u8],
+        target_protocol_addr: &[u8],
+    ) -> ArpPacket
+        requires hardware { length target_hw_addr.now ≡ length sender_hw_addr.now }
+        requires protocol { length target_protocol_addr.now ≡ length sender_protocol_addr.now }
+        requires hardware_size { length sender_hw_addr.now ≤ 255 }
+        requires protocol_size { length sender_protocol_addr.now ≤ 255 }
+        ensures { result ≡ record { hardware_type = hw_addr_type.0; protocol_type = proto_addr_type.0; operation = operation.0; sender_hardware = sender_hw_addr.now; sender_protocol = sender_protocol_addr.now; target_hardware = target_hw_addr.now; target_protocol = target_protocol_addr.now } }
+    {
+        ArpPacket {
+            hw_addr_type,
+            proto_addr_type,
+            operation,
+            sender_hardware: kept(sender_hw_addr),
+            sender_protocol: kept(sender_protocol_addr),
+            target_hardware: kept(target_hw_addr),
+            target_protocol: kept(target_protocol_addr),
+        }
+    }
+
+    /// The packet that a slice begins with, refused as by [`ArpPacketSlice::from_slice`]. What follows it is ignored.
+    pub fn from_slice(slice: &[u8]) -> Result<ArpPacket, LenError>
+        ensures accepted { IfOk result (λ p. Accepts sources.Slice slice.now kinds.Arp) }
+        ensures value { IfOk result (λ p. Means slice.now (headers.Arp p)) }
+        ensures refused { IfErr result (IsRefusedLen slice.now kinds.Arp) }
+    {
+        Ok(ArpPacketSlice::from_slice(slice)?.to_packet())
+    }
+
+    /// The size of a hardware address in bytes.
+    pub fn hw_addr_size(&self) -> u8
+        ensures sender { result ≡ length self.now.sender_hardware }
+        ensures target { result ≡ length self.now.target_hardware }
+    {
+        self.sender_hardware.len() as u8
+    }
+
+    /// The size of a protocol address in bytes.
+    pub fn protocol_addr_size(&self) -> u8
+        ensures sender { result ≡ length self.now.sender_protocol }
+        ensures target { result ≡ length self.now.target_protocol }
+    {
+        self.sender_protocol.len() as u8
+    }
+
+    /// The hardware address of the sender.
+    pub fn sender_hw_addr(&self) -> &[u8]
+        ensures { result.now ≡ self.now.sender_hardware }
+    {
+        self.sender_hardware.as_slice()
+    }
+
+    /// The protocol address of the sender.
+    pub fn sender_protocol_addr(&self) -> &[u8]
+        ensures { result.now ≡ self.now.sender_protocol }
+    {
+        self.sender_protocol.as_slice()
+    }
+
+    /// The hardware address of the target, which a request does not know.
+    pub fn target_hw_addr(&self) -> &[u8]
+        ensures { result.now ≡ self.now.target_hardware }
+    {
+        self.target_hardware.as_slice()
+    }
+
+    /// The protocol address of the target.
+    pub fn target_protocol_addr(&self) -> &[u8]
+        ensures { result.now ≡ self.now.target_protocol }
+    {
+        self.target_protocol.as_slice()
+    }
+
+    /// Replaces both hardware addresses, and with them their size.
+    ///
+    /// Refused are addresses of two lengths, then addresses of more than 255 bytes. The packet is then as it was.
+    #[tactic(auto, using(crate::specs::ArpAddresses::hw_unequal, crate::specs::ArpAddresses::hw_too_long))]
+    pub fn set_hw_addrs(
+        &mut self,
+        sender_hw_addr: &[u8],
+        target_hw_addr: &[u8],
+    ) -> Result<(), ArpHwAddrError>
+        ensures answers { MatchResult result (λ _. AcceptsHwAddrs (length sender_hw_addr.now) (length target_hw_addr.now)) (RefusesHwAddrs (length sender_hw_addr.now) (length target_hw_addr.now)) }
+        ensures set { OnOk result (self.new ≡ record self.old { sender_hardware = sender_hw_addr.now; target_hardware = target_hw_addr.now }) }
+        ensures unchanged { OnErr result (self.new ≡ self.old) }
+    {
+        let len = sender_hw_addr.len();
+        if len != target_hw_addr.len() {
+            return Err(ArpHwAddrError::LenNonMatching(len, target_hw_addr.len()));
+        }
+        if len > MAX_ADDR_LEN {
+            return Err(ArpHwAddrError::LenTooBig(len));
+        }
+        self.sender_hardware = kept(sender_hw_addr);
+        self.target_hardware = kept(target_hw_addr);
+        Ok(())
+    }
+
+    /// Replaces both protocol addresses, and with them their size.
+    ///
+    /// Refused are addresses of two lengths, then addresses of more than 255 bytes. The packet is then as it was.
+    #[tactic(auto, using(crate::specs::ArpAddresses::proto_unequal, crate::specs::ArpAddresses::proto_too_long))]
+    pub fn set_protocol_addrs(
+        &mut self,
+        sender_protocol_addr: &[u8],
+        target_protocol_addr: &[u8],
+    ) -> Result<(), ArpProtoAddrError>
+        ensures answers { MatchResult result (λ _. AcceptsProtoAddrs (length sender_protocol_addr.now) (length target_protocol_addr.now)) (RefusesProtoAddrs (length sender_protocol_addr.now) (length target_protocol_addr.now)) }
+        ensures set { OnOk result (self.new ≡ record self.old { sender_protocol = sender_protocol_addr.now; target_protocol = target_protocol_addr.now }) }
+        ensures unchanged { OnErr result (self.new ≡ self.old) }
+    {
+        let len = sender_protocol_addr.len();
+        if len != target_protocol_addr.len() {
+            return Err(ArpProtoAddrError::LenNonMatching(len, target_protocol_addr.len()));
+        }
+        if len > MAX_ADDR_LEN {
+            return Err(ArpProtoAddrError::LenTooBig(len));
+        }
+        self.sender_protocol = kept(sender_protocol_addr);
+        self.target_protocol = kept(target_protocol_addr);
+        Ok(())
+    }
+
+    /// The length of the packet in bytes, 8 to [`ArpPacket::MAX_LEN`].
+    pub fn packet_len(&self) -> usize
+        ensures { result ≡ arp_len (arp_front_of self.now) }
+    {
+        8 + 2 * usize::from(self.hw_addr_size()) + 2 * usize::from(self.protocol_addr_size())
+    }
+
+    /// The packet as it stands on the wire, numbers in network byte order: [`ArpPacket::packet_len`] bytes.
+    ///
+    /// Read again, whatever follows them, they are this packet.
+    pub fn to_bytes(&self) -> ArrayVec<u8, 1028>
+        ensures value { result.items ≡ arp_bytes self.now }
+        ensures len { length result.items ≡ arp_len (arp_front_of self.now) }
+        ensures fits { FitsArp self.now }
+        ensures accepted { (more : List ℕ) → Accepts sources.Slice (result.items ++ more) kinds.Arp }
+        ensures read { (more : List ℕ) → Means (result.items ++ more) (headers.Arp self.now) }
+    {
+        self.spelled()
+    }
+
+    /// The bytes of the packet, whose numbers have room in them.
+    fn spelled(&self) -> ArrayVec<u8, 1028>
+        ensures value { result.items ≡ arp_bytes self.now }
+        ensures fits { FitsArp self.now }
+    {
+        let mut bytes = ArrayVec::new();
+        put(&mut bytes, &self.front());
+        put(&mut bytes, self.sender_hw_addr());
+        put(&mut bytes, self.sender_protocol_addr());
+        put(&mut bytes, self.target_hw_addr());
+        put(&mut bytes, self.target_protocol_addr());
+        bytes
+    }
+
+    /// The bytes before the addresses.
+    fn front(&self) -> [u8; 8]
+        ensures value { result ≡ spelled 8 (arp_front_number (arp_front_of self.now)) }
+        ensures fits { FitsArp self.now }
+    {
+        arp_fields::front_bytes(
+            self.hw_addr_type.0,
+            self.proto_addr_type.0,
+            self.sender_hardware.len() as u8,
+            self.sender_protocol.len() as u8,
+            self.operation.0,
+        )
+    }
+
+    /// The packet as one of Ethernet and IPv4.
+    ///
+    /// Refused are, in this order: another hardware type than Ethernet's, another protocol type than that of IPv4,
+    /// hardware addresses that have not 6 bytes, protocol addresses that have not 4.
+    #[tactic(auto, using(crate::proofs::Refusals::row_hardware_type, crate::proofs::Refusals::row_protocol_type, crate::proofs::Refusals::row_hardware_size, crate::proofs::Refusals::row_protocol_size, crate::proofs::Refusals::differs, crate::proofs::Refusals::agrees))]
+    pub fn try_eth_ipv4(&self) -> Result<ArpEthIpv4Packet, ArpEthIpv4FromError>
+        ensures { AnswersEthIpv4 self.now result }
+    {
+        if self.hw_addr_type != ArpHardwareId::ETHERNET {
+            return Err(ArpEthIpv4FromError::NonMatchingHwType(self.hw_addr_type));
+        }
+        if self.proto_addr_type != EtherType::IPV4 {
+            return Err(ArpEthIpv4FromError::NonMatchingProtocolType(self.proto_addr_type));
+        }
+        let hw_addr_size = self.hw_addr_size();
+        if hw_addr_size != 6 {
+            return Err(ArpEthIpv4FromError::NonMatchingHwAddrSize(hw_addr_size));
+        }
+        let protocol_addr_size = self.protocol_addr_size();
+        if protocol_addr_size != 4 {
+            return Err(ArpEthIpv4FromError::NonMatchingProtoAddrSize(protocol_addr_size));
+        }
+        Ok(ArpEthIpv4Packet {
+            operation: self.operation,
+            sender_mac: six(self.sender_hw_addr()),
+            sender_ipv4: four(self.sender_protocol_addr()),
+            target_mac: six(self.target_hw_addr()),
+            target_ipv4: four(self.target_protocol_addr()),
+        })
+    }
+}
+
+/// An address in a buffer of its own.
+fn kept(address: &[u8]) -> ArrayVec<u8, 255>
+    requires { length address.now ≤ 255 }
+    ensures items { result.items ≡ address.now }
+    ensures bytes { IsBytes result.items }
+{
+    let mut buffer = ArrayVec::new();
+    buffer.try_extend_from_slice(address).unwrap();
+    buffer
+}
+
+/// Appends bytes.
+fn put(bytes: &mut ArrayVec<u8, 1028>, part: &[u8])
+    requires { length bytes.old.items + length part.now ≤ 1028 }
+    ensures items { bytes.new.items ≡ bytes.old.items ++ part.now }
+    ensures len { length bytes.new.items ≡ length bytes.old.items + length part.now }
+{
+    bytes.try_extend_from_slice(part).unwrap();
+}
+
+/// An address of six bytes.
+fn six(address: &[u8]) -> [u8; 6]
+    requires { length address.now ≡ 6 }
+    ensures { result ≡ address.now }
+{
+    [
+        address[0], address[1], address[2], address[3], address[4], address[5],
+    ]
+}
+
+/// An address of four bytes.
+fn four(address: &[u8]) -> [u8; 4]
+    requires { length address.now ≡ 4 }
+    ensures { result ≡ address.now }
+{
+    [address[0], address[1], address[2], address[3]]
+}
+
+impl From<ArpEthIpv4Packet> for ArpPacket {
+    ghost use Rattle.std.specs.Prelude.{◌≡◌};
+    ghost use Rattle.ether_arp.specs.ArpEthIpv4.{eth_ipv4_view};
+
+    ghost from_gives = { λ packet a. a ≡ eth_ipv4_view packet };
+
+    fn from(packet: ArpEthIpv4Packet) -> ArpPacket {
+        packet.to_arp_packet()
+    }
+}
+
+impl Clone for ArpPacket {
+    ghost is_clone = { λ a b. b ≡ a };
+
+    ghost is_infallible = { λ _. ⊤ };
+
+    fn clone(&self) -> Result<Self, AllocError> {
+        Ok(ArpPacket {
+            hw_addr_type: self.hw_addr_type,
+            proto_addr_type: self.proto_addr_type,
+            operation: self.operation,
+            sender_hardware: self.sender_hardware.clone()?,
+            sender_protocol: self.sender_protocol.clone()?,
+            target_hardware: self.target_hardware.clone()?,
+            target_protocol: self.target_protocol.clone()?,
+        })
+    }
+}
+
+impl PartialEq for ArpPacket {
+    ghost eq = { eq_of_both (on (λ a. a.hardware_type) ◌==◌) (eq_of_both (on (λ a. a.protocol_type) ◌==◌) (eq_of_both (on (λ a. a.operation) ◌==◌) (eq_of_both (on (λ a. a.sender_hardware) (pointwise ◌==◌)) (eq_of_both (on (λ a. a.sender_protocol) (pointwise ◌==◌)) (eq_of_both (on (λ a. a.target_hardware) (pointwise ◌==◌)) (on (λ a. a.target_protocol) (pointwise ◌==◌))))))) };
+
+    ghost laws = { Prim.search (comparing, rules) depth 16 };
+
+    fn eq(&self, other: &ArpPacket) -> bool {
+        self.hw_addr_type == other.hw_addr_type
+            && self.proto_addr_type == other.proto_addr_type
+            && self.operation == other.operation
+            && self.sender_hardware == other.sender_hardware
+            && self.sender_protocol == other.sender_protocol
+            && self.target_hardware == other.target_hardware
+            && self.target_protocol == other.target_protocol
+    }
+}
+
+impl Eq for ArpPacket {
+    ghost laws = { Prim.search (comparing, rules) depth 16 };
+}
+
+impl Hash for ArpPacket {
+    ghost hash_input = { λ a. fed.u16 a.hardware_type ++ fed.u16 a.protocol_type ++ fed.u16 a.operation ++ fed.slice fed.u8 a.sender_hardware ++ fed.slice fed.u8 a.sender_protocol ++ fed.slice fed.u8 a.target_hardware ++ fed.slice fed.u8 a.target_protocol };
+
+    ghost respects_eq = { Prim.search (hashing, rules) depth 16 };
+
+    fn hash<H: Hasher>(&self, state: &mut H) {
+        self.hw_addr_type.hash(state);
+        self.proto_addr_type.hash(state);
+        self.operation.hash(state);
+        self.sender_hw_addr().hash(state);
+        self.sender_protocol_addr().hash(state);
+        self.target_hw_addr().hash(state);
+        self.target_protocol_addr().hash(state);
+    }
+}
+
+impl fmt::Debug for ArpPacket {
+    fn fmt<W: fmt::Write>(&self, f: &mut fmt::Formatter<W>) -> fmt::Result {
+        f.debug_struct("ArpPacket")
+            .field("hw_addr_type", &self.hw_addr_type)
+            .field("proto_addr_type", &self.proto_addr_type)
+            .field("hw_addr_size", &self.hw_addr_size())
+            .field("proto_addr_size", &self.protocol_addr_size())
+            .field("operation", &self.operation)
+            .field("sender_hw_addr", &self.sender_hw_addr())
+            .field("sender_protocol_addr", &self.sender_protocol_addr())
+            .field("target_hw_addr", &self.target_hw_addr())
+            .field("target_protocol_addr", &self.target_protocol_addr())
+            .finish()
+    }
+}
+
+#[cfg(test)]
+mod tests;

@@ -1,0 +1,14 @@
+//! ARP packets (RFC 826), of any hardware and any protocol.
+#![tactic(auto)]
+
+mod arp_eth_ipv4_packet;
+mod arp_fields;
+mod arp_packet;
+mod arp_packet_slice;
+#[cfg(test)]
+mod derived_traits;
+pub mod laws;
+
+pub use arp_eth_ipv4_packet::ArpEthIpv4Packet;
+pub use arp_packet::ArpPacket;
+pub use arp_packet_slice::ArpPacketSlice;
