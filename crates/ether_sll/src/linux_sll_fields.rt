@@ -140,7 +140,6 @@ fn address(bytes: &[u8]) -> [u8; 8]
     ensures value { result ≡ slice_range bytes.now 6 14 }
     ensures bytes { IsBytes result }
 {
-    [
-        bytes[6], bytes[7], bytes[8], bytes[9], bytes[10], bytes[11], bytes[12], bytes[13],
-    ]
+    let b = bytes;
+    [b[6], b[7], b[8], b[9], b[10], b[11], b[12], b[13]]
 }

@@ -90,9 +90,8 @@ pub fn sci(bytes: &[u8]) -> Option<u64>
     ensures { result ≡ (sec_tag_of bytes.now).sci }
 {
     if sci_present(bytes) {
-        Some(u64_of([
-            bytes[6], bytes[7], bytes[8], bytes[9], bytes[10], bytes[11], bytes[12], bytes[13],
-        ]))
+        let b = bytes;
+        Some(u64_of([b[6], b[7], b[8], b[9], b[10], b[11], b[12], b[13]]))
     } else {
         None
     }
