@@ -1,3 +1,4 @@
+-- The hardware types with a description, and how a hardware type is shown.
 use Rattle.std.specs.Prelude.{ℕ, List, [], ◌∷◌, ◌++◌, Option, Some, None, codes, nat_lt, if◌then◌else◌}
 use Rattle.std.specs.Fmt.{decimal}
 use Rattle.ether_base.specs.NumberText.{description_in, hex_number, described}

@@ -1,3 +1,4 @@
+-- Fields with a greatest number.
 use Rattle.std.specs.Prelude.{ℕ, ◌≡◌, ◌≤◌, ◌<◌, Result, MatchResult}
 use Rattle.ether_base.specs.declared.err.value_too_big_error.ValueTooBigError.{ValueTooBigError}
 use Rattle.ether_base.specs.declared.err.value_type.ValueType.{ValueType}

@@ -1,3 +1,4 @@
+-- The ether types with a description (IEEE 802, 9.2), and how an ether type is shown.
 use Rattle.std.specs.Prelude.{ℕ, List, [], ◌∷◌, Option, Some, None, codes}
 use Rattle.ether_base.specs.NumberText.{description_in, hex_number, described}
 

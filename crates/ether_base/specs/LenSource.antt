@@ -1,3 +1,4 @@
+-- How sources of lengths are named in errors, and their order.
 use Rattle.std.specs.Prelude.{ℕ, List, codes}
 use Rattle.ether_base.specs.declared.len_source.LenSource.{LenSource}
 use Rattle.ether_base.specs.declared.len_source.LenSource.TheVariants.{Slice, MacsecShortLength, Ipv4HeaderTotalLen, Ipv6HeaderPayloadLen, UdpHeaderLen, TcpHeaderLen, ArpAddrLengths}

@@ -1,3 +1,4 @@
+-- The texts of errors of lengths, of space for writing, and of values that are too big.
 use Rattle.std.specs.Prelude.{ℕ, List, ◌++◌, Option, Some, codes, nat_lt, if◌then◌else◌}
 use Rattle.std.specs.Fmt.{decimal, ◌++?◌}
 use Rattle.ether_base.specs.declared.err.layer.Layer.{Layer}

@@ -1,3 +1,4 @@
+-- Protocols that Linux numbers below the ether types.
 use Rattle.std.specs.Prelude.{ℕ, Bool, List, [], ◌∷◌, Option, is_some, codes}
 use Rattle.ether_base.specs.NumberText.{description_in}
 

@@ -1,3 +1,4 @@
+-- The texts of the errors of Linux cooked capture v1.
 use Rattle.std.specs.Prelude.{ℕ, List, ◌++◌, codes}
 use Rattle.std.specs.Fmt.{decimal}
 use Rattle.ether_base.specs.declared.err.linux_sll.header_error.HeaderError.{HeaderError}

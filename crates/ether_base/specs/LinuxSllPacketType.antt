@@ -1,3 +1,4 @@
+-- Who sent a packet of a cooked capture, and to whom.
 use Rattle.std.specs.Prelude.{ℕ, List, [], ◌∷◌, codes}
 
 -- the packet types of Linux cooked capture v1 (LINKTYPE_LINUX_SLL), and what they mean

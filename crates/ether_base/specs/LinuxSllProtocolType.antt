@@ -1,3 +1,4 @@
+-- What the protocol number of a cooked capture means, by the hardware type of its link.
 use Rattle.std.specs.Prelude.{ℕ, Result, Ok, Err, ◌==◌, if◌then◌else◌}
 use Rattle.ether_base.specs.declared.arp_hardware_id.ArpHardwareId.{ArpHardwareId}
 use Rattle.ether_base.specs.declared.err.linux_sll.header_error.HeaderError.{HeaderError}

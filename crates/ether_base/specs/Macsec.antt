@@ -1,4 +1,4 @@
--- The MAC Security TAG behind its own ether type (IEEE 802.1AE, 9.3), and the ether type behind it where it can be read.
+-- The MACsec SecTag (IEEE 802.1AE, 9.3) from behind its own ether type, with the ether type that follows it where that can be read.
 use Rattle.std.specs.Prelude.{◌≡◌, ℕ, zero, suc, ◌+◌, ◌*◌, ◌/◌, ◌%◌, ◌^◌, ◌<◌, List, [], ◌++◌, slice_range, Option, Some, None}
 use Rattle.ether_base.specs.Bytes.{number, spelled}
 

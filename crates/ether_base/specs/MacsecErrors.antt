@@ -1,3 +1,4 @@
+-- The texts of the errors of the MACsec SecTag.
 use Rattle.std.specs.Prelude.{ℕ, List, codes}
 use Rattle.ether_base.specs.declared.err.macsec.header_error.HeaderError.{HeaderError}
 use Rattle.ether_base.specs.declared.err.macsec.header_error.HeaderError.TheVariants.{UnexpectedVersion, InvalidUnmodifiedShortLen}

@@ -1,3 +1,4 @@
+-- Numbers as text, and descriptions in a table.
 use Rattle.std.specs.Prelude.{ℕ, ◌/◌, ◌%◌, List, [], ◌∷◌, ◌++◌, Option, Some, None, true, codes, ◌==◌, if◌then◌else◌}
 use Rattle.std.specs.Fmt.{digit_glyph}
 

@@ -1,8 +1,9 @@
+-- How fields are named in errors, and their order.
 use Rattle.std.specs.Prelude.{ℕ, List, codes}
 use Rattle.ether_base.specs.declared.err.value_type.ValueType.{ValueType}
 use Rattle.ether_base.specs.declared.err.value_type.ValueType.TheVariants.{VlanId, VlanPcp, MacsecAn, MacsecShortLen, IpFragmentOffset, IpDscp, IpEcn, Ipv6FlowLabel, Ipv4PayloadLength, Ipv6PayloadLength, UdpPayloadLengthIpv4, UdpPayloadLengthIpv6, TcpPayloadLengthIpv4, TcpPayloadLengthIpv6, Icmpv6PayloadLength, LinuxSllType}
 
--- how a kind of value is named within a text
+-- how a field is named within a text
 abbrev pub value_type_name : ValueType → List ℕ
 value_type_name VlanId = codes "VLAN ID"
 value_type_name VlanPcp = codes "VLAN PCP (Priority Code Point)"

@@ -1,5 +1,5 @@
-//! The laws of the wire formats and of the orders. Each is the contract of a function that does nothing: its clause holds for every list
-//! of bytes and for every two values.
+//! The laws of the wire formats and of the orders. Each is the contract of a function that does nothing: its clause holds
+//! for every list of bytes and for every two values.
 ghost use Rattle.ether_base.specs.Laws.{NumbersAreBytes, RowsAreApart, LengthRowsAreShort, HeadersAreMeant, BytesMeanTheirHeader};
 ghost use Rattle.ether_base.specs.Orders.{OrdersAreByVariants};
 

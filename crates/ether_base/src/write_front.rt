@@ -5,7 +5,7 @@ ghost use Rattle.ether_base.specs.WriteFront.{AnswersRest, LendsRest};
 
 use crate::err::{Layer, SliceWriteSpaceError};
 
-/// Writes the bytes to the front of a slice that has room for them, and hands the whole slice back.
+/// Writes the bytes to the front of a slice, and returns the whole slice. A slice that is too short stays as it was.
 pub fn put<'a, const N: usize>(bytes: [u8; N], slice: &'a mut [u8]) -> &'a mut [u8]
     ensures same_reference { result.ghost_name ≡ slice.entry.ghost_name }
     ensures wrote { N ≤ length slice.old → result.now ≡ bytes.entry ++ drop N slice.old }
@@ -17,7 +17,7 @@ pub fn put<'a, const N: usize>(bytes: [u8; N], slice: &'a mut [u8]) -> &'a mut [
     slice
 }
 
-/// The bytes behind the first `required_len`, lent for writing; refused where there are fewer than these.
+/// The part of a slice behind its first `required_len` bytes, refused where the slice is shorter.
 pub fn rest_from(
     slice: &mut [u8],
     required_len: usize,

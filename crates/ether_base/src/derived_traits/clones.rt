@@ -1,8 +1,10 @@
-//! A clone is `Ok` and equals its source, at each type but `ValueTooBigError`, whose clone does what its number's does.
+//! A clone is `Ok` and equals its source, at each type.
 ghost use Rattle.std.specs.Prelude.{◌≡◌};
 
 use crate::err::arp::{ArpEthIpv4FromError, ArpHwAddrError, ArpNewError, ArpProtoAddrError};
-use crate::err::{Layer, LenError, SliceWriteSpaceError, ValueType, linux_sll, macsec};
+use crate::err::{
+    Layer, LenError, SliceWriteSpaceError, ValueTooBigError, ValueType, linux_sll, macsec,
+};
 use crate::{
     ArpHardwareId, ArpOperation, EtherType, LenSource, LinuxNonstandardEtherType,
     LinuxSllPacketType, LinuxSllProtocolType, MacsecAn, MacsecShortLen, VlanId, VlanPcp,
@@ -162,6 +164,22 @@ pub fn clone_of_macsec_header_error(
 pub fn clone_of_macsec_header_slice_error(
     value: &macsec::HeaderSliceError,
 ) -> Result<macsec::HeaderSliceError, AllocError>
+    ensures { result ≡ Ok value.now }
+{
+    value.clone()
+}
+
+pub fn clone_of_value_too_big_error_of_u16(
+    value: &ValueTooBigError<u16>,
+) -> Result<ValueTooBigError<u16>, AllocError>
+    ensures { result ≡ Ok value.now }
+{
+    value.clone()
+}
+
+pub fn clone_of_value_too_big_error_of_u8(
+    value: &ValueTooBigError<u8>,
+) -> Result<ValueTooBigError<u8>, AllocError>
     ensures { result ≡ Ok value.now }
 {
     value.clone()
