@@ -1,6 +1,8 @@
 //! What callers learn of the derived traits, of the constants, of what is read back and of what is written through a
 //! lent header, at each type of this crate. These functions are proved and never run.
-ghost use Rattle.std.specs.Prelude.{◌≡◌, ◌↔◌, IsTrue, MatchOption, Ok};
+ghost use Rattle.std.specs.Prelude.{◌≡◌, ◌↔◌, ◌++◌, IsTrue, MatchOption, Ok, Some};
+ghost use Rattle.std.specs.Hash as fed;
+ghost use Rattle.ether_base.specs.Hashes.{hashed, protocol_type_fed};
 ghost use Rattle.std.specs.Ordering.{nat_cmp, on, then_cmp};
 ghost use Rattle.std.specs.Cmp.Lexicographic.{slice_cmp};
 ghost use Rattle.ether_base.specs.LinuxSllProtocolType.{protocol_number, protocol_place, protocol_type_of};
@@ -14,6 +16,7 @@ use ether_base::err::linux_sll::HeaderError;
 use ether_tags::Ethernet2Header;
 use std::alloc::AllocError;
 use std::cmp::Ordering;
+use std::hash::{DefaultHasher, Hash, Hasher};
 
 pub fn clone_of_linux_sll_header(value: &LinuxSllHeader) -> Result<LinuxSllHeader, AllocError>
     ensures { result ≡ Ok value.now }
@@ -97,6 +100,29 @@ pub fn order_of_linux_sll_payload_slices(
     ensures { result ≡ then_cmp (then_cmp (on (λ p. protocol_place p.protocol_type) nat_cmp) (on (λ p. protocol_number p.protocol_type) nat_cmp)) (on (λ p. p.payload.now) (slice_cmp nat_cmp)) a.now b.now }
 {
     a.cmp(b)
+}
+
+fn partial_order_of<T: Ord>(a: &T, b: &T) -> Option<Ordering>
+    ensures { result ≡ Some (T.cmp a.now b.now) }
+{
+    a.partial_cmp(b)
+}
+
+pub fn partial_order_of_linux_sll_payload_slices(
+    a: &LinuxSllPayloadSlice<'_>,
+    b: &LinuxSllPayloadSlice<'_>,
+) -> Option<Ordering>
+    ensures { result ≡ Some (then_cmp (then_cmp (on (λ p. protocol_place p.protocol_type) nat_cmp) (on (λ p. protocol_number p.protocol_type) nat_cmp)) (on (λ p. p.payload.now) (slice_cmp nat_cmp)) a.now b.now) }
+{
+    partial_order_of(a, b)
+}
+
+pub fn hash_of_linux_sll_payload_slice(value: &LinuxSllPayloadSlice<'_>) -> u64
+    ensures { result ≡ hashed (protocol_type_fed value.now.protocol_type ++ fed.slice fed.u8 value.now.payload.now) }
+{
+    let mut state = DefaultHasher::new();
+    value.hash(&mut state);
+    state.finish()
 }
 
 pub fn len() -> usize

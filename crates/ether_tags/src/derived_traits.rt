@@ -1,6 +1,8 @@
 //! What callers learn of the derived traits and of the constants, at each type of this crate. These functions are
 //! proved and never run.
-ghost use Rattle.std.specs.Prelude.{◌≡◌, ◌↔◌, IsTrue, map, [], ◌∷◌};
+ghost use Rattle.std.specs.Prelude.{◌≡◌, ◌↔◌, IsTrue, Some, map, [], ◌∷◌};
+ghost use Rattle.ether_base.specs.Hashes.{hashed};
+ghost use Rattle.ether_tags.specs.Hashes.{ether_payload_slice_fed, macsec_p_type_fed};
 ghost use Rattle.std.specs.Ordering.{nat_cmp, on, then_cmp};
 ghost use Rattle.std.specs.Cmp.Lexicographic.{slice_cmp};
 ghost use Rattle.ether_base.specs.LenSource.{len_source_place};
@@ -18,6 +20,7 @@ use crate::{
 use ether_base::EtherType;
 use std::alloc::AllocError;
 use std::cmp::Ordering;
+use std::hash::{DefaultHasher, Hash, Hasher};
 
 pub fn clone_of_ethernet2_header(value: &Ethernet2Header) -> Result<Ethernet2Header, AllocError>
     ensures { result ≡ Ok value.now }
@@ -242,6 +245,21 @@ pub fn order_of_ether_payload_slices(
     a.cmp(b)
 }
 
+fn partial_order_of<T: Ord>(a: &T, b: &T) -> Option<Ordering>
+    ensures { result ≡ Some (T.cmp a.now b.now) }
+{
+    a.partial_cmp(b)
+}
+
+pub fn partial_order_of_ether_payload_slices(
+    a: &EtherPayloadSlice<'_>,
+    b: &EtherPayloadSlice<'_>,
+) -> Option<Ordering>
+    ensures { result ≡ Some (then_cmp (on (λ p. p.ether_type.0) nat_cmp) (then_cmp (on (λ p. len_source_place p.len_source) nat_cmp) (on (λ p. p.payload.now) (slice_cmp nat_cmp))) a.now b.now) }
+{
+    partial_order_of(a, b)
+}
+
 pub fn default_ethernet2_header() -> Ethernet2Header
     ensures { ethernet2_view result ≡ record { destination = 0; source = 0; ether_type = 0 } }
 {
@@ -252,6 +270,33 @@ pub fn default_single_vlan_header() -> SingleVlanHeader
     ensures { vlan_view result ≡ record { pcp = 0; dei = 0; vid = 0; ether_type = 0 } }
 {
     SingleVlanHeader::default()
+}
+
+pub fn default_double_vlan_header() -> DoubleVlanHeader
+    ensures outer { vlan_view result.outer ≡ record { pcp = 0; dei = 0; vid = 0; ether_type = 0x8100 } }
+    ensures inner { vlan_view result.inner ≡ record { pcp = 0; dei = 0; vid = 0; ether_type = 0 } }
+{
+    DoubleVlanHeader::default()
+}
+
+fn hash_of<T: Hash>(value: &T) -> u64
+    ensures { result ≡ hashed (T.hash_input value.now) }
+{
+    let mut state = DefaultHasher::new();
+    value.hash(&mut state);
+    state.finish()
+}
+
+pub fn hash_of_ether_payload_slice(value: &EtherPayloadSlice<'_>) -> u64
+    ensures { result ≡ hashed (ether_payload_slice_fed value.now) }
+{
+    hash_of(value)
+}
+
+pub fn hash_of_macsec_p_type(value: &MacsecPType) -> u64
+    ensures { result ≡ hashed (macsec_p_type_fed value.now) }
+{
+    hash_of(value)
 }
 
 pub fn vlan_ether_types() -> [EtherType; 3]
