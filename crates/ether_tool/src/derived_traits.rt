@@ -3,7 +3,7 @@ ghost use Rattle.std.specs.Prelude.{◌≡◌, ◌↔◌, IsTrue};
 
 use crate::line_buffer::LineEnd;
 use crate::mode::{Mode, Usage};
-use crate::outcome::{ToolFault, Verdict};
+use crate::outcome::{Ending, LastLine, ToolFault, Verdict};
 use crate::peel::{PeelError, PeelFault, PeelUnit, RestKind, Start};
 use crate::plain::{PlainEnding, PlainHeader, PlainWindow};
 use std::alloc::AllocError;
@@ -202,6 +202,42 @@ pub fn same_plain_header(a: &PlainHeader, b: &PlainHeader) -> bool
 
 pub fn same_plain_window(a: &PlainWindow, b: &PlainWindow) -> bool
     ensures { IsTrue result ↔ (a.now ≡ b.now) }
+{
+    *a == *b
+}
+
+pub fn clone_of_last_line(value: &LastLine) -> Result<LastLine, AllocError>
+    ensures { result ≡ Ok value.now }
+{
+    value.clone()
+}
+
+pub fn copy_of_last_line(value: LastLine) -> (LastLine, LastLine)
+    ensures { result ≡ (value, value) }
+{
+    (value, value)
+}
+
+pub fn clone_of_ending(value: &Ending) -> Result<Ending, AllocError>
+    ensures { result ≡ Ok value.now }
+{
+    value.clone()
+}
+
+pub fn copy_of_ending(value: Ending) -> (Ending, Ending)
+    ensures { result ≡ (value, value) }
+{
+    (value, value)
+}
+
+pub fn same_last_line(a: &LastLine, b: &LastLine) -> bool
+    ensures { IsTrue result ↔ (a.now ≡ b.now) }
+{
+    *a == *b
+}
+
+pub fn same_ending(a: &Ending, b: &Ending) -> bool
+    ensures { IsTrue result ↔ ((a.now.line ≡ b.now.line) × (a.now.status ≡ b.now.status)) }
 {
     *a == *b
 }

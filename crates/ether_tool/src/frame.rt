@@ -8,10 +8,11 @@ pub const MAX_FRAME_LEN: usize = 2048;
 /// The number of digits of the longest line: two for each byte of a frame.
 pub const MAX_LINE_DIGITS: usize = 2 * MAX_FRAME_LEN;
 
-/// The count of bytes of the frame that `line` names, which then begin `out`.
+/// Reads the frame that `line` names to the front of `out`, and returns its length in bytes.
 ///
-/// `line` is given without its end. Digits of either case count. Where the answer is `None`,
-/// nothing is said of `out`.
+/// `line` is given without its line ending, as pairs of hexadecimal digits of either case. `None`
+/// where it has more than 4,096 digits, an odd number of them, or a character that is no digit;
+/// nothing is said of `out` then.
 pub fn frame_of(line: &[u8], out: &mut [u8; MAX_FRAME_LEN]) -> Option<usize>
     ensures within { IfSome result (λ count. count ≤ max_frame_len) }
     ensures frame { IfSome result (λ count. IsFrame line.now (take count out.new)) }

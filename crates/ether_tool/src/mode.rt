@@ -16,9 +16,9 @@ pub enum Mode {
 #[derive(Clone, Copy, PartialEq, Eq, Debug)]
 pub struct Usage;
 
-/// The mode that the words name: no word at all and the one word `eth` are [`Mode::Eth`].
+/// The mode that the words name: no word at all, or the one word `eth`, is [`Mode::Eth`].
 ///
-/// The words are the arguments behind the program's own name. Their case counts.
+/// The words are the arguments without the program's own name. Their case matters.
 pub fn mode_of(words: &[&str]) -> Result<Mode, Usage>
     ensures ok { IfOk result (NamesMode (map (λ word. word.now) words.now)) }
     ensures err { OnErr result (NamesNoMode (map (λ word. word.now) words.now)) }

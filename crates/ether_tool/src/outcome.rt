@@ -10,7 +10,7 @@ use thiserror::Error;
 /// What a run that read all its input found.
 #[derive(Clone, Copy, PartialEq, Eq, Debug)]
 pub enum Verdict {
-    /// Each frame was accepted, as where there was none.
+    /// Each frame was accepted; so too where there was no frame.
     AllAccepted,
     /// Some frame was refused.
     SomeRefused,
@@ -30,8 +30,8 @@ impl Verdict {
 /// Why a run stopped before it had answered all its input.
 #[derive(PartialEq, Eq, Debug, Drop, Error)]
 pub enum ToolFault {
-    /// The line of this number is no frame. Lines are counted from 1, and the count stays at its
-    /// greatest value.
+    /// The line of this number names no frame. Lines are counted from 1, and the count stays at
+    /// `u64::MAX`.
     #[error("line {0}: bad line")]
     BadLine(u64),
     /// The reader failed, or never came to an end.
@@ -169,5 +169,7 @@ mod tests {
         assert!(rt; ToolFault::BadLine(1) != ToolFault::Input);
         assert!(rt; ToolFault::Input != ToolFault::Output);
         assert!(rt; Verdict::AllAccepted != Verdict::SomeRefused);
+        assert!(rt; LastLine::BadLine(1) != LastLine::BadLine(2));
+        assert!(rt; LastLine::BadLine(1) != LastLine::Usage);
     }
 }

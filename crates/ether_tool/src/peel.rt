@@ -11,25 +11,25 @@ use ether_base::err::LenError;
 use ether_tags::{EtherPayloadSlice, Ethernet2Slice, SingleVlanSlice, VlanHeader};
 use std::marker::Model;
 
-/// What the bytes of a walk begin with.
+/// What a frame begins with.
 #[derive(Clone, Copy, PartialEq, Eq, Debug)]
 pub enum Start {
-    /// An Ethernet II header; no frame check sequence ends the bytes.
+    /// An Ethernet II header; the frame has no frame check sequence at its end.
     Ethernet2,
     /// What an ether type announces.
     EtherType(EtherType),
 }
 
-/// A unit of a stack, as a view of the bytes in which it was read.
+/// A header of the frame with what it carries, as a view of the bytes in which it was read.
 #[derive(Clone, PartialEq, Eq, Debug, Drop)]
 pub enum PeelUnit<'a> {
-    /// The Ethernet II header, read once and first.
+    /// The Ethernet II header, which is the first unit.
     Ethernet2(Ethernet2Slice<'a>),
-    /// A VLAN tag, behind an ether type that announces one.
+    /// A VLAN tag, the TCI and the next ether type, behind an ether type that announces one (IEEE 802.1Q).
     Vlan(SingleVlanSlice<'a>),
 }
 
-/// What the window left to read is announced as.
+/// What is announced for the bytes that are left to read.
 #[derive(Clone, Copy, PartialEq, Eq, Debug)]
 pub enum RestKind {
     /// The header of the start, which is not read yet.
@@ -41,18 +41,18 @@ pub enum RestKind {
 /// What is wrong with a unit.
 #[derive(Clone, PartialEq, Eq, Debug, Drop)]
 pub enum PeelError {
-    /// Bytes are missing.
+    /// The unit needs more bytes than there are.
     Len(LenError),
 }
 
-/// The unit that ends a walk because it is refused.
+/// A unit that was refused, which ends the walk.
 #[derive(Clone, PartialEq, Eq, Debug, Drop)]
 pub struct PeelFault {
-    /// Where the unit starts, in bytes from the start of the bytes.
+    /// Where the unit starts, in bytes from the start of the frame.
     pub offset: usize,
-    /// Whether the unit's window is closed: further bytes behind them would not belong to it.
+    /// Whether the unit's window is closed: bytes that follow the frame would not belong to it.
     pub closed: bool,
-    /// Why it is refused. A length error has the unit's start as its offset; its lengths count from there.
+    /// Why it is refused. A length error has the unit's start as its `layer_start_offset`; its lengths count from there.
     pub error: PeelError,
 }
 
@@ -103,7 +103,7 @@ impl<'a> Peel<'a> {
         self.rest
     }
 
-    /// Where the window left to read starts, in bytes from the start of the bytes.
+    /// Where the window left to read starts, in bytes from the start of the frame.
     pub fn offset(&self) -> usize
         ensures value { result ≡ self.now.offset }
         ensures fits { self.now.offset + length self.now.rest < 2 ^ 64 }

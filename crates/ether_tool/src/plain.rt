@@ -38,7 +38,7 @@ pub enum PlainHeader {
 pub struct PlainWindow {
     pub start: usize,
     pub end: usize,
-    /// Whether further bytes behind the frame would not belong to it.
+    /// Whether bytes that follow the frame would not belong to it.
     pub closed: bool,
 }
 
