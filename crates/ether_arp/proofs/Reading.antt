@@ -11,9 +11,8 @@ use Rattle.ether_base.specs.Header as headers
 use Rattle.ether_base.specs.Kind as kinds
 use Rattle.ether_base.specs.Refusal.{Accepts}
 use Rattle.ether_base.specs.Refusal as rows
-use Rattle.ether_base.proofs.Cells.{cells-is}
-use Rattle.ether_base.proofs.Fields.{number-part_below, number-part_join}
-use Rattle.ether_base.proofs.Parts.{length-part, part_of_front, IsBytes-part}
+use Rattle.ether_base.proofs.ArrayElements.{cells-is}
+use Rattle.ether_base.proofs.SubLists.{length-part, part_of_front, IsBytes-part, number-part_below, number-part_join}
 use Rattle.ether_base.proofs.Rows.{accepts_arp}
 use Rattle.ether_arp.specs.Arp.{BeginsWithArp, HoldsArp}
 

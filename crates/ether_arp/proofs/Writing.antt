@@ -12,7 +12,7 @@ use Rattle.ether_base.specs.Kind as kinds
 use Rattle.ether_base.specs.Refusal.{Accepts}
 use Rattle.ether_base.specs.RefusedLen.{IsRefusedLen}
 use Rattle.ether_base.proofs.Numbers.{IsBytes-nil, IsBytes-cons, IsBytes-append, IsBytes-spelled, spelled-is}
-use Rattle.ether_base.proofs.Cells.{cells}
+use Rattle.ether_base.proofs.ArrayElements.{cells}
 use Rattle.ether_base.proofs.ReadBack.{means-header_bytes}
 use Rattle.ether_base.proofs.Means.{arp_begins, one_header}
 use Rattle.ether_base.proofs.Rows.{accepts_arp}

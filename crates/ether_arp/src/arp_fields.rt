@@ -1,20 +1,21 @@
 //! The fields of an ARP packet in the bytes that begin with it (RFC 826, "Packet format"): hardware type, protocol type,
 //! the two sizes and the operation in eight bytes, then the addresses of the sender and those of the target.
-ghost use Rattle.std.specs.Prelude.{◌≡◌, ◌+◌, ◌≤◌, ◌<◌, length, slice_range, IfOk, IfErr};
+ghost use Rattle.std.specs.Prelude.{◌≡◌, ◌+◌, ◌≤◌, ◌<◌, length, IfOk, IfErr};
 ghost use Rattle.ether_base.specs.Arp.{ArpFront, FitsArpFront, arp_front_in, arp_front_number, arp_len, arp_of};
-ghost use Rattle.ether_base.specs.Bytes.{number, spelled};
+ghost use Rattle.ether_base.specs.Bytes.{spelled};
 ghost use Rattle.ether_base.specs.Kind as kinds;
 ghost use Rattle.ether_base.specs.RefusedLen.{IsRefusedLen};
 ghost use Rattle.ether_arp.specs.Arp.{BeginsWithArp};
 
+use ether_base::big_endian::u16_of;
 use ether_base::err::{Layer, LenError};
 use ether_base::{ArpHardwareId, ArpOperation, EtherType, LenSource};
 
 /// The length of what stands before the addresses.
 const FRONT_LEN: usize = 8;
 
-/// Whether a slice begins with a packet, and what refuses it otherwise.
-pub fn test(slice: &[u8]) -> Result<(), LenError>
+/// Tests that a slice begins with a packet.
+pub fn require_packet(slice: &[u8]) -> Result<(), LenError>
     ensures holds { IfOk result (λ _. BeginsWithArp slice.now) }
     ensures refused { IfErr result (IsRefusedLen slice.now kinds.Arp) }
 {
@@ -41,7 +42,7 @@ pub fn hw_addr_type(packet: &[u8]) -> ArpHardwareId
     requires { 8 ≤ length packet.now }
     ensures { result.0 ≡ (arp_front_in packet.now).hardware_type }
 {
-    ArpHardwareId(u16_at(packet, 0))
+    ArpHardwareId(u16_of([packet[0], packet[1]]))
 }
 
 /// The protocol type.
@@ -49,7 +50,7 @@ pub fn proto_addr_type(packet: &[u8]) -> EtherType
     requires { 8 ≤ length packet.now }
     ensures { result.0 ≡ (arp_front_in packet.now).protocol_type }
 {
-    EtherType(u16_at(packet, 2))
+    EtherType(u16_of([packet[2], packet[3]]))
 }
 
 /// The size of a hardware address.
@@ -73,7 +74,7 @@ pub fn operation(packet: &[u8]) -> ArpOperation
     requires { 8 ≤ length packet.now }
     ensures { result.0 ≡ (arp_front_in packet.now).operation }
 {
-    ArpOperation(u16_at(packet, 6))
+    ArpOperation(u16_of([packet[6], packet[7]]))
 }
 
 /// The sender's hardware address.
@@ -146,14 +147,6 @@ pub fn front_bytes(
         o[0],
         o[1],
     ]
-}
-
-/// Two bytes as a number, the first of them the higher one.
-fn u16_at(bytes: &[u8], at: usize) -> u16
-    requires { at + 2 ≤ length bytes.now }
-    ensures { result ≡ number (slice_range bytes.now at (at + 2)) }
-{
-    u16::from_be_bytes([bytes[at], bytes[at + 1]])
 }
 
 /// The error of a slice that is too short for a packet.

@@ -1,5 +1,5 @@
 use Rattle.std.proofs.Common.{◌≡◌, ℕ, List, ◌++◌, length, ap, ◌∙◌, rules}
-use Rattle.ether_base.proofs.Cells.{cells, cells-all}
+use Rattle.ether_base.proofs.ArrayElements.{cells, cells-all}
 use Rattle.ether_arp.proofs.arp_eth_ipv4_packet.joined.Goals as goal
 
 pub returns : goal.returns

@@ -7,7 +7,7 @@ use Rattle.ether_base.specs.Refusal.{Length, Refuses}
 use Rattle.ether_base.specs.Refusal as rows
 use Rattle.ether_base.specs.RefusedLen.{IsRefusedLen}
 use Rattle.ether_arp.proofs.Reading.{arp_begins_read}
-use Rattle.ether_arp.proofs.arp_fields.test.Goals as goal
+use Rattle.ether_arp.proofs.arp_fields.require_packet.Goals as goal
 
 pub returns-then-slice-lt-FRONT_LEN-clause-refused : goal.returns-then-slice-lt-FRONT_LEN-clause-refused
 returns-then-slice-lt-FRONT_LEN-clause-refused c =
