@@ -9,6 +9,7 @@ ghost use Rattle.ether_base.specs.LenSource.{len_source_place};
 ghost use Rattle.ether_tags.specs.Macsec.{SamePayload, SameTagged, tag_bytes};
 ghost use Rattle.ether_tags.specs.LinkExt.{SameExt};
 ghost use Rattle.ether_tags.specs.Ethernet2.{ethernet2_view};
+ghost use Rattle.ether_base.specs.Vlan.{vlan_ether_types};
 ghost use Rattle.ether_tags.specs.Vlan.{vlan_view};
 
 use crate::{
@@ -300,7 +301,7 @@ pub fn hash_of_macsec_p_type(value: &MacsecPType) -> u64
 }
 
 pub fn vlan_ether_types() -> [EtherType; 3]
-    ensures { map (λ ether_type. ether_type.0) result ≡ 0x8100 ∷ 0x88A8 ∷ 0x9100 ∷ [] }
+    ensures { map (λ ether_type. ether_type.0) result ≡ vlan_ether_types }
 {
     VlanHeader::VLAN_ETHER_TYPES
 }

@@ -1,10 +1,11 @@
 -- What is expected at a place, and what that announces.
-use Rattle.std.specs.Prelude.{ℕ, Option, Some, None, Bool, true, false, nat_eq, if◌then◌else◌, ◌||◌}
+use Rattle.std.specs.Prelude.{ℕ, Option, Some, None, Bool, true, false, if◌then◌else◌}
 use Rattle.ether_base.specs.declared.linux_sll_protocol_type.LinuxSllProtocolType.{LinuxSllProtocolType}
 use Rattle.ether_base.specs.declared.linux_sll_protocol_type.LinuxSllProtocolType.TheVariants as protocols
 use Rattle.ether_base.specs.LinuxSllProtocolType.{protocol_of}
 use Rattle.ether_base.specs.Macsec.{PayloadType}
 use Rattle.ether_base.specs.Macsec as payloads
+use Rattle.ether_base.specs.Vlan.{is_vlan_ether_type}
 use Rattle.ether_base.specs.Kind.{Kind}
 use Rattle.ether_base.specs.Kind as kinds
 use Rattle.ether_base.specs.Header.{Header}
@@ -21,7 +22,7 @@ pub data Expectation : Type 0 where
 -- The kind that an ether type announces (IEEE 802.1Q, table 9-1, and the older 0x9100). The types of the security tag,
 -- 0x88E5, and of ARP, 0x0806, announce nothing yet: this is the one place to widen.
 abbrev pub announced_by : ℕ → Option Kind
-announced_by t = if nat_eq t 0x8100 || nat_eq t 0x88A8 || nat_eq t 0x9100 then Some kinds.Vlan else None
+announced_by t = if is_vlan_ether_type t then Some kinds.Vlan else None
 
 abbrev pub announced : Expectation → Option Kind
 announced (Start kind) = Some kind

@@ -1,5 +1,5 @@
 -- Reading one unit.
-use Rattle.std.specs.Prelude.{◌≡◌, ℕ, List, length, slice_range, Option, Some, None, Result, Ok, Err, Bool, nat_eq, ◌||◌}
+use Rattle.std.specs.Prelude.{◌≡◌, ℕ, List, length, slice_range, Option, Some, None, Result, Ok, Err}
 use Rattle.ether_base.specs.declared.len_source.LenSource.TheVariants as sources
 use Rattle.ether_base.specs.declared.err.len_error.LenError.{LenError}
 use Rattle.ether_base.specs.Kind.{Kind}
@@ -9,9 +9,6 @@ use Rattle.ether_base.specs.RefusedLen.{IsRefusedLen}
 use Rattle.ether_tool.specs.Expectation.{Expectation, EtherType, announced, after}
 use Rattle.ether_tool.specs.Peel.{ShowsUnit}
 use Rattle.ether_tool.specs.declared.peel.UnitRead.{UnitRead}
-
-abbrev pub is_vlan_type : ℕ → Bool
-is_vlan_type t = nat_eq t 0x8100 || nat_eq t 0x88A8 || nat_eq t 0x9100
 
 -- the bytes begin with a unit, whose payload goes on to their end
 pub record IsUnitRead (kind : Kind) (bytes : List ℕ) (r : UnitRead) : Type 0 where

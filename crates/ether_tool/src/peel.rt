@@ -4,7 +4,8 @@ ghost use Rattle.ether_base.specs.Header.{Header};
 ghost use Rattle.ether_base.specs.Kind as kinds;
 ghost use Rattle.ether_tool.specs.Stack.{Ending, whole, Walk};
 ghost use Rattle.ether_tool.specs.PeelStart.{start_of};
-ghost use Rattle.ether_tool.specs.PeelRead.{ReadsUnit, ReadsKind, is_vlan_type};
+ghost use Rattle.ether_base.specs.Vlan.{is_vlan_ether_type};
+ghost use Rattle.ether_tool.specs.PeelRead.{ReadsUnit, ReadsKind};
 
 use ether_base::EtherType;
 use ether_base::err::LenError;
@@ -184,7 +185,7 @@ fn read_unit<'a>(expected: Start, bytes: &'a [u8]) -> Option<Result<UnitRead<'a>
 
 /// Whether an ether type announces a VLAN tag.
 fn is_vlan(ether_type: EtherType) -> bool
-    ensures { result ≡ is_vlan_type ether_type.0 }
+    ensures { result ≡ is_vlan_ether_type ether_type.0 }
 {
     VlanHeader::VLAN_ETHER_TYPES.contains(&ether_type)
 }
