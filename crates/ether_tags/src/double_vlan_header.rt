@@ -1,16 +1,25 @@
 //! Two VLAN tags as a value.
-ghost use Rattle.std.specs.Prelude.{◌≡◌};
-ghost use Rattle.ether_tags.specs.Vlan.{vlan_view};
-
 use crate::SingleVlanHeader;
 use ether_base::EtherType;
 
-/// Two VLAN tags, the inner one right behind the outer one. Nothing ties the two: the outer tag's ether type may be any.
+/// Two VLAN tags (QinQ), the inner one right behind the outer one.
+///
+/// Public fields are not checked against each other: the outer tag's ether type may be any, though in a frame it is the
+/// TPID of the inner tag.
+///
+/// ```
+/// let mut tags = DoubleVlanHeader::default();
+/// tags.outer.vlan_id = VlanId::try_new(10)?;
+/// tags.inner.vlan_id = VlanId::try_new(100)?;
+/// tags.inner.ether_type = EtherType::IPV4;
+/// assert_eq!(rt; tags.outer.to_bytes(), [0x00, 0x0A, 0x81, 0x00]);
+/// assert_eq!(rt; tags.inner.to_bytes(), [0x00, 0x64, 0x08, 0x00]);
+/// ```
 #[derive(Clone, Copy, PartialEq, Eq, Debug)]
 pub struct DoubleVlanHeader {
-    /// The tag that comes first.
+    /// The tag that comes first; its ether type is the TPID of the inner tag.
     pub outer: SingleVlanHeader,
-    /// The tag behind it, which names the protocol of what follows both.
+    /// The tag behind it; its ether type names the protocol of what follows both.
     pub inner: SingleVlanHeader,
 }
 
@@ -20,7 +29,7 @@ impl Default for DoubleVlanHeader {
 
     ghost is_default = { λ h. (vlan_view h.outer ≡ record { pcp = 0; dei = 0; vid = 0; ether_type = 0x8100 }) × (vlan_view h.inner ≡ record { pcp = 0; dei = 0; vid = 0; ether_type = 0 }) };
 
-    /// An outer tag that announces another tag, all else zero.
+    /// An outer tag with the ether type [`EtherType::VLAN_TAGGED_FRAME`], all else zero.
     fn default() -> DoubleVlanHeader {
         DoubleVlanHeader {
             outer: SingleVlanHeader {
@@ -35,35 +44,44 @@ impl Default for DoubleVlanHeader {
 #[cfg(test)]
 mod tests {
     use super::*;
-    use ether_base::{VlanId, VlanPcp};
+    use ether_base::VlanId;
     use std::test::Fail;
 
-    fn announcing_a_tag() -> DoubleVlanHeader
-        ensures outer { vlan_view result.outer ≡ record { pcp = 0; dei = 0; vid = 0; ether_type = 0x8100 } }
-        ensures inner { vlan_view result.inner ≡ record { pcp = 0; dei = 0; vid = 0; ether_type = 0 } }
-    {
-        DoubleVlanHeader::default()
+    #[test]
+    fn the_example(rt: HostRuntime) -> Result<(), Fail> {
+        let mut tags = DoubleVlanHeader::default();
+        tags.outer.vlan_id = VlanId::try_new(10)?;
+        tags.inner.vlan_id = VlanId::try_new(100)?;
+        tags.inner.ether_type = EtherType::IPV4;
+        assert_eq!(rt; tags.outer.to_bytes(), [0x00, 0x0A, 0x81, 0x00]);
+        assert_eq!(rt; tags.inner.to_bytes(), [0x00, 0x64, 0x08, 0x00]);
+        Ok(())
     }
 
     #[test]
-    fn the_default_announces_a_tag(rt: HostRuntime) -> Result<(), Fail> {
-        let header = announcing_a_tag();
-        let zero = SingleVlanHeader {
-            pcp: VlanPcp::ZERO,
-            drop_eligible_indicator: false,
-            vlan_id: VlanId::ZERO,
-            ether_type: EtherType(0),
-        };
-        assert_eq!(rt; header.inner, zero);
+    fn the_default_announces_the_inner_tag(rt: HostRuntime) {
+        let tags = DoubleVlanHeader::default();
+        assert_eq!(rt; tags.outer.to_bytes(), [0, 0, 0x81, 0x00]);
+        assert_eq!(rt; tags.inner.to_bytes(), [0; 4]);
+    }
+
+    #[test]
+    fn tags_differ_by_each_field(rt: HostRuntime) {
+        let tags = DoubleVlanHeader::default();
+        let mut outer = DoubleVlanHeader::default();
+        outer.outer.ether_type = EtherType::PROVIDER_BRIDGING;
+        let mut inner = DoubleVlanHeader::default();
+        inner.inner.ether_type = EtherType::IPV4;
+        assert_eq!(rt; tags, DoubleVlanHeader::default());
+        assert_ne!(rt; tags, outer);
+        assert_ne!(rt; tags, inner);
+    }
+
+    #[test]
+    fn shown_by_its_fields(rt: HostRuntime) -> Result<(), Fail> {
+        let tags = DoubleVlanHeader::default();
         assert_eq!(rt;
-            header.outer,
-            SingleVlanHeader {
-                ether_type: EtherType(0x8100),
-                ..zero
-            }
-        );
-        assert_eq!(rt;
-            format!(in rt.alloc(); "{header:?}")?.as_str(),
+            format!(in rt.alloc(); "{tags:?}")?.as_str(),
             "DoubleVlanHeader { outer: SingleVlanHeader { pcp: VlanPcp(0), drop_eligible_indicator: false, vlan_id: VlanId(0), ether_type: 0x8100 (Customer VLAN Tag (C-TAG) as defined in IEEE Std 802.1Q) }, inner: SingleVlanHeader { pcp: VlanPcp(0), drop_eligible_indicator: false, vlan_id: VlanId(0), ether_type: 0x0000 } }"
         );
         Ok(())

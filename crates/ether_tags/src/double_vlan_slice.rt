@@ -7,9 +7,19 @@ ghost use Rattle.ether_tags.specs.Vlan.{vlan_view};
 use crate::{DoubleVlanHeader, EtherPayloadSlice, SingleVlanSlice};
 use std::fmt;
 
-/// Two VLAN tags and the payload of the inner one.
+/// A view of two VLAN tags (QinQ) and their payload.
 ///
-/// Nothing ties the two views of a value that a caller filled: the inner one may stand anywhere.
+/// Public fields are not checked against each other: in a packet the inner view is the payload of the outer one.
+///
+/// ```
+/// let bytes = [0x00, 0x0A, 0x81, 0x00, 0x00, 0x64, 0x08, 0x00, 0x45];
+/// let outer = SingleVlanSlice::from_slice(&bytes)?;
+/// let inner = SingleVlanSlice::from_slice(outer.payload_slice())?;
+/// let tags = DoubleVlanSlice { outer, inner };
+/// assert_eq!(rt; tags.outer.vlan_identifier().value(), 10);
+/// assert_eq!(rt; tags.inner.vlan_identifier().value(), 100);
+/// assert_eq!(rt; tags.payload_slice(), [0x45].as_slice());
+/// ```
 #[derive(Clone, PartialEq, Eq, Drop)]
 pub struct DoubleVlanSlice<'a> {
     /// The tag that comes first, and its payload.
@@ -30,7 +40,8 @@ impl<'a> DoubleVlanSlice<'a> {
         }
     }
 
-    /// The payload of the inner tag and its type. Its length is always the inner slice's, less the tag.
+    /// The payload of the inner tag and its ether type. The length of the inner view decides how long it is, so its
+    /// `len_source` is `LenSource::Slice`.
     pub fn payload(&self) -> EtherPayloadSlice<'a>
         ensures ether_type { result.ether_type.0 ≡ (vlan_of self.now.inner).ether_type }
         ensures len_source { result.len_source ≡ sources.Slice }
@@ -60,47 +71,91 @@ impl fmt::Debug for DoubleVlanSlice<'_> {
 #[cfg(test)]
 mod tests {
     use super::*;
-    use crate::{SingleVlanHeader, VlanHeader};
+    use crate::SingleVlanHeader;
+    use crate::test_frames::{TWICE_TAGGED_ARP_REQUEST, TWO_TAGS};
     use ether_base::{EtherType, LenSource};
-    use std::alloc::AllocError;
     use std::test::Fail;
 
-    fn copy_of<'a>(view: &DoubleVlanSlice<'a>) -> Result<DoubleVlanSlice<'a>, AllocError>
-        ensures { result ≡ Ok view.now }
-    {
-        view.clone()
+    /// A view of two tags, the inner one right behind the outer one.
+    fn two_tags(bytes: &[u8]) -> Result<DoubleVlanSlice<'_>, Fail> {
+        let outer = SingleVlanSlice::from_slice(bytes)?;
+        let inner = SingleVlanSlice::from_slice(outer.payload_slice())?;
+        Ok(DoubleVlanSlice { outer, inner })
     }
 
     #[test]
-    fn two_tags_and_the_payload(rt: HostRuntime) -> Result<(), Fail> {
-        let bytes = [0x00, 0x01, 0x81, 0x00, 0x00, 0x02, 0x08, 0x00, 0x45];
-        let view = DoubleVlanSlice {
-            outer: SingleVlanSlice::from_slice(&bytes)?,
-            inner: SingleVlanSlice::from_slice(&bytes[4..])?,
-        };
+    fn the_example(rt: HostRuntime) -> Result<(), Fail> {
+        let bytes = [0x00, 0x0A, 0x81, 0x00, 0x00, 0x64, 0x08, 0x00, 0x45];
+        let outer = SingleVlanSlice::from_slice(&bytes)?;
+        let inner = SingleVlanSlice::from_slice(outer.payload_slice())?;
+        let tags = DoubleVlanSlice { outer, inner };
+        assert_eq!(rt; tags.outer.vlan_identifier().value(), 10);
+        assert_eq!(rt; tags.inner.vlan_identifier().value(), 100);
+        assert_eq!(rt; tags.payload_slice(), [0x45].as_slice());
+        Ok(())
+    }
+
+    #[test]
+    fn two_captured_tags(rt: HostRuntime) -> Result<(), Fail> {
+        let frame = TWICE_TAGGED_ARP_REQUEST;
+        let tags = two_tags(&frame[14..])?;
+        assert_eq!(rt; tags.outer.vlan_identifier().value(), 10);
+        assert_eq!(rt; tags.outer.ether_type(), EtherType::VLAN_TAGGED_FRAME);
+        assert_eq!(rt; tags.inner.vlan_identifier().value(), 100);
+        assert_eq!(rt; tags.inner.ether_type(), EtherType::ARP);
+        Ok(())
+    }
+
+    #[test]
+    fn both_tags_as_a_value(rt: HostRuntime) -> Result<(), Fail> {
         assert_eq!(rt;
-            view.to_header(),
+            two_tags(&TWO_TAGS)?.to_header(),
             DoubleVlanHeader {
                 outer: SingleVlanHeader::from_bytes([0x00, 0x01, 0x81, 0x00]),
                 inner: SingleVlanHeader::from_bytes([0x00, 0x02, 0x08, 0x00]),
             }
         );
+        Ok(())
+    }
+
+    #[test]
+    fn the_payload_of_the_inner_tag(rt: HostRuntime) -> Result<(), Fail> {
+        let tags = two_tags(&TWO_TAGS)?;
+        assert_eq!(rt; tags.payload_slice(), [0x45].as_slice());
         assert_eq!(rt;
-            VlanHeader::Double(view.to_header()).next_header(),
-            EtherType::IPV4
-        );
-        assert_eq!(rt; view.payload_slice(), [0x45].as_slice());
-        assert_eq!(rt;
-            view.payload(),
+            tags.payload(),
             EtherPayloadSlice {
                 ether_type: EtherType::IPV4,
                 len_source: LenSource::Slice,
                 payload: &[0x45],
             }
         );
-        assert_eq!(rt; copy_of(&view)?, view);
+        Ok(())
+    }
+
+    #[test]
+    fn views_differ_by_each_field(rt: HostRuntime) -> Result<(), Fail> {
+        let tags = two_tags(&TWO_TAGS)?;
+        let other = SingleVlanSlice::from_slice(&[0x00, 0x03, 0x08, 0x00])?;
+        let outer = DoubleVlanSlice {
+            outer: other.clone()?,
+            inner: tags.inner.clone()?,
+        };
+        let inner = DoubleVlanSlice {
+            outer: tags.outer.clone()?,
+            inner: other,
+        };
+        assert_eq!(rt; tags.clone()?, tags);
+        assert_ne!(rt; tags, outer);
+        assert_ne!(rt; tags, inner);
+        Ok(())
+    }
+
+    #[test]
+    fn shown_by_tags_and_payload(rt: HostRuntime) -> Result<(), Fail> {
+        let tags = two_tags(&TWO_TAGS)?;
         assert_eq!(rt;
-            format!(in rt.alloc(); "{view:?}")?.as_str(),
+            format!(in rt.alloc(); "{tags:?}")?.as_str(),
             "DoubleVlanSlice { outer: SingleVlanHeader { pcp: VlanPcp(0), drop_eligible_indicator: false, vlan_id: VlanId(1), ether_type: 0x8100 (Customer VLAN Tag (C-TAG) as defined in IEEE Std 802.1Q) }, inner: SingleVlanHeader { pcp: VlanPcp(0), drop_eligible_indicator: false, vlan_id: VlanId(2), ether_type: 0x0800 (Internet Protocol version 4 (IPv4)) }, payload: EtherPayloadSlice { ether_type: 0x0800 (Internet Protocol version 4 (IPv4)), len_source: Slice, payload: [69] } }"
         );
         Ok(())

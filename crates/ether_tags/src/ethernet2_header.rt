@@ -16,14 +16,35 @@ use crate::{Ethernet2HeaderSlice, ethernet2_fields};
 use ether_base::err::{Layer, LenError, SliceWriteSpaceError};
 use ether_base::{EtherType, write_front};
 
-/// The header of an Ethernet II frame: 14 bytes, destination, source and ether type in this order.
+/// The header of an Ethernet II frame (IEEE 802.3, 3.1.1), 14 bytes on the wire:
+///
+/// ```text
+/// byte 0             6             12     14
+///      +-------------+-------------+------+
+///      | destination |   source    | type |
+///      +-------------+-------------+------+
+/// ```
+///
+/// Where a frame carries a length in the place of the type, which is below 0x0600 (802.3, 3.2.6), `ether_type` is that
+/// length: it is handed on as it stands.
+///
+/// ```
+/// let header = Ethernet2Header {
+///     source: [2, 0, 0, 0, 0, 1],
+///     destination: [0xFF; 6],
+///     ether_type: EtherType::IPV4,
+/// };
+/// let bytes = [255, 255, 255, 255, 255, 255, 2, 0, 0, 0, 0, 1, 0x08, 0x00];
+/// assert_eq!(rt; header.to_bytes(), bytes);
+/// assert_eq!(rt; Ethernet2Header::from_bytes(bytes), header);
+/// ```
 #[derive(Clone, Copy, PartialEq, Eq, Debug, Default)]
 pub struct Ethernet2Header {
     /// The source MAC address.
     pub source: [u8; 6],
     /// The destination MAC address.
     pub destination: [u8; 6],
-    /// The protocol of what follows the header.
+    /// The protocol of what follows the header, or the length of an IEEE 802.3 frame.
     pub ether_type: EtherType,
 }
 
@@ -31,11 +52,15 @@ impl Ethernet2Header {
     /// The length of the header in bytes.
     pub const LEN: usize = 14;
 
-    /// The same length, under its older name.
+    /// The same as [`Ethernet2Header::LEN`], under its older name.
     pub const SERIALIZED_SIZE: usize = 14;
 
-    /// The header that a slice begins with, and the unused rest of the slice; refused where there are fewer than 14
-    /// bytes.
+    /// The header at the front of a slice, and the rest of the slice.
+    ///
+    /// # Errors
+    ///
+    /// The slice has fewer than 14 bytes: `required_len` is 14, `len` the slice's length, `len_source` is
+    /// `LenSource::Slice`, `layer` is [`Layer::Ethernet2Header`] and `layer_start_offset` is 0.
     pub fn from_slice(slice: &[u8]) -> Result<(Ethernet2Header, &[u8]), LenError>
         ensures accepted { IfOk result (λ answer. Accepts sources.Slice slice.now kinds.Ethernet2) }
         ensures fields { IfOk result (λ answer. answer.0 ≡ ethernet2_header_of slice.now) }
@@ -58,7 +83,7 @@ impl Ethernet2Header {
         Ethernet2Header::from_slice(slice)
     }
 
-    /// The header that 14 bytes hold. Each 14 bytes hold one.
+    /// The header in 14 bytes. Any 14 bytes are one.
     pub fn from_bytes(bytes: [u8; 14]) -> Ethernet2Header
         ensures fields { result ≡ ethernet2_header_of bytes }
         ensures value { IsEthernet2 bytes (ethernet2_view result) }
@@ -74,7 +99,7 @@ impl Ethernet2Header {
         Ethernet2Header::LEN
     }
 
-    /// The header as it stands on the wire, numbers in network byte order.
+    /// The bytes of the header on the wire.
     pub fn to_bytes(&self) -> [u8; 14]
         ensures value { result ≡ ethernet2_bytes (ethernet2_view self.now) }
         ensures inverse { (e : Ethernet2Value) → IsEthernet2 result e → e ≡ ethernet2_view self.now }
@@ -85,8 +110,12 @@ impl Ethernet2Header {
         joined(&self.destination, &self.source, self.ether_type.0)
     }
 
-    /// Writes the header to the front of a slice, and lends the unused rest of the slice for writing. A slice shorter
-    /// than the header is refused, and then it is as it was.
+    /// Writes the header to the front of a slice, and lends the rest of the slice for writing.
+    ///
+    /// # Errors
+    ///
+    /// The slice has fewer than 14 bytes, and stays as it was: `required_len` is 14, `len` the slice's length, `layer` is
+    /// [`Layer::Ethernet2Header`] and `layer_start_offset` is 0.
     pub fn write_to_slice<'a>(
         &self,
         slice: &'a mut [u8],
@@ -130,82 +159,143 @@ fn joined(destination: &[u8], source: &[u8], ether_type: u16) -> [u8; 14]
 #[cfg(test)]
 mod tests {
     use super::*;
+    use crate::test_frames::{ARP_REQUEST, FRAME, SPANNING_TREE};
     use ether_base::LenSource;
     use std::test::Fail;
 
-    /// To every station, from 02:00:00:00:00:01, with a VLAN tag behind it.
-    const BYTES: [u8; 14] = [
-        0xFF, 0xFF, 0xFF, 0xFF, 0xFF, 0xFF, 2, 0, 0, 0, 0, 1, 0x81, 0x00,
-    ];
-
+    /// The header of [`FRAME`].
     const HEADER: Ethernet2Header = Ethernet2Header {
         source: [2, 0, 0, 0, 0, 1],
-        destination: [0xFF, 0xFF, 0xFF, 0xFF, 0xFF, 0xFF],
-        ether_type: EtherType::VLAN_TAGGED_FRAME,
+        destination: [0xFF; 6],
+        ether_type: EtherType::IPV4,
     };
 
-    fn zero() -> Ethernet2Header
-        ensures { ethernet2_view result ≡ record { destination = 0; source = 0; ether_type = 0 } }
-    {
-        Ethernet2Header::default()
+    #[test]
+    fn the_example(rt: HostRuntime) {
+        let header = Ethernet2Header {
+            source: [2, 0, 0, 0, 0, 1],
+            destination: [0xFF; 6],
+            ether_type: EtherType::IPV4,
+        };
+        let bytes = [255, 255, 255, 255, 255, 255, 2, 0, 0, 0, 0, 1, 0x08, 0x00];
+        assert_eq!(rt; header.to_bytes(), bytes);
+        assert_eq!(rt; Ethernet2Header::from_bytes(bytes), header);
     }
 
     #[test]
-    fn fourteen_bytes_and_back(rt: HostRuntime) -> Result<(), Fail> {
-        assert_eq!(rt; Ethernet2Header::from_bytes(BYTES), HEADER);
-        assert_eq!(rt; HEADER.to_bytes(), BYTES);
-        assert_eq!(rt; HEADER.header_len(), Ethernet2Header::LEN);
-        assert_eq!(rt; Ethernet2Header::SERIALIZED_SIZE, 14);
-        assert_eq!(rt; zero().to_bytes(), [0; 14]);
+    fn a_captured_header(rt: HostRuntime) {
+        let header = Ethernet2Header {
+            source: [0x02, 0x00, 0x5E, 0x10, 0x00, 0x01],
+            destination: [0xFF; 6],
+            ether_type: EtherType::ARP,
+        };
+        let frame = ARP_REQUEST;
         assert_eq!(rt;
-            format!(in rt.alloc(); "{HEADER:?}")?.as_str(),
-            "Ethernet2Header { source: [2, 0, 0, 0, 0, 1], destination: [255, 255, 255, 255, 255, 255], ether_type: 0x8100 (Customer VLAN Tag (C-TAG) as defined in IEEE Std 802.1Q) }"
+            Ethernet2Header::from_slice(&frame),
+            Ok((header, &frame[14..]))
         );
-        Ok(())
+        assert_eq!(rt; header.to_bytes().as_slice(), &frame[..14]);
     }
 
     #[test]
-    fn the_front_of_a_slice(rt: HostRuntime) {
-        let slice = [
-            0xFF, 0xFF, 0xFF, 0xFF, 0xFF, 0xFF, 2, 0, 0, 0, 0, 1, 0x81, 0x00, 0xB1, 0x23,
-        ];
-        let rest = [0xB1, 0x23].as_slice();
-        assert_eq!(rt; Ethernet2Header::from_slice(&slice), Ok((HEADER, rest)));
+    fn a_length_in_the_place_of_the_type(rt: HostRuntime) {
+        let header = Ethernet2Header {
+            source: [0x02, 0x00, 0x5E, 0x10, 0x00, 0x01],
+            destination: [0x01, 0x80, 0xC2, 0x00, 0x00, 0x00],
+            ether_type: EtherType(38),
+        };
+        let frame = SPANNING_TREE;
         assert_eq!(rt;
-            Ethernet2Header::read_from_slice(&slice),
-            Ok((HEADER, rest))
-        );
-        assert_eq!(rt; Ethernet2Header::from_slice(&slice[..13]), Err(cut_short()));
-        assert_eq!(rt;
-            Ethernet2Header::read_from_slice(&slice[..13]),
-            Err(cut_short())
+            Ethernet2Header::from_slice(&frame),
+            Ok((header, &frame[14..]))
         );
     }
 
-    /// What 13 of the 14 bytes are refused with.
-    fn cut_short() -> LenError {
-        LenError {
+    #[test]
+    fn the_front_of_a_slice_and_the_rest(rt: HostRuntime) {
+        let frame = FRAME;
+        assert_eq!(rt;
+            Ethernet2Header::from_slice(&frame),
+            Ok((HEADER, &frame[14..]))
+        );
+        assert_eq!(rt;
+            Ethernet2Header::read_from_slice(&frame),
+            Ok((HEADER, &frame[14..]))
+        );
+    }
+
+    #[test]
+    fn thirteen_bytes_are_refused(rt: HostRuntime) -> Result<(), Fail> {
+        let frame = FRAME;
+        let refused = LenError {
             required_len: 14,
             len: 13,
             len_source: LenSource::Slice,
             layer: Layer::Ethernet2Header,
             layer_start_offset: 0,
+        };
+        assert_eq!(rt;
+            Ethernet2Header::from_slice(&frame[..13]),
+            Err(refused.clone()?)
+        );
+        assert_eq!(rt;
+            Ethernet2Header::read_from_slice(&frame[..13]),
+            Err(refused)
+        );
+        Ok(())
+    }
+
+    #[test]
+    fn the_length(rt: HostRuntime) {
+        assert_eq!(rt; HEADER.header_len(), 14);
+        assert_eq!(rt; Ethernet2Header::LEN, 14);
+        assert_eq!(rt; Ethernet2Header::SERIALIZED_SIZE, 14);
+    }
+
+    #[test]
+    fn the_default_is_zero(rt: HostRuntime) {
+        assert_eq!(rt; Ethernet2Header::default().to_bytes(), [0; 14]);
+    }
+
+    #[test]
+    fn headers_differ_by_each_field(rt: HostRuntime) {
+        let others = [
+            Ethernet2Header {
+                source: [2, 0, 0, 0, 0, 2],
+                ..HEADER
+            },
+            Ethernet2Header {
+                destination: [0xFF, 0xFF, 0xFF, 0xFF, 0xFF, 0xFE],
+                ..HEADER
+            },
+            Ethernet2Header {
+                ether_type: EtherType::IPV6,
+                ..HEADER
+            },
+        ];
+        for other in others {
+            assert_ne!(rt; other, HEADER);
+            assert_eq!(rt; other, other);
         }
     }
 
     #[test]
-    fn written_to_the_front_and_the_rest_lent(rt: HostRuntime) -> Result<(), Fail> {
-        let mut slice = [0x55; 20];
-        let rest = HEADER.write_to_slice(&mut slice)?;
-        assert_eq!(rt; rest.len(), 6);
-        rest[0] = 0xAA;
+    fn shown_by_its_fields(rt: HostRuntime) -> Result<(), Fail> {
         assert_eq!(rt;
-            slice,
-            [
-                0xFF, 0xFF, 0xFF, 0xFF, 0xFF, 0xFF, 2, 0, 0, 0, 0, 1, 0x81, 0x00, 0xAA, 0x55, 0x55,
-                0x55, 0x55, 0x55,
-            ]
+            format!(in rt.alloc(); "{HEADER:?}")?.as_str(),
+            "Ethernet2Header { source: [2, 0, 0, 0, 0, 1], destination: [255, 255, 255, 255, 255, 255], ether_type: 0x0800 (Internet Protocol version 4 (IPv4)) }"
         );
+        Ok(())
+    }
+
+    #[test]
+    fn written_to_the_front_and_the_rest_lent(rt: HostRuntime) -> Result<(), Fail> {
+        let mut slice = [0x55; 16];
+        let rest = HEADER.write_to_slice(&mut slice)?;
+        assert_eq!(rt; rest.len(), 2);
+        rest[0] = 0xAA;
+        assert_eq!(rt; &slice[..14], &FRAME[..14]);
+        assert_eq!(rt; &slice[14..], [0xAA, 0x55].as_slice());
         Ok(())
     }
 

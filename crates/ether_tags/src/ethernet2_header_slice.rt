@@ -19,9 +19,20 @@ use ether_base::err::LenError;
 use std::alloc::AllocError;
 use std::marker::Model;
 
-/// The 14 bytes of an Ethernet II header in the bytes of a packet.
+/// A view of an Ethernet II header, which borrows its 14 bytes from a packet.
 ///
-/// Two views are equal where their bytes are.
+/// Two views are equal if their bytes are, wherever these stand.
+///
+/// ```
+/// let bytes = [
+///     255, 255, 255, 255, 255, 255, 2, 0, 0, 0, 0, 1, 0x08, 0x00, 0x45,
+/// ];
+/// let header = Ethernet2HeaderSlice::from_slice(&bytes)?;
+/// assert_eq!(rt; header.destination(), [0xFF; 6]);
+/// assert_eq!(rt; header.source(), [2, 0, 0, 0, 0, 1]);
+/// assert_eq!(rt; header.ether_type(), EtherType::IPV4);
+/// assert_eq!(rt; header.slice(), &bytes[..14]);
+/// ```
 #[derive(Debug, Drop)]
 pub struct Ethernet2HeaderSlice<'a> {
     slice: &'a [u8],
@@ -38,8 +49,12 @@ impl<'a> Model for Ethernet2HeaderSlice<'a> {
 }
 
 impl<'a> Ethernet2HeaderSlice<'a> {
-    /// The header that a slice begins with, refused where there are fewer than 14 bytes. What follows the header is no
-    /// part of the view.
+    /// The header at the front of a slice. The bytes behind it are not part of the view.
+    ///
+    /// # Errors
+    ///
+    /// The slice has fewer than 14 bytes: `required_len` is 14, `len` the slice's length, `len_source` is
+    /// `LenSource::Slice`, `layer` is `Layer::Ethernet2Header` and `layer_start_offset` is 0.
     pub fn from_slice(slice: &'a [u8]) -> Result<Ethernet2HeaderSlice<'a>, LenError>
         ensures bytes { IfOk result (λ h. h ≡ slice_range slice.now 0 14) }
         ensures accepted { IfOk result (λ h. Accepts sources.Slice slice.now kinds.Ethernet2) }
@@ -76,7 +91,7 @@ impl<'a> Ethernet2HeaderSlice<'a> {
         ethernet2_fields::source(self.slice)
     }
 
-    /// The protocol of what follows the header.
+    /// The protocol of what follows the header; below 0x0600 the length of an IEEE 802.3 frame.
     pub fn ether_type(&self) -> EtherType
         ensures { result.0 ≡ (ethernet2_of self.now).ether_type }
     {
@@ -119,35 +134,42 @@ impl<'a> Eq for Ethernet2HeaderSlice<'a> {
 #[cfg(test)]
 mod tests {
     use super::*;
+    use crate::test_frames::FRAME;
     use ether_base::LenSource;
     use ether_base::err::Layer;
     use std::test::Fail;
 
     #[test]
-    fn the_fields_of_a_header(rt: HostRuntime) -> Result<(), Fail> {
+    fn the_example(rt: HostRuntime) -> Result<(), Fail> {
         let bytes = [
-            0xFF, 0xFF, 0xFF, 0xFF, 0xFF, 0xFF, 2, 0, 0, 0, 0, 1, 0x08, 0x00, 0x45,
+            255, 255, 255, 255, 255, 255, 2, 0, 0, 0, 0, 1, 0x08, 0x00, 0x45,
         ];
         let header = Ethernet2HeaderSlice::from_slice(&bytes)?;
-        assert_eq!(rt; header.slice(), &bytes[..14]);
         assert_eq!(rt; header.destination(), [0xFF; 6]);
         assert_eq!(rt; header.source(), [2, 0, 0, 0, 0, 1]);
         assert_eq!(rt; header.ether_type(), EtherType::IPV4);
+        assert_eq!(rt; header.slice(), &bytes[..14]);
+        Ok(())
+    }
+
+    #[test]
+    fn the_header_as_a_value(rt: HostRuntime) -> Result<(), Fail> {
         assert_eq!(rt;
-            header.to_header(),
+            Ethernet2HeaderSlice::from_slice(&FRAME)?.to_header(),
             Ethernet2Header {
                 source: [2, 0, 0, 0, 0, 1],
                 destination: [0xFF; 6],
                 ether_type: EtherType::IPV4,
             }
         );
-        assert_eq!(rt; header.clone()?, header);
+        Ok(())
+    }
+
+    #[test]
+    fn thirteen_bytes_are_refused(rt: HostRuntime) {
+        let frame = FRAME;
         assert_eq!(rt;
-            format!(in rt.alloc(); "{header:?}")?.as_str(),
-            "Ethernet2HeaderSlice { slice: [255, 255, 255, 255, 255, 255, 2, 0, 0, 0, 0, 1, 8, 0] }"
-        );
-        assert_eq!(rt;
-            Ethernet2HeaderSlice::from_slice(&bytes[..13]).err(),
+            Ethernet2HeaderSlice::from_slice(&frame[..13]).err(),
             Some(LenError {
                 required_len: 14,
                 len: 13,
@@ -155,6 +177,26 @@ mod tests {
                 layer: Layer::Ethernet2Header,
                 layer_start_offset: 0,
             })
+        );
+    }
+
+    #[test]
+    fn views_differ_by_their_bytes(rt: HostRuntime) -> Result<(), Fail> {
+        let frame = FRAME;
+        let mut changed = FRAME;
+        changed[13] = 0x01;
+        let view = Ethernet2HeaderSlice::from_slice(&frame)?;
+        assert_eq!(rt; view.clone()?, view);
+        assert_ne!(rt; view, Ethernet2HeaderSlice::from_slice(&changed)?);
+        Ok(())
+    }
+
+    #[test]
+    fn shown_by_its_bytes(rt: HostRuntime) -> Result<(), Fail> {
+        let view = Ethernet2HeaderSlice::from_slice(&FRAME)?;
+        assert_eq!(rt;
+            format!(in rt.alloc(); "{view:?}")?.as_str(),
+            "Ethernet2HeaderSlice { slice: [255, 255, 255, 255, 255, 255, 2, 0, 0, 0, 0, 1, 8, 0] }"
         );
         Ok(())
     }

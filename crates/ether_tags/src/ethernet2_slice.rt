@@ -24,9 +24,19 @@ use std::marker::Model;
 /// The length of a frame check sequence in bytes.
 const FCS_LEN: usize = 4;
 
-/// An Ethernet II frame in the bytes of a packet, whose header is there in full.
+/// A view of an Ethernet II frame, with or without a frame check sequence (FCS) at its end.
 ///
-/// Two views are equal where the bytes of their frames are, and where both or neither end in a frame check sequence.
+/// Two views are equal if their bytes are, and if both or neither of them end in a frame check sequence.
+///
+/// ```
+/// let bytes = [
+///     255, 255, 255, 255, 255, 255, 2, 0, 0, 0, 0, 1, 0x08, 0x00, 0x45,
+/// ];
+/// let frame = Ethernet2Slice::from_slice_without_fcs(&bytes)?;
+/// assert_eq!(rt; frame.ether_type(), EtherType::IPV4);
+/// assert_eq!(rt; frame.payload_slice(), [0x45].as_slice());
+/// assert_eq!(rt; frame.fcs(), None);
+/// ```
 #[derive(Drop)]
 pub struct Ethernet2Slice<'a> {
     fcs_len: usize,
@@ -45,7 +55,12 @@ impl<'a> Model for Ethernet2Slice<'a> {
 }
 
 impl<'a> Ethernet2Slice<'a> {
-    /// The frame of a slice that ends with the payload, refused where there are fewer than 14 bytes.
+    /// The frame that a slice holds, without a frame check sequence: the payload reaches to the end of the slice.
+    ///
+    /// # Errors
+    ///
+    /// The slice has fewer than 14 bytes: `required_len` is 14, `len` the slice's length, `len_source` is
+    /// [`LenSource::Slice`], `layer` is `Layer::Ethernet2Header` and `layer_start_offset` is 0.
     pub fn from_slice_without_fcs(slice: &'a [u8]) -> Result<Ethernet2Slice<'a>, LenError>
         ensures frame { IfOk result (λ f. f ≡ record { bytes = slice.now; has_fcs = false }) }
         ensures accepted { IfOk result (λ f. Accepts sources.Slice slice.now kinds.Ethernet2) }
@@ -58,8 +73,12 @@ impl<'a> Ethernet2Slice<'a> {
         Ok(Ethernet2Slice { fcs_len: 0, slice })
     }
 
-    /// The frame of a slice that ends with a frame check sequence, refused where there are fewer than 18 bytes: a header
-    /// and the sequence. The sequence is not verified.
+    /// The frame that a slice holds, with a frame check sequence in its last 4 bytes. The sequence is not verified.
+    ///
+    /// # Errors
+    ///
+    /// The slice has fewer than 18 bytes, those of a header and the sequence: `required_len` is 18, `len` the slice's
+    /// length, `len_source` is [`LenSource::Slice`], `layer` is `Layer::Ethernet2Header` and `layer_start_offset` is 0.
     pub fn from_slice_with_crc32_fcs(slice: &'a [u8]) -> Result<Ethernet2Slice<'a>, LenError>
         ensures frame { IfOk result (λ f. f ≡ record { bytes = slice.now; has_fcs = true }) }
         ensures accepted { IfOk result (λ f. Accepts sources.Slice slice.now kinds.Ethernet2Fcs) }
@@ -75,7 +94,7 @@ impl<'a> Ethernet2Slice<'a> {
         })
     }
 
-    /// All bytes of the frame, as they were handed in.
+    /// All bytes of the frame, with the frame check sequence.
     pub fn slice(&self) -> &'a [u8]
         ensures { result.now ≡ self.now.bytes }
     {
@@ -96,14 +115,14 @@ impl<'a> Ethernet2Slice<'a> {
         ethernet2_fields::source(self.slice)
     }
 
-    /// The protocol of the payload.
+    /// The protocol of the payload; below 0x0600 the length of an IEEE 802.3 frame.
     pub fn ether_type(&self) -> EtherType
         ensures { result.0 ≡ (ethernet2_of self.now.bytes).ether_type }
     {
         ethernet2_fields::ether_type(self.slice)
     }
 
-    /// The frame check sequence as it stands in the frame, unverified; `None` of a frame that was handed in without one.
+    /// The frame check sequence, unverified; `None` if the frame was read without one.
     pub fn fcs(&self) -> Option<[u8; 4]>
         ensures { result ≡ fcs_of self.now }
     {
@@ -129,7 +148,8 @@ impl<'a> Ethernet2Slice<'a> {
         ethernet2_fields::header(self.slice)
     }
 
-    /// The payload and its type. Its length is the slice's, less the header and a frame check sequence.
+    /// The payload and its ether type. The slice's length decides how long it is, so its `len_source` is
+    /// [`LenSource::Slice`].
     pub fn payload(&self) -> EtherPayloadSlice<'a>
         ensures ether_type { result.ether_type.0 ≡ (ethernet2_of self.now.bytes).ether_type }
         ensures len_source { result.len_source ≡ sources.Slice }
@@ -142,7 +162,7 @@ impl<'a> Ethernet2Slice<'a> {
         }
     }
 
-    /// The bytes of the payload.
+    /// The bytes of the payload, with neither header nor frame check sequence.
     pub fn payload_slice(&self) -> &'a [u8]
         ensures { result.now ≡ payload_of self.now }
     {
@@ -198,36 +218,35 @@ impl fmt::Debug for Ethernet2Slice<'_> {
 #[cfg(test)]
 mod tests {
     use super::*;
+    use crate::test_frames::{FRAME, SPANNING_TREE};
     use ether_base::err::Layer;
     use std::test::Fail;
 
-    /// To every station, from 02:00:00:00:00:01, IPv4, and four bytes more.
-    const FRAME: [u8; 18] = [
-        0xFF, 0xFF, 0xFF, 0xFF, 0xFF, 0xFF, 2, 0, 0, 0, 0, 1, 0x08, 0x00, 0x11, 0x22, 0x33, 0x44,
-    ];
-
     #[test]
-    fn a_frame_that_ends_in_a_check_sequence(rt: HostRuntime) -> Result<(), Fail> {
-        let frame = FRAME;
-        let view = Ethernet2Slice::from_slice_with_crc32_fcs(&frame)?;
-        assert_eq!(rt; view.slice(), frame.as_slice());
-        assert_eq!(rt; view.fcs(), Some([0x11, 0x22, 0x33, 0x44]));
-        assert_eq!(rt; view.payload_slice(), [].as_slice());
-        assert_eq!(rt; view.clone()?, view);
-        assert_ne!(rt; view, Ethernet2Slice::from_slice_without_fcs(&frame)?);
-        assert_eq!(rt;
-            format!(in rt.alloc(); "{view:?}")?.as_str(),
-            "Ethernet2Slice { header: Ethernet2Header { source: [2, 0, 0, 0, 0, 1], destination: [255, 255, 255, 255, 255, 255], ether_type: 0x0800 (Internet Protocol version 4 (IPv4)) }, payload: EtherPayloadSlice { ether_type: 0x0800 (Internet Protocol version 4 (IPv4)), len_source: Slice, payload: [] }, fcs: Some([17, 34, 51, 68]) }"
-        );
+    fn the_example(rt: HostRuntime) -> Result<(), Fail> {
+        let bytes = [
+            255, 255, 255, 255, 255, 255, 2, 0, 0, 0, 0, 1, 0x08, 0x00, 0x45,
+        ];
+        let frame = Ethernet2Slice::from_slice_without_fcs(&bytes)?;
+        assert_eq!(rt; frame.ether_type(), EtherType::IPV4);
+        assert_eq!(rt; frame.payload_slice(), [0x45].as_slice());
+        assert_eq!(rt; frame.fcs(), None);
         Ok(())
     }
 
     #[test]
-    fn a_frame_without_a_check_sequence(rt: HostRuntime) -> Result<(), Fail> {
-        let frame = FRAME;
-        let view = Ethernet2Slice::from_slice_without_fcs(&frame[..15])?;
-        assert_eq!(rt; view.slice(), &frame[..15]);
-        assert_eq!(rt; view.header_slice(), &frame[..14]);
+    fn a_frame_with_a_check_sequence(rt: HostRuntime) -> Result<(), Fail> {
+        let view = Ethernet2Slice::from_slice_with_crc32_fcs(&FRAME)?;
+        assert_eq!(rt; view.slice(), FRAME.as_slice());
+        assert_eq!(rt; view.fcs(), Some([0x11, 0x22, 0x33, 0x44]));
+        assert_eq!(rt; view.payload_slice(), [].as_slice());
+        Ok(())
+    }
+
+    #[test]
+    fn the_fields_of_the_header(rt: HostRuntime) -> Result<(), Fail> {
+        let view = Ethernet2Slice::from_slice_without_fcs(&FRAME)?;
+        assert_eq!(rt; view.header_slice(), &FRAME[..14]);
         assert_eq!(rt; view.header_len(), 14);
         assert_eq!(rt; view.destination(), [0xFF; 6]);
         assert_eq!(rt; view.source(), [2, 0, 0, 0, 0, 1]);
@@ -240,7 +259,14 @@ mod tests {
                 ether_type: EtherType::IPV4,
             }
         );
-        assert_eq!(rt; view.fcs(), None);
+        Ok(())
+    }
+
+    #[test]
+    fn the_payload(rt: HostRuntime) -> Result<(), Fail> {
+        let frame = FRAME;
+        let view = Ethernet2Slice::from_slice_without_fcs(&frame[..15])?;
+        assert_eq!(rt; view.slice(), &frame[..15]);
         assert_eq!(rt;
             view.payload(),
             EtherPayloadSlice {
@@ -249,35 +275,68 @@ mod tests {
                 payload: &[0x11],
             }
         );
-        assert_eq!(rt;
-            format!(in rt.alloc(); "{view:?}")?.as_str(),
-            "Ethernet2Slice { header: Ethernet2Header { source: [2, 0, 0, 0, 0, 1], destination: [255, 255, 255, 255, 255, 255], ether_type: 0x0800 (Internet Protocol version 4 (IPv4)) }, payload: EtherPayloadSlice { ether_type: 0x0800 (Internet Protocol version 4 (IPv4)), len_source: Slice, payload: [17] }, fcs: None }"
-        );
         Ok(())
     }
 
     #[test]
-    fn a_frame_cut_short(rt: HostRuntime) {
+    fn a_length_in_the_place_of_the_type(rt: HostRuntime) -> Result<(), Fail> {
+        let frame = SPANNING_TREE;
+        let payload = Ethernet2Slice::from_slice_without_fcs(&frame)?.payload();
+        assert_eq!(rt; payload.ether_type, EtherType(38));
+        assert_eq!(rt; payload.payload, &frame[14..]);
+        Ok(())
+    }
+
+    #[test]
+    fn views_differ_by_bytes_and_check_sequence(rt: HostRuntime) -> Result<(), Fail> {
+        let frame = FRAME;
+        let mut changed = FRAME;
+        changed[17] = 0x45;
+        let view = Ethernet2Slice::from_slice_without_fcs(&frame)?;
+        let with_fcs = Ethernet2Slice::from_slice_with_crc32_fcs(&frame)?;
+        assert_eq!(rt; view.clone()?, view);
+        assert_eq!(rt; with_fcs.clone()?, with_fcs);
+        assert_ne!(rt; view, with_fcs);
+        assert_ne!(rt; view, Ethernet2Slice::from_slice_without_fcs(&changed)?);
+        Ok(())
+    }
+
+    #[test]
+    fn shown_with_and_without_a_check_sequence(rt: HostRuntime) -> Result<(), Fail> {
+        let with = Ethernet2Slice::from_slice_with_crc32_fcs(&FRAME)?;
+        let without = Ethernet2Slice::from_slice_without_fcs(&FRAME)?;
+        assert_eq!(rt;
+            format!(in rt.alloc(); "{with:?}")?.as_str(),
+            "Ethernet2Slice { header: Ethernet2Header { source: [2, 0, 0, 0, 0, 1], destination: [255, 255, 255, 255, 255, 255], ether_type: 0x0800 (Internet Protocol version 4 (IPv4)) }, payload: EtherPayloadSlice { ether_type: 0x0800 (Internet Protocol version 4 (IPv4)), len_source: Slice, payload: [] }, fcs: Some([17, 34, 51, 68]) }"
+        );
+        assert_eq!(rt;
+            format!(in rt.alloc(); "{without:?}")?.as_str(),
+            "Ethernet2Slice { header: Ethernet2Header { source: [2, 0, 0, 0, 0, 1], destination: [255, 255, 255, 255, 255, 255], ether_type: 0x0800 (Internet Protocol version 4 (IPv4)) }, payload: EtherPayloadSlice { ether_type: 0x0800 (Internet Protocol version 4 (IPv4)), len_source: Slice, payload: [17, 34, 51, 68] }, fcs: None }"
+        );
+        Ok(())
+    }
+
+    /// The error of a slice that is too short for a header, or for a header and a check sequence.
+    fn too_short(required_len: usize, len: usize) -> LenError {
+        LenError {
+            required_len,
+            len,
+            len_source: LenSource::Slice,
+            layer: Layer::Ethernet2Header,
+            layer_start_offset: 0,
+        }
+    }
+
+    #[test]
+    fn slices_that_are_too_short(rt: HostRuntime) {
         let frame = FRAME;
         assert_eq!(rt;
             Ethernet2Slice::from_slice_without_fcs(&frame[..13]).err(),
-            Some(LenError {
-                required_len: 14,
-                len: 13,
-                len_source: LenSource::Slice,
-                layer: Layer::Ethernet2Header,
-                layer_start_offset: 0,
-            })
+            Some(too_short(14, 13))
         );
         assert_eq!(rt;
             Ethernet2Slice::from_slice_with_crc32_fcs(&frame[..17]).err(),
-            Some(LenError {
-                required_len: 18,
-                len: 17,
-                len_source: LenSource::Slice,
-                layer: Layer::Ethernet2Header,
-                layer_start_offset: 0,
-            })
+            Some(too_short(18, 17))
         );
     }
 }

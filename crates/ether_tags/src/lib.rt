@@ -1,4 +1,4 @@
-//! Ethernet II frames, VLAN tags and SecTags of MACsec: headers as values, and views that borrow the bytes of a packet.
+//! Ethernet II frames, VLAN tags and MACsec SecTags: headers as values, and views that borrow the bytes of a packet.
 #![tactic(auto)]
 
 #[cfg(test)]
@@ -21,6 +21,8 @@ mod macsec_slice;
 mod single_vlan_header;
 mod single_vlan_header_slice;
 mod single_vlan_slice;
+#[cfg(test)]
+mod test_frames;
 mod vlan_fields;
 mod vlan_header;
 mod vlan_slice;

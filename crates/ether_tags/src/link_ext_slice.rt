@@ -4,17 +4,29 @@ ghost use Rattle.ether_tags.specs.LinkExt.{ext_header_view, ext_slice_len, ext_s
 
 use crate::{EtherPayloadSlice, LinkExtHeader, MacsecSlice, SingleVlanSlice};
 
-/// A VLAN tag or a SecTag, and its payload, in the bytes of a packet.
+/// A view of a VLAN tag or a MACsec SecTag, and of its payload.
+///
+/// ```
+/// let tag = SingleVlanSlice::from_slice(&[0xB1, 0x23, 0x08, 0x00, 0x45])?;
+/// let ext = LinkExtSlice::Vlan(tag);
+/// let payload = EtherPayloadSlice {
+///     ether_type: EtherType::IPV4,
+///     len_source: LenSource::Slice,
+///     payload: &[0x45],
+/// };
+/// assert_eq!(rt; ext.header_len(), 4);
+/// assert_eq!(rt; ext.ether_payload(), Some(payload));
+/// ```
 #[derive(Clone, PartialEq, Eq, Debug, Drop)]
 pub enum LinkExtSlice<'a> {
-    /// A VLAN tag.
+    /// A VLAN tag and its payload.
     Vlan(SingleVlanSlice<'a>),
-    /// A SecTag.
+    /// A MACsec SecTag and its payload.
     Macsec(MacsecSlice<'a>),
 }
 
 impl<'a> LinkExtSlice<'a> {
-    /// The length of the tag in bytes.
+    /// The length of the tag in bytes: 4 of a VLAN tag, 6 to 16 of a MACsec SecTag.
     pub fn header_len(&self) -> usize
         ensures { result ≡ ext_slice_len self.now }
     {
@@ -34,7 +46,7 @@ impl<'a> LinkExtSlice<'a> {
         }
     }
 
-    /// The payload with its type, `None` behind a SecTag that says encrypted or changed.
+    /// The payload and its ether type; `None` if a MACsec SecTag says that it is encrypted or changed.
     pub fn ether_payload(&self) -> Option<EtherPayloadSlice<'a>>
         ensures { HoldsExtPayload self.now result }
     {
@@ -48,45 +60,66 @@ impl<'a> LinkExtSlice<'a> {
 #[cfg(test)]
 mod tests {
     use super::*;
+    use crate::test_frames::{NAMED, SEALED, TAG};
     use ether_base::{EtherType, LenSource};
     use std::test::Fail;
 
     #[test]
-    fn a_vlan_tag(rt: HostRuntime) -> Result<(), Fail> {
-        let bytes = [0xB1, 0x23, 0x08, 0x00, 0x45];
-        let slice = SingleVlanSlice::from_slice(&bytes)?;
-        let ext = LinkExtSlice::Vlan(slice.clone()?);
+    fn the_example(rt: HostRuntime) -> Result<(), Fail> {
+        let tag = SingleVlanSlice::from_slice(&[0xB1, 0x23, 0x08, 0x00, 0x45])?;
+        let ext = LinkExtSlice::Vlan(tag);
+        let payload = EtherPayloadSlice {
+            ether_type: EtherType::IPV4,
+            len_source: LenSource::Slice,
+            payload: &[0x45],
+        };
         assert_eq!(rt; ext.header_len(), 4);
-        assert_eq!(rt; ext.to_header(), LinkExtHeader::Vlan(slice.to_header()));
-        assert_eq!(rt; ext.to_header().header_len(), 4);
+        assert_eq!(rt; ext.ether_payload(), Some(payload));
+        Ok(())
+    }
+
+    #[test]
+    fn a_vlan_tag(rt: HostRuntime) -> Result<(), Fail> {
+        let slice = SingleVlanSlice::from_slice(&TAG)?;
+        let header = slice.to_header();
         assert_eq!(rt;
-            ext.ether_payload(),
-            Some(EtherPayloadSlice {
-                ether_type: EtherType::IPV4,
-                len_source: LenSource::Slice,
-                payload: &[0x45],
-            })
+            LinkExtSlice::Vlan(slice).to_header(),
+            LinkExtHeader::Vlan(header)
         );
-        assert_eq!(rt; ext.clone()?, ext);
         Ok(())
     }
 
     #[test]
     fn a_sealed_tag(rt: HostRuntime) -> Result<(), Fail> {
-        let bytes = [
-            0x2C, 0xC0, 0x00, 0x00, 0x00, 0x01, 0x00, 0x11, 0x22, 0x33, 0x44, 0x55, 0x66, 0x77,
-            0x99,
-        ];
-        let slice = MacsecSlice::from_slice(&bytes)?;
+        let slice = MacsecSlice::from_slice(&SEALED)?;
         let header = slice.header.to_header();
         let ext = LinkExtSlice::Macsec(slice);
         assert_eq!(rt; ext.header_len(), 14);
         assert_eq!(rt; ext.to_header(), LinkExtHeader::Macsec(header));
-        assert_eq!(rt; ext.to_header().header_len(), 14);
         assert_eq!(rt; ext.ether_payload(), None);
+        Ok(())
+    }
+
+    #[test]
+    fn views_differ_by_variant_and_tag(rt: HostRuntime) -> Result<(), Fail> {
+        let vlan = LinkExtSlice::Vlan(SingleVlanSlice::from_slice(&TAG)?);
+        let other = LinkExtSlice::Vlan(SingleVlanSlice::from_slice(&TAG[..4])?);
+        let named = LinkExtSlice::Macsec(MacsecSlice::from_slice(&NAMED)?);
+        let sealed = LinkExtSlice::Macsec(MacsecSlice::from_slice(&SEALED)?);
+        assert_eq!(rt; vlan.clone()?, vlan);
+        assert_eq!(rt; sealed.clone()?, sealed);
+        assert_ne!(rt; vlan, other);
+        assert_ne!(rt; named, sealed);
+        assert_ne!(rt; vlan, sealed);
+        Ok(())
+    }
+
+    #[test]
+    fn shown_by_its_tag(rt: HostRuntime) -> Result<(), Fail> {
+        let ext = LinkExtSlice::Macsec(MacsecSlice::from_slice(&SEALED)?);
         assert_eq!(rt;
-            format!(in rt.alloc(); "{:?}", ext.to_header())?.as_str(),
-            "Macsec(MacsecHeader { ptype: Encrypted, endstation_id: false, scb: false, an: MacsecAn(0), short_len: MacsecShortLen(0), packet_nr: 1, sci: Some(4822678189205111) })"
+            format!(in rt.alloc(); "{ext:?}")?.as_str(),
+            "Macsec(MacsecSlice { header: MacsecHeaderSlice { slice: [44, 192, 0, 0, 0, 1, 0, 17, 34, 51, 68, 85, 102, 119] }, payload: Modified([153]) })"
         );
         Ok(())
     }

@@ -1,4 +1,4 @@
-//! A SecTag as a value.
+//! A MACsec SecTag as a value.
 ghost use Rattle.std.specs.Prelude.{◌≡◌, ◌≤◌, ◌<◌, ◌+◌, ◌++◌, ℕ, List, length, IfOk, IfErr};
 ghost use Rattle.std.specs.Option.{option_map};
 ghost use Rattle.ether_base.specs.declared.len_source.LenSource.TheVariants as sources;
@@ -16,35 +16,84 @@ use ether_base::big_endian::{bytes_of_u16, bytes_of_u32, bytes_of_u64};
 use ether_base::err::macsec::HeaderSliceError;
 use ether_base::{EtherType, MacsecAn, MacsecShortLen};
 
-/// A SecTag behind its own ether type (IEEE 802.1AE, 9.3), with the ether type behind it where that can be read.
+/// A MACsec SecTag (IEEE 802.1AE, 9.3), 6 to 16 bytes on the wire.
 ///
-/// Version and reserved bits are no part of it: they are written as 0.
+/// The standard counts the MACsec ether type 0x88E5 as the first two bytes of a SecTag. It is the `ether_type` of the
+/// layer before here, and the tag begins behind it. The ether type of the payload counts as the tag's end where it can
+/// be read, which is where the bits E and C are clear:
+///
+/// ```text
+/// byte 0        1              2                6                     6 or 14
+///      +--------+--------------+----------------+---------------------+-----------------+
+///      | TCI,AN | short length | packet number  | SCI, if SC is set   | next ether type |
+///      +--------+--------------+----------------+---------------------+-----------------+
+///        1 byte   1 byte         4 bytes          8 bytes               2 bytes
+///
+/// bit of byte 0    7   6    5    4     3   2   1 0
+///                +---+----+----+-----+---+---+-----+
+///                | V | ES | SC | SCB | E | C | AN  |
+///                +---+----+----+-----+---+---+-----+
+/// ```
+///
+/// The version bit V is 0 in each tag. The short length has the lower 6 bits of byte 1; the upper 2 are reserved, ignored
+/// when a tag is read and written as 0.
+///
+/// In IEEE 802.1AE a short length ends at 47 (9.7). Those of 48 to 63 are accepted too and name that many bytes, and
+/// [`MacsecHeader::set_payload_len`] writes them.
+///
+/// Public fields are not checked against each other.
+///
+/// ```
+/// let mut tag = MacsecHeader {
+///     ptype: MacsecPType::Unmodified(EtherType::IPV4),
+///     endstation_id: false,
+///     scb: false,
+///     an: MacsecAn::try_new(2)?,
+///     short_len: MacsecShortLen::ZERO,
+///     packet_nr: 7,
+///     sci: None,
+/// };
+/// tag.set_payload_len(40);
+/// assert_eq!(rt; tag.short_len.value(), 42);
+///
+/// let bytes = tag.to_bytes();
+/// assert_eq!(rt;
+///     bytes.as_slice(),
+///     [0x02, 42, 0, 0, 0, 7, 0x08, 0x00].as_slice()
+/// );
+/// assert_eq!(rt; MacsecHeader::from_slice(bytes.as_slice()), Ok(tag));
+/// ```
 #[derive(Clone, Copy, PartialEq, Eq, Debug)]
 pub struct MacsecHeader {
-    /// Whether the payload is encrypted and changed (bits E and C), and its protocol where that can be read.
+    /// Whether the payload is encrypted and changed (bits E and C), and its ether type if it is neither.
     pub ptype: MacsecPType,
-    /// Whether the source address of the frame names the station that sent it (bit ES).
+    /// The end station bit (ES): the SCI is made of the frame's source address, and is left out.
     pub endstation_id: bool,
-    /// Whether the frame is a single copy broadcast of a passive optical network (bit SCB).
+    /// The single copy broadcast bit (SCB), of a passive optical network.
     pub scb: bool,
-    /// The association number (9.6).
+    /// The association number (AN, 9.6).
     pub an: MacsecAn,
-    /// The short length (9.7).
+    /// The short length (SL, 9.7): the number of bytes behind the SCI up to the integrity check value, with the next
+    /// ether type. 0 names no length.
     pub short_len: MacsecShortLen,
-    /// The packet number (9.8).
+    /// The packet number (PN, 9.8).
     pub packet_nr: u32,
-    /// The secure channel identifier (9.9), where the tag holds one (bit SC).
+    /// The secure channel identifier (SCI, 9.9), if the tag has one (bit SC).
     pub sci: Option<u64>,
 }
 
 impl MacsecHeader {
-    /// The least length of a tag in bytes: with neither secure channel identifier nor ether type.
+    /// The length in bytes of the shortest tag, with neither SCI nor next ether type.
     pub const MIN_LEN: usize = 6;
 
-    /// The greatest length of a tag in bytes: with both.
+    /// The length in bytes of the longest tag, with both.
     pub const MAX_LEN: usize = 16;
 
-    /// The tag that a slice begins with, refused as by [`MacsecHeaderSlice::from_slice`].
+    /// The tag at the front of a slice.
+    ///
+    /// # Errors
+    ///
+    /// As [`MacsecHeaderSlice::from_slice`].
     pub fn from_slice(slice: &[u8]) -> Result<MacsecHeader, HeaderSliceError>
         ensures accepted { IfOk result (λ h. AcceptsHeader sources.Slice slice.now kinds.Macsec) }
         ensures value { IfOk result (λ h. Means slice.now (headers.Macsec (sec_tag_view h))) }
@@ -53,7 +102,7 @@ impl MacsecHeader {
         Ok(MacsecHeaderSlice::from_slice(slice)?.to_header())
     }
 
-    /// Whether the payload is encrypted (bit E).
+    /// Whether the payload is encrypted: bit E.
     pub fn encrypted(&self) -> bool
         ensures { bit result ≡ encrypted_of (payload_type_view self.now.ptype) }
     {
@@ -63,14 +112,14 @@ impl MacsecHeader {
         )
     }
 
-    /// Whether the payload is changed (bit C).
+    /// Whether the payload is changed: bit C.
     pub fn userdata_changed(&self) -> bool
         ensures { bit result ≡ changed_of (payload_type_view self.now.ptype) }
     {
         matches!(self.ptype, MacsecPType::Encrypted | MacsecPType::Modified)
     }
 
-    /// The ether type behind the tag, `None` where the payload is encrypted or changed.
+    /// The ether type of the payload; `None` if the payload is encrypted or changed.
     pub fn next_ether_type(&self) -> Option<EtherType>
         ensures { option_map (λ ether_type. ether_type.0) result ≡ readable_type (payload_type_view self.now.ptype) }
     {
@@ -80,7 +129,7 @@ impl MacsecHeader {
         }
     }
 
-    /// The length of the tag in bytes, with the ether type behind it, [`MacsecHeader::MIN_LEN`] to
+    /// The length of the tag in bytes, with the next ether type: [`MacsecHeader::MIN_LEN`] to
     /// [`MacsecHeader::MAX_LEN`].
     pub fn header_len(&self) -> usize
         ensures { result ≡ sec_tag_len (sec_tag_front_of 0 0 (sec_tag_view self.now)) }
@@ -88,16 +137,18 @@ impl MacsecHeader {
         macsec_fields::tag_len(self.sci.is_some(), self.next_ether_type().is_some())
     }
 
-    /// The payload's length that the short length names, without the ether type behind the tag; `None` where it names
-    /// none.
+    /// The length of the payload in bytes that the short length names, without the next ether type. `None` if the short
+    /// length is 0, which names none, or 1 though it counts the 2 bytes of a next ether type.
     pub fn expected_payload_len(&self) -> Option<usize>
         ensures { result ≡ known_payload_len (sec_tag_front_of 0 0 (sec_tag_view self.now)) }
     {
         macsec_fields::payload_len(self.short_len, self.next_ether_type().is_some())
     }
 
-    /// Sets the short length to what names a payload of so many bytes: 0, which names none, where there are too many.
-    /// Nothing names the payload of 0 bytes where it is encrypted or changed.
+    /// Sets the short length to name a payload of `payload_len` bytes, or to 0, which names none, if there is no room.
+    ///
+    /// There is room for 63 bytes, which is more than the 47 of IEEE 802.1AE. A next ether type takes 2 of them, so up to
+    /// 61 bytes of payload are named then. No short length names an encrypted or changed payload of 0 bytes.
     pub fn set_payload_len(&mut self, payload_len: usize)
         ensures short_len { self.new.short_len ≡ short_len_for (payload_type_view self.old.ptype) payload_len }
         ensures named { known_payload_len (sec_tag_front_of 0 0 (sec_tag_view self.new)) ≡ named_len_for (payload_type_view self.old.ptype) payload_len }
@@ -112,10 +163,9 @@ impl MacsecHeader {
         };
     }
 
-    /// The tag as it stands on the wire, numbers in network byte order: [`MacsecHeader::header_len`] bytes.
+    /// The bytes of the tag on the wire, [`MacsecHeader::header_len`] of them.
     ///
-    /// Read again, they are this tag. Where the short length is 1 though an ether type stands behind the tag, they are
-    /// refused.
+    /// They are read back as this tag, but for a short length of 1 with a next ether type, which is refused when read.
     pub fn to_bytes(&self) -> ArrayVec<u8, 16>
         ensures value { result.items ≡ sec_tag_bytes (sec_tag_view self.now) }
         ensures read { (more : List ℕ) → Means (result.items ++ more) (headers.Macsec (sec_tag_view self.now)) }
@@ -170,13 +220,27 @@ fn put<const N: usize>(tag: &mut ArrayVec<u8, 16>, number: [u8; N])
 #[cfg(test)]
 mod tests {
     use super::*;
+    use crate::test_frames::{CONFIDENTIALITY, INTEGRITY};
     use ether_base::err::macsec::HeaderError;
     use std::test::Fail;
 
-    /// A tag that says that its payload is readable, with a short length that has no room for the ether type.
+    /// The tag 76 05 01020304 1122334455667788.
+    fn changed() -> Result<MacsecHeader, Fail> {
+        Ok(MacsecHeader {
+            ptype: MacsecPType::Modified,
+            endstation_id: true,
+            scb: true,
+            an: MacsecAn::try_new(2)?,
+            short_len: MacsecShortLen::try_from_u8(5)?,
+            packet_nr: 0x0102_0304,
+            sci: Some(0x1122_3344_5566_7788),
+        })
+    }
+
+    /// A readable payload, whose short length has no room for its ether type.
     fn too_short() -> Result<MacsecHeader, Fail> {
         Ok(MacsecHeader {
-            ptype: MacsecPType::Unmodified(EtherType(0x0800)),
+            ptype: MacsecPType::Unmodified(EtherType::IPV4),
             endstation_id: false,
             scb: false,
             an: MacsecAn::ZERO,
@@ -187,12 +251,66 @@ mod tests {
     }
 
     #[test]
+    fn the_example(rt: HostRuntime) -> Result<(), Fail> {
+        let mut tag = MacsecHeader {
+            ptype: MacsecPType::Unmodified(EtherType::IPV4),
+            endstation_id: false,
+            scb: false,
+            an: MacsecAn::try_new(2)?,
+            short_len: MacsecShortLen::ZERO,
+            packet_nr: 7,
+            sci: None,
+        };
+        tag.set_payload_len(40);
+        assert_eq!(rt; tag.short_len.value(), 42);
+
+        let bytes = tag.to_bytes();
+        assert_eq!(rt;
+            bytes.as_slice(),
+            [0x02, 42, 0, 0, 0, 7, 0x08, 0x00].as_slice()
+        );
+        assert_eq!(rt; MacsecHeader::from_slice(bytes.as_slice()), Ok(tag));
+        Ok(())
+    }
+
+    #[test]
+    fn the_tag_of_a_frame_with_integrity_protection(rt: HostRuntime) -> Result<(), Fail> {
+        let tag = MacsecHeader {
+            ptype: MacsecPType::Unmodified(EtherType::IPV4),
+            endstation_id: false,
+            scb: false,
+            an: MacsecAn::try_new(2)?,
+            short_len: MacsecShortLen::try_from_u8(42)?,
+            packet_nr: 2_999_092_325,
+            sci: Some(0x1215_3524_C089_5E81),
+        };
+        let frame = INTEGRITY;
+        assert_eq!(rt; MacsecHeader::from_slice(&frame[14..]), Ok(tag));
+        assert_eq!(rt; tag.to_bytes().as_slice(), &frame[14..30]);
+        Ok(())
+    }
+
+    #[test]
+    fn the_tag_of_a_frame_with_confidentiality_protection(rt: HostRuntime) -> Result<(), Fail> {
+        let tag = MacsecHeader {
+            ptype: MacsecPType::Encrypted,
+            endstation_id: true,
+            scb: false,
+            an: MacsecAn::ZERO,
+            short_len: MacsecShortLen::try_from_u8(42)?,
+            packet_nr: 1_993_627_629,
+            sci: None,
+        };
+        let frame = CONFIDENTIALITY;
+        assert_eq!(rt; MacsecHeader::from_slice(&frame[14..]), Ok(tag));
+        assert_eq!(rt; tag.to_bytes().as_slice(), &frame[14..20]);
+        Ok(())
+    }
+
+    #[test]
     fn written_and_refused(rt: HostRuntime) -> Result<(), Fail> {
-        let header = too_short()?;
-        let bytes = header.to_bytes();
+        let bytes = too_short()?.to_bytes();
         assert_eq!(rt; bytes.as_slice(), [0, 1, 0, 0, 0, 1, 8, 0].as_slice());
-        assert_eq!(rt; header.expected_payload_len(), None);
-        assert_eq!(rt; header.header_len(), 8);
         assert_eq!(rt;
             MacsecHeader::from_slice(bytes.as_slice()),
             Err(HeaderSliceError::Content(HeaderError::InvalidUnmodifiedShortLen))
@@ -202,15 +320,7 @@ mod tests {
 
     #[test]
     fn written_and_read_again(rt: HostRuntime) -> Result<(), Fail> {
-        let header = MacsecHeader {
-            ptype: MacsecPType::Modified,
-            endstation_id: true,
-            scb: true,
-            an: MacsecAn::try_new(2)?,
-            short_len: MacsecShortLen::try_from_u8(5)?,
-            packet_nr: 0x0102_0304,
-            sci: Some(0x1122_3344_5566_7788),
-        };
+        let header = changed()?;
         let bytes = header.to_bytes();
         assert_eq!(rt;
             bytes.as_slice(),
@@ -220,23 +330,49 @@ mod tests {
             .as_slice()
         );
         assert_eq!(rt; MacsecHeader::from_slice(bytes.as_slice()), Ok(header));
-        assert!(rt; !header.encrypted() && header.userdata_changed());
-        assert_eq!(rt; header.next_ether_type(), None);
-        assert_eq!(rt; header.header_len(), 14);
-        assert_eq!(rt; header.expected_payload_len(), Some(5));
-        assert_eq!(rt;
-            format!(in rt.alloc(); "{header:?}")?.as_str(),
-            "MacsecHeader { ptype: Modified, endstation_id: true, scb: true, an: MacsecAn(2), short_len: MacsecShortLen(5), packet_nr: 16909060, sci: Some(1234605616436508552) }"
-        );
+        Ok(())
+    }
+
+    #[test]
+    fn what_the_payload_type_says(rt: HostRuntime) -> Result<(), Fail> {
+        let rows = [
+            (MacsecPType::Modified, false, true, None),
+            (MacsecPType::Encrypted, true, true, None),
+            (MacsecPType::EncryptedUnmodified, true, false, None),
+            (
+                MacsecPType::Unmodified(EtherType::ARP),
+                false,
+                false,
+                Some(EtherType::ARP),
+            ),
+        ];
+        for (ptype, encrypted, changed, ether_type) in rows {
+            let header = MacsecHeader {
+                ptype,
+                ..too_short()?
+            };
+            assert_eq!(rt; header.encrypted(), encrypted);
+            assert_eq!(rt; header.userdata_changed(), changed);
+            assert_eq!(rt; header.next_ether_type(), ether_type);
+        }
+        Ok(())
+    }
+
+    #[test]
+    fn the_length_of_a_tag(rt: HostRuntime) -> Result<(), Fail> {
+        assert_eq!(rt; changed()?.header_len(), 14);
+        assert_eq!(rt; too_short()?.header_len(), 8);
+        assert_eq!(rt; MacsecHeader::MIN_LEN, 6);
+        assert_eq!(rt; MacsecHeader::MAX_LEN, 16);
         Ok(())
     }
 
     #[test]
     fn the_length_of_a_payload(rt: HostRuntime) -> Result<(), Fail> {
         let rows = [
-            (MacsecPType::Unmodified(EtherType(0x0800)), 0, 2, Some(0)),
-            (MacsecPType::Unmodified(EtherType(0x0800)), 61, 63, Some(61)),
-            (MacsecPType::Unmodified(EtherType(0x0800)), 62, 0, None),
+            (MacsecPType::Unmodified(EtherType::IPV4), 0, 2, Some(0)),
+            (MacsecPType::Unmodified(EtherType::IPV4), 61, 63, Some(61)),
+            (MacsecPType::Unmodified(EtherType::IPV4), 62, 0, None),
             (MacsecPType::Encrypted, 0, 0, None),
             (MacsecPType::Encrypted, 63, 63, Some(63)),
             (MacsecPType::Encrypted, 64, 0, None),
@@ -250,6 +386,59 @@ mod tests {
             assert_eq!(rt; header.short_len.value(), short_len, "{len}");
             assert_eq!(rt; header.expected_payload_len(), expected, "{len}");
         }
+        Ok(())
+    }
+
+    #[test]
+    fn no_payload_is_named_without_room_for_its_type(rt: HostRuntime) -> Result<(), Fail> {
+        assert_eq!(rt; too_short()?.expected_payload_len(), None);
+        Ok(())
+    }
+
+    #[test]
+    fn tags_differ_by_each_field(rt: HostRuntime) -> Result<(), Fail> {
+        let tag = changed()?;
+        let others = [
+            MacsecHeader {
+                ptype: MacsecPType::Encrypted,
+                ..tag
+            },
+            MacsecHeader {
+                endstation_id: false,
+                ..tag
+            },
+            MacsecHeader { scb: false, ..tag },
+            MacsecHeader {
+                an: MacsecAn::try_new(3)?,
+                ..tag
+            },
+            MacsecHeader {
+                short_len: MacsecShortLen::ZERO,
+                ..tag
+            },
+            MacsecHeader {
+                packet_nr: 0x0102_0305,
+                ..tag
+            },
+            MacsecHeader { sci: None, ..tag },
+            MacsecHeader {
+                sci: Some(0x1122_3344_5566_7789),
+                ..tag
+            },
+        ];
+        for other in others {
+            assert_ne!(rt; other, tag);
+            assert_eq!(rt; other, other);
+        }
+        Ok(())
+    }
+
+    #[test]
+    fn shown_by_its_fields(rt: HostRuntime) -> Result<(), Fail> {
+        assert_eq!(rt;
+            format!(in rt.alloc(); "{:?}", changed()?)?.as_str(),
+            "MacsecHeader { ptype: Modified, endstation_id: true, scb: true, an: MacsecAn(2), short_len: MacsecShortLen(5), packet_nr: 16909060, sci: Some(1234605616436508552) }"
+        );
         Ok(())
     }
 }

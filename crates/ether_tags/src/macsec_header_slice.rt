@@ -1,4 +1,4 @@
-//! A view of a SecTag.
+//! A view of a MACsec SecTag.
 ghost use Rattle.std.specs.Prelude.{◌≡◌, ◌≤◌, length, IfOk, IfErr, slice_range};
 ghost use Rattle.ether_base.specs.declared.header_slice_error.HeaderSliceError.TheVariants.{Len};
 ghost use Rattle.ether_base.specs.declared.len_source.LenSource.TheVariants as sources;
@@ -14,10 +14,19 @@ use ether_base::err::macsec::{HeaderError, HeaderSliceError};
 use ether_base::err::{Layer, LenError};
 use ether_base::{EtherType, LenSource, MacsecAn, MacsecShortLen};
 
-/// The bytes of a SecTag behind its own ether type (IEEE 802.1AE, 9.3), and of the ether type behind it where there is one
-/// to read: 6 to 16 bytes, in the bytes of a packet.
+/// A view of a MACsec SecTag, which borrows its 6 to 16 bytes from a packet ([`MacsecHeader`] has a picture of them).
 ///
-/// Two views are equal where their bytes are.
+/// Two views are equal if their bytes are, wherever these stand.
+///
+/// ```
+/// let bytes = [0x53, 0x2A, 0x01, 0x02, 0x03, 0x04, 0x08, 0x00, 0x45];
+/// let tag = MacsecHeaderSlice::from_slice(&bytes)?;
+/// assert_eq!(rt; tag.an().value(), 3);
+/// assert_eq!(rt; tag.packet_nr(), 0x0102_0304);
+/// assert_eq!(rt; tag.next_ether_type(), Some(EtherType::IPV4));
+/// assert_eq!(rt; tag.expected_payload_len(), Some(40));
+/// assert_eq!(rt; tag.slice(), &bytes[..8]);
+/// ```
 #[derive(Clone, Copy, PartialEq, Eq, Debug)]
 pub struct MacsecHeaderSlice<'a> {
     slice: &'a [u8],
@@ -32,8 +41,20 @@ impl<'a> MacsecHeaderSlice<'a> {
     ghost use Rattle.ether_base.specs.Macsec.{known_payload_len};
     ghost use Rattle.ether_tags.specs.Macsec.{IsRefusedTag, tag_bytes, payload_type_view, readable_type, sec_tag_view};
 
-    /// The tag that a slice begins with, refused where it is not there in full, where its version bit is 1, and where its
-    /// short length is 1 though the ether type behind the tag takes 2 bytes. What follows the tag is no part of the view.
+    /// The tag at the front of a slice, with the next ether type. The bytes behind it are not part of the view.
+    ///
+    /// # Errors
+    ///
+    /// The first of these that holds:
+    ///
+    /// - `HeaderSliceError::Len`: the slice has fewer than 6 bytes. `required_len` is 6.
+    /// - `HeaderSliceError::Content` with [`HeaderError::UnexpectedVersion`]: the version bit V is 1.
+    /// - `HeaderSliceError::Content` with [`HeaderError::InvalidUnmodifiedShortLen`]: the short length is 1 and the bits E
+    ///   and C are clear, though the next ether type alone takes 2 bytes.
+    /// - `HeaderSliceError::Len`: the slice ends within the tag. `required_len` is the length of the tag.
+    ///
+    /// In both length errors `len` is the slice's length, `len_source` is [`LenSource::Slice`], `layer` is
+    /// [`Layer::MacsecHeader`] and `layer_start_offset` is 0.
     pub fn from_slice(slice: &'a [u8]) -> Result<MacsecHeaderSlice<'a>, HeaderSliceError>
         ensures bytes { IfOk result (λ h. tag_bytes h ≡ slice_range slice.now 0 (sec_tag_len (sec_tag_front_in slice.now))) }
         ensures whole { IfOk result (λ h. sec_tag_len (sec_tag_front_in slice.now) ≤ length slice.now) }
@@ -59,98 +80,99 @@ impl<'a> MacsecHeaderSlice<'a> {
         })
     }
 
-    /// All bytes of the tag, 6 to 16.
+    /// The 6 to 16 bytes of the tag, with the next ether type.
     pub fn slice(&self) -> &'a [u8]
         ensures { result.now ≡ tag_bytes self.now }
     {
         self.slice
     }
 
-    /// The first byte of the tag: V, ES, SC, SCB, E, C and the association number.
+    /// The first byte of the tag: the bits V, ES, SC, SCB, E and C of the TCI (9.5), and the association number.
     pub fn tci_an_raw(&self) -> u8
         ensures { result ≡ slice_index (tag_bytes self.now) 0 }
     {
         self.slice[0]
     }
 
-    /// Whether the bit ES is set: the source address of the frame names the station that sent it (9.5).
+    /// The end station bit (ES, 9.5): the SCI is made of the frame's source address, and is left out.
     pub fn endstation_id(&self) -> bool
         ensures { bit result ≡ (sec_tag_of (tag_bytes self.now)).end_station }
     {
         macsec_fields::endstation_id(self.slice)
     }
 
-    /// Whether the bit SCB is set: the frame is a single copy broadcast of a passive optical network (9.5).
+    /// The single copy broadcast bit (SCB, 9.5), of a passive optical network.
     pub fn tci_scb(&self) -> bool
         ensures { bit result ≡ (sec_tag_of (tag_bytes self.now)).single_copy_broadcast }
     {
         macsec_fields::tci_scb(self.slice)
     }
 
-    /// Whether the bit E is set: the payload is encrypted (9.5).
+    /// Whether the payload is encrypted: bit E (9.5).
     pub fn encrypted(&self) -> bool
         ensures { bit result ≡ (sec_tag_front_in (tag_bytes self.now)).encrypted }
     {
         macsec_fields::encrypted(self.slice)
     }
 
-    /// Whether the bit C is set: the payload is changed (9.5).
+    /// Whether the payload is changed: bit C (9.5).
     pub fn userdata_changed(&self) -> bool
         ensures { bit result ≡ (sec_tag_front_in (tag_bytes self.now)).changed }
     {
         macsec_fields::userdata_changed(self.slice)
     }
 
-    /// Whether the payload is neither encrypted nor changed, so that an ether type stands behind the tag.
+    /// Whether the payload is neither encrypted nor changed: the bits E and C are clear, and a next ether type is part of
+    /// the tag.
     pub fn is_unmodified(&self) -> bool
         ensures { IsTrue result ↔ (((sec_tag_front_in (tag_bytes self.now)).encrypted ≡ 0) × ((sec_tag_front_in (tag_bytes self.now)).changed ≡ 0)) }
     {
         macsec_fields::is_unmodified(self.slice)
     }
 
-    /// Whether the payload is encrypted and changed, and its protocol where that can be read.
+    /// Whether the payload is encrypted and changed (bits E and C), and its ether type if it is neither.
     pub fn ptype(&self) -> MacsecPType
         ensures { payload_type_view result ≡ (sec_tag_of (tag_bytes self.now)).payload_type }
     {
         macsec_fields::ptype(self.slice)
     }
 
-    /// The association number (9.6).
+    /// The association number (AN, 9.6).
     pub fn an(&self) -> MacsecAn
         ensures { result ≡ (sec_tag_of (tag_bytes self.now)).association_number }
     {
         macsec_fields::association_number(self.slice)
     }
 
-    /// The short length (9.7).
+    /// The short length (SL, 9.7), 0 to 63.
     pub fn short_len(&self) -> MacsecShortLen
         ensures { result ≡ (sec_tag_of (tag_bytes self.now)).short_len }
     {
         macsec_fields::short_len(self.slice)
     }
 
-    /// The packet number (9.8).
+    /// The packet number (PN, 9.8).
     pub fn packet_nr(&self) -> u32
         ensures { result ≡ (sec_tag_of (tag_bytes self.now)).packet_number }
     {
         macsec_fields::packet_nr(self.slice)
     }
 
-    /// Whether the bit SC is set: the tag holds an SCI.
+    /// Whether the tag has an SCI: bit SC (9.5).
     pub fn sci_present(&self) -> bool
         ensures { bit result ≡ (sec_tag_front_in (tag_bytes self.now)).sci_present }
     {
         macsec_fields::sci_present(self.slice)
     }
 
-    /// The secure channel identifier (9.9), `None` where the tag holds none.
+    /// The secure channel identifier (SCI, 9.9); `None` if the tag has none.
     pub fn sci(&self) -> Option<u64>
         ensures { result ≡ (sec_tag_of (tag_bytes self.now)).sci }
     {
         macsec_fields::sci(self.slice)
     }
 
-    /// The ether type behind the tag, `None` where the payload is encrypted or changed.
+    /// The ether type of the payload; `None` if the payload is encrypted or changed.
     pub fn next_ether_type(&self) -> Option<EtherType>
         ensures { option_map (λ ether_type. ether_type.0) result ≡ readable_type (sec_tag_of (tag_bytes self.now)).payload_type }
     {
@@ -160,7 +182,7 @@ impl<'a> MacsecHeaderSlice<'a> {
         }
     }
 
-    /// The length of the tag in bytes, with the ether type behind it, 6 to 16.
+    /// The length of the tag in bytes, with the next ether type, 6 to 16.
     pub fn header_len(&self) -> usize
         ensures tag { result ≡ sec_tag_len (sec_tag_front_in (tag_bytes self.now)) }
         ensures slice { result ≡ length (tag_bytes self.now) }
@@ -168,8 +190,8 @@ impl<'a> MacsecHeaderSlice<'a> {
         self.slice.len()
     }
 
-    /// The payload's length that the short length names, without the ether type behind the tag; `None` where it names
-    /// none, as where the payload runs to the end of the frame.
+    /// The length of the payload in bytes that the short length names, without the next ether type. `None` if the short
+    /// length is 0, so that the payload and the integrity check value reach to the end of the frame.
     pub fn expected_payload_len(&self) -> Option<usize>
         ensures { result ≡ known_payload_len (sec_tag_front_in (tag_bytes self.now)) }
     {
@@ -208,53 +230,62 @@ fn cut_short(required_len: usize, len: usize) -> HeaderSliceError
 #[cfg(test)]
 mod tests {
     use super::*;
+    use crate::test_frames::SEALED;
     use std::test::Fail;
 
-    /// A tag with reserved bits and a secure channel identifier, encrypted and changed, and a byte behind it.
-    const SEALED: [u8; 15] = [
-        0x2C, 0xC0, 0x00, 0x00, 0x00, 0x01, 0x00, 0x11, 0x22, 0x33, 0x44, 0x55, 0x66, 0x77, 0x99,
-    ];
-
     #[test]
-    fn the_fields_of_a_sealed_tag(rt: HostRuntime) -> Result<(), Fail> {
-        let tag = MacsecHeaderSlice::from_slice(&SEALED)?;
-        assert_eq!(rt; tag.slice(), &SEALED[..14]);
-        assert_eq!(rt; tag.tci_an_raw(), 0x2C);
-        assert!(rt; !tag.endstation_id() && !tag.tci_scb());
-        assert!(rt; tag.encrypted() && tag.userdata_changed() && !tag.is_unmodified());
-        assert_eq!(rt; tag.ptype(), MacsecPType::Encrypted);
-        assert_eq!(rt; tag.an(), MacsecAn::ZERO);
-        assert_eq!(rt; tag.short_len(), MacsecShortLen::ZERO);
-        assert_eq!(rt; tag.packet_nr(), 1);
-        assert!(rt; tag.sci_present());
-        assert_eq!(rt; tag.sci(), Some(0x0011_2233_4455_6677));
-        assert_eq!(rt; tag.next_ether_type(), None);
-        assert_eq!(rt; tag.header_len(), 14);
-        assert_eq!(rt; tag.expected_payload_len(), None);
-        let mut written = SEALED;
-        written[1] = 0;
-        assert_eq!(rt; tag.to_header().to_bytes().as_slice(), &written[..14]);
-        let copy = tag;
-        assert_eq!(rt; copy, tag.clone()?);
-        assert_eq!(rt;
-            format!(in rt.alloc(); "{tag:?}")?.as_str(),
-            "MacsecHeaderSlice { slice: [44, 192, 0, 0, 0, 1, 0, 17, 34, 51, 68, 85, 102, 119] }"
-        );
+    fn the_example(rt: HostRuntime) -> Result<(), Fail> {
+        let bytes = [0x53, 0x2A, 0x01, 0x02, 0x03, 0x04, 0x08, 0x00, 0x45];
+        let tag = MacsecHeaderSlice::from_slice(&bytes)?;
+        assert_eq!(rt; tag.an().value(), 3);
+        assert_eq!(rt; tag.packet_nr(), 0x0102_0304);
+        assert_eq!(rt; tag.next_ether_type(), Some(EtherType::IPV4));
+        assert_eq!(rt; tag.expected_payload_len(), Some(40));
+        assert_eq!(rt; tag.slice(), &bytes[..8]);
         Ok(())
     }
 
     #[test]
-    fn the_fields_of_a_readable_tag(rt: HostRuntime) -> Result<(), Fail> {
-        let bytes = [0x53, 0x2A, 0x01, 0x02, 0x03, 0x04, 0x08, 0x00];
-        let tag = MacsecHeaderSlice::from_slice(&bytes)?;
-        assert!(rt; tag.endstation_id() && tag.tci_scb() && tag.is_unmodified());
+    fn the_bits_of_a_sealed_tag(rt: HostRuntime) -> Result<(), Fail> {
+        let tag = MacsecHeaderSlice::from_slice(&SEALED)?;
+        assert_eq!(rt; tag.tci_an_raw(), 0x2C);
+        assert!(rt; !tag.endstation_id() && tag.sci_present() && !tag.tci_scb());
+        assert!(rt; tag.encrypted() && tag.userdata_changed() && !tag.is_unmodified());
+        assert_eq!(rt; tag.ptype(), MacsecPType::Encrypted);
+        assert_eq!(rt; tag.next_ether_type(), None);
+        Ok(())
+    }
+
+    #[test]
+    fn the_numbers_of_a_sealed_tag(rt: HostRuntime) -> Result<(), Fail> {
+        let tag = MacsecHeaderSlice::from_slice(&SEALED)?;
+        assert_eq!(rt; tag.an(), MacsecAn::ZERO);
+        assert_eq!(rt; tag.short_len(), MacsecShortLen::ZERO);
+        assert_eq!(rt; tag.packet_nr(), 1);
+        assert_eq!(rt; tag.sci(), Some(0x0011_2233_4455_6677));
+        assert_eq!(rt; tag.header_len(), 14);
+        assert_eq!(rt; tag.expected_payload_len(), None);
+        Ok(())
+    }
+
+    #[test]
+    fn the_bits_of_a_readable_tag(rt: HostRuntime) -> Result<(), Fail> {
+        let tag = MacsecHeaderSlice::from_slice(&[0x53, 0x2A, 1, 2, 3, 4, 0x08, 0x00])?;
+        assert!(rt; tag.endstation_id() && !tag.sci_present() && tag.tci_scb());
+        assert!(rt; !tag.encrypted() && !tag.userdata_changed() && tag.is_unmodified());
         assert_eq!(rt; tag.ptype(), MacsecPType::Unmodified(EtherType::IPV4));
-        assert_eq!(rt; tag.an().value(), 3);
         assert_eq!(rt; tag.short_len().value(), 42);
-        assert_eq!(rt; tag.packet_nr(), 0x0102_0304);
         assert_eq!(rt; tag.sci(), None);
-        assert_eq!(rt; tag.next_ether_type(), Some(EtherType::IPV4));
-        assert_eq!(rt; tag.expected_payload_len(), Some(40));
+        Ok(())
+    }
+
+    #[test]
+    fn reserved_bits_are_not_written_back(rt: HostRuntime) -> Result<(), Fail> {
+        let tag = MacsecHeaderSlice::from_slice(&SEALED)?;
+        let mut written = SEALED;
+        written[1] = 0;
+        assert_eq!(rt; tag.slice(), &SEALED[..14]);
+        assert_eq!(rt; tag.to_header().to_bytes().as_slice(), &written[..14]);
         Ok(())
     }
 
@@ -269,6 +300,27 @@ mod tests {
             let bytes = [first, 0, 0, 0, 0, 0];
             assert_eq!(rt; MacsecHeaderSlice::from_slice(&bytes)?.ptype(), ptype);
         }
+        Ok(())
+    }
+
+    #[test]
+    fn views_differ_by_their_bytes(rt: HostRuntime) -> Result<(), Fail> {
+        let mut changed = SEALED;
+        changed[13] = 0x78;
+        let tag = MacsecHeaderSlice::from_slice(&SEALED)?;
+        let copy = tag;
+        assert_eq!(rt; copy, tag.clone()?);
+        assert_ne!(rt; tag, MacsecHeaderSlice::from_slice(&changed)?);
+        Ok(())
+    }
+
+    #[test]
+    fn shown_by_its_bytes(rt: HostRuntime) -> Result<(), Fail> {
+        let tag = MacsecHeaderSlice::from_slice(&SEALED)?;
+        assert_eq!(rt;
+            format!(in rt.alloc(); "{tag:?}")?.as_str(),
+            "MacsecHeaderSlice { slice: [44, 192, 0, 0, 0, 1, 0, 17, 34, 51, 68, 85, 102, 119] }"
+        );
         Ok(())
     }
 }

@@ -1,16 +1,54 @@
-//! What a SecTag's payload is.
+//! What a MACsec SecTag's payload is.
 use ether_base::EtherType;
 
-/// Whether the payload of a SecTag is encrypted and changed (IEEE 802.1AE, 9.5, the bits E and C), and its protocol where
-/// that can be read.
+/// Whether the payload of a MACsec SecTag is encrypted (bit E) and changed (bit C, IEEE 802.1AE, 9.5), and its ether type
+/// if it is neither.
+///
+/// ```
+/// let readable = MacsecHeader::from_slice(&[0x00, 0x00, 0, 0, 0, 1, 0x08, 0x00])?;
+/// assert_eq!(rt; readable.ptype, MacsecPType::Unmodified(EtherType::IPV4));
+/// let encrypted = MacsecHeader::from_slice(&[0x0C, 0x00, 0, 0, 0, 1])?;
+/// assert_eq!(rt; encrypted.ptype, MacsecPType::Encrypted);
+/// ```
 #[derive(Clone, Copy, PartialEq, Eq, Hash, Debug)]
 pub enum MacsecPType {
-    /// Neither encrypted nor changed: the ether type behind the tag says what it is.
+    /// E and C are clear: the payload is as it was before MACsec, and its ether type stands at the end of the tag.
     Unmodified(EtherType),
-    /// Changed, though not encrypted.
+    /// Only C is set: changed, though not encrypted.
     Modified,
-    /// Encrypted and changed.
+    /// E and C are set: encrypted, and so changed.
     Encrypted,
-    /// Encrypted, and not changed otherwise.
+    /// Only E is set, which IEEE 802.1AE reserves for the key agreement entity.
     EncryptedUnmodified,
+}
+
+#[cfg(test)]
+mod tests {
+    use super::*;
+    use crate::MacsecHeader;
+    use std::test::Fail;
+
+    #[test]
+    fn the_example(rt: HostRuntime) -> Result<(), Fail> {
+        let readable = MacsecHeader::from_slice(&[0x00, 0x00, 0, 0, 0, 1, 0x08, 0x00])?;
+        assert_eq!(rt; readable.ptype, MacsecPType::Unmodified(EtherType::IPV4));
+        let encrypted = MacsecHeader::from_slice(&[0x0C, 0x00, 0, 0, 0, 1])?;
+        assert_eq!(rt; encrypted.ptype, MacsecPType::Encrypted);
+        Ok(())
+    }
+
+    #[test]
+    fn types_differ_by_variant_and_ether_type(rt: HostRuntime) {
+        let readable = MacsecPType::Unmodified(EtherType::IPV4);
+        let others = [
+            MacsecPType::Unmodified(EtherType::IPV6),
+            MacsecPType::Modified,
+            MacsecPType::Encrypted,
+            MacsecPType::EncryptedUnmodified,
+        ];
+        for other in others {
+            assert_ne!(rt; other, readable);
+            assert_eq!(rt; other, other);
+        }
+    }
 }

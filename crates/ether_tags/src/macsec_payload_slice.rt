@@ -1,11 +1,52 @@
-//! The payload of a SecTag.
+//! The payload of a MACsec SecTag.
 use crate::EtherPayloadSlice;
 
-/// What stands behind a SecTag.
+/// A view of the payload behind a MACsec SecTag.
+///
+/// ```
+/// let encrypted = MacsecSlice::from_slice(&[0x0C, 0x00, 0, 0, 0, 1, 0xAA])?;
+/// assert_eq!(rt; encrypted.payload, MacsecPayloadSlice::Modified(&[0xAA]));
+/// ```
 #[derive(Clone, Copy, PartialEq, Eq, Debug)]
 pub enum MacsecPayloadSlice<'a> {
-    /// The payload of a tag that says neither encrypted nor changed, and the ether type that says what it is.
+    /// The payload if it is neither encrypted nor changed (bits E and C are clear), and the ether type that names its
+    /// protocol.
     Unmodified(EtherPayloadSlice<'a>),
-    /// The bytes of a payload that is encrypted or changed.
+    /// The bytes of the payload if it is encrypted or changed.
     Modified(&'a [u8]),
+}
+
+#[cfg(test)]
+mod tests {
+    use super::*;
+    use crate::MacsecSlice;
+    use ether_base::{EtherType, LenSource};
+    use std::test::Fail;
+
+    #[test]
+    fn the_example(rt: HostRuntime) -> Result<(), Fail> {
+        let encrypted = MacsecSlice::from_slice(&[0x0C, 0x00, 0, 0, 0, 1, 0xAA])?;
+        assert_eq!(rt; encrypted.payload, MacsecPayloadSlice::Modified(&[0xAA]));
+        Ok(())
+    }
+
+    #[test]
+    fn payloads_differ_by_variant_and_contents(rt: HostRuntime) {
+        let ether = EtherPayloadSlice {
+            ether_type: EtherType::IPV4,
+            len_source: LenSource::Slice,
+            payload: &[0xAA],
+        };
+        let longer = EtherPayloadSlice {
+            payload: &[0xAA, 0xBB],
+            ..ether
+        };
+        let readable = MacsecPayloadSlice::Unmodified(ether);
+        let sealed = MacsecPayloadSlice::Modified(&[0xAA]);
+        assert_eq!(rt; readable, readable);
+        assert_eq!(rt; sealed, sealed);
+        assert_ne!(rt; readable, sealed);
+        assert_ne!(rt; readable, MacsecPayloadSlice::Unmodified(longer));
+        assert_ne!(rt; sealed, MacsecPayloadSlice::Modified(&[0xBB]));
+    }
 }

@@ -1,4 +1,4 @@
-//! A view of a SecTag and its payload.
+//! A view of a MACsec SecTag and its payload.
 ghost use Rattle.std.specs.Prelude.{◌≡◌, ◌≤◌, IfOk, IfErr, IfSome, slice_range};
 ghost use Rattle.std.specs.Option.{option_map};
 ghost use Rattle.ether_base.specs.declared.header_slice_error.HeaderSliceError.TheVariants.{Len};
@@ -15,21 +15,40 @@ use ether_base::err::macsec::HeaderSliceError;
 use ether_base::err::{Layer, LenError};
 use ether_base::{EtherType, LenSource};
 
-/// A SecTag and its payload, in the bytes of a packet. Nothing ties the two where a caller filled them.
+/// A view of a MACsec SecTag and its payload.
+///
+/// Public fields are not checked against each other.
+///
+/// ```
+/// let bytes = [0x00, 0x03, 0, 0, 0, 1, 0x08, 0x00, 0x45, 0xEE];
+/// let packet = MacsecSlice::from_slice(&bytes)?;
+/// let payload = EtherPayloadSlice {
+///     ether_type: EtherType::IPV4,
+///     len_source: LenSource::MacsecShortLength,
+///     payload: &[0x45],
+/// };
+/// assert_eq!(rt; packet.header.packet_nr(), 1);
+/// assert_eq!(rt; packet.ether_payload(), Some(payload));
+/// ```
 #[derive(Clone, PartialEq, Eq, Debug, Drop)]
 pub struct MacsecSlice<'a> {
     /// The tag.
     pub header: MacsecHeaderSlice<'a>,
-    /// What stands behind the tag, as far as the short length reaches where it names a length.
+    /// The payload behind the tag.
     pub payload: MacsecPayloadSlice<'a>,
 }
 
 impl<'a> MacsecSlice<'a> {
-    /// The tag that a slice begins with, and its payload, refused as by [`MacsecHeaderSlice::from_slice`], and where the
-    /// payload is shorter than the short length names.
+    /// The tag at the front of a slice, and its payload.
     ///
-    /// The payload ends where the short length says. Where that names no length it is the rest of the slice, with the
-    /// integrity check value at its end.
+    /// If the short length names a length, the payload ends there, and the integrity check value (ICV) is not part of it.
+    /// Otherwise the payload is the rest of the slice, with the ICV at its end.
+    ///
+    /// # Errors
+    ///
+    /// Those of [`MacsecHeaderSlice::from_slice`] first. Then `HeaderSliceError::Len` if the slice ends before the payload
+    /// does that the short length names: `required_len` is the length of tag and payload, `len` the slice's length,
+    /// `len_source` is [`LenSource::MacsecShortLength`], `layer` is [`Layer::MacsecPacket`] and `layer_start_offset` is 0.
     pub fn from_slice(slice: &'a [u8]) -> Result<MacsecSlice<'a>, HeaderSliceError>
         ensures header { IfOk result (λ m. tag_bytes m.header ≡ slice_range slice.now 0 (sec_tag_len (sec_tag_front_in slice.now))) }
         ensures payload { IfOk result (λ m. HoldsPayload m.payload (sec_tag_front_in slice.now) slice.now) }
@@ -52,7 +71,7 @@ impl<'a> MacsecSlice<'a> {
         Ok(MacsecSlice { header, payload })
     }
 
-    /// The payload with its type, `None` where it is encrypted or changed.
+    /// The payload and its ether type; `None` if it is encrypted or changed.
     pub fn ether_payload(&self) -> Option<EtherPayloadSlice<'a>>
         ensures { result ≡ readable_payload self.now.payload }
     {
@@ -62,7 +81,7 @@ impl<'a> MacsecSlice<'a> {
         }
     }
 
-    /// The ether type behind the tag, `None` where the payload is encrypted or changed.
+    /// The ether type of the payload; `None` if the payload is encrypted or changed.
     pub fn next_ether_type(&self) -> Option<EtherType>
         ensures { option_map (λ ether_type. ether_type.0) result ≡ readable_type (sec_tag_of (tag_bytes self.now.header)).payload_type }
     {
@@ -126,53 +145,105 @@ fn payload_of<'a>(
 #[cfg(test)]
 mod tests {
     use super::*;
+    use crate::test_frames::{CONFIDENTIALITY, INTEGRITY, NAMED, SEALED};
     use ether_base::err::macsec::HeaderError;
     use std::test::Fail;
 
-    /// A tag that names 4 bytes of payload, these, and 2 bytes behind them.
-    const NAMED: [u8; 14] = [
-        0x00, 0x06, 0x00, 0x00, 0x00, 0x01, 0x81, 0x00, 0xAA, 0xBB, 0xCC, 0xDD, 0xEE, 0xEE,
-    ];
-
-    /// An encrypted and changed payload of 1 byte, behind a tag with reserved bits and a secure channel identifier.
-    const SEALED: [u8; 15] = [
-        0x2C, 0xC0, 0x00, 0x00, 0x00, 0x01, 0x00, 0x11, 0x22, 0x33, 0x44, 0x55, 0x66, 0x77, 0x99,
-    ];
+    #[test]
+    fn the_example(rt: HostRuntime) -> Result<(), Fail> {
+        let bytes = [0x00, 0x03, 0, 0, 0, 1, 0x08, 0x00, 0x45, 0xEE];
+        let packet = MacsecSlice::from_slice(&bytes)?;
+        let payload = EtherPayloadSlice {
+            ether_type: EtherType::IPV4,
+            len_source: LenSource::MacsecShortLength,
+            payload: &[0x45],
+        };
+        assert_eq!(rt; packet.header.packet_nr(), 1);
+        assert_eq!(rt; packet.ether_payload(), Some(payload));
+        Ok(())
+    }
 
     #[test]
-    fn a_payload_of_named_length(rt: HostRuntime) -> Result<(), Fail> {
-        let slice = MacsecSlice::from_slice(&NAMED)?;
+    fn a_frame_with_integrity_protection(rt: HostRuntime) -> Result<(), Fail> {
+        let frame = INTEGRITY;
+        let packet = MacsecSlice::from_slice(&frame[14..])?;
         let payload = EtherPayloadSlice {
-            ether_type: EtherType(0x8100),
+            ether_type: EtherType(0x0800),
             len_source: LenSource::MacsecShortLength,
-            payload: &[0xAA, 0xBB, 0xCC, 0xDD],
+            payload: &frame[30..70],
         };
-        assert_eq!(rt; slice.header.slice(), &NAMED[..8]);
-        assert_eq!(rt; slice.payload, MacsecPayloadSlice::Unmodified(payload));
-        assert_eq!(rt; slice.ether_payload(), Some(payload));
-        assert_eq!(rt; slice.next_ether_type(), Some(EtherType(0x8100)));
-        assert_eq!(rt; slice.clone()?, slice);
+        assert_eq!(rt; packet.ether_payload(), Some(payload));
+        Ok(())
+    }
+
+    #[test]
+    fn a_frame_with_confidentiality_protection(rt: HostRuntime) -> Result<(), Fail> {
+        let frame = CONFIDENTIALITY;
+        let packet = MacsecSlice::from_slice(&frame[14..])?;
         assert_eq!(rt;
-            format!(in rt.alloc(); "{slice:?}")?.as_str(),
-            "MacsecSlice { header: MacsecHeaderSlice { slice: [0, 6, 0, 0, 0, 1, 129, 0] }, payload: Unmodified(EtherPayloadSlice { ether_type: 0x8100 (Customer VLAN Tag (C-TAG) as defined in IEEE Std 802.1Q), len_source: MacsecShortLength, payload: [170, 187, 204, 221] }) }"
+            packet.payload,
+            MacsecPayloadSlice::Modified(&frame[20..62])
         );
         Ok(())
     }
 
     #[test]
+    fn a_payload_of_named_length(rt: HostRuntime) -> Result<(), Fail> {
+        let packet = MacsecSlice::from_slice(&NAMED)?;
+        let payload = EtherPayloadSlice {
+            ether_type: EtherType(0x8100),
+            len_source: LenSource::MacsecShortLength,
+            payload: &[0xAA, 0xBB, 0xCC, 0xDD],
+        };
+        assert_eq!(rt; packet.header.slice(), &NAMED[..8]);
+        assert_eq!(rt; packet.payload, MacsecPayloadSlice::Unmodified(payload));
+        assert_eq!(rt; packet.ether_payload(), Some(payload));
+        assert_eq!(rt; packet.next_ether_type(), Some(EtherType(0x8100)));
+        Ok(())
+    }
+
+    #[test]
     fn a_sealed_payload_runs_to_the_end(rt: HostRuntime) -> Result<(), Fail> {
-        let slice = MacsecSlice::from_slice(&SEALED)?;
-        assert_eq!(rt; slice.payload, MacsecPayloadSlice::Modified(&[0x99]));
-        assert_eq!(rt; slice.ether_payload(), None);
-        assert_eq!(rt; slice.next_ether_type(), None);
+        let packet = MacsecSlice::from_slice(&SEALED)?;
+        assert_eq!(rt; packet.payload, MacsecPayloadSlice::Modified(&[0x99]));
+        assert_eq!(rt; packet.ether_payload(), None);
+        assert_eq!(rt; packet.next_ether_type(), None);
         Ok(())
     }
 
     #[test]
     fn a_sealed_payload_of_named_length(rt: HostRuntime) -> Result<(), Fail> {
         let bytes = [0x0C, 0x01, 0x00, 0x00, 0x00, 0x01, 0xAA, 0xBB];
-        let slice = MacsecSlice::from_slice(&bytes)?;
-        assert_eq!(rt; slice.payload, MacsecPayloadSlice::Modified(&[0xAA]));
+        let packet = MacsecSlice::from_slice(&bytes)?;
+        assert_eq!(rt; packet.payload, MacsecPayloadSlice::Modified(&[0xAA]));
+        Ok(())
+    }
+
+    #[test]
+    fn views_differ_by_each_field(rt: HostRuntime) -> Result<(), Fail> {
+        let packet = MacsecSlice::from_slice(&NAMED)?;
+        let other = MacsecSlice::from_slice(&SEALED)?;
+        let header = MacsecSlice {
+            header: other.header,
+            payload: packet.payload,
+        };
+        let payload = MacsecSlice {
+            header: packet.header,
+            payload: other.payload,
+        };
+        assert_eq!(rt; packet.clone()?, packet);
+        assert_ne!(rt; packet, header);
+        assert_ne!(rt; packet, payload);
+        Ok(())
+    }
+
+    #[test]
+    fn shown_by_header_and_payload(rt: HostRuntime) -> Result<(), Fail> {
+        let packet = MacsecSlice::from_slice(&NAMED)?;
+        assert_eq!(rt;
+            format!(in rt.alloc(); "{packet:?}")?.as_str(),
+            "MacsecSlice { header: MacsecHeaderSlice { slice: [0, 6, 0, 0, 0, 1, 129, 0] }, payload: Unmodified(EtherPayloadSlice { ether_type: 0x8100 (Customer VLAN Tag (C-TAG) as defined in IEEE Std 802.1Q), len_source: MacsecShortLength, payload: [170, 187, 204, 221] }) }"
+        );
         Ok(())
     }
 
@@ -194,7 +265,7 @@ mod tests {
     }
 
     #[test]
-    fn each_refusal(rt: HostRuntime) {
+    fn a_payload_that_is_cut_short(rt: HostRuntime) {
         assert_eq!(rt;
             refusal(&NAMED[..10]),
             Some(HeaderSliceError::Len(LenError {
@@ -205,8 +276,16 @@ mod tests {
                 layer_start_offset: 0,
             }))
         );
+    }
+
+    #[test]
+    fn a_tag_that_is_cut_short(rt: HostRuntime) {
         assert_eq!(rt; refusal(&NAMED[..6]), cut_header(8, 6));
         assert_eq!(rt; refusal(&[0x80, 0, 0, 0, 0]), cut_header(6, 5));
+    }
+
+    #[test]
+    fn contents_that_are_refused(rt: HostRuntime) {
         assert_eq!(rt;
             refusal(&[0x80, 0, 0, 0, 0, 0]),
             Some(HeaderSliceError::Content(HeaderError::UnexpectedVersion))

@@ -14,28 +14,62 @@ use crate::vlan_fields::{self, tag_control_of};
 use ether_base::err::LenError;
 use ether_base::{EtherType, VlanId, VlanPcp};
 
-/// A VLAN tag of IEEE 802.1Q behind its own ether type: 4 bytes, priority, drop eligible indicator and VLAN
-/// identifier in the first two, the next ether type in the last two.
+/// A VLAN tag (IEEE 802.1Q, 9.4): the tag control information (TCI) and the *next* ether type, 4 bytes on the wire.
+///
+/// The standard counts the tag protocol identifier (TPID), such as 0x8100, as the first two bytes of a tag. In a frame
+/// it stands where the layer before has its ether type, so it is that layer's `ether_type` here, and the tag begins
+/// behind it:
+///
+/// ```text
+///     layer before  |      SingleVlanHeader
+///     +-------------+-------------+-----------------+
+///     |    TPID     |     TCI     | next ether type |
+///     +-------------+-------------+-----------------+
+///              byte 0             2                 4
+///
+///     bit of the TCI  15      13  12  11             0
+///                     +---------+-----+--------------+
+///                     |   PCP   | DEI |     VID      |
+///                     +---------+-----+--------------+
+/// ```
+///
+/// A next ether type below 0x0600 is the length of IEEE 802.3 data, and is handed on as it stands.
+///
+/// ```
+/// let mut tag = SingleVlanHeader::from_bytes([0xB1, 0x23, 0x08, 0x00]);
+/// assert_eq!(rt; tag.pcp.value(), 5);
+/// assert!(rt; tag.drop_eligible_indicator);
+/// assert_eq!(rt; tag.vlan_id.value(), 0x123);
+/// assert_eq!(rt; tag.ether_type, EtherType::IPV4);
+///
+/// tag.vlan_id = VlanId::try_new(100)?;
+/// assert_eq!(rt; tag.to_bytes(), [0xB0, 0x64, 0x08, 0x00]);
+/// ```
 #[derive(Clone, Copy, PartialEq, Eq, Debug, Default)]
 pub struct SingleVlanHeader {
-    /// The priority code point.
+    /// The priority code point (PCP).
     pub pcp: VlanPcp,
-    /// Whether the frame may be dropped first under congestion.
+    /// The drop eligible indicator (DEI): whether the frame may be dropped first under congestion.
     pub drop_eligible_indicator: bool,
-    /// The VLAN identifier.
+    /// The VLAN identifier (VID).
     pub vlan_id: VlanId,
-    /// The protocol of what follows the tag.
+    /// The next ether type, which names the protocol of what follows the tag.
     pub ether_type: EtherType,
 }
 
 impl SingleVlanHeader {
-    /// The length of the tag in bytes.
+    /// The length of TCI and next ether type in bytes.
     pub const LEN: usize = 4;
 
-    /// The same length, under its older name.
+    /// The same as [`SingleVlanHeader::LEN`], under its older name.
     pub const SERIALIZED_SIZE: usize = 4;
 
-    /// The tag that a slice begins with, and the unused rest of the slice; refused where there are fewer than 4 bytes.
+    /// The tag at the front of a slice, and the rest of the slice.
+    ///
+    /// # Errors
+    ///
+    /// The slice has fewer than 4 bytes: `required_len` is 4, `len` the slice's length, `len_source` is
+    /// `LenSource::Slice`, `layer` is `Layer::VlanHeader` and `layer_start_offset` is 0.
     pub fn from_slice(slice: &[u8]) -> Result<(SingleVlanHeader, &[u8]), LenError>
         ensures accepted { IfOk result (λ answer. Accepts sources.Slice slice.now kinds.Vlan) }
         ensures value { IfOk result (λ answer. Means slice.now (headers.Vlan (vlan_view answer.0))) }
@@ -56,7 +90,7 @@ impl SingleVlanHeader {
         SingleVlanHeader::from_slice(slice)
     }
 
-    /// The tag that 4 bytes hold. Each 4 bytes hold one.
+    /// The tag in 4 bytes. Any 4 bytes are one.
     pub fn from_bytes(bytes: [u8; 4]) -> SingleVlanHeader
         ensures value { IsVlan bytes (vlan_view result) }
         ensures inverse { vlan_bytes (vlan_view result) ≡ bytes }
@@ -71,7 +105,7 @@ impl SingleVlanHeader {
         SingleVlanHeader::LEN
     }
 
-    /// The tag as it stands on the wire, numbers in network byte order.
+    /// The bytes of the tag on the wire.
     pub fn to_bytes(&self) -> [u8; 4]
         ensures value { result ≡ vlan_bytes (vlan_view self.now) }
         ensures inverse { (v : VlanValue) → IsVlan result v → v ≡ vlan_view self.now }
@@ -89,62 +123,126 @@ impl SingleVlanHeader {
 #[cfg(test)]
 mod tests {
     use super::*;
+    use crate::test_frames::{TAG, TAGGED_ARP_REQUEST};
     use ether_base::LenSource;
     use ether_base::err::Layer;
     use std::test::Fail;
 
-    fn zero() -> SingleVlanHeader
-        ensures { vlan_view result ≡ record { pcp = 0; dei = 0; vid = 0; ether_type = 0 } }
-    {
-        SingleVlanHeader::default()
-    }
-
-    fn tag() -> SingleVlanHeader {
-        SingleVlanHeader::from_bytes([0xB1, 0x23, 0x08, 0x00])
+    /// The tag in [`TAG`].
+    fn tag() -> Result<SingleVlanHeader, Fail> {
+        Ok(SingleVlanHeader {
+            pcp: VlanPcp::try_new(5)?,
+            drop_eligible_indicator: true,
+            vlan_id: VlanId::try_new(0x123)?,
+            ether_type: EtherType::IPV4,
+        })
     }
 
     #[test]
-    fn four_bytes_and_back(rt: HostRuntime) -> Result<(), Fail> {
-        let tag = tag();
-        assert_eq!(rt; tag.pcp, VlanPcp::try_new(5)?);
+    fn the_example(rt: HostRuntime) -> Result<(), Fail> {
+        let mut tag = SingleVlanHeader::from_bytes([0xB1, 0x23, 0x08, 0x00]);
+        assert_eq!(rt; tag.pcp.value(), 5);
         assert!(rt; tag.drop_eligible_indicator);
-        assert_eq!(rt; tag.vlan_id, VlanId::try_new(0x123)?);
+        assert_eq!(rt; tag.vlan_id.value(), 0x123);
         assert_eq!(rt; tag.ether_type, EtherType::IPV4);
-        assert_eq!(rt; tag.to_bytes(), [0xB1, 0x23, 0x08, 0x00]);
-        assert_eq!(rt; tag.header_len(), SingleVlanHeader::LEN);
-        assert_eq!(rt; SingleVlanHeader::SERIALIZED_SIZE, 4);
-        assert_eq!(rt; zero().to_bytes(), [0; 4]);
+
+        tag.vlan_id = VlanId::try_new(100)?;
+        assert_eq!(rt; tag.to_bytes(), [0xB0, 0x64, 0x08, 0x00]);
+        Ok(())
+    }
+
+    #[test]
+    fn a_captured_tag(rt: HostRuntime) -> Result<(), Fail> {
+        let tag = SingleVlanHeader {
+            pcp: VlanPcp::try_new(5)?,
+            drop_eligible_indicator: true,
+            vlan_id: VlanId::try_new(291)?,
+            ether_type: EtherType::ARP,
+        };
+        let frame = TAGGED_ARP_REQUEST;
         assert_eq!(rt;
-            format!(in rt.alloc(); "{tag:?}")?.as_str(),
-            "SingleVlanHeader { pcp: VlanPcp(5), drop_eligible_indicator: true, vlan_id: VlanId(291), ether_type: 0x0800 (Internet Protocol version 4 (IPv4)) }"
+            SingleVlanHeader::from_slice(&frame[14..]),
+            Ok((tag, &frame[18..]))
+        );
+        assert_eq!(rt; tag.to_bytes().as_slice(), &frame[14..18]);
+        Ok(())
+    }
+
+    #[test]
+    fn the_front_of_a_slice_and_the_rest(rt: HostRuntime) -> Result<(), Fail> {
+        let rest = [0x45].as_slice();
+        assert_eq!(rt; SingleVlanHeader::from_slice(&TAG), Ok((tag()?, rest)));
+        assert_eq!(rt; SingleVlanHeader::read_from_slice(&TAG), Ok((tag()?, rest)));
+        Ok(())
+    }
+
+    #[test]
+    fn three_bytes_are_refused(rt: HostRuntime) -> Result<(), Fail> {
+        let bytes = TAG;
+        let refused = LenError {
+            required_len: 4,
+            len: 3,
+            len_source: LenSource::Slice,
+            layer: Layer::VlanHeader,
+            layer_start_offset: 0,
+        };
+        assert_eq!(rt;
+            SingleVlanHeader::from_slice(&bytes[..3]),
+            Err(refused.clone()?)
+        );
+        assert_eq!(rt;
+            SingleVlanHeader::read_from_slice(&bytes[..3]),
+            Err(refused)
         );
         Ok(())
     }
 
     #[test]
-    fn the_front_of_a_slice(rt: HostRuntime) {
-        let slice = [0xB1, 0x23, 0x08, 0x00, 0x45];
-        let rest = [0x45].as_slice();
-        assert_eq!(rt; SingleVlanHeader::from_slice(&slice), Ok((tag(), rest)));
-        assert_eq!(rt;
-            SingleVlanHeader::read_from_slice(&slice),
-            Ok((tag(), rest))
-        );
-        assert_eq!(rt; SingleVlanHeader::from_slice(&slice[..2]), Err(cut_short()));
-        assert_eq!(rt;
-            SingleVlanHeader::read_from_slice(&slice[..2]),
-            Err(cut_short())
-        );
+    fn the_length(rt: HostRuntime) {
+        assert_eq!(rt; SingleVlanHeader::default().header_len(), 4);
+        assert_eq!(rt; SingleVlanHeader::LEN, 4);
+        assert_eq!(rt; SingleVlanHeader::SERIALIZED_SIZE, 4);
     }
 
-    /// What two of the four bytes are refused with.
-    fn cut_short() -> LenError {
-        LenError {
-            required_len: 4,
-            len: 2,
-            len_source: LenSource::Slice,
-            layer: Layer::VlanHeader,
-            layer_start_offset: 0,
+    #[test]
+    fn the_default_is_zero(rt: HostRuntime) {
+        assert_eq!(rt; SingleVlanHeader::default().to_bytes(), [0; 4]);
+    }
+
+    #[test]
+    fn tags_differ_by_each_field(rt: HostRuntime) -> Result<(), Fail> {
+        let tag = tag()?;
+        let others = [
+            SingleVlanHeader {
+                pcp: VlanPcp::try_new(4)?,
+                ..tag
+            },
+            SingleVlanHeader {
+                drop_eligible_indicator: false,
+                ..tag
+            },
+            SingleVlanHeader {
+                vlan_id: VlanId::try_new(0x124)?,
+                ..tag
+            },
+            SingleVlanHeader {
+                ether_type: EtherType::IPV6,
+                ..tag
+            },
+        ];
+        for other in others {
+            assert_ne!(rt; other, tag);
+            assert_eq!(rt; other, other);
         }
+        Ok(())
+    }
+
+    #[test]
+    fn shown_by_its_fields(rt: HostRuntime) -> Result<(), Fail> {
+        assert_eq!(rt;
+            format!(in rt.alloc(); "{:?}", tag()?)?.as_str(),
+            "SingleVlanHeader { pcp: VlanPcp(5), drop_eligible_indicator: true, vlan_id: VlanId(291), ether_type: 0x0800 (Internet Protocol version 4 (IPv4)) }"
+        );
+        Ok(())
     }
 }

@@ -19,9 +19,18 @@ use ether_base::{EtherType, LenSource, VlanId, VlanPcp};
 use std::alloc::AllocError;
 use std::marker::Model;
 
-/// The 4 bytes of a VLAN tag behind its own ether type, in the bytes of a packet.
+/// A view of a VLAN tag, which borrows the 4 bytes of its TCI and the next ether type from a packet
+/// ([`SingleVlanHeader`] has a picture of them).
 ///
-/// Two views are equal where their bytes are.
+/// Two views are equal if their bytes are, wherever these stand.
+///
+/// ```
+/// let tag = SingleVlanHeaderSlice::from_slice(&[0xB1, 0x23, 0x08, 0x00, 0x45])?;
+/// assert_eq!(rt; tag.priority_code_point().value(), 5);
+/// assert!(rt; tag.drop_eligible_indicator());
+/// assert_eq!(rt; tag.vlan_identifier().value(), 0x123);
+/// assert_eq!(rt; tag.ether_type(), EtherType::IPV4);
+/// ```
 #[derive(Debug, Drop)]
 pub struct SingleVlanHeaderSlice<'a> {
     slice: &'a [u8],
@@ -38,8 +47,12 @@ impl<'a> Model for SingleVlanHeaderSlice<'a> {
 }
 
 impl<'a> SingleVlanHeaderSlice<'a> {
-    /// The tag that a slice begins with, refused where there are fewer than 4 bytes. What follows the tag is no part of
-    /// the view.
+    /// The tag at the front of a slice. The bytes behind it are not part of the view.
+    ///
+    /// # Errors
+    ///
+    /// The slice has fewer than 4 bytes: `required_len` is 4, `len` the slice's length, `len_source` is
+    /// [`LenSource::Slice`], `layer` is `Layer::VlanHeader` and `layer_start_offset` is 0.
     pub fn from_slice(slice: &'a [u8]) -> Result<SingleVlanHeaderSlice<'a>, LenError>
         ensures bytes { IfOk result (λ h. h ≡ slice_range slice.now 0 4) }
         ensures accepted { IfOk result (λ h. Accepts sources.Slice slice.now kinds.Vlan) }
@@ -62,28 +75,28 @@ impl<'a> SingleVlanHeaderSlice<'a> {
         self.slice
     }
 
-    /// The priority code point.
+    /// The priority code point (PCP).
     pub fn priority_code_point(&self) -> VlanPcp
         ensures { result ≡ (vlan_of self.now).pcp }
     {
         vlan_fields::priority_code_point(self.slice)
     }
 
-    /// Whether the frame may be dropped first under congestion.
+    /// The drop eligible indicator (DEI): whether the frame may be dropped first under congestion.
     pub fn drop_eligible_indicator(&self) -> bool
         ensures { bit result ≡ (vlan_of self.now).dei }
     {
         vlan_fields::drop_eligible_indicator(self.slice)
     }
 
-    /// The VLAN identifier.
+    /// The VLAN identifier (VID).
     pub fn vlan_identifier(&self) -> VlanId
         ensures { result ≡ (vlan_of self.now).vid }
     {
         vlan_fields::vlan_identifier(self.slice)
     }
 
-    /// The protocol of what follows the tag.
+    /// The next ether type, which names the protocol of what follows the tag.
     pub fn ether_type(&self) -> EtherType
         ensures { result.0 ≡ (vlan_of self.now).ether_type }
     {
@@ -125,27 +138,39 @@ impl<'a> Eq for SingleVlanHeaderSlice<'a> {
 #[cfg(test)]
 mod tests {
     use super::*;
+    use crate::test_frames::TAG;
     use ether_base::err::Layer;
     use std::test::Fail;
 
     #[test]
-    fn the_fields_of_a_tag(rt: HostRuntime) -> Result<(), Fail> {
-        let bytes = [0xB1, 0x23, 0x08, 0x00, 0x45];
-        let tag = SingleVlanHeaderSlice::from_slice(&bytes)?;
-        assert_eq!(rt; tag.slice(), &bytes[..4]);
-        assert_eq!(rt; tag.priority_code_point(), VlanPcp::try_new(5)?);
+    fn the_example(rt: HostRuntime) -> Result<(), Fail> {
+        let tag = SingleVlanHeaderSlice::from_slice(&[0xB1, 0x23, 0x08, 0x00, 0x45])?;
+        assert_eq!(rt; tag.priority_code_point().value(), 5);
         assert!(rt; tag.drop_eligible_indicator());
-        assert_eq!(rt; tag.vlan_identifier(), VlanId::try_new(0x123)?);
+        assert_eq!(rt; tag.vlan_identifier().value(), 0x123);
         assert_eq!(rt; tag.ether_type(), EtherType::IPV4);
+        Ok(())
+    }
+
+    #[test]
+    fn the_tag_as_bytes_and_as_a_value(rt: HostRuntime) -> Result<(), Fail> {
+        let tag = SingleVlanHeaderSlice::from_slice(&TAG)?;
+        assert_eq!(rt; tag.slice(), &TAG[..4]);
         assert_eq!(rt;
             tag.to_header(),
-            SingleVlanHeader::from_bytes([0xB1, 0x23, 0x08, 0x00])
+            SingleVlanHeader {
+                pcp: VlanPcp::try_new(5)?,
+                drop_eligible_indicator: true,
+                vlan_id: VlanId::try_new(0x123)?,
+                ether_type: EtherType::IPV4,
+            }
         );
-        assert_eq!(rt; tag.clone()?, tag);
-        assert_eq!(rt;
-            format!(in rt.alloc(); "{tag:?}")?.as_str(),
-            "SingleVlanHeaderSlice { slice: [177, 35, 8, 0] }"
-        );
+        Ok(())
+    }
+
+    #[test]
+    fn two_bytes_are_refused(rt: HostRuntime) {
+        let bytes = TAG;
         assert_eq!(rt;
             SingleVlanHeaderSlice::from_slice(&bytes[..2]).err(),
             Some(LenError {
@@ -155,6 +180,24 @@ mod tests {
                 layer: Layer::VlanHeader,
                 layer_start_offset: 0,
             })
+        );
+    }
+
+    #[test]
+    fn views_differ_by_their_bytes(rt: HostRuntime) -> Result<(), Fail> {
+        let tag = SingleVlanHeaderSlice::from_slice(&TAG)?;
+        let other = SingleVlanHeaderSlice::from_slice(&[0xB1, 0x23, 0x08, 0x01])?;
+        assert_eq!(rt; tag.clone()?, tag);
+        assert_ne!(rt; tag, other);
+        Ok(())
+    }
+
+    #[test]
+    fn shown_by_its_bytes(rt: HostRuntime) -> Result<(), Fail> {
+        let tag = SingleVlanHeaderSlice::from_slice(&TAG)?;
+        assert_eq!(rt;
+            format!(in rt.alloc(); "{tag:?}")?.as_str(),
+            "SingleVlanHeaderSlice { slice: [177, 35, 8, 0] }"
         );
         Ok(())
     }

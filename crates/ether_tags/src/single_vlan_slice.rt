@@ -20,9 +20,17 @@ use std::alloc::AllocError;
 use std::fmt;
 use std::marker::Model;
 
-/// A VLAN tag behind its own ether type, and its payload, in the bytes of a packet. The tag is there in full.
+/// A view of a VLAN tag and its payload, which borrows the bytes from the tag's TCI on
+/// ([`SingleVlanHeader`] has a picture of them).
 ///
-/// Two views are equal where their bytes are.
+/// Two views are equal if their bytes are, wherever these stand.
+///
+/// ```
+/// let tag = SingleVlanSlice::from_slice(&[0xB1, 0x23, 0x08, 0x00, 0x45])?;
+/// assert_eq!(rt; tag.vlan_identifier().value(), 0x123);
+/// assert_eq!(rt; tag.ether_type(), EtherType::IPV4);
+/// assert_eq!(rt; tag.payload_slice(), [0x45].as_slice());
+/// ```
 #[derive(Drop)]
 pub struct SingleVlanSlice<'a> {
     slice: &'a [u8],
@@ -39,7 +47,12 @@ impl<'a> Model for SingleVlanSlice<'a> {
 }
 
 impl<'a> SingleVlanSlice<'a> {
-    /// The tag that a slice begins with, and behind it the payload; refused where there are fewer than 4 bytes.
+    /// The tag at the front of a slice, and its payload, which reaches to the end of the slice.
+    ///
+    /// # Errors
+    ///
+    /// The slice has fewer than 4 bytes: `required_len` is 4, `len` the slice's length, `len_source` is
+    /// [`LenSource::Slice`], `layer` is `Layer::VlanHeader` and `layer_start_offset` is 0.
     pub fn from_slice(slice: &'a [u8]) -> Result<SingleVlanSlice<'a>, LenError>
         ensures bytes { IfOk result (λ v. v ≡ slice.now) }
         ensures accepted { IfOk result (λ v. Accepts sources.Slice slice.now kinds.Vlan) }
@@ -52,7 +65,7 @@ impl<'a> SingleVlanSlice<'a> {
         Ok(SingleVlanSlice { slice })
     }
 
-    /// All bytes of the tag and its payload, as they were handed in.
+    /// All bytes of the tag and its payload.
     pub fn slice(&self) -> &'a [u8]
         ensures { result.now ≡ self.now }
     {
@@ -67,28 +80,28 @@ impl<'a> SingleVlanSlice<'a> {
         &self.slice[..SingleVlanHeader::LEN]
     }
 
-    /// The priority code point.
+    /// The priority code point (PCP).
     pub fn priority_code_point(&self) -> VlanPcp
         ensures { result ≡ (vlan_of self.now).pcp }
     {
         vlan_fields::priority_code_point(self.slice)
     }
 
-    /// Whether the frame may be dropped first under congestion.
+    /// The drop eligible indicator (DEI): whether the frame may be dropped first under congestion.
     pub fn drop_eligible_indicator(&self) -> bool
         ensures { bit result ≡ (vlan_of self.now).dei }
     {
         vlan_fields::drop_eligible_indicator(self.slice)
     }
 
-    /// The VLAN identifier.
+    /// The VLAN identifier (VID).
     pub fn vlan_identifier(&self) -> VlanId
         ensures { result ≡ (vlan_of self.now).vid }
     {
         vlan_fields::vlan_identifier(self.slice)
     }
 
-    /// The protocol of the payload.
+    /// The next ether type, which names the protocol of the payload.
     pub fn ether_type(&self) -> EtherType
         ensures { result.0 ≡ (vlan_of self.now).ether_type }
     {
@@ -102,7 +115,8 @@ impl<'a> SingleVlanSlice<'a> {
         vlan_fields::header(self.slice)
     }
 
-    /// The payload and its type. Its length is always the slice's, less the tag.
+    /// The payload and its ether type. The slice's length decides how long it is, so its `len_source` is
+    /// [`LenSource::Slice`].
     pub fn payload(&self) -> EtherPayloadSlice<'a>
         ensures ether_type { result.ether_type.0 ≡ (vlan_of self.now).ether_type }
         ensures len_source { result.len_source ≡ sources.Slice }
@@ -167,38 +181,56 @@ impl fmt::Debug for SingleVlanSlice<'_> {
 #[cfg(test)]
 mod tests {
     use super::*;
+    use crate::test_frames::{TAG, TAGGED_ARP_REQUEST};
     use ether_base::err::Layer;
     use std::test::Fail;
 
     #[test]
-    fn a_tag_and_its_payload(rt: HostRuntime) -> Result<(), Fail> {
-        let bytes = [0xB1, 0x23, 0x08, 0x00, 0x45];
-        let view = SingleVlanSlice::from_slice(&bytes)?;
-        assert_eq!(rt; view.slice(), bytes.as_slice());
-        assert_eq!(rt; view.header_slice(), &bytes[..4]);
-        assert_eq!(rt; view.header_len(), 4);
-        assert_eq!(rt; view.priority_code_point(), VlanPcp::try_new(5)?);
-        assert!(rt; view.drop_eligible_indicator());
-        assert_eq!(rt; view.vlan_identifier(), VlanId::try_new(0x123)?);
-        assert_eq!(rt; view.ether_type(), EtherType::IPV4);
+    fn the_example(rt: HostRuntime) -> Result<(), Fail> {
+        let tag = SingleVlanSlice::from_slice(&[0xB1, 0x23, 0x08, 0x00, 0x45])?;
+        assert_eq!(rt; tag.vlan_identifier().value(), 0x123);
+        assert_eq!(rt; tag.ether_type(), EtherType::IPV4);
+        assert_eq!(rt; tag.payload_slice(), [0x45].as_slice());
+        Ok(())
+    }
+
+    #[test]
+    fn a_captured_tag(rt: HostRuntime) -> Result<(), Fail> {
+        let frame = TAGGED_ARP_REQUEST;
+        let tag = SingleVlanSlice::from_slice(&frame[14..])?;
+        assert_eq!(rt; tag.priority_code_point().value(), 5);
+        assert!(rt; tag.drop_eligible_indicator());
+        assert_eq!(rt; tag.vlan_identifier().value(), 291);
+        assert_eq!(rt; tag.ether_type(), EtherType::ARP);
+        Ok(())
+    }
+
+    #[test]
+    fn the_tag_as_bytes_and_as_a_value(rt: HostRuntime) -> Result<(), Fail> {
+        let tag = SingleVlanSlice::from_slice(&TAG)?;
+        assert_eq!(rt; tag.slice(), TAG.as_slice());
+        assert_eq!(rt; tag.header_slice(), &TAG[..4]);
+        assert_eq!(rt; tag.header_len(), 4);
+        assert_eq!(rt; tag.to_header().to_bytes().as_slice(), &TAG[..4]);
+        Ok(())
+    }
+
+    #[test]
+    fn the_payload(rt: HostRuntime) -> Result<(), Fail> {
         assert_eq!(rt;
-            view.to_header(),
-            SingleVlanHeader::from_bytes([0xB1, 0x23, 0x08, 0x00])
-        );
-        assert_eq!(rt; view.payload_slice(), [0x45].as_slice());
-        assert_eq!(rt;
-            view.payload(),
+            SingleVlanSlice::from_slice(&TAG)?.payload(),
             EtherPayloadSlice {
                 ether_type: EtherType::IPV4,
                 len_source: LenSource::Slice,
                 payload: &[0x45],
             }
         );
-        assert_eq!(rt; view.clone()?, view);
-        assert_eq!(rt;
-            format!(in rt.alloc(); "{view:?}")?.as_str(),
-            "SingleVlanSlice { header: SingleVlanHeader { pcp: VlanPcp(5), drop_eligible_indicator: true, vlan_id: VlanId(291), ether_type: 0x0800 (Internet Protocol version 4 (IPv4)) }, payload: EtherPayloadSlice { ether_type: 0x0800 (Internet Protocol version 4 (IPv4)), len_source: Slice, payload: [69] } }"
-        );
+        Ok(())
+    }
+
+    #[test]
+    fn two_bytes_are_refused(rt: HostRuntime) {
+        let bytes = TAG;
         assert_eq!(rt;
             SingleVlanSlice::from_slice(&bytes[..2]).err(),
             Some(LenError {
@@ -208,6 +240,24 @@ mod tests {
                 layer: Layer::VlanHeader,
                 layer_start_offset: 0,
             })
+        );
+    }
+
+    #[test]
+    fn views_differ_by_their_bytes(rt: HostRuntime) -> Result<(), Fail> {
+        let tag = SingleVlanSlice::from_slice(&TAG)?;
+        let other = SingleVlanSlice::from_slice(&[0xB1, 0x23, 0x08, 0x00, 0x46])?;
+        assert_eq!(rt; tag.clone()?, tag);
+        assert_ne!(rt; tag, other);
+        Ok(())
+    }
+
+    #[test]
+    fn shown_by_header_and_payload(rt: HostRuntime) -> Result<(), Fail> {
+        let tag = SingleVlanSlice::from_slice(&TAG)?;
+        assert_eq!(rt;
+            format!(in rt.alloc(); "{tag:?}")?.as_str(),
+            "SingleVlanSlice { header: SingleVlanHeader { pcp: VlanPcp(5), drop_eligible_indicator: true, vlan_id: VlanId(291), ether_type: 0x0800 (Internet Protocol version 4 (IPv4)) }, payload: EtherPayloadSlice { ether_type: 0x0800 (Internet Protocol version 4 (IPv4)), len_source: Slice, payload: [69] } }"
         );
         Ok(())
     }

@@ -3,7 +3,14 @@ ghost use Rattle.std.specs.Prelude.{◌≡◌};
 
 use crate::{DoubleVlanSlice, EtherPayloadSlice, SingleVlanSlice, VlanHeader};
 
-/// One VLAN tag or two, and the payload of the last one.
+/// A view of one VLAN tag or two, and of the payload of the last one.
+///
+/// ```
+/// let bytes = [0xB1, 0x23, 0x08, 0x00, 0x45];
+/// let tags = VlanSlice::SingleVlan(SingleVlanSlice::from_slice(&bytes)?);
+/// assert_eq!(rt; tags.to_header().next_header(), EtherType::IPV4);
+/// assert_eq!(rt; tags.payload().payload, [0x45].as_slice());
+/// ```
 #[derive(Clone, PartialEq, Eq, Debug, Drop)]
 pub enum VlanSlice<'a> {
     /// One tag.
@@ -18,7 +25,7 @@ impl<'a> VlanSlice<'a> {
     ghost use Rattle.ether_base.specs.Vlan.{vlan_of};
     ghost use Rattle.ether_tags.specs.Vlan.{header_tags, slice_tags, innermost};
 
-    /// The tags as a value, one for one and two for two.
+    /// The tags as a value.
     pub fn to_header(&self) -> VlanHeader
         ensures { header_tags result ≡ slice_tags self.now }
     {
@@ -28,7 +35,7 @@ impl<'a> VlanSlice<'a> {
         }
     }
 
-    /// The payload of the last tag and its type.
+    /// The payload of the last tag and its ether type.
     pub fn payload(&self) -> EtherPayloadSlice<'a>
         ensures ether_type { result.ether_type.0 ≡ (vlan_of (innermost self.now)).ether_type }
         ensures len_source { result.len_source ≡ sources.Slice }
@@ -44,46 +51,72 @@ impl<'a> VlanSlice<'a> {
 #[cfg(test)]
 mod tests {
     use super::*;
-    use crate::{DoubleVlanHeader, SingleVlanHeader};
+    use crate::SingleVlanHeader;
+    use crate::test_frames::TWO_TAGS;
     use ether_base::{EtherType, LenSource};
-    use std::alloc::AllocError;
     use std::test::Fail;
 
-    fn copy_of<'a>(view: &VlanSlice<'a>) -> Result<VlanSlice<'a>, AllocError>
-        ensures { result ≡ Ok view.now }
-    {
-        view.clone()
+    /// The outer tag alone.
+    fn single() -> Result<VlanSlice<'static>, Fail> {
+        Ok(VlanSlice::SingleVlan(SingleVlanSlice::from_slice(&TWO_TAGS)?))
+    }
+
+    /// Both tags.
+    fn double() -> Result<VlanSlice<'static>, Fail> {
+        let outer = SingleVlanSlice::from_slice(&TWO_TAGS)?;
+        let inner = SingleVlanSlice::from_slice(outer.payload_slice())?;
+        Ok(VlanSlice::DoubleVlan(DoubleVlanSlice { outer, inner }))
     }
 
     #[test]
-    fn one_tag_and_two(rt: HostRuntime) -> Result<(), Fail> {
-        let bytes = [0x00, 0x01, 0x81, 0x00, 0x00, 0x02, 0x08, 0x00, 0x45];
-        let outer = SingleVlanSlice::from_slice(&bytes)?;
-        let inner = SingleVlanSlice::from_slice(&bytes[4..])?;
-        let outer_tag = SingleVlanHeader::from_bytes([0x00, 0x01, 0x81, 0x00]);
-        let inner_tag = SingleVlanHeader::from_bytes([0x00, 0x02, 0x08, 0x00]);
-        let payload = EtherPayloadSlice {
-            ether_type: EtherType::IPV4,
-            len_source: LenSource::Slice,
-            payload: &[0x45],
-        };
-        let single = VlanSlice::SingleVlan(inner.clone()?);
-        assert_eq!(rt; single.to_header(), VlanHeader::Single(inner_tag));
-        assert_eq!(rt; single.payload(), payload);
-        assert_eq!(rt; copy_of(&single)?, single);
-        let double = VlanSlice::DoubleVlan(DoubleVlanSlice { outer, inner });
+    fn the_example(rt: HostRuntime) -> Result<(), Fail> {
+        let bytes = [0xB1, 0x23, 0x08, 0x00, 0x45];
+        let tags = VlanSlice::SingleVlan(SingleVlanSlice::from_slice(&bytes)?);
+        assert_eq!(rt; tags.to_header().next_header(), EtherType::IPV4);
+        assert_eq!(rt; tags.payload().payload, [0x45].as_slice());
+        Ok(())
+    }
+
+    #[test]
+    fn one_tag(rt: HostRuntime) -> Result<(), Fail> {
+        let tag = single()?;
+        let header = SingleVlanHeader::from_bytes([0x00, 0x01, 0x81, 0x00]);
+        assert_eq!(rt; tag.to_header(), VlanHeader::Single(header));
+        assert_eq!(rt; tag.payload().ether_type, EtherType::VLAN_TAGGED_FRAME);
+        assert_eq!(rt; tag.payload().payload, &TWO_TAGS[4..]);
+        Ok(())
+    }
+
+    #[test]
+    fn two_tags(rt: HostRuntime) -> Result<(), Fail> {
+        let tags = double()?;
+        assert_eq!(rt; tags.to_header().next_header(), EtherType::IPV4);
         assert_eq!(rt;
-            double.to_header(),
-            VlanHeader::Double(DoubleVlanHeader {
-                outer: outer_tag,
-                inner: inner_tag,
-            })
+            tags.payload(),
+            EtherPayloadSlice {
+                ether_type: EtherType::IPV4,
+                len_source: LenSource::Slice,
+                payload: &[0x45],
+            }
         );
-        assert_eq!(rt; double.payload(), payload);
-        assert_eq!(rt; copy_of(&double)?, double);
-        assert_ne!(rt; single, double);
+        Ok(())
+    }
+
+    #[test]
+    fn views_differ_by_variant_and_tags(rt: HostRuntime) -> Result<(), Fail> {
+        let other = SingleVlanSlice::from_slice(&[0xB1, 0x23, 0x08, 0x00])?;
+        assert_eq!(rt; single()?.clone()?, single()?);
+        assert_eq!(rt; double()?.clone()?, double()?);
+        assert_ne!(rt; single()?, double()?);
+        assert_ne!(rt; single()?, VlanSlice::SingleVlan(other));
+        Ok(())
+    }
+
+    #[test]
+    fn shown_by_its_tags(rt: HostRuntime) -> Result<(), Fail> {
+        let tag = VlanSlice::SingleVlan(SingleVlanSlice::from_slice(&[0, 2, 8, 0, 0x45])?);
         assert_eq!(rt;
-            format!(in rt.alloc(); "{single:?}")?.as_str(),
+            format!(in rt.alloc(); "{tag:?}")?.as_str(),
             "SingleVlan(SingleVlanSlice { header: SingleVlanHeader { pcp: VlanPcp(0), drop_eligible_indicator: false, vlan_id: VlanId(2), ether_type: 0x0800 (Internet Protocol version 4 (IPv4)) }, payload: EtherPayloadSlice { ether_type: 0x0800 (Internet Protocol version 4 (IPv4)), len_source: Slice, payload: [69] } })"
         );
         Ok(())
