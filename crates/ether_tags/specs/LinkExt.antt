@@ -1,4 +1,4 @@
--- Link extensions by cases: a VLAN tag or a security tag.
+-- Link extensions by cases: a VLAN tag or a MACsec SecTag.
 use Rattle.std.specs.Prelude.{◌≡◌, ℕ, length, slice_range, Option, Some, None}
 use Rattle.ether_base.specs.declared.len_source.LenSource.TheVariants as sources
 use Rattle.ether_base.specs.Vlan.{vlan_of}
@@ -30,13 +30,13 @@ abbrev pub ext_slice_len : LinkExtSlice → ℕ
 ext_slice_len (Vlan s) = 4
 ext_slice_len (Macsec s) = length (tag_bytes s.header)
 
--- the payload behind a VLAN tag, or that of a security tag where it can be read
+-- the payload behind a VLAN tag, or that of a SecTag where it can be read
 abbrev pub HoldsExtPayload : LinkExtSlice → Option EtherPayloadSlice → Type 0
 HoldsExtPayload (Vlan s) None = ⊥
 HoldsExtPayload (Vlan s) (Some p) = (p.ether_type.0 ≡ (vlan_of s).ether_type) × (p.len_source ≡ sources.Slice) × (p.payload.now ≡ slice_range s 4 (length s))
 HoldsExtPayload (Macsec s) answer = answer ≡ readable_payload s.payload
 
--- views of one kind, a VLAN tag with the same bytes or a security tag with the same bytes and payload
+-- views of one kind, a VLAN tag with the same bytes or a SecTag with the same bytes and payload
 abbrev pub SameExt : LinkExtSlice → LinkExtSlice → Type 0
 SameExt (Vlan a) (Vlan b) = a ≡ b
 SameExt (Vlan a) (Macsec b) = ⊥

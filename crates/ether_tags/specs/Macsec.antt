@@ -1,4 +1,4 @@
--- Security tags as the values that their bytes mean, and their refusals as rows of the table.
+-- MACsec SecTags as the values that their bytes mean, and their refusals as rows of the table.
 use Rattle.std.specs.Prelude.{◌≡◌, ℕ, ◌+◌, List, length, slice_range, Option, Some, None, nat_lt, ◌&&◌, if◌then◌else◌}
 use Rattle.ether_base.specs.declared.len_source.LenSource.{LenSource}
 use Rattle.ether_base.specs.declared.len_source.LenSource.TheVariants as sources

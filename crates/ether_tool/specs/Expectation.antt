@@ -19,7 +19,7 @@ pub data Expectation : Type 0 where
   Sealed : Expectation
   AfterArp : Expectation
 
--- The kind that an ether type announces (IEEE 802.1Q, table 9-1, and the older 0x9100). The types of the security tag,
+-- The kind that an ether type announces (IEEE 802.1Q, table 9-1, and the older 0x9100). The types of the MACsec SecTag,
 -- 0x88E5, and of ARP, 0x0806, announce nothing yet: this is the one place to widen.
 abbrev pub announced_by : ℕ → Option Kind
 announced_by t = if is_vlan_ether_type t then Some kinds.Vlan else None
