@@ -1,5 +1,5 @@
 //! The bytes that tests of several modules read: made ones, and packets that were captured on Linux with the link type
-//! LINUX_SLL. What the tests expect of the latter is what tshark prints.
+//! LINUX_SLL. The fields that the tests expect of the latter are those that tshark prints.
 
 /// To us, on Ethernet, from 02:00:00:00:00:01 by an address length of 255, with the dummy type for 802.3 frames, and one
 /// byte behind the header.
@@ -20,7 +20,7 @@ pub const ARP_REQUEST: [u8; 44] = [
     0x02, 0x01, 0x00, 0x00, 0x00, 0x00, 0x00, 0x00, 0xC0, 0x00, 0x02, 0x02,
 ];
 
-/// Captured: an 802.2 frame of the spanning tree protocol.
+/// Captured, composed by hand but for its header: an 802.2 frame of the spanning tree protocol.
 pub const SPANNING_TREE: [u8; 62] = [
     0x00, 0x02, 0x00, 0x01, 0x00, 0x06, 0x02, 0x00, 0x5E, 0x10, 0x00, 0x01, 0x00, 0x00, 0x00, 0x04,
     0x42, 0x42, 0x03, 0x00, 0x00, 0x00, 0x00, 0x00, 0x80, 0x00, 0x02, 0x00, 0x5E, 0x10, 0x00, 0x01,
