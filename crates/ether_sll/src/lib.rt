@@ -1,4 +1,4 @@
-//! Linux cooked capture v1, and the headers and payloads of a link of either kind.
+//! Linux cooked capture v1 (LINKTYPE_LINUX_SLL), and link headers and packets of either kind: Ethernet II or cooked capture.
 #![tactic(auto)]
 
 #[cfg(test)]
@@ -10,6 +10,8 @@ mod linux_sll_header;
 mod linux_sll_header_slice;
 mod linux_sll_payload_slice;
 mod linux_sll_slice;
+#[cfg(test)]
+mod test_frames;
 
 pub use link_header::LinkHeader;
 pub use link_slice::LinkSlice;

@@ -7,17 +7,26 @@ ghost use Rattle.ether_sll.specs.Link.{ethernet2_header, linux_sll_header, link_
 use crate::LinuxSllHeader;
 use ether_tags::Ethernet2Header;
 
-/// The header of a link: of Linux cooked capture v1, or of an Ethernet II frame.
+/// A link header: of Linux cooked capture v1, or of an Ethernet II frame.
+///
+/// ```
+/// let mut link = LinkHeader::Ethernet2(Ethernet2Header::default());
+/// if let Some(header) = link.mut_ethernet2() {
+///     header.ether_type = EtherType::IPV4;
+/// }
+/// assert_eq!(rt; link.header_len(), 14);
+/// assert_eq!(rt; link.linux_sll(), None);
+/// ```
 #[derive(Clone, Copy, PartialEq, Eq, Debug)]
 pub enum LinkHeader {
-    /// A header of cooked capture.
+    /// A header of Linux cooked capture v1.
     LinuxSll(LinuxSllHeader),
-    /// A header of an Ethernet II frame.
+    /// An Ethernet II header.
     Ethernet2(Ethernet2Header),
 }
 
 impl LinkHeader {
-    /// The Ethernet II header, where it is one.
+    /// The Ethernet II header; `None` of cooked capture.
     pub fn ethernet2(self) -> Option<Ethernet2Header>
         ensures { result ≡ ethernet2_header self }
     {
@@ -27,7 +36,7 @@ impl LinkHeader {
         }
     }
 
-    /// The Ethernet II header, where it is one, to be changed in place.
+    /// The Ethernet II header, lent for writing; `None` of cooked capture.
     pub fn mut_ethernet2(&mut self) -> Option<&mut Ethernet2Header>
         ensures* writes_back { sem 𝓛 (LendsEthernet2 self.entry result) }
         ensures value { option_copied_mut result ≡ ethernet2_header self.old }
@@ -39,7 +48,7 @@ impl LinkHeader {
         }
     }
 
-    /// The header of cooked capture, where it is one.
+    /// The header of cooked capture; `None` of an Ethernet II header.
     pub fn linux_sll(self) -> Option<LinuxSllHeader>
         ensures { result ≡ linux_sll_header self }
     {
@@ -49,7 +58,7 @@ impl LinkHeader {
         }
     }
 
-    /// The header of cooked capture, where it is one, to be changed in place.
+    /// The header of cooked capture, lent for writing; `None` of an Ethernet II header.
     pub fn mut_linux_sll(&mut self) -> Option<&mut LinuxSllHeader>
         ensures* writes_back { sem 𝓛 (LendsLinuxSll self.entry result) }
         ensures value { option_copied_mut result ≡ linux_sll_header self.old }
@@ -61,7 +70,7 @@ impl LinkHeader {
         }
     }
 
-    /// The length of the header in bytes, 14 or 16.
+    /// The length of the header in bytes: 14 of Ethernet II, 16 of cooked capture.
     pub fn header_len(&self) -> usize
         ensures { result ≡ link_header_len self.now }
     {
@@ -93,6 +102,33 @@ mod tests {
     };
 
     #[test]
+    fn the_example(rt: HostRuntime) {
+        let mut link = LinkHeader::Ethernet2(Ethernet2Header::default());
+        if let Some(header) = link.mut_ethernet2() {
+            header.ether_type = EtherType::IPV4;
+        }
+        assert_eq!(rt; link.header_len(), 14);
+        assert_eq!(rt; link.linux_sll(), None);
+    }
+
+    #[test]
+    fn headers_differ_by_variant_and_header(rt: HostRuntime) {
+        let frame = LinkHeader::Ethernet2(FRAME);
+        let capture = LinkHeader::LinuxSll(CAPTURE);
+        assert_eq!(rt; frame, frame);
+        assert_eq!(rt; capture, capture);
+        assert_ne!(rt; frame, capture);
+        assert_ne!(rt; frame, LinkHeader::Ethernet2(Ethernet2Header::default()));
+        assert_ne!(rt;
+            capture,
+            LinkHeader::LinuxSll(LinuxSllHeader {
+                packet_type: LinuxSllPacketType::HOST,
+                ..CAPTURE
+            })
+        );
+    }
+
+    #[test]
     fn a_frame_changed_in_place(rt: HostRuntime) {
         let mut link = LinkHeader::Ethernet2(FRAME);
         assert_eq!(rt; link.ethernet2(), Some(FRAME));
@@ -113,7 +149,7 @@ mod tests {
     }
 
     #[test]
-    fn a_capture_changed_in_place(rt: HostRuntime) -> Result<(), Fail> {
+    fn a_capture_changed_in_place(rt: HostRuntime) {
         let mut link = LinkHeader::LinuxSll(CAPTURE);
         assert_eq!(rt; link.linux_sll(), Some(CAPTURE));
         assert_eq!(rt; link.ethernet2(), None);
@@ -130,9 +166,14 @@ mod tests {
                 ..CAPTURE
             })
         );
+    }
+
+    #[test]
+    fn shown_by_its_header(rt: HostRuntime) -> Result<(), Fail> {
+        let link = LinkHeader::LinuxSll(CAPTURE);
         assert_eq!(rt;
             format!(in rt.alloc(); "{link:?}")?.as_str(),
-            "LinuxSll(LinuxSllHeader { packet_type: 0 (Sent to us), arp_hrd_type: 824 (Netlink header), sender_address_valid_length: 0, sender_address: [0, 0, 0, 0, 0, 0, 0, 0], protocol_type: NetlinkProtocolType(1) })"
+            "LinuxSll(LinuxSllHeader { packet_type: 4 (Sent by us), arp_hrd_type: 824 (Netlink header), sender_address_valid_length: 0, sender_address: [0, 0, 0, 0, 0, 0, 0, 0], protocol_type: NetlinkProtocolType(1) })"
         );
         Ok(())
     }

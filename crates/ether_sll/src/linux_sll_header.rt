@@ -18,20 +18,42 @@ use ether_base::err::linux_sll::{HeaderError, HeaderSliceError};
 use ether_base::err::{Layer, SliceWriteSpaceError};
 use ether_base::{ArpHardwareId, LinuxSllPacketType, LinuxSllProtocolType, write_front};
 
-/// The header of Linux cooked capture v1 (LINKTYPE_LINUX_SLL): 16 bytes, with the fields in this order.
+/// The header of Linux cooked capture v1 (LINKTYPE_LINUX_SLL), 16 bytes on the wire:
+///
+/// ```text
+/// byte 0        2          4                6                  14         16
+///      +--------+----------+----------------+------------------+----------+
+///      | packet | hardware | address length | sender's address | protocol |
+///      | type   | type     |                |                  | type     |
+///      +--------+----------+----------------+------------------+----------+
+/// ```
+///
+/// Public fields are not checked against each other.
+///
+/// ```
+/// let bytes = [0, 4, 0, 1, 0, 6, 2, 0, 0, 0, 0, 1, 0, 0, 0x08, 0x00];
+/// let header = LinuxSllHeader {
+///     packet_type: LinuxSllPacketType::OUTGOING,
+///     arp_hrd_type: ArpHardwareId::ETHERNET,
+///     sender_address_valid_length: 6,
+///     sender_address: [2, 0, 0, 0, 0, 1, 0, 0],
+///     protocol_type: LinuxSllProtocolType::EtherType(EtherType::IPV4),
+/// };
+/// assert_eq!(rt; LinuxSllHeader::from_bytes(bytes), Ok(header));
+/// assert_eq!(rt; header.to_bytes(), bytes);
+/// ```
 #[derive(Clone, Copy, PartialEq, Eq, Debug)]
 pub struct LinuxSllHeader {
-    /// Who sent the packet to whom.
+    /// The packet type: who sent the packet to whom.
     pub packet_type: LinuxSllPacketType,
-    /// The type of the device that the packet was seen on.
+    /// The hardware type (ARPHRD_) of the device that the packet was seen on.
     pub arp_hrd_type: ArpHardwareId,
-    /// The length of the sender's address in bytes, which may be more than the 8 that there is room for.
+    /// The length of the sender's address in bytes. It may exceed the 8 bytes that have room.
     pub sender_address_valid_length: u16,
-    /// The sender's address: its first 8 bytes where it is longer, and bytes that say nothing behind it where it is
-    /// shorter.
+    /// The address field: the sender's address, cut off after 8 bytes or filled up with bytes of no meaning.
     pub sender_address: [u8; 8],
-    /// The protocol of what follows the header. The device's type decides which variant is read; nothing ties the two in
-    /// a header that a caller filled.
+    /// The protocol of what follows the header. When a header is read, the hardware type decides which variant the number
+    /// has.
     pub protocol_type: LinuxSllProtocolType,
 }
 
@@ -39,8 +61,18 @@ impl LinuxSllHeader {
     /// The length of the header in bytes.
     pub const LEN: usize = 16;
 
-    /// The header that a slice begins with, and the unused rest of the slice. Refused are fewer than 16 bytes, then a
-    /// packet type above 7, then a hardware type whose protocol numbers have no known meaning.
+    /// The header at the front of a slice, and the rest of the slice.
+    ///
+    /// # Errors
+    ///
+    /// The first of these that holds:
+    ///
+    /// - `HeaderSliceError::Len`: the slice has fewer than 16 bytes. `required_len` is 16, `len` the slice's length,
+    ///   `len_source` is `LenSource::Slice`, `layer` is `Layer::LinuxSllHeader` and `layer_start_offset` is 0.
+    /// - `HeaderSliceError::Content` with `HeaderError::UnsupportedPacketTypeField`: the packet type, which the error names,
+    ///   is above 7.
+    /// - `HeaderSliceError::Content` with `HeaderError::UnsupportedArpHardwareId`: the meaning of protocol numbers is not
+    ///   known for the hardware type, which the error names.
     pub fn from_slice(slice: &[u8]) -> Result<(LinuxSllHeader, &[u8]), HeaderSliceError>
         ensures accepted { IfOk result (λ answer. Accepts sources.Slice slice.now kinds.LinuxSll) }
         ensures value { IfOk result (λ answer. Means slice.now (headers.LinuxSll (linux_sll_view answer.0))) }
@@ -52,8 +84,13 @@ impl LinuxSllHeader {
         Ok((header, &slice[LinuxSllHeader::LEN..]))
     }
 
-    /// The header that 16 bytes hold. Refused are a packet type above 7, then a hardware type whose protocol numbers have
-    /// no known meaning.
+    /// The header in 16 bytes.
+    ///
+    /// # Errors
+    ///
+    /// [`HeaderError::UnsupportedPacketTypeField`] if the packet type is above 7, else
+    /// [`HeaderError::UnsupportedArpHardwareId`] if the meaning of protocol numbers is not known for the hardware type.
+    /// Each error names the number.
     pub fn from_bytes(bytes: [u8; 16]) -> Result<LinuxSllHeader, HeaderError>
         ensures answers { AnswersHeader bytes result }
         ensures inverse { IfOk result (λ h. linux_sll_bytes (linux_sll_view h) ≡ bytes) }
@@ -69,8 +106,10 @@ impl LinuxSllHeader {
         LinuxSllHeader::LEN
     }
 
-    /// The header as it stands on the wire, numbers in network byte order. The variant of the protocol type is no part of
-    /// it: what is read back has the one that the hardware type gives the number.
+    /// The bytes of the header on the wire.
+    ///
+    /// They hold the number of the protocol type and not its variant. When they are read back, the hardware type decides
+    /// the variant.
     pub fn to_bytes(&self) -> [u8; 16]
         ensures value { result ≡ linux_sll_bytes (linux_sll_view self.now) }
         ensures read_back { (r : Result LinuxSllHeader header_error) → AnswersHeader result r → ((r ≡ Ok self.now) ↔ (protocol_type_of self.now.arp_hrd_type (protocol_number self.now.protocol_type) ≡ Ok self.now.protocol_type)) }
@@ -84,8 +123,12 @@ impl LinuxSllHeader {
         )
     }
 
-    /// Writes the header to the front of a slice, and lends the unused rest of the slice for writing. A slice shorter
-    /// than the header is refused, and then it is as it was.
+    /// Writes the header to the front of a slice, and lends the rest of the slice for writing.
+    ///
+    /// # Errors
+    ///
+    /// The slice has fewer than 16 bytes, and stays as it was: `required_len` is 16, `len` the slice's length, `layer` is
+    /// [`Layer::LinuxSllHeader`] and `layer_start_offset` is 0.
     pub fn write_to_slice<'a>(
         &self,
         slice: &'a mut [u8],
@@ -135,13 +178,12 @@ fn joined(
 #[cfg(test)]
 mod tests {
     use super::*;
+    use crate::test_frames::{ARP_REQUEST, GRE, LOOPBACK, PACKET, SPANNING_TREE, UNSUPPORTED};
     use ether_base::err::LenError;
     use ether_base::{EtherType, LenSource, LinuxNonstandardEtherType};
     use std::test::Fail;
 
-    /// To us, on Ethernet, from 02:00:00:00:00:01 by an address length of 255, with the dummy type for 802.3 frames.
-    const BYTES: [u8; 16] = [0, 0, 0, 1, 0, 0xFF, 2, 0, 0, 0, 0, 1, 0, 0, 0, 1];
-
+    /// The header of [`PACKET`].
     const HEADER: LinuxSllHeader = LinuxSllHeader {
         packet_type: LinuxSllPacketType::HOST,
         arp_hrd_type: ArpHardwareId::ETHERNET,
@@ -153,35 +195,90 @@ mod tests {
     };
 
     #[test]
-    fn sixteen_bytes_and_back(rt: HostRuntime) -> Result<(), Fail> {
-        assert_eq!(rt; LinuxSllHeader::from_bytes(BYTES), Ok(HEADER));
-        assert_eq!(rt; HEADER.to_bytes(), BYTES);
-        assert_eq!(rt; HEADER.header_len(), LinuxSllHeader::LEN);
-        assert_eq!(rt; LinuxSllHeader::LEN, 16);
-        let gre = LinuxSllHeader::from_bytes([
-            0, 0, 0x03, 0x0A, 0, 0, 0, 0, 0, 0, 0, 0, 0, 0, 0x08, 0x00,
-        ])?;
+    fn the_example(rt: HostRuntime) {
+        let bytes = [0, 4, 0, 1, 0, 6, 2, 0, 0, 0, 0, 1, 0, 0, 0x08, 0x00];
+        let header = LinuxSllHeader {
+            packet_type: LinuxSllPacketType::OUTGOING,
+            arp_hrd_type: ArpHardwareId::ETHERNET,
+            sender_address_valid_length: 6,
+            sender_address: [2, 0, 0, 0, 0, 1, 0, 0],
+            protocol_type: LinuxSllProtocolType::EtherType(EtherType::IPV4),
+        };
+        assert_eq!(rt; LinuxSllHeader::from_bytes(bytes), Ok(header));
+        assert_eq!(rt; header.to_bytes(), bytes);
+    }
+
+    #[test]
+    fn a_captured_header(rt: HostRuntime) {
+        let header = LinuxSllHeader {
+            packet_type: LinuxSllPacketType::BROADCAST,
+            arp_hrd_type: ArpHardwareId::ETHERNET,
+            sender_address_valid_length: 6,
+            sender_address: [0x02, 0x00, 0x5E, 0x10, 0x00, 0x01, 0, 0],
+            protocol_type: LinuxSllProtocolType::EtherType(EtherType::ARP),
+        };
+        let packet = ARP_REQUEST;
         assert_eq!(rt;
-            gre.protocol_type,
-            LinuxSllProtocolType::GenericRoutingEncapsulationProtocolType(0x0800)
+            LinuxSllHeader::from_slice(&packet),
+            Ok((header, &packet[16..]))
         );
+        assert_eq!(rt; header.to_bytes().as_slice(), &packet[..16]);
+    }
+
+    #[test]
+    fn a_captured_header_of_an_802_2_frame(rt: HostRuntime) {
+        let header = LinuxSllHeader {
+            packet_type: LinuxSllPacketType::MULTICAST,
+            arp_hrd_type: ArpHardwareId::ETHERNET,
+            sender_address_valid_length: 6,
+            sender_address: [0x02, 0x00, 0x5E, 0x10, 0x00, 0x01, 0, 0],
+            protocol_type: LinuxSllProtocolType::LinuxNonstandardEtherType(
+                LinuxNonstandardEtherType::N802_2,
+            ),
+        };
+        let packet = SPANNING_TREE;
         assert_eq!(rt;
-            format!(in rt.alloc(); "{HEADER:?}")?.as_str(),
-            "LinuxSllHeader { packet_type: 0 (Sent to us), arp_hrd_type: 1 (Ethernet), sender_address_valid_length: 255, sender_address: [2, 0, 0, 0, 0, 1, 0, 0], protocol_type: LinuxNonstandardEtherType(0x0001 (Dummy type for 802.3 frames)) }"
+            LinuxSllHeader::from_slice(&packet),
+            Ok((header, &packet[16..]))
+        );
+    }
+
+    #[test]
+    fn a_captured_header_of_the_loopback_device_is_refused(rt: HostRuntime) {
+        let refused = HeaderError::UnsupportedArpHardwareId {
+            arp_hardware_type: ArpHardwareId(772),
+        };
+        assert_eq!(rt;
+            LinuxSllHeader::from_slice(&LOOPBACK),
+            Err(HeaderSliceError::Content(refused))
+        );
+    }
+
+    #[test]
+    fn the_hardware_type_decides_the_variant(rt: HostRuntime) -> Result<(), Fail> {
+        let mut bytes = [0; 16];
+        bytes.copy_from_slice(&GRE[..16]);
+        assert_eq!(rt;
+            LinuxSllHeader::from_bytes(bytes)?.protocol_type,
+            LinuxSllProtocolType::GenericRoutingEncapsulationProtocolType(0x0800)
         );
         Ok(())
     }
 
     #[test]
-    fn contents_that_are_not_supported(rt: HostRuntime) {
-        let both = [0, 8, 0x01, 0x01, 0, 0, 0, 0, 0, 0, 0, 0, 0, 0, 0, 0];
+    fn the_packet_type_is_refused_first(rt: HostRuntime) {
         assert_eq!(rt;
-            LinuxSllHeader::from_bytes(both),
+            LinuxSllHeader::from_bytes(UNSUPPORTED),
             Err(HeaderError::UnsupportedPacketTypeField { packet_type: 8 })
         );
-        let hardware = [0, 0, 0x01, 0x01, 0, 0, 0, 0, 0, 0, 0, 0, 0, 0, 0x08, 0x00];
+    }
+
+    #[test]
+    fn the_hardware_type_is_refused_then(rt: HostRuntime) {
+        let mut bytes = UNSUPPORTED;
+        bytes[1] = 0;
         assert_eq!(rt;
-            LinuxSllHeader::from_bytes(hardware),
+            LinuxSllHeader::from_bytes(bytes),
             Err(HeaderError::UnsupportedArpHardwareId {
                 arp_hardware_type: ArpHardwareId(257)
             })
@@ -194,19 +291,19 @@ mod tests {
             protocol_type: LinuxSllProtocolType::EtherType(EtherType(1)),
             ..HEADER
         };
-        let read = LinuxSllHeader::from_bytes(header.to_bytes())?;
-        assert_eq!(rt; read, HEADER);
-        assert_ne!(rt; read, header);
+        assert_eq!(rt; LinuxSllHeader::from_bytes(header.to_bytes())?, HEADER);
         Ok(())
     }
 
     #[test]
-    fn the_front_of_a_slice(rt: HostRuntime) {
-        let slice = [
-            0, 0, 0, 1, 0, 0xFF, 2, 0, 0, 0, 0, 1, 0, 0, 0, 1, 0xAA, 0xBB,
-        ];
-        let rest = [0xAA, 0xBB].as_slice();
-        assert_eq!(rt; LinuxSllHeader::from_slice(&slice), Ok((HEADER, rest)));
+    fn the_front_of_a_slice_and_the_rest(rt: HostRuntime) {
+        let rest = [0xAA].as_slice();
+        assert_eq!(rt; LinuxSllHeader::from_slice(&PACKET), Ok((HEADER, rest)));
+    }
+
+    #[test]
+    fn fifteen_bytes_are_refused(rt: HostRuntime) {
+        let packet = PACKET;
         let short = LenError {
             required_len: 16,
             len: 15,
@@ -215,29 +312,64 @@ mod tests {
             layer_start_offset: 0,
         };
         assert_eq!(rt;
-            LinuxSllHeader::from_slice(&slice[..15]),
+            LinuxSllHeader::from_slice(&packet[..15]),
             Err(HeaderSliceError::Len(short))
-        );
-        let refused = [0, 8, 0, 1, 0, 0xFF, 2, 0, 0, 0, 0, 1, 0, 0, 0, 1];
-        let packet_type = HeaderError::UnsupportedPacketTypeField { packet_type: 8 };
-        assert_eq!(rt;
-            LinuxSllHeader::from_slice(&refused),
-            Err(HeaderSliceError::Content(packet_type))
         );
     }
 
     #[test]
-    fn written_to_the_front_and_the_rest_lent(rt: HostRuntime) -> Result<(), Fail> {
-        let mut slice = [0x55; 20];
-        let rest = HEADER.write_to_slice(&mut slice)?;
-        assert_eq!(rt; rest.len(), 4);
-        rest[0] = 0xAA;
+    fn the_length(rt: HostRuntime) {
+        assert_eq!(rt; HEADER.header_len(), 16);
+        assert_eq!(rt; LinuxSllHeader::LEN, 16);
+    }
+
+    #[test]
+    fn headers_differ_by_each_field(rt: HostRuntime) {
+        let others = [
+            LinuxSllHeader {
+                packet_type: LinuxSllPacketType::OUTGOING,
+                ..HEADER
+            },
+            LinuxSllHeader {
+                arp_hrd_type: ArpHardwareId::NETLINK,
+                ..HEADER
+            },
+            LinuxSllHeader {
+                sender_address_valid_length: 254,
+                ..HEADER
+            },
+            LinuxSllHeader {
+                sender_address: [2, 0, 0, 0, 0, 1, 0, 1],
+                ..HEADER
+            },
+            LinuxSllHeader {
+                protocol_type: LinuxSllProtocolType::EtherType(EtherType(1)),
+                ..HEADER
+            },
+        ];
+        for other in others {
+            assert_ne!(rt; other, HEADER);
+            assert_eq!(rt; other, other);
+        }
+    }
+
+    #[test]
+    fn shown_by_its_fields(rt: HostRuntime) -> Result<(), Fail> {
         assert_eq!(rt;
-            slice,
-            [
-                0, 0, 0, 1, 0, 0xFF, 2, 0, 0, 0, 0, 1, 0, 0, 0, 1, 0xAA, 0x55, 0x55, 0x55,
-            ]
+            format!(in rt.alloc(); "{HEADER:?}")?.as_str(),
+            "LinuxSllHeader { packet_type: 0 (Sent to us), arp_hrd_type: 1 (Ethernet), sender_address_valid_length: 255, sender_address: [2, 0, 0, 0, 0, 1, 0, 0], protocol_type: LinuxNonstandardEtherType(0x0001 (Dummy type for 802.3 frames)) }"
         );
+        Ok(())
+    }
+
+    #[test]
+    fn written_to_the_front_and_the_rest_lent(rt: HostRuntime) -> Result<(), Fail> {
+        let mut slice = [0x55; 18];
+        let rest = HEADER.write_to_slice(&mut slice)?;
+        assert_eq!(rt; rest.len(), 2);
+        rest[0] = 0xAA;
+        assert_eq!(rt; &slice[..17], PACKET.as_slice());
+        assert_eq!(rt; slice[17], 0x55);
         Ok(())
     }
 

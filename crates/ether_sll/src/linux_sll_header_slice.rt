@@ -18,10 +18,23 @@ use ether_base::{ArpHardwareId, LinuxSllPacketType, LinuxSllProtocolType};
 use std::alloc::AllocError;
 use std::marker::Model;
 
-/// The 16 bytes of a header of Linux cooked capture v1 in the bytes of a packet (LINKTYPE_LINUX_SLL), whose packet type
-/// and hardware type are supported.
+/// A view of a header of Linux cooked capture v1 (LINKTYPE_LINUX_SLL), which borrows its 16 bytes from a packet
+/// ([`LinuxSllHeader`] has a picture of them). Packet type and hardware type are supported.
 ///
-/// Two views are equal where their bytes are.
+/// Two views are equal if their bytes are, wherever these stand.
+///
+/// ```
+/// let bytes = [0, 4, 0, 1, 0, 6, 2, 0, 0, 0, 0, 1, 0, 0, 0x08, 0x00, 0x45];
+/// let header = LinuxSllHeaderSlice::from_slice(&bytes)?;
+/// assert_eq!(rt; header.packet_type(), LinuxSllPacketType::OUTGOING);
+/// assert_eq!(rt; header.arp_hardware_type(), ArpHardwareId::ETHERNET);
+/// assert_eq!(rt; header.sender_address(), [2, 0, 0, 0, 0, 1].as_slice());
+/// assert_eq!(rt;
+///     header.protocol_type(),
+///     LinuxSllProtocolType::EtherType(EtherType::IPV4)
+/// );
+/// assert_eq!(rt; header.slice(), &bytes[..16]);
+/// ```
 #[derive(Debug, Drop)]
 pub struct LinuxSllHeaderSlice<'a> {
     slice: &'a [u8],
@@ -39,8 +52,18 @@ impl<'a> Model for LinuxSllHeaderSlice<'a> {
 }
 
 impl<'a> LinuxSllHeaderSlice<'a> {
-    /// The header that a slice begins with. Refused are fewer than 16 bytes, then a packet type above 7, then a hardware
-    /// type whose protocol numbers have no known meaning. What follows the header is no part of the view.
+    /// The header at the front of a slice. The bytes behind it are not part of the view.
+    ///
+    /// # Errors
+    ///
+    /// The first of these that holds:
+    ///
+    /// - `HeaderSliceError::Len`: the slice has fewer than 16 bytes. `required_len` is 16, `len` the slice's length,
+    ///   `len_source` is `LenSource::Slice`, `layer` is `Layer::LinuxSllHeader` and `layer_start_offset` is 0.
+    /// - `HeaderSliceError::Content` with `HeaderError::UnsupportedPacketTypeField`: the packet type, which the error names,
+    ///   is above 7.
+    /// - `HeaderSliceError::Content` with `HeaderError::UnsupportedArpHardwareId`: the meaning of protocol numbers is not
+    ///   known for the hardware type, which the error names.
     pub fn from_slice(slice: &'a [u8]) -> Result<LinuxSllHeaderSlice<'a>, HeaderSliceError>
         ensures bytes { IfOk result (λ h. h ≡ slice_range slice.now 0 16) }
         ensures accepted { IfOk result (λ h. Accepts sources.Slice slice.now kinds.LinuxSll) }
@@ -61,42 +84,42 @@ impl<'a> LinuxSllHeaderSlice<'a> {
         self.slice
     }
 
-    /// Who sent the packet to whom.
+    /// The packet type: who sent the packet to whom.
     pub fn packet_type(&self) -> LinuxSllPacketType
         ensures { result ≡ (linux_sll_of self.now).packet_type }
     {
         linux_sll_fields::packet_type(self.slice)
     }
 
-    /// The type of the device that the packet was seen on, as Linux numbers it.
+    /// The hardware type (ARPHRD_) of the device that the packet was seen on.
     pub fn arp_hardware_type(&self) -> ArpHardwareId
         ensures { result.0 ≡ (linux_sll_of self.now).hardware_type }
     {
         linux_sll_fields::arp_hardware_type(self.slice)
     }
 
-    /// The length of the sender's address in bytes, which may be more than the header has room for.
+    /// The length of the sender's address in bytes, as the header gives it. It may exceed the 8 bytes that have room.
     pub fn sender_address_valid_length(&self) -> u16
         ensures { result ≡ (linux_sll_of self.now).address_len }
     {
         linux_sll_fields::sender_address_valid_length(self.slice)
     }
 
-    /// The 8 bytes that hold the sender's address, with those that are no part of it.
+    /// All 8 bytes of the address field, those behind the sender's address included.
     pub fn sender_address_full(&self) -> [u8; 8]
         ensures { result ≡ spelled 8 (linux_sll_of self.now).address }
     {
         linux_sll_fields::sender_address_full(self.slice)
     }
 
-    /// The sender's address, cut off after 8 bytes where it is longer.
+    /// The sender's address, or its first 8 bytes if it is longer.
     pub fn sender_address(&self) -> &'a [u8]
         ensures { result.now ≡ valid_address self.now }
     {
         linux_sll_fields::sender_address(self.slice)
     }
 
-    /// The protocol of what follows the header.
+    /// The protocol of what follows the header. The hardware type decides which variant its number has.
     pub fn protocol_type(&self) -> LinuxSllProtocolType
         ensures { result ≡ protocol_type_of_header self.now }
     {
@@ -139,69 +162,50 @@ impl<'a> Eq for LinuxSllHeaderSlice<'a> {
 #[cfg(test)]
 mod tests {
     use super::*;
+    use crate::test_frames::{PACKET, UNSUPPORTED};
     use ether_base::err::linux_sll::HeaderError;
     use ether_base::err::{Layer, LenError};
-    use ether_base::{LenSource, LinuxNonstandardEtherType};
+    use ether_base::{EtherType, LenSource};
     use std::test::Fail;
 
     #[test]
-    fn the_fields_of_a_header(rt: HostRuntime) -> Result<(), Fail> {
-        let bytes = [0, 0, 0, 1, 0, 0xFF, 2, 0, 0, 0, 0, 1, 0, 0, 0, 1, 0xAA];
-        let protocol_type = LinuxSllProtocolType::LinuxNonstandardEtherType(
-            LinuxNonstandardEtherType::N802_3,
-        );
+    fn the_example(rt: HostRuntime) -> Result<(), Fail> {
+        let bytes = [0, 4, 0, 1, 0, 6, 2, 0, 0, 0, 0, 1, 0, 0, 0x08, 0x00, 0x45];
         let header = LinuxSllHeaderSlice::from_slice(&bytes)?;
-        assert_eq!(rt; header.slice(), &bytes[..16]);
-        assert_eq!(rt; header.packet_type(), LinuxSllPacketType::HOST);
+        assert_eq!(rt; header.packet_type(), LinuxSllPacketType::OUTGOING);
         assert_eq!(rt; header.arp_hardware_type(), ArpHardwareId::ETHERNET);
-        assert_eq!(rt; header.sender_address_valid_length(), 255);
-        assert_eq!(rt; header.sender_address_full(), [2, 0, 0, 0, 0, 1, 0, 0]);
+        assert_eq!(rt; header.sender_address(), [2, 0, 0, 0, 0, 1].as_slice());
         assert_eq!(rt;
-            header.sender_address(),
-            [2, 0, 0, 0, 0, 1, 0, 0].as_slice()
+            header.protocol_type(),
+            LinuxSllProtocolType::EtherType(EtherType::IPV4)
         );
-        assert_eq!(rt; header.protocol_type(), protocol_type);
-        assert_eq!(rt;
-            header.to_header(),
-            LinuxSllHeader {
-                packet_type: LinuxSllPacketType::HOST,
-                arp_hrd_type: ArpHardwareId::ETHERNET,
-                sender_address_valid_length: 255,
-                sender_address: [2, 0, 0, 0, 0, 1, 0, 0],
-                protocol_type,
-            }
-        );
-        assert_eq!(rt; header.clone()?, header);
-        assert_eq!(rt;
-            format!(in rt.alloc(); "{header:?}")?.as_str(),
-            "LinuxSllHeaderSlice { slice: [0, 0, 0, 1, 0, 255, 2, 0, 0, 0, 0, 1, 0, 0, 0, 1] }"
-        );
+        assert_eq!(rt; header.slice(), &bytes[..16]);
+        Ok(())
+    }
+
+    #[test]
+    fn the_header_as_a_value(rt: HostRuntime) -> Result<(), Fail> {
+        let header = LinuxSllHeaderSlice::from_slice(&PACKET)?.to_header();
+        assert_eq!(rt; header.to_bytes().as_slice(), &PACKET[..16]);
         Ok(())
     }
 
     #[test]
     fn addresses_of_each_length(rt: HostRuntime) -> Result<(), Fail> {
-        let none = [0, 0, 0, 1, 0, 0, 1, 2, 3, 4, 5, 6, 7, 8, 0x08, 0x00];
-        let six = [0, 0, 0, 1, 0, 6, 1, 2, 3, 4, 5, 6, 7, 8, 0x08, 0x00];
-        let nine = [0, 0, 0, 1, 0, 9, 1, 2, 3, 4, 5, 6, 7, 8, 0x08, 0x00];
-        assert_eq!(rt;
-            LinuxSllHeaderSlice::from_slice(&none)?.sender_address(),
-            [].as_slice()
-        );
-        assert_eq!(rt;
-            LinuxSllHeaderSlice::from_slice(&six)?.sender_address(),
-            [1, 2, 3, 4, 5, 6].as_slice()
-        );
-        assert_eq!(rt;
-            LinuxSllHeaderSlice::from_slice(&nine)?.sender_address(),
-            [1, 2, 3, 4, 5, 6, 7, 8].as_slice()
-        );
+        let address = [1, 2, 3, 4, 5, 6, 7, 8];
+        for (valid, len) in [(0, 0), (6, 6), (8, 8), (9, 8), (255, 8)] {
+            let bytes = [0, 0, 0, 1, 0, valid, 1, 2, 3, 4, 5, 6, 7, 8, 0x08, 0x00];
+            let header = LinuxSllHeaderSlice::from_slice(&bytes)?;
+            assert_eq!(rt; header.sender_address_valid_length(), u16::from(valid));
+            assert_eq!(rt; header.sender_address_full(), address);
+            assert_eq!(rt; header.sender_address(), &address[..len]);
+        }
         Ok(())
     }
 
     #[test]
     fn refused_by_length_before_contents(rt: HostRuntime) {
-        let bytes = [0, 8, 0x01, 0x01, 0, 0, 0, 0, 0, 0, 0, 0, 0, 0, 0, 0];
+        let bytes = UNSUPPORTED;
         assert_eq!(rt;
             LinuxSllHeaderSlice::from_slice(&bytes[..15]).err(),
             Some(HeaderSliceError::Len(LenError {
@@ -218,5 +222,25 @@ mod tests {
                 packet_type: 8
             }))
         );
+    }
+
+    #[test]
+    fn views_differ_by_their_bytes(rt: HostRuntime) -> Result<(), Fail> {
+        let mut changed = PACKET;
+        changed[15] = 2;
+        let header = LinuxSllHeaderSlice::from_slice(&PACKET)?;
+        assert_eq!(rt; header.clone()?, header);
+        assert_ne!(rt; header, LinuxSllHeaderSlice::from_slice(&changed)?);
+        Ok(())
+    }
+
+    #[test]
+    fn shown_by_its_bytes(rt: HostRuntime) -> Result<(), Fail> {
+        let header = LinuxSllHeaderSlice::from_slice(&PACKET)?;
+        assert_eq!(rt;
+            format!(in rt.alloc(); "{header:?}")?.as_str(),
+            "LinuxSllHeaderSlice { slice: [0, 0, 0, 1, 0, 255, 2, 0, 0, 0, 0, 1, 0, 0, 0, 1] }"
+        );
+        Ok(())
     }
 }

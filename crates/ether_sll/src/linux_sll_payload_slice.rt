@@ -5,9 +5,22 @@ use ether_base::{EtherType, LenSource, LinuxSllProtocolType};
 use ether_tags::EtherPayloadSlice;
 use std::alloc::AllocError;
 
-/// The payload of a packet of Linux cooked capture v1, and the protocol type that says what it is.
+/// The payload of a packet of Linux cooked capture v1, and the protocol type that names its protocol.
 ///
-/// Compared and ordered by the fields as they stand here. Nothing ties the fields of a value that a caller filled.
+/// Compared field by field, in the order of the fields. Public fields are not checked against each other.
+///
+/// ```
+/// let ipv4 = LinuxSllPayloadSlice {
+///     protocol_type: LinuxSllProtocolType::EtherType(EtherType::IPV4),
+///     payload: &[0x45],
+/// };
+/// let payload = EtherPayloadSlice {
+///     ether_type: EtherType::IPV4,
+///     len_source: LenSource::Slice,
+///     payload: &[0x45],
+/// };
+/// assert_eq!(rt; EtherPayloadSlice::try_from(ipv4), Ok(payload));
+/// ```
 #[derive(Copy, PartialEq, Eq, PartialOrd, Ord, Hash, Debug)]
 pub struct LinuxSllPayloadSlice<'a> {
     /// The protocol of the payload.
@@ -30,7 +43,7 @@ impl<'a> Clone for LinuxSllPayloadSlice<'a> {
     }
 }
 
-/// The payload under its ether type. Where its length comes from is lost.
+/// The payload with its ether type as protocol type. Its `len_source` is dropped.
 impl<'a> From<EtherPayloadSlice<'a>> for LinuxSllPayloadSlice<'a> {
     ghost use Rattle.ether_base.specs.declared.linux_sll_protocol_type.LinuxSllProtocolType.TheVariants as protocols;
 
@@ -44,8 +57,8 @@ impl<'a> From<EtherPayloadSlice<'a>> for LinuxSllPayloadSlice<'a> {
     }
 }
 
-/// The payload under the number of its protocol, an ether type or one that Linux numbers below these. Its length counts
-/// as the slice's. Refused are the protocols of netlink, of GRE and those that say nothing.
+/// The payload with the number of its protocol type as ether type, if it is an ether type or one of the numbers that
+/// Linux keeps beside them. Its `len_source` is [`LenSource::Slice`]. Netlink, GRE and ignored protocols are refused.
 impl<'a> TryFrom<LinuxSllPayloadSlice<'a>> for EtherPayloadSlice<'a> {
     type Error = ();
 
@@ -72,6 +85,37 @@ impl<'a> TryFrom<LinuxSllPayloadSlice<'a>> for EtherPayloadSlice<'a> {
 mod tests {
     use super::*;
     use ether_base::LinuxNonstandardEtherType;
+
+    #[test]
+    fn the_example(rt: HostRuntime) {
+        let ipv4 = LinuxSllPayloadSlice {
+            protocol_type: LinuxSllProtocolType::EtherType(EtherType::IPV4),
+            payload: &[0x45],
+        };
+        let payload = EtherPayloadSlice {
+            ether_type: EtherType::IPV4,
+            len_source: LenSource::Slice,
+            payload: &[0x45],
+        };
+        assert_eq!(rt; EtherPayloadSlice::try_from(ipv4), Ok(payload));
+    }
+
+    #[test]
+    fn payloads_differ_by_each_field(rt: HostRuntime) {
+        let ipv4 = sll(LinuxSllProtocolType::EtherType(EtherType::IPV4));
+        let longer = LinuxSllPayloadSlice {
+            protocol_type: ipv4.protocol_type,
+            payload: &[0xAA, 0xBB],
+        };
+        assert_eq!(rt; ipv4, ipv4);
+        assert_ne!(rt; ipv4, sll(LinuxSllProtocolType::EtherType(EtherType::IPV6)));
+        assert_ne!(rt;
+            ipv4,
+            sll(LinuxSllProtocolType::NetlinkProtocolType(0x0800))
+        );
+        assert_ne!(rt; ipv4, longer);
+        assert!(rt; ipv4 < longer);
+    }
 
     fn sll(protocol_type: LinuxSllProtocolType) -> LinuxSllPayloadSlice<'static> {
         LinuxSllPayloadSlice {

@@ -19,10 +19,19 @@ use std::alloc::AllocError;
 use std::fmt;
 use std::marker::Model;
 
-/// A packet of Linux cooked capture v1 (LINKTYPE_LINUX_SLL): a header of 16 bytes, whose packet type and hardware type
-/// are supported, and the payload behind it.
+/// A view of a packet of Linux cooked capture v1 (LINKTYPE_LINUX_SLL): a header ([`LinuxSllHeader`] has a picture of it)
+/// and its payload. Packet type and hardware type are supported.
 ///
-/// Two views are equal where their bytes are.
+/// Two views are equal if their bytes are, wherever these stand.
+///
+/// ```
+/// let bytes = [0, 4, 0, 1, 0, 6, 2, 0, 0, 0, 0, 1, 0, 0, 0x08, 0x00, 0x45];
+/// let packet = LinuxSllSlice::from_slice(&bytes)?;
+/// let ipv4 = LinuxSllProtocolType::EtherType(EtherType::IPV4);
+/// assert_eq!(rt; packet.packet_type(), LinuxSllPacketType::OUTGOING);
+/// assert_eq!(rt; packet.protocol_type(), ipv4);
+/// assert_eq!(rt; packet.payload_slice(), [0x45].as_slice());
+/// ```
 #[derive(Drop)]
 pub struct LinuxSllSlice<'a> {
     slice: &'a [u8],
@@ -40,8 +49,18 @@ impl<'a> Model for LinuxSllSlice<'a> {
 }
 
 impl<'a> LinuxSllSlice<'a> {
-    /// The packet of a slice, which ends with the payload. Refused are fewer than 16 bytes, then a packet type above 7,
-    /// then a hardware type whose protocol numbers have no known meaning.
+    /// The packet that a slice holds. The payload reaches to the end of the slice.
+    ///
+    /// # Errors
+    ///
+    /// The first of these that holds:
+    ///
+    /// - `HeaderSliceError::Len`: the slice has fewer than 16 bytes. `required_len` is 16, `len` the slice's length,
+    ///   `len_source` is `LenSource::Slice`, `layer` is `Layer::LinuxSllHeader` and `layer_start_offset` is 0.
+    /// - `HeaderSliceError::Content` with `HeaderError::UnsupportedPacketTypeField`: the packet type, which the error names,
+    ///   is above 7.
+    /// - `HeaderSliceError::Content` with `HeaderError::UnsupportedArpHardwareId`: the meaning of protocol numbers is not
+    ///   known for the hardware type, which the error names.
     pub fn from_slice(slice: &'a [u8]) -> Result<LinuxSllSlice<'a>, HeaderSliceError>
         ensures bytes { IfOk result (λ p. p ≡ slice.now) }
         ensures accepted { IfOk result (λ p. Accepts sources.Slice slice.now kinds.LinuxSll) }
@@ -52,49 +71,49 @@ impl<'a> LinuxSllSlice<'a> {
         Ok(LinuxSllSlice { slice })
     }
 
-    /// All bytes of the packet, as they were handed in.
+    /// All bytes of the packet.
     pub fn slice(&self) -> &'a [u8]
         ensures { result.now ≡ self.now }
     {
         self.slice
     }
 
-    /// Who sent the packet to whom.
+    /// The packet type: who sent the packet to whom.
     pub fn packet_type(&self) -> LinuxSllPacketType
         ensures { result ≡ (linux_sll_of self.now).packet_type }
     {
         linux_sll_fields::packet_type(self.slice)
     }
 
-    /// The type of the device that the packet was seen on, as Linux numbers it.
+    /// The hardware type (ARPHRD_) of the device that the packet was seen on.
     pub fn arp_hardware_type(&self) -> ArpHardwareId
         ensures { result.0 ≡ (linux_sll_of self.now).hardware_type }
     {
         linux_sll_fields::arp_hardware_type(self.slice)
     }
 
-    /// The length of the sender's address in bytes, which may be more than the header has room for.
+    /// The length of the sender's address in bytes, as the header gives it. It may exceed the 8 bytes that have room.
     pub fn sender_address_valid_length(&self) -> u16
         ensures { result ≡ (linux_sll_of self.now).address_len }
     {
         linux_sll_fields::sender_address_valid_length(self.slice)
     }
 
-    /// The 8 bytes that hold the sender's address, with those that are no part of it.
+    /// All 8 bytes of the address field, those behind the sender's address included.
     pub fn sender_address_full(&self) -> [u8; 8]
         ensures { result ≡ spelled 8 (linux_sll_of self.now).address }
     {
         linux_sll_fields::sender_address_full(self.slice)
     }
 
-    /// The sender's address, cut off after 8 bytes where it is longer.
+    /// The sender's address, or its first 8 bytes if it is longer.
     pub fn sender_address(&self) -> &'a [u8]
         ensures { result.now ≡ valid_address self.now }
     {
         linux_sll_fields::sender_address(self.slice)
     }
 
-    /// The protocol of the payload.
+    /// The protocol of the payload. The hardware type decides which variant its number has.
     pub fn protocol_type(&self) -> LinuxSllProtocolType
         ensures { result ≡ protocol_type_of_header self.now }
     {
@@ -180,65 +199,76 @@ impl fmt::Debug for LinuxSllSlice<'_> {
 #[cfg(test)]
 mod tests {
     use super::*;
+    use crate::test_frames::{ARP_REQUEST, LOOPBACK, PACKET};
     use ether_base::err::linux_sll::HeaderError;
     use ether_base::err::{Layer, LenError};
-    use ether_base::{LenSource, LinuxNonstandardEtherType};
+    use ether_base::{EtherType, LenSource};
     use std::test::Fail;
 
     #[test]
-    fn the_fields_and_the_payload_of_a_packet(rt: HostRuntime) -> Result<(), Fail> {
-        let bytes = [0, 0, 0, 1, 0, 0xFF, 2, 0, 0, 0, 0, 1, 0, 0, 0, 1, 0xAA];
-        let protocol_type = LinuxSllProtocolType::LinuxNonstandardEtherType(
-            LinuxNonstandardEtherType::N802_3,
-        );
+    fn the_example(rt: HostRuntime) -> Result<(), Fail> {
+        let bytes = [0, 4, 0, 1, 0, 6, 2, 0, 0, 0, 0, 1, 0, 0, 0x08, 0x00, 0x45];
         let packet = LinuxSllSlice::from_slice(&bytes)?;
-        assert_eq!(rt; packet.slice(), bytes.as_slice());
-        assert_eq!(rt; packet.header_slice(), &bytes[..16]);
-        assert_eq!(rt; packet.header_len(), 16);
-        assert_eq!(rt; packet.packet_type(), LinuxSllPacketType::HOST);
+        let ipv4 = LinuxSllProtocolType::EtherType(EtherType::IPV4);
+        assert_eq!(rt; packet.packet_type(), LinuxSllPacketType::OUTGOING);
+        assert_eq!(rt; packet.protocol_type(), ipv4);
+        assert_eq!(rt; packet.payload_slice(), [0x45].as_slice());
+        Ok(())
+    }
+
+    #[test]
+    fn a_captured_packet(rt: HostRuntime) -> Result<(), Fail> {
+        let bytes = ARP_REQUEST;
+        let packet = LinuxSllSlice::from_slice(&bytes)?;
+        assert_eq!(rt; packet.packet_type(), LinuxSllPacketType::BROADCAST);
         assert_eq!(rt; packet.arp_hardware_type(), ArpHardwareId::ETHERNET);
-        assert_eq!(rt; packet.sender_address_valid_length(), 255);
-        assert_eq!(rt; packet.sender_address_full(), [2, 0, 0, 0, 0, 1, 0, 0]);
+        assert_eq!(rt; packet.sender_address_valid_length(), 6);
         assert_eq!(rt;
             packet.sender_address(),
-            [2, 0, 0, 0, 0, 1, 0, 0].as_slice()
+            [2, 0, 0x5E, 0x10, 0, 1].as_slice()
         );
-        assert_eq!(rt; packet.protocol_type(), protocol_type);
         assert_eq!(rt;
-            packet.to_header(),
-            LinuxSllHeader {
-                packet_type: LinuxSllPacketType::HOST,
-                arp_hrd_type: ArpHardwareId::ETHERNET,
-                sender_address_valid_length: 255,
-                sender_address: [2, 0, 0, 0, 0, 1, 0, 0],
-                protocol_type,
-            }
-        );
-        assert_eq!(rt; packet.payload_slice(), [0xAA].as_slice());
-        assert_eq!(rt;
-            packet.payload(),
-            LinuxSllPayloadSlice {
-                protocol_type,
-                payload: &[0xAA],
-            }
-        );
-        assert_eq!(rt; packet.clone()?, packet);
-        assert_eq!(rt;
-            format!(in rt.alloc(); "{packet:?}")?.as_str(),
-            "LinuxSllSlice { header: LinuxSllHeader { packet_type: 0 (Sent to us), arp_hrd_type: 1 (Ethernet), sender_address_valid_length: 255, sender_address: [2, 0, 0, 0, 0, 1, 0, 0], protocol_type: LinuxNonstandardEtherType(0x0001 (Dummy type for 802.3 frames)) }, payload: LinuxSllPayloadSlice { protocol_type: LinuxNonstandardEtherType(0x0001 (Dummy type for 802.3 frames)), payload: [170] } }"
+            packet.protocol_type(),
+            LinuxSllProtocolType::EtherType(EtherType::ARP)
         );
         Ok(())
     }
 
     #[test]
-    fn a_packet_that_is_refused(rt: HostRuntime) {
-        let bytes = [0, 0, 0x01, 0x01, 0, 0, 0, 0, 0, 0, 0, 0, 0, 0, 0x08, 0x00];
+    fn the_header_as_bytes_and_as_a_value(rt: HostRuntime) -> Result<(), Fail> {
+        let packet = LinuxSllSlice::from_slice(&PACKET)?;
+        assert_eq!(rt; packet.slice(), PACKET.as_slice());
+        assert_eq!(rt; packet.header_slice(), &PACKET[..16]);
+        assert_eq!(rt; packet.header_len(), 16);
+        assert_eq!(rt; packet.sender_address_full(), [2, 0, 0, 0, 0, 1, 0, 0]);
+        assert_eq!(rt; packet.to_header().to_bytes().as_slice(), &PACKET[..16]);
+        Ok(())
+    }
+
+    #[test]
+    fn the_payload(rt: HostRuntime) -> Result<(), Fail> {
+        let packet = LinuxSllSlice::from_slice(&PACKET)?;
+        let payload = LinuxSllPayloadSlice {
+            protocol_type: packet.protocol_type(),
+            payload: &[0xAA],
+        };
+        assert_eq!(rt; packet.payload(), payload);
+        Ok(())
+    }
+
+    #[test]
+    fn a_captured_packet_of_the_loopback_device_is_refused(rt: HostRuntime) {
         assert_eq!(rt;
-            LinuxSllSlice::from_slice(&bytes).err(),
+            LinuxSllSlice::from_slice(&LOOPBACK).err(),
             Some(HeaderSliceError::Content(HeaderError::UnsupportedArpHardwareId {
-                arp_hardware_type: ArpHardwareId(257),
+                arp_hardware_type: ArpHardwareId(772),
             }))
         );
+    }
+
+    #[test]
+    fn fifteen_bytes_are_refused(rt: HostRuntime) {
+        let bytes = PACKET;
         assert_eq!(rt;
             LinuxSllSlice::from_slice(&bytes[..15]).err(),
             Some(HeaderSliceError::Len(LenError {
@@ -249,5 +279,25 @@ mod tests {
                 layer_start_offset: 0,
             }))
         );
+    }
+
+    #[test]
+    fn views_differ_by_their_bytes(rt: HostRuntime) -> Result<(), Fail> {
+        let mut changed = PACKET;
+        changed[16] = 0xAB;
+        let packet = LinuxSllSlice::from_slice(&PACKET)?;
+        assert_eq!(rt; packet.clone()?, packet);
+        assert_ne!(rt; packet, LinuxSllSlice::from_slice(&changed)?);
+        Ok(())
+    }
+
+    #[test]
+    fn shown_by_header_and_payload(rt: HostRuntime) -> Result<(), Fail> {
+        let packet = LinuxSllSlice::from_slice(&PACKET)?;
+        assert_eq!(rt;
+            format!(in rt.alloc(); "{packet:?}")?.as_str(),
+            "LinuxSllSlice { header: LinuxSllHeader { packet_type: 0 (Sent to us), arp_hrd_type: 1 (Ethernet), sender_address_valid_length: 255, sender_address: [2, 0, 0, 0, 0, 1, 0, 0], protocol_type: LinuxNonstandardEtherType(0x0001 (Dummy type for 802.3 frames)) }, payload: LinuxSllPayloadSlice { protocol_type: LinuxNonstandardEtherType(0x0001 (Dummy type for 802.3 frames)), payload: [170] } }"
+        );
+        Ok(())
     }
 }
