@@ -11,7 +11,7 @@ use crate::output_buffer::OutputBuffer;
 use crate::peel::{Peel, Start};
 use std::io::Write;
 
-/// Takes the lines of a frame's walk, and answers whether the frame is accepted.
+/// Puts the lines of a frame's walk, and returns whether the frame is accepted.
 ///
 /// After an `Err`, which only the writer causes, nothing is said of how much was written.
 pub fn put_walk<W: Write>(
