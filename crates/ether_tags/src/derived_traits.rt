@@ -1,6 +1,6 @@
 //! What callers learn of the derived traits and of the constants, at each type of this crate. These functions are
 //! proved and never run.
-ghost use Rattle.std.specs.Prelude.{◌≡◌, ◌↔◌, IsTrue, Some, map, [], ◌∷◌};
+ghost use Rattle.std.specs.Prelude.{◌≡◌, ◌↔◌, IsTrue, Some, map};
 ghost use Rattle.ether_base.specs.Hashes.{hashed};
 ghost use Rattle.ether_tags.specs.Hashes.{ether_payload_slice_fed, macsec_p_type_fed};
 ghost use Rattle.std.specs.Ordering.{nat_cmp, on, then_cmp};
