@@ -1,0 +1,39 @@
+//! The link layer of network packets: Ethernet II, VLAN tags (IEEE 802.1Q), MACsec SecTags (IEEE 802.1AE), Linux cooked
+//! capture v1 and ARP (RFC 826). No call allocates memory.
+//!
+//! Each format has up to three types. A `..Header` is a value with public fields, which is written by `to_bytes`. A
+//! `..HeaderSlice` is a view of the bytes of a header, and a `..Slice` one of a header and its payload: both borrow the
+//! packet, and read a field when it is asked for. `from_slice` makes any of the three from the front of a slice, or says
+//! in [`err`] why it can't.
+//!
+//! A frame is read header by header, each from the payload of the one before:
+//!
+//! ```
+//! let frame = [
+//!     0xFF, 0xFF, 0xFF, 0xFF, 0xFF, 0xFF, 0x02, 0x00, 0x00, 0x00, 0x00, 0x01, 0x81, 0x00, // Ethernet II
+//!     0xB1, 0x23, 0x08, 0x00, // VLAN
+//! ];
+//! let ethernet = Ethernet2Slice::from_slice_without_fcs(&frame)?;
+//! assert_eq!(rt; ethernet.ether_type(), ether_type::VLAN_TAGGED_FRAME);
+//!
+//! let vlan = SingleVlanSlice::from_slice(ethernet.payload_slice())?;
+//! assert_eq!(rt; vlan.vlan_identifier(), VlanId::try_new(0x123)?);
+//! assert_eq!(rt; vlan.ether_type(), ether_type::IPV4);
+//! ```
+#![tactic(auto)]
+
+pub use ether_arp::{ArpEthIpv4Packet, ArpPacket, ArpPacketSlice};
+pub use ether_base::{
+    ArpHardwareId, ArpOperation, EtherType, LenSource, LinuxNonstandardEtherType,
+    LinuxSllPacketType, LinuxSllProtocolType, MacsecAn, MacsecShortLen, VlanId, VlanPcp, err,
+    ether_type,
+};
+pub use ether_sll::{
+    LinkHeader, LinkSlice, LinuxSllHeader, LinuxSllHeaderSlice, LinuxSllPayloadSlice, LinuxSllSlice,
+};
+pub use ether_tags::{
+    DoubleVlanHeader, DoubleVlanSlice, EtherPayloadSlice, Ethernet2Header, Ethernet2HeaderSlice,
+    Ethernet2Slice, LinkExtHeader, LinkExtSlice, MacsecHeader, MacsecHeaderSlice, MacsecPType,
+    MacsecPayloadSlice, MacsecSlice, SingleVlanHeader, SingleVlanHeaderSlice, SingleVlanSlice,
+    VlanHeader, VlanSlice,
+};
