@@ -22,6 +22,9 @@
 //! ```
 #![tactic(auto)]
 
+#[cfg(test)]
+mod tests;
+
 pub use ether_arp::{ArpEthIpv4Packet, ArpPacket, ArpPacketSlice};
 pub use ether_base::{
     ArpHardwareId, ArpOperation, EtherType, LenSource, LinuxNonstandardEtherType,

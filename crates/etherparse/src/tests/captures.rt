@@ -1,0 +1,149 @@
+//! Linux cooked capture, and links of either kind.
+use super::{cut_short, ipv4};
+use crate::err::{Layer, SliceWriteSpaceError, linux_sll};
+use crate::{
+    ArpHardwareId, EtherPayloadSlice, EtherType, Ethernet2Header, Ethernet2Slice, LinkHeader,
+    LinkSlice, LinuxNonstandardEtherType, LinuxSllHeader, LinuxSllHeaderSlice, LinuxSllPacketType,
+    LinuxSllPayloadSlice, LinuxSllProtocolType, LinuxSllSlice,
+};
+use std::test::Fail;
+
+/// To this host on Ethernet, from 02:00:00:00:00:01 by an address length of 255, with the dummy type for 802.3 frames, and
+/// a byte behind it.
+const CAPTURE: [u8; 17] = [0, 0, 0, 1, 0, 0xFF, 2, 0, 0, 0, 0, 1, 0, 0, 0, 1, 0xAA];
+
+const HEADER: LinuxSllHeader = LinuxSllHeader {
+    packet_type: LinuxSllPacketType::HOST,
+    arp_hrd_type: ArpHardwareId::ETHERNET,
+    sender_address_valid_length: 255,
+    sender_address: [2, 0, 0, 0, 0, 1, 0, 0],
+    protocol_type: LinuxSllProtocolType::LinuxNonstandardEtherType(
+        LinuxNonstandardEtherType::N802_3,
+    ),
+};
+
+/// A byte of IPv4, as a payload of cooked capture.
+fn sll_ipv4() -> LinuxSllPayloadSlice<'static> {
+    LinuxSllPayloadSlice {
+        protocol_type: LinuxSllProtocolType::EtherType(EtherType::IPV4),
+        payload: &[0x45],
+    }
+}
+
+#[test]
+fn a_cooked_capture_header(rt: HostRuntime) {
+    let bytes = HEADER.to_bytes();
+    assert_eq!(rt; bytes.as_slice(), &CAPTURE[..LinuxSllHeader::LEN]);
+    assert_eq!(rt; LinuxSllHeader::from_bytes(bytes), Ok(HEADER));
+    assert_eq!(rt; HEADER.header_len(), 16);
+    let rest = [0xAA].as_slice();
+    assert_eq!(rt; LinuxSllHeader::from_slice(&CAPTURE), Ok((HEADER, rest)));
+    assert_eq!(rt;
+        LinuxSllHeader::from_slice(&CAPTURE[..15]),
+        Err(linux_sll::HeaderSliceError::Len(cut_short(16, 15, Layer::LinuxSllHeader)))
+    );
+}
+
+#[test]
+fn a_cooked_capture_header_written_to_a_slice(rt: HostRuntime) -> Result<(), Fail> {
+    let mut target = [0x55; 17];
+    let rest = HEADER.write_to_slice(&mut target)?;
+    assert_eq!(rt; rest.len(), 1);
+    assert_eq!(rt; &target[..16], &CAPTURE[..16]);
+    let refused = SliceWriteSpaceError {
+        required_len: 16,
+        len: 15,
+        layer: Layer::LinuxSllHeader,
+        layer_start_offset: 0,
+    };
+    assert_eq!(rt;
+        HEADER.write_to_slice(&mut target[..15]).err(),
+        Some(refused)
+    );
+    Ok(())
+}
+
+#[test]
+fn a_view_of_a_cooked_capture_header(rt: HostRuntime) -> Result<(), Fail> {
+    let view = LinuxSllHeaderSlice::from_slice(&CAPTURE)?;
+    assert_eq!(rt; view.slice(), &CAPTURE[..16]);
+    assert_eq!(rt; view.packet_type(), LinuxSllPacketType::HOST);
+    assert_eq!(rt; view.arp_hardware_type(), ArpHardwareId::ETHERNET);
+    assert_eq!(rt; view.sender_address_valid_length(), 255);
+    assert_eq!(rt; view.sender_address_full(), [2, 0, 0, 0, 0, 1, 0, 0]);
+    assert_eq!(rt; view.sender_address(), [2, 0, 0, 0, 0, 1, 0, 0].as_slice());
+    assert_eq!(rt; u16::from(view.protocol_type()), 1);
+    assert_eq!(rt; view.to_header(), HEADER);
+    Ok(())
+}
+
+#[test]
+fn a_view_of_a_cooked_capture(rt: HostRuntime) -> Result<(), Fail> {
+    let view = LinuxSllSlice::from_slice(&CAPTURE)?;
+    assert_eq!(rt; view.slice(), CAPTURE.as_slice());
+    assert_eq!(rt; view.header_slice(), &CAPTURE[..16]);
+    assert_eq!(rt; view.header_len(), 16);
+    assert_eq!(rt; view.packet_type(), LinuxSllPacketType::HOST);
+    assert_eq!(rt; view.arp_hardware_type(), ArpHardwareId::ETHERNET);
+    assert_eq!(rt; view.sender_address_valid_length(), 255);
+    assert_eq!(rt; view.sender_address_full(), [2, 0, 0, 0, 0, 1, 0, 0]);
+    assert_eq!(rt; view.sender_address().len(), 8);
+    assert_eq!(rt; u16::from(view.protocol_type()), 1);
+    assert_eq!(rt; view.to_header(), HEADER);
+    assert_eq!(rt; view.payload_slice(), [0xAA].as_slice());
+    assert_eq!(rt; view.payload().payload, [0xAA].as_slice());
+    Ok(())
+}
+
+#[test]
+fn payloads_of_either_kind(rt: HostRuntime) {
+    assert_eq!(rt; LinuxSllPayloadSlice::from(ipv4()), sll_ipv4());
+    assert_eq!(rt; EtherPayloadSlice::try_from(sll_ipv4()), Ok(ipv4()));
+    let netlink = LinuxSllPayloadSlice {
+        protocol_type: LinuxSllProtocolType::NetlinkProtocolType(1),
+        payload: &[0x45],
+    };
+    assert_eq!(rt; EtherPayloadSlice::try_from(netlink), Err(()));
+}
+
+#[test]
+fn the_header_of_a_link(rt: HostRuntime) {
+    let mut link = LinkHeader::LinuxSll(HEADER);
+    assert_eq!(rt; link.header_len(), 16);
+    assert_eq!(rt; link.linux_sll(), Some(HEADER));
+    assert_eq!(rt; link.ethernet2(), None);
+    if let Some(header) = link.mut_linux_sll() {
+        header.packet_type = LinuxSllPacketType::OUTGOING;
+    }
+    assert_ne!(rt; link.linux_sll(), Some(HEADER));
+    let frame = Ethernet2Header {
+        ether_type: EtherType::IPV4,
+        ..Ethernet2Header::default()
+    };
+    link = LinkHeader::Ethernet2(Ethernet2Header::default());
+    if let Some(header) = link.mut_ethernet2() {
+        header.ether_type = EtherType::IPV4;
+    }
+    assert_eq!(rt; link, LinkHeader::Ethernet2(frame));
+}
+
+#[test]
+fn a_link_with_a_header(rt: HostRuntime) -> Result<(), Fail> {
+    let bytes = [0, 0, 0, 0, 0, 0, 0, 0, 0, 0, 0, 0, 0x08, 0x00, 0x45];
+    let frame = LinkSlice::Ethernet2(Ethernet2Slice::from_slice_without_fcs(&bytes)?);
+    assert_eq!(rt; frame.ether_payload(), Some(ipv4()));
+    assert_eq!(rt; frame.sll_payload(), sll_ipv4());
+    let capture = LinkSlice::LinuxSll(LinuxSllSlice::from_slice(&CAPTURE)?);
+    assert_eq!(rt; capture.to_header(), Some(LinkHeader::LinuxSll(HEADER)));
+    Ok(())
+}
+
+#[test]
+fn a_link_without_a_header(rt: HostRuntime) {
+    let ether = LinkSlice::EtherPayload(ipv4());
+    assert_eq!(rt; ether.to_header(), None);
+    assert_eq!(rt; ether.sll_payload(), sll_ipv4());
+    let sll = LinkSlice::LinuxSllPayload(sll_ipv4());
+    assert_eq!(rt; sll.to_header(), None);
+    assert_eq!(rt; sll.ether_payload(), Some(ipv4()));
+}

@@ -1,0 +1,291 @@
+//! Ethernet II, VLAN tags and SecTags, and the extensions of a link.
+use super::{cut_short, ipv4};
+use crate::err::{Layer, SliceWriteSpaceError, macsec};
+use crate::{
+    DoubleVlanHeader, DoubleVlanSlice, EtherPayloadSlice, EtherType, Ethernet2Header,
+    Ethernet2HeaderSlice, Ethernet2Slice, LenSource, LinkExtHeader, LinkExtSlice, MacsecAn,
+    MacsecHeader, MacsecHeaderSlice, MacsecPType, MacsecPayloadSlice, MacsecShortLen, MacsecSlice,
+    SingleVlanHeader, SingleVlanHeaderSlice, SingleVlanSlice, VlanHeader, VlanId, VlanPcp,
+    VlanSlice,
+};
+use std::test::Fail;
+
+/// To every station, from 02:00:00:00:00:01, IPv4, and four bytes more.
+const FRAME: [u8; 18] = [
+    0xFF, 0xFF, 0xFF, 0xFF, 0xFF, 0xFF, 2, 0, 0, 0, 0, 1, 0x08, 0x00, 0x11, 0x22, 0x33, 0x44,
+];
+
+const HEADER: Ethernet2Header = Ethernet2Header {
+    source: [2, 0, 0, 0, 0, 1],
+    destination: [0xFF; 6],
+    ether_type: EtherType::IPV4,
+};
+
+/// Two VLAN tags, and a byte of IPv4.
+const TAGS: [u8; 9] = [0x00, 0x01, 0x81, 0x00, 0xB1, 0x23, 0x08, 0x00, 0x45];
+
+/// A SecTag that names four bytes of payload, these, and two bytes behind them.
+const READABLE: [u8; 14] = [
+    0x00, 0x06, 0x00, 0x00, 0x00, 0x01, 0x81, 0x00, 0xAA, 0xBB, 0xCC, 0xDD, 0xEE, 0xEE,
+];
+
+/// A SecTag of an encrypted payload, with an SCI and reserved bits, and a byte behind it.
+const SEALED: [u8; 15] = [
+    0x2C, 0xC0, 0x00, 0x00, 0x00, 0x01, 0x00, 0x11, 0x22, 0x33, 0x44, 0x55, 0x66, 0x77, 0x99,
+];
+
+/// The payload that `READABLE` names.
+fn named() -> EtherPayloadSlice<'static> {
+    EtherPayloadSlice {
+        ether_type: EtherType(0x8100),
+        len_source: LenSource::MacsecShortLength,
+        payload: &[0xAA, 0xBB, 0xCC, 0xDD],
+    }
+}
+
+/// The second tag of `TAGS`.
+fn tag() -> Result<SingleVlanHeader, Fail> {
+    Ok(SingleVlanHeader {
+        pcp: VlanPcp::try_new(5)?,
+        drop_eligible_indicator: true,
+        vlan_id: VlanId::try_new(0x123)?,
+        ether_type: EtherType::IPV4,
+    })
+}
+
+#[test]
+fn an_ethernet_header(rt: HostRuntime) -> Result<(), Fail> {
+    let bytes = HEADER.to_bytes();
+    assert_eq!(rt; bytes.as_slice(), &FRAME[..Ethernet2Header::LEN]);
+    assert_eq!(rt; Ethernet2Header::from_bytes(bytes), HEADER);
+    assert_eq!(rt; HEADER.header_len(), Ethernet2Header::SERIALIZED_SIZE);
+    assert_eq!(rt; Ethernet2Header::default().to_bytes(), [0; 14]);
+    let rest = &FRAME[14..];
+    assert_eq!(rt; Ethernet2Header::from_slice(&FRAME)?, (HEADER, rest));
+    assert_eq!(rt; Ethernet2Header::read_from_slice(&FRAME)?, (HEADER, rest));
+    Ok(())
+}
+
+#[test]
+fn an_ethernet_header_written_to_a_slice(rt: HostRuntime) -> Result<(), Fail> {
+    let mut target = [0x55; 16];
+    let rest = HEADER.write_to_slice(&mut target)?;
+    assert_eq!(rt; rest.len(), 2);
+    assert_eq!(rt; &target[..14], &FRAME[..14]);
+    let refused = SliceWriteSpaceError {
+        required_len: 14,
+        len: 13,
+        layer: Layer::Ethernet2Header,
+        layer_start_offset: 0,
+    };
+    assert_eq!(rt;
+        HEADER.write_to_slice(&mut target[..13]).err(),
+        Some(refused)
+    );
+    Ok(())
+}
+
+#[test]
+fn a_view_of_an_ethernet_header(rt: HostRuntime) -> Result<(), Fail> {
+    let view = Ethernet2HeaderSlice::from_slice(&FRAME)?;
+    assert_eq!(rt; view.slice(), &FRAME[..14]);
+    assert_eq!(rt; view.destination(), [0xFF; 6]);
+    assert_eq!(rt; view.source(), [2, 0, 0, 0, 0, 1]);
+    assert_eq!(rt; view.ether_type(), EtherType::IPV4);
+    assert_eq!(rt; view.to_header(), HEADER);
+    assert_eq!(rt;
+        Ethernet2HeaderSlice::from_slice(&FRAME[..13]).err(),
+        Some(cut_short(14, 13, Layer::Ethernet2Header))
+    );
+    Ok(())
+}
+
+#[test]
+fn a_frame_with_a_check_sequence(rt: HostRuntime) -> Result<(), Fail> {
+    let frame = FRAME;
+    let view = Ethernet2Slice::from_slice_with_crc32_fcs(&frame)?;
+    assert_eq!(rt; view.slice(), frame.as_slice());
+    assert_eq!(rt; view.header_slice(), &frame[..14]);
+    assert_eq!(rt; view.header_len(), 14);
+    assert_eq!(rt; view.destination(), [0xFF; 6]);
+    assert_eq!(rt; view.source(), [2, 0, 0, 0, 0, 1]);
+    assert_eq!(rt; view.to_header(), HEADER);
+    assert_eq!(rt; view.fcs(), Some([0x11, 0x22, 0x33, 0x44]));
+    assert_eq!(rt; view.payload_slice(), [].as_slice());
+    assert_eq!(rt; view.payload().ether_type, EtherType::IPV4);
+    assert_eq!(rt; view.clone()?, view);
+    Ok(())
+}
+
+#[test]
+fn a_vlan_tag(rt: HostRuntime) -> Result<(), Fail> {
+    let tag = tag()?;
+    assert_eq!(rt; tag.to_bytes(), [0xB1, 0x23, 0x08, 0x00]);
+    assert_eq!(rt; SingleVlanHeader::from_bytes(tag.to_bytes()), tag);
+    assert_eq!(rt; tag.header_len(), SingleVlanHeader::LEN);
+    assert_eq!(rt; SingleVlanHeader::SERIALIZED_SIZE, 4);
+    assert_eq!(rt; SingleVlanHeader::default().to_bytes(), [0; 4]);
+    let rest = [0x45].as_slice();
+    assert_eq!(rt; SingleVlanHeader::from_slice(&TAGS[4..]), Ok((tag, rest)));
+    assert_eq!(rt;
+        SingleVlanHeader::read_from_slice(&TAGS[4..]),
+        Ok((tag, rest))
+    );
+    Ok(())
+}
+
+#[test]
+fn a_view_of_a_vlan_tag(rt: HostRuntime) -> Result<(), Fail> {
+    let view = SingleVlanHeaderSlice::from_slice(&TAGS[4..])?;
+    assert_eq!(rt; view.slice(), &TAGS[4..8]);
+    assert_eq!(rt; view.priority_code_point().value(), 5);
+    assert!(rt; view.drop_eligible_indicator());
+    assert_eq!(rt; view.vlan_identifier().value(), 0x123);
+    assert_eq!(rt; view.ether_type(), EtherType::IPV4);
+    assert_eq!(rt; view.to_header(), tag()?);
+    Ok(())
+}
+
+#[test]
+fn a_view_of_a_vlan_tag_and_its_payload(rt: HostRuntime) -> Result<(), Fail> {
+    let view = SingleVlanSlice::from_slice(&TAGS[4..])?;
+    assert_eq!(rt; view.slice(), &TAGS[4..]);
+    assert_eq!(rt; view.header_slice(), &TAGS[4..8]);
+    assert_eq!(rt; view.header_len(), 4);
+    assert_eq!(rt; view.priority_code_point().value(), 5);
+    assert!(rt; view.drop_eligible_indicator());
+    assert_eq!(rt; view.to_header(), tag()?);
+    assert_eq!(rt; view.payload_slice(), [0x45].as_slice());
+    assert_eq!(rt; view.payload(), ipv4());
+    assert_eq!(rt;
+        SingleVlanSlice::from_slice(&TAGS[..2]).err(),
+        Some(cut_short(4, 2, Layer::VlanHeader))
+    );
+    Ok(())
+}
+
+#[test]
+fn two_vlan_tags(rt: HostRuntime) -> Result<(), Fail> {
+    let view = DoubleVlanSlice {
+        outer: SingleVlanSlice::from_slice(&TAGS)?,
+        inner: SingleVlanSlice::from_slice(&TAGS[4..])?,
+    };
+    let header = DoubleVlanHeader {
+        inner: tag()?,
+        outer: SingleVlanHeader {
+            vlan_id: VlanId::try_new(1)?,
+            ..DoubleVlanHeader::default().outer
+        },
+    };
+    assert_eq!(rt; view.to_header(), header);
+    assert_eq!(rt; view.payload_slice(), [0x45].as_slice());
+    assert_eq!(rt; view.payload(), ipv4());
+    Ok(())
+}
+
+#[test]
+fn one_vlan_tag_or_two(rt: HostRuntime) -> Result<(), Fail> {
+    let outer = SingleVlanSlice::from_slice(&TAGS)?;
+    let inner = SingleVlanSlice::from_slice(&TAGS[4..])?;
+    let single = VlanSlice::SingleVlan(inner.clone()?);
+    assert_eq!(rt; single.to_header(), VlanHeader::Single(tag()?));
+    assert_eq!(rt; single.payload(), ipv4());
+    let double = VlanSlice::DoubleVlan(DoubleVlanSlice { outer, inner });
+    assert!(rt; matches!(double.to_header(), VlanHeader::Double(_)));
+    assert_eq!(rt; double.to_header().next_header(), EtherType::IPV4);
+    assert_eq!(rt;
+        VlanHeader::VLAN_ETHER_TYPES,
+        [EtherType(0x8100), EtherType(0x88A8), EtherType(0x9100)]
+    );
+    Ok(())
+}
+
+#[test]
+fn a_sec_tag(rt: HostRuntime) -> Result<(), Fail> {
+    let mut header = MacsecHeader {
+        ptype: MacsecPType::Unmodified(EtherType(0x8100)),
+        endstation_id: false,
+        scb: false,
+        an: MacsecAn::ZERO,
+        short_len: MacsecShortLen::try_from_u8(6)?,
+        packet_nr: 1,
+        sci: None,
+    };
+    assert_eq!(rt; MacsecHeader::from_slice(&READABLE), Ok(header));
+    assert_eq!(rt; header.to_bytes().as_slice(), &READABLE[..8]);
+    assert!(rt; !header.encrypted() && !header.userdata_changed());
+    assert_eq!(rt; header.next_ether_type(), Some(EtherType(0x8100)));
+    assert_eq!(rt; header.header_len(), 8);
+    assert_eq!(rt; header.expected_payload_len(), Some(4));
+    header.set_payload_len(61);
+    assert_eq!(rt; header.short_len.value(), 63);
+    assert_eq!(rt; (MacsecHeader::MIN_LEN, MacsecHeader::MAX_LEN), (6, 16));
+    Ok(())
+}
+
+#[test]
+fn a_view_of_a_sec_tag(rt: HostRuntime) -> Result<(), Fail> {
+    let tag = MacsecHeaderSlice::from_slice(&SEALED)?;
+    assert_eq!(rt; tag.slice(), &SEALED[..14]);
+    assert_eq!(rt; tag.tci_an_raw(), 0x2C);
+    assert!(rt; !tag.endstation_id() && !tag.tci_scb());
+    assert!(rt; tag.encrypted() && tag.userdata_changed() && !tag.is_unmodified());
+    assert_eq!(rt; tag.ptype(), MacsecPType::Encrypted);
+    assert_eq!(rt; tag.an(), MacsecAn::ZERO);
+    assert_eq!(rt; tag.short_len(), MacsecShortLen::ZERO);
+    assert_eq!(rt; tag.packet_nr(), 1);
+    assert!(rt; tag.sci_present());
+    assert_eq!(rt; tag.sci(), Some(0x0011_2233_4455_6677));
+    assert_eq!(rt; tag.next_ether_type(), None);
+    assert_eq!(rt; tag.header_len(), 14);
+    assert_eq!(rt; tag.expected_payload_len(), None);
+    assert_eq!(rt; tag.to_header().sci, tag.sci());
+    Ok(())
+}
+
+#[test]
+fn the_other_payload_types(rt: HostRuntime) -> Result<(), Fail> {
+    let changed = MacsecHeaderSlice::from_slice(&[0x04, 0, 0, 0, 0, 0])?.ptype();
+    assert_eq!(rt; changed, MacsecPType::Modified);
+    let sealed = MacsecHeaderSlice::from_slice(&[0x08, 0, 0, 0, 0, 0])?.ptype();
+    assert_eq!(rt; sealed, MacsecPType::EncryptedUnmodified);
+    Ok(())
+}
+
+#[test]
+fn a_view_of_a_sec_tag_and_its_payload(rt: HostRuntime) -> Result<(), Fail> {
+    let readable = MacsecSlice::from_slice(&READABLE)?;
+    assert_eq!(rt; readable.header.slice(), &READABLE[..8]);
+    assert_eq!(rt; readable.payload, MacsecPayloadSlice::Unmodified(named()));
+    assert_eq!(rt; readable.ether_payload(), Some(named()));
+    assert_eq!(rt; readable.next_ether_type(), Some(EtherType(0x8100)));
+    let sealed = MacsecSlice::from_slice(&SEALED)?;
+    assert_eq!(rt; sealed.payload, MacsecPayloadSlice::Modified(&[0x99]));
+    Ok(())
+}
+
+#[test]
+fn a_sec_tag_that_is_refused(rt: HostRuntime) {
+    let version = macsec::HeaderError::UnexpectedVersion;
+    assert_eq!(rt;
+        MacsecHeader::from_slice(&[0x80, 0, 0, 0, 0, 0]),
+        Err(macsec::HeaderSliceError::Content(version))
+    );
+    assert_eq!(rt;
+        MacsecHeader::from_slice(&[0x80, 0, 0, 0, 0]),
+        Err(macsec::HeaderSliceError::Len(cut_short(6, 5, Layer::MacsecHeader)))
+    );
+}
+
+#[test]
+fn the_extensions_of_a_link(rt: HostRuntime) -> Result<(), Fail> {
+    let vlan = LinkExtSlice::Vlan(SingleVlanSlice::from_slice(&TAGS[4..])?);
+    assert_eq!(rt; vlan.header_len(), 4);
+    assert_eq!(rt; vlan.to_header(), LinkExtHeader::Vlan(tag()?));
+    assert_eq!(rt; vlan.ether_payload(), Some(ipv4()));
+    let macsec = LinkExtSlice::Macsec(MacsecSlice::from_slice(&READABLE)?);
+    assert!(rt; matches!(macsec.to_header(), LinkExtHeader::Macsec(_)));
+    assert_eq!(rt; macsec.to_header().header_len(), 8);
+    assert_eq!(rt; macsec.ether_payload(), Some(named()));
+    Ok(())
+}
