@@ -5,6 +5,7 @@ pub mod Macsec
 pub mod LinuxSll
 pub mod Arp
 pub mod HeaderSliceError
+pub mod Types
 pub use Rattle.ether_base.specs.Bytes
 pub use Rattle.ether_base.specs.Kind
 pub use Rattle.ether_base.specs.Header

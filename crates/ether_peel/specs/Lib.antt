@@ -1,0 +1,4 @@
+pub mod Window
+pub mod Expectation
+pub mod Stack
+pub mod Laws
