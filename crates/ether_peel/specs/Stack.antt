@@ -11,6 +11,16 @@ pub data Ending : Type 0 where
   Accepted : Window → Expectation → Ending
   Fault : Window → Expectation → Refusal → Ending
 
+-- the window in which it ends
+abbrev pub last_window : Ending → Window
+last_window (Accepted v y) = v
+last_window (Fault v y r) = v
+
+-- what is expected there
+abbrev pub last_expected : Ending → Expectation
+last_expected (Accepted v y) = y
+last_expected (Fault v y r) = y
+
 -- a header at the window's start, of an announced unit that is not refused
 pub record IsUnit (list : List ℕ) (x : Expectation) (w : Window) (h : Header) : Type 0 where
   pub announced : announced x ≡ Some (kind_of h)

@@ -2,3 +2,16 @@
 #![tactic(auto)]
 
 pub mod laws;
+mod peel_error;
+mod peel_fault;
+mod peel_unit;
+mod rest_kind;
+mod start;
+mod summary;
+
+pub use peel_error::PeelError;
+pub use peel_fault::PeelFault;
+pub use peel_unit::PeelUnit;
+pub use rest_kind::RestKind;
+pub use start::Start;
+pub use summary::Summary;

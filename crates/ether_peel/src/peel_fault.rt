@@ -1,0 +1,42 @@
+//! A unit that is refused, and where.
+ghost use Rattle.std.specs.Prelude.{Some};
+ghost use Rattle.ether_peel.specs.Texts.{peel_fault_text};
+
+use crate::PeelError;
+use std::error::Error;
+use std::fmt;
+
+/// A unit that is refused, which ends a walk.
+///
+/// `Display` gives `at offset O: ` and the text of the error.
+#[derive(Clone, PartialEq, Eq, Drop)]
+pub struct PeelFault {
+    /// Where the unit starts, in bytes from the start of the frame.
+    pub offset: usize,
+    /// Why it is refused. The lengths of a length error count from the unit's start, which is its `layer_start_offset`.
+    pub error: PeelError,
+    /// Whether the unit's window is closed: bytes that follow the frame would not belong to the unit.
+    pub closed: bool, // the last field, since a flag between the others slows down what is copied
+}
+
+impl fmt::Display for PeelFault {
+    ghost output = { λ fault. Some (peel_fault_text fault) };
+
+    fn fmt<W: fmt::Write>(&self, f: &mut fmt::Formatter<W>) -> fmt::Result {
+        let offset = self.offset;
+        let error = &self.error;
+        write!(f, "at offset {offset}: {error}")
+    }
+}
+
+impl fmt::Debug for PeelFault {
+    fn fmt<W: fmt::Write>(&self, f: &mut fmt::Formatter<W>) -> fmt::Result {
+        f.debug_struct("PeelFault")
+            .field("offset", &self.offset)
+            .field("closed", &self.closed)
+            .field("error", &self.error)
+            .finish()
+    }
+}
+
+impl Error for PeelFault {}

@@ -1,0 +1,17 @@
+//! What a whole walk comes to.
+use crate::{PeelFault, RestKind};
+
+/// What the walk through a frame comes to.
+#[derive(Clone, PartialEq, Eq, Debug, Drop)]
+pub struct Summary {
+    /// The number of units.
+    pub units: usize,
+    /// Where the window that is left starts, in bytes from the start of the frame.
+    pub rest_start: usize,
+    /// Where it ends.
+    pub rest_end: usize,
+    /// What it is announced as: after a fault, what was expected there.
+    pub kind: RestKind,
+    /// The unit that is refused, if one is.
+    pub fault: Option<PeelFault>,
+}
