@@ -33,6 +33,7 @@ announced (EtherType t) = announced_by t
 announced (Sll protocol) = None
 announced Sealed = None
 announced AfterArp = None
+
 abbrev pub after_protocol : LinuxSllProtocolType → Expectation
 after_protocol (protocols.EtherType t) = EtherType t.0
 after_protocol (protocols.LinuxNonstandardEtherType n) = EtherType n

@@ -3,3 +3,7 @@ pub mod Expectation
 pub mod Stack
 pub mod Laws
 pub mod Texts
+pub mod PeelState
+pub mod PeelStart
+pub mod PeelFault
+pub mod Peel
