@@ -1,1 +1,3 @@
 pub mod StackLemmas
+pub mod PeelLemmas
+pub mod UnitLemmas

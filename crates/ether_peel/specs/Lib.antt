@@ -7,3 +7,4 @@ pub mod PeelState
 pub mod PeelStart
 pub mod PeelFault
 pub mod Peel
+pub mod PeelRead

@@ -2,6 +2,7 @@
 #![tactic(auto)]
 
 pub mod laws;
+mod peel;
 mod peel_error;
 mod peel_fault;
 mod peel_unit;
@@ -9,6 +10,7 @@ mod rest_kind;
 mod start;
 mod summary;
 
+pub use peel::Peel;
 pub use peel_error::PeelError;
 pub use peel_fault::PeelFault;
 pub use peel_unit::PeelUnit;

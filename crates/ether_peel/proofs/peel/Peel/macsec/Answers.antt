@@ -1,0 +1,59 @@
+use Rattle.std.proofs.Common.{◌≡◌, ◌+◌, length, false, refl, sym, ap, subst, ◌∙◌, arith}
+use Rattle.std.specs.Prelude.{Some, Ok, ◌||◌}
+use Rattle.etherparse.specs.Types.MacsecSlice.{MacsecSlice}
+use Rattle.etherparse.specs.Macsec.{sec_tag_of, tag_bytes}
+use Rattle.etherparse.specs.Header as headers
+use Rattle.ether_peel.specs.PeelState.{State, shown_of}
+use Rattle.ether_peel.specs.Expectation.{announced}
+use Rattle.ether_peel.specs.PeelStart.{kind_shown}
+use Rattle.ether_peel.specs.Window.{payload_closed}
+use Rattle.ether_peel.specs.Peel.{Gives, ShowsMacsec}
+use Rattle.ether_peel.specs.declared.peel_unit.PeelUnit.TheVariants as units
+use Rattle.ether_peel.proofs.PeelLemmas.{shown, gives_unit, nearer}
+use Rattle.ether_peel.proofs.UnitLemmas.{tag_read, marked}
+use Rattle.ether_peel.proofs.peel.Peel.macsec.Goals as goal
+
+pub invariant_of-self : goal.invariant_of-self
+invariant_of-self c =
+    let bytes = c.self.inside.rest.now in
+    let read = tag_read bytes c.in-Ok.slice c.header_len.result c.in-Ok.ensures.header c.in-Ok.ensures.payload c.header_len.ensures.tag c.in-Ok.ensures.value.whole in
+    let len = ap length c.payload_bytes-self-inside.ensures in
+    let shorter = read.shorter in
+    let fits = c.self.invariant.0 in
+    let behind = c.announced_behind-kind.ensures in
+    (omega arith, ap announced behind.expected ∙ behind.announced, behind.shown ∙ ap kind_shown (sym behind.expected))
+
+pub returns-in-Ok-clause-gives : goal.returns-in-Ok-clause-gives
+returns-in-Ok-clause-gives c =
+    let a = c.self.inside in
+    let bytes = a.rest.now in
+    let m : MacsecSlice = c.in-Ok.slice in
+    let n = c.header_len.result in
+    let tag = sec_tag_of (tag_bytes m.header) in
+    let u = units.Macsec m in
+    let t : State = record { rest = c.payload_bytes-self-inside.result.now; offset = a.offset + n; closed = a.is_closed || c.is_some.result; expected = shown_of c.announced_behind-kind.result.1; over = a.is_over } in
+    let going : a.is_over ≡ false = ap (λ (s : State). s.over) c.self.view_is ∙ c.requires.going in
+    let read = tag_read bytes m n c.in-Ok.ensures.header c.in-Ok.ensures.payload c.header_len.ensures.tag c.in-Ok.ensures.value.whole in
+    let payload = c.payload_bytes-self-inside.ensures in
+    subst (λ (s : State). Gives s (Some (Ok u)) t) c.self.view_is (gives_unit (shown a) t u (record {
+      going = going;
+      header = headers.Macsec tag;
+      announced = ap (λ (s : State). announced s.expected) c.self.view_is ∙ c.requires.announced;
+      accepted = c.in-Ok.ensures.accepted;
+      means = c.in-Ok.ensures.value;
+      shows = (m, refl, subst (λ l. ShowsMacsec bytes l tag m) (sym payload) read.shows);
+      rest = payload ∙ read.rest;
+      offset = ap (λ k. a.offset + k) read.len;
+      closed = ap (λ b. a.is_closed || b) c.is_some.ensures ∙ marked a.is_closed c.expected_payload_len.result ∙ ap (payload_closed a.is_closed) (c.expected_payload_len.ensures ∙ read.known);
+      expected = c.announced_behind-kind.ensures.expected ∙ read.expected;
+      over = going;
+    }))
+
+pub returns-in-Ok-clause-nearer : goal.returns-in-Ok-clause-nearer
+returns-in-Ok-clause-nearer c =
+    let a = c.self.inside in
+    let bytes = a.rest.now in
+    let read = tag_read bytes c.in-Ok.slice c.header_len.result c.in-Ok.ensures.header c.in-Ok.ensures.payload c.header_len.ensures.tag c.in-Ok.ensures.value.whole in
+    let len = ap length c.payload_bytes-self-inside.ensures in
+    let going : a.is_over ≡ false = ap (λ (s : State). s.over) c.self.view_is ∙ c.requires.going in
+    nearer (shown a) c.args.self.now (shown (record a { rest = c.payload_bytes-self-inside.result })) c.self.view_is going (omega arith)

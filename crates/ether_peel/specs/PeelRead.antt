@@ -1,0 +1,30 @@
+-- What is known of the unit that is announced, once its bytes were read.
+use Rattle.std.specs.Prelude.{◌≡◌, ℕ, List, Some, false}
+use Rattle.etherparse.specs.Types.LenSource.TheVariants as sources
+use Rattle.etherparse.specs.Types.MacsecPayloadSlice.{MacsecPayloadSlice}
+use Rattle.etherparse.specs.Types.MacsecPayloadSlice.TheVariants as payloads
+use Rattle.etherparse.specs.Kind.{Kind}
+use Rattle.etherparse.specs.Refusal.{Refusal, Refuses}
+use Rattle.ether_peel.specs.Expectation.{Expectation, EtherType, Sealed, announced}
+use Rattle.ether_peel.specs.PeelState.{State}
+use Rattle.ether_peel.specs.PeelFault.{error_at}
+use Rattle.ether_peel.specs.declared.peel_error.PeelError.{PeelError}
+
+-- the walk is not over, and the unit that is announced is refused, as the error says
+pub record IsRefusedBy (s : State) (error : PeelError) : Type 0 where
+  pub going : s.over ≡ false
+  pub kind : Kind
+  pub announced : announced s.expected ≡ Some kind
+  pub refusal : Refusal
+  pub refuses : Refuses sources.Slice s.rest kind refusal
+  pub shows : error ≡ error_at s.offset refusal
+
+-- what is expected in the payload of a SecTag
+abbrev pub behind_sec_tag : MacsecPayloadSlice → Expectation
+behind_sec_tag (payloads.Unmodified p) = EtherType p.ether_type.0
+behind_sec_tag (payloads.Modified p) = Sealed
+
+-- its bytes
+abbrev pub sec_tag_payload : MacsecPayloadSlice → List ℕ
+sec_tag_payload (payloads.Unmodified p) = p.payload.now
+sec_tag_payload (payloads.Modified p) = p.now

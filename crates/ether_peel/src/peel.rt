@@ -1,0 +1,352 @@
+//! The walk through a frame.
+ghost use Rattle.std.specs.Prelude.{◌≡◌, ◌+◌, ◌^◌, ◌<◌, List, length, false, true, Some};
+ghost use Rattle.etherparse.specs.Header.{Header};
+ghost use Rattle.etherparse.specs.LinuxSll.{protocol_type_of_header};
+ghost use Rattle.ether_peel.specs.Expectation.{has_fcs, after_protocol, announced, announced_by};
+ghost use Rattle.ether_peel.specs.PeelState.{shown_of};
+ghost use Rattle.ether_peel.specs.Stack.{Ending, whole, Walk};
+ghost use Rattle.ether_peel.specs.PeelStart.{start_of, kind_shown};
+ghost use Rattle.ether_peel.specs.PeelRead.{behind_sec_tag, sec_tag_payload};
+
+use crate::{PeelError, PeelFault, PeelUnit, RestKind, Start};
+use etherparse::{
+    ArpPacketSlice, EtherType, Ethernet2Slice, LinkSlice, LinuxSllSlice, MacsecPayloadSlice,
+    MacsecSlice, SingleVlanSlice, err,
+};
+use std::marker::Model;
+
+/// The header that a walk begins with, until it was read.
+#[derive(Clone, Copy, Debug)]
+enum First {
+    Read,
+    Ethernet2,
+    Ethernet2Fcs,
+    LinuxSll,
+}
+
+/// A walk: the units of a frame, each in the payload of the one before it, and then the fault if there is one.
+#[derive(Debug, Drop)]
+pub struct Peel<'a> {
+    rest: &'a [u8],
+    offset: usize,
+    is_closed: bool,
+    is_over: bool,
+    first: First,
+    /// The ether type that announces the next unit, once the first header was read.
+    announced: EtherType,
+    kind: RestKind,
+}
+
+impl<'a> Model for Peel<'a> {
+    ghost use Rattle.std.specs.Prelude.{◌+◌, ◌^◌, ◌<◌, length};
+    ghost use Rattle.ether_peel.specs.PeelState.{State, expected_of, Announces, IsShown};
+
+    ghost Value = { State };
+
+    ghost view = { λ a. record { rest = a.rest.now; offset = a.offset; closed = a.is_closed; expected = expected_of a.first a.kind; over = a.is_over } };
+
+    ghost invariant = { λ a. (a.offset + length a.rest.now < 2 ^ 64) × Announces a.first a.announced.0 a.kind × IsShown a.first a.kind };
+}
+
+impl<'a> Peel<'a> {
+    ghost use Rattle.ether_peel.specs.Peel.{Faces};
+
+    /// A walk that has read nothing yet.
+    #[inline(always)]
+    pub fn new(start: Start, bytes: &'a [u8]) -> Peel<'a>
+        ensures state { result ≡ record { rest = bytes.now; offset = 0; closed = has_fcs (start_of start); expected = start_of start; over = false } }
+        ensures walk { (hs : List Header) × (e : Ending) × Walk (start_of start) bytes.now hs e × Faces bytes.now (whole (start_of start) bytes.now) result hs e }
+    {
+        let (first, announced, kind) = match start {
+            Start::Ethernet2 => (First::Ethernet2, EtherType(0), RestKind::Start),
+            Start::Ethernet2Fcs => (First::Ethernet2Fcs, EtherType(0), RestKind::Start),
+            Start::LinuxSll => (First::LinuxSll, EtherType(0), RestKind::Start),
+            Start::EtherType(ether_type) => {
+                (First::Read, ether_type, RestKind::EtherType(ether_type))
+            }
+        };
+        Peel {
+            rest: bytes,
+            offset: 0,
+            is_closed: matches!(start, Start::Ethernet2Fcs),
+            is_over: false,
+            first,
+            announced,
+            kind,
+        }
+    }
+
+    /// The bytes of the window left to read: after a fault, of the window in which it came.
+    #[inline(always)]
+    pub fn rest(&self) -> &'a [u8]
+        ensures { result.now ≡ self.now.rest }
+    {
+        self.rest
+    }
+
+    /// Where the window left to read starts, in bytes from the start of the frame.
+    #[inline(always)]
+    pub fn offset(&self) -> usize
+        ensures value { result ≡ self.now.offset }
+        ensures fits { self.now.offset + length self.now.rest < 2 ^ 64 }
+    {
+        self.offset
+    }
+
+    /// What the window left to read is announced as: after a fault, what was expected there.
+    #[inline(always)]
+    pub fn kind(&self) -> RestKind
+        ensures { result ≡ kind_shown self.now.expected }
+    {
+        self.kind
+    }
+
+    /// Whether the window left to read is closed: bytes that follow the frame would not belong to it.
+    #[inline(always)]
+    pub fn closed(&self) -> bool
+        ensures { result ≡ self.now.closed }
+    {
+        self.is_closed
+    }
+}
+
+impl<'a> Iterator for Peel<'a> {
+    type Item = Result<PeelUnit<'a>, PeelFault>;
+
+    ghost use Rattle.ether_peel.specs.Peel.{Gives, items_left};
+
+    ghost next_gives = { Gives };
+
+    ghost remaining = { items_left };
+
+    /// The next unit, the fault that ends the walk, or `None` where nothing is left to read or the fault was given.
+    #[inline(always)]
+    fn next(&mut self) -> Option<Result<PeelUnit<'a>, PeelFault>> {
+        if self.is_over {
+            return None;
+        }
+        match self.first {
+            First::Read => match self.announced {
+                EtherType::VLAN_TAGGED_FRAME
+                | EtherType::PROVIDER_BRIDGING
+                | EtherType::VLAN_DOUBLE_TAGGED_FRAME => self.vlan(),
+                EtherType::MACSEC => self.macsec(),
+                EtherType::ARP => self.arp(),
+                _ => None,
+            },
+            First::Ethernet2 => self.ethernet2(),
+            First::Ethernet2Fcs => self.ethernet2_fcs(),
+            First::LinuxSll => self.linux_sll(),
+        }
+    }
+}
+
+/// The steps of a walk that is not over, one for each kind of unit that can be announced.
+impl<'a> Peel<'a> {
+    ghost use Rattle.std.specs.Prelude.{IfSome};
+    ghost use Rattle.std.specs.Iterator.{size};
+    ghost use Rattle.etherparse.specs.Kind as kinds;
+    ghost use Rattle.ether_peel.specs.Expectation.{announced};
+    ghost use Rattle.ether_peel.specs.Peel.{Gives, items_left};
+    ghost use Rattle.ether_peel.specs.PeelRead.{IsRefusedBy};
+
+    /// Ends the walk at the unit that is announced.
+    #[inline(always)]
+    fn fault(&mut self, error: PeelError) -> Option<Result<PeelUnit<'a>, PeelFault>>
+        requires { IsRefusedBy self.old error }
+        ensures gives { Gives self.old result self.new }
+        ensures nearer { IfSome result (λ _. size (items_left self.new) < size (items_left self.old)) }
+    {
+        self.is_over = true;
+        Some(Err(PeelFault {
+            offset: self.offset,
+            error,
+            closed: self.is_closed,
+        }))
+    }
+
+    /// Reads an Ethernet II frame.
+    #[inline(always)]
+    fn ethernet2(&mut self) -> Option<Result<PeelUnit<'a>, PeelFault>>
+        requires going { self.old.over ≡ false }
+        requires announced { announced self.old.expected ≡ Some kinds.Ethernet2 }
+        ensures gives { Gives self.old result self.new }
+        ensures nearer { IfSome result (λ _. size (items_left self.new) < size (items_left self.old)) }
+    {
+        match Ethernet2Slice::from_slice_without_fcs(self.rest) {
+            Ok(slice) => {
+                let ether_type = slice.ether_type();
+                self.rest = slice.payload_slice();
+                self.offset += slice.header_len();
+                self.first = First::Read;
+                self.announced = ether_type;
+                self.kind = RestKind::EtherType(ether_type);
+                Some(Ok(PeelUnit::Ethernet2(slice)))
+            }
+            Err(error) => self.fault(PeelError::Len(error.add_offset(self.offset))),
+        }
+    }
+
+    /// Reads an Ethernet II frame with a frame check sequence.
+    #[inline(always)]
+    fn ethernet2_fcs(&mut self) -> Option<Result<PeelUnit<'a>, PeelFault>>
+        requires going { self.old.over ≡ false }
+        requires announced { announced self.old.expected ≡ Some kinds.Ethernet2Fcs }
+        ensures gives { Gives self.old result self.new }
+        ensures nearer { IfSome result (λ _. size (items_left self.new) < size (items_left self.old)) }
+    {
+        match Ethernet2Slice::from_slice_with_crc32_fcs(self.rest) {
+            Ok(slice) => {
+                let ether_type = slice.ether_type();
+                self.rest = slice.payload_slice();
+                self.offset += slice.header_len();
+                self.first = First::Read;
+                self.announced = ether_type;
+                self.kind = RestKind::EtherType(ether_type);
+                Some(Ok(PeelUnit::Ethernet2(slice)))
+            }
+            Err(error) => self.fault(PeelError::Len(error.add_offset(self.offset))),
+        }
+    }
+
+    /// Reads a packet of Linux cooked capture v1.
+    #[inline(always)]
+    fn linux_sll(&mut self) -> Option<Result<PeelUnit<'a>, PeelFault>>
+        requires going { self.old.over ≡ false }
+        requires announced { announced self.old.expected ≡ Some kinds.LinuxSll }
+        ensures gives { Gives self.old result self.new }
+        ensures nearer { IfSome result (λ _. size (items_left self.new) < size (items_left self.old)) }
+    {
+        match LinuxSllSlice::from_slice(self.rest) {
+            Ok(slice) => {
+                let (announced, kind) = announced_in(&slice);
+                self.rest = slice.payload_slice();
+                self.offset += slice.header_len();
+                self.first = First::Read;
+                self.announced = announced;
+                self.kind = kind;
+                Some(Ok(PeelUnit::LinuxSll(slice)))
+            }
+            Err(err::linux_sll::HeaderSliceError::Len(error)) => {
+                self.fault(PeelError::Len(error.add_offset(self.offset)))
+            }
+            Err(err::linux_sll::HeaderSliceError::Content(error)) => {
+                self.fault(PeelError::LinuxSll(error))
+            }
+        }
+    }
+
+    /// Reads a VLAN tag.
+    #[inline(always)]
+    fn vlan(&mut self) -> Option<Result<PeelUnit<'a>, PeelFault>>
+        requires going { self.old.over ≡ false }
+        requires announced { announced self.old.expected ≡ Some kinds.Vlan }
+        ensures gives { Gives self.old result self.new }
+        ensures nearer { IfSome result (λ _. size (items_left self.new) < size (items_left self.old)) }
+    {
+        match SingleVlanSlice::from_slice(self.rest) {
+            Ok(slice) => {
+                let ether_type = slice.ether_type();
+                self.rest = slice.payload_slice();
+                self.offset += slice.header_len();
+                self.first = First::Read;
+                self.announced = ether_type;
+                self.kind = RestKind::EtherType(ether_type);
+                Some(Ok(PeelUnit::Vlan(slice)))
+            }
+            Err(error) => self.fault(PeelError::Len(error.add_offset(self.offset))),
+        }
+    }
+
+    /// Reads a MACsec SecTag and its payload.
+    #[inline(always)]
+    fn macsec(&mut self) -> Option<Result<PeelUnit<'a>, PeelFault>>
+        requires going { self.old.over ≡ false }
+        requires announced { announced self.old.expected ≡ Some kinds.Macsec }
+        ensures gives { Gives self.old result self.new }
+        ensures nearer { IfSome result (λ _. size (items_left self.new) < size (items_left self.old)) }
+    {
+        match MacsecSlice::from_slice(self.rest) {
+            Ok(slice) => {
+                let (announced, kind) = announced_behind(slice.payload);
+                self.rest = payload_bytes(slice.payload);
+                self.offset += slice.header.header_len();
+                self.is_closed |= slice.header.expected_payload_len().is_some();
+                self.first = First::Read;
+                self.announced = announced;
+                self.kind = kind;
+                Some(Ok(PeelUnit::Macsec(slice)))
+            }
+            Err(err::macsec::HeaderSliceError::Len(error)) => {
+                self.fault(PeelError::Len(error.add_offset(self.offset)))
+            }
+            Err(err::macsec::HeaderSliceError::Content(error)) => {
+                self.fault(PeelError::Macsec(error))
+            }
+        }
+    }
+
+    /// Reads an ARP packet.
+    #[inline(always)]
+    fn arp(&mut self) -> Option<Result<PeelUnit<'a>, PeelFault>>
+        requires going { self.old.over ≡ false }
+        requires announced { announced self.old.expected ≡ Some kinds.Arp }
+        ensures gives { Gives self.old result self.new }
+        ensures nearer { IfSome result (λ _. size (items_left self.new) < size (items_left self.old)) }
+    {
+        let bytes = self.rest;
+        match ArpPacketSlice::from_slice(bytes) {
+            Ok(slice) => {
+                let len = slice.slice().len();
+                self.rest = &bytes[len..];
+                self.offset += len;
+                self.first = First::Read;
+                self.announced = EtherType(0);
+                self.kind = RestKind::AfterArp;
+                Some(Ok(PeelUnit::Arp(slice)))
+            }
+            Err(error) => self.fault(PeelError::Len(error.add_offset(self.offset))),
+        }
+    }
+}
+
+/// The ether type that announces the payload of a cooked capture, and what is shown of it.
+#[inline(always)]
+fn announced_in(packet: &LinuxSllSlice<'_>) -> (EtherType, RestKind)
+    ensures expected { shown_of result.1 ≡ after_protocol (protocol_type_of_header packet.now) }
+    ensures announced { announced (after_protocol (protocol_type_of_header packet.now)) ≡ announced_by result.0.0 }
+    ensures shown { result.1 ≡ kind_shown (after_protocol (protocol_type_of_header packet.now)) }
+{
+    let protocol_type = packet.protocol_type();
+    match LinkSlice::LinuxSllPayload(packet.payload()).ether_payload() {
+        Some(payload) => (payload.ether_type, RestKind::EtherType(payload.ether_type)),
+        None => (EtherType(0), RestKind::Sll(protocol_type)),
+    }
+}
+
+/// The ether type that announces the payload of a SecTag, and what is shown of it.
+#[inline(always)]
+fn announced_behind(payload: MacsecPayloadSlice<'_>) -> (EtherType, RestKind)
+    ensures expected { shown_of result.1 ≡ behind_sec_tag payload.entry }
+    ensures announced { announced (behind_sec_tag payload.entry) ≡ announced_by result.0.0 }
+    ensures shown { result.1 ≡ kind_shown (behind_sec_tag payload.entry) }
+{
+    match payload {
+        MacsecPayloadSlice::Unmodified(payload) => (
+            payload.ether_type,
+            RestKind::EtherType(payload.ether_type),
+        ),
+        MacsecPayloadSlice::Modified(_) => (EtherType(0), RestKind::Sealed),
+    }
+}
+
+/// The bytes of a payload of a SecTag.
+#[inline(always)]
+fn payload_bytes<'a>(payload: MacsecPayloadSlice<'a>) -> &'a [u8]
+    ensures { result.now ≡ sec_tag_payload payload.entry }
+{
+    match payload {
+        MacsecPayloadSlice::Unmodified(payload) => payload.payload,
+        MacsecPayloadSlice::Modified(payload) => payload,
+    }
+}
