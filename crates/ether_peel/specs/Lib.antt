@@ -8,3 +8,4 @@ pub mod PeelStart
 pub mod PeelFault
 pub mod Peel
 pub mod PeelRead
+pub mod Places

@@ -1,0 +1,5 @@
+use Rattle.ether_peel.proofs.Places.{is_local}
+use Rattle.ether_peel.proofs.laws.stacks_are_local.Goals as goal
+
+pub returns : goal.returns
+returns c = is_local
