@@ -4,3 +4,5 @@ pub mod UnitLemmas
 pub mod LongerBytes
 pub mod Carrying
 pub mod Places
+pub mod HeaderBytes
+pub mod WriteBack

@@ -9,3 +9,4 @@ pub mod PeelFault
 pub mod Peel
 pub mod PeelRead
 pub mod Places
+pub mod WriteBack
