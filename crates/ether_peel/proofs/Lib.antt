@@ -6,3 +6,5 @@ pub mod Carrying
 pub mod Places
 pub mod HeaderBytes
 pub mod WriteBack
+pub mod Extensions
+pub mod Cuts

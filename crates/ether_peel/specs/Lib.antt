@@ -10,3 +10,6 @@ pub mod Peel
 pub mod PeelRead
 pub mod Places
 pub mod WriteBack
+pub mod Endings
+pub mod Cuts
+pub mod Extensions

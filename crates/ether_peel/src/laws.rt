@@ -3,6 +3,8 @@
 ghost use Rattle.ether_peel.specs.Laws.{StacksAreOne};
 ghost use Rattle.ether_peel.specs.Places.{StacksAreLocal};
 ghost use Rattle.ether_peel.specs.WriteBack.{HeadersGoBack};
+ghost use Rattle.ether_peel.specs.Cuts.{CutsKeep};
+ghost use Rattle.ether_peel.specs.Extensions.{ExtensionsKeep};
 
 /// In each window of each list of bytes there is a stack from each expectation, and no second one.
 pub fn stacks_are_one()
@@ -17,4 +19,16 @@ pub fn stacks_are_local()
 /// The headers of a walk, written back before the rest, are the front of the list but for the reserved bits of SecTags.
 pub fn headers_go_back()
     ensures { HeadersGoBack }
+{}
+
+/// The headers of a cut are a front of the headers of the whole list. A cut of an accepted list that has all its units is accepted
+/// alike; any other one ends in an open refusal at the first unit that it does not have whole.
+pub fn cuts_keep()
+    ensures { CutsKeep }
+{}
+
+/// Bytes behind a list leave it accepted, leave a refusal for content or in a closed window as it is, and leave an open refusal until
+/// its named length is there.
+pub fn extensions_keep()
+    ensures { ExtensionsKeep }
 {}

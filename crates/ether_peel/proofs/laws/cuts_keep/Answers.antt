@@ -1,0 +1,5 @@
+use Rattle.ether_peel.proofs.Cuts.{cuts_keep}
+use Rattle.ether_peel.proofs.laws.cuts_keep.Goals as goal
+
+pub returns : goal.returns
+returns c = cuts_keep
