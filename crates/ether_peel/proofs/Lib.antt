@@ -8,3 +8,4 @@ pub mod HeaderBytes
 pub mod WriteBack
 pub mod Extensions
 pub mod Cuts
+pub mod WorkedExamples
