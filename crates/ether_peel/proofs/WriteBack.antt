@@ -10,7 +10,7 @@ use Rattle.etherparse.specs.Header as headers
 use Rattle.etherparse.proofs.SubLists.{length-part, part_join, part_of_part, IsBytes-part}
 use Rattle.ether_peel.specs.Window.{Window, within, IsIn, bound_of, payload}
 use Rattle.ether_peel.specs.Expectation.{Expectation, after}
-use Rattle.ether_peel.specs.Stack.{last_window, last_expected, whole}
+use Rattle.ether_peel.specs.Stack.{Ending, last_window, last_expected, Stack, whole}
 use Rattle.ether_peel.specs.WriteBack.{cleared_at, cleared, HeadersGoBack}
 use Rattle.ether_peel.proofs.Carrying.{Leads, leads, payload_in}
 use Rattle.ether_peel.proofs.Places.{place_least, leads_behind}
@@ -73,6 +73,10 @@ length-headers list x w (h ∷ hs) y v ok l =
     let a = length-means (within list w) h (IsBytes-part w.start w.finish list ok) l.0.means in
     let b = length-headers list (after x h) (payload w h) hs y v ok l.1 in
     omega (arith, length-append (header_bytes h) (flat_map header_bytes hs))
+
+-- of a stack: between the window's start and the last window's
+pub length-stack_headers : (list : List ℕ) (x : Expectation) (w : Window) (hs : List Header) (e : Ending) → IsBytes list → Stack list x w hs e → w.start + length (flat_map header_bytes hs) ≡ (last_window e).start
+length-stack_headers list x w hs e ok s = length-headers list x w hs (last_expected e) (last_window e) ok (leads list x w hs e s).0
 
 headers_back : (list : List ℕ) (x : Expectation) (w : Window) (hs : List Header) (y : Expectation) (v : Window) → IsBytes list → IsIn list w → Leads list x w hs y v
     → flat_map header_bytes hs ++ within list v ≡ slice_range (cleared list w.start hs) w.start v.finish
