@@ -16,6 +16,7 @@ use Rattle.ether_peel.specs.declared.peel_unit.PeelUnit.{PeelUnit}
 use Rattle.ether_peel.specs.declared.peel_fault.PeelFault.{PeelFault}
 use Rattle.ether_peel.specs.declared.walk_summary.Summary.{Summary}
 use Rattle.ether_peel.proofs.StackLemmas.{one_stack}
+use Rattle.ether_peel.proofs.Extensions.{extensions_keep}
 
 -- ---- what was next
 
@@ -121,6 +122,7 @@ walked_is start list s units a found is = record {
   walk = a.walk;
   one = λ hs e walk. one_stack list start (whole start list) hs a.headers e a.ending walk a.walk;
   is = is;
+  extensions = λ open_end. extensions_keep start list a.headers a.ending open_end a.walk;
 }
 
 same_end : (list : List ℕ) (w : Window) (s : State) (hs : List Header) (e : Ending) → Faces list w s hs e → s.offset + length s.rest ≡ w.finish

@@ -17,5 +17,5 @@ pub use peel_fault::PeelFault;
 pub use peel_unit::PeelUnit;
 pub use rest_kind::RestKind;
 pub use start::Start;
-pub use summarize::summary;
+pub use summarize::{snap, summary};
 pub use walk_summary::Summary;

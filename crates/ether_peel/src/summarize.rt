@@ -1,7 +1,7 @@
 //! The whole walk through a frame in one call.
+ghost use Rattle.std.specs.Prelude.{◌≡◌, ◌+◌, ◌≤◌, length};
 ghost use Rattle.ether_peel.specs.PeelStart.{start_of, kind_shown};
-ghost use Rattle.ether_peel.specs.Summary.{IsSummary};
-ghost use Rattle.std.specs.Prelude.{◌≡◌, ◌+◌, length};
+ghost use Rattle.ether_peel.specs.Summary.{IsSummary, IsCutSummary};
 
 use crate::{Peel, PeelFault, Start, Summary};
 
@@ -31,6 +31,28 @@ pub fn summary(start: Start, bytes: &[u8]) -> Summary
             None => return ended(&peel, units, None),
         }
     }
+}
+
+/// What the walk through the first `n` bytes of a frame comes to, as of a frame that was captured in part.
+///
+/// Where the frame does not end in a frame check sequence, the units are the first ones of the whole frame. If that is
+/// accepted, then the cut has exactly the units that it has whole, and where one is missing its fault says how many
+/// bytes that one needs at least.
+///
+/// ```
+/// let frame = [
+///     0xFF, 0xFF, 0xFF, 0xFF, 0xFF, 0xFF, 0x02, 0x00, 0x00, 0x00, 0x00, 0x01, 0x81, 0x00, // Ethernet II
+///     0xB1, 0x23, 0x08, 0x00, // VLAN
+/// ];
+/// let found = snap(Start::Ethernet2, &frame, 16);
+/// assert_eq!(rt; found.units, 1);
+/// assert_eq!(rt; found.fault.as_ref().and_then(|fault| fault.missing()), Some(2));
+/// ```
+pub fn snap(start: Start, bytes: &[u8], n: usize) -> Summary
+    requires { n ≤ length bytes.now }
+    ensures { IsCutSummary (start_of start) bytes.now n result }
+{
+    summary(start, &bytes[..n])
 }
 
 /// The summary of a walk at its end.
