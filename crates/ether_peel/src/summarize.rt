@@ -15,7 +15,7 @@ use crate::{Peel, PeelFault, Start, Summary};
 /// ];
 /// let found = summary(Start::Ethernet2, &frame);
 /// assert_eq!(rt; found.units, 2);
-/// assert_eq!(rt; &frame[found.rest_start..found.rest_end], [0x45].as_slice());
+/// assert_eq!(rt; (found.rest_start, found.rest_end), (18, 19));
 /// assert_eq!(rt; found.kind, RestKind::EtherType(EtherType::IPV4));
 /// assert_eq!(rt; found.fault, None);
 /// ```
@@ -71,21 +71,4 @@ fn ended(peel: &Peel<'_>, units: usize, fault: Option<PeelFault>) -> Summary
 }
 
 #[cfg(test)]
-mod tests {
-    use super::*;
-    use crate::RestKind;
-    use etherparse::EtherType;
-
-    #[test]
-    fn the_example(rt: HostRuntime) {
-        let frame = [
-            0xFF, 0xFF, 0xFF, 0xFF, 0xFF, 0xFF, 0x02, 0x00, 0x00, 0x00, 0x00, 0x01, 0x81, 0x00,
-            0xB1, 0x23, 0x08, 0x00, 0x45,
-        ];
-        let found = summary(Start::Ethernet2, &frame);
-        assert_eq!(rt; found.units, 2);
-        assert_eq!(rt; &frame[found.rest_start..found.rest_end], [0x45].as_slice());
-        assert_eq!(rt; found.kind, RestKind::EtherType(EtherType::IPV4));
-        assert_eq!(rt; found.fault, None);
-    }
-}
+mod tests;
