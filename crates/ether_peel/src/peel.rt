@@ -25,6 +25,28 @@ enum First {
 }
 
 /// A walk: the units of a frame, each in the payload of the one before it, and then the fault if there is one.
+///
+/// The units borrow the frame, and outlive the walk. A frame of `n` bytes has at most `n / 4` units.
+///
+/// ```
+/// let frame = [
+///     0xFF, 0xFF, 0xFF, 0xFF, 0xFF, 0xFF, 0x02, 0x00, 0x00, 0x00, 0x00, 0x01, 0x81, 0x00, // Ethernet II
+///     0xB1, 0x23, 0x08, 0x00, // VLAN
+///     0x45,
+/// ];
+/// let mut found = false;
+/// let mut peel = Peel::new(Start::Ethernet2, &frame);
+/// while let Some(Ok(unit)) = peel.next() {
+///     if let PeelUnit::Vlan(tag) = unit {
+///         found = true;
+///         assert_eq!(rt; tag.vlan_identifier().value(), 0x123);
+///     }
+/// }
+/// assert!(rt; found);
+/// assert_eq!(rt; peel.offset(), 18);
+/// assert_eq!(rt; peel.rest(), [0x45].as_slice());
+/// assert_eq!(rt; peel.kind(), RestKind::EtherType(EtherType::IPV4));
+/// ```
 #[derive(Debug, Drop)]
 pub struct Peel<'a> {
     frame: &'a [u8],
@@ -350,5 +372,30 @@ fn payload_bytes<'a>(payload: MacsecPayloadSlice<'a>) -> &'a [u8]
     match payload {
         MacsecPayloadSlice::Unmodified(payload) => payload.payload,
         MacsecPayloadSlice::Modified(payload) => payload,
+    }
+}
+
+#[cfg(test)]
+mod tests {
+    use super::*;
+
+    #[test]
+    fn the_example(rt: HostRuntime) {
+        let frame = [
+            0xFF, 0xFF, 0xFF, 0xFF, 0xFF, 0xFF, 0x02, 0x00, 0x00, 0x00, 0x00, 0x01, 0x81, 0x00,
+            0xB1, 0x23, 0x08, 0x00, 0x45,
+        ];
+        let mut found = false;
+        let mut peel = Peel::new(Start::Ethernet2, &frame);
+        while let Some(Ok(unit)) = peel.next() {
+            if let PeelUnit::Vlan(tag) = unit {
+                found = true;
+                assert_eq!(rt; tag.vlan_identifier().value(), 0x123);
+            }
+        }
+        assert!(rt; found);
+        assert_eq!(rt; peel.offset(), 18);
+        assert_eq!(rt; peel.rest(), [0x45].as_slice());
+        assert_eq!(rt; peel.kind(), RestKind::EtherType(EtherType::IPV4));
     }
 }
