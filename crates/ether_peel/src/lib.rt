@@ -9,6 +9,7 @@ mod peel_unit;
 mod rest_kind;
 mod start;
 mod summary;
+mod written_back;
 
 pub use peel::Peel;
 pub use peel_error::PeelError;
@@ -17,3 +18,4 @@ pub use peel_unit::PeelUnit;
 pub use rest_kind::RestKind;
 pub use start::Start;
 pub use summary::Summary;
+pub use written_back::write_back;
