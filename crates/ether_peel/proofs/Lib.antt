@@ -10,3 +10,4 @@ pub mod Extensions
 pub mod Cuts
 pub mod WorkedExamples
 pub mod WalkedLemmas
+pub mod WriteBackLemmas

@@ -19,6 +19,7 @@ mod rest_kind;
 mod start;
 mod summarize;
 mod walk_summary;
+mod written_back;
 
 pub use peel::Peel;
 pub use peel_error::PeelError;
@@ -28,3 +29,4 @@ pub use rest_kind::RestKind;
 pub use start::Start;
 pub use summarize::{snap, summary};
 pub use walk_summary::Summary;
+pub use written_back::write_back;
