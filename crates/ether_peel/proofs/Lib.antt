@@ -9,3 +9,4 @@ pub mod WriteBack
 pub mod Extensions
 pub mod Cuts
 pub mod WorkedExamples
+pub mod WalkedLemmas

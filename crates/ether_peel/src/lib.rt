@@ -8,7 +8,8 @@ mod peel_fault;
 mod peel_unit;
 mod rest_kind;
 mod start;
-mod summary;
+mod summarize;
+mod walk_summary;
 
 pub use peel::Peel;
 pub use peel_error::PeelError;
@@ -16,4 +17,5 @@ pub use peel_fault::PeelFault;
 pub use peel_unit::PeelUnit;
 pub use rest_kind::RestKind;
 pub use start::Start;
-pub use summary::Summary;
+pub use summarize::{snap, summary};
+pub use walk_summary::Summary;
