@@ -11,3 +11,4 @@ pub mod Cuts
 pub mod WorkedExamples
 pub mod WalkedLemmas
 pub mod WriteBackLemmas
+pub mod ViewValues

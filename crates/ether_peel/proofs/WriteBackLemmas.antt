@@ -1,25 +1,19 @@
 -- Headers and a last window that are written one behind the other.
 use Rattle.std.proofs.Common.{◌≡◌, ℕ, ◌+◌, ◌≤◌, List, [], ◌∷◌, ◌++◌, length, take, drop, false, refl, sym, ap, subst, ◌∙◌, arith}
-use Rattle.std.specs.Prelude.{slice_range, flat_map, Option, Some, None, Result, Ok, Err}
+use Rattle.std.specs.Prelude.{flat_map, Option, Some, None, Result, Ok, Err}
 use Rattle.std.proofs.Math.Seq.{take-append_seam, drop-append-add}
 use Rattle.std.proofs.lemmas.List.{append_assoc, append-nil, length-append, drop-drop}
 use Rattle.std.proofs.lemmas.Grind.{flat_map-append}
 use Rattle.etherparse.specs.Types.LenSource.{LenSource}
 use Rattle.etherparse.specs.Bytes.{IsBytes}
-use Rattle.etherparse.specs.Ethernet2.{ethernet2_of}
-use Rattle.etherparse.specs.LinuxSll.{linux_sll_of}
-use Rattle.etherparse.specs.Vlan.{vlan_of}
-use Rattle.etherparse.specs.Macsec.{SecTagValue, sec_tag_front_of, sec_tag_front_in, sec_tag_len, sec_tag_of, sec_tag_bytes}
-use Rattle.etherparse.specs.Header.{Header, kind_of, header_len, header_bytes, Spells, Means}
+use Rattle.etherparse.specs.Ethernet2.{ethernet2_bytes}
+use Rattle.etherparse.specs.LinuxSll.{linux_sll_bytes}
+use Rattle.etherparse.specs.Vlan.{vlan_bytes}
+use Rattle.etherparse.specs.Macsec.{sec_tag_of, sec_tag_bytes}
+use Rattle.etherparse.specs.Header.{Header, kind_of, header_len, header_bytes, Means}
 use Rattle.etherparse.specs.Header as headers
 use Rattle.etherparse.specs.Refusal.{Accepts}
-use Rattle.etherparse.proofs.SubLists.{length-part, part_of_front, IsBytes-part}
-use Rattle.etherparse.proofs.Rows.{one_sec_tag_front, sec_tag_front_read}
-use Rattle.etherparse.proofs.Means.{one_header, tag_begins, tag_unique}
-use Rattle.etherparse.proofs.Ethernet2Fields.{ethernet2_means}
-use Rattle.etherparse.proofs.LinuxSllFields.{linux_sll_means}
-use Rattle.etherparse.proofs.VlanFields.{vlan_means}
-use Rattle.etherparse.proofs.MacsecFields.{sec_tag_means}
+use Rattle.etherparse.proofs.SubLists.{length-part, IsBytes-part}
 use Rattle.ether_peel.specs.Window.{Window, within, IsIn, bound_of, payload}
 use Rattle.ether_peel.specs.Expectation.{Expectation}
 use Rattle.ether_peel.specs.Stack.{Ending, Accepted, Fault, last_window, whole, Walk}
@@ -28,38 +22,24 @@ use Rattle.ether_peel.specs.Peel.{Faces, ShowsUnit, GivesNext, Gives}
 use Rattle.ether_peel.specs.WriteBack.{cleared, unit_bytes, WritesBack}
 use Rattle.ether_peel.specs.declared.peel_unit.PeelUnit.{PeelUnit}
 use Rattle.ether_peel.specs.declared.peel_fault.PeelFault.{PeelFault}
+use Rattle.ether_peel.proofs.ViewValues.{ethernet2_shown, linux_sll_shown, vlan_shown, macsec_shown}
+use Rattle.ether_peel.proofs.WalkedLemmas.{UnitNext, unit_next}
 use Rattle.ether_peel.proofs.HeaderBytes.{length-means, written}
 use Rattle.ether_peel.proofs.Places.{last_behind, header_before}
 use Rattle.ether_peel.proofs.WriteBack.{headers_go_back}
 
 -- ---- the bytes of a view's header
 
--- a view of a SecTag's bytes has its value
-tag_back : (bytes : List ℕ) (t : SecTagValue) → IsBytes bytes → Means bytes (headers.Macsec t) → sec_tag_of (slice_range bytes 0 (header_len (headers.Macsec t))) ≡ t
-tag_back bytes t ok m =
-    let n = header_len (headers.Macsec t) in
-    let part = slice_range bytes 0 n in
-    let okp = IsBytes-part 0 n bytes ok in
-    let len : length part ≡ n = length-part bytes 0 n m.whole ∙ omega arith in
-    let own : Means part (headers.Macsec t) = record { whole = omega arith; spells = subst (λ (l : List ℕ). Spells l (headers.Macsec t)) (sym (part_of_front bytes n 0 n (omega arith) (omega arith))) m.spells } in
-    let b = tag_begins part t own in
-    let front = one_sec_tag_front part (sec_tag_front_in part) (sec_tag_front_of b.0 b.1 t) (sec_tag_front_read part okp (omega arith)) b.2 in
-    let size : sec_tag_len (sec_tag_front_in part) ≡ n = ap sec_tag_len {y = sec_tag_front_of b.0 b.1 t} front in
-    tag_unique part (sec_tag_of part) t (sec_tag_means part okp (omega arith) (omega arith)) own
-
 -- a view of a unit is written as its header
 pub unit_bytes-shown : (bound : LenSource) (bytes rest : List ℕ) (h : Header) (u : PeelUnit) → IsBytes bytes → Accepts bound bytes (kind_of h) → Means bytes h → ShowsUnit bytes rest h u → unit_bytes u ≡ header_bytes h
-unit_bytes-shown bound bytes rest (headers.Ethernet2 e) u ok accepted m shows =
-    ap unit_bytes shows ∙ ap header_bytes (one_header bytes (headers.Ethernet2 (ethernet2_of bytes)) (headers.Ethernet2 e) refl (ethernet2_means bytes ok m.whole) m)
+unit_bytes-shown bound bytes rest (headers.Ethernet2 e) u ok accepted m shows = ap unit_bytes shows ∙ ap ethernet2_bytes (ethernet2_shown bytes e ok m)
 unit_bytes-shown bound bytes rest (headers.Ethernet2Fcs e) u ok accepted m shows =
-    let own : Means bytes (headers.Ethernet2 e) = record { whole = m.whole; spells = m.spells } in
-    ap unit_bytes shows ∙ ap header_bytes (one_header bytes (headers.Ethernet2 (ethernet2_of bytes)) (headers.Ethernet2 e) refl (ethernet2_means bytes ok m.whole) own)
-unit_bytes-shown bound bytes rest (headers.LinuxSll s) u ok accepted m shows =
-    ap unit_bytes shows ∙ ap header_bytes (one_header bytes (headers.LinuxSll (linux_sll_of bytes)) (headers.LinuxSll s) refl (linux_sll_means bytes ok m.whole) m)
-unit_bytes-shown bound bytes rest (headers.Vlan v) u ok accepted m shows =
-    ap unit_bytes shows ∙ ap header_bytes (one_header bytes (headers.Vlan (vlan_of bytes)) (headers.Vlan v) refl (vlan_means bytes ok m.whole) m)
+    let plain : Means bytes (headers.Ethernet2 e) = record { whole = m.whole; spells = m.spells } in
+    ap unit_bytes shows ∙ ap ethernet2_bytes (ethernet2_shown bytes e ok plain)
+unit_bytes-shown bound bytes rest (headers.LinuxSll s) u ok accepted m shows = ap unit_bytes shows ∙ ap linux_sll_bytes (linux_sll_shown bytes s ok m)
+unit_bytes-shown bound bytes rest (headers.Vlan v) u ok accepted m shows = ap unit_bytes shows ∙ ap vlan_bytes (vlan_shown bytes v ok m)
 unit_bytes-shown bound bytes rest (headers.Macsec t) u ok accepted m shows =
-    ap unit_bytes shows.1 ∙ ap (λ (l : List ℕ). sec_tag_bytes (sec_tag_of l)) shows.2.header ∙ ap sec_tag_bytes (tag_back bytes t ok m)
+    ap unit_bytes shows.1 ∙ ap (λ (l : List ℕ). sec_tag_bytes (sec_tag_of l)) shows.2.header ∙ ap sec_tag_bytes (macsec_shown bytes t ok m)
 unit_bytes-shown bound bytes rest (headers.Arp a) u ok accepted m shows =
     ap unit_bytes shows ∙ written bound bytes (headers.Arp a) ok accepted m
 
@@ -78,31 +58,15 @@ pub stands_first : (x : Expectation) (list : List ℕ) (s : State) (hs : List He
 stands_first x list s hs e walk faces going = record { done = []; left = hs; ending = e; window = whole x list; walk = walk; faces = faces; going = going }
 
 -- a unit is given: the first of the headers that are left
-pub record Passes (x : Expectation) (list : List ℕ) (s t : State) (u : PeelUnit) (a : Stands x list s) : Type 0 where
-  pub header : Header
-  pub later : List Header
-  pub is : a.left ≡ header ∷ later
-  pub shows : ShowsUnit s.rest t.rest header u
-  pub over : t.over ≡ false
-  pub faces : Faces list (payload a.window header) t later a.ending
-
-unit_next : (list : List ℕ) (w : Window) (left : List Header) (e : Ending) (s t : State) (u : PeelUnit) → GivesNext list w left e s (Some (Ok u)) t
-    → (h : Header) × (later : List Header) × (left ≡ h ∷ later) × ShowsUnit s.rest t.rest h u × (t.over ≡ false) × Faces list (payload w h) t later e
-unit_next list w [] (Accepted v y) s t u g = let none = g.0 in absurd cc
-unit_next list w [] (Fault v y q) s t u g = let fault = g.0 in absurd cc
-unit_next list w (h ∷ hs) e s t u g =
-    let given = g.1 in
-    let is : g.0 ≡ u = cc in
-    (h, hs, refl, subst (ShowsUnit s.rest t.rest h) is g.2, g.3, g.5)
+abbrev pub Passes : (x : Expectation) (list : List ℕ) (s t : State) (u : PeelUnit) → Stands x list s → Type 0
+Passes x list s t u a = UnitNext list a.window a.left a.ending s t u
 
 pub passes : (x : Expectation) (list : List ℕ) (s t : State) (u : PeelUnit) (a : Stands x list s) → Gives s (Some (Ok u)) t → Passes x list s t u a
-passes x list s t u a gives =
-    let n = unit_next list a.window a.left a.ending s t u (gives.next a.going list a.window a.left a.ending a.faces) in
-    record { header = n.0; later = n.1; is = n.2; shows = n.3; over = n.4; faces = n.5 }
+passes x list s t u a gives = unit_next list a.window a.left a.ending s t u (gives.next a.going list a.window a.left a.ending a.faces)
 
 pub stands_next : (x : Expectation) (list : List ℕ) (s t : State) (u : PeelUnit) (a : Stands x list s) → Passes x list s t u a → Stands x list t
 stands_next x list s t u a p =
-    let same : a.done ++ a.left ≡ (a.done ++ p.header ∷ []) ++ p.later = ap (λ (l : List Header). a.done ++ l) p.is ∙ sym (append_assoc a.done (p.header ∷ []) p.later) in
+    let same : a.done ++ a.left ≡ (a.done ++ p.header ∷ []) ++ p.later = ap (λ (l : List Header). a.done ++ l) p.parts ∙ sym (append_assoc a.done (p.header ∷ []) p.later) in
     record {
       done = a.done ++ p.header ∷ [];
       left = p.later;
@@ -110,7 +74,7 @@ stands_next x list s t u a p =
       window = payload a.window p.header;
       walk = subst (λ (l : List Header). Walk x list l a.ending) same a.walk;
       faces = p.faces;
-      going = p.over;
+      going = p.going;
     }
 
 -- no unit is given: none is left, and the walker shows the last window
@@ -198,7 +162,7 @@ next_at x list s t u at old mid ok fits same a gives =
     let b = a.stands in
     let w = b.window in
     let p = passes x list s t u b gives in
-    let faces = subst (λ (l : List Header). Faces list w s l b.ending) p.is b.faces in
+    let faces = subst (λ (l : List Header). Faces list w s l b.ending) p.parts b.faces in
     let unit = faces.stack.0 in
     let shows = subst (λ (l : List ℕ). ShowsUnit l t.rest p.header u) faces.rest p.shows in
     let okw = IsBytes-part w.start w.finish list ok in
