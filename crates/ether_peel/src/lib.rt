@@ -1,6 +1,8 @@
 //! The walk through the stack of headers of a frame.
 #![tactic(auto)]
 
+#[cfg(test)]
+mod derived_traits;
 pub mod laws;
 mod peel;
 mod peel_error;
