@@ -8,9 +8,15 @@ mod peel;
 mod peel_error;
 mod peel_fault;
 mod peel_unit;
+#[cfg(test)]
+mod plain;
 mod rest_kind;
 mod start;
 mod summary;
+#[cfg(test)]
+mod test_frames;
+#[cfg(test)]
+mod tests;
 
 pub use peel::Peel;
 pub use peel_error::PeelError;
