@@ -1,5 +1,6 @@
 pub mod StackLemmas
 pub mod PeelLemmas
+pub mod SameValues
 pub mod UnitLemmas
 pub mod LongerBytes
 pub mod Carrying

@@ -8,6 +8,7 @@ pub mod PeelStart
 pub mod PeelFault
 pub mod Peel
 pub mod PeelRead
+pub mod SameUnit
 pub mod Places
 pub mod WriteBack
 pub mod Endings

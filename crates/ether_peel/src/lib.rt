@@ -10,14 +10,22 @@
 //! says how many bytes a header lacks in a window that is open.
 #![tactic(auto)]
 
+#[cfg(test)]
+mod derived_traits;
 pub mod laws;
 mod peel;
 mod peel_error;
 mod peel_fault;
 mod peel_unit;
+#[cfg(test)]
+mod plain;
 mod rest_kind;
 mod start;
 mod summarize;
+#[cfg(test)]
+mod test_frames;
+#[cfg(test)]
+mod tests;
 mod walk_summary;
 mod written_back;
 

@@ -493,3 +493,72 @@ arp 14 hw 1 proto 0x0800 hlen 6 plen 4 op 1\n\
 rest 42 64 after_arp\n",
     )
 }
+
+// ---- frames cut short
+
+#[test]
+fn each_cut_of_a_tagged_frame(rt: HostRuntime) -> Result<(), Fail> {
+    answers(
+        &rt,
+        &["eth"],
+        b"\n\
+ff\n\
+ffff\n\
+ffffff\n\
+ffffffff\n\
+ffffffffff\n\
+ffffffffffff\n\
+ffffffffffff02\n\
+ffffffffffff0200\n\
+ffffffffffff020000\n\
+ffffffffffff02000000\n\
+ffffffffffff0200000000\n\
+ffffffffffff020000000001\n\
+ffffffffffff02000000000181\n\
+ffffffffffff0200000000018100\n\
+ffffffffffff0200000000018100b1\n\
+ffffffffffff0200000000018100b123\n\
+ffffffffffff0200000000018100b12308\n\
+ffffffffffff0200000000018100b1230800\n",
+        1,
+        b"fault 0 open length 14 0 slice\n\
+fault 0 open length 14 1 slice\n\
+fault 0 open length 14 2 slice\n\
+fault 0 open length 14 3 slice\n\
+fault 0 open length 14 4 slice\n\
+fault 0 open length 14 5 slice\n\
+fault 0 open length 14 6 slice\n\
+fault 0 open length 14 7 slice\n\
+fault 0 open length 14 8 slice\n\
+fault 0 open length 14 9 slice\n\
+fault 0 open length 14 10 slice\n\
+fault 0 open length 14 11 slice\n\
+fault 0 open length 14 12 slice\n\
+fault 0 open length 14 13 slice\n\
+ethernet2 0 ffffffffffff 020000000001 0x8100\n\
+fault 14 open length 4 0 slice\n\
+ethernet2 0 ffffffffffff 020000000001 0x8100\n\
+fault 14 open length 4 1 slice\n\
+ethernet2 0 ffffffffffff 020000000001 0x8100\n\
+fault 14 open length 4 2 slice\n\
+ethernet2 0 ffffffffffff 020000000001 0x8100\n\
+fault 14 open length 4 3 slice\n\
+ethernet2 0 ffffffffffff 020000000001 0x8100\n\
+vlan 14 pcp 5 dei 1 vid 291 0x0800\n\
+rest 18 18 type 0x0800\n",
+    )
+}
+
+#[test]
+fn a_length_past_three_closed_windows(rt: HostRuntime) -> Result<(), Fail> {
+    answers(
+        &rt,
+        &["type", "88E5"],
+        b"001a0000000188e500120000000288e5000a0000000388e50003000000040800\n",
+        1,
+        b"macsec 0 unmodified 0x88E5 es 0 scb 0 an 0 sl 26 pn 1 sci - window 24 closed\n\
+macsec 8 unmodified 0x88E5 es 0 scb 0 an 0 sl 18 pn 2 sci - window 16 closed\n\
+macsec 16 unmodified 0x88E5 es 0 scb 0 an 0 sl 10 pn 3 sci - window 8 closed\n\
+fault 24 closed length 9 8 macsec_short_length\n",
+    )
+}

@@ -1,0 +1,15 @@
+-- Equal units.
+use Rattle.std.specs.Prelude.{◌≡◌}
+use Rattle.etherparse.specs.Macsec.{SameTagged}
+use Rattle.ether_peel.specs.declared.peel_unit.PeelUnit.{PeelUnit}
+use Rattle.ether_peel.specs.declared.peel_unit.PeelUnit.TheVariants as units
+
+-- views of the same kind that hold the same bytes; of an Ethernet II frame also whether it ends in a check sequence, of a
+-- SecTag also the same payload
+abbrev pub SameUnit : PeelUnit → PeelUnit → Type 0
+SameUnit (units.Ethernet2 a) (units.Ethernet2 b) = a ≡ b
+SameUnit (units.LinuxSll a) (units.LinuxSll b) = a ≡ b
+SameUnit (units.Vlan a) (units.Vlan b) = a ≡ b
+SameUnit (units.Macsec a) (units.Macsec b) = SameTagged a b
+SameUnit (units.Arp a) (units.Arp b) = a ≡ b
+SameUnit _ _ = ⊥

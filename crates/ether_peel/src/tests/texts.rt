@@ -1,0 +1,138 @@
+//! The texts of values.
+use super::{behind, content, cut_short};
+use crate::test_frames::{NAMED, TAGGED};
+use crate::{Peel, PeelError, RestKind, Start, Summary};
+use etherparse::err::{self, Layer};
+use etherparse::{ArpHardwareId, LenSource, LinuxSllProtocolType};
+use std::test::Fail;
+
+#[test]
+fn faults_as_users_read_them(rt: HostRuntime) -> Result<(), Fail> {
+    let packet_type = err::linux_sll::HeaderError::UnsupportedPacketTypeField { packet_type: 8 };
+    let hardware_type = err::linux_sll::HeaderError::UnsupportedArpHardwareId {
+        arp_hardware_type: ArpHardwareId(257),
+    };
+    let version = err::macsec::HeaderError::UnexpectedVersion;
+    let short_len = err::macsec::HeaderError::InvalidUnmodifiedShortLen;
+    let rows = [
+        (
+            cut_short(18, false, 4, 2, LenSource::Slice, Layer::VlanHeader),
+            "at offset 18: ",
+            "VLAN Header Error: Not enough data to decode 'VLAN header'. 4 byte(s) would be required, but only 2 byte(s) are available based on the slice length ('VLAN header' starts at overall parsed byte 18).",
+        ),
+        (
+            cut_short(0, true, 18, 17, LenSource::Slice, Layer::Ethernet2Header),
+            "at offset 0: ",
+            "Ethernet 2 Header Error: Not enough data to decode 'Ethernet 2 header'. 18 byte(s) would be required, but only 17 byte(s) are available based on the slice length.",
+        ),
+        (
+            content(0, false, PeelError::LinuxSll(packet_type)),
+            "at offset 0: ",
+            "Linux cooked capture v1 (SLL) Header Error: Encountered '8' as the packet type, but its not supported.",
+        ),
+        (
+            content(0, false, PeelError::LinuxSll(hardware_type)),
+            "at offset 0: ",
+            "Linux cooked capture v1 (SLL)  Header Error:  Encountered '257 (CSLIP)' as the ARP harware type, but its not supported.",
+        ),
+        (
+            content(22, true, PeelError::Macsec(version)),
+            "at offset 22: ",
+            "MACsec Header Error: Encountered '1' as MACsec version in the MACsec SecTag header (must be '0').",
+        ),
+        (
+            content(2048, true, PeelError::Macsec(short_len)),
+            "at offset 2048: ",
+            "MACsec Header Error: Encountered '1' as MACsec short len in an unmodified packet (must be '0' or '2' or greater).",
+        ),
+    ];
+    for (fault, place, text) in &rows {
+        let alloc = rt.alloc();
+        assert_eq!(rt; format!(in alloc; "{}", fault.error)?.as_str(), *text);
+        let whole = format!(in alloc; "{place}{text}")?;
+        assert_eq!(rt; format!(in alloc; "{fault}")?.as_str(), whole.as_str());
+    }
+    Ok(())
+}
+
+#[test]
+fn faults_as_developers_read_them(rt: HostRuntime) -> Result<(), Fail> {
+    let version = err::macsec::HeaderError::UnexpectedVersion;
+    let packet_type = err::linux_sll::HeaderError::UnsupportedPacketTypeField { packet_type: 8 };
+    let rows = [
+        (
+            cut_short(18, false, 4, 2, LenSource::Slice, Layer::VlanHeader),
+            "PeelFault { offset: 18, closed: false, error: Len(LenError { required_len: 4, len: 2, len_source: Slice, layer: VlanHeader, layer_start_offset: 18 }) }",
+        ),
+        (
+            content(22, true, PeelError::Macsec(version)),
+            "PeelFault { offset: 22, closed: true, error: Macsec(UnexpectedVersion) }",
+        ),
+        (
+            content(0, false, PeelError::LinuxSll(packet_type)),
+            "PeelFault { offset: 0, closed: false, error: LinuxSll(UnsupportedPacketTypeField { packet_type: 8 }) }",
+        ),
+    ];
+    for (fault, text) in &rows {
+        assert_eq!(rt; format!(in rt.alloc(); "{fault:?}")?.as_str(), *text);
+    }
+    let error = PeelError::Macsec(err::macsec::HeaderError::InvalidUnmodifiedShortLen);
+    let shown = format!(in rt.alloc(); "{error:?}")?;
+    assert_eq!(rt; shown.as_str(), "Macsec(InvalidUnmodifiedShortLen)");
+    Ok(())
+}
+
+#[test]
+fn starts_and_kinds(rt: HostRuntime) -> Result<(), Fail> {
+    let ignored = RestKind::Sll(LinuxSllProtocolType::Ignored(5));
+    let texts = [
+        (
+            format!(in rt.alloc(); "{:?}", Start::Ethernet2Fcs)?,
+            "Ethernet2Fcs",
+        ),
+        (
+            format!(in rt.alloc(); "{:?}", behind(5))?,
+            "EtherType(0x0005)",
+        ),
+        (format!(in rt.alloc(); "{:?}", RestKind::Start)?, "Start"),
+        (format!(in rt.alloc(); "{ignored:?}")?, "Sll(Ignored(5))"),
+        (format!(in rt.alloc(); "{:?}", RestKind::Sealed)?, "Sealed"),
+        (
+            format!(in rt.alloc(); "{:?}", RestKind::AfterArp)?,
+            "AfterArp",
+        ),
+    ];
+    for (shown, wanted) in &texts {
+        assert_eq!(rt; shown.as_str(), *wanted);
+    }
+    Ok(())
+}
+
+#[test]
+fn units_and_summaries(rt: HostRuntime) -> Result<(), Fail> {
+    let mut peel = Peel::new(Start::Ethernet2, &TAGGED);
+    peel.next();
+    let tag = peel.next().ok_or("a unit")?.ok().ok_or("a unit")?;
+    assert_eq!(rt;
+        format!(in rt.alloc(); "{tag:?}")?.as_str(),
+        "Vlan(SingleVlanSlice { header: SingleVlanHeader { pcp: VlanPcp(5), drop_eligible_indicator: true, vlan_id: VlanId(291), ether_type: 0x0800 (Internet Protocol version 4 (IPv4)) }, payload: EtherPayloadSlice { ether_type: 0x0800 (Internet Protocol version 4 (IPv4)), len_source: Slice, payload: [] } })"
+    );
+    peel = Peel::new(behind(0x88E5), &NAMED);
+    let sec_tag = peel.next().ok_or("a unit")?.ok().ok_or("a unit")?;
+    assert_eq!(rt;
+        format!(in rt.alloc(); "{sec_tag:?}")?.as_str(),
+        "Macsec(MacsecSlice { header: MacsecHeaderSlice { slice: [0, 6, 0, 0, 0, 1, 129, 0] }, payload: Unmodified(EtherPayloadSlice { ether_type: 0x8100 (Customer VLAN Tag (C-TAG) as defined in IEEE Std 802.1Q), len_source: MacsecShortLength, payload: [170, 187, 204, 221] }) })"
+    );
+    let summary = Summary {
+        units: 2,
+        rest_start: 18,
+        rest_end: 20,
+        kind: RestKind::Sealed,
+        fault: None,
+    };
+    assert_eq!(rt;
+        format!(in rt.alloc(); "{summary:?}")?.as_str(),
+        "Summary { units: 2, rest_start: 18, rest_end: 20, kind: Sealed, fault: None }"
+    );
+    Ok(())
+}
