@@ -1,11 +1,11 @@
 //! The fields of an ARP packet in the bytes that begin with it (RFC 826, "Packet format"): hardware type, protocol type,
 //! the two sizes and the operation in eight bytes, then the addresses of the sender and those of the target.
-ghost use Rattle.std.specs.Prelude.{◌≡◌, ◌+◌, ◌≤◌, ◌<◌, length, IfOk, IfErr};
+ghost use Rattle.std.specs.Prelude.{◌≡◌, ◌+◌, ◌*◌, ◌≤◌, ◌<◌, length, drop, IfOk, IfErr};
 ghost use Rattle.ether_base.specs.Arp.{ArpFront, FitsArpFront, arp_front_in, arp_front_number, arp_len, arp_of};
 ghost use Rattle.ether_base.specs.Bytes.{spelled};
 ghost use Rattle.ether_base.specs.Kind as kinds;
 ghost use Rattle.ether_base.specs.RefusedLen.{IsRefusedLen};
-ghost use Rattle.ether_arp.specs.Arp.{BeginsWithArp};
+ghost use Rattle.ether_arp.specs.Arp.{BeginsWithArp, HoldsArp};
 
 use ether_base::big_endian::u16_of;
 use ether_base::err::{Layer, LenError};
@@ -121,6 +121,15 @@ pub fn target_protocol_addr(packet: &[u8]) -> &[u8]
     let protocol = usize::from(proto_addr_size(packet));
     let start = FRONT_LEN + 2 * usize::from(hw_addr_size(packet)) + protocol;
     &packet[start..start + protocol]
+}
+
+/// The four addresses, where nothing follows them.
+pub fn addrs(packet: &[u8]) -> &[u8]
+    requires { HoldsArp packet.now }
+    ensures addrs { result.now ≡ drop 8 packet.now }
+    ensures len { length result.now ≡ 2 * (arp_front_in packet.now).hardware_size + 2 * (arp_front_in packet.now).protocol_size }
+{
+    &packet[FRONT_LEN..]
 }
 
 /// The bytes before the addresses.

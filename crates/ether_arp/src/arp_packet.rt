@@ -1,6 +1,6 @@
 //! ARP packets as values.
 ghost use Rattle.std.specs.Hash as fed;
-ghost use Rattle.std.specs.Prelude.{⊤, ℕ, List, ◌≡◌, ◌+◌, ◌≤◌, ◌<◌, ◌++◌, ◌==◌, length, IfOk, IfErr, OnOk, OnErr, MatchResult};
+ghost use Rattle.std.specs.Prelude.{⊤, ℕ, List, ◌≡◌, ◌+◌, ◌*◌, ◌≤◌, ◌<◌, ◌++◌, ◌==◌, length, slice_range, IfOk, IfErr, OnOk, OnErr, MatchResult};
 ghost use Rattle.std.proofs.Common.{rules};
 ghost use Rattle.std.specs.Cmp.Rules.{comparing, hashing};
 ghost use Rattle.std.specs.Cmp.Lexicographic.{pointwise};
@@ -16,7 +16,7 @@ ghost use Rattle.ether_base.specs.RefusedLen.{IsRefusedLen};
 ghost use Rattle.ether_arp.specs.ArpAddresses.{AcceptsAddrs, AcceptsHwAddrs, AcceptsProtoAddrs, RefusesAddrs, RefusesHwAddrs, RefusesProtoAddrs};
 ghost use Rattle.ether_arp.specs.ArpEthIpv4.{AnswersEthIpv4};
 
-use crate::{ArpEthIpv4Packet, ArpPacketSlice, arp_fields};
+use crate::{ArpEthIpv4Packet, ArpPacketSlice, arp_addrs, arp_fields};
 use arrayvec::ArrayVec;
 use ether_base::err::LenError;
 use ether_base::err::arp::{ArpEthIpv4FromError, ArpHwAddrError, ArpNewError, ArpProtoAddrError};
@@ -52,14 +52,14 @@ pub struct ArpPacket {
     pub proto_addr_type: EtherType,
     /// What the packet asks or answers.
     pub operation: ArpOperation,
-    sender_hardware: ArrayVec<u8, 255>,
-    sender_protocol: ArrayVec<u8, 255>,
-    target_hardware: ArrayVec<u8, 255>,
-    target_protocol: ArrayVec<u8, 255>,
+    hw_addr_size: u8,
+    protocol_addr_size: u8,
+    /// The addresses as they stand on the wire: the sender's, hardware before protocol, then the target's.
+    addrs: ArrayVec<u8, 1020>,
 }
 
 impl Model for ArpPacket {
-    ghost use Rattle.std.specs.Prelude.{◌≡◌, length};
+    ghost use Rattle.std.specs.Prelude.{◌≡◌, ◌+◌, ◌*◌, length, slice_range};
     ghost use Rattle.ether_base.specs.Arp.{ArpValue};
     ghost use Rattle.ether_base.specs.Bytes.{IsBytes};
 
@@ -69,14 +69,13 @@ impl Model for ArpPacket {
       hardware_type = a.hw_addr_type.0;
       protocol_type = a.proto_addr_type.0;
       operation = a.operation.0;
-      sender_hardware = a.sender_hardware.items;
-      sender_protocol = a.sender_protocol.items;
-      target_hardware = a.target_hardware.items;
-      target_protocol = a.target_protocol.items;
+      sender_hardware = slice_range a.addrs.items 0 a.hw_addr_size;
+      sender_protocol = slice_range a.addrs.items a.hw_addr_size (a.hw_addr_size + a.protocol_addr_size);
+      target_hardware = slice_range a.addrs.items (a.hw_addr_size + a.protocol_addr_size) (2 * a.hw_addr_size + a.protocol_addr_size);
+      target_protocol = slice_range a.addrs.items (2 * a.hw_addr_size + a.protocol_addr_size) (2 * a.hw_addr_size + 2 * a.protocol_addr_size);
     } };
 
-    ghost invariant = { λ a. (length a.target_hardware.items ≡ length a.sender_hardware.items) × (length a.target_protocol.items ≡ length a.sender_protocol.items)
-        × IsBytes a.sender_hardware.items × IsBytes a.sender_protocol.items × IsBytes a.target_hardware.items × IsBytes a.target_protocol.items };
+    ghost invariant = { λ a. (length a.addrs.items ≡ 2 * a.hw_addr_size + 2 * a.protocol_addr_size) × IsBytes a.addrs.items };
 }
 
 impl ArpPacket {
@@ -147,14 +146,42 @@ impl ArpPacket {
         requires protocol_size { length sender_protocol_addr.now ≤ 255 }
         ensures { result ≡ record { hardware_type = hw_addr_type.0; protocol_type = proto_addr_type.0; operation = operation.0; sender_hardware = sender_hw_addr.now; sender_protocol = sender_protocol_addr.now; target_hardware = target_hw_addr.now; target_protocol = target_protocol_addr.now } }
     {
+        let mut addrs = ArrayVec::new();
+        arp_addrs::put(&mut addrs, sender_hw_addr);
+        arp_addrs::put(&mut addrs, sender_protocol_addr);
+        arp_addrs::put(&mut addrs, target_hw_addr);
+        arp_addrs::put(&mut addrs, target_protocol_addr);
         ArpPacket {
             hw_addr_type,
             proto_addr_type,
             operation,
-            sender_hardware: kept(sender_hw_addr),
-            sender_protocol: kept(sender_protocol_addr),
-            target_hardware: kept(target_hw_addr),
-            target_protocol: kept(target_protocol_addr),
+            hw_addr_size: sender_hw_addr.len() as u8,
+            protocol_addr_size: sender_protocol_addr.len() as u8,
+            addrs,
+        }
+    }
+
+    /// The packet of addresses that stand one behind the other already.
+    pub(crate) fn packed(
+        hw_addr_type: ArpHardwareId,
+        proto_addr_type: EtherType,
+        operation: ArpOperation,
+        hw_addr_size: u8,
+        protocol_addr_size: u8,
+        addrs: &[u8],
+    ) -> ArpPacket
+        requires { length addrs.now ≡ 2 * hw_addr_size + 2 * protocol_addr_size }
+        ensures { result ≡ record { hardware_type = hw_addr_type.0; protocol_type = proto_addr_type.0; operation = operation.0; sender_hardware = slice_range addrs.now 0 hw_addr_size; sender_protocol = slice_range addrs.now hw_addr_size (hw_addr_size + protocol_addr_size); target_hardware = slice_range addrs.now (hw_addr_size + protocol_addr_size) (2 * hw_addr_size + protocol_addr_size); target_protocol = slice_range addrs.now (2 * hw_addr_size + protocol_addr_size) (2 * hw_addr_size + 2 * protocol_addr_size) } }
+    {
+        let mut list = ArrayVec::new();
+        arp_addrs::put(&mut list, addrs);
+        ArpPacket {
+            hw_addr_type,
+            proto_addr_type,
+            operation,
+            hw_addr_size,
+            protocol_addr_size,
+            addrs: list,
         }
     }
 
@@ -172,7 +199,7 @@ impl ArpPacket {
         ensures sender { result ≡ length self.now.sender_hardware }
         ensures target { result ≡ length self.now.target_hardware }
     {
-        self.sender_hardware.len() as u8
+        self.hw_addr_size
     }
 
     /// The size of a protocol address in bytes.
@@ -180,35 +207,40 @@ impl ArpPacket {
         ensures sender { result ≡ length self.now.sender_protocol }
         ensures target { result ≡ length self.now.target_protocol }
     {
-        self.sender_protocol.len() as u8
+        self.protocol_addr_size
     }
 
     /// The hardware address of the sender.
     pub fn sender_hw_addr(&self) -> &[u8]
         ensures { result.now ≡ self.now.sender_hardware }
     {
-        self.sender_hardware.as_slice()
+        &self.addrs[..usize::from(self.hw_addr_size)]
     }
 
     /// The protocol address of the sender.
     pub fn sender_protocol_addr(&self) -> &[u8]
         ensures { result.now ≡ self.now.sender_protocol }
     {
-        self.sender_protocol.as_slice()
+        let start = usize::from(self.hw_addr_size);
+        &self.addrs[start..start + usize::from(self.protocol_addr_size)]
     }
 
     /// The hardware address of the target, which a request does not know.
     pub fn target_hw_addr(&self) -> &[u8]
         ensures { result.now ≡ self.now.target_hardware }
     {
-        self.target_hardware.as_slice()
+        let hardware = usize::from(self.hw_addr_size);
+        let start = hardware + usize::from(self.protocol_addr_size);
+        &self.addrs[start..start + hardware]
     }
 
     /// The protocol address of the target.
     pub fn target_protocol_addr(&self) -> &[u8]
         ensures { result.now ≡ self.now.target_protocol }
     {
-        self.target_protocol.as_slice()
+        let hardware = usize::from(self.hw_addr_size);
+        let start = hardware + usize::from(self.protocol_addr_size) + hardware;
+        &self.addrs[start..]
     }
 
     /// Replaces both hardware addresses, and with them their size.
@@ -231,8 +263,17 @@ impl ArpPacket {
         if len > MAX_ADDR_LEN {
             return Err(ArpHwAddrError::LenTooBig(len));
         }
-        self.sender_hardware = kept(sender_hw_addr);
-        self.target_hardware = kept(target_hw_addr);
+        let hardware = usize::from(self.hw_addr_size);
+        let protocol = usize::from(self.protocol_addr_size);
+        arp_addrs::replace_both(
+            &mut self.addrs,
+            0,
+            hardware,
+            protocol,
+            sender_hw_addr,
+            target_hw_addr,
+        );
+        self.hw_addr_size = len as u8;
         Ok(())
     }
 
@@ -256,8 +297,17 @@ impl ArpPacket {
         if len > MAX_ADDR_LEN {
             return Err(ArpProtoAddrError::LenTooBig(len));
         }
-        self.sender_protocol = kept(sender_protocol_addr);
-        self.target_protocol = kept(target_protocol_addr);
+        let hardware = usize::from(self.hw_addr_size);
+        let protocol = usize::from(self.protocol_addr_size);
+        arp_addrs::replace_both(
+            &mut self.addrs,
+            hardware,
+            protocol,
+            hardware,
+            sender_protocol_addr,
+            target_protocol_addr,
+        );
+        self.protocol_addr_size = len as u8;
         Ok(())
     }
 
@@ -282,16 +332,14 @@ impl ArpPacket {
     }
 
     /// The bytes of the packet, whose numbers have room in them.
+    #[tactic(auto, using(crate::proofs::Packed::joined_behind))]
     fn spelled(&self) -> ArrayVec<u8, 1028>
         ensures value { result.items ≡ arp_bytes self.now }
         ensures fits { FitsArp self.now }
     {
         let mut bytes = ArrayVec::new();
-        put(&mut bytes, &self.front());
-        put(&mut bytes, self.sender_hw_addr());
-        put(&mut bytes, self.sender_protocol_addr());
-        put(&mut bytes, self.target_hw_addr());
-        put(&mut bytes, self.target_protocol_addr());
+        arp_addrs::put(&mut bytes, &self.front());
+        arp_addrs::put(&mut bytes, self.addrs.as_slice());
         bytes
     }
 
@@ -303,10 +351,18 @@ impl ArpPacket {
         arp_fields::front_bytes(
             self.hw_addr_type.0,
             self.proto_addr_type.0,
-            self.sender_hardware.len() as u8,
-            self.sender_protocol.len() as u8,
+            self.hw_addr_size,
+            self.protocol_addr_size,
             self.operation.0,
         )
+    }
+
+    /// Whether another packet has the same four addresses. Equal lists are of one length, so that the sizes of the hardware
+    /// addresses decide those of the protocol addresses.
+    fn has_same_addrs(&self, other: &ArpPacket) -> bool
+        ensures { result ≡ eq_of_both (on (λ a. a.sender_hardware) (pointwise ◌==◌)) (eq_of_both (on (λ a. a.sender_protocol) (pointwise ◌==◌)) (eq_of_both (on (λ a. a.target_hardware) (pointwise ◌==◌)) (on (λ a. a.target_protocol) (pointwise ◌==◌)))) self.now other.now }
+    {
+        self.hw_addr_size == other.hw_addr_size && self.addrs == other.addrs
     }
 
     /// The packet as one of Ethernet and IPv4.
@@ -339,26 +395,6 @@ impl ArpPacket {
             target_ipv4: four(self.target_protocol_addr()),
         })
     }
-}
-
-/// An address in a buffer of its own.
-fn kept(address: &[u8]) -> ArrayVec<u8, 255>
-    requires { length address.now ≤ 255 }
-    ensures items { result.items ≡ address.now }
-    ensures bytes { IsBytes result.items }
-{
-    let mut buffer = ArrayVec::new();
-    buffer.try_extend_from_slice(address).unwrap();
-    buffer
-}
-
-/// Appends bytes.
-fn put(bytes: &mut ArrayVec<u8, 1028>, part: &[u8])
-    requires { length bytes.old.items + length part.now ≤ 1028 }
-    ensures items { bytes.new.items ≡ bytes.old.items ++ part.now }
-    ensures len { length bytes.new.items ≡ length bytes.old.items + length part.now }
-{
-    bytes.try_extend_from_slice(part).unwrap();
 }
 
 /// An address of six bytes.
@@ -400,10 +436,9 @@ impl Clone for ArpPacket {
             hw_addr_type: self.hw_addr_type,
             proto_addr_type: self.proto_addr_type,
             operation: self.operation,
-            sender_hardware: self.sender_hardware.clone()?,
-            sender_protocol: self.sender_protocol.clone()?,
-            target_hardware: self.target_hardware.clone()?,
-            target_protocol: self.target_protocol.clone()?,
+            hw_addr_size: self.hw_addr_size,
+            protocol_addr_size: self.protocol_addr_size,
+            addrs: self.addrs.clone()?,
         })
     }
 }
@@ -417,10 +452,7 @@ impl PartialEq for ArpPacket {
         self.hw_addr_type == other.hw_addr_type
             && self.proto_addr_type == other.proto_addr_type
             && self.operation == other.operation
-            && self.sender_hardware == other.sender_hardware
-            && self.sender_protocol == other.sender_protocol
-            && self.target_hardware == other.target_hardware
-            && self.target_protocol == other.target_protocol
+            && self.has_same_addrs(other)
     }
 }
 

@@ -1,6 +1,7 @@
 //! ARP packets (RFC 826), of any hardware and any protocol.
 #![tactic(auto)]
 
+mod arp_addrs;
 mod arp_eth_ipv4_packet;
 mod arp_fields;
 mod arp_packet;

@@ -10,3 +10,6 @@ pub mod WriteBack
 pub mod Extensions
 pub mod Cuts
 pub mod WorkedExamples
+pub mod WalkedLemmas
+pub mod WriteBackLemmas
+pub mod ViewValues

@@ -34,7 +34,7 @@ use Rattle.ether_peel.specs.declared.peel_fault.PeelFault.{PeelFault}
 
 -- what the fields of a walker show
 abbrev pub shown : Inside → State
-shown a = record { rest = a.rest.now; offset = a.offset; closed = a.is_closed; expected = expected_of a.first a.kind; over = a.is_over }
+shown a = record { rest = slice_range a.frame.now a.start a.end; offset = a.start; closed = a.is_closed; expected = expected_of a.first a.kind; over = a.is_over }
 
 not_over : (b : Bool) → b ≡ false → b ≡ true → ⊥
 not_over b e f = let g : false ≡ true = sym e ∙ f in cc
@@ -163,6 +163,18 @@ own_window s = record { start = 0; finish = length s.rest; closed = s.closed }
 
 abbrev pub own_payload : State → Header → Window
 own_payload s h = payload_from (header_len h) (trailer_len h) (payload_len h) (own_window s)
+
+-- a part of the window left to read, by its places in the whole frame
+pub moved_part : (frame : List ℕ) (i j start end : ℕ) (u : Window) → u.start ≤ u.finish → i + u.finish ≤ j → start ≡ i + u.start → end ≡ i + u.finish → slice_range frame start end ≡ within (slice_range frame i j) u
+moved_part frame i j start end u ordered inside at to =
+    ap (λ (x : ℕ). slice_range frame x end) at ∙ ap (slice_range frame (i + u.start)) to ∙ sym (part_of_part frame i j u.start u.finish ordered inside)
+
+-- all of it behind a header
+pub plain_part : (frame : List ℕ) (i j n k : ℕ) (closed : Bool) → i ≤ j → j ≤ length frame → n ≤ length (slice_range frame i j) → k ≡ n
+    → slice_range frame (i + k) j ≡ within (slice_range frame i j) (record { start = n; finish = length (slice_range frame i j) - 0; closed = closed })
+plain_part frame i j n k closed ordered inside whole is =
+    let long = length-part frame i j inside in
+    moved_part frame i j (i + k) j (record { start = n; finish = length (slice_range frame i j) - 0; closed = closed }) (omega arith) (omega arith) (omega arith) (omega arith)
 
 -- the unit that is announced was read, and t is the walk behind it
 pub record IsReadBy (s : State) (u : PeelUnit) (t : State) : Type 0 where

@@ -22,12 +22,12 @@ use Rattle.std.specs.Prelude.{Option, Some, None}
 use Rattle.ether_peel.specs.contracts.peel_error.PeelErrorPartialEq.TheImpl as error
 use Rattle.ether_peel.specs.contracts.peel_fault.PeelFaultPartialEq.TheImpl as fault
 use Rattle.ether_peel.specs.contracts.rest_kind.RestKindPartialEq.TheImpl as kind
-use Rattle.ether_peel.specs.contracts.summary.SummaryPartialEq.TheImpl as summary
+use Rattle.ether_peel.specs.contracts.walk_summary.SummaryPartialEq.TheImpl as summary
 use Rattle.ether_peel.specs.declared.peel_error.PeelError.{PeelError}
 use Rattle.ether_peel.specs.declared.peel_error.PeelError.TheVariants as errors
 use Rattle.ether_peel.specs.declared.peel_fault.PeelFault.{PeelFault}
 use Rattle.ether_peel.specs.declared.rest_kind.RestKind.{RestKind}
-use Rattle.ether_peel.specs.declared.summary.Summary.{Summary}
+use Rattle.ether_peel.specs.declared.walk_summary.Summary.{Summary}
 use Rattle.etherparse.specs.Types.EtherType.{EtherType}
 
 and_true : (x y : Bool) → x ≡ true → y ≡ true → x && y ≡ true

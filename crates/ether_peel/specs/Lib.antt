@@ -14,3 +14,4 @@ pub mod WriteBack
 pub mod Endings
 pub mod Cuts
 pub mod Extensions
+pub mod Summary

@@ -1,5 +1,6 @@
 -- The refusals of units as the faults that a walker gives.
-use Rattle.std.specs.Prelude.{ℕ}
+use Rattle.std.specs.Prelude.{◌≡◌, ℕ, ◌+◌, ◌<◌, false}
+use Rattle.etherparse.specs.Types.LenError.{LenError}
 use Rattle.etherparse.specs.Types.LinuxSllHeaderError.TheVariants as linux_sll
 use Rattle.etherparse.specs.Types.MacsecHeaderError.TheVariants as macsec
 use Rattle.etherparse.specs.Refusal.{Refusal, Length, UnsupportedPacketType, UnsupportedHardwareType, UnexpectedVersion, InvalidShortLen}
@@ -20,3 +21,11 @@ error_at start InvalidShortLen = errors.Macsec macsec.InvalidUnmodifiedShortLen
 -- the refusal of a unit in a window, with the window's start and mark
 abbrev pub fault_in : Window → Refusal → PeelFault
 fault_in w r = record { offset = w.start; error = error_at w.start r; closed = w.closed }
+
+-- so many bytes are missing: of a length, in an open window
+pub record Misses (f : PeelFault) (n : ℕ) : Type 0 where
+  pub is_open : f.closed ≡ false
+  pub error : LenError
+  pub of_length : f.error ≡ errors.Len error
+  pub short : error.len < error.required_len
+  pub missing : error.len + n ≡ error.required_len

@@ -1,4 +1,13 @@
-//! The walk through the stack of headers of a frame.
+//! The walk through the stack of link-layer headers of a frame: Ethernet II, VLAN tags, MACsec SecTags, Linux cooked
+//! capture v1 and ARP, each announced by the ether type of the one before it. No call allocates memory.
+//!
+//! [`Peel`] is an iterator over the headers with their payloads, and over the fault if there is one. [`summary`] gives
+//! what the whole walk comes to, [`snap`] what that of a frame cut short does, and [`write_back`] writes the headers
+//! that were found, and what is left behind them.
+//!
+//! Where a header names the length of its payload, as a MACsec SecTag may, or a frame check sequence stands at the end,
+//! the window of what is inside is closed: bytes that follow the frame would not belong to it. [`PeelFault::missing`]
+//! says how many bytes a header lacks in a window that is open.
 #![tactic(auto)]
 
 #[cfg(test)]
@@ -12,11 +21,13 @@ mod peel_unit;
 mod plain;
 mod rest_kind;
 mod start;
-mod summary;
+mod summarize;
 #[cfg(test)]
 mod test_frames;
 #[cfg(test)]
 mod tests;
+mod walk_summary;
+mod written_back;
 
 pub use peel::Peel;
 pub use peel_error::PeelError;
@@ -24,4 +35,6 @@ pub use peel_fault::PeelFault;
 pub use peel_unit::PeelUnit;
 pub use rest_kind::RestKind;
 pub use start::Start;
-pub use summary::Summary;
+pub use summarize::{snap, summary};
+pub use walk_summary::Summary;
+pub use written_back::write_back;

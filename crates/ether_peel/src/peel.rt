@@ -25,10 +25,33 @@ enum First {
 }
 
 /// A walk: the units of a frame, each in the payload of the one before it, and then the fault if there is one.
+///
+/// The units borrow the frame, and outlive the walk. A frame of `n` bytes has at most `n / 4` units.
+///
+/// ```
+/// let frame = [
+///     0xFF, 0xFF, 0xFF, 0xFF, 0xFF, 0xFF, 0x02, 0x00, 0x00, 0x00, 0x00, 0x01, 0x81, 0x00, // Ethernet II
+///     0xB1, 0x23, 0x08, 0x00, // VLAN
+///     0x45,
+/// ];
+/// let mut found = false;
+/// let mut peel = Peel::new(Start::Ethernet2, &frame);
+/// while let Some(Ok(unit)) = peel.next() {
+///     if let PeelUnit::Vlan(tag) = unit {
+///         found = true;
+///         assert_eq!(rt; tag.vlan_identifier().value(), 0x123);
+///     }
+/// }
+/// assert!(rt; found);
+/// assert_eq!(rt; peel.offset(), 18);
+/// assert_eq!(rt; peel.rest(), [0x45].as_slice());
+/// assert_eq!(rt; peel.kind(), RestKind::EtherType(EtherType::IPV4));
+/// ```
 #[derive(Debug, Drop)]
 pub struct Peel<'a> {
-    rest: &'a [u8],
-    offset: usize,
+    frame: &'a [u8],
+    start: usize,
+    end: usize,
     is_closed: bool,
     is_over: bool,
     first: First,
@@ -38,14 +61,14 @@ pub struct Peel<'a> {
 }
 
 impl<'a> Model for Peel<'a> {
-    ghost use Rattle.std.specs.Prelude.{◌+◌, ◌^◌, ◌<◌, length};
+    ghost use Rattle.std.specs.Prelude.{◌≤◌, length, slice_range};
     ghost use Rattle.ether_peel.specs.PeelState.{State, expected_of, Announces, IsShown};
 
     ghost Value = { State };
 
-    ghost view = { λ a. record { rest = a.rest.now; offset = a.offset; closed = a.is_closed; expected = expected_of a.first a.kind; over = a.is_over } };
+    ghost view = { λ a. record { rest = slice_range a.frame.now a.start a.end; offset = a.start; closed = a.is_closed; expected = expected_of a.first a.kind; over = a.is_over } };
 
-    ghost invariant = { λ a. (a.offset + length a.rest.now < 2 ^ 64) × Announces a.first a.announced.0 a.kind × IsShown a.first a.kind };
+    ghost invariant = { λ a. (a.start ≤ a.end) × (a.end ≤ length a.frame.now) × Announces a.first a.announced.0 a.kind × IsShown a.first a.kind };
 }
 
 impl<'a> Peel<'a> {
@@ -66,8 +89,9 @@ impl<'a> Peel<'a> {
             }
         };
         Peel {
-            rest: bytes,
-            offset: 0,
+            frame: bytes,
+            start: 0,
+            end: bytes.len(),
             is_closed: matches!(start, Start::Ethernet2Fcs),
             is_over: false,
             first,
@@ -81,7 +105,7 @@ impl<'a> Peel<'a> {
     pub fn rest(&self) -> &'a [u8]
         ensures { result.now ≡ self.now.rest }
     {
-        self.rest
+        &self.frame[self.start..self.end]
     }
 
     /// Where the window left to read starts, in bytes from the start of the frame.
@@ -90,7 +114,7 @@ impl<'a> Peel<'a> {
         ensures value { result ≡ self.now.offset }
         ensures fits { self.now.offset + length self.now.rest < 2 ^ 64 }
     {
-        self.offset
+        self.start
     }
 
     /// What the window left to read is announced as: after a fault, what was expected there.
@@ -159,7 +183,7 @@ impl<'a> Peel<'a> {
     {
         self.is_over = true;
         Some(Err(PeelFault {
-            offset: self.offset,
+            offset: self.start,
             error,
             closed: self.is_closed,
         }))
@@ -173,17 +197,17 @@ impl<'a> Peel<'a> {
         ensures gives { Gives self.old result self.new }
         ensures nearer { IfSome result (λ _. size (items_left self.new) < size (items_left self.old)) }
     {
-        match Ethernet2Slice::from_slice_without_fcs(self.rest) {
+        let bytes = &self.frame[self.start..self.end];
+        match Ethernet2Slice::from_slice_without_fcs(bytes) {
             Ok(slice) => {
                 let ether_type = slice.ether_type();
-                self.rest = slice.payload_slice();
-                self.offset += slice.header_len();
+                self.start += slice.header_len();
                 self.first = First::Read;
                 self.announced = ether_type;
                 self.kind = RestKind::EtherType(ether_type);
                 Some(Ok(PeelUnit::Ethernet2(slice)))
             }
-            Err(error) => self.fault(PeelError::Len(error.add_offset(self.offset))),
+            Err(error) => self.fault(PeelError::Len(error.add_offset(self.start))),
         }
     }
 
@@ -195,17 +219,18 @@ impl<'a> Peel<'a> {
         ensures gives { Gives self.old result self.new }
         ensures nearer { IfSome result (λ _. size (items_left self.new) < size (items_left self.old)) }
     {
-        match Ethernet2Slice::from_slice_with_crc32_fcs(self.rest) {
+        let bytes = &self.frame[self.start..self.end];
+        match Ethernet2Slice::from_slice_with_crc32_fcs(bytes) {
             Ok(slice) => {
                 let ether_type = slice.ether_type();
-                self.rest = slice.payload_slice();
-                self.offset += slice.header_len();
+                self.start += slice.header_len();
+                self.end = self.start + slice.payload_slice().len();
                 self.first = First::Read;
                 self.announced = ether_type;
                 self.kind = RestKind::EtherType(ether_type);
                 Some(Ok(PeelUnit::Ethernet2(slice)))
             }
-            Err(error) => self.fault(PeelError::Len(error.add_offset(self.offset))),
+            Err(error) => self.fault(PeelError::Len(error.add_offset(self.start))),
         }
     }
 
@@ -217,18 +242,18 @@ impl<'a> Peel<'a> {
         ensures gives { Gives self.old result self.new }
         ensures nearer { IfSome result (λ _. size (items_left self.new) < size (items_left self.old)) }
     {
-        match LinuxSllSlice::from_slice(self.rest) {
+        let bytes = &self.frame[self.start..self.end];
+        match LinuxSllSlice::from_slice(bytes) {
             Ok(slice) => {
                 let (announced, kind) = announced_in(&slice);
-                self.rest = slice.payload_slice();
-                self.offset += slice.header_len();
+                self.start += slice.header_len();
                 self.first = First::Read;
                 self.announced = announced;
                 self.kind = kind;
                 Some(Ok(PeelUnit::LinuxSll(slice)))
             }
             Err(err::linux_sll::HeaderSliceError::Len(error)) => {
-                self.fault(PeelError::Len(error.add_offset(self.offset)))
+                self.fault(PeelError::Len(error.add_offset(self.start)))
             }
             Err(err::linux_sll::HeaderSliceError::Content(error)) => {
                 self.fault(PeelError::LinuxSll(error))
@@ -244,17 +269,17 @@ impl<'a> Peel<'a> {
         ensures gives { Gives self.old result self.new }
         ensures nearer { IfSome result (λ _. size (items_left self.new) < size (items_left self.old)) }
     {
-        match SingleVlanSlice::from_slice(self.rest) {
+        let bytes = &self.frame[self.start..self.end];
+        match SingleVlanSlice::from_slice(bytes) {
             Ok(slice) => {
                 let ether_type = slice.ether_type();
-                self.rest = slice.payload_slice();
-                self.offset += slice.header_len();
+                self.start += slice.header_len();
                 self.first = First::Read;
                 self.announced = ether_type;
                 self.kind = RestKind::EtherType(ether_type);
                 Some(Ok(PeelUnit::Vlan(slice)))
             }
-            Err(error) => self.fault(PeelError::Len(error.add_offset(self.offset))),
+            Err(error) => self.fault(PeelError::Len(error.add_offset(self.start))),
         }
     }
 
@@ -266,11 +291,12 @@ impl<'a> Peel<'a> {
         ensures gives { Gives self.old result self.new }
         ensures nearer { IfSome result (λ _. size (items_left self.new) < size (items_left self.old)) }
     {
-        match MacsecSlice::from_slice(self.rest) {
+        let bytes = &self.frame[self.start..self.end];
+        match MacsecSlice::from_slice(bytes) {
             Ok(slice) => {
                 let (announced, kind) = announced_behind(slice.payload);
-                self.rest = payload_bytes(slice.payload);
-                self.offset += slice.header.header_len();
+                self.start += slice.header.header_len();
+                self.end = self.start + payload_bytes(slice.payload).len();
                 self.is_closed |= slice.header.expected_payload_len().is_some();
                 self.first = First::Read;
                 self.announced = announced;
@@ -278,7 +304,7 @@ impl<'a> Peel<'a> {
                 Some(Ok(PeelUnit::Macsec(slice)))
             }
             Err(err::macsec::HeaderSliceError::Len(error)) => {
-                self.fault(PeelError::Len(error.add_offset(self.offset)))
+                self.fault(PeelError::Len(error.add_offset(self.start)))
             }
             Err(err::macsec::HeaderSliceError::Content(error)) => {
                 self.fault(PeelError::Macsec(error))
@@ -294,18 +320,16 @@ impl<'a> Peel<'a> {
         ensures gives { Gives self.old result self.new }
         ensures nearer { IfSome result (λ _. size (items_left self.new) < size (items_left self.old)) }
     {
-        let bytes = self.rest;
+        let bytes = &self.frame[self.start..self.end];
         match ArpPacketSlice::from_slice(bytes) {
             Ok(slice) => {
-                let len = slice.slice().len();
-                self.rest = &bytes[len..];
-                self.offset += len;
+                self.start += slice.slice().len();
                 self.first = First::Read;
                 self.announced = EtherType(0);
                 self.kind = RestKind::AfterArp;
                 Some(Ok(PeelUnit::Arp(slice)))
             }
-            Err(error) => self.fault(PeelError::Len(error.add_offset(self.offset))),
+            Err(error) => self.fault(PeelError::Len(error.add_offset(self.start))),
         }
     }
 }
@@ -348,5 +372,30 @@ fn payload_bytes<'a>(payload: MacsecPayloadSlice<'a>) -> &'a [u8]
     match payload {
         MacsecPayloadSlice::Unmodified(payload) => payload.payload,
         MacsecPayloadSlice::Modified(payload) => payload,
+    }
+}
+
+#[cfg(test)]
+mod tests {
+    use super::*;
+
+    #[test]
+    fn the_example(rt: HostRuntime) {
+        let frame = [
+            0xFF, 0xFF, 0xFF, 0xFF, 0xFF, 0xFF, 0x02, 0x00, 0x00, 0x00, 0x00, 0x01, 0x81, 0x00,
+            0xB1, 0x23, 0x08, 0x00, 0x45,
+        ];
+        let mut found = false;
+        let mut peel = Peel::new(Start::Ethernet2, &frame);
+        while let Some(Ok(unit)) = peel.next() {
+            if let PeelUnit::Vlan(tag) = unit {
+                found = true;
+                assert_eq!(rt; tag.vlan_identifier().value(), 0x123);
+            }
+        }
+        assert!(rt; found);
+        assert_eq!(rt; peel.offset(), 18);
+        assert_eq!(rt; peel.rest(), [0x45].as_slice());
+        assert_eq!(rt; peel.kind(), RestKind::EtherType(EtherType::IPV4));
     }
 }

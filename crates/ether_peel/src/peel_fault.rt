@@ -1,5 +1,6 @@
 //! A unit that is refused, and where.
-ghost use Rattle.std.specs.Prelude.{Some};
+ghost use Rattle.std.specs.Prelude.{ℕ, Some, MatchOption};
+ghost use Rattle.ether_peel.specs.PeelFault.{Misses};
 ghost use Rattle.ether_peel.specs.Texts.{peel_fault_text};
 
 use crate::PeelError;
@@ -17,6 +18,22 @@ pub struct PeelFault {
     pub error: PeelError,
     /// Whether the unit's window is closed: bytes that follow the frame would not belong to the unit.
     pub closed: bool, // the last field, since a flag between the others slows down what is copied
+}
+
+impl PeelFault {
+    /// How many bytes the unit needs at least beyond those that are there.
+    ///
+    /// `None` if more bytes behind the frame would not help: the contents are refused, or the unit's window is closed.
+    pub fn missing(&self) -> Option<usize>
+        ensures { MatchOption result ((n : ℕ) → Misses self.now n → ⊥) (Misses self.now) }
+    {
+        match &self.error {
+            PeelError::Len(error) if !self.closed && error.required_len > error.len => {
+                Some(error.required_len - error.len)
+            }
+            _ => None,
+        }
+    }
 }
 
 impl fmt::Display for PeelFault {

@@ -1,9 +1,9 @@
 -- What the kit's hexadecimal text is in the formatter's digits.
-use Rattle.std.proofs.Common.{◌≡◌, ℕ, zero, suc, ◌+◌, ◌/◌, ◌%◌, ◌<◌, ◌==◌, ◌&&◌, Bool, true, false, List, [], ◌∷◌, slice_index, nat_lt, refl, inl, inr, arith}
-use Rattle.std.proofs.lemmas.Bool.{and_parts, cases_lt, eqb-true, ltb-true}
+use Rattle.std.proofs.Common.{◌≡◌, ℕ, zero, suc, ◌/◌, ◌%◌, ◌<◌, ◌==◌, ◌&&◌, Bool, true, false, List, [], ◌∷◌, slice_index, refl, inl, inr, arith}
+use Rattle.std.proofs.lemmas.Bool.{and_parts, cases_lt, eqb-true}
 use Rattle.std.specs.Fmt.{digit_glyph}
 use Rattle.hex.specs.Hex.{lower_digits, encode_with, encode_lower}
-use Rattle.ether_base.specs.Bytes.{IsBytes}
+use Rattle.etherparse.specs.Bytes.{IsBytes}
 use Rattle.ether_tool.specs.HexText.{hex_text}
 
 -- the test of one digit, which computes

@@ -1,13 +1,11 @@
-pub mod StackLemmas
-pub mod PeelLemmas
 pub mod DecimalLemmas
 pub mod HexTextLemmas
 pub mod KnownBytesLemmas
 pub mod OutputBufferLemmas
+pub mod ViewLinesLemmas
 pub mod WalkTextLemmas
 pub mod LinesLemmas
 pub mod FrameLemmas
-pub mod PlainLemmas
 pub mod LineLoopLemmas
 pub mod RunLemmas
 pub mod ModeLemmas

@@ -1,5 +1,5 @@
 -- What a run has read and written, one read after another.
-use Rattle.std.proofs.Common.{◌≡◌, ℕ, List, [], ◌++◌, Option, Some, None, unwrap_or, Result, Ok, Err, IfOk, IfErr, refl, sym, ◌∙◌, subst, append-nil}
+use Rattle.std.proofs.Common.{◌≡◌, ℕ, List, [], ◌++◌, Option, Some, None, unwrap_or, Result, Ok, Err, IfOk, IfErr, refl, sym, subst, append-nil}
 use Rattle.std.specs.Str.Lines.{lines}
 use Rattle.std.specs.Io.KnownBytes.{Consumes, IsAtEnd, Keeps}
 use Rattle.ether_tool.specs.OutputBuffer.{contents_of, WritesOut}

@@ -1,11 +1,3 @@
-pub mod Window
-pub mod Expectation
-pub mod Stack
-pub mod PeelState
-pub mod PeelStart
-pub mod Peel
-pub mod PeelRead
-pub mod Plain
 pub mod HexText
 pub mod Lines
 pub mod ViewLines

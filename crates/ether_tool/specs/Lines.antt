@@ -1,24 +1,25 @@
 -- The lines that a walk is printed as, each ended by a line feed.
 use Rattle.std.specs.Prelude.{ℕ, ◌-◌, List, [], ◌∷◌, ◌++◌, length, slice_range, codes, Option, Some, None, Bool, true, false}
 use Rattle.std.specs.Fmt.{decimal}
-use Rattle.ether_base.specs.declared.len_source.LenSource.{LenSource}
-use Rattle.ether_base.specs.declared.len_source.LenSource.TheVariants as sources
-use Rattle.ether_base.specs.Bytes.{spelled}
-use Rattle.ether_base.specs.Ethernet2.{Ethernet2Value}
-use Rattle.ether_base.specs.Vlan.{VlanValue}
-use Rattle.ether_base.specs.declared.linux_sll_protocol_type.LinuxSllProtocolType.TheVariants as protocols
-use Rattle.ether_base.specs.LinuxSll.{LinuxSllValue}
-use Rattle.ether_base.specs.Macsec.{SecTagValue, PayloadType}
-use Rattle.ether_base.specs.Macsec as payloads
-use Rattle.ether_base.specs.Arp.{ArpValue}
-use Rattle.ether_base.specs.Header.{Header}
-use Rattle.ether_base.specs.Header as headers
-use Rattle.ether_base.specs.Refusal.{Refusal, Length, UnsupportedPacketType, UnsupportedHardwareType, UnexpectedVersion, InvalidShortLen}
-use Rattle.ether_base.specs.NumberText.{hex_number}
+use Rattle.etherparse.specs.Types.LenSource.{LenSource}
+use Rattle.etherparse.specs.Types.LenSource.TheVariants as sources
+use Rattle.etherparse.specs.Bytes.{spelled}
+use Rattle.etherparse.specs.Ethernet2.{Ethernet2Value}
+use Rattle.etherparse.specs.Vlan.{VlanValue}
+use Rattle.etherparse.specs.Types.LinuxSllProtocolType.{LinuxSllProtocolType}
+use Rattle.etherparse.specs.Types.LinuxSllProtocolType.TheVariants as protocols
+use Rattle.etherparse.specs.LinuxSll.{LinuxSllValue}
+use Rattle.etherparse.specs.Macsec.{SecTagValue, PayloadType}
+use Rattle.etherparse.specs.Macsec as payloads
+use Rattle.etherparse.specs.Arp.{ArpValue}
+use Rattle.etherparse.specs.Header.{Header}
+use Rattle.etherparse.specs.Header as headers
+use Rattle.etherparse.specs.Refusal.{Refusal, Length, UnsupportedPacketType, UnsupportedHardwareType, UnexpectedVersion, InvalidShortLen}
+use Rattle.etherparse.specs.NumberText.{hex_number}
 use Rattle.ether_tool.specs.HexText.{hex_text}
-use Rattle.ether_tool.specs.Window.{Window, payload}
-use Rattle.ether_tool.specs.Expectation.{Expectation, Start, EtherType, Sll, Sealed, AfterArp}
-use Rattle.ether_tool.specs.Stack.{Ending, Accepted, Fault}
+use Rattle.ether_peel.specs.Window.{Window, payload}
+use Rattle.ether_peel.specs.Expectation.{Expectation, Start, EtherType, Sll, Sealed, AfterArp}
+use Rattle.ether_peel.specs.Stack.{Ending, Accepted, Fault}
 
 -- ---- words
 
@@ -68,10 +69,10 @@ vlan_text start v =
     spaced (codes "vlan" ∷ decimal start ∷ codes "pcp" ∷ decimal v.pcp ∷ codes "dei" ∷ decimal v.dei ∷ codes "vid" ∷ decimal v.vid ∷ hex_number v.ether_type ∷ [])
 
 -- with the length and the mark of the payload's window
-unfoldable pub macsec_text : ℕ → SecTagValue → Window → List ℕ
-macsec_text start t w =
+unfoldable pub macsec_text : ℕ → SecTagValue → (len : ℕ) → (closed : Bool) → List ℕ
+macsec_text start t len closed =
     spaced (codes "macsec" ∷ decimal start ∷ payload_type_text t.payload_type ∷ codes "es" ∷ decimal t.end_station ∷ codes "scb" ∷ decimal t.single_copy_broadcast ∷ codes "an" ∷ decimal t.association_number ∷ codes "sl" ∷ decimal t.short_len
-    ∷ codes "pn" ∷ decimal t.packet_number ∷ codes "sci" ∷ sci_text t.sci ∷ codes "window" ∷ decimal (w.finish - w.start) ∷ mark_text w.closed ∷ [])
+    ∷ codes "pn" ∷ decimal t.packet_number ∷ codes "sci" ∷ sci_text t.sci ∷ codes "window" ∷ decimal len ∷ mark_text closed ∷ [])
 
 unfoldable pub arp_text : ℕ → ArpValue → List ℕ
 arp_text start a =
@@ -83,20 +84,24 @@ unit_text list w (headers.Ethernet2 e) = ethernet2_text w.start e
 unit_text list w (headers.Ethernet2Fcs e) = ethernet2_fcs_text w.start e (slice_range list (w.finish - 4) w.finish)
 unit_text list w (headers.LinuxSll s) = linux_sll_text w.start s
 unit_text list w (headers.Vlan v) = vlan_text w.start v
-unit_text list w (headers.Macsec t) = macsec_text w.start t (payload w (headers.Macsec t))
+unit_text list w (headers.Macsec t) = let inner = payload w (headers.Macsec t) in macsec_text w.start t (inner.finish - inner.start) inner.closed
 unit_text list w (headers.Arp a) = arp_text w.start a
 
 -- ---- the ending
+
+-- the protocol of a cooked capture; the last two are announced as ether types, so that nothing is left under their names
+unfoldable pub protocol_text : LinuxSllProtocolType → List ℕ
+protocol_text (protocols.Ignored n) = codes "sll ignored " ++ hex_number n
+protocol_text (protocols.NetlinkProtocolType n) = codes "sll netlink " ++ hex_number n
+protocol_text (protocols.GenericRoutingEncapsulationProtocolType n) = codes "sll gre " ++ hex_number n
+protocol_text (protocols.EtherType t) = []
+protocol_text (protocols.LinuxNonstandardEtherType n) = []
 
 -- nothing is left expected of a start kind, which announces itself
 unfoldable pub kind_text : Expectation → List ℕ
 kind_text (Start kind) = []
 kind_text (EtherType t) = codes "type " ++ hex_number t
-kind_text (Sll (protocols.Ignored n)) = codes "sll ignored " ++ hex_number n
-kind_text (Sll (protocols.NetlinkProtocolType n)) = codes "sll netlink " ++ hex_number n
-kind_text (Sll (protocols.GenericRoutingEncapsulationProtocolType n)) = codes "sll gre " ++ hex_number n
-kind_text (Sll (protocols.EtherType t)) = codes "type " ++ hex_number t.0
-kind_text (Sll (protocols.LinuxNonstandardEtherType n)) = codes "type " ++ hex_number n
+kind_text (Sll protocol) = protocol_text protocol
 kind_text Sealed = codes "sealed"
 kind_text AfterArp = codes "after_arp"
 

@@ -4,39 +4,7 @@ ghost use Rattle.std.specs.Prelude.{◌≡◌, ◌↔◌, IsTrue};
 use crate::line_buffer::LineEnd;
 use crate::mode::{Mode, Usage};
 use crate::outcome::{Ending, LastLine, ToolFault, Verdict};
-use crate::peel::{PeelError, PeelFault, PeelUnit, RestKind, Start};
-use crate::plain::{PlainEnding, PlainHeader, PlainWindow};
 use std::alloc::AllocError;
-
-pub fn clone_of_start(value: &Start) -> Result<Start, AllocError>
-    ensures { result ≡ Ok value.now }
-{
-    value.clone()
-}
-
-pub fn clone_of_peel_unit<'a>(value: &PeelUnit<'a>) -> Result<PeelUnit<'a>, AllocError>
-    ensures { result ≡ Ok value.now }
-{
-    value.clone()
-}
-
-pub fn clone_of_rest_kind(value: &RestKind) -> Result<RestKind, AllocError>
-    ensures { result ≡ Ok value.now }
-{
-    value.clone()
-}
-
-pub fn clone_of_peel_error(value: &PeelError) -> Result<PeelError, AllocError>
-    ensures { result ≡ Ok value.now }
-{
-    value.clone()
-}
-
-pub fn clone_of_peel_fault(value: &PeelFault) -> Result<PeelFault, AllocError>
-    ensures { result ≡ Ok value.now }
-{
-    value.clone()
-}
 
 pub fn clone_of_verdict(value: &Verdict) -> Result<Verdict, AllocError>
     ensures { result ≡ Ok value.now }
@@ -62,36 +30,6 @@ pub fn clone_of_line_end(value: &LineEnd) -> Result<LineEnd, AllocError>
     value.clone()
 }
 
-pub fn clone_of_plain_header(value: &PlainHeader) -> Result<PlainHeader, AllocError>
-    ensures { result ≡ Ok value.now }
-{
-    value.clone()
-}
-
-pub fn clone_of_plain_window(value: &PlainWindow) -> Result<PlainWindow, AllocError>
-    ensures { result ≡ Ok value.now }
-{
-    value.clone()
-}
-
-pub fn clone_of_plain_ending(value: &PlainEnding) -> Result<PlainEnding, AllocError>
-    ensures { result ≡ Ok value.now }
-{
-    value.clone()
-}
-
-pub fn copy_of_start(value: Start) -> (Start, Start)
-    ensures { result ≡ (value, value) }
-{
-    (value, value)
-}
-
-pub fn copy_of_rest_kind(value: RestKind) -> (RestKind, RestKind)
-    ensures { result ≡ (value, value) }
-{
-    (value, value)
-}
-
 pub fn copy_of_verdict(value: Verdict) -> (Verdict, Verdict)
     ensures { result ≡ (value, value) }
 {
@@ -114,54 +52,6 @@ pub fn copy_of_line_end(value: LineEnd) -> (LineEnd, LineEnd)
     ensures { result ≡ (value, value) }
 {
     (value, value)
-}
-
-pub fn copy_of_plain_header(value: PlainHeader) -> (PlainHeader, PlainHeader)
-    ensures { result ≡ (value, value) }
-{
-    (value, value)
-}
-
-pub fn copy_of_plain_window(value: PlainWindow) -> (PlainWindow, PlainWindow)
-    ensures { result ≡ (value, value) }
-{
-    (value, value)
-}
-
-pub fn copy_of_plain_ending(value: PlainEnding) -> (PlainEnding, PlainEnding)
-    ensures { result ≡ (value, value) }
-{
-    (value, value)
-}
-
-pub fn same_start(a: &Start, b: &Start) -> bool
-    ensures { IsTrue result ↔ (a.now ≡ b.now) }
-{
-    *a == *b
-}
-
-pub fn same_peel_unit(a: &PeelUnit<'_>, b: &PeelUnit<'_>) -> bool
-    ensures { IsTrue result ↔ (a.now ≡ b.now) }
-{
-    *a == *b
-}
-
-pub fn same_rest_kind(a: &RestKind, b: &RestKind) -> bool
-    ensures { IsTrue result ↔ (a.now ≡ b.now) }
-{
-    *a == *b
-}
-
-pub fn same_peel_error(a: &PeelError, b: &PeelError) -> bool
-    ensures { IsTrue result ↔ (a.now ≡ b.now) }
-{
-    *a == *b
-}
-
-pub fn same_peel_fault(a: &PeelFault, b: &PeelFault) -> bool
-    ensures { IsTrue result ↔ ((a.now.offset ≡ b.now.offset) × (a.now.closed ≡ b.now.closed) × (a.now.error ≡ b.now.error)) }
-{
-    *a == *b
 }
 
 pub fn same_verdict(a: &Verdict, b: &Verdict) -> bool
@@ -189,18 +79,6 @@ pub fn same_usage(a: &Usage, b: &Usage) -> bool
 }
 
 pub fn same_line_end(a: &LineEnd, b: &LineEnd) -> bool
-    ensures { IsTrue result ↔ (a.now ≡ b.now) }
-{
-    *a == *b
-}
-
-pub fn same_plain_header(a: &PlainHeader, b: &PlainHeader) -> bool
-    ensures { IsTrue result ↔ (a.now ≡ b.now) }
-{
-    *a == *b
-}
-
-pub fn same_plain_window(a: &PlainWindow, b: &PlainWindow) -> bool
     ensures { IsTrue result ↔ (a.now ≡ b.now) }
 {
     *a == *b

@@ -1,26 +1,43 @@
-//! Addresses and types as hexadecimal text.
-ghost use Rattle.std.specs.Prelude.{◌≡◌, ◌<◌, length, true};
+//! Addresses, other bytes and types as hexadecimal text.
+ghost use Rattle.std.specs.Prelude.{◌≡◌, ◌<◌, ◌*◌, length, true};
 ghost use Rattle.std.specs.Fmt.{digit_glyph};
-ghost use Rattle.ether_base.specs.NumberText.{hex_number};
+ghost use Rattle.etherparse.specs.NumberText.{hex_number};
 ghost use Rattle.ether_tool.specs.HexText.{hex_text};
 
-use ether_base::EtherType;
+use etherparse::EtherType;
 
 /// The twelve digits of a MAC address, in lower case.
 #[inline(always)]
 pub fn hex_address(address: [u8; 6]) -> [u8; 12]
     ensures { result ≡ hex_text address }
 {
-    address_digits(&address)
+    digits_of(&address)
 }
 
+/// The eight digits of a frame check sequence, in lower case.
 #[inline(always)]
-fn address_digits(address: &[u8]) -> [u8; 12]
-    requires { length address.now ≡ 6 }
-    ensures { result ≡ hex_text address.now }
+pub fn hex_fcs(fcs: [u8; 4]) -> [u8; 8]
+    ensures { result ≡ hex_text fcs }
 {
-    let mut digits = [0; 12];
-    hex::encode_to_slice(address, &mut digits).unwrap();
+    digits_of(&fcs)
+}
+
+/// The sixteen digits of eight bytes, in lower case.
+#[inline(always)]
+pub fn hex_long(bytes: [u8; 8]) -> [u8; 16]
+    ensures { result ≡ hex_text bytes }
+{
+    digits_of(&bytes)
+}
+
+/// Two digits for each byte, in lower case.
+#[inline(always)]
+fn digits_of<const N: usize>(bytes: &[u8]) -> [u8; N]
+    requires { N ≡ 2 * length bytes.now }
+    ensures { result ≡ hex_text bytes.now }
+{
+    let mut digits = [0; N];
+    hex::encode_to_slice(bytes, &mut digits).unwrap();
     digits
 }
 

@@ -2,37 +2,48 @@
 //!
 //! Each is put into the output piece by piece: through the formatter it would take twice as long.
 ghost use Rattle.std.specs.Prelude.{◌≡◌, ◌++◌, ◌+◌, ◌≤◌, ◌<◌, codes, decimal, length, true, IfErr, OnOk, OnErr};
-ghost use Rattle.ether_base.specs.Ethernet2.{ethernet2_of};
-ghost use Rattle.ether_base.specs.Vlan.{vlan_of};
-ghost use Rattle.ether_tool.specs.Lines.{ethernet2_text, mark_text, source_text, vlan_text};
+ghost use Rattle.etherparse.specs.Ethernet2.{ethernet2_of, fcs_of};
+ghost use Rattle.etherparse.specs.Vlan.{vlan_of};
+ghost use Rattle.etherparse.specs.LinuxSll.{linux_sll_of};
+ghost use Rattle.etherparse.specs.Macsec.{payload_type_view, sec_tag_of, tag_bytes};
+ghost use Rattle.etherparse.specs.Arp.{arp_of};
+ghost use Rattle.ether_tool.specs.Lines.{arp_text, linux_sll_text, macsec_text, mark_text, payload_type_text, protocol_text, sci_text, source_text, vlan_text};
 ghost use Rattle.ether_tool.specs.OutputBuffer.{Takes};
-ghost use Rattle.ether_tool.specs.ViewLines.{error_view_text, fault_view_text, kind_view_text, len_view_text, rest_view_text, view_text};
+ghost use Rattle.ether_tool.specs.ViewLines.{error_view_text, ethernet2_view_text, fault_view_text, fcs_text, kind_view_text, len_view_text, linux_sll_view_text, macsec_view_text, rest_view_text, view_text};
 
-use crate::hex_text::{hex_address, hex_type};
+use crate::hex_text::{hex_address, hex_fcs, hex_long, hex_type};
 use crate::outcome::ToolFault;
 use crate::output_buffer::OutputBuffer;
-use crate::peel::{PeelError, PeelFault, PeelUnit, RestKind};
 use arrayvec::ArrayString;
-use ether_base::LenSource;
-use ether_base::err::LenError;
-use ether_tags::{Ethernet2Slice, SingleVlanSlice};
+use ether_peel::{PeelError, PeelFault, PeelUnit, RestKind};
+use etherparse::err::{self, LenError};
+use etherparse::{
+    ArpPacketSlice, EtherType, Ethernet2Slice, LenSource, LinuxSllProtocolType, LinuxSllSlice,
+    MacsecHeaderSlice, MacsecPType, SingleVlanSlice,
+};
 use std::fmt::Write as _;
 use std::io::Write;
 
-/// Puts the line of a unit that starts at a place of the frame.
+/// Puts the line of a unit that starts at a place of the frame. Behind the unit there is left a
+/// window of `len` bytes, which is closed or open.
 pub fn put_unit<W: Write>(
     out: &mut OutputBuffer<'_, W>,
     start: usize,
+    len: usize,
+    closed: bool,
     unit: &PeelUnit<'_>,
 ) -> Result<(), ToolFault>
     ensures same_writer { out.new.writer.ghost_name ≡ out.old.writer.ghost_name }
-    ensures ok { OnOk result (Takes W.contents out.old (view_text start unit.now ++ codes "\n") out.new) }
+    ensures ok { OnOk result (Takes W.contents out.old (view_text start len closed unit.now ++ codes "\n") out.new) }
     ensures fault { IfErr result (λ fault. fault ≡ ToolFault.Output) }
     ensures failed { OnErr result (out.new.has_failed ≡ true) }
 {
     match unit {
         PeelUnit::Ethernet2(slice) => put_ethernet2(out, start, slice)?,
+        PeelUnit::LinuxSll(slice) => put_linux_sll(out, start, slice)?,
         PeelUnit::Vlan(slice) => put_vlan(out, start, slice)?,
+        PeelUnit::Macsec(slice) => put_macsec(out, start, &slice.header, len, closed)?,
+        PeelUnit::Arp(slice) => put_arp(out, start, slice)?,
     }
     out.put(b"\n")
 }
@@ -45,7 +56,7 @@ fn put_ethernet2<W: Write>(
     slice: &Ethernet2Slice<'_>,
 ) -> Result<(), ToolFault>
     ensures same_writer { out.new.writer.ghost_name ≡ out.old.writer.ghost_name }
-    ensures ok { OnOk result (Takes W.contents out.old (ethernet2_text start (ethernet2_of slice.now.bytes)) out.new) }
+    ensures ok { OnOk result (Takes W.contents out.old (ethernet2_view_text start (ethernet2_of slice.now.bytes) (fcs_of slice.now)) out.new) }
     ensures fault { IfErr result (λ fault. fault ≡ ToolFault.Output) }
     ensures failed { OnErr result (out.new.has_failed ≡ true) }
 {
@@ -60,7 +71,65 @@ fn put_ethernet2<W: Write>(
     out.put(b" ")?;
     out.put(&source)?;
     out.put(b" ")?;
-    out.put(&ether_type)
+    out.put(&ether_type)?;
+    put_fcs(out, slice.fcs())
+}
+
+/// Puts what a frame check sequence adds to the text of an Ethernet II header.
+#[inline(always)]
+fn put_fcs<W: Write>(out: &mut OutputBuffer<'_, W>, fcs: Option<[u8; 4]>) -> Result<(), ToolFault>
+    ensures same_writer { out.new.writer.ghost_name ≡ out.old.writer.ghost_name }
+    ensures ok { OnOk result (Takes W.contents out.old (fcs_text fcs) out.new) }
+    ensures fault { IfErr result (λ fault. fault ≡ ToolFault.Output) }
+    ensures failed { OnErr result (out.new.has_failed ≡ true) }
+{
+    let Some(fcs) = fcs else {
+        return Ok(());
+    };
+    out.put(b" fcs ")?;
+    out.put(&hex_fcs(fcs))
+}
+
+/// Puts the text of a header of Linux cooked capture.
+fn put_linux_sll<W: Write>(
+    out: &mut OutputBuffer<'_, W>,
+    start: usize,
+    slice: &LinuxSllSlice<'_>,
+) -> Result<(), ToolFault>
+    ensures same_writer { out.new.writer.ghost_name ≡ out.old.writer.ghost_name }
+    ensures ok { OnOk result (Takes W.contents out.old (linux_sll_text start (linux_sll_of slice.now)) out.new) }
+    ensures fault { IfErr result (λ fault. fault ≡ ToolFault.Output) }
+    ensures failed { OnErr result (out.new.has_failed ≡ true) }
+{
+    let header = slice.header_slice();
+    put_number(out, b"linux_sll ", start)?;
+    put_number(out, b" packet ", usize::from(packet_type_of(header)))?;
+    put_number(out, b" hw ", usize::from(slice.arp_hardware_type().0))?;
+    put_number(
+        out,
+        b" alen ",
+        usize::from(slice.sender_address_valid_length()),
+    )?;
+    out.put(b" addr ")?;
+    out.put(&hex_long(slice.sender_address_full()))?;
+    out.put(b" ")?;
+    out.put(&hex_type(EtherType(protocol_of(header))))
+}
+
+/// The number of the packet type in the bytes of a header of Linux cooked capture.
+fn packet_type_of(header: &[u8]) -> u16
+    requires { 16 ≤ length header.now }
+    ensures { result ≡ (linux_sll_of header.now).packet_type }
+{
+    u16::from_be_bytes([header[0], header[1]])
+}
+
+/// The number of the protocol type in the bytes of a header of Linux cooked capture.
+fn protocol_of(header: &[u8]) -> u16
+    requires { 16 ≤ length header.now }
+    ensures { result ≡ (linux_sll_of header.now).protocol }
+{
+    u16::from_be_bytes([header[14], header[15]])
 }
 
 /// Puts the text of a VLAN tag.
@@ -86,6 +155,89 @@ fn put_vlan<W: Write>(
     put_decimal(out, usize::from(slice.vlan_identifier().value()))?;
     out.put(b" ")?;
     out.put(&ether_type)
+}
+
+/// Puts the text of a MACsec SecTag, and of the window behind it.
+fn put_macsec<W: Write>(
+    out: &mut OutputBuffer<'_, W>,
+    start: usize,
+    tag: &MacsecHeaderSlice<'_>,
+    len: usize,
+    closed: bool,
+) -> Result<(), ToolFault>
+    ensures same_writer { out.new.writer.ghost_name ≡ out.old.writer.ghost_name }
+    ensures ok { OnOk result (Takes W.contents out.old (macsec_text start (sec_tag_of (tag_bytes tag.now)) len closed) out.new) }
+    ensures fault { IfErr result (λ fault. fault ≡ ToolFault.Output) }
+    ensures failed { OnErr result (out.new.has_failed ≡ true) }
+{
+    put_number(out, b"macsec ", start)?;
+    out.put(b" ")?;
+    put_payload_type(out, tag.ptype())?;
+    put_number(out, b" es ", usize::from(tag.endstation_id()))?;
+    put_number(out, b" scb ", usize::from(tag.tci_scb()))?;
+    put_number(out, b" an ", usize::from(tag.an().value()))?;
+    put_number(out, b" sl ", usize::from(tag.short_len().value()))?;
+    put_number(out, b" pn ", tag.packet_nr() as usize)?;
+    out.put(b" sci ")?;
+    put_sci(out, tag.sci())?;
+    put_number(out, b" window ", len)?;
+    out.put(b" ")?;
+    out.put(mark_of(closed).as_bytes())
+}
+
+/// Puts the text of the payload type of a SecTag.
+#[tactic(auto, unfolding(crate::specs::Lines::payload_type_text))]
+fn put_payload_type<W: Write>(
+    out: &mut OutputBuffer<'_, W>,
+    ptype: MacsecPType,
+) -> Result<(), ToolFault>
+    ensures same_writer { out.new.writer.ghost_name ≡ out.old.writer.ghost_name }
+    ensures ok { OnOk result (Takes W.contents out.old (payload_type_text (payload_type_view ptype)) out.new) }
+    ensures fault { IfErr result (λ fault. fault ≡ ToolFault.Output) }
+    ensures failed { OnErr result (out.new.has_failed ≡ true) }
+{
+    match ptype {
+        MacsecPType::Unmodified(ether_type) => {
+            out.put(b"unmodified ")?;
+            out.put(&hex_type(ether_type))
+        }
+        MacsecPType::Modified => out.put(b"modified"),
+        MacsecPType::Encrypted => out.put(b"encrypted"),
+        MacsecPType::EncryptedUnmodified => out.put(b"encrypted_unmodified"),
+    }
+}
+
+/// Puts the digits of a secure channel identifier, or a hyphen where there is none.
+fn put_sci<W: Write>(out: &mut OutputBuffer<'_, W>, sci: Option<u64>) -> Result<(), ToolFault>
+    ensures same_writer { out.new.writer.ghost_name ≡ out.old.writer.ghost_name }
+    ensures ok { OnOk result (Takes W.contents out.old (sci_text sci) out.new) }
+    ensures fault { IfErr result (λ fault. fault ≡ ToolFault.Output) }
+    ensures failed { OnErr result (out.new.has_failed ≡ true) }
+{
+    match sci {
+        Some(sci) => out.put(&hex_long(sci.to_be_bytes())),
+        None => out.put(b"-"),
+    }
+}
+
+/// Puts the text of an ARP packet.
+fn put_arp<W: Write>(
+    out: &mut OutputBuffer<'_, W>,
+    start: usize,
+    slice: &ArpPacketSlice<'_>,
+) -> Result<(), ToolFault>
+    ensures same_writer { out.new.writer.ghost_name ≡ out.old.writer.ghost_name }
+    ensures ok { OnOk result (Takes W.contents out.old (arp_text start (arp_of slice.now)) out.new) }
+    ensures fault { IfErr result (λ fault. fault ≡ ToolFault.Output) }
+    ensures failed { OnErr result (out.new.has_failed ≡ true) }
+{
+    put_number(out, b"arp ", start)?;
+    put_number(out, b" hw ", usize::from(slice.hw_addr_type().0))?;
+    out.put(b" proto ")?;
+    out.put(&hex_type(slice.proto_addr_type()))?;
+    put_number(out, b" hlen ", usize::from(slice.hw_addr_size()))?;
+    put_number(out, b" plen ", usize::from(slice.proto_addr_size()))?;
+    put_number(out, b" op ", usize::from(slice.operation().0))
 }
 
 /// Puts the line of what is left of a frame that was accepted: from a start to an end, and what it
@@ -124,6 +276,38 @@ fn put_kind<W: Write>(out: &mut OutputBuffer<'_, W>, kind: RestKind) -> Result<(
             out.put(b" type ")?;
             out.put(&ether_type)
         }
+        RestKind::Sll(protocol) => put_protocol(out, protocol),
+        RestKind::Sealed => out.put(b" sealed"),
+        RestKind::AfterArp => out.put(b" after_arp"),
+    }
+}
+
+/// Puts a space, and the protocol of a cooked capture that has no ether type.
+#[tactic(auto, unfolding(crate::specs::Lines::protocol_text))]
+fn put_protocol<W: Write>(
+    out: &mut OutputBuffer<'_, W>,
+    protocol: LinuxSllProtocolType,
+) -> Result<(), ToolFault>
+    ensures same_writer { out.new.writer.ghost_name ≡ out.old.writer.ghost_name }
+    ensures ok { OnOk result (Takes W.contents out.old (codes " " ++ protocol_text protocol) out.new) }
+    ensures fault { IfErr result (λ fault. fault ≡ ToolFault.Output) }
+    ensures failed { OnErr result (out.new.has_failed ≡ true) }
+{
+    match protocol {
+        LinuxSllProtocolType::Ignored(number) => {
+            out.put(b" sll ignored ")?;
+            out.put(&hex_type(EtherType(number)))
+        }
+        LinuxSllProtocolType::NetlinkProtocolType(number) => {
+            out.put(b" sll netlink ")?;
+            out.put(&hex_type(EtherType(number)))
+        }
+        LinuxSllProtocolType::GenericRoutingEncapsulationProtocolType(number) => {
+            out.put(b" sll gre ")?;
+            out.put(&hex_type(EtherType(number)))
+        }
+        LinuxSllProtocolType::EtherType(_) | LinuxSllProtocolType::LinuxNonstandardEtherType(_) =>
+            out.put(b" "),
     }
 }
 
@@ -155,6 +339,8 @@ fn put_error<W: Write>(out: &mut OutputBuffer<'_, W>, error: &PeelError) -> Resu
 {
     match error {
         PeelError::Len(error) => put_len_error(out, error),
+        PeelError::LinuxSll(error) => put_linux_sll_error(out, error),
+        PeelError::Macsec(error) => put_macsec_error(out, error),
     }
 }
 
@@ -171,6 +357,64 @@ fn put_len_error<W: Write>(out: &mut OutputBuffer<'_, W>, error: &LenError) -> R
     put_decimal(out, error.len)?;
     out.put(b" ")?;
     out.put(source_of(error.len_source).as_bytes())
+}
+
+/// Puts the text of what is wrong in a header of Linux cooked capture.
+fn put_linux_sll_error<W: Write>(
+    out: &mut OutputBuffer<'_, W>,
+    error: &err::linux_sll::HeaderError,
+) -> Result<(), ToolFault>
+    ensures same_writer { out.new.writer.ghost_name ≡ out.old.writer.ghost_name }
+    ensures ok { OnOk result (Takes W.contents out.old (linux_sll_view_text error.now) out.new) }
+    ensures fault { IfErr result (λ fault. fault ≡ ToolFault.Output) }
+    ensures failed { OnErr result (out.new.has_failed ≡ true) }
+{
+    match error {
+        err::linux_sll::HeaderError::UnsupportedPacketTypeField { packet_type } => {
+            put_number(out, b"content sll_packet_type ", usize::from(*packet_type))
+        }
+        err::linux_sll::HeaderError::UnsupportedArpHardwareId { arp_hardware_type } => {
+            put_number(
+                out,
+                b"content sll_hardware_type ",
+                usize::from(arp_hardware_type.0),
+            )
+        }
+    }
+}
+
+/// Puts the text of what is wrong in a MACsec SecTag.
+fn put_macsec_error<W: Write>(
+    out: &mut OutputBuffer<'_, W>,
+    error: &err::macsec::HeaderError,
+) -> Result<(), ToolFault>
+    ensures same_writer { out.new.writer.ghost_name ≡ out.old.writer.ghost_name }
+    ensures ok { OnOk result (Takes W.contents out.old (macsec_view_text error.now) out.new) }
+    ensures fault { IfErr result (λ fault. fault ≡ ToolFault.Output) }
+    ensures failed { OnErr result (out.new.has_failed ≡ true) }
+{
+    match error {
+        err::macsec::HeaderError::UnexpectedVersion => out.put(b"content macsec_version"),
+        err::macsec::HeaderError::InvalidUnmodifiedShortLen => {
+            out.put(b"content macsec_short_len")
+        }
+    }
+}
+
+/// Puts a word with the spaces around it, and a number in decimal digits.
+fn put_number<W: Write>(
+    out: &mut OutputBuffer<'_, W>,
+    word: &[u8],
+    number: usize,
+) -> Result<(), ToolFault>
+    requires { length word.now ≤ 64 }
+    ensures same_writer { out.new.writer.ghost_name ≡ out.old.writer.ghost_name }
+    ensures ok { OnOk result (Takes W.contents out.old (word.now ++ decimal number) out.new) }
+    ensures fault { IfErr result (λ fault. fault ≡ ToolFault.Output) }
+    ensures failed { OnErr result (out.new.has_failed ≡ true) }
+{
+    out.put(word)?;
+    put_decimal(out, number)
 }
 
 /// Puts a number in decimal digits.

@@ -17,8 +17,6 @@ mod lines;
 pub mod mode;
 pub mod outcome;
 mod output_buffer;
-pub mod peel;
-pub mod plain;
 pub mod run;
 #[cfg(test)]
 mod test_frames;

@@ -117,4 +117,6 @@ fn read_lines<R: Read, W: Write>(
 }
 
 #[cfg(test)]
+mod format_tests;
+#[cfg(test)]
 mod tests;

@@ -2,13 +2,13 @@
 ghost use Rattle.std.specs.Prelude.{◌≡◌, ◌++◌, true, IfOk, IfErr, OnErr};
 ghost use Rattle.ether_tool.specs.OutputBuffer.{TakesWalk};
 ghost use Rattle.ether_tool.specs.WalkText.{start_of_mode};
-ghost use Rattle.ether_tool.specs.PeelStart.{start_of};
+ghost use Rattle.ether_peel.specs.PeelStart.{start_of};
 
 use crate::lines::{put_fault, put_rest, put_unit};
 use crate::mode::Mode;
 use crate::outcome::ToolFault;
 use crate::output_buffer::OutputBuffer;
-use crate::peel::{Peel, Start};
+use ether_peel::{Peel, Start};
 use std::io::Write;
 
 /// Puts the lines of a frame's walk, and returns whether the frame is accepted.
@@ -28,7 +28,9 @@ pub fn put_walk<W: Write>(
     loop {
         let start = peel.offset();
         match peel.next() {
-            Some(Ok(unit)) => put_unit(out, start, &unit)?,
+            Some(Ok(unit)) => {
+                put_unit(out, start, peel.rest().len(), peel.closed(), &unit)?;
+            }
             Some(Err(fault)) => {
                 put_fault(out, &fault)?;
                 return Ok(false);
@@ -49,5 +51,8 @@ fn start(mode: Mode) -> Start
 {
     match mode {
         Mode::Eth => Start::Ethernet2,
+        Mode::Fcs => Start::Ethernet2Fcs,
+        Mode::Sll => Start::LinuxSll,
+        Mode::EtherType(ether_type) => Start::EtherType(ether_type),
     }
 }

@@ -250,3 +250,116 @@ fn a_packet_is_shown_by_what_it_says(rt: HostRuntime) -> Result<(), Fail> {
     );
     Ok(())
 }
+
+#[test]
+fn protocol_addresses_grow_and_shrink(rt: HostRuntime) -> Result<(), Fail> {
+    let mut packet = request(
+        &[2, 0, 0, 0, 0, 1],
+        &[10, 0, 0, 1],
+        &[3, 4, 5, 6, 7, 8],
+        &[10, 0, 0, 2],
+    )?;
+    packet.set_protocol_addrs(&[11, 12, 13, 14, 15, 16, 17], &[21, 22, 23, 24, 25, 26, 27])?;
+    assert_eq!(rt;
+        packet.to_bytes().as_slice(),
+        [
+            0, 1, 8, 0, 6, 7, 0, 1, 2, 0, 0, 0, 0, 1, 11, 12, 13, 14, 15, 16, 17, 3, 4, 5, 6, 7, 8,
+            21, 22, 23, 24, 25, 26, 27,
+        ]
+        .as_slice()
+    );
+    packet.set_protocol_addrs(&[31], &[32])?;
+    assert_eq!(rt;
+        packet.to_bytes().as_slice(),
+        [
+            0, 1, 8, 0, 6, 1, 0, 1, 2, 0, 0, 0, 0, 1, 31, 3, 4, 5, 6, 7, 8, 32
+        ]
+        .as_slice()
+    );
+    packet.set_protocol_addrs(&[], &[])?;
+    assert_eq!(rt;
+        packet.to_bytes().as_slice(),
+        [0, 1, 8, 0, 6, 0, 0, 1, 2, 0, 0, 0, 0, 1, 3, 4, 5, 6, 7, 8].as_slice()
+    );
+    Ok(())
+}
+
+#[test]
+fn hardware_addresses_grow_and_shrink_by_one_byte(rt: HostRuntime) -> Result<(), Fail> {
+    let mut packet = request(&[1, 2], &[11, 12, 13], &[3, 4], &[14, 15, 16])?;
+    packet.set_hw_addrs(&[5, 6, 7], &[8, 9, 10])?;
+    assert_eq!(rt;
+        packet.to_bytes().as_slice(),
+        [
+            0, 1, 8, 0, 3, 3, 0, 1, 5, 6, 7, 11, 12, 13, 8, 9, 10, 14, 15, 16
+        ]
+        .as_slice()
+    );
+    packet.set_hw_addrs(&[1, 2], &[3, 4])?;
+    assert_eq!(rt;
+        packet.to_bytes().as_slice(),
+        [0, 1, 8, 0, 2, 3, 0, 1, 1, 2, 11, 12, 13, 3, 4, 14, 15, 16].as_slice()
+    );
+    Ok(())
+}
+
+/// A request whose four addresses repeat one byte each.
+fn of_sizes(hardware: u8, protocol: u8, bytes: [u8; 4]) -> Result<ArpPacket, ArpNewError> {
+    let (hardware, protocol) = (usize::from(hardware), usize::from(protocol));
+    request(
+        &[bytes[0]; 255][..hardware],
+        &[bytes[1]; 255][..protocol],
+        &[bytes[2]; 255][..hardware],
+        &[bytes[3]; 255][..protocol],
+    )
+}
+
+#[test]
+fn addresses_that_are_set_are_those_of_a_new_packet(rt: HostRuntime) -> Result<(), Fail> {
+    let sizes: [(u8, u8, u8); 11] = [
+        (0, 255, 255),
+        (255, 0, 255),
+        (255, 254, 255),
+        (254, 255, 1),
+        (255, 255, 255),
+        (6, 8, 4),
+        (8, 6, 4),
+        (20, 1, 16),
+        (1, 20, 16),
+        (3, 200, 0),
+        (200, 3, 0),
+    ];
+    for &(old, new, other) in &sizes {
+        let (old_len, new_len) = (usize::from(old), usize::from(new));
+        let mut packet = of_sizes(old, other, [1, 2, 3, 4])?;
+        packet.set_hw_addrs(&[5; 255][..new_len], &[6; 255][..new_len])?;
+        let made = of_sizes(new, other, [5, 2, 6, 4])?;
+        assert_eq!(rt; packet, made);
+        assert_eq!(rt; hash_of(&packet), hash_of(&made));
+        packet.set_protocol_addrs(&[7; 255][..old_len], &[8; 255][..old_len])?;
+        assert_eq!(rt; packet, of_sizes(new, old, [5, 7, 6, 8])?);
+    }
+    Ok(())
+}
+
+#[test]
+fn a_request_put_together_from_nothing(rt: HostRuntime) -> Result<(), Fail> {
+    let mut packet = request(&[], &[], &[], &[])?;
+    packet.set_protocol_addrs(&[10, 0, 0, 1], &[10, 0, 0, 2])?;
+    packet.set_hw_addrs(&[2, 0, 0, 0, 0, 1], &[0; 6])?;
+    assert_eq!(rt; packet.to_bytes().as_slice(), REQUEST.as_slice());
+    assert_eq!(rt; packet.clone()?, ArpPacket::from_slice(&REQUEST)?);
+    Ok(())
+}
+
+#[test]
+fn sizes_cut_the_same_bytes_differently(rt: HostRuntime) -> Result<(), Fail> {
+    let packet = request(&[1], &[2, 3], &[4], &[5, 6])?;
+    let other = request(&[1, 2], &[3], &[4, 5], &[6])?;
+    assert_ne!(rt; packet, other);
+    let mut cut = other.clone()?;
+    cut.set_hw_addrs(&[1], &[4])?;
+    cut.set_protocol_addrs(&[2, 3], &[5, 6])?;
+    assert_eq!(rt; cut, packet);
+    Ok(())
+}

@@ -1,5 +1,5 @@
 use Rattle.std.proofs.Common.{[], ◌∷◌}
-use Rattle.ether_base.specs.NumberText.{hex_number}
+use Rattle.etherparse.specs.NumberText.{hex_number}
 use Rattle.ether_tool.proofs.hex_text.hex_type.Goals as goal
 
 pub returns : goal.returns

@@ -1,4 +1,3 @@
-use Rattle.std.proofs.Common.{[], ◌∷◌, sym, ◌∙◌, arith}
 use Rattle.ether_tool.proofs.DecimalLemmas.{one_digit, two_digits, three_digits}
 use Rattle.ether_tool.proofs.OutputBufferLemmas.{Takes-same, OnOk-then}
 use Rattle.ether_tool.proofs.lines.put_decimal.Goals as goal

@@ -1,6 +1,6 @@
 use Rattle.std.proofs.Common.{ap, ◌∙◌}
 use Rattle.std.specs.Fmt.{decimal}
-use Rattle.ether_base.specs.NumberText.{hex_number}
+use Rattle.etherparse.specs.NumberText.{hex_number}
 use Rattle.ether_tool.specs.Lines.{vlan_text}
 use Rattle.ether_tool.proofs.OutputBufferLemmas.{Takes-then, Takes-same, OnOk-then}
 use Rattle.ether_tool.proofs.lines.put_vlan.Goals as goal

@@ -1,4 +1,4 @@
-use Rattle.std.proofs.Common.{◌≡◌, ℕ, List, [], ◌++◌, take, refl, ap, ◌∙◌, arith}
+use Rattle.std.proofs.Common.{ℕ, List, [], ◌++◌, take, refl, ap, ◌∙◌, arith}
 use Rattle.ether_tool.specs.OutputBuffer.{contents_of}
 use Rattle.ether_tool.proofs.KnownBytesLemmas.{Consumes-none, Consumes-then}
 use Rattle.ether_tool.proofs.LineLoopLemmas.{Reached-written_out, Reached-start}

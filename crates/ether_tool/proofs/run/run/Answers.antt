@@ -1,4 +1,4 @@
-use Rattle.std.proofs.Common.{◌≡◌, rules, ap, ◌∙◌, List, IfOk, IfErr, ℕ}
+use Rattle.std.proofs.Common.{rules, ap, ◌∙◌, List, IfOk, IfErr, ℕ}
 use Rattle.std.specs.Io.KnownBytes.{append_known}
 use Rattle.ether_tool.specs.Run.{AnswersInput, BreaksOff, OnBadLine, OnInput, StopsInput}
 use Rattle.ether_tool.proofs.KnownBytesLemmas.{append_known_nil}

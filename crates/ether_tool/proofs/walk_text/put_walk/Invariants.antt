@@ -1,7 +1,7 @@
 use Rattle.std.proofs.Common.{◌≡◌}
 use Rattle.std.specs.Iterator.{size}
 use Rattle.ether_tool.specs.WalkText.{start_of_mode}
-use Rattle.ether_tool.specs.Peel.{items_left}
+use Rattle.ether_peel.specs.Peel.{items_left}
 use Rattle.ether_tool.proofs.WalkTextLemmas.{PutsWalk}
 use Rattle.ether_tool.proofs.walk_text.put_walk.Given as goal
 

@@ -1,24 +1,24 @@
 use Rattle.std.proofs.Common.{◌≡◌, ◌+◌, false, refl, ap, subst, ◌∙◌}
-use Rattle.std.specs.Prelude.{Some, Ok}
-use Rattle.etherparse.specs.Ethernet2.{ethernet2_of, payload_of}
+use Rattle.std.specs.Prelude.{slice_range, Some, Ok}
+use Rattle.etherparse.specs.Ethernet2.{ethernet2_of}
 use Rattle.etherparse.specs.Header as headers
 use Rattle.etherparse.specs.Kind as kinds
 use Rattle.ether_peel.specs.PeelState.{State}
 use Rattle.ether_peel.specs.Expectation.{EtherType, announced}
 use Rattle.ether_peel.specs.Peel.{Gives}
 use Rattle.ether_peel.specs.declared.peel_unit.PeelUnit.TheVariants as units
-use Rattle.ether_peel.proofs.PeelLemmas.{shown, gives_unit, refused_len}
+use Rattle.ether_peel.proofs.PeelLemmas.{shown, gives_unit, plain_part, refused_len}
 use Rattle.ether_peel.proofs.peel.Peel.ethernet2.Goals as goal
 
 pub fault-requires : goal.fault-requires
-fault-requires c = refused_len c.args.self.now kinds.Ethernet2 c.self.inside.rest.now c.fault.inside.offset c.in-Err.error c.add_offset.result c.requires.going c.requires.announced (ap (λ (s : State). s.rest) c.self.view_is) (ap (λ (s : State). s.offset) c.fault.view_is) c.in-Err.ensures.refused c.add_offset.ensures
+fault-requires c = refused_len c.args.self.now kinds.Ethernet2 (slice_range c.self.inside.frame.now c.self.inside.start c.self.inside.end) c.fault.inside.start c.in-Err.error c.add_offset.result c.requires.going c.requires.announced (ap (λ (s : State). s.rest) c.self.view_is) (ap (λ (s : State). s.offset) c.fault.view_is) c.in-Err.ensures.refused c.add_offset.ensures
 
 pub returns-in-Ok-clause-gives : goal.returns-in-Ok-clause-gives
 returns-in-Ok-clause-gives c =
     let a = c.self.inside in
-    let bytes = a.rest.now in
+    let bytes = slice_range a.frame.now a.start a.end in
     let u = units.Ethernet2 c.in-Ok.slice in
-    let t : State = record { rest = c.payload_slice-self-inside.result.now; offset = a.offset + c.header_len.result; closed = a.is_closed; expected = EtherType c.ether_type-ether_type.result.0; over = a.is_over } in
+    let t : State = record { rest = slice_range a.frame.now (a.start + c.header_len.result) a.end; offset = a.start + c.header_len.result; closed = a.is_closed; expected = EtherType c.ether_type-ether_type.result.0; over = a.is_over } in
     let going : a.is_over ≡ false = ap (λ (s : State). s.over) c.self.view_is ∙ c.requires.going in
     let is = c.in-Ok.ensures.frame in
     subst (λ (s : State). Gives s (Some (Ok u)) t) c.self.view_is (gives_unit (shown a) t u (record {
@@ -28,8 +28,8 @@ returns-in-Ok-clause-gives c =
       accepted = c.in-Ok.ensures.accepted;
       means = c.in-Ok.ensures.value;
       shows = ap units.Ethernet2 is;
-      rest = c.payload_slice-self-inside.ensures ∙ ap payload_of is;
-      offset = ap (λ n. a.offset + n) c.header_len.ensures;
+      rest = plain_part a.frame.now a.start a.end 14 c.header_len.result a.is_closed c.self.invariant.0 c.self.invariant.1 c.in-Ok.ensures.value.whole c.header_len.ensures;
+      offset = ap (λ n. a.start + n) c.header_len.ensures;
       closed = refl;
       expected = ap EtherType (c.ether_type-ether_type.ensures ∙ ap (λ f. (ethernet2_of f.bytes).ether_type) is);
       over = going;

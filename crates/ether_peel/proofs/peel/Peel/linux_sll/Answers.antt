@@ -1,4 +1,4 @@
-use Rattle.std.proofs.Common.{◌≡◌, ◌+◌, ◌-◌, length, false, refl, ap, subst, ◌∙◌, arith}
+use Rattle.std.proofs.Common.{◌≡◌, ◌+◌, false, refl, ap, subst, ◌∙◌}
 use Rattle.std.specs.Prelude.{slice_range, Some, Ok}
 use Rattle.etherparse.specs.LinuxSll.{linux_sll_of, IsRefusedSll}
 use Rattle.etherparse.specs.Header as headers
@@ -7,28 +7,27 @@ use Rattle.ether_peel.specs.PeelState.{State, shown_of}
 use Rattle.ether_peel.specs.Expectation.{announced}
 use Rattle.ether_peel.specs.Peel.{Gives}
 use Rattle.ether_peel.specs.declared.peel_unit.PeelUnit.TheVariants as units
-use Rattle.ether_peel.proofs.PeelLemmas.{shown, gives_unit, refused_len, refused_linux_sll}
+use Rattle.ether_peel.proofs.PeelLemmas.{shown, gives_unit, plain_part, refused_len, refused_linux_sll}
 use Rattle.ether_peel.proofs.peel.Peel.linux_sll.Goals as goal
 
 pub fault-requires : goal.fault-requires
 fault-requires c =
-    let refused = subst (IsRefusedSll c.self.inside.rest.now) c.in-Err-Len.field-0-is c.in-Err-Len.ensures.refused in
-    refused_len c.args.self.now kinds.LinuxSll c.self.inside.rest.now c.fault.inside.offset c.in-Err-Len.error c.add_offset.result c.requires.going c.requires.announced (ap (λ (s : State). s.rest) c.self.view_is) (ap (λ (s : State). s.offset) c.fault.view_is) refused c.add_offset.ensures
+    let refused = subst (IsRefusedSll (slice_range c.self.inside.frame.now c.self.inside.start c.self.inside.end)) c.in-Err-Len.field-0-is c.in-Err-Len.ensures.refused in
+    refused_len c.args.self.now kinds.LinuxSll (slice_range c.self.inside.frame.now c.self.inside.start c.self.inside.end) c.fault.inside.start c.in-Err-Len.error c.add_offset.result c.requires.going c.requires.announced (ap (λ (s : State). s.rest) c.self.view_is) (ap (λ (s : State). s.offset) c.fault.view_is) refused c.add_offset.ensures
 
 pub fault-requires-in-Err-Content : goal.fault-requires-in-Err-Content
 fault-requires-in-Err-Content c =
-    let refused = subst (IsRefusedSll c.self.inside.rest.now) c.in-Err-Content.field-0-is c.in-Err-Content.ensures.refused in
-    refused_linux_sll c.args.self.now c.self.inside.rest.now c.in-Err-Content.error c.requires.going c.requires.announced (ap (λ (s : State). s.rest) c.self.view_is) refused
+    let refused = subst (IsRefusedSll (slice_range c.self.inside.frame.now c.self.inside.start c.self.inside.end)) c.in-Err-Content.field-0-is c.in-Err-Content.ensures.refused in
+    refused_linux_sll c.args.self.now (slice_range c.self.inside.frame.now c.self.inside.start c.self.inside.end) c.in-Err-Content.error c.requires.going c.requires.announced (ap (λ (s : State). s.rest) c.self.view_is) refused
 
 pub returns-in-Ok-clause-gives : goal.returns-in-Ok-clause-gives
 returns-in-Ok-clause-gives c =
     let a = c.self.inside in
-    let bytes = a.rest.now in
+    let bytes = slice_range a.frame.now a.start a.end in
     let u = units.LinuxSll c.in-Ok.slice in
-    let t : State = record { rest = c.payload_slice-self-inside.result.now; offset = a.offset + c.header_len.result; closed = a.is_closed; expected = shown_of c.announced_in-kind.result.1; over = a.is_over } in
+    let t : State = record { rest = slice_range a.frame.now (a.start + c.header_len.result) a.end; offset = a.start + c.header_len.result; closed = a.is_closed; expected = shown_of c.announced_in-kind.result.1; over = a.is_over } in
     let going : a.is_over ≡ false = ap (λ (s : State). s.over) c.self.view_is ∙ c.requires.going in
     let is = c.in-Ok.ensures.bytes in
-    let end : length bytes ≡ length bytes - 0 = omega arith in
     subst (λ (s : State). Gives s (Some (Ok u)) t) c.self.view_is (gives_unit (shown a) t u (record {
       going = going;
       header = headers.LinuxSll (linux_sll_of c.in-Ok.slice);
@@ -36,8 +35,8 @@ returns-in-Ok-clause-gives c =
       accepted = c.in-Ok.ensures.accepted;
       means = c.in-Ok.ensures.value;
       shows = ap units.LinuxSll is;
-      rest = c.payload_slice-self-inside.ensures ∙ ap (λ l. slice_range l 16 (length l)) is ∙ ap (slice_range bytes 16) end;
-      offset = ap (λ n. a.offset + n) c.header_len.ensures;
+      rest = plain_part a.frame.now a.start a.end 16 c.header_len.result a.is_closed c.self.invariant.0 c.self.invariant.1 c.in-Ok.ensures.value.whole c.header_len.ensures;
+      offset = ap (λ n. a.start + n) c.header_len.ensures;
       closed = refl;
       expected = c.announced_in-kind.ensures.expected;
       over = going;

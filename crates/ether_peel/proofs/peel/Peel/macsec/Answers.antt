@@ -1,6 +1,7 @@
-use Rattle.std.proofs.Common.{◌≡◌, ◌+◌, length, false, refl, sym, ap, subst, ◌∙◌, arith}
+use Rattle.std.proofs.Common.{slice_range, ◌≡◌, ◌+◌, length, false, refl, sym, ap, subst, ◌∙◌, arith}
 use Rattle.std.specs.Prelude.{Some, Ok, ◌||◌}
 use Rattle.etherparse.specs.Types.MacsecSlice.{MacsecSlice}
+use Rattle.etherparse.proofs.SubLists.{length-part}
 use Rattle.etherparse.specs.Macsec.{sec_tag_of, tag_bytes}
 use Rattle.etherparse.specs.Header as headers
 use Rattle.ether_peel.specs.PeelState.{State, shown_of}
@@ -10,31 +11,35 @@ use Rattle.ether_peel.specs.Window.{payload_closed}
 use Rattle.ether_peel.specs.Peel.{Gives, ShowsMacsec}
 use Rattle.ether_peel.specs.declared.peel_unit.PeelUnit.TheVariants as units
 use Rattle.ether_peel.proofs.PeelLemmas.{shown, gives_unit, nearer}
-use Rattle.ether_peel.proofs.UnitLemmas.{tag_read, marked}
+use Rattle.ether_peel.proofs.UnitLemmas.{tag_read, tag_payload_part, marked}
 use Rattle.ether_peel.proofs.peel.Peel.macsec.Goals as goal
 
 pub invariant_of-self : goal.invariant_of-self
 invariant_of-self c =
-    let bytes = c.self.inside.rest.now in
+    let a = c.self.inside in
+    let bytes = slice_range a.frame.now a.start a.end in
     let read = tag_read bytes c.in-Ok.slice c.header_len.result c.in-Ok.ensures.header c.in-Ok.ensures.payload c.header_len.ensures.tag c.in-Ok.ensures.value.whole in
-    let len = ap length c.payload_bytes-self-inside.ensures in
+    let len = ap length c.payload_bytes.ensures in
     let shorter = read.shorter in
-    let fits = c.self.invariant.0 in
+    let long = length-part a.frame.now a.start a.end c.self.invariant.1 in
+    let ordered = c.self.invariant.0 in
+    let inside = c.self.invariant.1 in
     let behind = c.announced_behind-kind.ensures in
-    (omega arith, ap announced behind.expected ∙ behind.announced, behind.shown ∙ ap kind_shown (sym behind.expected))
+    (omega arith, omega arith, ap announced behind.expected ∙ behind.announced, behind.shown ∙ ap kind_shown (sym behind.expected))
 
 pub returns-in-Ok-clause-gives : goal.returns-in-Ok-clause-gives
 returns-in-Ok-clause-gives c =
     let a = c.self.inside in
-    let bytes = a.rest.now in
+    let bytes = slice_range a.frame.now a.start a.end in
     let m : MacsecSlice = c.in-Ok.slice in
     let n = c.header_len.result in
     let tag = sec_tag_of (tag_bytes m.header) in
     let u = units.Macsec m in
-    let t : State = record { rest = c.payload_bytes-self-inside.result.now; offset = a.offset + n; closed = a.is_closed || c.is_some.result; expected = shown_of c.announced_behind-kind.result.1; over = a.is_over } in
+    let start = a.start + n in
+    let t : State = record { rest = slice_range a.frame.now start (start + length c.payload_bytes.result.now); offset = start; closed = a.is_closed || c.is_some.result; expected = shown_of c.announced_behind-kind.result.1; over = a.is_over } in
     let going : a.is_over ≡ false = ap (λ (s : State). s.over) c.self.view_is ∙ c.requires.going in
     let read = tag_read bytes m n c.in-Ok.ensures.header c.in-Ok.ensures.payload c.header_len.ensures.tag c.in-Ok.ensures.value.whole in
-    let payload = c.payload_bytes-self-inside.ensures in
+    let payload = tag_payload_part a.frame.now a.start a.end m n (length c.payload_bytes.result.now) tag c.self.invariant.0 c.self.invariant.1 c.in-Ok.ensures.accepted c.in-Ok.ensures.value read (ap length c.payload_bytes.ensures) in
     subst (λ (s : State). Gives s (Some (Ok u)) t) c.self.view_is (gives_unit (shown a) t u (record {
       going = going;
       header = headers.Macsec tag;
@@ -43,7 +48,7 @@ returns-in-Ok-clause-gives c =
       means = c.in-Ok.ensures.value;
       shows = (m, refl, subst (λ l. ShowsMacsec bytes l tag m) (sym payload) read.shows);
       rest = payload ∙ read.rest;
-      offset = ap (λ k. a.offset + k) read.len;
+      offset = ap (λ k. a.start + k) read.len;
       closed = ap (λ b. a.is_closed || b) c.is_some.ensures ∙ marked a.is_closed c.expected_payload_len.result ∙ ap (payload_closed a.is_closed) (c.expected_payload_len.ensures ∙ read.known);
       expected = c.announced_behind-kind.ensures.expected ∙ read.expected;
       over = going;
@@ -52,8 +57,14 @@ returns-in-Ok-clause-gives c =
 pub returns-in-Ok-clause-nearer : goal.returns-in-Ok-clause-nearer
 returns-in-Ok-clause-nearer c =
     let a = c.self.inside in
-    let bytes = a.rest.now in
-    let read = tag_read bytes c.in-Ok.slice c.header_len.result c.in-Ok.ensures.header c.in-Ok.ensures.payload c.header_len.ensures.tag c.in-Ok.ensures.value.whole in
-    let len = ap length c.payload_bytes-self-inside.ensures in
+    let bytes = slice_range a.frame.now a.start a.end in
+    let n = c.header_len.result in
+    let k = length c.payload_bytes.result.now in
+    let tag = sec_tag_of (tag_bytes c.in-Ok.slice.header) in
+    let read = tag_read bytes c.in-Ok.slice n c.in-Ok.ensures.header c.in-Ok.ensures.payload c.header_len.ensures.tag c.in-Ok.ensures.value.whole in
+    let payload = tag_payload_part a.frame.now a.start a.end c.in-Ok.slice n k tag c.self.invariant.0 c.self.invariant.1 c.in-Ok.ensures.accepted c.in-Ok.ensures.value read (ap length c.payload_bytes.ensures) in
+    let len = ap length payload in
+    let shorter = read.shorter in
+    let least = read.len in
     let going : a.is_over ≡ false = ap (λ (s : State). s.over) c.self.view_is ∙ c.requires.going in
-    nearer (shown a) c.args.self.now (shown (record a { rest = c.payload_bytes-self-inside.result })) c.self.view_is going (omega arith)
+    nearer (shown a) c.args.self.now (shown (record a { start = a.start + n; end = a.start + n + k })) c.self.view_is going (omega arith)

@@ -1,5 +1,4 @@
-use Rattle.std.proofs.Common.{◌≡◌, length, refl, sym, subst, arith, rules}
-use Rattle.etherparse.proofs.SubLists.{part_all}
+use Rattle.std.proofs.Common.{◌≡◌, refl, sym, subst, arith, rules}
 use Rattle.ether_peel.specs.Expectation.{Expectation}
 use Rattle.ether_peel.specs.Stack.{whole, Stack}
 use Rattle.ether_peel.specs.PeelStart.{start_of}
@@ -18,7 +17,7 @@ returns-clause-walk c =
       s.2,
       record {
         inside = record { ordered = omega arith; inside = omega arith };
-        rest = sym (part_all list (length list) (omega arith));
+        rest = refl;
         offset = refl;
         closed = search rules;
         stack = subst (λ (y : Expectation). Stack list y (whole x list) s.0 s.1) (sym is) s.2;

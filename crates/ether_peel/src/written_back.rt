@@ -1,0 +1,107 @@
+//! Headers written back before the rest.
+ghost use Rattle.std.specs.Prelude.{◌≡◌, ◌+◌, ◌≤◌, List, ◌++◌, length, take, drop, IfOk, IfErr};
+ghost use Rattle.etherparse.specs.Header.{Header};
+ghost use Rattle.ether_peel.specs.Stack.{Ending, last_window, Walk};
+ghost use Rattle.ether_peel.specs.PeelStart.{start_of};
+ghost use Rattle.ether_peel.specs.WriteBack.{unit_bytes, WritesBack, RefusesBack};
+
+use crate::{Peel, PeelUnit, Start, summary};
+use etherparse::err::{Layer, SliceWriteSpaceError};
+
+/// Writes the headers of a frame to the front of a target, each by its `to_bytes`, and behind them the bytes of the window
+/// that is left. Returns where that window ends, in bytes from the start of the frame.
+///
+/// The target then begins with the bytes of the frame up to there, but the two reserved bits of each MACsec SecTag are 0.
+/// Its further bytes stay as they were. What stands behind the window, as a frame check sequence does, is not written.
+/// After a fault the window is the one in which it came.
+///
+/// # Errors
+///
+/// The target ends before the window does, and stays as it was: `required_len` is where the window ends, `len` the
+/// target's length, `layer` is [`Layer::EtherPayload`] and `layer_start_offset` is 0.
+///
+/// ```
+/// let frame = [
+///     0x00, 0x46, 0x00, 0x00, 0x00, 0x01, 0x81, 0x00, // SecTag: names four bytes, has a reserved bit set
+///     0xAA, 0xBB, 0xCC, 0xDD, // VLAN
+///     0xEE, 0xEE,
+/// ];
+/// let mut target = [0; 13];
+/// let end = write_back(Start::EtherType(EtherType::MACSEC), &frame, &mut target)?;
+/// assert_eq!(rt; end, 12);
+/// assert_eq!(rt;
+///     target,
+///     [0x00, 0x06, 0x00, 0x00, 0x00, 0x01, 0x81, 0x00, 0xAA, 0xBB, 0xCC, 0xDD, 0x00]
+/// );
+/// ```
+pub fn write_back(
+    start: Start,
+    bytes: &[u8],
+    target: &mut [u8],
+) -> Result<usize, SliceWriteSpaceError>
+    ensures ok { IfOk result (λ end. WritesBack (start_of start) bytes.now end target.old target.new) }
+    ensures refused { IfErr result (RefusesBack (start_of start) bytes.now target.old) }
+    ensures kept { IfErr result (λ _. target.new ≡ target.old) }
+{
+    let required_len = rest_end(start, bytes);
+    let len = target.len();
+    if len < required_len {
+        return Err(SliceWriteSpaceError {
+            required_len,
+            len,
+            layer: Layer::EtherPayload,
+            layer_start_offset: 0,
+        });
+    }
+    Ok(put_walk(start, bytes, target))
+}
+
+/// Where the last window of a walk ends.
+fn rest_end(start: Start, bytes: &[u8]) -> usize
+    ensures { (hs : List Header) × (e : Ending) × Walk (start_of start) bytes.now hs e × (result ≡ (last_window e).finish) }
+{
+    summary(start, bytes).rest_end
+}
+
+/// Writes the headers of a walk and then its last window to the front of a target, and returns where that ends.
+fn put_walk(start: Start, bytes: &[u8], target: &mut [u8]) -> usize
+    requires { (hs : List Header) (e : Ending) → Walk (start_of start) bytes.now hs e → (last_window e).finish ≤ length target.old }
+    ensures { WritesBack (start_of start) bytes.now result target.old target.new }
+{
+    let mut walk = Peel::new(start, bytes);
+    let mut at = 0;
+    while let Some(Ok(unit)) = walk.next() {
+        put_header(target, at, &unit);
+        at = walk.offset();
+    }
+    let rest = walk.rest();
+    put_at(target, at, rest);
+    at + rest.len()
+}
+
+/// Writes the bytes of a unit's header.
+fn put_header(target: &mut [u8], at: usize, unit: &PeelUnit<'_>)
+    requires { at + length (unit_bytes unit.now) ≤ length target.old }
+    ensures { target.new ≡ take at target.old ++ unit_bytes unit.now ++ drop (at + length (unit_bytes unit.now)) target.old }
+{
+    match unit {
+        PeelUnit::Ethernet2(slice) => put_at(target, at, &slice.to_header().to_bytes()),
+        PeelUnit::LinuxSll(slice) => put_at(target, at, &slice.to_header().to_bytes()),
+        PeelUnit::Vlan(slice) => put_at(target, at, &slice.to_header().to_bytes()),
+        PeelUnit::Macsec(slice) => {
+            put_at(target, at, slice.header.to_header().to_bytes().as_slice())
+        }
+        PeelUnit::Arp(slice) => put_at(target, at, slice.slice()),
+    }
+}
+
+/// Replaces the bytes of a target from a place on.
+fn put_at(target: &mut [u8], at: usize, bytes: &[u8])
+    requires { at + length bytes.now ≤ length target.old }
+    ensures { target.new ≡ take at target.old ++ bytes.now ++ drop (at + length bytes.now) target.old }
+{
+    target[at..at + bytes.len()].copy_from_slice(bytes);
+}
+
+#[cfg(test)]
+mod tests;

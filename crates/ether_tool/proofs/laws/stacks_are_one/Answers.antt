@@ -1,5 +1,0 @@
-use Rattle.ether_tool.proofs.StackLemmas.{some_stack, one_stack}
-use Rattle.ether_tool.proofs.laws.stacks_are_one.Goals as goal
-
-pub returns : goal.returns
-returns c = record { some = some_stack; one = one_stack }
