@@ -1,10 +1,11 @@
-//! The walker and the plain walk, on the same frames: units with all their fields, windows, marks, and how they end.
+//! The walker, the summary and the plain walk, on the same frames: units with all their fields, windows, marks, and how
+//! they end.
 mod generated;
 
 use super::{behind, shown};
 use crate::plain::{PlainEnding, PlainExpected, PlainRefusal, walk};
 use crate::test_frames::{ARP_REQUEST, CHECKED, COOKED, NAMED, SEALED, SECOND_TAG_CUT, TAGGED};
-use crate::{Peel, PeelError, PeelFault, PeelUnit, RestKind, Start};
+use crate::{Peel, PeelError, PeelFault, PeelUnit, RestKind, Start, Summary, summary};
 use etherparse::err::{self, LenError};
 use etherparse::{ArpHardwareId, EtherType, LinuxSllProtocolType};
 use std::process::Abort;
@@ -105,6 +106,14 @@ fn compare<R: Abort + AllocGlobal>(rt: &R, start: Start, frame: &[u8]) -> Result
         kind_of(ending.expected),
         "{start:?} {frame:?}"
     );
+    let counted = Summary {
+        units: plain.headers.len(),
+        rest_start: window.start,
+        rest_end: window.end,
+        kind: kind_of(ending.expected),
+        fault: fault_of(ending),
+    };
+    assert_eq!(rt; summary(start, frame), counted, "{start:?} {frame:?}");
     Ok(())
 }
 
