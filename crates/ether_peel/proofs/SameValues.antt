@@ -22,7 +22,7 @@ use Rattle.std.specs.Prelude.{Option, Some, None}
 use Rattle.ether_peel.specs.contracts.peel_error.PeelErrorPartialEq.TheImpl as error
 use Rattle.ether_peel.specs.contracts.peel_fault.PeelFaultPartialEq.TheImpl as fault
 use Rattle.ether_peel.specs.contracts.rest_kind.RestKindPartialEq.TheImpl as kind
-use Rattle.ether_peel.specs.contracts.summary.SummaryPartialEq.TheImpl as summary
+use Rattle.ether_peel.specs.contracts.walk_summary.SummaryPartialEq.TheImpl as summary
 use Rattle.ether_peel.specs.declared.peel_error.PeelError.{PeelError}
 use Rattle.ether_peel.specs.declared.peel_error.PeelError.TheVariants as errors
 use Rattle.ether_peel.specs.declared.peel_fault.PeelFault.{PeelFault}

@@ -1,5 +1,7 @@
 //! Worked examples of walks, by the calls of `Peel`.
 mod bounds;
+mod captured;
+mod compared;
 mod refusals;
 mod texts;
 mod units;

@@ -1,0 +1,181 @@
+//! The walker, the summary and the plain walk, on the same frames: units with all their fields, windows, marks, and how
+//! they end.
+mod generated;
+
+use super::{behind, shown};
+use crate::plain::{PlainEnding, PlainExpected, PlainRefusal, walk};
+use crate::test_frames::{ARP_REQUEST, CHECKED, COOKED, NAMED, SEALED, SECOND_TAG_CUT, TAGGED};
+use crate::{Peel, PeelError, PeelFault, PeelUnit, RestKind, Start, Summary, summary};
+use etherparse::err::{self, LenError};
+use etherparse::{ArpHardwareId, EtherType, LinuxSllProtocolType};
+use std::process::Abort;
+use std::test::Fail;
+
+/// The bytes of the ether types that announce a unit, and a few others.
+const LETTERS: [u8; 9] = [0x00, 0x01, 0x08, 0x0C, 0x81, 0x88, 0xA8, 0xE5, 0x06];
+
+const STARTS: [Start; 9] = [
+    Start::Ethernet2,
+    Start::Ethernet2Fcs,
+    Start::LinuxSll,
+    Start::EtherType(EtherType(0x8100)),
+    Start::EtherType(EtherType(0x88A8)),
+    Start::EtherType(EtherType(0x9100)),
+    Start::EtherType(EtherType(0x88E5)),
+    Start::EtherType(EtherType(0x0806)),
+    Start::EtherType(EtherType(0x0800)),
+];
+
+#[test]
+fn all_short_lists(rt: HostRuntime) -> Result<(), Fail> {
+    for (len, count) in [(0, 1), (1, 9), (2, 81), (3, 729), (4, 6561)] {
+        for n in 0..count {
+            let list = [
+                LETTERS[n % 9],
+                LETTERS[n / 9 % 9],
+                LETTERS[n / 81 % 9],
+                LETTERS[n / 729 % 9],
+            ];
+            for start in STARTS {
+                compare(&rt, start, &list[..len])?;
+            }
+        }
+    }
+    Ok(())
+}
+
+#[test]
+fn all_beginnings_of_sec_tags_and_arp_packets(rt: HostRuntime) -> Result<(), Fail> {
+    for n in 0..6561 {
+        let (a, b) = (LETTERS[n % 9], LETTERS[n / 9 % 9]);
+        let (c, d) = (LETTERS[n / 81 % 9], LETTERS[n / 729 % 9]);
+        let sec_tag = [
+            a, b, 0, 0, 0, 1, c, d, 0x81, 0x00, 0x08, 0x06, 0, 7, c, d, 0, 0, 0, 0,
+        ];
+        compare(&rt, behind(0x88E5), &sec_tag)?;
+        compare(&rt, behind(0x88E5), &sec_tag[..11])?;
+        let arp = [
+            0, 1, 8, 0, a, b, c, d, 1, 2, 3, 4, 5, 6, 7, 8, 9, 10, 11, 12,
+        ];
+        compare(&rt, behind(0x0806), &arp)?;
+    }
+    Ok(())
+}
+
+#[test]
+fn every_front_of_the_made_frames(rt: HostRuntime) -> Result<(), Fail> {
+    let frames: [&[u8]; 7] = [
+        &TAGGED,
+        &SECOND_TAG_CUT,
+        &CHECKED,
+        &NAMED,
+        &SEALED,
+        &COOKED,
+        &ARP_REQUEST,
+    ];
+    for frame in frames {
+        for start in STARTS {
+            for end in 0..=frame.len() {
+                compare(&rt, start, &frame[..end])?;
+            }
+        }
+    }
+    Ok(())
+}
+
+/// Walks a frame both ways: the headers, the end or the fault, the window that is left and its announcement are the same.
+fn compare<R: Abort + AllocGlobal>(rt: &R, start: Start, frame: &[u8]) -> Result<(), Fail> {
+    let plain = walk(rt.alloc(), start, frame)?;
+    let mut peel = Peel::new(start, frame);
+    for header in &plain.headers {
+        let Some(Ok(unit)) = peel.next() else {
+            panic!(rt; "{header:?} in {start:?} {frame:?}");
+        };
+        assert_eq!(rt; shown(&unit), *header, "{start:?} {frame:?}");
+    }
+    let ending = plain.ending;
+    let window = ending.window;
+    assert_eq!(rt; peel.next(), last_item(ending), "{start:?} {frame:?}");
+    assert!(rt; peel.next().is_none(), "{start:?} {frame:?}");
+    let left = frame.get(window.start..window.end);
+    assert_eq!(rt; Some(peel.rest()), left, "{start:?} {frame:?}");
+    assert_eq!(rt; peel.offset(), window.start, "{start:?} {frame:?}");
+    assert_eq!(rt; peel.closed(), window.closed, "{start:?} {frame:?}");
+    assert_eq!(rt;
+        peel.kind(),
+        kind_of(ending.expected),
+        "{start:?} {frame:?}"
+    );
+    let counted = Summary {
+        units: plain.headers.len(),
+        rest_start: window.start,
+        rest_end: window.end,
+        kind: kind_of(ending.expected),
+        fault: fault_of(ending),
+    };
+    assert_eq!(rt; summary(start, frame), counted, "{start:?} {frame:?}");
+    Ok(())
+}
+
+/// What the walker shows of what is expected.
+fn kind_of(expected: PlainExpected) -> RestKind {
+    match expected {
+        PlainExpected::Ethernet2 | PlainExpected::Ethernet2Fcs | PlainExpected::LinuxSll => {
+            RestKind::Start
+        }
+        PlainExpected::EtherType(number) => RestKind::EtherType(EtherType(number)),
+        PlainExpected::Netlink(number) => {
+            RestKind::Sll(LinuxSllProtocolType::NetlinkProtocolType(number))
+        }
+        PlainExpected::Gre(number) => {
+            RestKind::Sll(LinuxSllProtocolType::GenericRoutingEncapsulationProtocolType(number))
+        }
+        PlainExpected::Ignored(number) => RestKind::Sll(LinuxSllProtocolType::Ignored(number)),
+        PlainExpected::Sealed => RestKind::Sealed,
+        PlainExpected::AfterArp => RestKind::AfterArp,
+    }
+}
+
+/// The walker's item behind the units: the fault, if there is one.
+fn last_item<'a>(ending: PlainEnding) -> Option<Result<PeelUnit<'a>, PeelFault>> {
+    let fault = fault_of(ending)?;
+    Some(Err(fault))
+}
+
+/// The walker's fault where the plain walk ends with one.
+fn fault_of(ending: PlainEnding) -> Option<PeelFault> {
+    let offset = ending.window.start;
+    let error = match ending.refusal? {
+        PlainRefusal::Length {
+            required,
+            len,
+            source,
+            layer,
+        } => PeelError::Len(LenError {
+            required_len: required,
+            len,
+            len_source: source,
+            layer,
+            layer_start_offset: offset,
+        }),
+        PlainRefusal::PacketType(packet_type) => {
+            PeelError::LinuxSll(err::linux_sll::HeaderError::UnsupportedPacketTypeField {
+                packet_type,
+            })
+        }
+        PlainRefusal::HardwareType(number) => {
+            PeelError::LinuxSll(err::linux_sll::HeaderError::UnsupportedArpHardwareId {
+                arp_hardware_type: ArpHardwareId(number),
+            })
+        }
+        PlainRefusal::Version => PeelError::Macsec(err::macsec::HeaderError::UnexpectedVersion),
+        PlainRefusal::ShortLen => {
+            PeelError::Macsec(err::macsec::HeaderError::InvalidUnmodifiedShortLen)
+        }
+    };
+    Some(PeelFault {
+        offset,
+        closed: ending.window.closed,
+        error,
+    })
+}
