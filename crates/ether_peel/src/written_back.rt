@@ -43,7 +43,7 @@ pub fn write_back(
     ensures refused { IfErr result (RefusesBack (start_of start) bytes.now target.old) }
     ensures kept { IfErr result (λ _. target.new ≡ target.old) }
 {
-    let required_len = rest_end(start, bytes);
+    let required_len = summary(start, bytes).rest_end;
     let len = target.len();
     if len < required_len {
         return Err(SliceWriteSpaceError {
@@ -56,25 +56,18 @@ pub fn write_back(
     Ok(put_walk(start, bytes, target))
 }
 
-/// Where the last window of a walk ends.
-fn rest_end(start: Start, bytes: &[u8]) -> usize
-    ensures { (hs : List Header) × (e : Ending) × Walk (start_of start) bytes.now hs e × (result ≡ (last_window e).finish) }
-{
-    summary(start, bytes).rest_end
-}
-
 /// Writes the headers of a walk and then its last window to the front of a target, and returns where that ends.
 fn put_walk(start: Start, bytes: &[u8], target: &mut [u8]) -> usize
     requires { (hs : List Header) (e : Ending) → Walk (start_of start) bytes.now hs e → (last_window e).finish ≤ length target.old }
     ensures { WritesBack (start_of start) bytes.now result target.old target.new }
 {
-    let mut walk = Peel::new(start, bytes);
+    let mut peel = Peel::new(start, bytes);
     let mut at = 0;
-    while let Some(Ok(unit)) = walk.next() {
+    while let Some(Ok(unit)) = peel.next() {
         put_header(target, at, &unit);
-        at = walk.offset();
+        at = peel.offset();
     }
-    let rest = walk.rest();
+    let rest = peel.rest();
     put_at(target, at, rest);
     at + rest.len()
 }
