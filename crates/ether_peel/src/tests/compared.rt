@@ -5,7 +5,7 @@ mod generated;
 use super::{behind, shown};
 use crate::plain::{PlainEnding, PlainExpected, PlainRefusal, walk};
 use crate::test_frames::{ARP_REQUEST, CHECKED, COOKED, NAMED, SEALED, SECOND_TAG_CUT, TAGGED};
-use crate::{Peel, PeelError, PeelFault, PeelUnit, RestKind, Start, Summary, summary};
+use crate::{Peel, PeelError, PeelFault, PeelUnit, RestKind, Start, Summary, summary, write_back};
 use etherparse::err::{self, LenError};
 use etherparse::{ArpHardwareId, EtherType, LinuxSllProtocolType};
 use std::process::Abort;
@@ -86,12 +86,18 @@ fn every_front_of_the_made_frames(rt: HostRuntime) -> Result<(), Fail> {
 /// Walks a frame both ways: the headers, the end or the fault, the window that is left and its announcement are the same.
 fn compare<R: Abort + AllocGlobal>(rt: &R, start: Start, frame: &[u8]) -> Result<(), Fail> {
     let plain = walk(rt.alloc(), start, frame)?;
+    let mut cleared = Vec::new(rt.alloc());
+    cleared.extend_from_slice(frame)?;
     let mut peel = Peel::new(start, frame);
     for header in &plain.headers {
+        let second = peel.offset().saturating_add(1);
         let Some(Ok(unit)) = peel.next() else {
             panic!(rt; "{header:?} in {start:?} {frame:?}");
         };
         assert_eq!(rt; shown(&unit), *header, "{start:?} {frame:?}");
+        if let (PeelUnit::Macsec(_), Some(byte)) = (&unit, cleared.get_mut(second)) {
+            *byte %= 64;
+        }
     }
     let ending = plain.ending;
     let window = ending.window;
@@ -114,6 +120,30 @@ fn compare<R: Abort + AllocGlobal>(rt: &R, start: Start, frame: &[u8]) -> Result
         fault: fault_of(ending),
     };
     assert_eq!(rt; summary(start, frame), counted, "{start:?} {frame:?}");
+    writes_back(rt, start, frame, cleared.get(..window.end))
+}
+
+/// The headers of a frame and what is left are written back as this list; what stands behind it in the target stays.
+fn writes_back<R: Abort + AllocGlobal>(
+    rt: &R,
+    start: Start,
+    frame: &[u8],
+    front: Option<&[u8]>,
+) -> Result<(), Fail> {
+    let mut target = Vec::new(rt.alloc());
+    target.extend_from_slice(frame)?;
+    target.push(0)?;
+    for byte in &mut target {
+        *byte = 0x5A;
+    }
+    let end = write_back(start, frame, &mut target).ok();
+    assert_eq!(rt; end, front.map(|front| front.len()), "{start:?} {frame:?}");
+    let (written, rest) = target.split_at(end.unwrap_or(0).min(target.len()));
+    assert_eq!(rt; Some(written), front, "{start:?} {frame:?}");
+    assert!(rt;
+        rest.iter().all(|byte| *byte == 0x5A),
+        "{start:?} {frame:?}"
+    );
     Ok(())
 }
 
