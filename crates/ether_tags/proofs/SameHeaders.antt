@@ -1,6 +1,5 @@
 -- Headers that are the same value of the wire format are the same.
-use Rattle.std.proofs.Common.{◌≡◌, ℕ, Bool, true, false, refl, ap, rules}
-use Rattle.ether_base.specs.declared.ether_type_impl.EtherType.{EtherType}
+use Rattle.std.proofs.Common.{◌≡◌, Bool, true, false, refl, ap}
 use Rattle.ether_base.specs.Bytes.{bit}
 use Rattle.ether_base.specs.Vlan.{VlanValue}
 use Rattle.ether_base.specs.Macsec.{SecTagValue}

@@ -1,11 +1,11 @@
 -- Derived equalities of values with many fields, as conjunctions of what each field's equality decides.
-use Rattle.std.proofs.Common.{rules, ◌≡◌, ◌==◌, ◌&&◌, Bool, true, refl, ℕ, sym, ap, ◌∙◌}
+use Rattle.std.proofs.Common.{rules, ◌≡◌, ◌==◌, ◌&&◌, Bool, true, ℕ, ap, ◌∙◌}
 use Rattle.std.proofs.lemmas.Bool.{and_parts}
 use Rattle.std.proofs.lemmas.Slice.Eq.{bytes_eq-Decides}
-use Rattle.std.specs.Bool.{beq, Decides}
+use Rattle.std.specs.Bool.{Decides}
 use Rattle.std.specs.Cmp.{unsigned_Decides, booleans_Decides}
 use Rattle.std.specs.Option.{option_eq}
-use Rattle.std.specs.Prelude.{Option, Some, None}
+use Rattle.std.specs.Prelude.{Option}
 use Rattle.ether_tags.specs.contracts.macsec_header.MacsecHeaderPartialEq.TheImpl as header
 use Rattle.ether_tags.specs.contracts.macsec_p_type.MacsecPTypePartialEq.TheImpl as ptype
 use Rattle.ether_tags.specs.contracts.link_ext_header.LinkExtHeaderPartialEq.TheImpl as ext_header

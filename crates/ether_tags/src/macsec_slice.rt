@@ -1,5 +1,5 @@
 //! A view of a MACsec SecTag and its payload.
-ghost use Rattle.std.specs.Prelude.{◌≡◌, ◌≤◌, IfOk, IfErr, IfSome, slice_range};
+ghost use Rattle.std.specs.Prelude.{◌≡◌, ◌≤◌, ◌<◌, IfOk, IfErr, IfSome, slice_range};
 ghost use Rattle.std.specs.Option.{option_map};
 ghost use Rattle.ether_base.specs.declared.header_slice_error.HeaderSliceError.TheVariants.{Len};
 ghost use Rattle.ether_base.specs.declared.len_source.LenSource.TheVariants as sources;
@@ -59,10 +59,7 @@ impl<'a> MacsecSlice<'a> {
         let header = MacsecHeaderSlice::from_slice(slice)?;
         let start = header.header_len();
         let known = header.expected_payload_len();
-        let end = end_of(known, start, slice.len());
-        if slice.len() < end {
-            return Err(cut_short(end, slice.len()));
-        }
+        let end = end_within(known, start, slice.len())?;
         let payload = payload_of(
             header.next_ether_type(),
             source_of(known),
@@ -102,16 +99,28 @@ fn cut_short(required_len: usize, len: usize) -> HeaderSliceError
     })
 }
 
-/// Where a payload ends that starts behind a tag: after its length where that is known, else with the slice.
-fn end_of(known: Option<usize>, start: usize, slice_len: usize) -> usize
+/// Where the payload behind a tag of `start` bytes ends: after its length if that is known, otherwise with the slice. An
+/// error if the slice ends before.
+fn end_within(
+    known: Option<usize>,
+    start: usize,
+    slice_len: usize,
+) -> Result<usize, HeaderSliceError>
     requires start { start ≤ 16 }
     requires known { IfSome known (λ len. len ≤ 63) }
-    ensures { result ≡ payload_end known start slice_len }
+    ensures end { IfOk result (λ end. end ≡ payload_end known start slice_len) }
+    ensures within { IfOk result (λ end. end ≤ slice_len) }
+    ensures refused { IfErr result (λ e. e ≡ Len (record { required_len = payload_end known start slice_len; len = slice_len; len_source = LenSource.MacsecShortLength; layer = Layer.MacsecPacket; layer_start_offset = 0 })) }
+    ensures cut { IfErr result (λ _. slice_len < payload_end known start slice_len) }
 {
-    match known {
-        Some(len) => start + len,
-        None => slice_len,
+    let Some(len) = known else {
+        return Ok(slice_len);
+    };
+    let end = start + len;
+    if slice_len < end {
+        return Err(cut_short(end, slice_len));
     }
+    Ok(end)
 }
 
 /// What named the length of a payload.

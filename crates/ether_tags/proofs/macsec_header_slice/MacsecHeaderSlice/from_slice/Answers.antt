@@ -1,10 +1,10 @@
 use Rattle.std.proofs.Common.{◌≡◌, ℕ, ◌∙◌, length, take, Bool, false, ap, sym, subst, refl, arith}
-use Rattle.std.specs.Prelude.{slice_range, IsTrue}
+use Rattle.std.specs.Prelude.{IsTrue}
 use Rattle.std.proofs.lemmas.List.{length-take}
-use Rattle.ether_base.specs.Bytes.{IsBytes, number}
+use Rattle.ether_base.specs.Bytes.{IsBytes}
 use Rattle.ether_base.specs.declared.len_source.LenSource.TheVariants as sources
 use Rattle.ether_base.specs.declared.err.layer.Layer.TheVariants as layers
-use Rattle.ether_base.specs.Macsec.{SecTagFront, sec_tag_front_at, sec_tag_front_in, sec_tag_len}
+use Rattle.ether_base.specs.Macsec.{SecTagFront, sec_tag_front_in, sec_tag_len}
 use Rattle.ether_base.specs.Refusal.{Length, UnexpectedVersion, InvalidShortLen, IsTooShort}
 use Rattle.ether_base.specs.Refusal as rows
 use Rattle.ether_base.proofs.Rows.{sec_tag_front_read, accepts_tag}

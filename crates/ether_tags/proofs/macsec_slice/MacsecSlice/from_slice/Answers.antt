@@ -1,4 +1,4 @@
-use Rattle.std.proofs.Common.{◌≡◌, ℕ, ◌∙◌, length, sym, ap, subst, refl, arith}
+use Rattle.std.proofs.Common.{◌≡◌, ℕ, ◌∙◌, length, sym, ap, subst, refl, arith, rules}
 use Rattle.std.specs.Prelude.{slice_range, Option}
 use Rattle.ether_base.specs.declared.len_source.LenSource.TheVariants as sources
 use Rattle.ether_base.specs.declared.err.layer.Layer.TheVariants as layers
@@ -11,35 +11,39 @@ use Rattle.ether_tags.specs.Macsec.{IsRefusedPacket, tag_bytes, payload_end, pay
 use Rattle.ether_tags.proofs.MacsecFields.{placed, packet_refused, packet_accepted, holds_same}
 use Rattle.ether_tags.proofs.macsec_slice.MacsecSlice.from_slice.Goals as goal
 
-pub returns-then-slice-end-clause-refused : goal.returns-then-slice-end-clause-refused
-returns-then-slice-end-clause-refused c =
+pub returns-in_err-end-clause-refused : goal.returns-in_err-end-clause-refused
+returns-in_err-end-clause-refused c =
     let bytes = c.args.slice.now in
     let ok : IsBytes bytes = λ i. omega (arith, c.type_inv.slice i) in
     let h = c.in_ok-header.ensures in
-    let p = placed bytes (tag_bytes c.in_ok-header.header) c.expected_payload_len-known.result c.header_len-start.result c.end_of-end.result h.bytes c.header_len-start.ensures.tag c.expected_payload_len-known.ensures c.end_of-end.ensures in
-    subst (IsRefusedPacket bytes) (sym c.cut_short.ensures) (record {
-      refusal = Length c.end_of-end.result (length bytes) sources.MacsecShortLength layers.MacsecPacket;
-      row = packet_refused bytes c.end_of-end.result c.expected_payload_len-known.result ok h.whole h.accepted (sym p.known_is) p.finish_is c.if-slice-end.true;
+    let e = c.in_err-end.ensures in
+    let known = c.expected_payload_len-known.result in
+    let finish = payload_end known c.header_len-start.result (length bytes) in
+    let p = placed bytes (tag_bytes c.in_ok-header.header) known c.header_len-start.result finish h.bytes c.header_len-start.ensures.tag c.expected_payload_len-known.ensures refl in
+    let told = subst (IsRefusedPacket bytes) (sym e.refused) (record {
+      refusal = Length finish (length bytes) sources.MacsecShortLength layers.MacsecPacket;
+      row = packet_refused bytes finish known ok h.whole h.accepted (sym p.known_is) p.finish_is e.cut;
       is = (refl, refl);
-    })
+    }) in
+    search (rules, told)
 
 pub returns-clause-accepted : goal.returns-clause-accepted
 returns-clause-accepted c =
     let bytes = c.args.slice.now in
     let ok : IsBytes bytes = λ i. omega (arith, c.type_inv.slice i) in
     let h = c.in_ok-header.ensures in
-    let p = placed bytes (tag_bytes c.in_ok-header.header) c.expected_payload_len-known.result c.header_len-start.result c.end_of-end.result h.bytes c.header_len-start.ensures.tag c.expected_payload_len-known.ensures c.end_of-end.ensures in
-    packet_accepted bytes c.end_of-end.result c.expected_payload_len-known.result ok h.whole h.accepted (sym p.known_is) p.finish_is c.if-slice-end.false
+    let p = placed bytes (tag_bytes c.in_ok-header.header) c.expected_payload_len-known.result c.header_len-start.result c.in_ok-end.end h.bytes c.header_len-start.ensures.tag c.expected_payload_len-known.ensures c.in_ok-end.ensures.end in
+    packet_accepted bytes c.in_ok-end.end c.expected_payload_len-known.result ok h.whole h.accepted (sym p.known_is) p.finish_is c.in_ok-end.ensures.within
 
 pub returns-clause-payload : goal.returns-clause-payload
 returns-clause-payload c =
     let bytes = c.args.slice.now in
     let ok : IsBytes bytes = λ i. omega (arith, c.type_inv.slice i) in
     let h = c.in_ok-header.ensures in
-    let p = placed bytes (tag_bytes c.in_ok-header.header) c.expected_payload_len-known.result c.header_len-start.result c.end_of-end.result h.bytes c.header_len-start.ensures.tag c.expected_payload_len-known.ensures c.end_of-end.ensures in
+    let p = placed bytes (tag_bytes c.in_ok-header.header) c.expected_payload_len-known.result c.header_len-start.result c.in_ok-end.end h.bytes c.header_len-start.ensures.tag c.expected_payload_len-known.ensures c.in_ok-end.ensures.end in
     let finish = p.finish_is ∙ ap (λ (o : Option ℕ). payload_end o (sec_tag_len (sec_tag_front_in bytes)) (length bytes)) p.known_is in
     let tag : sec_tag_of (tag_bytes c.in_ok-header.header) ≡ sec_tag_of bytes = tag_unique bytes (sec_tag_of (tag_bytes c.in_ok-header.header)) (sec_tag_of bytes) h.value (sec_tag_means bytes ok (omega (arith, h.whole)) h.whole) in
     let type = c.next_ether_type.ensures ∙ ap (λ (t : SecTagValue). readable_type t.payload_type) tag in
     let source = c.source_of.ensures ∙ ap payload_source p.known_is in
-    let window = ap (λ (n : ℕ). slice_range bytes n c.end_of-end.result) p.start_is ∙ ap (slice_range bytes (sec_tag_len (sec_tag_front_in bytes))) finish in
+    let window = ap (λ (n : ℕ). slice_range bytes n c.in_ok-end.end) p.start_is ∙ ap (slice_range bytes (sec_tag_len (sec_tag_front_in bytes))) finish in
     holds_same c.payload_of-payload.result _ _ _ _ _ _ type source window c.payload_of-payload.ensures
