@@ -1,5 +1,5 @@
-//! Captured frames and worked examples of a standard. The fields were read off the bytes by a script over Python's `struct`,
-//! and agree with what tshark prints of those frames that it was given.
+//! Captured frames and worked examples of a standard. The fields that the tests expect are those that tshark prints of each
+//! frame.
 use super::{content, ends, ether_type, gives, is_left, refuses, vlan};
 use crate::plain::PlainHeader;
 use crate::test_frames::{
