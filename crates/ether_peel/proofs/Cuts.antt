@@ -32,7 +32,7 @@ use Rattle.ether_peel.proofs.Extensions.{no_fcs_start, carries_whole, walk_open_
 
 -- ---- units and places
 
-reach_least : (at : ℕ) (hs later : List Header) (h : Header) → place at hs + unit_len h ≤ reach at (hs ++ h ∷ later)
+pub reach_least : (at : ℕ) (hs later : List Header) (h : Header) → place at hs + unit_len h ≤ reach at (hs ++ h ∷ later)
 reach_least at [] later h = omega arith
 reach_least at (g ∷ hs) later h = let r = reach_least (at + header_len g) hs later h in omega arith
 
@@ -64,21 +64,23 @@ required_within bound source bytes more _ required len layer _ _ m k free = absu
 -- ---- what a cut and the whole have in common
 
 -- the cut's headers lead on in the whole list, and what follows there makes up the whole's walk
-record Common (cut more : List ℕ) (hs : List Header) (e : Ending) (ks : List Header) (f : Ending) : Type 0 where
+pub record Common (cut more : List ℕ) (hs : List Header) (e : Ending) (ks : List Header) (f : Ending) : Type 0 where
   pub last : Window
+  pub start : last.start ≡ (last_window f).start
   pub carries : Carries cut (cut ++ more) more (last_window f) last
   pub rest : List Header
   pub headers : hs ≡ ks ++ rest
   pub follows : Stack (cut ++ more) (last_expected f) last rest e
 
-common : (start : Expectation) (cut more : List ℕ) (hs ks : List Header) (e f : Ending) → IsBytes (cut ++ more) → has_fcs start ≡ false → Walk start (cut ++ more) hs e → Walk start cut ks f → Common cut more hs e ks f
+pub common : (start : Expectation) (cut more : List ℕ) (hs ks : List Header) (e f : Ending) → IsBytes (cut ++ more) → has_fcs start ≡ false → Walk start (cut ++ more) hs e → Walk start cut ks f → Common cut more hs e ks f
 common start cut more hs ks e f ok h t s =
     let list = cut ++ more in
     let m = carry cut list more start (whole start cut) (whole start list) ks (last_expected f) (last_window f) (carries_whole start cut more h) (inr (no_fcs_start start h)) (leads cut start (whole start cut) ks f s).0 in
     let rest = some_stack list (last_expected f) m.last ok in
     let all = led list start (whole start list) ks rest.0 (last_expected f) m.last rest.1 m.leads rest.2 in
     let one = one_stack list start (whole start list) hs (ks ++ rest.0) e rest.1 t all in
-    record { last = m.last; carries = m.carries; rest = rest.0; headers = one.0; follows = subst (Stack list (last_expected f) m.last rest.0) (sym one.1) rest.2 }
+    let at = m.start in
+    record { last = m.last; start = omega arith; carries = m.carries; rest = rest.0; headers = one.0; follows = subst (Stack list (last_expected f) m.last rest.0) (sym one.1) rest.2 }
 
 -- ---- a cut of an accepted list
 

@@ -102,7 +102,7 @@ pub short_refused : (list more : List ℕ) (e : Ending) (r : Refusal) → refusa
 short_refused list more (Accepted v y) r k below = tt
 short_refused list more (Fault v y q) r k below = let e : r ≡ q = cc in subst (IsBelow (length (within list v) + length (beyond v.closed more))) e below
 
-refusal_below : (list : List ℕ) (e : Ending) (r : Refusal) → Stack list (last_expected e) (last_window e) [] e → refusal_of e ≡ Some r → IsBelow (length (within list (last_window e))) r
+pub refusal_below : (list : List ℕ) (e : Ending) (r : Refusal) → Stack list (last_expected e) (last_window e) [] e → refusal_of e ≡ Some r → IsBelow (length (within list (last_window e))) r
 refusal_below list (Accepted v y) r s k = absurd cc
 refusal_below list (Fault v y q) r s k = let e : q ≡ r = cc in subst (IsBelow (length (within list v))) e (refused_below (bound_of v) (within list v) s.2 q s.4)
 

@@ -9,6 +9,9 @@ pub mod HeaderBytes
 pub mod WriteBack
 pub mod Extensions
 pub mod Cuts
+pub mod Demands
+pub mod UnitCaps
+pub mod FeedingLemmas
 pub mod WorkedExamples
 pub mod WalkedLemmas
 pub mod WriteBackLemmas

@@ -49,7 +49,7 @@ means_longer bytes more h m = record {
 -- ---- rows
 
 -- a tag that names its payload's length is not too short
-known_long : (t : SecTagFront) (p : ℕ) → known_payload_len t ≡ Some p → IsTooShort t → ⊥
+pub known_long : (t : SecTagFront) (p : ℕ) → known_payload_len t ≡ Some p → IsTooShort t → ⊥
 known_long t p e s = let f : None ≡ Some p = sym (too_short_unknown t s) ∙ e in absurd cc
 
 -- what is accepted stays accepted

@@ -1,4 +1,4 @@
--- Derived equalities of units, faults and summaries, as conjunctions of what each field's equality decides.
+-- Derived equalities of units, faults, summaries and feeds, as conjunctions of what each field's equality decides.
 use Rattle.std.proofs.Common.{rules, ◌≡◌, ◌==◌, ◌&&◌, Bool, true, ap, ◌∙◌}
 use Rattle.std.specs.Bool.{Decides}
 use Rattle.std.specs.Cmp.{unsigned_Decides, booleans_Decides}
@@ -21,11 +21,13 @@ use Rattle.std.specs.Option.{option_eq}
 use Rattle.std.specs.Prelude.{Option, Some, None}
 use Rattle.ether_peel.specs.contracts.peel_error.PeelErrorPartialEq.TheImpl as error
 use Rattle.ether_peel.specs.contracts.peel_fault.PeelFaultPartialEq.TheImpl as fault
+use Rattle.ether_peel.specs.contracts.walk_feed.FeedPartialEq.TheImpl as feed
 use Rattle.ether_peel.specs.contracts.rest_kind.RestKindPartialEq.TheImpl as kind
 use Rattle.ether_peel.specs.contracts.walk_summary.SummaryPartialEq.TheImpl as summary
 use Rattle.ether_peel.specs.declared.peel_error.PeelError.{PeelError}
 use Rattle.ether_peel.specs.declared.peel_error.PeelError.TheVariants as errors
 use Rattle.ether_peel.specs.declared.peel_fault.PeelFault.{PeelFault}
+use Rattle.ether_peel.specs.declared.walk_feed.Feed.{Feed}
 use Rattle.ether_peel.specs.declared.rest_kind.RestKind.{RestKind}
 use Rattle.ether_peel.specs.declared.walk_summary.Summary.{Summary}
 use Rattle.etherparse.specs.Types.EtherType.{EtherType}
@@ -105,4 +107,12 @@ summaries_Decides a b =
     let all = both _ _ (unsigned_Decides a.units b.units) rest_start in (
       λ same. let e = all.0 same in λ i. record { units = e.0 i; rest_start = e.1.0 i; rest_end = e.1.1.0 i; kind = e.1.1.1.0 i; fault = e.1.1.1.1 i },
       λ e. all.1 (ap (λ (s : Summary). s.units) e, (ap (λ (s : Summary). s.rest_start) e, (ap (λ (s : Summary). s.rest_end) e, (ap (λ (s : Summary). s.kind) e, ap (λ (s : Summary). s.fault) e)))),
+    )
+
+pub feeds_Decides : (a b : Feed) → Decides ((feed.ghosts).eq a b) (a ≡ b)
+feeds_Decides a b =
+    let taken = both _ _ (unsigned_Decides a.taken b.taken) (found_Decides a.fault b.fault) in
+    let all = both _ _ (unsigned_Decides a.refusals b.refusals) taken in (
+      λ same. let e = all.0 same in λ i. record { refusals = e.0 i; taken = e.1.0 i; fault = e.1.1 i },
+      λ e. all.1 (ap (λ (f : Feed). f.refusals) e, (ap (λ (f : Feed). f.taken) e, ap (λ (f : Feed). f.fault) e)),
     )

@@ -15,3 +15,4 @@ pub mod Endings
 pub mod Cuts
 pub mod Extensions
 pub mod Summary
+pub mod Feeding

@@ -29,3 +29,10 @@ pub record Misses (f : PeelFault) (n : ℕ) : Type 0 where
   pub of_length : f.error ≡ errors.Len error
   pub short : error.len < error.required_len
   pub missing : error.len + n ≡ error.required_len
+
+-- it names this length of the list, at least: of a length, in an open window
+pub record Names (f : PeelFault) (m : ℕ) : Type 0 where
+  pub is_open : f.closed ≡ false
+  pub error : LenError
+  pub of_length : f.error ≡ errors.Len error
+  pub names : f.offset + error.required_len ≡ m

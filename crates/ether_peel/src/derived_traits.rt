@@ -2,7 +2,7 @@
 ghost use Rattle.std.specs.Prelude.{◌≡◌, ◌↔◌, IsTrue, Ok};
 ghost use Rattle.ether_peel.specs.SameUnit.{SameUnit};
 
-use crate::{PeelError, PeelFault, PeelUnit, RestKind, Start, Summary};
+use crate::{Feed, PeelError, PeelFault, PeelUnit, RestKind, Start, Summary};
 use std::alloc::AllocError;
 
 pub fn clone_of_start(value: &Start) -> Result<Start, AllocError>
@@ -36,6 +36,12 @@ pub fn clone_of_peel_fault(value: &PeelFault) -> Result<PeelFault, AllocError>
 }
 
 pub fn clone_of_summary(value: &Summary) -> Result<Summary, AllocError>
+    ensures { result ≡ Ok value.now }
+{
+    value.clone()
+}
+
+pub fn clone_of_feed(value: &Feed) -> Result<Feed, AllocError>
     ensures { result ≡ Ok value.now }
 {
     value.clone()
@@ -79,6 +85,12 @@ pub fn same_peel_fault(a: &PeelFault, b: &PeelFault) -> bool
 }
 
 pub fn same_summary(a: &Summary, b: &Summary) -> bool
+    ensures { IsTrue result ↔ (a.now ≡ b.now) }
+{
+    *a == *b
+}
+
+pub fn same_feed(a: &Feed, b: &Feed) -> bool
     ensures { IsTrue result ↔ (a.now ≡ b.now) }
 {
     *a == *b

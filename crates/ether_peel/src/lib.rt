@@ -12,6 +12,7 @@
 
 #[cfg(test)]
 mod derived_traits;
+mod feeding;
 pub mod laws;
 mod peel;
 mod peel_error;
@@ -26,9 +27,11 @@ mod summarize;
 mod test_frames;
 #[cfg(test)]
 mod tests;
+mod walk_feed;
 mod walk_summary;
 mod written_back;
 
+pub use feeding::feed;
 pub use peel::Peel;
 pub use peel_error::PeelError;
 pub use peel_fault::PeelFault;
@@ -36,5 +39,6 @@ pub use peel_unit::PeelUnit;
 pub use rest_kind::RestKind;
 pub use start::Start;
 pub use summarize::{snap, summary};
+pub use walk_feed::Feed;
 pub use walk_summary::Summary;
 pub use written_back::write_back;

@@ -167,12 +167,23 @@ impl<'a> Iterator for Peel<'a> {
 
 /// The steps of a walk that is not over, one for each kind of unit that can be announced.
 impl<'a> Peel<'a> {
-    ghost use Rattle.std.specs.Prelude.{IfSome};
+    ghost use Rattle.std.specs.Prelude.{◌≤◌, IfSome, slice_range};
     ghost use Rattle.std.specs.Iterator.{size};
     ghost use Rattle.etherparse.specs.Kind as kinds;
     ghost use Rattle.ether_peel.specs.Expectation.{announced};
     ghost use Rattle.ether_peel.specs.Peel.{Gives, items_left};
     ghost use Rattle.ether_peel.specs.PeelRead.{IsRefusedBy};
+
+    /// Goes on after the fault, in a longer front of the frame.
+    #[inline(always)]
+    pub(crate) fn go_on(&mut self, bytes: &'a [u8])
+        requires { self.old.offset ≤ length bytes.now }
+        ensures { self.new ≡ record self.old { rest = slice_range bytes.now self.old.offset (length bytes.now); over = false } }
+    {
+        self.frame = bytes;
+        self.end = bytes.len();
+        self.is_over = false;
+    }
 
     /// Ends the walk at the unit that is announced.
     #[inline(always)]

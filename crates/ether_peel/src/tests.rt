@@ -2,6 +2,7 @@
 mod bounds;
 mod captured;
 mod compared;
+mod feeding;
 mod refusals;
 mod texts;
 mod units;

@@ -5,7 +5,10 @@ mod generated;
 use super::{behind, shown};
 use crate::plain::{PlainEnding, PlainExpected, PlainRefusal, walk};
 use crate::test_frames::{ARP_REQUEST, CHECKED, COOKED, NAMED, SEALED, SECOND_TAG_CUT, TAGGED};
-use crate::{Peel, PeelError, PeelFault, PeelUnit, RestKind, Start, Summary, summary, write_back};
+use crate::{
+    Feed, Peel, PeelError, PeelFault, PeelUnit, RestKind, Start, Summary, feed, snap, summary,
+    write_back,
+};
 use etherparse::err::{self, LenError};
 use etherparse::{ArpHardwareId, EtherType, LinuxSllProtocolType};
 use std::process::Abort;
@@ -120,6 +123,11 @@ fn compare<R: Abort + AllocGlobal>(rt: &R, start: Start, frame: &[u8]) -> Result
         fault: fault_of(ending),
     };
     assert_eq!(rt; summary(start, frame), counted, "{start:?} {frame:?}");
+    assert_eq!(rt;
+        feed(start, frame),
+        fed_by_fronts(start, frame),
+        "{start:?} {frame:?}"
+    );
     writes_back(rt, start, frame, cleared.get(..window.end))
 }
 
@@ -145,6 +153,36 @@ fn writes_back<R: Abort + AllocGlobal>(
         "{start:?} {frame:?}"
     );
     Ok(())
+}
+
+/// What is asked for, by the walk of each front: the length of a front is asked for if the front that is one byte shorter ends in
+/// an open refusal that names it.
+fn fed_by_fronts(start: Start, frame: &[u8]) -> Feed {
+    let mut refusals = 0;
+    let mut taken = 0;
+    for n in 0..frame.len() {
+        if named(&snap(start, frame, n)) == Some(n + 1) {
+            refusals += 1;
+            taken = n + 1;
+        }
+    }
+    Feed {
+        refusals,
+        taken,
+        fault: snap(start, frame, taken).fault,
+    }
+}
+
+/// The length that an open refusal names.
+fn named(found: &Summary) -> Option<usize> {
+    match found.fault.as_ref()? {
+        PeelFault {
+            offset,
+            closed: false,
+            error: PeelError::Len(error),
+        } => offset.checked_add(error.required_len),
+        _ => None,
+    }
 }
 
 /// What the walker shows of what is expected.
