@@ -199,7 +199,7 @@ impl fmt::Debug for LinuxSllSlice<'_> {
 #[cfg(test)]
 mod tests {
     use super::*;
-    use crate::test_frames::{ARP_REQUEST, LOOPBACK, PACKET};
+    use crate::test_frames::{ARP_REQUEST, LOOPBACK, PACKET, UNSUPPORTED};
     use ether_base::err::linux_sll::HeaderError;
     use ether_base::err::{Layer, LenError};
     use ether_base::{EtherType, LenSource};
@@ -257,13 +257,32 @@ mod tests {
     }
 
     #[test]
-    fn a_captured_packet_of_the_loopback_device_is_refused(rt: HostRuntime) {
-        assert_eq!(rt;
-            LinuxSllSlice::from_slice(&LOOPBACK).err(),
-            Some(HeaderSliceError::Content(HeaderError::UnsupportedArpHardwareId {
-                arp_hardware_type: ArpHardwareId(772),
-            }))
-        );
+    fn hardware_types_that_are_refused(rt: HostRuntime) {
+        // The greatest packet type that is supported, with the hardware type of CSLIP.
+        let cslip = [0, 7, 1, 1, 0, 0, 0, 0, 0, 0, 0, 0, 0, 0, 0, 0];
+        let rows: [(&[u8], u16); 2] = [(&LOOPBACK, 772), (&cslip, 257)];
+        for (bytes, number) in rows {
+            assert_eq!(rt;
+                LinuxSllSlice::from_slice(bytes).err(),
+                Some(HeaderSliceError::Content(HeaderError::UnsupportedArpHardwareId {
+                    arp_hardware_type: ArpHardwareId(number),
+                }))
+            );
+        }
+    }
+
+    #[test]
+    fn packet_types_that_are_refused(rt: HostRuntime) {
+        // The second has an unsupported hardware type as well.
+        let greatest = [0xFF, 0xFF, 0, 1, 0, 0, 0, 0, 0, 0, 0, 0, 0, 0, 0, 0];
+        for (bytes, packet_type) in [(greatest, 65535), (UNSUPPORTED, 8)] {
+            assert_eq!(rt;
+                LinuxSllSlice::from_slice(&bytes).err(),
+                Some(HeaderSliceError::Content(HeaderError::UnsupportedPacketTypeField {
+                    packet_type
+                }))
+            );
+        }
     }
 
     #[test]

@@ -273,35 +273,60 @@ mod tests {
         }))
     }
 
+    fn cut_packet(required_len: usize, len: usize) -> Option<HeaderSliceError> {
+        Some(HeaderSliceError::Len(LenError {
+            required_len,
+            len,
+            len_source: LenSource::MacsecShortLength,
+            layer: Layer::MacsecPacket,
+            layer_start_offset: 0,
+        }))
+    }
+
+    fn content(error: HeaderError) -> Option<HeaderSliceError> {
+        Some(HeaderSliceError::Content(error))
+    }
+
     #[test]
     fn a_payload_that_is_cut_short(rt: HostRuntime) {
-        assert_eq!(rt;
-            refusal(&NAMED[..10]),
-            Some(HeaderSliceError::Len(LenError {
-                required_len: 12,
-                len: 10,
-                len_source: LenSource::MacsecShortLength,
-                layer: Layer::MacsecPacket,
-                layer_start_offset: 0,
-            }))
-        );
+        assert_eq!(rt; refusal(&NAMED[..10]), cut_packet(12, 10));
+        assert_eq!(rt; refusal(&[0x04, 1, 0, 0, 0, 0]), cut_packet(7, 6));
+        assert_eq!(rt; refusal(&[0x08, 0x3F, 0, 0, 0, 0]), cut_packet(69, 6));
     }
 
     #[test]
     fn a_tag_that_is_cut_short(rt: HostRuntime) {
         assert_eq!(rt; refusal(&NAMED[..6]), cut_header(8, 6));
         assert_eq!(rt; refusal(&[0x80, 0, 0, 0, 0]), cut_header(6, 5));
+        assert_eq!(rt; refusal(&[0x24, 1, 0, 0, 0, 0]), cut_header(14, 6));
     }
 
     #[test]
     fn contents_that_are_refused(rt: HostRuntime) {
         assert_eq!(rt;
             refusal(&[0x80, 0, 0, 0, 0, 0]),
-            Some(HeaderSliceError::Content(HeaderError::UnexpectedVersion))
+            content(HeaderError::UnexpectedVersion)
         );
         assert_eq!(rt;
             refusal(&[0, 1, 0, 0, 0, 0]),
-            Some(HeaderSliceError::Content(HeaderError::InvalidUnmodifiedShortLen))
+            content(HeaderError::InvalidUnmodifiedShortLen)
         );
+    }
+
+    #[test]
+    fn the_first_of_several_errors(rt: HostRuntime) {
+        // Five bytes of a tag with version 1 and short length 1, then all six.
+        assert_eq!(rt; refusal(&[0x80, 1, 0, 0, 0]), cut_header(6, 5));
+        assert_eq!(rt;
+            refusal(&[0x80, 1, 0, 0, 0, 0]),
+            content(HeaderError::UnexpectedVersion)
+        );
+        // Short length 1, the second time with a reserved bit. SCI and ether type are missing as well.
+        for second in [0x01, 0x41] {
+            assert_eq!(rt;
+                refusal(&[0x20, second, 0, 0, 0, 0]),
+                content(HeaderError::InvalidUnmodifiedShortLen)
+            );
+        }
     }
 }

@@ -6,6 +6,7 @@ use crate::test_frames::{
     CAPTURED, CAPTURED_ANSWER, EMPTY_ANSWER, PLAIN, PLAIN_ANSWER, TAGGED, TAGGED_ANSWER,
 };
 use arrayvec::{ArrayString, ArrayVec};
+use etherparse::EtherType;
 use std::fmt::Write as _;
 use std::io;
 use std::io::ErrorKind;
@@ -155,7 +156,7 @@ fault 0 open length 14 0 slice\n\
 ethernet2 0 ffffffffffff 020000000001 0x0800\n\
 rest 14 15 type 0x0800\n";
 
-/// Runs over memory, and tells the outcome and what was written.
+/// Runs over memory, with no allocator in reach, and tells the outcome and what was written.
 fn over_memory(mut input: &[u8]) -> (Result<Verdict, ToolFault>, ArrayVec<u8, 32768>) {
     let mut output = ArrayVec::new();
     let outcome = run(Mode::Eth, &mut input, &mut output);
@@ -319,18 +320,47 @@ fn gathers_more_than_its_room(rt: HostRuntime) {
     assert!(rt; output.as_slice().ends_with(end));
 }
 
+/// A line for each mode, whose frame is accepted.
+const LINES_OF_MODES: [(Mode, &[u8]); 4] = [
+    (Mode::Eth, b"ffffffffffff0200000000018100b1230800\r\n"),
+    (Mode::Fcs, b"ffffffffffff020000000001080011223344\r\n"),
+    (Mode::Sll, b"0000000100ff02000000000100000001\r\n"),
+    (
+        Mode::EtherType(EtherType::MACSEC),
+        b"0006000000018100aabbccddeeee\r\n",
+    ),
+];
+
+/// A fault at each read of `input`, `step` bytes a read, and no read after it.
+fn reader_faults(rt: &impl Abort, mode: Mode, input: &[u8], step: usize) {
+    let mut source = Source::new(input, step, 0);
+    assert!(rt; run(mode, &mut source, &mut Sink::new(0)).is_ok());
+    let reads = source.calls;
+    for before in 0..reads {
+        let fault = before + 1;
+        let mut source = Source::new(input, step, fault);
+        let outcome = run(mode, &mut source, &mut Sink::new(0));
+        assert_eq!(rt;
+            outcome,
+            Err(ToolFault::Input),
+            "at read {fault} in {mode:?}"
+        );
+        assert_eq!(rt; source.calls, fault, "no read after read {fault}");
+    }
+}
+
 #[test]
 fn tells_a_fault_of_the_reader(rt: HostRuntime) {
     for step in 1..6 {
-        let mut source = Source::new(LINES, step, 0);
-        assert!(rt; run(Mode::Eth, &mut source, &mut Sink::new(0)).is_ok());
-        let reads = source.calls;
-        for before in 0..reads {
-            let fault = before + 1;
-            let mut source = Source::new(LINES, step, fault);
-            let outcome = run(Mode::Eth, &mut source, &mut Sink::new(0));
-            assert_eq!(rt; outcome, Err(ToolFault::Input), "at read {fault}");
-            assert_eq!(rt; source.calls, fault, "no read after read {fault}");
+        reader_faults(&rt, Mode::Eth, LINES, step);
+    }
+}
+
+#[test]
+fn tells_a_fault_of_the_reader_in_each_mode(rt: HostRuntime) {
+    for (mode, line) in LINES_OF_MODES {
+        for step in [1, 4, usize::MAX] {
+            reader_faults(&rt, mode, line, step);
         }
     }
 }
@@ -353,28 +383,42 @@ fault 0 open length 14 0 slice\n";
     }
 }
 
-/// A fault at each call of the writer for `input`, and none after them.
-fn writer_faults(rt: &impl Abort, input: &[u8], wanted: &Result<Verdict, ToolFault>) {
-    let mut sink = Sink::new(0);
+/// A fault at each call of the writer for `input`, and no call after it. The last call is the flush.
+fn writer_faults(rt: &impl Abort, mode: Mode, input: &[u8], wanted: &Result<Verdict, ToolFault>) {
+    let mut whole = Sink::new(0);
     assert_eq!(rt;
-        &run(Mode::Eth, &mut Source::new(input, 4, 0), &mut sink),
+        &run(mode, &mut Source::new(input, 4, 0), &mut whole),
         wanted
     );
-    assert!(rt; sink.is_flushed);
-    let calls = sink.calls;
+    assert!(rt; whole.is_flushed);
+    let calls = whole.calls;
     for before in 0..calls {
         let fault = before + 1;
         let mut source = Source::new(input, 4, 0);
         let mut sink = Sink::new(fault);
-        let outcome = run(Mode::Eth, &mut source, &mut sink);
-        assert_eq!(rt; outcome, Err(ToolFault::Output), "at call {fault}");
+        let outcome = run(mode, &mut source, &mut sink);
+        assert_eq!(rt;
+            outcome,
+            Err(ToolFault::Output),
+            "at call {fault} in {mode:?}"
+        );
         assert_eq!(rt; sink.calls, fault, "no call after call {fault}");
+        assert!(rt; !sink.is_flushed, "at call {fault} in {mode:?}");
+        let is_whole = sink.taken.as_slice() == whole.taken.as_slice();
+        assert_eq!(rt; is_whole, fault == calls, "at call {fault} in {mode:?}");
     }
 }
 
 #[test]
 fn tells_a_fault_of_the_writer(rt: HostRuntime) {
-    writer_faults(&rt, LINES, &Ok(SomeRefused));
-    writer_faults(&rt, b"\n42\n4\n", &Err(ToolFault::BadLine(3)));
-    writer_faults(&rt, b"", &Ok(AllAccepted));
+    writer_faults(&rt, Mode::Eth, LINES, &Ok(SomeRefused));
+    writer_faults(&rt, Mode::Eth, b"\n42\n4\n", &Err(ToolFault::BadLine(3)));
+    writer_faults(&rt, Mode::Eth, b"", &Ok(AllAccepted));
+}
+
+#[test]
+fn tells_a_fault_of_the_writer_in_each_mode(rt: HostRuntime) {
+    for (mode, line) in LINES_OF_MODES {
+        writer_faults(&rt, mode, line, &Ok(AllAccepted));
+    }
 }
