@@ -78,6 +78,10 @@ fcs_is_closed start list hs e h s o =
     let f : true ≡ false = sym closed ∙ o.is_open in
     cc
 
+pub fcs_asks_nothing : (start : Expectation) (list : List ℕ) (above : ℕ) (ms : List ℕ) → has_fcs start ≡ true → AreDemands start list above ms → ms ≡ []
+fcs_asks_nothing start list above [] h are = refl
+fcs_asks_nothing start list above (m ∷ ms) h are = let d = are.1 in absurd (fcs_is_closed start (take (m - 1) list) d.headers d.ending h d.walk d.refusal)
+
 no_fcs_from : (start : Expectation) (list : List ℕ) (hs : List Header) (e : Ending) (c : Bool) → has_fcs start ≡ c → Walk start list hs e → OpenRefusal e → has_fcs start ≡ false
 no_fcs_from start list hs e true h s o = absurd (fcs_is_closed start list hs e h s o)
 no_fcs_from start list hs e false h s o = h

@@ -21,7 +21,7 @@ use Rattle.ether_peel.proofs.StackLemmas.{header_least, some_stack}
 use Rattle.ether_peel.proofs.Carrying.{leads, beyond, carried_finish}
 use Rattle.ether_peel.proofs.Extensions.{walk_open_to_end}
 use Rattle.ether_peel.proofs.Cuts.{common}
-use Rattle.ether_peel.proofs.Demands.{named_above, no_fcs, front_and_more, none_between, is_demand, AsksNoMore, no_more, IsAsked, takes_units}
+use Rattle.ether_peel.proofs.Demands.{fcs_asks_nothing, named_above, no_fcs, front_and_more, none_between, is_demand, AsksNoMore, no_more, IsAsked, takes_units}
 use Rattle.ether_peel.proofs.UnitCaps.{given_last, given_capped, given_once_more}
 use Rattle.ether_peel.proofs.WalkedLemmas.{unit_next, fault_next, none_next}
 
@@ -120,17 +120,21 @@ pub fed_all : (start : Expectation) (list : List ℕ) (n count : ℕ) (hs : List
 fed_all start list n count hs e fault ok fed ask is =
     let few = fed.few in
     let capped = last_stack (take n list) start (whole start (take n list)) hs e fed.walk in
+    let are = subst (AreDemands start list 0) (append-nil fed.demands) (fed.all [] (no_more start list n hs e fed.walk ask)) in
     record {
-      demands = fed.demands ++ [];
-      are = fed.all [] (no_more start list n hs e fed.walk ask);
-      refusals = fed.counted ∙ sym (ap length (append-nil fed.demands));
-      taken = fed.last ∙ sym (ap greatest (append-nil fed.demands));
+      demands = fed.demands;
+      are = are;
+      refusals = fed.counted;
+      taken = fed.last;
       headers = hs;
       ending = e;
       walk = fed.walk;
       fault = is;
       few = omega arith;
       accepted = λ h gs g s a. takes_units start list gs hs g e n ok h s a fed.inside fed.asked fed.walk ask;
+      nothing = λ h.
+          let none = fcs_asks_nothing start list 0 fed.demands h are in
+          (fed.counted ∙ ap length none, fed.last ∙ ap greatest none);
     }
 
 -- ---- where the walk stands
@@ -227,6 +231,9 @@ more_above start list taken count hs e o fed =
     let above = named_above start (take taken list) hs e o (no_fcs start (take taken list) hs e fed.walk o) fed.walk in
     omega (arith, length-take taken list)
 
+same_rest : (list other : List ℕ) (a b finish : ℕ) → a ≡ b → length list ≡ finish → list ≡ other → slice_range list a (length list) ≡ slice_range other b finish
+same_rest list other a b finish at ends is = ap (λ (k : ℕ). slice_range list k (length list)) at ∙ ap (slice_range list b) ends ∙ ap (λ (l : List ℕ). slice_range l b finish) is
+
 feeds_named : (start : Expectation) (list : List ℕ) (s t : State) (taken count : ℕ) (f : PeelFault) → IsBytes list → (a : FeedsFault start list s t taken count f) (o : OpenRefusal (Fault a.window a.expected a.refusal))
     → named_len (Fault a.window a.expected a.refusal) o ≤ length list
     → Feeds start list (gone_on t (take (named_len (Fault a.window a.expected a.refusal) o) list)) (named_len (Fault a.window a.expected a.refusal) o) (count + 1)
@@ -255,7 +262,7 @@ feeds_named start list s t taken count f ok a o le =
     let starts : t.offset ≡ c.last.start = a.offset ∙ sym at in
     let faces : Faces (old ++ more) c.last (gone_on t front) c.rest some.1 = record {
       inside = c.carries.new;
-      rest = ap (λ (k : ℕ). slice_range front k (length front)) starts ∙ ap (slice_range front c.last.start) finish ∙ ap (λ (l : List ℕ). slice_range l c.last.start c.last.finish) parts;
+      rest = same_rest front (old ++ more) t.offset c.last.start c.last.finish starts finish parts;
       offset = starts;
       closed = a.closed ∙ sym c.carries.closed;
       stack = subst (λ (x : Expectation). Stack (old ++ more) x c.last c.rest some.1) (sym a.expects) c.follows;

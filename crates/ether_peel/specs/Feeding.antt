@@ -69,7 +69,7 @@ pub record TakesUnits (start : Expectation) (list : List ℕ) (hs : List Header)
   pub least : (n : ℕ) (gs : List Header) (g : Ending) → n < taken → Walk start (take n list) gs g → length gs < length hs
 
 -- The demands are counted, and the front of the length of the greatest is what is taken; its walk has this fault, and as many caps at
--- least. Without a frame check sequence all units of an accepted list are taken.
+-- least. Without a frame check sequence all units of an accepted list are taken; with one, nothing is asked for.
 pub record IsFeed (start : Expectation) (list : List ℕ) (f : Feed) : Type 0 where
   pub demands : List ℕ
   pub are : AreDemands start list 0 demands
@@ -81,3 +81,4 @@ pub record IsFeed (start : Expectation) (list : List ℕ) (f : Feed) : Type 0 wh
   pub fault : f.fault ≡ fault_of ending
   pub few : f.refusals ≤ caps (has_fcs start) headers + last_cap ending
   pub accepted : has_fcs start ≡ false → (hs : List Header) (e : Ending) → Walk start list hs e → refusal_of e ≡ None → TakesUnits start list hs f.taken headers ending
+  pub nothing : has_fcs start ≡ true → (f.refusals ≡ 0) × (f.taken ≡ 0)
