@@ -64,14 +64,14 @@ required_within bound source bytes more _ required len layer _ _ m k free = absu
 -- ---- what a cut and the whole have in common
 
 -- the cut's headers lead on in the whole list, and what follows there makes up the whole's walk
-record Common (cut more : List ℕ) (hs : List Header) (e : Ending) (ks : List Header) (f : Ending) : Type 0 where
+pub record Common (cut more : List ℕ) (hs : List Header) (e : Ending) (ks : List Header) (f : Ending) : Type 0 where
   pub last : Window
   pub carries : Carries cut (cut ++ more) more (last_window f) last
   pub rest : List Header
   pub headers : hs ≡ ks ++ rest
   pub follows : Stack (cut ++ more) (last_expected f) last rest e
 
-common : (start : Expectation) (cut more : List ℕ) (hs ks : List Header) (e f : Ending) → IsBytes (cut ++ more) → has_fcs start ≡ false → Walk start (cut ++ more) hs e → Walk start cut ks f → Common cut more hs e ks f
+pub common : (start : Expectation) (cut more : List ℕ) (hs ks : List Header) (e f : Ending) → IsBytes (cut ++ more) → has_fcs start ≡ false → Walk start (cut ++ more) hs e → Walk start cut ks f → Common cut more hs e ks f
 common start cut more hs ks e f ok h t s =
     let list = cut ++ more in
     let m = carry cut list more start (whole start cut) (whole start list) ks (last_expected f) (last_window f) (carries_whole start cut more h) (inr (no_fcs_start start h)) (leads cut start (whole start cut) ks f s).0 in

@@ -14,4 +14,5 @@ pub mod WriteBack
 pub mod Endings
 pub mod Cuts
 pub mod Extensions
+pub mod Completion
 pub mod Summary

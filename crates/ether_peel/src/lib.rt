@@ -10,6 +10,7 @@
 //! says how many bytes a header lacks in a window that is open.
 #![tactic(auto)]
 
+mod completing;
 #[cfg(test)]
 mod derived_traits;
 pub mod laws;
@@ -29,6 +30,7 @@ mod tests;
 mod walk_summary;
 mod written_back;
 
+pub use completing::completion;
 pub use peel::Peel;
 pub use peel_error::PeelError;
 pub use peel_fault::PeelFault;
