@@ -1,5 +1,5 @@
 -- The fill of a unit completes the list, and no fewer bytes do.
-use Rattle.std.proofs.Common.{◌≡◌, ℕ, zero, suc, ◌+◌, ◌*◌, ◌<◌, ◌≤◌, List, [], ◌∷◌, ◌++◌, length, get_or, refl, sym, ap, subst, ◌∙◌, arith, inl, inr, Bool, true, false}
+use Rattle.std.proofs.Common.{◌≡◌, ℕ, zero, suc, ◌+◌, ◌*◌, ◌<◌, ◌≤◌, List, [], ◌∷◌, ◌++◌, length, refl, sym, ap, subst, ◌∙◌, arith, inl, inr, Bool, true, false}
 use Rattle.std.specs.Prelude.{slice_range, slice_index, Option, Some, None, unwrap_or}
 use Rattle.std.proofs.lemmas.Bool.{cases_lt}
 use Rattle.std.proofs.lemmas.List.{length-append, get_or_append_left, get_or_past}
@@ -17,7 +17,7 @@ use Rattle.etherparse.specs.Header as headers
 use Rattle.etherparse.specs.Refusal.{Refusal, Length, IsTooShort, Refuses, Accepts}
 use Rattle.etherparse.specs.Refusal as rows
 use Rattle.etherparse.proofs.Numbers.{IsBytes-append}
-use Rattle.etherparse.proofs.SubLists.{length-part, IsBytes-part}
+use Rattle.etherparse.proofs.SubLists.{IsBytes-part}
 use Rattle.etherparse.proofs.Rows.{one_sec_tag_front, one_arp_front, accepts_ethernet2, accepts_vlan, accepts_macsec}
 use Rattle.etherparse.proofs.Means.{tag_begins, tag_means, arp_begins, unit_fits}
 use Rattle.etherparse.proofs.Ethernet2Fields.{ethernet2_means}
@@ -32,7 +32,7 @@ use Rattle.ether_peel.specs.Completion as plans
 use Rattle.ether_peel.proofs.LongerBytes.{sec_tag_longer}
 use Rattle.ether_peel.proofs.Carrying.{Leads, leads, led, beyond, carry}
 use Rattle.ether_peel.proofs.Extensions.{no_fcs_start, carries_whole, walk_open_to_end}
-use Rattle.ether_peel.proofs.Cuts.{Common, common}
+use Rattle.ether_peel.proofs.Cuts.{common}
 use Rattle.ether_peel.proofs.Fill.{length-fill, IsBytes-fill, same_byte, type_announces_nothing}
 
 -- ---- the unit that is begun

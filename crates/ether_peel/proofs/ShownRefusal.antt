@@ -1,19 +1,17 @@
 -- The fault of a summary, and the open refusal that it shows.
-use Rattle.std.proofs.Common.{◌≡◌, ℕ, ◌<◌, ◌≤◌, List, length, refl, sym, ap, subst, ◌∙◌, arith, Bool, true, false}
-use Rattle.std.specs.Prelude.{slice_range, Option, Some, None}
-use Rattle.etherparse.specs.Types.LenSource.{LenSource}
+use Rattle.std.proofs.Common.{◌≡◌, ℕ, ◌<◌, ◌≤◌, List, length, refl, sym, ap, subst, ◌∙◌, arith, false}
+use Rattle.std.specs.Prelude.{slice_range, Option, Some}
 use Rattle.etherparse.specs.Types.LenError.{LenError}
 use Rattle.etherparse.specs.Types.Layer.{Layer}
 use Rattle.etherparse.specs.Bytes.{IsBytes}
-use Rattle.etherparse.specs.Kind.{Kind}
 use Rattle.etherparse.specs.Header.{Header}
 use Rattle.etherparse.specs.Refusal.{Refusal, Length, UnsupportedPacketType, UnsupportedHardwareType, UnexpectedVersion, InvalidShortLen, Refuses}
 use Rattle.etherparse.proofs.SubLists.{IsBytes-part}
 use Rattle.etherparse.proofs.Rows.{row_short}
-use Rattle.ether_peel.specs.Window.{Window, within, bound_of}
+use Rattle.ether_peel.specs.Window.{within, bound_of}
 use Rattle.ether_peel.specs.Expectation.{Expectation, has_fcs}
 use Rattle.ether_peel.specs.Stack.{Ending, Accepted, Fault, last_window, last_expected, whole, Walk}
-use Rattle.ether_peel.specs.Endings.{refusal_of, OpenRefusal}
+use Rattle.ether_peel.specs.Endings.{OpenRefusal}
 use Rattle.ether_peel.specs.Completion.{CanBeCompleted, Plan, IsShort, fill, Completes, NothingToComplete}
 use Rattle.ether_peel.specs.Completion as plans
 use Rattle.ether_peel.specs.Summary.{IsSummary, fault_of}

@@ -1,7 +1,7 @@
-use Rattle.std.proofs.Common.{rules, ◌≡◌, ◌<◌, ◌≤◌, List, ℕ, length, sym, ap, subst, ◌∙◌, arith}
+use Rattle.std.proofs.Common.{rules, length, sym, subst, arith}
 use Rattle.std.specs.Prelude.{slice_range}
 use Rattle.ether_peel.specs.PeelStart.{start_of}
-use Rattle.ether_peel.specs.Completion.{Completes, NothingToComplete}
+use Rattle.ether_peel.specs.Completion.{Completes}
 use Rattle.ether_peel.proofs.ShownRefusal.{Found, found, nothing, Filled, filled}
 use Rattle.ether_peel.proofs.completing.completion.Goals as goal
 use Rattle.ether_peel.proofs.completing.completion.Goals.{In-Len, In_ok-plan}
