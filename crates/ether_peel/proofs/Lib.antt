@@ -16,3 +16,7 @@ pub mod WorkedExamples
 pub mod WalkedLemmas
 pub mod WriteBackLemmas
 pub mod ViewValues
+pub mod Fill
+pub mod Completed
+pub mod TagFront
+pub mod ShownRefusal

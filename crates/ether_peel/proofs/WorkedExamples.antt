@@ -1,4 +1,4 @@
--- Worked examples: walks of short lists, and what their headers reach and write back.
+-- Worked examples: walks of short lists, what their headers reach and write back, and the bytes that complete them.
 use Rattle.std.proofs.Common.{◌≡◌, ℕ, List, [], ◌∷◌, refl, arith, true, false}
 use Rattle.std.specs.Prelude.{Some, None}
 use Rattle.etherparse.specs.Types.LenSource.TheVariants as sources
@@ -15,6 +15,8 @@ use Rattle.ether_peel.specs.Stack.{Ending, Accepted, Fault, Walk}
 use Rattle.ether_peel.specs.WriteBack.{cleared}
 use Rattle.ether_peel.specs.Endings.{OpenRefusal, named_len}
 use Rattle.ether_peel.specs.Cuts.{reach}
+use Rattle.ether_peel.specs.Completion.{Plan, fill}
+use Rattle.ether_peel.specs.Completion as plans
 
 some_is : (m n : ℕ) → Some m ≡ Some n → m ≡ n
 some_is m n e = cc
@@ -94,3 +96,28 @@ begun_walk = (
 -- it wants a list of eight bytes
 begun_named : (o : OpenRefusal begun_ending) → named_len begun_ending o ≡ 8
 begun_named o = let e = o.refused in let f : 4 ≡ o.required = cc in omega arith
+
+-- ---- a SecTag that names a payload of four bytes, as far as the first byte of its ether type
+
+abbrev begun_tag : List ℕ
+begun_tag = 0x00 ∷ 0x06 ∷ 0 ∷ 0 ∷ 0 ∷ 1 ∷ 0x81 ∷ []
+
+begun_tag_plan : Plan begun_tag layers.MacsecHeader 12 (Some 6)
+begun_tag_plan = plans.Plan.macsec (sec_tag_front_of 0 0 (tag 6)) (record { sum = refl; fits = omega arith })
+
+-- its ether type becomes 0x8101
+begun_tag_fill : fill begun_tag 12 (Some 6) ≡ 1 ∷ 0 ∷ 0 ∷ 0 ∷ 0 ∷ []
+begun_tag_fill = refl
+
+-- ---- an ARP packet as far as the first byte of its protocol type, which is no ether type
+
+begun_arp_plan : Plan (0x00 ∷ 0x01 ∷ 0x81 ∷ []) layers.Arp 8 None
+begun_arp_plan = plans.Plan.arp
+
+begun_arp_fill : fill (0x00 ∷ 0x01 ∷ 0x81 ∷ []) 8 None ≡ 0 ∷ 0 ∷ 0 ∷ 0 ∷ 0 ∷ []
+begun_arp_fill = refl
+
+-- and as far as the size of its hardware addresses
+
+sized_arp_plan : Plan (0x00 ∷ 0x01 ∷ 0x08 ∷ 0x00 ∷ 0x06 ∷ []) layers.Arp 20 None
+sized_arp_plan = plans.Plan.arp

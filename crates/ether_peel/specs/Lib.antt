@@ -14,5 +14,6 @@ pub mod WriteBack
 pub mod Endings
 pub mod Cuts
 pub mod Extensions
+pub mod Completion
 pub mod Summary
 pub mod Feeding

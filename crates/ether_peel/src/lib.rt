@@ -7,9 +7,10 @@
 //!
 //! Where a header names the length of its payload, as a MACsec SecTag may, or a frame check sequence stands at the end,
 //! the window of what is inside is closed: bytes that follow the frame would not belong to it. [`PeelFault::missing`]
-//! says how many bytes a header lacks in a window that is open.
+//! says how many bytes a header lacks in a window that is open, and [`completion`] gives bytes that complete it.
 #![tactic(auto)]
 
+mod completing;
 #[cfg(test)]
 mod derived_traits;
 mod feeding;
@@ -31,6 +32,7 @@ mod walk_feed;
 mod walk_summary;
 mod written_back;
 
+pub use completing::completion;
 pub use feeding::feed;
 pub use peel::Peel;
 pub use peel_error::PeelError;

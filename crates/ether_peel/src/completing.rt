@@ -1,0 +1,144 @@
+//! The bytes that complete a unit of which a frame has only the first bytes.
+ghost use Rattle.std.specs.Prelude.{◌≡◌, ◌<◌, ◌≤◌, length, slice_index, MatchOption};
+ghost use Rattle.ether_peel.specs.PeelStart.{start_of};
+ghost use Rattle.ether_peel.specs.Completion.{CanBeCompleted, Plan as IsPlan, IsShort, fill as fill_of, first_filled, Completes, NothingToComplete};
+
+use crate::{PeelError, Start, summary};
+use arrayvec::ArrayVec;
+use etherparse::MacsecHeaderSlice;
+use etherparse::err::Layer;
+
+/// What a fill has at most after its first byte.
+const ZEROS: [u8; 1027] = [0; 1027];
+
+/// The fewest bytes that, after a frame cut short, make it accepted: they complete the unit in which it ends.
+///
+/// The unit is an Ethernet II header, a VLAN tag, an ARP packet, or a MACsec SecTag with the payload whose length it names.
+/// Each byte is 0, and a size of an ARP packet that is missing too is therefore 0. The one exception: if the frame ends
+/// between the two bytes of the unit's ether type, and the first of these is 0x81 or 0x91, then the second one is 1, since
+/// 0x8100 and 0x9100 would announce a VLAN tag. So exactly one unit is added, and no other header is announced after it.
+///
+/// `None` if the frame
+///
+/// - is accepted,
+/// - is refused for its contents,
+/// - is refused in a closed window, as is each frame with a frame check sequence, so that more bytes would not help,
+/// - ends in a header of Linux cooked capture,
+/// - ends in a SecTag and has fewer than six bytes of it, which do not tell how long it is,
+/// - ends in the payload of a SecTag that it has whole.
+///
+/// The bytes are returned by value. There are at most 1,028, of an ARP packet with the longest addresses, and as many are
+/// kept free: the result takes 1,028 bytes of stack beside its length, where it is made and where it is moved to.
+///
+/// ```
+/// let frame = [
+///     0xFF, 0xFF, 0xFF, 0xFF, 0xFF, 0xFF, 0x02, 0x00, 0x00, 0x00, 0x00, 0x01, 0x08, 0x06, // Ethernet II
+///     0x00, 0x01, 0x08, 0x00, 0x01, 0x02, // ARP: addresses of one and of two bytes
+/// ];
+/// let fill = completion(Start::Ethernet2, &frame);
+/// assert_eq!(rt; fill.as_ref().map(|fill| fill.as_slice()), Some(&[0; 8][..]));
+/// ```
+pub fn completion(start: Start, bytes: &[u8]) -> Option<ArrayVec<u8, 1028>>
+    ensures { MatchOption result (NothingToComplete (start_of start) bytes.now) (λ fill. Completes (start_of start) bytes.now fill.items) }
+{
+    let fault = summary(start, bytes).fault?;
+    if fault.closed {
+        return None;
+    }
+    let PeelError::Len(error) = &fault.error else {
+        return None;
+    };
+    let begun = &bytes[fault.offset..];
+    let plan = planned(error.layer, begun)?;
+    Some(fill(begun, &plan))
+}
+
+/// A unit of which a frame has the first bytes.
+#[derive(Drop)]
+struct Plan {
+    /// The number of its bytes.
+    total: usize,
+    /// Where its ether type is, if it has one.
+    ether_type_at: Option<usize>,
+}
+
+/// The unit of a layer that begins with these bytes. `None` if it cannot be completed.
+fn planned(layer: Layer, begun: &[u8]) -> Option<Plan>
+    requires { IsShort begun.now layer }
+    ensures { MatchOption result (CanBeCompleted layer (length begun.now) → ⊥) (λ plan. CanBeCompleted layer (length begun.now) × IsPlan begun.now layer plan.total plan.ether_type_at) }
+{
+    let (total, ether_type_at) = match layer {
+        Layer::Ethernet2Header => (14, Some(12)),
+        Layer::VlanHeader => (4, Some(2)),
+        Layer::MacsecHeader => return planned_tag(begun),
+        Layer::Arp => (8 + 2 * byte_at(begun, 4) + 2 * byte_at(begun, 5), None),
+        _ => return None,
+    };
+    Some(Plan {
+        total,
+        ether_type_at,
+    })
+}
+
+/// The SecTag that begins with these bytes, with the payload whose length it names. `None` for fewer than six bytes.
+fn planned_tag(begun: &[u8]) -> Option<Plan>
+    requires { IsShort begun.now Layer.MacsecHeader }
+    ensures { MatchOption result (length begun.now < 6) (λ plan. (6 ≤ length begun.now) × IsPlan begun.now Layer.MacsecHeader plan.total plan.ether_type_at) }
+{
+    let [first, second, _, _, _, _, ..] = *begun else {
+        return None;
+    };
+    // the first two bytes tell the lengths
+    let front = [first, second, 0, 0, 0, 0, 0, 0, 0, 0, 0, 0, 0, 0, 0, 0];
+    let Ok(tag) = MacsecHeaderSlice::from_slice(&front) else {
+        return None; // not reached: it would be refused in the frame, too, and not for its length
+    };
+    let header_len = tag.header_len();
+    Some(Plan {
+        total: header_len + tag.expected_payload_len().unwrap_or(0),
+        ether_type_at: if tag.is_unmodified() {
+            Some(header_len - 2)
+        } else {
+            None
+        },
+    })
+}
+
+/// The byte at a place as a number, 0 if there is none.
+fn byte_at(bytes: &[u8], place: usize) -> usize
+    ensures { result ≡ slice_index bytes.now place }
+{
+    match bytes.get(place) {
+        Some(byte) => usize::from(*byte),
+        None => 0,
+    }
+}
+
+/// The bytes that make a unit whole.
+fn fill(begun: &[u8], plan: &Plan) -> ArrayVec<u8, 1028>
+    requires short { length begun.now < plan.now.total }
+    requires fits { plan.now.total ≤ 1028 }
+    ensures { result.items ≡ fill_of begun.now plan.now.total plan.now.ether_type_at }
+{
+    let mut fill = ArrayVec::new();
+    fill.push(first_byte(begun, plan.ether_type_at));
+    let zeros = &ZEROS[..plan.total - begun.len() - 1];
+    fill.try_extend_from_slice(zeros).unwrap();
+    fill
+}
+
+/// The first byte of a fill: 0, or 1 where a 0 would end an ether type that announces a VLAN tag.
+fn first_byte(begun: &[u8], ether_type_at: Option<usize>) -> u8
+    ensures { result ≡ first_filled begun.now ether_type_at }
+{
+    let Some(place) = ether_type_at else {
+        return 0;
+    };
+    match begun.get(place..) {
+        Some([0x81 | 0x91]) => 1,
+        _ => 0,
+    }
+}
+
+#[cfg(test)]
+mod tests;
