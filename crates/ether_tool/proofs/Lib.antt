@@ -4,6 +4,7 @@ pub mod KnownBytesLemmas
 pub mod OutputBufferLemmas
 pub mod ViewLinesLemmas
 pub mod WalkTextLemmas
+pub mod FeedTextLemmas
 pub mod LinesLemmas
 pub mod FrameLemmas
 pub mod LineLoopLemmas

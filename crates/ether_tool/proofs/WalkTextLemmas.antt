@@ -26,9 +26,8 @@ use Rattle.ether_peel.specs.declared.peel_fault.PeelFault.{PeelFault}
 use Rattle.ether_peel.specs.declared.rest_kind.RestKind.{RestKind}
 use Rattle.ether_tool.specs.Lines.{ethernet2_text, ethernet2_fcs_text, linux_sll_text, vlan_text, macsec_text, arp_text, unit_text, kind_text, rest_text, fault_text, ending_text, frame_text, is_accepted}
 use Rattle.ether_tool.specs.ViewLines.{view_text, kind_view_text, rest_view_text, fault_view_text}
-use Rattle.ether_tool.specs.WalkText.{start_of_mode}
-use Rattle.ether_tool.specs.OutputBuffer.{Takes, TakesWalk}
-use Rattle.ether_tool.specs.declared.mode.Mode.{Mode}
+use Rattle.ether_tool.specs.WalkText.{AnswersWalk}
+use Rattle.ether_tool.specs.OutputBuffer.{Takes, TakesAnswer}
 use Rattle.ether_tool.specs.declared.output_buffer.OutputBuffer.{OutputBuffer}
 use Rattle.ether_tool.proofs.OutputBufferLemmas.{Takes-none, Takes-then}
 
@@ -74,7 +73,7 @@ view_text-unit list x w (headers.Arp a) u rest closed ok inside unit behind left
     let is = arp_shown (within list w) a (IsBytes-part w.start w.finish list ok) unit.means in
     ap (view_text w.start (length rest) closed) shows ∙ ap (arp_text w.start) is
 
-fault_view_text-fault : (w : Window) (r : Refusal) → fault_view_text (fault_in w r) ≡ fault_text w r
+pub fault_view_text-fault : (w : Window) (r : Refusal) → fault_view_text (fault_in w r) ≡ fault_text w r
 unfolding fault_view_text fault_text
 fault_view_text-fault w (Length required len source layer) = refl
 fault_view_text-fault w (UnsupportedPacketType n) = refl
@@ -153,10 +152,10 @@ module _ {W : Type 0} (contents : W → Option (List ℕ)) where
         parts = a.parts ∙ ap (λ (l : List Header). a.text ++ frame_text frame a.window l a.ending) n.parts ∙ sym (append_assoc a.text written (frame_text frame (payload a.window h) hs a.ending));
       }
 
-  answered : (mode : Mode) (frame : List ℕ) (s : State) (old mid new : OutputBuffer W) (accepted : Bool) (last : List ℕ) → (a : PutsWalk contents (start_of_mode mode) frame s old mid) → a.left ≡ [] → last ≡ ending_text a.ending → accepted ≡ is_accepted a.ending
-      → Takes contents mid (last ++ codes "\n") new → TakesWalk mode contents frame old new accepted
+  answered : (x : Expectation) (frame : List ℕ) (s : State) (old mid new : OutputBuffer W) (accepted : Bool) (last : List ℕ) → (a : PutsWalk contents x frame s old mid) → a.left ≡ [] → last ≡ ending_text a.ending → accepted ≡ is_accepted a.ending
+      → Takes contents mid (last ++ codes "\n") new → TakesAnswer contents (AnswersWalk x frame) old new accepted
   unfolding frame_text
-  answered mode frame s old mid new accepted last a none is verdict line = record {
+  answered x frame s old mid new accepted last a none is verdict line = record {
     text = a.text ++ (last ++ codes "\n");
     answers = record {
       headers = a.all;
@@ -169,23 +168,23 @@ module _ {W : Type 0} (contents : W → Option (List ℕ)) where
   }
 
   -- the line of a fault
-  pub walk_fault : (mode : Mode) (frame : List ℕ) (s t : State) (old mid new : OutputBuffer W) (f : PeelFault) → PutsWalk contents (start_of_mode mode) frame s old mid → Gives s (Some (Err f)) t
-      → Takes contents mid (fault_view_text f ++ codes "\n") new → TakesWalk mode contents frame old new false
+  pub walk_fault : (x : Expectation) (frame : List ℕ) (s t : State) (old mid new : OutputBuffer W) (f : PeelFault) → PutsWalk contents x frame s old mid → Gives s (Some (Err f)) t
+      → Takes contents mid (fault_view_text f ++ codes "\n") new → TakesAnswer contents (AnswersWalk x frame) old new false
   unfolding ending_text
-  walk_fault mode frame s t old mid new f a gives line =
+  walk_fault x frame s t old mid new f a gives line =
       let n = fault_next frame a.window a.left a.ending s t f (gives.next a.going frame a.window a.left a.ending a.faces) in
       let v = n.window in
       let y = n.expected in
       let q = n.refusal in
       let stack = (subst (λ (e : Ending). Faces frame a.window s [] e) n.ending (subst (λ (l : List Header). Faces frame a.window s l a.ending) n.none_left a.faces)).stack in
       let is : fault_view_text f ≡ ending_text a.ending = ap fault_view_text n.fault ∙ fault_view_text-fault a.window q ∙ ap (λ (w : Window). fault_text w q) (sym stack.0) ∙ ap ending_text (sym n.ending) in
-      answered mode frame s old mid new false (fault_view_text f) a n.none_left is (ap is_accepted (sym n.ending)) line
+      answered x frame s old mid new false (fault_view_text f) a n.none_left is (ap is_accepted (sym n.ending)) line
 
   -- the line of what is left
-  pub walk_rest : (mode : Mode) (frame : List ℕ) (s t : State) (old mid new : OutputBuffer W) (end : ℕ) (k : RestKind) → PutsWalk contents (start_of_mode mode) frame s old mid → Gives s None t
-      → end ≡ s.offset + length t.rest → k ≡ kind_shown t.expected → Takes contents mid (rest_view_text s.offset end k ++ codes "\n") new → TakesWalk mode contents frame old new true
+  pub walk_rest : (x : Expectation) (frame : List ℕ) (s t : State) (old mid new : OutputBuffer W) (end : ℕ) (k : RestKind) → PutsWalk contents x frame s old mid → Gives s None t
+      → end ≡ s.offset + length t.rest → k ≡ kind_shown t.expected → Takes contents mid (rest_view_text s.offset end k ++ codes "\n") new → TakesAnswer contents (AnswersWalk x frame) old new true
   unfolding ending_text
-  walk_rest mode frame s t old mid new end k a gives to kind line =
+  walk_rest x frame s t old mid new end k a gives to kind line =
       let n = none_next frame a.window a.left a.ending s t (gives.next a.going frame a.window a.left a.ending a.faces) in
       let v = n.window in
       let y = n.expected in
@@ -198,4 +197,4 @@ module _ {W : Type 0} (contents : W → Option (List ℕ)) where
       let shown : k ≡ kind_shown s.expected = kind ∙ ap (λ (u : State). kind_shown u.expected) same in
       let is : rest_view_text s.offset end k ≡ ending_text a.ending =
       rest_view_text-rest a.window s.expected s.offset end k at until shown ∙ ap (λ (w : Window). rest_text w s.expected) (sym faces.stack.0) ∙ ap (rest_text v) (sym faces.stack.1) ∙ ap ending_text (sym n.ending) in
-      answered mode frame s old mid new true (rest_view_text s.offset end k) a n.none_left is (ap is_accepted (sym n.ending)) line
+      answered x frame s old mid new true (rest_view_text s.offset end k) a n.none_left is (ap is_accepted (sym n.ending)) line

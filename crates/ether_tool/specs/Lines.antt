@@ -119,6 +119,17 @@ unfoldable pub ending_text : Ending → List ℕ
 ending_text (Accepted w x) = rest_text w x
 ending_text (Fault w x r) = fault_text w r
 
+-- ---- a frame that is fed
+
+-- how often more bytes were asked for, and how many were taken
+unfoldable pub feed_text : (refusals taken : ℕ) → List ℕ
+feed_text refusals taken = spaced (codes "feed" ∷ codes "refusals" ∷ decimal refusals ∷ codes "taken" ∷ decimal taken ∷ [])
+
+-- the line of a fault, if there is one
+unfoldable pub fault_line : Ending → List ℕ
+fault_line (Accepted w x) = []
+fault_line (Fault w x r) = fault_text w r ++ codes "\n"
+
 -- ---- a frame
 
 -- the lines of the units that stand one in another from a window on, and the line of the ending

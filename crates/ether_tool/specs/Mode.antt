@@ -3,7 +3,7 @@ use Rattle.std.specs.Prelude.{◌≡◌, ℕ, ◌+◌, ◌*◌, ◌^◌, List, [
 use Rattle.std.specs.Prelude.{String}
 use Rattle.hex.specs.Hex.{hex_digit_value}
 use Rattle.ether_tool.specs.declared.mode.Mode.{Mode}
-use Rattle.ether_tool.specs.declared.mode.Mode.TheVariants.{Eth, Fcs, Sll, EtherType}
+use Rattle.ether_tool.specs.declared.mode.Mode.TheVariants.{Eth, Fcs, Sll, EtherType, Feed}
 
 -- hexadecimal digits of either case name a number: the sum of each one's value times the power of 16 that its place has,
 -- the last one's being 1
@@ -23,6 +23,7 @@ pub data NamesMode : List (List ℕ) → Mode → Type 0 where
   eth : NamesMode (codes "eth" ∷ []) Eth
   fcs : NamesMode (codes "fcs" ∷ []) Fcs
   sll : NamesMode (codes "sll" ∷ []) Sll
+  feed : NamesMode (codes "feed" ∷ []) Feed
   ether_type : (digits : List ℕ) (number : ℕ) → NamesType digits number → NamesMode (codes "type" ∷ digits ∷ []) (EtherType (record { 0 = number }))
 
 abbrev pub NamesNoMode : List (List ℕ) → Type 0

@@ -1,8 +1,6 @@
 -- A writer and the text that waits for it.
 use Rattle.std.specs.Prelude.{◌≡◌, ℕ, List, [], Option, Bool}
 use Rattle.std.specs.Io.KnownBytes.{Appends, append_known}
-use Rattle.ether_tool.specs.WalkText.{Answers}
-use Rattle.ether_tool.specs.declared.mode.Mode.{Mode}
 use Rattle.ether_tool.specs.declared.output_buffer.OutputBuffer.{OutputBuffer}
 
 -- the writer's contents, where they are known, followed by the text that waits
@@ -18,8 +16,8 @@ pub record WritesOut {W : Type 0} (contents : W → Option (List ℕ)) (old new 
   pub written : Appends (contents old.writer.now) (contents new.writer.now) old.waiting.items
   pub none_waits : new.waiting.items ≡ []
 
--- the writer holds the text that answers the frame, with the text that waits
-pub record TakesWalk {W : Type 0} (mode : Mode) (contents : W → Option (List ℕ)) (frame : List ℕ) (old new : OutputBuffer W) (accepted : Bool) : Type 0 where
+-- the writer holds a text more that answers a frame, with the text that waits
+pub record TakesAnswer {W : Type 0} (contents : W → Option (List ℕ)) (IsAnswer : (text : List ℕ) → (accepted : Bool) → Type 0) (old new : OutputBuffer W) (accepted : Bool) : Type 0 where
   pub text : List ℕ
-  pub answers : Answers mode frame text accepted
+  pub answers : IsAnswer text accepted
   pub taken : Takes contents old text new

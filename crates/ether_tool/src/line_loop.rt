@@ -4,7 +4,7 @@ use crate::line_buffer::{LineBuffer, LineEnd};
 use crate::mode::Mode;
 use crate::outcome::{ToolFault, Verdict};
 use crate::output_buffer::OutputBuffer;
-use crate::walk_text::put_walk;
+use crate::walk_text::put_answer;
 use std::io::Write;
 
 /// The line under way, and what the lines before it gave.
@@ -53,7 +53,7 @@ impl LineLoop {
         let Some(len) = self.line.end(piece, end, frame) else {
             return Err(ToolFault::BadLine(number));
         };
-        let accepted = match put_walk(mode, &frame[..len], out) {
+        let accepted = match put_answer(mode, &frame[..len], out) {
             Ok(accepted) => accepted,
             Err(fault) => return Err(fault),
         };

@@ -1,4 +1,4 @@
-//! The lines that a walk is printed as, one for each unit and one for the ending.
+//! The lines that a walk is printed as: one for each unit and one for the ending, or one for what feeding it comes to.
 //!
 //! Each is put into the output piece by piece: through the formatter it would take twice as long.
 ghost use Rattle.std.specs.Prelude.{◌≡◌, ◌++◌, ◌+◌, ◌≤◌, ◌<◌, codes, decimal, length, true, IfErr, OnOk, OnErr};
@@ -7,7 +7,7 @@ ghost use Rattle.etherparse.specs.Vlan.{vlan_of};
 ghost use Rattle.etherparse.specs.LinuxSll.{linux_sll_of};
 ghost use Rattle.etherparse.specs.Macsec.{payload_type_view, sec_tag_of, tag_bytes};
 ghost use Rattle.etherparse.specs.Arp.{arp_of};
-ghost use Rattle.ether_tool.specs.Lines.{arp_text, linux_sll_text, macsec_text, mark_text, payload_type_text, protocol_text, sci_text, source_text, vlan_text};
+ghost use Rattle.ether_tool.specs.Lines.{arp_text, feed_text, linux_sll_text, macsec_text, mark_text, payload_type_text, protocol_text, sci_text, source_text, vlan_text};
 ghost use Rattle.ether_tool.specs.OutputBuffer.{Takes};
 ghost use Rattle.ether_tool.specs.ViewLines.{error_view_text, ethernet2_view_text, fault_view_text, fcs_text, kind_view_text, len_view_text, linux_sll_view_text, macsec_view_text, rest_view_text, view_text};
 
@@ -309,6 +309,22 @@ fn put_protocol<W: Write>(
         LinuxSllProtocolType::EtherType(_) | LinuxSllProtocolType::LinuxNonstandardEtherType(_) =>
             out.put(b" "),
     }
+}
+
+/// Puts the line of a walk that is fed: how often it asks for more bytes, and how many it takes.
+pub fn put_counts<W: Write>(
+    out: &mut OutputBuffer<'_, W>,
+    refusals: usize,
+    taken: usize,
+) -> Result<(), ToolFault>
+    ensures same_writer { out.new.writer.ghost_name ≡ out.old.writer.ghost_name }
+    ensures ok { OnOk result (Takes W.contents out.old (feed_text refusals taken ++ codes "\n") out.new) }
+    ensures fault { IfErr result (λ fault. fault ≡ ToolFault.Output) }
+    ensures failed { OnErr result (out.new.has_failed ≡ true) }
+{
+    put_number(out, b"feed refusals ", refusals)?;
+    put_number(out, b" taken ", taken)?;
+    out.put(b"\n")
 }
 
 /// Puts the line of a frame's fault.

@@ -7,6 +7,7 @@
 
 #[cfg(test)]
 mod derived_traits;
+mod feed_text;
 pub mod frame;
 mod hex_text;
 mod input_reader;

@@ -6,7 +6,7 @@ ghost use Rattle.ether_tool.specs.Mode.{NamesMode, NamesNoMode, NamesType, words
 use etherparse::EtherType;
 use std::env;
 
-/// How the frames of a run begin.
+/// How the frames of a run begin, and how they are read.
 #[derive(Clone, Copy, PartialEq, Eq, Debug)]
 pub enum Mode {
     /// With an Ethernet II header.
@@ -17,6 +17,8 @@ pub enum Mode {
     Sll,
     /// With what an ether type announces.
     EtherType(EtherType),
+    /// With an Ethernet II header. The walk is fed the frame, and takes only the bytes that it asks for.
+    Feed,
 }
 
 /// The arguments name no mode.
@@ -25,8 +27,8 @@ pub struct Usage;
 
 /// The mode that the words name.
 ///
-/// No word at all, or `eth`, is [`Mode::Eth`], `fcs` [`Mode::Fcs`] and `sll` [`Mode::Sll`]. `type` and a second word of
-/// exactly four hexadecimal digits of either case is [`Mode::EtherType`]. Nothing else names a mode.
+/// No word at all, or `eth`, is [`Mode::Eth`], `fcs` [`Mode::Fcs`], `sll` [`Mode::Sll`] and `feed` [`Mode::Feed`]. `type` and
+/// a second word of exactly four hexadecimal digits of either case is [`Mode::EtherType`]. Nothing else names a mode.
 ///
 /// The words are the arguments without the program's own name. Their case matters, but that of the digits.
 pub fn mode_of(words: &[&str]) -> Result<Mode, Usage>
@@ -38,6 +40,7 @@ pub fn mode_of(words: &[&str]) -> Result<Mode, Usage>
         ["eth"] => Ok(Mode::Eth),
         ["fcs"] => Ok(Mode::Fcs),
         ["sll"] => Ok(Mode::Sll),
+        ["feed"] => Ok(Mode::Feed),
         ["type", digits] => match number_of(digits) {
             Some(number) => Ok(Mode::EtherType(EtherType(number))),
             None => Err(Usage),
@@ -89,12 +92,20 @@ mod tests {
         assert_eq!(rt; mode_of(&["eth"]), Ok(Mode::Eth));
         assert_eq!(rt; mode_of(&["fcs"]), Ok(Mode::Fcs));
         assert_eq!(rt; mode_of(&["sll"]), Ok(Mode::Sll));
+        assert_eq!(rt; mode_of(&["feed"]), Ok(Mode::Feed));
         for word in [
-            "Eth", "et", "eth ", "", "FCS", "fc", "sll1", "type", "feed", "88E5",
+            "Eth", "et", "eth ", "", "FCS", "fc", "sll1", "type", "Feed", "fee", "feeds", "88E5",
         ] {
             assert_eq!(rt; mode_of(&[word]), Err(Usage), "{word}");
         }
-        for words in [["eth", "eth"], ["fcs", "88E5"], ["sll", ""], ["eth", "fcs"]] {
+        for words in [
+            ["eth", "eth"],
+            ["fcs", "88E5"],
+            ["sll", ""],
+            ["eth", "fcs"],
+            ["feed", "eth"],
+            ["feed", "88E5"],
+        ] {
             assert_eq!(rt; mode_of(&words), Err(Usage));
         }
     }

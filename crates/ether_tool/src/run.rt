@@ -117,6 +117,8 @@ fn read_lines<R: Read, W: Write>(
 }
 
 #[cfg(test)]
+mod feed_tests;
+#[cfg(test)]
 mod format_tests;
 #[cfg(test)]
 mod tests;

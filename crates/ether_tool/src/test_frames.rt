@@ -32,5 +32,19 @@ pub const CAPTURED_ANSWER: &[u8] = b"ethernet2 0 0010dbff1000 00152c9dcc00 0x810
 vlan 14 pcp 0 dei 0 vid 503 0x0800\n\
 rest 18 64 type 0x0800\n";
 
+/// The line of a frame with a SecTag, whose payload ends two bytes before the frame, and its answer when the walk is fed.
+pub const SEC_TAGGED: &[u8] = b"ffffffffffff02000000000188e50006000000018100aabbccddeeee";
+
+pub const SEC_TAGGED_FED: &[u8] = b"feed refusals 4 taken 26\n";
+
+/// The line of an ARP request with the padding of Ethernet, and its answer when the walk is fed.
+pub const PADDED_REQUEST: &[u8] = b"ffffffffffff0200000000010806\
+00010800060400010200000000010a0000010000000000000a000002000000000000000000000000000000000000";
+
+pub const PADDED_REQUEST_FED: &[u8] = b"feed refusals 3 taken 42\n";
+
 /// The answer to an empty line.
 pub const EMPTY_ANSWER: &[u8] = b"fault 0 open length 14 0 slice\n";
+
+/// The answer to an empty line when the walk is fed.
+pub const EMPTY_FED: &[u8] = b"feed refusals 0 taken 0\nfault 0 open length 14 0 slice\n";

@@ -10,7 +10,7 @@ use std::process::Abort;
 use std::test::Fail;
 
 /// The frame is answered by these lines in the mode that the words name, and the run ends with this status.
-fn answers(
+pub fn answers(
     rt: &impl Abort,
     words: &[&str],
     mut line: &[u8],

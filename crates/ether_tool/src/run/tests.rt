@@ -321,13 +321,17 @@ fn gathers_more_than_its_room(rt: HostRuntime) {
 }
 
 /// A line for each mode, whose frame is accepted.
-const LINES_OF_MODES: [(Mode, &[u8]); 4] = [
+const LINES_OF_MODES: [(Mode, &[u8]); 5] = [
     (Mode::Eth, b"ffffffffffff0200000000018100b1230800\r\n"),
     (Mode::Fcs, b"ffffffffffff020000000001080011223344\r\n"),
     (Mode::Sll, b"0000000100ff02000000000100000001\r\n"),
     (
         Mode::EtherType(EtherType::MACSEC),
         b"0006000000018100aabbccddeeee\r\n",
+    ),
+    (
+        Mode::Feed,
+        b"ffffffffffff02000000000188e50006000000018100aabbccddeeee\r\n",
     ),
 ];
 

@@ -1,4 +1,4 @@
-use Rattle.ether_tool.specs.Mode.{eth, fcs, sll}
+use Rattle.ether_tool.specs.Mode.{eth, fcs, sll, feed}
 use Rattle.ether_tool.proofs.ModeLemmas.{NamesMode-none, NamesMode-word, NamesMode-type}
 use Rattle.ether_tool.proofs.mode.mode_of.Goals as goal
 
@@ -13,6 +13,9 @@ returns-in-fcs-clause-ok c = NamesMode-word c.args.words.now _ _ _ c.in-fcs.len_
 
 pub returns-in-sll-clause-ok : goal.returns-in-sll-clause-ok
 returns-in-sll-clause-ok c = NamesMode-word c.args.words.now _ _ _ c.in-sll.len_at_least c.in-sll.len_below c.in-sll.is-sll sll
+
+pub returns-in-feed-clause-ok : goal.returns-in-feed-clause-ok
+returns-in-feed-clause-ok c = NamesMode-word c.args.words.now _ _ _ c.in-feed.len_at_least c.in-feed.len_below c.in-feed.is-feed feed
 
 pub returns-in-Some-clause-ok : goal.returns-in-Some-clause-ok
 returns-in-Some-clause-ok c = NamesMode-type c.args.words.now _ _ c.in-Some.number c.in-type.len_at_least c.in-type.len_below c.in-type.is-type c.in-Some.ensures.some
