@@ -7,7 +7,8 @@
 //!
 //! Where a header names the length of its payload, as a MACsec SecTag may, or a frame check sequence stands at the end,
 //! the window of what is inside is closed: bytes that follow the frame would not belong to it. [`PeelFault::missing`]
-//! says how many bytes a header lacks in a window that is open, and [`completion`] gives bytes that complete it.
+//! says how many bytes a header lacks in a window that is open; for most headers [`completion`] gives the bytes that
+//! complete them.
 #![tactic(auto)]
 
 mod completing;
