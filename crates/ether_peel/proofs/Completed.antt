@@ -1,5 +1,5 @@
 -- The fill of a unit completes the list, and no fewer bytes do.
-use Rattle.std.proofs.Common.{◌≡◌, ℕ, zero, suc, ◌+◌, ◌*◌, ◌<◌, ◌≤◌, List, [], ◌∷◌, ◌++◌, length, refl, sym, ap, subst, ◌∙◌, arith, inl, inr, Bool, true, false}
+use Rattle.std.proofs.Common.{◌≡◌, ℕ, zero, suc, ◌+◌, ◌*◌, ◌<◌, ◌≤◌, List, [], ◌∷◌, ◌++◌, length, refl, sym, ap, subst, ◌∙◌, arith, inl, inr, Bool, false}
 use Rattle.std.specs.Prelude.{slice_range, slice_index, Option, Some, None, unwrap_or}
 use Rattle.std.proofs.lemmas.Bool.{cases_lt}
 use Rattle.std.proofs.lemmas.List.{length-append, get_or_append_left, get_or_past}
@@ -12,7 +12,7 @@ use Rattle.etherparse.specs.Macsec.{SecTagFront, BeginsSecTag, sec_tag_len, know
 use Rattle.etherparse.specs.Arp.{ArpFront, BeginsArp, arp_len, arp_front_in, arp_front_of, arp_of, BeginsWithArp}
 use Rattle.etherparse.specs.Kind.{Kind}
 use Rattle.etherparse.specs.Kind as kinds
-use Rattle.etherparse.specs.Header.{Header, kind_of, unit_len, payload_len, Means}
+use Rattle.etherparse.specs.Header.{Header, kind_of, unit_len, Means}
 use Rattle.etherparse.specs.Header as headers
 use Rattle.etherparse.specs.Refusal.{Refusal, Length, IsTooShort, Refuses, Accepts}
 use Rattle.etherparse.specs.Refusal as rows
@@ -23,7 +23,7 @@ use Rattle.etherparse.proofs.Means.{tag_begins, tag_means, arp_begins, unit_fits
 use Rattle.etherparse.proofs.Ethernet2Fields.{ethernet2_means}
 use Rattle.etherparse.proofs.VlanFields.{vlan_means}
 use Rattle.etherparse.proofs.Reading.{arp_begins_read, arp_means, arp_accepted}
-use Rattle.ether_peel.specs.Window.{Window, within, bound_of, payload_closed, payload}
+use Rattle.ether_peel.specs.Window.{Window, within, bound_of, payload}
 use Rattle.ether_peel.specs.Expectation.{Expectation, announced_by, announced, after_payload, after, has_fcs}
 use Rattle.ether_peel.specs.Stack.{Ending, Accepted, Fault, last_window, last_expected, IsUnit, Stack, whole, Walk}
 use Rattle.ether_peel.specs.Endings.{refusal_of, OpenRefusal}
@@ -31,7 +31,7 @@ use Rattle.ether_peel.specs.Completion.{CanBeCompleted, type_place, Plan, fill, 
 use Rattle.ether_peel.specs.Completion as plans
 use Rattle.ether_peel.proofs.LongerBytes.{sec_tag_longer}
 use Rattle.ether_peel.proofs.Carrying.{Leads, leads, led, beyond, carry}
-use Rattle.ether_peel.proofs.Extensions.{no_fcs_start, carries_whole, walk_open_to_end}
+use Rattle.ether_peel.proofs.Extensions.{no_fcs, no_fcs_start, carries_whole, walk_open_to_end}
 use Rattle.ether_peel.proofs.Cuts.{common}
 use Rattle.ether_peel.proofs.Fill.{length-fill, IsBytes-fill, same_byte, type_announces_nothing}
 
@@ -172,19 +172,6 @@ filled bound b kind total place ok len (arp lt) =
 
 -- ---- the walk
 
-payload_stays_closed : (closed : Bool) (o : Option ℕ) → closed ≡ true → payload_closed closed o ≡ true
-payload_stays_closed closed None e = e
-payload_stays_closed closed (Some n) e = refl
-
-stays_closed : (list : List ℕ) (x : Expectation) (w : Window) (hs : List Header) (y : Expectation) (v : Window) → Leads list x w hs y v → w.closed ≡ true → v.closed ≡ true
-stays_closed list x w [] y v l e = ap (λ (u : Window). u.closed) l.1 ∙ e
-stays_closed list x w (h ∷ hs) y v l e = stays_closed list (after x h) (payload w h) hs y v l.1 (payload_stays_closed w.closed (payload_len h) e)
-
--- a walk that ends in an open window began without a frame check sequence
-pub open_without_fcs : (start : Expectation) (list : List ℕ) (hs : List Header) (y : Expectation) (v : Window) (fcs : Bool) → has_fcs start ≡ fcs → Leads list start (whole start list) hs y v → v.closed ≡ false → has_fcs start ≡ false
-open_without_fcs start list hs y v false e l is_open = e
-open_without_fcs start list hs y v true e l is_open = let c : true ≡ false = sym (stays_closed list start (whole start list) hs y v l e) ∙ is_open in absurd cc
-
 -- the row with which it is refused
 pub refused_row : (list : List ℕ) (e : Ending) (r : Refusal) → Stack list (last_expected e) (last_window e) [] e → refusal_of e ≡ Some r
     → (kind : Kind) × (announced (last_expected e) ≡ Some kind) × Refuses (bound_of (last_window e)) (within list (last_window e)) kind r
@@ -204,11 +191,11 @@ ends_begun : (start : Expectation) (list : List ℕ) (hs : List Header) (e : End
 ends_begun start list hs e o total place ok s can plan =
     let l = leads list start (whole start list) hs e s in
     let v = last_window e in
-    let no_fcs = open_without_fcs start list hs (last_expected e) v (has_fcs start) refl l.0 o.is_open in
+    let free_start = no_fcs start list hs e s o in
     let row = refused_row list e (Length o.required o.len o.source o.layer) l.1 o.refused in
-    let free = (walk_open_to_end start list hs e no_fcs s).free in
+    let free = (walk_open_to_end start list hs e free_start s).free in
     record {
-      no_fcs = no_fcs;
+      no_fcs = free_start;
       leads = l.0;
       kind = row.0;
       announced = row.1;

@@ -1,25 +1,25 @@
 -- The demands of a list: which there are above a front, by what the front's walk names.
 use Rattle.std.proofs.Common.{◌≡◌, ℕ, ◌+◌, ◌-◌, ◌<◌, ◌≤◌, List, [], ◌∷◌, ◌++◌, length, take, drop, refl, sym, ap, subst, ◌∙◌, arith, inl, inr, ◌⊎◌, Bool, true, false}
-use Rattle.std.specs.Prelude.{Option, Some, None}
+use Rattle.std.specs.Prelude.{Some, None}
 use Rattle.std.proofs.lemmas.Bool.{cases_lt}
 use Rattle.std.proofs.lemmas.List.{take-take, take-append-drop, length-take, length-append}
 use Rattle.etherparse.specs.Types.LenSource.{LenSource}
 use Rattle.etherparse.specs.Types.Layer.{Layer}
 use Rattle.etherparse.specs.Bytes.{IsBytes}
-use Rattle.etherparse.specs.Header.{Header, payload_len, unit_len}
+use Rattle.etherparse.specs.Header.{Header, unit_len}
 use Rattle.etherparse.specs.Refusal.{Length, UnsupportedPacketType, UnsupportedHardwareType, UnexpectedVersion, InvalidShortLen}
 use Rattle.etherparse.proofs.SubLists.{length-part, IsBytes-take}
-use Rattle.ether_peel.specs.Window.{Window, payload_closed, payload}
-use Rattle.ether_peel.specs.Expectation.{Expectation, has_fcs, after}
-use Rattle.ether_peel.specs.Stack.{Ending, Accepted, Fault, last_window, last_expected, whole, Walk}
+use Rattle.ether_peel.specs.Window.{Window}
+use Rattle.ether_peel.specs.Expectation.{Expectation, has_fcs}
+use Rattle.ether_peel.specs.Stack.{Ending, Accepted, Fault, last_window, whole, Walk}
 use Rattle.ether_peel.specs.Places.{place}
 use Rattle.ether_peel.specs.Endings.{refusal_of, OpenRefusal, named_len}
 use Rattle.ether_peel.specs.Cuts.{reach}
 use Rattle.ether_peel.specs.Extensions.{KeepsExtension}
 use Rattle.ether_peel.specs.Feeding.{IsDemand, AreDemands, TakesUnits}
 use Rattle.ether_peel.proofs.StackLemmas.{some_stack}
-use Rattle.ether_peel.proofs.Carrying.{Leads, leads}
-use Rattle.ether_peel.proofs.Extensions.{refusal_below, walk_open_to_end, extensions_keep}
+use Rattle.ether_peel.proofs.Carrying.{leads}
+use Rattle.ether_peel.proofs.Extensions.{refusal_below, walk_open_to_end, extensions_keep, fcs_is_closed}
 use Rattle.ether_peel.proofs.Cuts.{reach_least, cuts_keep}
 
 -- ---- open refusals
@@ -62,33 +62,11 @@ named_above start list hs e o h s =
     let part = length-part list v.start v.finish g.is_in.inside in
     omega arith
 
--- ---- frame check sequences: nothing is asked for in a closed window
-
-stays_closed_from : (c : Bool) (o : Option ℕ) → c ≡ true → payload_closed c o ≡ true
-stays_closed_from c None e = e
-stays_closed_from c (Some n) e = refl
-
-stays_closed : (list : List ℕ) (x : Expectation) (w : Window) (hs : List Header) (y : Expectation) (v : Window) → w.closed ≡ true → Leads list x w hs y v → v.closed ≡ true
-stays_closed list x w [] y v e l = ap (λ (u : Window). u.closed) l.1 ∙ e
-stays_closed list x w (h ∷ hs) y v e l = stays_closed list (after x h) (payload w h) hs y v (stays_closed_from w.closed (payload_len h) e) l.1
-
-pub fcs_is_closed : (start : Expectation) (list : List ℕ) (hs : List Header) (e : Ending) → has_fcs start ≡ true → Walk start list hs e → OpenRefusal e → ⊥
-fcs_is_closed start list hs e h s o =
-    let closed = stays_closed list start (whole start list) hs (last_expected e) (last_window e) h (leads list start (whole start list) hs e s).0 in
-    let f : true ≡ false = sym closed ∙ o.is_open in
-    cc
+-- ---- frame check sequences
 
 pub fcs_asks_nothing : (start : Expectation) (list : List ℕ) (above : ℕ) (ms : List ℕ) → has_fcs start ≡ true → AreDemands start list above ms → ms ≡ []
 fcs_asks_nothing start list above [] h are = refl
 fcs_asks_nothing start list above (m ∷ ms) h are = let d = are.1 in absurd (fcs_is_closed start (take (m - 1) list) d.headers d.ending h d.walk d.refusal)
-
-no_fcs_from : (start : Expectation) (list : List ℕ) (hs : List Header) (e : Ending) (c : Bool) → has_fcs start ≡ c → Walk start list hs e → OpenRefusal e → has_fcs start ≡ false
-no_fcs_from start list hs e true h s o = absurd (fcs_is_closed start list hs e h s o)
-no_fcs_from start list hs e false h s o = h
-
--- where there is one, no frame check sequence is expected
-pub no_fcs : (start : Expectation) (list : List ℕ) (hs : List Header) (e : Ending) → Walk start list hs e → OpenRefusal e → has_fcs start ≡ false
-no_fcs start list hs e s o = no_fcs_from start list hs e (has_fcs start) refl s o
 
 -- ---- longer fronts
 

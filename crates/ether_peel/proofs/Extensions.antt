@@ -7,7 +7,7 @@ use Rattle.etherparse.specs.Header.{Header, header_len, payload_len, trailer_len
 use Rattle.etherparse.specs.Refusal.{Refusal, Length, UnsupportedPacketType, UnsupportedHardwareType, UnexpectedVersion, InvalidShortLen}
 use Rattle.etherparse.proofs.SubLists.{length-part, part_all}
 use Rattle.etherparse.proofs.Means.{unit_fits}
-use Rattle.ether_peel.specs.Window.{Window, within, IsIn, bound_of, payload_from, payload}
+use Rattle.ether_peel.specs.Window.{Window, within, IsIn, bound_of, payload_closed, payload_from, payload}
 use Rattle.ether_peel.specs.Expectation.{Expectation, EtherType, Sll, Sealed, AfterArp, Start, after, has_fcs}
 use Rattle.ether_peel.specs.Stack.{Ending, Accepted, Fault, last_window, last_expected, Stack, whole, Walk}
 use Rattle.ether_peel.specs.Endings.{refusal_of, IsContent, OpenRefusal, named_len, EndsAlike}
@@ -165,3 +165,27 @@ extensions_keep start list hs e h s more ks f t = record {
   settled = λ r k either. settled_stays start list more hs ks e f r h s t k either;
   waiting = λ o lt. waiting_stays start list more hs ks e f h s t o lt;
 }
+
+-- ---- no open refusal with a frame check sequence
+
+stays_closed_from : (c : Bool) (o : Option ℕ) → c ≡ true → payload_closed c o ≡ true
+stays_closed_from c None e = e
+stays_closed_from c (Some n) e = refl
+
+stays_closed : (list : List ℕ) (x : Expectation) (w : Window) (hs : List Header) (y : Expectation) (v : Window) → w.closed ≡ true → Leads list x w hs y v → v.closed ≡ true
+stays_closed list x w [] y v e l = ap (λ (u : Window). u.closed) l.1 ∙ e
+stays_closed list x w (h ∷ hs) y v e l = stays_closed list (after x h) (payload w h) hs y v (stays_closed_from w.closed (payload_len h) e) l.1
+
+pub fcs_is_closed : (start : Expectation) (list : List ℕ) (hs : List Header) (e : Ending) → has_fcs start ≡ true → Walk start list hs e → OpenRefusal e → ⊥
+fcs_is_closed start list hs e h s o =
+    let closed = stays_closed list start (whole start list) hs (last_expected e) (last_window e) h (leads list start (whole start list) hs e s).0 in
+    let f : true ≡ false = sym closed ∙ o.is_open in
+    cc
+
+no_fcs_from : (start : Expectation) (list : List ℕ) (hs : List Header) (e : Ending) (c : Bool) → has_fcs start ≡ c → Walk start list hs e → OpenRefusal e → has_fcs start ≡ false
+no_fcs_from start list hs e true h s o = absurd (fcs_is_closed start list hs e h s o)
+no_fcs_from start list hs e false h s o = h
+
+-- where there is one, no frame check sequence is expected
+pub no_fcs : (start : Expectation) (list : List ℕ) (hs : List Header) (e : Ending) → Walk start list hs e → OpenRefusal e → has_fcs start ≡ false
+no_fcs start list hs e s o = no_fcs_from start list hs e (has_fcs start) refl s o

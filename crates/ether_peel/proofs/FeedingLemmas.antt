@@ -19,9 +19,9 @@ use Rattle.ether_peel.specs.declared.peel_unit.PeelUnit.{PeelUnit}
 use Rattle.ether_peel.specs.declared.peel_fault.PeelFault.{PeelFault}
 use Rattle.ether_peel.proofs.StackLemmas.{header_least, some_stack}
 use Rattle.ether_peel.proofs.Carrying.{leads, beyond, carried_finish}
-use Rattle.ether_peel.proofs.Extensions.{walk_open_to_end}
+use Rattle.ether_peel.proofs.Extensions.{no_fcs, walk_open_to_end}
 use Rattle.ether_peel.proofs.Cuts.{common}
-use Rattle.ether_peel.proofs.Demands.{fcs_asks_nothing, named_above, no_fcs, front_and_more, none_between, is_demand, AsksNoMore, no_more, IsAsked, takes_units}
+use Rattle.ether_peel.proofs.Demands.{fcs_asks_nothing, named_above, front_and_more, none_between, is_demand, AsksNoMore, no_more, IsAsked, takes_units}
 use Rattle.ether_peel.proofs.UnitCaps.{given_last, given_capped, given_once_more}
 use Rattle.ether_peel.proofs.WalkedLemmas.{unit_next, fault_next, none_next}
 

@@ -9,8 +9,8 @@ use Rattle.etherparse.specs.Refusal.{Refusal, Length, UnsupportedPacketType, Uns
 use Rattle.etherparse.proofs.SubLists.{IsBytes-part}
 use Rattle.etherparse.proofs.Rows.{row_short}
 use Rattle.ether_peel.specs.Window.{within, bound_of}
-use Rattle.ether_peel.specs.Expectation.{Expectation, has_fcs}
-use Rattle.ether_peel.specs.Stack.{Ending, Accepted, Fault, last_window, last_expected, whole, Walk}
+use Rattle.ether_peel.specs.Expectation.{Expectation}
+use Rattle.ether_peel.specs.Stack.{Ending, Accepted, Fault, last_window, whole, Walk}
 use Rattle.ether_peel.specs.Endings.{OpenRefusal}
 use Rattle.ether_peel.specs.Completion.{CanBeCompleted, Plan, IsShort, fill, Completes, NothingToComplete}
 use Rattle.ether_peel.specs.Completion as plans
@@ -20,8 +20,8 @@ use Rattle.ether_peel.specs.declared.peel_error.PeelError.TheVariants as errors
 use Rattle.ether_peel.specs.declared.peel_fault.PeelFault.{PeelFault}
 use Rattle.ether_peel.specs.declared.walk_summary.Summary.{Summary}
 use Rattle.ether_peel.proofs.Carrying.{leads}
-use Rattle.ether_peel.proofs.Extensions.{walk_open_to_end}
-use Rattle.ether_peel.proofs.Completed.{open_without_fcs, refused_row, plan_short, completes}
+use Rattle.ether_peel.proofs.Extensions.{no_fcs, walk_open_to_end}
+use Rattle.ether_peel.proofs.Completed.{refused_row, plan_short, completes}
 use Rattle.ether_peel.proofs.TagFront.{tag_most}
 
 -- ---- a refusal is shown
@@ -97,7 +97,7 @@ found start list s f error is fault is_open of_length =
     let w = shown e f error (sym (ap (λ (u : Summary). u.fault) is.is) ∙ fault) is_open of_length in
     let o = w.refusal in
     let l = leads list start (whole start list) is.headers e is.walk in
-    let ends = walk_open_to_end start list is.headers e (open_without_fcs start list is.headers (last_expected e) v (has_fcs start) refl l.0 o.is_open) is.walk in
+    let ends = walk_open_to_end start list is.headers e (no_fcs start list is.headers e is.walk o) is.walk in
     let row = refused_row list e (Length o.required o.len o.source o.layer) l.1 o.refused in
     let short = row_short (bound_of v) o.source (within list v) row.0 o.required o.len o.layer row.2 in
     let bytes : within list v ≡ slice_range list f.offset (length list) = ap (slice_range list v.start) (ends.ends o.is_open) ∙ ap (λ (n : ℕ). slice_range list n (length list)) w.start in
