@@ -17,7 +17,7 @@ use Rattle.etherparse.specs.Refusal.{Refusal, Length, UnsupportedPacketType, Uns
 use Rattle.etherparse.proofs.SubLists.{length-part, part-append, part_of_part, rest_of_part}
 use Rattle.etherparse.proofs.Rows.{row_short}
 use Rattle.etherparse.proofs.Means.{unit_fits}
-use Rattle.ether_peel.specs.Window.{Window, within, IsIn, bound_of, payload_from, payload}
+use Rattle.ether_peel.specs.Window.{Window, within, IsIn, payload_from, payload}
 use Rattle.ether_peel.specs.Expectation.{Expectation, announced_by, announced, after_protocol, after_payload, after}
 use Rattle.ether_peel.specs.Stack.{Ending, Accepted, Fault, last_window, last_expected, IsUnit, Stack}
 use Rattle.ether_peel.proofs.LongerBytes.{means_longer, accepts_longer, refuses_longer, longer, IsBelow}
@@ -33,7 +33,7 @@ pub leads : (list : List ℕ) (x : Expectation) (w : Window) (hs : List Header) 
     → Leads list x w hs (last_expected e) (last_window e) × Stack list (last_expected e) (last_window e) [] e
 leads list x w [] (Accepted v y) s = ((s.1, s.0), (refl, refl, subst (λ (z : Expectation). announced z ≡ None) (sym s.1) s.2))
 leads list x w [] (Fault v y r) s =
-    ((s.1, s.0), (refl, refl, s.2, subst (λ (z : Expectation). announced z ≡ Some s.2) (sym s.1) s.3, subst (λ (u : Window). Refuses (bound_of u) (within list u) s.2 r) (sym s.0) s.4))
+    ((s.1, s.0), (refl, refl, s.2, subst (λ (z : Expectation). announced z ≡ Some s.2) (sym s.1) s.3, subst (λ (u : Window). Refuses u.bound (within list u) s.2 r) (sym s.0) s.4))
 leads list x w (h ∷ hs) e s = let rest = leads list (after x h) (payload w h) hs e s.1 in ((s.0, rest.0), rest.1)
 
 -- and what is found in a later window follows
@@ -57,18 +57,19 @@ payload_from_in list w n trailer (Some p) at fits =
 
 -- a payload lies in the list
 pub payload_in : (list : List ℕ) (x : Expectation) (w : Window) (h : Header) → IsIn list w → IsUnit list x w h → IsIn list (payload w h)
-payload_in list x w h at u = payload_from_in list w (header_len h) (trailer_len h) (payload_len h) at (unit_fits (bound_of w) (within list w) h u.accepted u.means)
+payload_in list x w h at u = payload_from_in list w (header_len h) (trailer_len h) (payload_len h) at (unit_fits w.bound (within list w) h u.accepted u.means)
 
 -- of bytes that come behind the list, those that come behind the window's
 abbrev pub beyond : Bool → List ℕ → List ℕ
 beyond true more = []
 beyond false more = more
 
--- a window of another list has the window's mark and bytes, and behind them those that come there
+-- a window of another list has the window's mark, bound and bytes, and behind them those that come there
 pub record Carries (list other more : List ℕ) (w v : Window) : Type 0 where
   pub old : IsIn list w
   pub new : IsIn other v
   pub closed : v.closed ≡ w.closed
+  pub bound : v.bound ≡ w.bound
   pub bytes : within other v ≡ within list w ++ beyond w.closed more
 
 -- the other window ends as much later as there come bytes
@@ -108,6 +109,7 @@ carries_payload_from list other more w v n trailer None c fits (inl none) =
       old = payload_from_in list w n trailer None c.old fits;
       new = payload_from_in other v n trailer None c.new (omega arith);
       closed = c.closed;
+      bound = c.bound;
       bytes = ap (slice_range other (v.start + n)) b ∙ carried_rest list other more w v n c (omega arith) ∙ ap (λ (s : ℕ). slice_range list (w.start + n) s ++ beyond w.closed more) (sym a);
     }
 carries_payload_from list other more w v n trailer None c fits (inr none) =
@@ -123,6 +125,7 @@ carries_payload_from list other more w v n trailer None c fits (inr none) =
       old = payload_from_in list w n trailer None c.old fits;
       new = payload_from_in other v n trailer None c.new (omega arith);
       closed = c.closed;
+      bound = c.bound;
       bytes = ap (slice_range other (v.start + n)) b ∙ carried_part list other more w v n j c (omega arith) (omega arith) ∙ ap (slice_range list (w.start + n)) (sym a)
           ∙ sym (append-nil _) ∙ ap (λ (l : List ℕ). slice_range list (w.start + n) (w.finish - trailer) ++ l) (sym none);
     }
@@ -134,6 +137,7 @@ carries_payload_from list other more w v n trailer (Some p) c fits either =
       old = payload_from_in list w n trailer (Some p) c.old fits;
       new = payload_from_in other v n trailer (Some p) c.new (omega arith);
       closed = refl;
+      bound = refl;
       bytes = ap (slice_range other (v.start + n)) b ∙ carried_part list other more w v n (n + p) c (omega arith) (omega arith) ∙ ap (slice_range list (w.start + n)) (sym a) ∙ sym (append-nil _);
     }
 
@@ -196,10 +200,10 @@ pub carry_unit : (list other more : List ℕ) (x : Expectation) (w v : Window) (
 carry_unit list other more x w v h c keeps u = (
   record {
     announced = u.announced;
-    accepted = subst (λ (b : List ℕ). Accepts (bound_of v) b (kind_of h)) (sym c.bytes) (accepts_longer (bound_of v) (within list w) (beyond w.closed more) (kind_of h) u.accepted);
+    accepted = subst (λ (b : List ℕ). Accepts v.bound b (kind_of h)) (sym c.bytes) (subst (λ (o : LenSource). Accepts o (within list w ++ beyond w.closed more) (kind_of h)) (sym c.bound) (accepts_longer w.bound (within list w) (beyond w.closed more) (kind_of h) u.accepted));
     means = subst (λ (b : List ℕ). Means b h) (sym c.bytes) (means_longer (within list w) (beyond w.closed more) h u.means);
   },
-  carries_payload_from list other more w v (header_len h) (trailer_len h) (payload_len h) c (unit_fits (bound_of w) (within list w) h u.accepted u.means) (trailer_stays x w.closed more h u.announced keeps),
+  carries_payload_from list other more w v (header_len h) (trailer_len h) (payload_len h) c (unit_fits w.bound (within list w) h u.accepted u.means) (trailer_stays x w.closed more h u.announced keeps),
 )
 
 -- the same headers lead to a window of the other list
@@ -237,7 +241,7 @@ carry_end : (list other more : List ℕ) (u : Window) (e : Ending) → Carries l
     → Stack other (last_expected e) u [] (ending_in more u e)
 carry_end list other more u (Accepted v y) c s short = (refl, refl, s.2)
 carry_end list other more u (Fault v y r) c s short =
-    (refl, refl, s.2, s.3, subst (λ (b : List ℕ). Refuses (bound_of u) b s.2 (longer (length (beyond v.closed more)) r)) (sym c.bytes) (refuses_longer (bound_of u) (within list v) (beyond v.closed more) s.2 r s.4 short))
+    (refl, refl, s.2, s.3, subst (λ (b : List ℕ). Refuses u.bound b s.2 (longer (length (beyond v.closed more)) r)) (sym c.bytes) (subst (λ (o : LenSource). Refuses o (within list v ++ beyond v.closed more) s.2 (longer (length (beyond v.closed more)) r)) (sym c.bound) (refuses_longer v.bound (within list v) (beyond v.closed more) s.2 r s.4 short)))
 
 -- a whole stack in the other list
 pub record CarriedStack (list other more : List ℕ) (x : Expectation) (w v : Window) (hs : List Header) (e : Ending) : Type 0 where

@@ -23,7 +23,7 @@ use Rattle.etherparse.proofs.Means.{tag_begins, tag_means, arp_begins, unit_fits
 use Rattle.etherparse.proofs.Ethernet2Fields.{ethernet2_means}
 use Rattle.etherparse.proofs.VlanFields.{vlan_means}
 use Rattle.etherparse.proofs.Reading.{arp_begins_read, arp_means, arp_accepted}
-use Rattle.ether_peel.specs.Window.{Window, within, bound_of, payload}
+use Rattle.ether_peel.specs.Window.{Window, within, payload}
 use Rattle.ether_peel.specs.Expectation.{Expectation, announced_by, announced, after_payload, after, has_fcs}
 use Rattle.ether_peel.specs.Stack.{Ending, Accepted, Fault, last_window, last_expected, IsUnit, Stack, whole, Walk}
 use Rattle.ether_peel.specs.Endings.{refusal_of, OpenRefusal}
@@ -174,9 +174,9 @@ filled bound b kind total place ok len (arp lt) =
 
 -- the row with which it is refused
 pub refused_row : (list : List ℕ) (e : Ending) (r : Refusal) → Stack list (last_expected e) (last_window e) [] e → refusal_of e ≡ Some r
-    → (kind : Kind) × (announced (last_expected e) ≡ Some kind) × Refuses (bound_of (last_window e)) (within list (last_window e)) kind r
+    → (kind : Kind) × (announced (last_expected e) ≡ Some kind) × Refuses (last_window e).bound (within list (last_window e)) kind r
 refused_row list (Accepted v y) r s k = absurd cc
-refused_row list (Fault v y q) r s k = let e : q ≡ r = cc in (s.2, s.3, subst (Refuses (bound_of v) (within list v) s.2) e s.4)
+refused_row list (Fault v y q) r s k = let e : q ≡ r = cc in (s.2, s.3, subst (Refuses v.bound (within list v) s.2) e s.4)
 
 -- what is begun at its end
 record EndsBegun (start : Expectation) (list : List ℕ) (hs : List Header) (e : Ending) (total : ℕ) (place : Option ℕ) : Type 0 where
@@ -199,7 +199,7 @@ ends_begun start list hs e o total place ok s can plan =
       leads = l.0;
       kind = row.0;
       announced = row.1;
-      begun = begun (bound_of v) o.source (within list v) row.0 o.required o.len o.layer total place (IsBytes-part v.start v.finish list ok) (λ k. free (row.1 ∙ ap Some k)) row.2 can plan;
+      begun = begun v.bound o.source (within list v) row.0 o.required o.len o.layer total place (IsBytes-part v.start v.finish list ok) (λ k. free (row.1 ∙ ap Some k)) row.2 can plan;
     }
 
 -- ---- the list followed by the fill
@@ -219,12 +219,12 @@ walks_on start list hs e total place ok is_open b =
     let other = list ++ f in
     let part = IsBytes-part v.start v.finish list ok in
     let len : length (within list v ++ f) ≡ total = length-append (within list v) f ∙ length-fill (within list v) total place (begun_short (within list v) b.kind total place b.begun) in
-    let last = filled (bound_of v) (within list v) b.kind total place (IsBytes-append (within list v) f part (IsBytes-fill (within list v) total place)) len b.begun in
     let c = carry list other f start (whole start list) (whole start other) hs y v (carries_whole start list f b.no_fcs) (inr (no_fcs_start start b.no_fcs)) b.leads in
+    let last = filled c.last.bound (within list v) b.kind total place (IsBytes-append (within list v) f part (IsBytes-fill (within list v) total place)) len b.begun in
     let there : within other c.last ≡ within list v ++ f = c.carries.bytes ∙ ap (λ (m : Bool). within list v ++ beyond m f) is_open in
     let u : IsUnit other y c.last last.unit = record {
       announced = b.announced ∙ ap Some (sym last.kind_is);
-      accepted = subst (λ (l : List ℕ). Accepts (bound_of v) l (kind_of last.unit)) (sym there) (subst (Accepts (bound_of v) (within list v ++ f)) (sym last.kind_is) last.accepted);
+      accepted = subst (λ (l : List ℕ). Accepts c.last.bound l (kind_of last.unit)) (sym there) (subst (Accepts c.last.bound (within list v ++ f)) (sym last.kind_is) last.accepted);
       means = subst (λ (l : List ℕ). Means l last.unit) (sym there) last.means;
     } in
     let end = Accepted (payload c.last last.unit) (after y last.unit) in
@@ -241,9 +241,9 @@ needs list more v last y kind total place (h ∷ rest) f ok e b there s k =
     let kinds : Some kind ≡ Some (kind_of h) = sym e ∙ s.0.announced in
     let same : kind ≡ kind_of h = cc in
     let means : Means (within list v ++ more) h = subst (λ (l : List ℕ). Means l h) there s.0.means in
-    let accepted : Accepts (bound_of v) (within list v ++ more) (kind_of h) = subst (λ (l : List ℕ). Accepts (bound_of v) l (kind_of h)) there s.0.accepted in
+    let accepted : Accepts last.bound (within list v ++ more) (kind_of h) = subst (λ (l : List ℕ). Accepts last.bound l (kind_of h)) there s.0.accepted in
     let least = unit_least (within list v) more kind total place ok b h means same in
-    let fits = unit_fits (bound_of v) (within list v ++ more) h accepted means in
+    let fits = unit_fits last.bound (within list v ++ more) h accepted means in
     omega (arith, length-append (within list v) more)
 
 enough : (start : Expectation) (list more : List ℕ) (hs ks : List Header) (e f : Ending) (total : ℕ) (place : Option ℕ) → IsBytes list → IsBytes more → (last_window e).closed ≡ false → EndsBegun start list hs e total place → Walk start list hs e

@@ -17,7 +17,7 @@ use Rattle.etherparse.specs.Refusal as rows
 use Rattle.etherparse.proofs.SubLists.{length-part}
 use Rattle.etherparse.proofs.Rows.{one_sec_tag_front, one_arp_front, row_short}
 use Rattle.etherparse.proofs.Means.{tag_begins, arp_begins}
-use Rattle.ether_peel.specs.Window.{Window, within, bound_of}
+use Rattle.ether_peel.specs.Window.{Window, within}
 use Rattle.ether_peel.specs.Expectation.{Expectation, has_fcs}
 use Rattle.ether_peel.specs.Stack.{Ending, Accepted, Fault, last_window, last_expected, Stack, whole, Walk}
 use Rattle.ether_peel.specs.Places.{place}
@@ -106,8 +106,8 @@ wants start cut more hs ks v y required len source layer (unit ∷ later) last u
     let e : Some kind ≡ Some (kind_of unit) = sym l.1.3 ∙ t.0.announced in
     let same : kind ≡ kind_of unit = cc in
     let means : Means (within cut v ++ beyond v.closed more) unit = subst (λ (l : List ℕ). Means l unit) c.bytes t.0.means in
-    let enough : required ≤ unit_len unit = required_within (bound_of v) source (within cut v) (beyond v.closed more) kind required len layer unit row means same (λ k. o.free (l.1.3 ∙ ap Some k)) in
-    let few = row_short (bound_of v) source (within cut v) kind required len layer row in
+    let enough : required ≤ unit_len unit = required_within v.bound source (within cut v) (beyond v.closed more) kind required len layer unit row means same (λ k. o.free (l.1.3 ∙ ap Some k)) in
+    let few = row_short v.bound source (within cut v) kind required len layer row in
     let n = few.0 in
     let lt = few.1 in
     let is_open = open_of v.closed more (omega arith) in

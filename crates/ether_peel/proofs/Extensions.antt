@@ -7,7 +7,7 @@ use Rattle.etherparse.specs.Header.{Header, header_len, payload_len, trailer_len
 use Rattle.etherparse.specs.Refusal.{Refusal, Length, UnsupportedPacketType, UnsupportedHardwareType, UnexpectedVersion, InvalidShortLen}
 use Rattle.etherparse.proofs.SubLists.{length-part, part_all}
 use Rattle.etherparse.proofs.Means.{unit_fits}
-use Rattle.ether_peel.specs.Window.{Window, within, IsIn, bound_of, payload_closed, payload_from, payload}
+use Rattle.ether_peel.specs.Window.{Window, within, IsIn, payload_closed, payload_from, payload}
 use Rattle.ether_peel.specs.Expectation.{Expectation, EtherType, Sll, Sealed, AfterArp, Start, after, has_fcs}
 use Rattle.ether_peel.specs.Stack.{Ending, Accepted, Fault, last_window, last_expected, Stack, whole, Walk}
 use Rattle.ether_peel.specs.Endings.{refusal_of, IsContent, OpenRefusal, named_len, EndsAlike}
@@ -39,6 +39,7 @@ carries_whole start list more h = record {
   old = whole_in start list;
   new = whole_in start (list ++ more);
   closed = refl;
+  bound = refl;
   bytes = part_all (list ++ more) (length (list ++ more)) (omega arith) ∙ ap (λ (l : List ℕ). list ++ l) (sym (ap (λ (c : Bool). beyond c more) h)) ∙ ap (λ (l : List ℕ). l ++ beyond (has_fcs start) more) (sym (part_all list (length list) (omega arith)));
 }
 
@@ -71,7 +72,7 @@ open_to_end list x w (h ∷ hs) y v free at ends l =
     let next = payload_ends list w (w.start + header_len h) (trailer_len h) (payload_len h) none ends in
     let rest = open_to_end list (after x h) (payload w h) hs y v (no_fcs_after x h) (payload_in list x w h at l.0) next l.1 in
     let narrow = payload_narrows list x w h at l.0 in
-    let fits = unit_fits (bound_of w) (within list w) h l.0.accepted l.0.means in
+    let fits = unit_fits w.bound (within list w) h l.0.accepted l.0.means in
     let len = length-part list w.start w.finish at.inside in
     let r = rest.reaches in
     let a = at.ordered in
@@ -104,7 +105,7 @@ short_refused list more (Fault v y q) r k below = let e : r ≡ q = cc in subst 
 
 pub refusal_below : (list : List ℕ) (e : Ending) (r : Refusal) → Stack list (last_expected e) (last_window e) [] e → refusal_of e ≡ Some r → IsBelow (length (within list (last_window e))) r
 refusal_below list (Accepted v y) r s k = absurd cc
-refusal_below list (Fault v y q) r s k = let e : q ≡ r = cc in subst (IsBelow (length (within list v))) e (refused_below (bound_of v) (within list v) s.2 q s.4)
+refusal_below list (Fault v y q) r s k = let e : q ≡ r = cc in subst (IsBelow (length (within list v))) e (refused_below v.bound (within list v) s.2 q s.4)
 
 longer_content : (n : ℕ) (r : Refusal) → IsContent r → longer n r ≡ r
 longer_content n (Length required len source layer) c = absurd c

@@ -195,6 +195,7 @@ pub record FeedsFault (start : Expectation) (list : List ℕ) (s t : State) (tak
   pub fault : f ≡ fault_in window refusal
   pub offset : t.offset ≡ window.start
   pub closed : t.closed ≡ window.closed
+  pub bound : t.bound ≡ window.bound
   pub expects : t.expected ≡ expected
   pub at : window.start ≤ taken
   pub stays : t.offset ≡ s.offset
@@ -216,6 +217,7 @@ feeds_fault start list s t taken count f a gives =
       fault = n.fault ∙ ap (λ (v : Window). fault_in v n.refusal) (sym same);
       offset = ap (λ (u : State). u.offset) n.state ∙ offset;
       closed = ap (λ (u : State). u.closed) n.state ∙ faces.closed ∙ ap (λ (v : Window). v.closed) (sym same);
+      bound = ap (λ (u : State). u.bound) n.state ∙ faces.bound ∙ ap (λ (v : Window). v.bound) (sym same);
       expects = ap (λ (u : State). u.expected) n.state ∙ sym faces.stack.1;
       at = omega arith;
       stays = ap (λ (u : State). u.offset) n.state;
@@ -265,6 +267,7 @@ feeds_named start list s t taken count f ok a o le =
       rest = same_rest front (old ++ more) t.offset c.last.start c.last.finish starts finish parts;
       offset = starts;
       closed = a.closed ∙ sym c.carries.closed;
+      bound = a.bound ∙ sym c.carries.bound;
       stack = subst (λ (x : Expectation). Stack (old ++ more) x c.last c.rest some.1) (sym a.expects) c.follows;
     } in
     record {

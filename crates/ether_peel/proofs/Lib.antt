@@ -1,4 +1,5 @@
 pub mod StackLemmas
+pub mod Bounds
 pub mod PeelLemmas
 pub mod SameValues
 pub mod UnitLemmas

@@ -2,6 +2,7 @@
 use Rattle.std.proofs.Common.{◌≡◌, ℕ, ◌+◌, ◌-◌, ◌/◌, ◌<◌, ◌≤◌, List, [], ◌∷◌, length, Bool, true, false, refl, sym, ap, subst, ◌∙◌, arith}
 use Rattle.std.specs.Prelude.{slice_range, Option, Some, None, Ok, Err, unwrap_or, if◌then◌else◌}
 use Rattle.std.specs.Iterator.{size}
+use Rattle.etherparse.specs.Types.LenSource.{LenSource}
 use Rattle.etherparse.specs.Types.LenSource.TheVariants as sources
 use Rattle.etherparse.specs.Types.LenError.{LenError}
 use Rattle.etherparse.specs.Types.LinuxSllHeaderError.{HeaderError as LinuxSllHeaderError}
@@ -24,7 +25,8 @@ use Rattle.ether_peel.specs.Expectation.{Expectation, announced, after}
 use Rattle.ether_peel.specs.Stack.{Ending, Accepted, Fault, Stack}
 use Rattle.ether_peel.specs.PeelState.{State, expected_of}
 use Rattle.ether_peel.specs.PeelFault.{error_at, fault_in}
-use Rattle.ether_peel.specs.PeelRead.{IsRefusedBy}
+use Rattle.ether_peel.specs.PeelRead.{IsRefusedBy, named_error}
+use Rattle.ether_peel.proofs.Bounds.{named, bounded_row, accepts_bounded, named_at}
 use Rattle.ether_peel.specs.Peel.{Faces, ShowsUnit, GivesNext, Gives, items_left}
 use Rattle.ether_peel.specs.declared.peel.Peel.TheInside.{Inside}
 use Rattle.ether_peel.specs.declared.peel_unit.PeelUnit.{PeelUnit}
@@ -34,7 +36,7 @@ use Rattle.ether_peel.specs.declared.peel_fault.PeelFault.{PeelFault}
 
 -- what the fields of a walker show
 abbrev pub shown : Inside → State
-shown a = record { rest = slice_range a.frame.now a.start a.end; offset = a.start; closed = a.is_closed; expected = expected_of a.first a.kind; over = a.is_over }
+shown a = record { rest = slice_range a.frame.now a.start a.end; offset = a.start; closed = a.is_closed; bound = a.bound; expected = expected_of a.first a.kind; over = a.is_over }
 
 not_over : (b : Bool) → b ≡ false → b ≡ true → ⊥
 not_over b e f = let g : false ≡ true = sym e ∙ f in cc
@@ -68,9 +70,9 @@ gives_none s none = record {
 
 -- ---- the fault
 
--- the fault of an error at the window left to read
+-- the fault of an error at the window left to read, which names the window's bound
 abbrev pub fault_at : State → PeelError → PeelFault
-fault_at s error = record { offset = s.offset; error = error; closed = s.closed }
+fault_at s error = record { offset = s.offset; error = named_error s.bound error; closed = s.closed }
 
 abbrev pub ended : State → State
 ended s = record s { over = true }
@@ -80,18 +82,19 @@ next_fault : (list : List ℕ) (w : Window) (s : State) (hs : List Header) (e : 
 next_fault list w s [] (Accepted v y) error r f = absurd (no_kind (announced s.expected) r.kind f.stack.2 r.announced)
 next_fault list w s [] (Fault v y q) error r f =
     let same = same_kind (announced s.expected) f.stack.2 r.kind f.stack.3 r.announced in
-    let held = subst (λ (k : Kind). Refuses sources.Slice (within list w) k q) same f.stack.4 in
-    let own = subst (λ (l : List ℕ). Refuses sources.Slice l r.kind r.refusal) f.rest r.refuses in
-    let is = one_row sources.Slice (within list w) r.kind q r.refusal held own in
+    let held = subst (λ (k : Kind). Refuses w.bound (within list w) k q) same f.stack.4 in
+    let own = bounded_row w.bound (within list w) r.kind r.refusal (subst (λ (l : List ℕ). Refuses sources.Slice l r.kind r.refusal) f.rest r.refuses) in
+    let is = one_row w.bound (within list w) r.kind q (named w.bound r.refusal) held own in
     let at = f.offset in
     let mark = f.closed in
-    let shows : error ≡ error_at w.start q = r.shows ∙ ap (λ (n : ℕ). error_at n r.refusal) at ∙ ap (error_at w.start) (sym is) in
+    let shows : named_error s.bound error ≡ error_at w.start q =
+    ap (named_error s.bound) r.shows ∙ named_at s.bound s.offset r.refusal ∙ ap (λ (o : LenSource). error_at s.offset (named o r.refusal)) f.bound ∙ ap (λ (n : ℕ). error_at n (named w.bound r.refusal)) at ∙ ap (error_at w.start) (sym is) in
     let fault : fault_at s error ≡ fault_in w q = λ i. record { offset = at i; error = shows i; closed = mark i } in
     (ap (λ (g : PeelFault). Some (Err g)) fault, refl)
 next_fault list w s (h ∷ hs) e error r f =
     let same = same_kind (announced s.expected) r.kind (kind_of h) r.announced f.stack.0.announced in
-    let own = subst (λ (l : List ℕ). Refuses sources.Slice l r.kind r.refusal) f.rest r.refuses in
-    absurd (f.stack.0.accepted _ (subst (λ (k : Kind). Refuses sources.Slice (within list w) k r.refusal) same own))
+    let own = bounded_row w.bound (within list w) r.kind r.refusal (subst (λ (l : List ℕ). Refuses sources.Slice l r.kind r.refusal) f.rest r.refuses) in
+    absurd (f.stack.0.accepted _ (subst (λ (k : Kind). Refuses w.bound (within list w) k (named w.bound r.refusal)) same own))
 
 -- the unit is refused
 pub gives_fault : (s : State) (error : PeelError) → IsRefusedBy s error → Gives s (Some (Err (fault_at s error))) (ended s)
@@ -159,7 +162,7 @@ refused_macsec s bytes macsec.InvalidUnmodifiedShortLen going some rest p = reco
 
 -- the window left to read, as all of its own bytes
 abbrev pub own_window : State → Window
-own_window s = record { start = 0; finish = length s.rest; closed = s.closed }
+own_window s = record { start = 0; finish = length s.rest; closed = s.closed; bound = s.bound }
 
 abbrev pub own_payload : State → Header → Window
 own_payload s h = payload_from (header_len h) (trailer_len h) (payload_len h) (own_window s)
@@ -171,10 +174,10 @@ moved_part frame i j start end u ordered inside at to =
 
 -- all of it behind a header
 pub plain_part : (frame : List ℕ) (i j n k : ℕ) (closed : Bool) → i ≤ j → j ≤ length frame → n ≤ length (slice_range frame i j) → k ≡ n
-    → slice_range frame (i + k) j ≡ within (slice_range frame i j) (record { start = n; finish = length (slice_range frame i j) - 0; closed = closed })
+    → slice_range frame (i + k) j ≡ within (slice_range frame i j) (record { start = n; finish = length (slice_range frame i j) - 0; closed = closed; bound = sources.Slice })
 plain_part frame i j n k closed ordered inside whole is =
     let long = length-part frame i j inside in
-    moved_part frame i j (i + k) j (record { start = n; finish = length (slice_range frame i j) - 0; closed = closed }) (omega arith) (omega arith) (omega arith) (omega arith)
+    moved_part frame i j (i + k) j (record { start = n; finish = length (slice_range frame i j) - 0; closed = closed; bound = sources.Slice }) (omega arith) (omega arith) (omega arith) (omega arith)
 
 -- the unit that is announced was read, and t is the walk behind it
 pub record IsReadBy (s : State) (u : PeelUnit) (t : State) : Type 0 where
@@ -187,6 +190,7 @@ pub record IsReadBy (s : State) (u : PeelUnit) (t : State) : Type 0 where
   pub rest : t.rest ≡ within s.rest (own_payload s header)
   pub offset : t.offset ≡ s.offset + header_len header
   pub closed : t.closed ≡ (own_payload s header).closed
+  pub bound : t.bound ≡ (own_payload s header).bound
   pub expected : t.expected ≡ after s.expected header
   pub over : t.over ≡ false
 
@@ -194,11 +198,12 @@ record IsPart (list : List ℕ) (v : Window) (rest : List ℕ) (u : Window) : Ty
   pub inside : IsIn list v
   pub bytes : within rest u ≡ within list v
   pub closed : u.closed ≡ v.closed
+  pub bound : u.bound ≡ v.bound
 
 -- a payload in the bytes of a window is the window's payload
-payload_part : (list : List ℕ) (w : Window) (s : State) (n trailer : ℕ) (o : Option ℕ) → IsIn list w → s.rest ≡ within list w → s.closed ≡ w.closed → n + unwrap_or o 0 + trailer ≤ length s.rest
+payload_part : (list : List ℕ) (w : Window) (s : State) (n trailer : ℕ) (o : Option ℕ) → IsIn list w → s.rest ≡ within list w → s.closed ≡ w.closed → s.bound ≡ w.bound → n + unwrap_or o 0 + trailer ≤ length s.rest
     → IsPart list (payload_from (w.start + n) trailer o w) s.rest (payload_from n trailer o (own_window s))
-payload_part list w s n trailer None i is mark fits =
+payload_part list w s n trailer None i is mark bound fits =
     let ordered = i.ordered in
     let inside = i.inside in
     let long : length s.rest ≡ w.finish - w.start = ap length is ∙ length-part list w.start w.finish inside in
@@ -207,8 +212,9 @@ payload_part list w s n trailer None i is mark fits =
       inside = record { ordered = omega arith; inside = omega arith };
       bytes = ap (λ (l : List ℕ). slice_range l n (length s.rest - trailer)) is ∙ part_of_part list w.start w.finish n (length s.rest - trailer) (omega arith) (omega arith) ∙ ap (slice_range list (w.start + n)) end;
       closed = mark;
+      bound = bound;
     }
-payload_part list w s n trailer (Some p) i is mark fits =
+payload_part list w s n trailer (Some p) i is mark bound fits =
     let ordered = i.ordered in
     let inside = i.inside in
     let long : length s.rest ≡ w.finish - w.start = ap length is ∙ length-part list w.start w.finish inside in
@@ -217,17 +223,19 @@ payload_part list w s n trailer (Some p) i is mark fits =
       inside = record { ordered = omega arith; inside = omega arith };
       bytes = ap (λ (l : List ℕ). slice_range l n (n + p)) is ∙ part_of_part list w.start w.finish n (n + p) (omega arith) (omega arith) ∙ ap (slice_range list (w.start + n)) end;
       closed = refl;
+      bound = refl;
     }
 
 faces_behind : (list : List ℕ) (w : Window) (s t : State) (u : PeelUnit) (hs : List Header) (e : Ending) (r : IsReadBy s u t) → Faces list w s (r.header ∷ hs) e → Faces list (payload w r.header) t hs e
 faces_behind list w s t u hs e r f =
     let h = r.header in
-    let part = payload_part list w s (header_len h) (trailer_len h) (payload_len h) f.inside f.rest f.closed (unit_fits sources.Slice s.rest h r.accepted r.means) in
+    let part = payload_part list w s (header_len h) (trailer_len h) (payload_len h) f.inside f.rest f.closed f.bound (unit_fits sources.Slice s.rest h r.accepted r.means) in
     record {
       inside = part.inside;
       rest = r.rest ∙ part.bytes;
       offset = r.offset ∙ ap (λ (n : ℕ). n + header_len h) f.offset;
       closed = r.closed ∙ part.closed;
+      bound = r.bound ∙ part.bound;
       stack = subst (λ (x : Expectation). Stack list x (payload w h) hs e) (sym r.expected) f.stack.1;
     }
 
@@ -235,7 +243,7 @@ next_unit : (list : List ℕ) (w : Window) (s t : State) (u : PeelUnit) (hs : Li
 next_unit list w s t u [] (Accepted v y) r f = absurd (no_kind (announced s.expected) (kind_of r.header) f.stack.2 r.announced)
 next_unit list w s t u [] (Fault v y q) r f =
     let same = same_kind (announced s.expected) f.stack.2 (kind_of r.header) f.stack.3 r.announced in
-    absurd (r.accepted q (subst (λ (l : List ℕ). Refuses sources.Slice l (kind_of r.header) q) (sym f.rest) (subst (λ (k : Kind). Refuses sources.Slice (within list w) k q) same f.stack.4)))
+    absurd (accepts_bounded w.bound s.rest (kind_of r.header) r.accepted q (subst (λ (l : List ℕ). Refuses w.bound l (kind_of r.header) q) (sym f.rest) (subst (λ (k : Kind). Refuses w.bound (within list w) k q) same f.stack.4)))
 next_unit list w s t u (h ∷ hs) e r f =
     let same = same_kind (announced s.expected) (kind_of r.header) (kind_of h) r.announced f.stack.0.announced in
     let is = one_header s.rest r.header h same r.means (subst (λ (l : List ℕ). Means l h) (sym f.rest) f.stack.0.means) in

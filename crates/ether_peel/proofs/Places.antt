@@ -6,7 +6,7 @@ use Rattle.etherparse.specs.Header.{Header, header_len, payload_len, trailer_len
 use Rattle.etherparse.specs.Refusal.{Refusal, Length, UnsupportedPacketType, UnsupportedHardwareType, UnexpectedVersion, InvalidShortLen}
 use Rattle.etherparse.proofs.SubLists.{length-part}
 use Rattle.etherparse.proofs.Means.{unit_fits}
-use Rattle.ether_peel.specs.Window.{Window, within, IsIn, bound_of, payload_finish, payload}
+use Rattle.ether_peel.specs.Window.{Window, within, IsIn, payload_finish, payload}
 use Rattle.ether_peel.specs.Expectation.{Expectation, after}
 use Rattle.ether_peel.specs.Stack.{Ending, Accepted, Fault, last_window, last_expected, IsUnit, Stack}
 use Rattle.ether_peel.specs.Places.{place, moved, moved_ending, StacksAreLocal}
@@ -32,7 +32,7 @@ payload_finish_in list w n trailer (Some p) at fits =
 
 -- a payload ends in its window
 pub payload_narrows : (list : List ℕ) (x : Expectation) (w : Window) (h : Header) → IsIn list w → IsUnit list x w h → (payload w h).finish ≤ w.finish
-payload_narrows list x w h at u = payload_finish_in list w (header_len h) (trailer_len h) (payload_len h) at (unit_fits (bound_of w) (within list w) h u.accepted u.means)
+payload_narrows list x w h at u = payload_finish_in list w (header_len h) (trailer_len h) (payload_len h) at (unit_fits w.bound (within list w) h u.accepted u.means)
 
 -- a later window begins where the headers before it end, and lies in the first one
 pub record LiesBehind (w : Window) (hs : List Header) (v : Window) : Type 0 where
@@ -78,7 +78,7 @@ stays_short : (list : List ℕ) (e : Ending) → Stack list (last_expected e) (l
 stays_short list (Accepted v y) s = tt
 stays_short list (Fault v y r) s =
     let a : length (within list v) ≡ length (within list v) + length (beyond v.closed []) = sym (ap (λ (l : List ℕ). length (within list v) + length l) (beyond_nil v.closed) ∙ omega arith) in
-    subst (λ (n : ℕ). IsBelow n r) a (refused_below (bound_of v) (within list v) s.2 r s.4)
+    subst (λ (n : ℕ). IsBelow n r) a (refused_below v.bound (within list v) s.2 r s.4)
 
 -- a window with the same bytes and mark, as far behind v as u is behind w
 moved_is : (list other : List ℕ) (w v u last : Window) → w.start ≤ u.start → Carries list other [] u last → last.start + w.start ≡ u.start + v.start → last ≡ moved w.start v.start u
@@ -88,7 +88,7 @@ moved_is list other w v u last le c at =
     let d = c.old.ordered in
     let a : last.start ≡ v.start + (u.start - w.start) = omega arith in
     let b : last.finish ≡ v.start + (u.finish - w.start) = omega arith in
-    λ i. record { start = a i; finish = b i; closed = c.closed i }
+    λ i. record { start = a i; finish = b i; closed = c.closed i; bound = c.bound i }
 
 ending_is : (w v last : Window) (e : Ending) → last ≡ moved w.start v.start (last_window e) → ending_in [] last e ≡ moved_ending w.start v.start e
 ending_is w v last (Accepted u y) m = ap (λ (k : Window). Accepted k y) m
@@ -97,10 +97,10 @@ ending_is w v last (Fault u y r) m =
     λ i. Fault (m i) y (same i)
 
 pub is_local : StacksAreLocal
-is_local list other x w v hs e old new same mark s =
+is_local list other x w v hs e old new same mark bound s =
     let l = leads list x w hs e s in
     let bytes : within other v ≡ within list w ++ beyond w.closed [] = sym same ∙ sym (append-nil (within list w)) ∙ ap (λ (l : List ℕ). within list w ++ l) (sym (beyond_nil w.closed)) in
-    let c : Carries list other [] w v = record { old = old; new = new; closed = sym mark; bytes = bytes } in
+    let c : Carries list other [] w v = record { old = old; new = new; closed = sym mark; bound = sym bound; bytes = bytes } in
     let t = carry_stack list other [] x w v hs e c (inl (beyond_nil w.closed)) s (stays_short list e l.1) in
     let b = leads_behind list x w hs (last_expected e) (last_window e) old l.0 in
     let p = place_least w.start hs in

@@ -8,7 +8,7 @@ use Rattle.etherparse.specs.Header.{Header}
 use Rattle.etherparse.specs.Refusal.{Refusal, Length, UnsupportedPacketType, UnsupportedHardwareType, UnexpectedVersion, InvalidShortLen, Refuses}
 use Rattle.etherparse.proofs.SubLists.{IsBytes-part}
 use Rattle.etherparse.proofs.Rows.{row_short}
-use Rattle.ether_peel.specs.Window.{within, bound_of}
+use Rattle.ether_peel.specs.Window.{within}
 use Rattle.ether_peel.specs.Expectation.{Expectation}
 use Rattle.ether_peel.specs.Stack.{Ending, Accepted, Fault, last_window, whole, Walk}
 use Rattle.ether_peel.specs.Endings.{OpenRefusal}
@@ -99,10 +99,10 @@ found start list s f error is fault is_open of_length =
     let l = leads list start (whole start list) is.headers e is.walk in
     let ends = walk_open_to_end start list is.headers e (no_fcs start list is.headers e is.walk o) is.walk in
     let row = refused_row list e (Length o.required o.len o.source o.layer) l.1 o.refused in
-    let short = row_short (bound_of v) o.source (within list v) row.0 o.required o.len o.layer row.2 in
+    let short = row_short v.bound o.source (within list v) row.0 o.required o.len o.layer row.2 in
     let bytes : within list v ≡ slice_range list f.offset (length list) = ap (slice_range list v.start) (ends.ends o.is_open) ∙ ap (λ (n : ℕ). slice_range list n (length list)) w.start in
-    let here : Refuses (bound_of v) (slice_range list f.offset (length list)) row.0 (Length o.required o.len o.source error.layer) =
-    subst (λ (l : List ℕ). Refuses (bound_of v) l row.0 (Length o.required o.len o.source error.layer)) bytes (subst (λ (x : Layer). Refuses (bound_of v) (within list v) row.0 (Length o.required o.len o.source x)) w.layer row.2) in
+    let here : Refuses v.bound (slice_range list f.offset (length list)) row.0 (Length o.required o.len o.source error.layer) =
+    subst (λ (l : List ℕ). Refuses v.bound l row.0 (Length o.required o.len o.source error.layer)) bytes (subst (λ (x : Layer). Refuses v.bound (within list v) row.0 (Length o.required o.len o.source x)) w.layer row.2) in
     let at = w.start in
     let ordered = ends.is_in.ordered in
     let inside = ends.is_in.inside in
@@ -116,7 +116,7 @@ found start list s f error is fault is_open of_length =
       same_len = sym w.len;
       inside = omega arith;
       begun = bytes;
-      short = (row.0, o.required, o.len, o.source, here);
+      short = (v.bound, row.0, o.required, o.len, o.source, here);
     }
 
 -- ---- what comes of it

@@ -9,7 +9,7 @@ use Rattle.etherparse.specs.Refusal.{Refuses, Accepts}
 use Rattle.etherparse.proofs.SubLists.{length-part-is, IsBytes-part}
 use Rattle.etherparse.proofs.Rows.{decide, one_row}
 use Rattle.etherparse.proofs.Means.{some_header, one_header, unit_fits}
-use Rattle.ether_peel.specs.Window.{bound_of, Window, within, payload_from, payload}
+use Rattle.ether_peel.specs.Window.{Window, within, payload_from, payload}
 use Rattle.ether_peel.specs.Expectation.{Expectation, announced, after}
 use Rattle.ether_peel.specs.Stack.{Ending, Accepted, Fault, IsUnit, Stack}
 
@@ -33,7 +33,7 @@ shrinks_from list w n trailer (Some p) least fits =
 
 -- a payload is shorter than its window
 pub shrinks : (list : List ℕ) (x : Expectation) (w : Window) (h : Header) → IsUnit list x w h → length (within list (payload w h)) + 4 ≤ length (within list w)
-shrinks list x w h u = shrinks_from list w (header_len h) (trailer_len h) (payload_len h) (header_least h) (unit_fits (bound_of w) (within list w) h u.accepted u.means)
+shrinks list x w h u = shrinks_from list w (header_len h) (trailer_len h) (payload_len h) (header_least h) (unit_fits w.bound (within list w) h u.accepted u.means)
 
 -- ---- there is one
 
@@ -44,11 +44,11 @@ at_kind : (list : List ℕ) (x : Expectation) (w : Window) (kind : Kind) → IsB
 at_kind list x w kind ok e go =
     let bytes = within list w in
     let fit = IsBytes-part w.start w.finish list ok in
-    elim (decide (bound_of w) bytes kind fit) [
+    elim (decide w.bound bytes kind fit) [
       | inl r ↦ ([], Fault w x r.0, (refl, refl, kind, e, r.1))
       | inr accepted ↦
-          let h = some_header (bound_of w) bytes kind fit accepted in
-          let u : IsUnit list x w h.0 = record { announced = e ∙ ap Some (sym h.1); accepted = subst (Accepts (bound_of w) bytes) (sym h.1) accepted; means = h.2 } in
+          let h = some_header w.bound bytes kind fit accepted in
+          let u : IsUnit list x w h.0 = record { announced = e ∙ ap Some (sym h.1); accepted = subst (Accepts w.bound bytes) (sym h.1) accepted; means = h.2 } in
           let rest = go h.0 u in
           (h.0 ∷ rest.0, rest.1, (u, rest.2))
     ]
@@ -75,18 +75,18 @@ one_stack list x w [] [] (Fault v y q) (Accepted u z) s t = let e : None ≡ Som
 one_stack list x w [] [] (Fault v y q) (Fault u z r) s t =
     let e : Some s.2 ≡ Some t.2 = sym s.3 ∙ t.3 in
     let k : s.2 ≡ t.2 = cc in
-    let row = one_row (bound_of w) (within list w) t.2 q r (subst (λ (k : Kind). Refuses (bound_of w) (within list w) k q) k s.4) t.4 in
+    let row = one_row w.bound (within list w) t.2 q r (subst (λ (k : Kind). Refuses w.bound (within list w) k q) k s.4) t.4 in
     (refl, λ i. Fault ((s.0 ∙ sym t.0) i) ((s.1 ∙ sym t.1) i) (row i))
 one_stack list x w [] (k ∷ ks) (Accepted v y) f s t = let e : None ≡ Some (kind_of k) = sym s.2 ∙ t.0.announced in absurd cc
 one_stack list x w [] (k ∷ ks) (Fault v y r) f s t =
     let e : Some s.2 ≡ Some (kind_of k) = sym s.3 ∙ t.0.announced in
     let same : s.2 ≡ kind_of k = cc in
-    absurd (t.0.accepted r (subst (λ (k : Kind). Refuses (bound_of w) (within list w) k r) same s.4))
+    absurd (t.0.accepted r (subst (λ (k : Kind). Refuses w.bound (within list w) k r) same s.4))
 one_stack list x w (h ∷ hs) [] e (Accepted v y) s t = let e : None ≡ Some (kind_of h) = sym t.2 ∙ s.0.announced in absurd cc
 one_stack list x w (h ∷ hs) [] e (Fault v y r) s t =
     let e : Some t.2 ≡ Some (kind_of h) = sym t.3 ∙ s.0.announced in
     let same : t.2 ≡ kind_of h = cc in
-    absurd (s.0.accepted r (subst (λ (k : Kind). Refuses (bound_of w) (within list w) k r) same t.4))
+    absurd (s.0.accepted r (subst (λ (k : Kind). Refuses w.bound (within list w) k r) same t.4))
 one_stack list x w (h ∷ hs) (k ∷ ks) e f s t =
     let kinds : Some (kind_of h) ≡ Some (kind_of k) = sym s.0.announced ∙ t.0.announced in
     let kind : kind_of h ≡ kind_of k = cc in

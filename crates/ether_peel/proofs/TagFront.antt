@@ -35,16 +35,16 @@ type_len_most zero zero = omega arith
 type_len_most zero (suc c) = omega arith
 type_len_most (suc e) c = omega arith
 
-row_accepts : (l : List ℕ) (kind : Kind) (required len : ℕ) (source : LenSource) → 6 ≤ length l → Refuses sources.Slice l kind (Length required len source layers.MacsecHeader) → AcceptsHeader sources.Slice (two_of l) kinds.Macsec
-row_accepts l kind required len source six (rows.macsec lt) = absurd (omega arith)
-row_accepts l kind required len source six (rows.macsec_header t le b v s lt) =
+row_accepts : (bound : LenSource) (l : List ℕ) (kind : Kind) (required len : ℕ) (source : LenSource) → 6 ≤ length l → Refuses bound l kind (Length required len source layers.MacsecHeader) → AcceptsHeader sources.Slice (two_of l) kinds.Macsec
+row_accepts bound l kind required len source six (rows.macsec lt) = absurd (omega arith)
+row_accepts bound l kind required len source six (rows.macsec_header t le b v s lt) =
     let begins : BeginsSecTag (two_of l) t = record { sum = same_number l (omega arith) ∙ b.sum; fits = b.fits } in
     let present = b.fits.sci_present in
     let most = type_len_most t.encrypted t.changed in
     accepts_tag sources.Slice (two_of l) t (omega arith) begins v s (omega arith)
 
 pub never_refused : (l : List ℕ) (e : HeaderSliceError MacsecHeaderError) → IsShort l layers.MacsecHeader → 6 ≤ length l → IsRefusedTag (two_of l) e → ⊥
-never_refused l e short six refused = row_accepts l short.0 short.1 short.2 short.3 six short.4 refused.refusal refused.row
+never_refused l e short six refused = row_accepts short.0 l short.1 short.2 short.3 short.4 six short.5 refused.refusal refused.row
 
 -- ---- the packet that they plan
 

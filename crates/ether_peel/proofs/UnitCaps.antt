@@ -15,7 +15,7 @@ use Rattle.etherparse.specs.Refusal.{Refusal, Length, UnsupportedPacketType, Uns
 use Rattle.etherparse.specs.Refusal as rows
 use Rattle.etherparse.proofs.SubLists.{length-part}
 use Rattle.etherparse.proofs.Rows.{one_sec_tag_front, one_arp_front}
-use Rattle.ether_peel.specs.Window.{Window, within, bound_of, payload_closed, payload}
+use Rattle.ether_peel.specs.Window.{Window, within, payload_closed, payload}
 use Rattle.ether_peel.specs.Expectation.{Expectation, announced, after, has_fcs}
 use Rattle.ether_peel.specs.Stack.{Ending, Accepted, Fault, Stack, whole, Walk}
 use Rattle.ether_peel.specs.Endings.{OpenRefusal, named_len}
@@ -139,7 +139,7 @@ given_capped list x w (Accepted v y) s = omega arith
 given_capped list x w (Fault v y r) s =
     let kind : announced y ≡ Some s.2 = ap announced s.1 ∙ s.3 in
     let e : announced_cap v.closed (announced y) ≡ cap v.closed s.2 = ap (announced_cap v.closed) kind in
-    let k = given_capped_in (bound_of w) v.closed (within list w) s.2 r s.4 in
+    let k = given_capped_in w.bound v.closed (within list w) s.2 r s.4 in
     omega arith
 
 -- the mark of the window after these headers
@@ -163,13 +163,13 @@ given_is q required len source layer e = ap given e
 
 -- where the required length of an open window is there, the rest of the walk was given more
 more_given : (list : List ℕ) (bound source : LenSource) (bytes more : List ℕ) (kind : Kind) (required len : ℕ) (layer : Layer) (y : Expectation) (last : Window) (rest : List Header) (f : Ending)
-    → announced y ≡ Some kind → Refuses bound bytes kind (Length required len source layer) → within list last ≡ bytes ++ more → bound_of last ≡ bound → last.closed ≡ false → required ≤ length (bytes ++ more) → Stack list y last rest f → of_layer len layer < caps false rest + given_last f
+    → announced y ≡ Some kind → Refuses bound bytes kind (Length required len source layer) → within list last ≡ bytes ++ more → last.bound ≡ bound → last.closed ≡ false → required ≤ length (bytes ++ more) → Stack list y last rest f → of_layer len layer < caps false rest + given_last f
 unfolding given_last given_in
 more_given list bound source bytes more kind required len layer y last [] (Accepted u z) some row is same mark le t = let e : None ≡ Some kind = sym t.2 ∙ some in absurd cc
 more_given list bound source bytes more kind required len layer y last [] (Fault u z r) some row is same mark le t =
     let kinds : Some kind ≡ Some t.2 = sym some ∙ t.3 in
     let k : t.2 ≡ kind = cc in
-    let there : Refuses bound (bytes ++ more) kind r = subst (λ (s : LenSource). Refuses s (bytes ++ more) kind r) same (subst (λ (b : List ℕ). Refuses (bound_of last) b kind r) is (subst (λ (j : Kind). Refuses (bound_of last) (within list last) j r) k t.4)) in
+    let there : Refuses bound (bytes ++ more) kind r = subst (λ (s : LenSource). Refuses s (bytes ++ more) kind r) same (subst (λ (b : List ℕ). Refuses last.bound b kind r) is (subst (λ (j : Kind). Refuses last.bound (within list last) j r) k t.4)) in
     let later = given_after bound source bytes more kind required len layer r row le there in
     let unmarked : u.closed ≡ false = ap (λ (w : Window). w.closed) t.0 ∙ mark in
     let e : given_in u.closed r ≡ given r = ap (λ (c : Bool). given_in c r) unmarked in
@@ -192,13 +192,13 @@ given_once_more start front more hs ks (Fault v y q) f o ok h s le t =
     let l = leads front start (whole start front) hs (Fault v y q) s in
     let g = walk_open_to_end start front hs (Fault v y q) h s in
     let is : q ≡ Length o.required o.len o.source o.layer = (let e = o.refused in cc) in
-    let row = subst (λ (r : Refusal). Refuses (bound_of v) (within front v) l.1.2 r) is l.1.4 in
+    let row = subst (λ (r : Refusal). Refuses v.bound (within front v) l.1.2 r) is l.1.4 in
     let few : beyond v.closed more ≡ more = ap (λ (b : Bool). beyond b more) o.is_open in
     let bytes : within list c.last ≡ within front v ++ more = c.carries.bytes ∙ ap (λ (b : List ℕ). within front v ++ b) few in
     let finish = g.ends o.is_open in
     let at = g.is_in.ordered in
     let part = length-part front v.start v.finish g.is_in.inside in
-    let later = more_given list (bound_of v) o.source (within front v) more l.1.2 o.required o.len o.layer y c.last c.rest f l.1.3 row bytes refl (c.carries.closed ∙ o.is_open) (omega (arith, length-append (within front v) more, length-append front more)) c.follows in
+    let later = more_given list v.bound o.source (within front v) more l.1.2 o.required o.len o.layer y c.last c.rest f l.1.3 row bytes c.carries.bound (c.carries.closed ∙ o.is_open) (omega (arith, length-append (within front v) more, length-append front more)) c.follows in
     let mark : false ≡ closed_after false hs = sym o.is_open ∙ mark_after front start (whole start front) hs y v l.0 ∙ ap (λ (b : Bool). closed_after b hs) h in
     let split : caps false ks ≡ caps false hs + caps false c.rest = ap (caps false) c.headers ∙ caps-append false hs c.rest ∙ ap (λ (b : Bool). caps false hs + caps b c.rest) (sym mark) in
     let mine : given_in v.closed q ≡ of_layer o.len o.layer = ap (λ (b : Bool). given_in b q) o.is_open ∙ given_is q o.required o.len o.source o.layer is in

@@ -152,7 +152,7 @@ tag_payload_part frame i j m n k t ordered inside accepted means read is =
     let long = length-part frame i j inside in
     let len = ap length read.rest ∙ length-part bytes (header_len h) finish within.1 in
     let at = read.len in
-    moved_part frame i j (i + n) (i + n + k) (record { start = header_len h; finish = finish; closed = false }) within.0 (omega arith) (omega arith) (omega arith) ∙ sym read.rest
+    moved_part frame i j (i + n) (i + n + k) (record { start = header_len h; finish = finish; closed = false; bound = sources.Slice }) within.0 (omega arith) (omega arith) (omega arith) ∙ sym read.rest
 
 -- the mark of the payload's window
 pub marked : (closed : Bool) (o : Option ℕ) → (closed || is_some o) ≡ payload_closed closed o

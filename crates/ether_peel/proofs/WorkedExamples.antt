@@ -32,7 +32,7 @@ inner = record { pcp = 5; dei = 0; vid = 0xABB; ether_type = 0xCCDD }
 abbrev padded : List ℕ
 padded = 0x00 ∷ 0xC6 ∷ 0 ∷ 0 ∷ 0 ∷ 1 ∷ 0x81 ∷ 0x00 ∷ 0xAA ∷ 0xBB ∷ 0xCC ∷ 0xDD ∷ 0xEE ∷ 0xEE ∷ []
 
-padded_walk : Walk (EtherType 0x88E5) padded (headers.Macsec (tag 6) ∷ headers.Vlan inner ∷ []) (Accepted (record { start = 12; finish = 12; closed = true }) (EtherType 0xCCDD))
+padded_walk : Walk (EtherType 0x88E5) padded (headers.Macsec (tag 6) ∷ headers.Vlan inner ∷ []) (Accepted (record { start = 12; finish = 12; closed = true; bound = sources.MacsecShortLength }) (EtherType 0xCCDD))
 padded_walk =
     let fits : FitsSecTagFront (sec_tag_front_of 0 3 (tag 6)) = omega arith in
     let begins : BeginsSecTag padded (sec_tag_front_of 0 3 (tag 6)) = record { sum = refl; fits = fits } in (
@@ -44,7 +44,7 @@ padded_walk =
       (
         record {
           announced = refl;
-          accepted = accepts_vlan sources.Slice (0xAA ∷ 0xBB ∷ 0xCC ∷ 0xDD ∷ []) (omega arith);
+          accepted = accepts_vlan sources.MacsecShortLength (0xAA ∷ 0xBB ∷ 0xCC ∷ 0xDD ∷ []) (omega arith);
           means = record { whole = omega arith; spells = record { sum = refl; fits = omega arith } };
         },
         (refl, refl, refl),
@@ -64,7 +64,7 @@ padded_cleared = refl
 abbrev short : List ℕ
 short = 0x00 ∷ 0x04 ∷ 0 ∷ 0 ∷ 0 ∷ 1 ∷ 0x81 ∷ 0x00 ∷ 0xAA ∷ 0xBB ∷ 0xCC ∷ 0xDD ∷ []
 
-short_walk : Walk (EtherType 0x88E5) short (headers.Macsec (tag 4) ∷ []) (Fault (record { start = 8; finish = 10; closed = true }) (EtherType 0x8100) (Length 4 2 sources.Slice layers.VlanHeader))
+short_walk : Walk (EtherType 0x88E5) short (headers.Macsec (tag 4) ∷ []) (Fault (record { start = 8; finish = 10; closed = true; bound = sources.MacsecShortLength }) (EtherType 0x8100) (Length 4 2 sources.MacsecShortLength layers.VlanHeader))
 short_walk =
     let fits : FitsSecTagFront (sec_tag_front_of 0 0 (tag 4)) = omega arith in
     let begins : BeginsSecTag short (sec_tag_front_of 0 0 (tag 4)) = record { sum = refl; fits = fits } in (
@@ -85,7 +85,7 @@ abbrev begun : List ℕ
 begun = 0x00 ∷ 0x05 ∷ 0x81 ∷ 0x00 ∷ 0xAA ∷ 0xBB ∷ []
 
 abbrev begun_ending : Ending
-begun_ending = Fault (record { start = 4; finish = 6; closed = false }) (EtherType 0x8100) (Length 4 2 sources.Slice layers.VlanHeader)
+begun_ending = Fault (record { start = 4; finish = 6; closed = false; bound = sources.Slice }) (EtherType 0x8100) (Length 4 2 sources.Slice layers.VlanHeader)
 
 begun_walk : Walk (EtherType 0x8100) begun (headers.Vlan outer ∷ []) begun_ending
 begun_walk = (

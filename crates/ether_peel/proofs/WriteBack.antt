@@ -8,7 +8,7 @@ use Rattle.etherparse.specs.Bytes.{IsBytes}
 use Rattle.etherparse.specs.Header.{Header, header_len, header_bytes}
 use Rattle.etherparse.specs.Header as headers
 use Rattle.etherparse.proofs.SubLists.{length-part, part_join, part_of_part, IsBytes-part}
-use Rattle.ether_peel.specs.Window.{Window, within, IsIn, bound_of, payload}
+use Rattle.ether_peel.specs.Window.{Window, within, IsIn, payload}
 use Rattle.ether_peel.specs.Expectation.{Expectation, after}
 use Rattle.ether_peel.specs.Stack.{Ending, last_window, last_expected, Stack, whole}
 use Rattle.ether_peel.specs.WriteBack.{cleared_at, cleared, HeadersGoBack}
@@ -99,7 +99,7 @@ headers_back list x w (h ∷ hs) y v ok at l =
     let same : slice_range c w.start (w.start + n) ≡ slice_range bytes 0 n =
     cleared_before list (w.start + n) hs w.start (w.start + n) (omega arith) ∙ ap (λ (s : ℕ). slice_range list s (w.start + n)) (sym zero_more) ∙ sym (part_of_part list w.start w.finish 0 n (omega arith) (omega arith)) in
     let first : slice_range (cleared_at c w.start h) w.start (w.start + n) ≡ header_bytes h =
-    cleared_part c w.start h ∙ ap (λ (b : List ℕ). cleared_bytes b h) same ∙ written (bound_of w) bytes h (IsBytes-part w.start w.finish list ok) l.0.accepted l.0.means in
+    cleared_part c w.start h ∙ ap (λ (b : List ℕ). cleared_bytes b h) same ∙ written w.bound bytes h (IsBytes-part w.start w.finish list ok) l.0.accepted l.0.means in
     append_assoc (header_bytes h) (flat_map header_bytes hs) (within list v)
     ∙ ap (λ (b : List ℕ). header_bytes h ++ b) (rest ∙ sym (cleared_at_behind c w.start h v.finish))
     ∙ ap (λ (b : List ℕ). b ++ slice_range (cleared_at c w.start h) (w.start + n) v.finish) (sym first)

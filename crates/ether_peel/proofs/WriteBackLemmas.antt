@@ -14,7 +14,7 @@ use Rattle.etherparse.specs.Header.{Header, kind_of, header_len, header_bytes, M
 use Rattle.etherparse.specs.Header as headers
 use Rattle.etherparse.specs.Refusal.{Accepts}
 use Rattle.etherparse.proofs.SubLists.{length-part, IsBytes-part}
-use Rattle.ether_peel.specs.Window.{Window, within, IsIn, bound_of, payload}
+use Rattle.ether_peel.specs.Window.{Window, within, IsIn, payload}
 use Rattle.ether_peel.specs.Expectation.{Expectation}
 use Rattle.ether_peel.specs.Stack.{Ending, Accepted, Fault, last_window, whole, Walk}
 use Rattle.ether_peel.specs.PeelState.{State}
@@ -166,7 +166,7 @@ next_at x list s t u at old mid ok fits same a gives =
     let unit = faces.stack.0 in
     let shows = subst (λ (l : List ℕ). ShowsUnit l t.rest p.header u) faces.rest p.shows in
     let okw = IsBytes-part w.start w.finish list ok in
-    let bytes = unit_bytes-shown (bound_of w) (within list w) t.rest p.header u okw unit.accepted unit.means shows in
+    let bytes = unit_bytes-shown w.bound (within list w) t.rest p.header u okw unit.accepted unit.means shows in
     let len = ap length bytes ∙ length-means (within list w) p.header okw unit.means in
     let before = header_before w (last_window b.ending) [] p.header p.later (last_behind list s.expected w (p.header ∷ p.later) b.ending faces.inside faces.stack) in
     let long = fits (b.done ++ b.left) b.ending b.walk in

@@ -1,7 +1,6 @@
 -- The bytes that complete a unit of which the list has only the first bytes.
 use Rattle.std.specs.Prelude.{◌≡◌, ℕ, zero, suc, ◌+◌, ◌-◌, ◌*◌, ◌≤◌, List, [], ◌∷◌, ◌++◌, length, replicate, slice_index, Option, Some, None, unwrap_or, Bool, nat_eq, ◌||◌, ◌&&◌, if◌then◌else◌}
 use Rattle.etherparse.specs.Types.LenSource.{LenSource}
-use Rattle.etherparse.specs.Types.LenSource.TheVariants as sources
 use Rattle.etherparse.specs.Types.Layer.{Layer}
 use Rattle.etherparse.specs.Types.Layer.TheVariants as layers
 use Rattle.etherparse.specs.Bytes.{IsBytes}
@@ -92,4 +91,4 @@ NothingToComplete start list = (hs : List Header) (e : Ending) → Walk start li
 
 -- bytes are refused for their number as the first of a unit of a layer
 abbrev pub IsShort : List ℕ → Layer → Type 0
-IsShort bytes layer = (kind : Kind) × (required : ℕ) × (len : ℕ) × (source : LenSource) × Refuses sources.Slice bytes kind (Length required len source layer)
+IsShort bytes layer = (bound : LenSource) × (kind : Kind) × (required : ℕ) × (len : ℕ) × (source : LenSource) × Refuses bound bytes kind (Length required len source layer)

@@ -21,6 +21,7 @@ pub record Faces (list : List ℕ) (w : Window) (s : State) (hs : List Header) (
   pub rest : s.rest ≡ within list w
   pub offset : s.offset ≡ w.start
   pub closed : s.closed ≡ w.closed
+  pub bound : s.bound ≡ w.bound
   pub stack : Stack list s.expected w hs e
 
 -- a view of a SecTag has the tag's bytes, and the bytes of the payload's window with their type, where it can be read, and

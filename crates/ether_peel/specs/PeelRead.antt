@@ -1,5 +1,6 @@
 -- What is known of the unit that is announced, once its bytes were read.
 use Rattle.std.specs.Prelude.{◌≡◌, ℕ, List, Some, false}
+use Rattle.etherparse.specs.Types.LenSource.{LenSource}
 use Rattle.etherparse.specs.Types.LenSource.TheVariants as sources
 use Rattle.etherparse.specs.Types.MacsecPayloadSlice.{MacsecPayloadSlice}
 use Rattle.etherparse.specs.Types.MacsecPayloadSlice.TheVariants as payloads
@@ -9,6 +10,7 @@ use Rattle.ether_peel.specs.Expectation.{Expectation, EtherType, Sealed, announc
 use Rattle.ether_peel.specs.PeelState.{State}
 use Rattle.ether_peel.specs.PeelFault.{error_at}
 use Rattle.ether_peel.specs.declared.peel_error.PeelError.{PeelError}
+use Rattle.ether_peel.specs.declared.peel_error.PeelError.TheVariants as errors
 
 -- the walk is not over, and the unit that is announced is refused, as the error says
 pub record IsRefusedBy (s : State) (error : PeelError) : Type 0 where
@@ -18,6 +20,16 @@ pub record IsRefusedBy (s : State) (error : PeelError) : Type 0 where
   pub refusal : Refusal
   pub refuses : Refuses sources.Slice s.rest kind refusal
   pub shows : error ≡ error_at s.offset refusal
+
+-- An error that names the bound of its window: the readers of units take what they are handed for the whole list, and name a slice.
+abbrev pub named_source : LenSource → LenSource → LenSource
+named_source bound sources.Slice = bound
+named_source bound source = source
+
+abbrev pub named_error : LenSource → PeelError → PeelError
+named_error bound (errors.Len e) = errors.Len (record e { len_source = named_source bound e.len_source })
+named_error bound (errors.LinuxSll e) = errors.LinuxSll e
+named_error bound (errors.Macsec e) = errors.Macsec e
 
 -- what is expected in the payload of a SecTag
 abbrev pub behind_sec_tag : MacsecPayloadSlice → Expectation

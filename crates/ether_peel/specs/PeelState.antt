@@ -1,5 +1,6 @@
 -- What callers see of a walker, and the representation that shows it.
 use Rattle.std.specs.Prelude.{◌≡◌, ℕ, List, Bool}
+use Rattle.etherparse.specs.Types.LenSource.{LenSource}
 use Rattle.etherparse.specs.Kind as kinds
 use Rattle.ether_peel.specs.Expectation.{Expectation, Start, EtherType, Sll, Sealed, AfterArp, announced, announced_by}
 use Rattle.ether_peel.specs.PeelStart.{kind_shown}
@@ -8,11 +9,12 @@ use Rattle.ether_peel.specs.declared.rest_kind.RestKind.TheVariants as rests
 use Rattle.ether_peel.specs.declared.peel.First.{First}
 use Rattle.ether_peel.specs.declared.peel.First.TheVariants as firsts
 
--- the bytes of the window left to read, its start, its mark and what is expected there, and whether the fault was given
+-- the bytes of the window left to read, its start, its mark, its bound and what is expected there, and whether the fault was given
 pub record State : Type 0 where
   pub rest : List ℕ
   pub offset : ℕ
   pub closed : Bool
+  pub bound : LenSource
   pub expected : Expectation
   pub over : Bool
 

@@ -2,16 +2,18 @@
 ghost use Rattle.std.specs.Prelude.{◌≡◌, ◌+◌, ◌^◌, ◌<◌, List, length, false, true, Some};
 ghost use Rattle.etherparse.specs.Header.{Header};
 ghost use Rattle.etherparse.specs.LinuxSll.{protocol_type_of_header};
+ghost use Rattle.ether_peel.specs.Window.{payload_bound};
 ghost use Rattle.ether_peel.specs.Expectation.{has_fcs, after_protocol, announced, announced_by};
 ghost use Rattle.ether_peel.specs.PeelState.{shown_of};
 ghost use Rattle.ether_peel.specs.Stack.{Ending, whole, Walk};
 ghost use Rattle.ether_peel.specs.PeelStart.{start_of, kind_shown};
-ghost use Rattle.ether_peel.specs.PeelRead.{behind_sec_tag, sec_tag_payload};
+ghost use Rattle.ether_peel.specs.PeelRead.{behind_sec_tag, named_error, sec_tag_payload};
 
 use crate::{PeelError, PeelFault, PeelUnit, RestKind, Start};
+use etherparse::err::LenError;
 use etherparse::{
-    ArpPacketSlice, EtherType, Ethernet2Slice, LinkSlice, LinuxSllSlice, MacsecPayloadSlice,
-    MacsecSlice, SingleVlanSlice, err,
+    ArpPacketSlice, EtherType, Ethernet2Slice, LenSource, LinkSlice, LinuxSllSlice,
+    MacsecPayloadSlice, MacsecSlice, SingleVlanSlice, err,
 };
 use std::marker::Model;
 
@@ -54,6 +56,7 @@ pub struct Peel<'a> {
     end: usize,
     is_closed: bool,
     is_over: bool,
+    bound: LenSource,
     first: First,
     /// The ether type that announces the next unit, once the first header was read.
     announced: EtherType,
@@ -66,7 +69,7 @@ impl<'a> Model for Peel<'a> {
 
     ghost Value = { State };
 
-    ghost view = { λ a. record { rest = slice_range a.frame.now a.start a.end; offset = a.start; closed = a.is_closed; expected = expected_of a.first a.kind; over = a.is_over } };
+    ghost view = { λ a. record { rest = slice_range a.frame.now a.start a.end; offset = a.start; closed = a.is_closed; bound = a.bound; expected = expected_of a.first a.kind; over = a.is_over } };
 
     ghost invariant = { λ a. (a.start ≤ a.end) × (a.end ≤ length a.frame.now) × Announces a.first a.announced.0 a.kind × IsShown a.first a.kind };
 }
@@ -77,7 +80,7 @@ impl<'a> Peel<'a> {
     /// A walk that has read nothing yet.
     #[inline(always)]
     pub fn new(start: Start, bytes: &'a [u8]) -> Peel<'a>
-        ensures state { result ≡ record { rest = bytes.now; offset = 0; closed = has_fcs (start_of start); expected = start_of start; over = false } }
+        ensures state { result ≡ record { rest = bytes.now; offset = 0; closed = has_fcs (start_of start); bound = LenSource.Slice; expected = start_of start; over = false } }
         ensures walk { (hs : List Header) × (e : Ending) × Walk (start_of start) bytes.now hs e × Faces bytes.now (whole (start_of start) bytes.now) result hs e }
     {
         let (first, announced, kind) = match start {
@@ -94,6 +97,7 @@ impl<'a> Peel<'a> {
             end: bytes.len(),
             is_closed: matches!(start, Start::Ethernet2Fcs),
             is_over: false,
+            bound: LenSource::Slice,
             first,
             announced,
             kind,
@@ -131,6 +135,17 @@ impl<'a> Peel<'a> {
         ensures { result ≡ self.now.closed }
     {
         self.is_closed
+    }
+
+    /// What bounds the window left to read: the frame, or the short length of a SecTag around the window.
+    ///
+    /// A length error of the walk names it as the source of the length, unless the unit itself names its length. A frame check sequence
+    /// closes a window, but does not bound it.
+    #[inline(always)]
+    pub fn bound(&self) -> LenSource
+        ensures { result ≡ self.now.bound }
+    {
+        self.bound
     }
 }
 
@@ -195,7 +210,7 @@ impl<'a> Peel<'a> {
         self.is_over = true;
         Some(Err(PeelFault {
             offset: self.start,
-            error,
+            error: bounded(error, self.bound),
             closed: self.is_closed,
         }))
     }
@@ -308,7 +323,9 @@ impl<'a> Peel<'a> {
                 let (announced, kind) = announced_behind(slice.payload);
                 self.start += slice.header.header_len();
                 self.end = self.start + payload_bytes(slice.payload).len();
-                self.is_closed |= slice.header.expected_payload_len().is_some();
+                let known = slice.header.expected_payload_len();
+                self.is_closed |= known.is_some();
+                self.bound = bound_behind(known, self.bound);
                 self.first = First::Read;
                 self.announced = announced;
                 self.kind = kind;
@@ -345,6 +362,22 @@ impl<'a> Peel<'a> {
     }
 }
 
+/// The error, with the bound of the window in place of the slice that the unit was read from.
+#[inline(always)]
+fn bounded(error: PeelError, bound: LenSource) -> PeelError
+    ensures { result ≡ named_error bound error }
+{
+    match error {
+        PeelError::Len(error) if matches!(error.len_source, LenSource::Slice) => {
+            PeelError::Len(LenError {
+                len_source: bound,
+                ..error
+            })
+        }
+        _ => error,
+    }
+}
+
 /// The ether type that announces the payload of a cooked capture, and what is shown of it.
 #[inline(always)]
 fn announced_in(packet: &LinuxSllSlice<'_>) -> (EtherType, RestKind)
@@ -372,6 +405,17 @@ fn announced_behind(payload: MacsecPayloadSlice<'_>) -> (EtherType, RestKind)
             RestKind::EtherType(payload.ether_type),
         ),
         MacsecPayloadSlice::Modified(_) => (EtherType(0), RestKind::Sealed),
+    }
+}
+
+/// The bound of the payload of a SecTag, whose length the tag names or not.
+#[inline(always)]
+fn bound_behind(known: Option<usize>, bound: LenSource) -> LenSource
+    ensures { result ≡ payload_bound bound known }
+{
+    match known {
+        Some(_) => LenSource::MacsecShortLength,
+        None => bound,
     }
 }
 

@@ -67,6 +67,8 @@ pub struct PlainWindow {
     pub end: usize,
     /// Whether bytes that follow the frame would not belong to it.
     pub closed: bool,
+    /// What named its end: the frame, or the short length of a SecTag around it.
+    pub bound: LenSource,
 }
 
 /// What stands at a place: a header of the start, a protocol by an ether type or by another number of a cooked capture,
@@ -131,6 +133,7 @@ pub fn walk<'a>(alloc: Global, start: Start, frame: &'a [u8]) -> Result<PlainWal
         start: 0,
         end: frame.len(),
         closed: expected == PlainExpected::Ethernet2Fcs,
+        bound: LenSource::Slice,
     };
     let mut refusal = None;
     for _ in 0..=frame.len() {
@@ -144,7 +147,7 @@ pub fn walk<'a>(alloc: Global, start: Start, frame: &'a [u8]) -> Result<PlainWal
                 window = payload(window, header);
             }
             PlainStep::Refused(why) => {
-                refusal = Some(why);
+                refusal = Some(named(why, window.bound));
                 break;
             }
             PlainStep::Nothing => break,
@@ -156,6 +159,24 @@ pub fn walk<'a>(alloc: Global, start: Start, frame: &'a [u8]) -> Result<PlainWal
         refusal,
     };
     Ok(PlainWalk { headers, ending })
+}
+
+/// The refusal of a unit, which names the bound of its window in place of the slice.
+fn named(refusal: PlainRefusal, bound: LenSource) -> PlainRefusal {
+    match refusal {
+        PlainRefusal::Length {
+            required,
+            len,
+            source: LenSource::Slice,
+            layer,
+        } => PlainRefusal::Length {
+            required,
+            len,
+            source: bound,
+            layer,
+        },
+        _ => refusal,
+    }
 }
 
 /// What a frame begins with.
@@ -206,6 +227,7 @@ fn payload(window: PlainWindow, header: PlainHeader<'_>) -> PlainWindow {
                 start,
                 end: start.saturating_add(len),
                 closed: true,
+                bound: LenSource::MacsecShortLength,
             },
             None => PlainWindow { start, ..window },
         },

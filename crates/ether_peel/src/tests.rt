@@ -4,6 +4,7 @@ mod captured;
 mod compared;
 mod feeding;
 mod refusals;
+mod sources;
 mod texts;
 mod units;
 

@@ -12,7 +12,7 @@ use Rattle.etherparse.specs.Header as headers
 use Rattle.etherparse.specs.Refusal.{Refusal, Length, UnsupportedPacketType, UnsupportedHardwareType, UnexpectedVersion, InvalidShortLen, Accepts}
 use Rattle.etherparse.specs.Refusal as rows
 use Rattle.etherparse.proofs.SubLists.{length-part, part_of_part, IsBytes-part}
-use Rattle.ether_peel.specs.Window.{Window, bound_of, within, IsIn, payload}
+use Rattle.ether_peel.specs.Window.{Window, within, IsIn, payload}
 use Rattle.ether_peel.specs.Expectation.{Expectation, Start, EtherType, Sll, Sealed, AfterArp}
 use Rattle.ether_peel.specs.Stack.{Ending, IsUnit, whole, Walk}
 use Rattle.ether_peel.specs.PeelState.{State}
@@ -34,7 +34,7 @@ use Rattle.ether_tool.proofs.OutputBufferLemmas.{Takes-none, Takes-then}
 -- ---- what a walker gives has the text of what stands there
 
 -- the last four bytes of a window
-fcs_shown : (list : List ℕ) (w : Window) → IsIn list w → Accepts (bound_of w) (within list w) kinds.Ethernet2Fcs
+fcs_shown : (list : List ℕ) (w : Window) → IsIn list w → Accepts w.bound (within list w) kinds.Ethernet2Fcs
     → slice_range (within list w) (length (within list w) - 4) (length (within list w)) ≡ slice_range list (w.finish - 4) w.finish
 fcs_shown list w inside accepted =
     let n = length (within list w) in

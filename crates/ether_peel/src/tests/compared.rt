@@ -110,6 +110,7 @@ fn compare<R: Abort + AllocGlobal>(rt: &R, start: Start, frame: &[u8]) -> Result
     assert_eq!(rt; Some(peel.rest()), left, "{start:?} {frame:?}");
     assert_eq!(rt; peel.offset(), window.start, "{start:?} {frame:?}");
     assert_eq!(rt; peel.closed(), window.closed, "{start:?} {frame:?}");
+    assert_eq!(rt; peel.bound(), window.bound, "{start:?} {frame:?}");
     assert_eq!(rt;
         peel.kind(),
         kind_of(ending.expected),

@@ -65,7 +65,14 @@ fn a_tag_cut_short_in_a_closed_window(rt: HostRuntime) {
     let frame = [
         0x00, 0x04, 0x00, 0x00, 0x00, 0x01, 0x81, 0x00, 0xAA, 0xBB, 0xCC, 0xDD,
     ];
-    let fault = cut_short(8, true, 4, 2, LenSource::Slice, Layer::VlanHeader);
+    let fault = cut_short(
+        8,
+        true,
+        4,
+        2,
+        LenSource::MacsecShortLength,
+        Layer::VlanHeader,
+    );
     feeds(&rt, behind(MACSEC), &frame, 3, 10, Some(fault));
     feeds(&rt, behind(MACSEC), &NESTED, 3, 32, None);
 }

@@ -125,7 +125,14 @@ fn a_tag_cut_short_by_a_named_payload(rt: HostRuntime) {
     let mut peel = Peel::new(behind(0x88E5), &list);
     gives(&rt, &mut peel, &readable(4, 0x8100));
     is_left(&rt, &peel, 8, &[0xAA, 0xBB], &ether_type(0x8100), true);
-    let fault = cut_short(8, true, 4, 2, LenSource::Slice, Layer::VlanHeader);
+    let fault = cut_short(
+        8,
+        true,
+        4,
+        2,
+        LenSource::MacsecShortLength,
+        Layer::VlanHeader,
+    );
     refuses(&rt, &mut peel, fault, &[0xAA, 0xBB], &ether_type(0x8100));
 }
 
@@ -335,7 +342,7 @@ fn is_refused_in_a_payload<R: Abort + AllocGlobal>(
 
 #[test]
 fn each_refusal_of_a_tag_in_a_named_payload(rt: HostRuntime) -> Result<(), Fail> {
-    let (slice, short_length) = (LenSource::Slice, LenSource::MacsecShortLength);
+    let short_length = LenSource::MacsecShortLength;
     let too_short = |required_len, len, source, layer| cut_short(
         22,
         true,
@@ -348,30 +355,38 @@ fn each_refusal_of_a_tag_in_a_named_payload(rt: HostRuntime) -> Result<(), Fail>
         (
             [0x81, 0x00],
             &[0; 3],
-            too_short(4, 3, slice, Layer::VlanHeader),
+            too_short(4, 3, short_length, Layer::VlanHeader),
         ),
         (
             [0x88, 0xA8],
             &[0; 1],
-            too_short(4, 1, slice, Layer::VlanHeader),
+            too_short(4, 1, short_length, Layer::VlanHeader),
         ),
-        ([0x91, 0x00], &[], too_short(4, 0, slice, Layer::VlanHeader)),
+        (
+            [0x91, 0x00],
+            &[],
+            too_short(4, 0, short_length, Layer::VlanHeader),
+        ),
         (
             [0x88, 0xE5],
             &[0; 5],
-            too_short(6, 5, slice, Layer::MacsecHeader),
+            too_short(6, 5, short_length, Layer::MacsecHeader),
         ),
         (
             [0x88, 0xE5],
             &[0; 7],
-            too_short(8, 7, slice, Layer::MacsecHeader),
+            too_short(8, 7, short_length, Layer::MacsecHeader),
         ),
         (
             [0x88, 0xE5],
             &[0x0C, 3, 0, 0, 0, 1, 0xAA, 0xBB],
             too_short(9, 8, short_length, Layer::MacsecPacket),
         ),
-        ([0x08, 0x06], &[0; 7], too_short(8, 7, slice, Layer::Arp)),
+        (
+            [0x08, 0x06],
+            &[0; 7],
+            too_short(8, 7, short_length, Layer::Arp),
+        ),
         (
             [0x08, 0x06],
             &[0, 1, 8, 0, 1, 2, 0, 1, 0xAA],
@@ -380,7 +395,7 @@ fn each_refusal_of_a_tag_in_a_named_payload(rt: HostRuntime) -> Result<(), Fail>
         (
             [0x88, 0xE5],
             &[0x2C, 0, 0, 0, 0, 1, 0, 1, 2, 3, 4, 5, 6],
-            too_short(14, 13, slice, Layer::MacsecHeader),
+            too_short(14, 13, short_length, Layer::MacsecHeader),
         ),
     ];
     for (announced, unit, fault) in rows {

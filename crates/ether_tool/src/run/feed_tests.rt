@@ -66,7 +66,7 @@ fn tells_faults_that_more_bytes_do_not_mend(rt: HostRuntime) -> Result<(), Fail>
         &["feed"],
         b"ffffffffffff02000000000188e50004000000018100aabbccdd",
         1,
-        b"feed refusals 4 taken 24\nfault 22 closed length 4 2 slice\n",
+        b"feed refusals 4 taken 24\nfault 22 closed length 4 2 macsec_short_length\n",
     )
 }
 

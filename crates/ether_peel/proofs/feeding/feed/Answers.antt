@@ -1,13 +1,18 @@
 use Rattle.std.proofs.Common.{arith}
 use Rattle.ether_peel.specs.PeelStart.{start_of}
-use Rattle.ether_peel.proofs.FeedingLemmas.{FeedsFault, FeedsMore, offset_inside, feeds_fault, feeds_more, feed_of_fault, feed_of_none}
+use Rattle.ether_peel.proofs.FeedingLemmas.{FeedsUnit, FeedsFault, FeedsMore, offset_inside, feeds_unit, feeds_fault, feeds_more, feed_of_fault, feed_of_none}
 use Rattle.ether_peel.proofs.feeding.feed.Goals as goal
-use Rattle.ether_peel.proofs.feeding.feed.Goals.{In-Some-Err, After-go_on}
+use Rattle.ether_peel.proofs.feeding.feed.Goals.{In-Some-Ok, In-Some-Err, After-go_on}
 
 -- the fault that is given
 fault : (c : In-Some-Err) → FeedsFault (start_of c.args.start) c.args.bytes.now c.loop-fault.peel c.next.new.self c.loop-fault.taken c.loop-fault.refusals c.in-Some-Err.fault
 fault c =
     feeds_fault (start_of c.args.start) c.args.bytes.now c.loop-fault.peel c.next.new.self c.loop-fault.taken c.loop-fault.refusals c.in-Some-Err.fault c.loop-fault.invariant (rw c.in-Some-Err.field-0-is at c.in-Some-Err.ensures.steps)
+
+-- the unit that is given
+unit : (c : In-Some-Ok) → FeedsUnit (start_of c.args.start) c.args.bytes.now c.loop-fault.peel c.next.new.self c.loop-fault.taken c.loop-fault.refusals
+unit c =
+    feeds_unit (start_of c.args.start) c.args.bytes.now c.loop-fault.peel c.next.new.self c.loop-fault.taken c.loop-fault.refusals c.in-Some-Ok.field-0-0 c.loop-fault.invariant (rw c.in-Some-Ok.field-0-is at c.in-Some-Ok.ensures.steps)
 
 -- the walk goes on after it
 more : (c : After-go_on) → FeedsFault (start_of c.args.start) c.args.bytes.now c.loop-fault.peel c.next.new.self c.loop-fault.taken c.loop-fault.refusals c.in-Some-Err.fault
@@ -24,6 +29,9 @@ loop-fault-smaller c =
     let fits = c.in-Some.ensures.1 in
     let inside = offset_inside (start_of c.args.start) c.args.bytes.now c.loop-fault.peel c.loop-fault.taken c.loop-fault.refusals c.loop-fault.invariant in
     omega arith
+
+pub loop-fault-preserved-in-Some-Ok : goal.loop-fault-preserved-in-Some-Ok
+loop-fault-preserved-in-Some-Ok c = (unit (goal.at.loop-fault-preserved-in-Some-Ok c).In-Some-Ok).feeds
 
 pub loop-fault-preserved : goal.loop-fault-preserved
 loop-fault-preserved c = (more c (fault (goal.at.loop-fault-preserved c).In-Some-Err)).feeds

@@ -23,7 +23,7 @@ returns-in-Ok-clause-gives c =
     let n = length c.slice.result.now in
     let h = headers.Arp (arp_of packet) in
     let u = units.Arp packet in
-    let t : State = record { rest = slice_range a.frame.now (a.start + n) a.end; offset = a.start + n; closed = a.is_closed; expected = AfterArp; over = a.is_over } in
+    let t : State = record { rest = slice_range a.frame.now (a.start + n) a.end; offset = a.start + n; closed = a.is_closed; bound = a.bound; expected = AfterArp; over = a.is_over } in
     let going : a.is_over ≡ false = ap (λ (s : State). s.over) c.self.view_is ∙ c.requires.going in
     let bytes_are = c.slice.ensures.bytes in
     let same_len : n ≡ length packet = ap length bytes_are in
@@ -40,6 +40,7 @@ returns-in-Ok-clause-gives c =
       rest = plain_part a.frame.now a.start a.end (header_len h) n a.is_closed c.self.invariant.0 c.self.invariant.1 c.in-Ok.ensures.value.whole len;
       offset = ap (λ k. a.start + k) len;
       closed = refl;
+      bound = refl;
       expected = refl;
       over = going;
     }))

@@ -29,7 +29,7 @@ returns-in-Ok-clause-gives c =
     let long : length bytes ≡ a.end - a.start = length-part a.frame.now a.start a.end c.self.invariant.1 in
     let ordered = c.self.invariant.0 in
     let behind = c.header_len.ensures in
-    let t : State = record { rest = slice_range a.frame.now start end; offset = start; closed = a.is_closed; expected = EtherType c.ether_type-ether_type.result.0; over = a.is_over } in
+    let t : State = record { rest = slice_range a.frame.now start end; offset = start; closed = a.is_closed; bound = a.bound; expected = EtherType c.ether_type-ether_type.result.0; over = a.is_over } in
     let going : a.is_over ≡ false = ap (λ (s : State). s.over) c.self.view_is ∙ c.requires.going in
     let is = c.in-Ok.ensures.frame in
     subst (λ (s : State). Gives s (Some (Ok u)) t) c.self.view_is (gives_unit (shown a) t u (record {
@@ -39,9 +39,10 @@ returns-in-Ok-clause-gives c =
       accepted = c.in-Ok.ensures.accepted;
       means = c.in-Ok.ensures.value;
       shows = ap units.Ethernet2 is;
-      rest = moved_part a.frame.now a.start a.end start end (record { start = 14; finish = length bytes - 4; closed = a.is_closed }) (omega arith) (omega arith) (omega arith) (omega arith);
+      rest = moved_part a.frame.now a.start a.end start end (record { start = 14; finish = length bytes - 4; closed = a.is_closed; bound = a.bound }) (omega arith) (omega arith) (omega arith) (omega arith);
       offset = ap (λ n. a.start + n) c.header_len.ensures;
       closed = refl;
+      bound = refl;
       expected = ap EtherType (c.ether_type-ether_type.ensures ∙ ap (λ f. (ethernet2_of f.bytes).ether_type) is);
       over = going;
     }))

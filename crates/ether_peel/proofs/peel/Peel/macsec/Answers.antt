@@ -7,7 +7,7 @@ use Rattle.etherparse.specs.Header as headers
 use Rattle.ether_peel.specs.PeelState.{State, shown_of}
 use Rattle.ether_peel.specs.Expectation.{announced}
 use Rattle.ether_peel.specs.PeelStart.{kind_shown}
-use Rattle.ether_peel.specs.Window.{payload_closed}
+use Rattle.ether_peel.specs.Window.{payload_closed, payload_bound}
 use Rattle.ether_peel.specs.Peel.{Gives, ShowsMacsec}
 use Rattle.ether_peel.specs.declared.peel_unit.PeelUnit.TheVariants as units
 use Rattle.ether_peel.proofs.PeelLemmas.{shown, gives_unit, nearer}
@@ -36,7 +36,7 @@ returns-in-Ok-clause-gives c =
     let tag = sec_tag_of (tag_bytes m.header) in
     let u = units.Macsec m in
     let start = a.start + n in
-    let t : State = record { rest = slice_range a.frame.now start (start + length c.payload_bytes.result.now); offset = start; closed = a.is_closed || c.is_some.result; expected = shown_of c.announced_behind-kind.result.1; over = a.is_over } in
+    let t : State = record { rest = slice_range a.frame.now start (start + length c.payload_bytes.result.now); offset = start; closed = a.is_closed || c.is_some.result; bound = c.bound_behind-self-inside.result; expected = shown_of c.announced_behind-kind.result.1; over = a.is_over } in
     let going : a.is_over ≡ false = ap (λ (s : State). s.over) c.self.view_is ∙ c.requires.going in
     let read = tag_read bytes m n c.in-Ok.ensures.header c.in-Ok.ensures.payload c.header_len.ensures.tag c.in-Ok.ensures.value.whole in
     let payload = tag_payload_part a.frame.now a.start a.end m n (length c.payload_bytes.result.now) tag c.self.invariant.0 c.self.invariant.1 c.in-Ok.ensures.accepted c.in-Ok.ensures.value read (ap length c.payload_bytes.ensures) in
@@ -49,7 +49,8 @@ returns-in-Ok-clause-gives c =
       shows = (m, refl, subst (λ l. ShowsMacsec bytes l tag m) (sym payload) read.shows);
       rest = payload ∙ read.rest;
       offset = ap (λ k. a.start + k) read.len;
-      closed = ap (λ b. a.is_closed || b) c.is_some.ensures ∙ marked a.is_closed c.expected_payload_len.result ∙ ap (payload_closed a.is_closed) (c.expected_payload_len.ensures ∙ read.known);
+      closed = ap (λ b. a.is_closed || b) c.is_some.ensures ∙ marked a.is_closed c.expected_payload_len-known.result ∙ ap (payload_closed a.is_closed) (c.expected_payload_len-known.ensures ∙ read.known);
+      bound = c.bound_behind-self-inside.ensures ∙ ap (payload_bound a.bound) (c.expected_payload_len-known.ensures ∙ read.known);
       expected = c.announced_behind-kind.ensures.expected ∙ read.expected;
       over = going;
     }))

@@ -20,6 +20,7 @@ returns-clause-walk c =
         rest = refl;
         offset = refl;
         closed = search rules;
+        bound = search rules;
         stack = subst (λ (y : Expectation). Stack list y (whole x list) s.0 s.1) (sym is) s.2;
       },
     )
