@@ -135,6 +135,7 @@ impl TryFrom<u16> for LinuxNonstandardEtherType {
 
     ghost try_from_gives = { λ number r. MatchResult r (λ ether_type. (is_nonstandard number ≡ true) × (ether_type ≡ number)) (λ _. is_nonstandard number ≡ false) };
 
+    #[inline(always)]
     fn try_from(number: u16) -> Result<LinuxNonstandardEtherType, ()> {
         match description_of(number) {
             Some(_) => Ok(LinuxNonstandardEtherType(number)),

@@ -86,6 +86,7 @@ impl TryFrom<u16> for LinuxSllPacketType {
 
     ghost try_from_gives = { λ number r. MatchResult r (λ packet_type. (number ≤ 7) × (packet_type ≡ number)) (λ e. (7 < number) × (e ≡ UnsupportedPacketTypeField number)) };
 
+    #[inline(always)]
     fn try_from(number: u16) -> Result<LinuxSllPacketType, HeaderError> {
         if number <= LinuxSllPacketType::MAX_VAL {
             Ok(LinuxSllPacketType(number))

@@ -69,6 +69,7 @@ impl TryFrom<NumberOnLink> for LinuxSllProtocolType {
 
     ghost try_from_gives = { λ pair r. (r ≡ protocol_type_of pair.0 pair.1) × (IsOk r ↔ Contains SUPPORTED_ARPHWD pair.0) };
 
+    #[inline(always)]
     fn try_from(pair: NumberOnLink) -> Result<LinuxSllProtocolType, HeaderError> {
         let (hardware, number) = pair;
         match hardware {
@@ -99,6 +100,7 @@ impl From<LinuxSllProtocolType> for u16 {
 }
 
 /// The protocol type of a number on Ethernet.
+#[inline(always)]
 fn on_ethernet(number: u16) -> LinuxSllProtocolType
     ensures { result ≡ ethernet_protocol_type number }
 {

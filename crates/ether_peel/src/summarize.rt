@@ -19,6 +19,7 @@ use crate::{Peel, PeelFault, Start, Summary};
 /// assert_eq!(rt; found.kind, RestKind::EtherType(EtherType::IPV4));
 /// assert_eq!(rt; found.fault, None);
 /// ```
+#[inline(always)]
 pub fn summary(start: Start, bytes: &[u8]) -> Summary
     ensures { IsSummary (start_of start) bytes.now result }
 {
@@ -48,6 +49,7 @@ pub fn summary(start: Start, bytes: &[u8]) -> Summary
 /// assert_eq!(rt; found.units, 1);
 /// assert_eq!(rt; found.fault.as_ref().and_then(|fault| fault.missing()), Some(2));
 /// ```
+#[inline(always)]
 pub fn snap(start: Start, bytes: &[u8], n: usize) -> Summary
     requires { n ≤ length bytes.now }
     ensures { IsCutSummary (start_of start) bytes.now n result }
