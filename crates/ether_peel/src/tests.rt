@@ -5,6 +5,7 @@ mod compared;
 mod feeding;
 mod refusals;
 mod sources;
+mod streams;
 mod texts;
 mod units;
 

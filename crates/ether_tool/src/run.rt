@@ -121,4 +121,6 @@ mod feed_tests;
 #[cfg(test)]
 mod format_tests;
 #[cfg(test)]
+mod source_tests;
+#[cfg(test)]
 mod tests;
