@@ -159,18 +159,19 @@ fn writes_back<R: Abort + AllocGlobal>(
 /// What is asked for, by the walk of each front: the length of a front is asked for if the front that is one byte shorter ends in
 /// an open refusal that names it.
 fn fed_by_fronts(start: Start, frame: &[u8]) -> Feed {
-    let mut refusals = 0;
+    let mut refusals = 0usize;
     let mut taken = 0;
     for n in 0..frame.len() {
         if named(&snap(start, frame, n)) == Some(n + 1) {
-            refusals += 1;
+            refusals = refusals.saturating_add(1);
             taken = n + 1;
         }
     }
+    let front = frame.get(..taken).unwrap_or(frame);
     Feed {
         refusals,
         taken,
-        fault: snap(start, frame, taken).fault,
+        fault: summary(start, front).fault,
     }
 }
 
