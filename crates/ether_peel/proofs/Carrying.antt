@@ -18,7 +18,8 @@ use Rattle.etherparse.proofs.SubLists.{length-part, part-append, part_of_part, r
 use Rattle.etherparse.proofs.Rows.{row_short}
 use Rattle.etherparse.proofs.Means.{unit_fits}
 use Rattle.ether_peel.specs.Window.{Window, within, IsIn, payload_from, payload}
-use Rattle.ether_peel.specs.Expectation.{Expectation, announced_by, announced, after_protocol, after_payload, after}
+use Rattle.ether_peel.specs.Expectation.{Expectation, announced_by, announced, announced_next, next_after, Next, after_protocol, after_payload, after}
+use Rattle.ether_peel.proofs.Limits.{announced_is}
 use Rattle.ether_peel.specs.Stack.{Ending, Accepted, Fault, last_window, last_expected, IsUnit, Stack}
 use Rattle.ether_peel.proofs.LongerBytes.{means_longer, accepts_longer, refuses_longer, longer, IsBelow}
 
@@ -155,27 +156,34 @@ no_fcs_cond false false false e = cc
 pub no_fcs_announced : (t : ℕ) → announced_by t ≡ Some kinds.Ethernet2Fcs → ⊥
 no_fcs_announced t e = no_fcs_cond (is_vlan_ether_type t) (nat_eq t 0x88E5) (nat_eq t 0x0806) e
 
-no_fcs_protocol : (q : LinuxSllProtocolType) → NoFcs (after_protocol q)
+-- nor does this announce one without a limit
+abbrev pub NextNoFcs : Next → Type 0
+NextNoFcs y = announced_next y ≡ Some kinds.Ethernet2Fcs → ⊥
+
+no_fcs_protocol : (q : LinuxSllProtocolType) → NextNoFcs (after_protocol q)
 no_fcs_protocol (protocols.EtherType t) e = no_fcs_announced t.0 e
 no_fcs_protocol (protocols.LinuxNonstandardEtherType n) e = no_fcs_announced n e
 no_fcs_protocol (protocols.Ignored n) e = cc
 no_fcs_protocol (protocols.NetlinkProtocolType n) e = cc
 no_fcs_protocol (protocols.GenericRoutingEncapsulationProtocolType n) e = cc
 
-no_fcs_payload : (p : PayloadType) → NoFcs (after_payload p)
+no_fcs_payload : (p : PayloadType) → NextNoFcs (after_payload p)
 no_fcs_payload (payloads.Unmodified t) e = no_fcs_announced t e
 no_fcs_payload payloads.Modified e = cc
 no_fcs_payload payloads.EncryptedUnmodified e = cc
 no_fcs_payload payloads.Encrypted e = cc
 
+no_fcs_next : (h : Header) → NextNoFcs (next_after h)
+no_fcs_next (headers.Ethernet2 a) e = no_fcs_announced a.ether_type e
+no_fcs_next (headers.Ethernet2Fcs a) e = no_fcs_announced a.ether_type e
+no_fcs_next (headers.LinuxSll s) e = no_fcs_protocol (protocol_of s.hardware_type s.protocol) e
+no_fcs_next (headers.Vlan v) e = no_fcs_announced v.ether_type e
+no_fcs_next (headers.Macsec t) e = no_fcs_payload t.payload_type e
+no_fcs_next (headers.Arp a) e = cc
+
 -- no unit announces one that ends in a frame check sequence
 pub no_fcs_after : (x : Expectation) (h : Header) → NoFcs (after x h)
-no_fcs_after x (headers.Ethernet2 a) e = no_fcs_announced a.ether_type e
-no_fcs_after x (headers.Ethernet2Fcs a) e = no_fcs_announced a.ether_type e
-no_fcs_after x (headers.LinuxSll s) e = no_fcs_protocol (protocol_of s.hardware_type s.protocol) e
-no_fcs_after x (headers.Vlan v) e = no_fcs_announced v.ether_type e
-no_fcs_after x (headers.Macsec t) e = no_fcs_payload t.payload_type e
-no_fcs_after x (headers.Arp a) e = cc
+no_fcs_after x h e = no_fcs_next h (announced_is (after x h) kinds.Ethernet2Fcs e)
 
 pub no_trailer : (h : Header) → (kind_of h ≡ kinds.Ethernet2Fcs → ⊥) → trailer_len h ≡ 0
 no_trailer (headers.Ethernet2 a) free = refl

@@ -24,7 +24,7 @@ use Rattle.etherparse.proofs.Ethernet2Fields.{ethernet2_means}
 use Rattle.etherparse.proofs.VlanFields.{vlan_means}
 use Rattle.etherparse.proofs.Reading.{arp_begins_read, arp_means, arp_accepted}
 use Rattle.ether_peel.specs.Window.{Window, within, payload}
-use Rattle.ether_peel.specs.Expectation.{Expectation, announced_by, announced, after_payload, after, has_fcs}
+use Rattle.ether_peel.specs.Expectation.{Expectation, announced_by, announced_next, announced, permitted, after_payload, next_after, after, has_fcs}
 use Rattle.ether_peel.specs.Stack.{Ending, Accepted, Fault, last_window, last_expected, IsUnit, Stack, whole, Walk}
 use Rattle.ether_peel.specs.Endings.{refusal_of, OpenRefusal}
 use Rattle.ether_peel.specs.Completion.{CanBeCompleted, type_place, Plan, fill, Completes}
@@ -104,10 +104,10 @@ record IsLast (bound : LenSource) (bytes : List ℕ) (kind : Kind) : Type 0 wher
   pub kind_is : kind_of unit ≡ kind
   pub accepted : Accepts bound bytes kind
   pub means : Means bytes unit
-  pub announces : (x : Expectation) → announced (after x unit) ≡ None
+  pub announces : announced_next (next_after unit) ≡ None
 
 -- where the ether type of a tag, if it has one, announces nothing, the tag doesn't
-tag_announces : (e c n : ℕ) → (e ≡ 0 → c ≡ 0 → announced_by n ≡ None) → announced (after_payload (payload_type_for e c n)) ≡ None
+tag_announces : (e c n : ℕ) → (e ≡ 0 → c ≡ 0 → announced_by n ≡ None) → announced_next (after_payload (payload_type_for e c n)) ≡ None
 tag_announces zero zero n k = k refl refl
 tag_announces zero (suc c) n k = refl
 tag_announces (suc e) zero n k = refl
@@ -128,7 +128,7 @@ filled bound b kind total place ok len (ethernet2 lt) =
       kind_is = refl;
       accepted = accepts_ethernet2 bound l (omega arith);
       means = ethernet2_means l ok (omega arith);
-      announces = λ x. type_announces_nothing b 14 12 lt (omega arith) lt;
+      announces = type_announces_nothing b 14 12 lt (omega arith) lt;
     }
 filled bound b kind total place ok len (vlan lt) =
     let l = b ++ fill b 4 (Some 2) in
@@ -137,7 +137,7 @@ filled bound b kind total place ok len (vlan lt) =
       kind_is = refl;
       accepted = accepts_vlan bound l (omega arith);
       means = vlan_means l ok (omega arith);
-      announces = λ x. type_announces_nothing b 4 2 lt (omega arith) lt;
+      announces = type_announces_nothing b 4 2 lt (omega arith) lt;
     }
 filled bound b kind total place ok len (macsec t six begins v s lt) =
     let n = sec_tag_len t + unwrap_or (known_payload_len t) 0 in
@@ -153,7 +153,7 @@ filled bound b kind total place ok len (macsec t six begins v s lt) =
       kind_is = refl;
       accepted = accepts_macsec bound (b ++ f) t (omega arith) front v s (omega arith) (λ p e. let k : unwrap_or (known_payload_len t) 0 ≡ p = ap (λ (o : Option ℕ). unwrap_or o 0) e in omega arith);
       means = tag_means (b ++ f) t front (omega arith);
-      announces = λ x. tag_announces t.encrypted t.changed (number (slice_range (b ++ f) from (from + 2))) none;
+      announces = tag_announces t.encrypted t.changed (number (slice_range (b ++ f) from (from + 2))) none;
     }
 filled bound b kind total place ok len (arp lt) =
     let n = 8 + 2 * slice_index b 4 + 2 * slice_index b 5 in
@@ -167,7 +167,7 @@ filled bound b kind total place ok len (arp lt) =
       kind_is = refl;
       accepted = arp_accepted bound l ok is;
       means = arp_means l ok is;
-      announces = λ x. refl;
+      announces = refl;
     }
 
 -- ---- the walk
@@ -228,7 +228,7 @@ walks_on start list hs e total place ok is_open b =
       means = subst (λ (l : List ℕ). Means l last.unit) (sym there) last.means;
     } in
     let end = Accepted (payload c.last last.unit) (after y last.unit) in
-    let rest : Stack other y c.last (last.unit ∷ []) end = (u, (refl, refl, last.announces y)) in
+    let rest : Stack other y c.last (last.unit ∷ []) end = (u, (refl, refl, ap (permitted (after y last.unit).limit) last.announces)) in
     record { unit = last.unit; ending = end; walk = led other start (whole start other) hs (last.unit ∷ []) y c.last end c.leads rest; accepted = refl }
 
 -- ---- fewer bytes

@@ -8,30 +8,34 @@ use Rattle.etherparse.specs.Refusal.{Refusal, Length, UnsupportedPacketType, Uns
 use Rattle.etherparse.proofs.SubLists.{length-part, part_all}
 use Rattle.etherparse.proofs.Means.{unit_fits}
 use Rattle.ether_peel.specs.Window.{Window, within, IsIn, payload_closed, payload_from, payload}
-use Rattle.ether_peel.specs.Expectation.{Expectation, EtherType, Sll, Sealed, AfterArp, Start, after, has_fcs}
+use Rattle.ether_peel.specs.Expectation.{Expectation, EtherType, Sll, Sealed, AfterArp, Start, after, has_fcs, next_has_fcs, Next}
+use Rattle.ether_peel.proofs.Limits.{announced_is}
 use Rattle.ether_peel.specs.Stack.{Ending, Accepted, Fault, last_window, last_expected, Stack, whole, Walk}
 use Rattle.ether_peel.specs.Endings.{refusal_of, IsContent, OpenRefusal, named_len, EndsAlike}
 use Rattle.ether_peel.specs.Cuts.{reach}
 use Rattle.ether_peel.specs.Extensions.{ExtensionsKeep}
 use Rattle.ether_peel.proofs.LongerBytes.{longer, IsBelow}
 use Rattle.ether_peel.proofs.StackLemmas.{one_stack}
-use Rattle.ether_peel.proofs.Carrying.{Leads, leads, payload_in, beyond, Carries, NoFcs, no_fcs_announced, no_fcs_after, no_trailer, StaysShort, ending_in, CarriedStack, carry_stack, refused_below}
+use Rattle.ether_peel.proofs.Carrying.{Leads, leads, payload_in, beyond, Carries, NoFcs, NextNoFcs, no_fcs_announced, no_fcs_after, no_trailer, StaysShort, ending_in, CarriedStack, carry_stack, refused_below}
 use Rattle.ether_peel.proofs.Places.{longer_zero, payload_narrows}
 use Rattle.ether_peel.proofs.WriteBack.{whole_in}
 
 -- ---- the first window
 
+no_fcs_next : (y : Next) → next_has_fcs y ≡ false → NextNoFcs y
+no_fcs_next (Start kinds.Ethernet2) h e = cc
+no_fcs_next (Start kinds.Ethernet2Fcs) h e = cc
+no_fcs_next (Start kinds.LinuxSll) h e = cc
+no_fcs_next (Start kinds.Vlan) h e = cc
+no_fcs_next (Start kinds.Macsec) h e = cc
+no_fcs_next (Start kinds.Arp) h e = cc
+no_fcs_next (EtherType t) h e = no_fcs_announced t e
+no_fcs_next (Sll q) h e = cc
+no_fcs_next Sealed h e = cc
+no_fcs_next AfterArp h e = cc
+
 pub no_fcs_start : (start : Expectation) → has_fcs start ≡ false → NoFcs start
-no_fcs_start (Start kinds.Ethernet2) h e = cc
-no_fcs_start (Start kinds.Ethernet2Fcs) h e = cc
-no_fcs_start (Start kinds.LinuxSll) h e = cc
-no_fcs_start (Start kinds.Vlan) h e = cc
-no_fcs_start (Start kinds.Macsec) h e = cc
-no_fcs_start (Start kinds.Arp) h e = cc
-no_fcs_start (EtherType t) h e = no_fcs_announced t e
-no_fcs_start (Sll q) h e = cc
-no_fcs_start Sealed h e = cc
-no_fcs_start AfterArp h e = cc
+no_fcs_start start h e = no_fcs_next start.next h (announced_is start kinds.Ethernet2Fcs e)
 
 -- the window of a longer list
 pub carries_whole : (start : Expectation) (list more : List ℕ) → has_fcs start ≡ false → Carries list (list ++ more) more (whole start list) (whole start (list ++ more))

@@ -4,6 +4,7 @@ pub mod PeelLemmas
 pub mod SameValues
 pub mod UnitLemmas
 pub mod LongerBytes
+pub mod Limits
 pub mod Carrying
 pub mod Places
 pub mod HeaderBytes

@@ -21,7 +21,7 @@ use Rattle.etherparse.proofs.SubLists.{length-part, part_of_part}
 use Rattle.etherparse.proofs.Rows.{one_row}
 use Rattle.etherparse.proofs.Means.{one_header, unit_fits}
 use Rattle.ether_peel.specs.Window.{Window, within, IsIn, payload, payload_from}
-use Rattle.ether_peel.specs.Expectation.{Expectation, announced, after}
+use Rattle.ether_peel.specs.Expectation.{Expectation, is_extension, announced, next_after, lowered, after}
 use Rattle.ether_peel.specs.Stack.{Ending, Accepted, Fault, Stack}
 use Rattle.ether_peel.specs.PeelState.{State, expected_of}
 use Rattle.ether_peel.specs.PeelFault.{error_at, fault_in}
@@ -36,7 +36,7 @@ use Rattle.ether_peel.specs.declared.peel_fault.PeelFault.{PeelFault}
 
 -- what the fields of a walker show
 abbrev pub shown : Inside → State
-shown a = record { rest = slice_range a.frame.now a.start a.end; offset = a.start; closed = a.is_closed; bound = a.bound; expected = expected_of a.first a.kind; over = a.is_over }
+shown a = record { rest = slice_range a.frame.now a.start a.end; offset = a.start; closed = a.is_closed; bound = a.bound; expected = record { next = expected_of a.first a.kind; limit = a.limit }; over = a.is_over }
 
 not_over : (b : Bool) → b ≡ false → b ≡ true → ⊥
 not_over b e f = let g : false ≡ true = sym e ∙ f in cc
@@ -191,8 +191,15 @@ pub record IsReadBy (s : State) (u : PeelUnit) (t : State) : Type 0 where
   pub offset : t.offset ≡ s.offset + header_len header
   pub closed : t.closed ≡ (own_payload s header).closed
   pub bound : t.bound ≡ (own_payload s header).bound
-  pub expected : t.expected ≡ after s.expected header
+  pub next : t.expected.next ≡ next_after header
+  pub limit : t.expected.limit ≡ lowered (is_extension (kind_of header)) s.expected.limit
   pub over : t.over ≡ false
+
+expected_behind : (s t : State) (u : PeelUnit) (r : IsReadBy s u t) → t.expected ≡ after s.expected r.header
+expected_behind s t u r =
+    let next = r.next in
+    let limit = r.limit in
+    λ i. record { next = next i; limit = limit i }
 
 record IsPart (list : List ℕ) (v : Window) (rest : List ℕ) (u : Window) : Type 0 where
   pub inside : IsIn list v
@@ -236,7 +243,7 @@ faces_behind list w s t u hs e r f =
       offset = r.offset ∙ ap (λ (n : ℕ). n + header_len h) f.offset;
       closed = r.closed ∙ part.closed;
       bound = r.bound ∙ part.bound;
-      stack = subst (λ (x : Expectation). Stack list x (payload w h) hs e) (sym r.expected) f.stack.1;
+      stack = subst (λ (x : Expectation). Stack list x (payload w h) hs e) (sym (expected_behind s t u r)) f.stack.1;
     }
 
 next_unit : (list : List ℕ) (w : Window) (s t : State) (u : PeelUnit) (hs : List Header) (e : Ending) → IsReadBy s u t → Faces list w s hs e → GivesNext list w hs e s (Some (Ok u)) t
@@ -248,7 +255,7 @@ next_unit list w s t u (h ∷ hs) e r f =
     let same = same_kind (announced s.expected) (kind_of r.header) (kind_of h) r.announced f.stack.0.announced in
     let is = one_header s.rest r.header h same r.means (subst (λ (l : List ℕ). Means l h) (sym f.rest) f.stack.0.means) in
     let own = subst (λ (g : Header). Faces list w s (g ∷ hs) e) (sym is) f in
-    subst (λ (g : Header). GivesNext list w (g ∷ hs) e s (Some (Ok u)) t) is (u, refl, r.shows, r.over, r.expected, faces_behind list w s t u hs e r own)
+    subst (λ (g : Header). GivesNext list w (g ∷ hs) e s (Some (Ok u)) t) is (u, refl, r.shows, r.over, expected_behind s t u r, faces_behind list w s t u hs e r own)
 
 -- the unit is there
 pub gives_unit : (s t : State) (u : PeelUnit) → IsReadBy s u t → Gives s (Some (Ok u)) t

@@ -1,21 +1,23 @@
 -- A walk that was gone a part of the way, and its end.
-use Rattle.std.proofs.Common.{◌≡◌, ℕ, ◌+◌, ◌-◌, List, [], ◌∷◌, length, true, false, refl, sym, ap, subst, ◌∙◌, arith}
+use Rattle.std.proofs.Common.{◌≡◌, ℕ, ◌+◌, ◌-◌, ◌*◌, ◌<◌, List, [], ◌∷◌, length, true, false, refl, sym, ap, subst, ◌∙◌, arith}
 use Rattle.std.specs.Prelude.{Option, Some, None, Ok, Err}
+use Rattle.etherparse.specs.Bytes.{IsBytes}
 use Rattle.etherparse.specs.Header.{Header}
 use Rattle.etherparse.specs.Refusal.{Refusal}
-use Rattle.etherparse.proofs.SubLists.{length-part}
-use Rattle.ether_peel.specs.Window.{Window, payload}
-use Rattle.ether_peel.specs.Expectation.{Expectation}
+use Rattle.etherparse.proofs.SubLists.{length-part, part_all}
+use Rattle.ether_peel.specs.Window.{Window, within, payload}
+use Rattle.ether_peel.specs.Expectation.{Next, Expectation}
 use Rattle.ether_peel.specs.Stack.{Ending, Accepted, Fault, whole, Walk}
 use Rattle.ether_peel.specs.PeelState.{State}
-use Rattle.ether_peel.specs.PeelStart.{kind_shown}
+use Rattle.ether_peel.specs.PeelStart.{next_shown, kind_shown}
 use Rattle.ether_peel.specs.PeelFault.{fault_in}
 use Rattle.ether_peel.specs.Peel.{Faces, ShowsUnit, GivesNext, Gives}
 use Rattle.ether_peel.specs.Summary.{IsSummary, summary_of}
 use Rattle.ether_peel.specs.declared.peel_unit.PeelUnit.{PeelUnit}
 use Rattle.ether_peel.specs.declared.peel_fault.PeelFault.{PeelFault}
 use Rattle.ether_peel.specs.declared.walk_summary.Summary.{Summary}
-use Rattle.ether_peel.proofs.StackLemmas.{one_stack}
+use Rattle.ether_peel.proofs.StackLemmas.{some_stack, one_stack}
+use Rattle.ether_peel.proofs.Limits.{limited, SameEnd, leave_alone}
 use Rattle.ether_peel.proofs.Extensions.{extensions_keep}
 
 -- ---- what was next
@@ -115,15 +117,18 @@ walked_unit start list s t units u a gives =
 abbrev pub shown_summary : ℕ → State → Option PeelFault → Summary
 shown_summary units t fault = record { units = units; rest_start = t.offset; rest_end = t.offset + length t.rest; kind = kind_shown t.expected; fault = fault }
 
-abbrev pub walked_is : (start : Expectation) (list : List ℕ) (s : State) (units : ℕ) (a : Walked start list s units) (found : Summary) → found ≡ summary_of a.headers a.ending → IsSummary start list found
-walked_is start list s units a found is = record {
-  headers = a.headers;
-  ending = a.ending;
-  walk = a.walk;
-  one = λ hs e walk. one_stack list start (whole start list) hs a.headers e a.ending walk a.walk;
+pub summary_is : (start : Expectation) (list : List ℕ) (hs : List Header) (e : Ending) (found : Summary) → Walk start list hs e → found ≡ summary_of hs e → IsSummary start list found
+summary_is start list hs e found walk is = record {
+  headers = hs;
+  ending = e;
+  walk = walk;
+  one = λ ks f other. one_stack list start (whole start list) ks hs f e other walk;
   is = is;
-  extensions = λ open_end. extensions_keep start list a.headers a.ending open_end a.walk;
+  extensions = λ open_end. extensions_keep start list hs e open_end walk;
 }
+
+walked_is : (start : Expectation) (list : List ℕ) (s : State) (units : ℕ) (a : Walked start list s units) (found : Summary) → found ≡ summary_of a.headers a.ending → IsSummary start list found
+walked_is start list s units a found is = summary_is start list a.headers a.ending found a.walk is
 
 same_end : (list : List ℕ) (w : Window) (s : State) (hs : List Header) (e : Ending) → Faces list w s hs e → s.offset + length s.rest ≡ w.finish
 same_end list w s hs e faces =
@@ -161,3 +166,24 @@ walked_none start list s t units a gives =
     let shown : shown_summary units s None ≡ summary_of a.headers (Accepted n.window n.expected) =
     λ i. record { units = units_are i; rest_start = at i; rest_end = to i; kind = kind i; fault = None } in
     walked_is start list s units a _ (ap (λ (u : State). shown_summary units u None) n.state ∙ shown ∙ ap (summary_of a.headers) (sym n.ending))
+
+-- ---- a limit on extensions that is never reached
+
+same_summary : (hs : List Header) (e f : Ending) → SameEnd e f → summary_of hs f ≡ summary_of hs e
+same_summary hs e f same =
+    let window = same.window in
+    let next = same.next in
+    let fault = same.fault in
+    λ i. record { units = length hs; rest_start = (window i).start; rest_end = (window i).finish; kind = next_shown (next i); fault = fault i }
+
+pub unlimited_summary : (next : Next) (list : List ℕ) (limit : ℕ) (found : Summary) → IsBytes list → length list < 4 * limit → IsSummary (limited next (Some limit)) list found → IsSummary (limited next None) list found
+unlimited_summary next list limit found ok lt with_limit =
+    let x = limited next None in
+    let w = whole x list in
+    let all = part_all list (length list) (omega arith) in
+    let short : length (within list w) < 4 * limit = subst (λ (l : List ℕ). length l < 4 * limit) (sym all) lt in
+    let walk = some_stack list x w ok in
+    let alone = leave_alone list next limit w walk.0 walk.1 short walk.2 in
+    let one = with_limit.one walk.0 alone.0 alone.1 in
+    let same : summary_of with_limit.headers with_limit.ending ≡ summary_of walk.0 alone.0 = λ i. summary_of (sym one.0 i) (sym one.1 i) in
+    summary_is x list walk.0 walk.1 found walk.2 (with_limit.is ∙ same ∙ same_summary walk.0 walk.1 alone.0 alone.2)

@@ -10,7 +10,7 @@ use Rattle.etherparse.specs.Header as headers
 use Rattle.etherparse.specs.Refusal.{Length}
 use Rattle.etherparse.specs.Refusal as rows
 use Rattle.etherparse.proofs.Rows.{accepts_macsec, accepts_vlan}
-use Rattle.ether_peel.specs.Expectation.{EtherType}
+use Rattle.ether_peel.specs.Expectation.{Expectation, EtherType}
 use Rattle.ether_peel.specs.Stack.{Ending, Accepted, Fault, Walk}
 use Rattle.ether_peel.specs.WriteBack.{cleared}
 use Rattle.ether_peel.specs.Endings.{OpenRefusal, named_len}
@@ -20,6 +20,10 @@ use Rattle.ether_peel.specs.Completion as plans
 
 some_is : (m n : ℕ) → Some m ≡ Some n → m ≡ n
 some_is m n e = cc
+
+-- what an ether type announces, without a limit
+abbrev by_type : ℕ → Expectation
+by_type t = record { next = EtherType t; limit = None }
 
 -- ---- a SecTag with both reserved bits and a short length of 6, so a closed window of four bytes, and a VLAN tag in it
 
@@ -32,7 +36,7 @@ inner = record { pcp = 5; dei = 0; vid = 0xABB; ether_type = 0xCCDD }
 abbrev padded : List ℕ
 padded = 0x00 ∷ 0xC6 ∷ 0 ∷ 0 ∷ 0 ∷ 1 ∷ 0x81 ∷ 0x00 ∷ 0xAA ∷ 0xBB ∷ 0xCC ∷ 0xDD ∷ 0xEE ∷ 0xEE ∷ []
 
-padded_walk : Walk (EtherType 0x88E5) padded (headers.Macsec (tag 6) ∷ headers.Vlan inner ∷ []) (Accepted (record { start = 12; finish = 12; closed = true; bound = sources.MacsecShortLength }) (EtherType 0xCCDD))
+padded_walk : Walk (by_type 0x88E5) padded (headers.Macsec (tag 6) ∷ headers.Vlan inner ∷ []) (Accepted (record { start = 12; finish = 12; closed = true; bound = sources.MacsecShortLength }) (by_type 0xCCDD))
 padded_walk =
     let fits : FitsSecTagFront (sec_tag_front_of 0 3 (tag 6)) = omega arith in
     let begins : BeginsSecTag padded (sec_tag_front_of 0 3 (tag 6)) = record { sum = refl; fits = fits } in (
@@ -64,7 +68,7 @@ padded_cleared = refl
 abbrev short : List ℕ
 short = 0x00 ∷ 0x04 ∷ 0 ∷ 0 ∷ 0 ∷ 1 ∷ 0x81 ∷ 0x00 ∷ 0xAA ∷ 0xBB ∷ 0xCC ∷ 0xDD ∷ []
 
-short_walk : Walk (EtherType 0x88E5) short (headers.Macsec (tag 4) ∷ []) (Fault (record { start = 8; finish = 10; closed = true; bound = sources.MacsecShortLength }) (EtherType 0x8100) (Length 4 2 sources.MacsecShortLength layers.VlanHeader))
+short_walk : Walk (by_type 0x88E5) short (headers.Macsec (tag 4) ∷ []) (Fault (record { start = 8; finish = 10; closed = true; bound = sources.MacsecShortLength }) (by_type 0x8100) (Length 4 2 sources.MacsecShortLength layers.VlanHeader))
 short_walk =
     let fits : FitsSecTagFront (sec_tag_front_of 0 0 (tag 4)) = omega arith in
     let begins : BeginsSecTag short (sec_tag_front_of 0 0 (tag 4)) = record { sum = refl; fits = fits } in (
@@ -85,9 +89,9 @@ abbrev begun : List ℕ
 begun = 0x00 ∷ 0x05 ∷ 0x81 ∷ 0x00 ∷ 0xAA ∷ 0xBB ∷ []
 
 abbrev begun_ending : Ending
-begun_ending = Fault (record { start = 4; finish = 6; closed = false; bound = sources.Slice }) (EtherType 0x8100) (Length 4 2 sources.Slice layers.VlanHeader)
+begun_ending = Fault (record { start = 4; finish = 6; closed = false; bound = sources.Slice }) (by_type 0x8100) (Length 4 2 sources.Slice layers.VlanHeader)
 
-begun_walk : Walk (EtherType 0x8100) begun (headers.Vlan outer ∷ []) begun_ending
+begun_walk : Walk (by_type 0x8100) begun (headers.Vlan outer ∷ []) begun_ending
 begun_walk = (
   record { announced = refl; accepted = accepts_vlan sources.Slice begun (omega arith); means = record { whole = omega arith; spells = record { sum = refl; fits = omega arith } } },
   (refl, refl, kinds.Vlan, refl, rows.vlan (omega arith)),

@@ -16,4 +16,5 @@ pub mod Cuts
 pub mod Extensions
 pub mod Completion
 pub mod Summary
+pub mod Limits
 pub mod Feeding

@@ -6,7 +6,7 @@ use Rattle.etherparse.specs.Types.MacsecPayloadSlice.{MacsecPayloadSlice}
 use Rattle.etherparse.specs.Types.MacsecPayloadSlice.TheVariants as payloads
 use Rattle.etherparse.specs.Kind.{Kind}
 use Rattle.etherparse.specs.Refusal.{Refusal, Refuses}
-use Rattle.ether_peel.specs.Expectation.{Expectation, EtherType, Sealed, announced}
+use Rattle.ether_peel.specs.Expectation.{Next, EtherType, Sealed, announced}
 use Rattle.ether_peel.specs.PeelState.{State}
 use Rattle.ether_peel.specs.PeelFault.{error_at}
 use Rattle.ether_peel.specs.declared.peel_error.PeelError.{PeelError}
@@ -32,7 +32,7 @@ named_error bound (errors.LinuxSll e) = errors.LinuxSll e
 named_error bound (errors.Macsec e) = errors.Macsec e
 
 -- what is expected in the payload of a SecTag
-abbrev pub behind_sec_tag : MacsecPayloadSlice → Expectation
+abbrev pub behind_sec_tag : MacsecPayloadSlice → Next
 behind_sec_tag (payloads.Unmodified p) = EtherType p.ether_type.0
 behind_sec_tag (payloads.Modified p) = Sealed
 

@@ -1,9 +1,10 @@
 //! The bytes that complete a unit of which a frame has only the first bytes.
 ghost use Rattle.std.specs.Prelude.{◌≡◌, ◌<◌, ◌≤◌, length, slice_index, MatchOption};
-ghost use Rattle.ether_peel.specs.PeelStart.{start_of};
+ghost use Rattle.ether_peel.specs.PeelStart.{start_of, start_with, limited_start};
 ghost use Rattle.ether_peel.specs.Completion.{CanBeCompleted, Plan as IsPlan, IsShort, fill as fill_of, first_filled, Completes, NothingToComplete};
 
-use crate::{PeelError, Start, summary};
+use crate::summarize::summarized;
+use crate::{PeelError, Start};
 use arrayvec::ArrayVec;
 use etherparse::MacsecHeaderSlice;
 use etherparse::err::Layer;
@@ -41,7 +42,35 @@ const ZEROS: [u8; 1027] = [0; 1027];
 pub fn completion(start: Start, bytes: &[u8]) -> Option<ArrayVec<u8, 1028>>
     ensures { MatchOption result (NothingToComplete (start_of start) bytes.now) (λ fill. Completes (start_of start) bytes.now fill.items) }
 {
-    let fault = summary(start, bytes).fault?;
+    completed(start, bytes, None)
+}
+
+/// The fewest bytes that make a frame accepted by the walk that reads no more than `limit` VLAN tags and MACsec SecTags:
+/// [`completion`] with the walk of [`Peel::with_limit`](crate::Peel::with_limit).
+///
+/// `None` also if a tag that is cut short is beyond the limit, since that walk accepts the frame.
+///
+/// ```
+/// let frame = [
+///     0xFF, 0xFF, 0xFF, 0xFF, 0xFF, 0xFF, 0x02, 0x00, 0x00, 0x00, 0x00, 0x01, 0x81, 0x00, // Ethernet II
+///     0xB1, 0x23, // VLAN
+/// ];
+/// let fill = completion_limited(Start::Ethernet2, &frame, 1);
+/// assert_eq!(rt; fill.as_ref().map(|fill| fill.as_slice()), Some(&[0; 2][..]));
+/// assert!(rt; completion_limited(Start::Ethernet2, &frame, 0).is_none());
+/// ```
+pub fn completion_limited(start: Start, bytes: &[u8], limit: usize) -> Option<ArrayVec<u8, 1028>>
+    ensures { MatchOption result (NothingToComplete (limited_start start limit) bytes.now) (λ fill. Completes (limited_start start limit) bytes.now fill.items) }
+{
+    completed(start, bytes, Some(limit))
+}
+
+/// The completion by a walk with a limit on extensions or without.
+#[inline(always)]
+fn completed(start: Start, bytes: &[u8], limit: Option<usize>) -> Option<ArrayVec<u8, 1028>>
+    ensures { MatchOption result (NothingToComplete (start_with start limit) bytes.now) (λ fill. Completes (start_with start limit) bytes.now fill.items) }
+{
+    let fault = summarized(start, bytes, limit).fault?;
     if fault.closed {
         return None;
     }

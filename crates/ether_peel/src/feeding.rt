@@ -1,6 +1,6 @@
 //! A walk that is given a frame by and by, and no byte that it did not ask for.
 ghost use Rattle.std.specs.Prelude.{◌≡◌, ◌+◌, ◌≤◌, length, MatchOption, ℕ};
-ghost use Rattle.ether_peel.specs.PeelStart.{start_of};
+ghost use Rattle.ether_peel.specs.PeelStart.{start_of, start_with, limited_start};
 ghost use Rattle.ether_peel.specs.PeelFault.{Names};
 ghost use Rattle.ether_peel.specs.Feeding.{IsFeed};
 
@@ -30,7 +30,37 @@ use crate::{Feed, Peel, PeelError, PeelFault, Start};
 pub fn feed(start: Start, bytes: &[u8]) -> Feed
     ensures { IsFeed (start_of start) bytes.now result }
 {
-    let mut peel = Peel::new(start, &bytes[..0]);
+    fed(start, bytes, None)
+}
+
+/// Walks through a frame as [`feed`] does, but reads no more than `limit` VLAN tags and MACsec SecTags, as the walk of
+/// [`Peel::with_limit`] does.
+///
+/// So it asks for no byte of the tags that it does not read.
+///
+/// ```
+/// let frame = [
+///     0xFF, 0xFF, 0xFF, 0xFF, 0xFF, 0xFF, 0x02, 0x00, 0x00, 0x00, 0x00, 0x01, 0x81, 0x00, // Ethernet II
+///     0xB1, 0x23, 0x08, 0x00, // VLAN
+///     0x45,
+/// ];
+/// let fed = feed_limited(Start::Ethernet2, &frame, 0);
+/// assert_eq!(rt; fed.refusals, 1);
+/// assert_eq!(rt; fed.taken, 14);
+/// assert_eq!(rt; fed.fault, None);
+/// ```
+pub fn feed_limited(start: Start, bytes: &[u8], limit: usize) -> Feed
+    ensures { IsFeed (limited_start start limit) bytes.now result }
+{
+    fed(start, bytes, Some(limit))
+}
+
+/// Feeds a walk with a limit on extensions or without.
+#[inline(always)]
+fn fed(start: Start, bytes: &[u8], limit: Option<usize>) -> Feed
+    ensures { IsFeed (start_with start limit) bytes.now result }
+{
+    let mut peel = Peel::begin(start, &bytes[..0], limit);
     let mut refusals = 0;
     let mut taken = 0;
     loop {

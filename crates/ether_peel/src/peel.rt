@@ -3,10 +3,10 @@ ghost use Rattle.std.specs.Prelude.{◌≡◌, ◌+◌, ◌^◌, ◌<◌, List, 
 ghost use Rattle.etherparse.specs.Header.{Header};
 ghost use Rattle.etherparse.specs.LinuxSll.{protocol_type_of_header};
 ghost use Rattle.ether_peel.specs.Window.{payload_bound};
-ghost use Rattle.ether_peel.specs.Expectation.{has_fcs, after_protocol, announced, announced_by};
+ghost use Rattle.ether_peel.specs.Expectation.{has_fcs, after_protocol, announced_next, announced_by, lowered as lowered_of, permitted as permitted_of};
 ghost use Rattle.ether_peel.specs.PeelState.{shown_of};
 ghost use Rattle.ether_peel.specs.Stack.{Ending, whole, Walk};
-ghost use Rattle.ether_peel.specs.PeelStart.{start_of, kind_shown};
+ghost use Rattle.ether_peel.specs.PeelStart.{start_of, start_with, limited_start, kind_shown, next_shown};
 ghost use Rattle.ether_peel.specs.PeelRead.{behind_sec_tag, named_error, sec_tag_payload};
 
 use crate::{PeelError, PeelFault, PeelUnit, RestKind, Start};
@@ -61,6 +61,8 @@ pub struct Peel<'a> {
     /// The ether type that announces the next unit, once the first header was read.
     announced: EtherType,
     kind: RestKind,
+    /// How many VLAN tags and SecTags may still be read, if that is limited.
+    limit: Option<usize>,
 }
 
 impl<'a> Model for Peel<'a> {
@@ -69,9 +71,9 @@ impl<'a> Model for Peel<'a> {
 
     ghost Value = { State };
 
-    ghost view = { λ a. record { rest = slice_range a.frame.now a.start a.end; offset = a.start; closed = a.is_closed; bound = a.bound; expected = expected_of a.first a.kind; over = a.is_over } };
+    ghost view = { λ a. record { rest = slice_range a.frame.now a.start a.end; offset = a.start; closed = a.is_closed; bound = a.bound; expected = record { next = expected_of a.first a.kind; limit = a.limit }; over = a.is_over } };
 
-    ghost invariant = { λ a. (a.start ≤ a.end) × (a.end ≤ length a.frame.now) × Announces a.first a.announced.0 a.kind × IsShown a.first a.kind };
+    ghost invariant = { λ a. (a.start ≤ a.end) × (a.end ≤ length a.frame.now) × Announces a.first a.limit a.announced.0 a.kind × IsShown a.first a.kind };
 }
 
 impl<'a> Peel<'a> {
@@ -83,12 +85,48 @@ impl<'a> Peel<'a> {
         ensures state { result ≡ record { rest = bytes.now; offset = 0; closed = has_fcs (start_of start); bound = LenSource.Slice; expected = start_of start; over = false } }
         ensures walk { (hs : List Header) × (e : Ending) × Walk (start_of start) bytes.now hs e × Faces bytes.now (whole (start_of start) bytes.now) result hs e }
     {
+        Peel::begin(start, bytes, None)
+    }
+
+    /// A walk that has read nothing yet, and that reads no more than `limit` VLAN tags and MACsec SecTags.
+    ///
+    /// After these an ether type of a VLAN tag or of MACsec announces nothing: the walk ends there, with no fault, and
+    /// [`kind`](Self::kind) is that ether type. ARP packets and the header that the frame begins with don't count, but the
+    /// unit that [`Start::EtherType`] announces does.
+    ///
+    /// ```
+    /// let tags = [
+    ///     0x00, 0x01, 0x81, 0x00, // VLAN
+    ///     0x00, 0x02, 0x08, 0x00, // VLAN
+    ///     0x45,
+    /// ];
+    /// let mut peel = Peel::with_limit(Start::EtherType(EtherType::PROVIDER_BRIDGING), &tags, 1);
+    /// assert!(rt; matches!(peel.next(), Some(Ok(PeelUnit::Vlan(_)))));
+    /// assert!(rt; peel.next().is_none());
+    /// assert_eq!(rt; peel.offset(), 4);
+    /// assert_eq!(rt; peel.kind(), RestKind::EtherType(EtherType::VLAN_TAGGED_FRAME));
+    /// ```
+    #[inline(always)]
+    pub fn with_limit(start: Start, bytes: &'a [u8], limit: usize) -> Peel<'a>
+        ensures state { result ≡ record { rest = bytes.now; offset = 0; closed = has_fcs (limited_start start limit); bound = LenSource.Slice; expected = limited_start start limit; over = false } }
+        ensures walk { (hs : List Header) × (e : Ending) × Walk (limited_start start limit) bytes.now hs e × Faces bytes.now (whole (limited_start start limit) bytes.now) result hs e }
+    {
+        Peel::begin(start, bytes, Some(limit))
+    }
+
+    /// A walk that has read nothing yet, with a limit or without.
+    #[inline(always)]
+    pub(crate) fn begin(start: Start, bytes: &'a [u8], limit: Option<usize>) -> Peel<'a>
+        ensures state { result ≡ record { rest = bytes.now; offset = 0; closed = has_fcs (start_with start limit); bound = LenSource.Slice; expected = start_with start limit; over = false } }
+        ensures walk { (hs : List Header) × (e : Ending) × Walk (start_with start limit) bytes.now hs e × Faces bytes.now (whole (start_with start limit) bytes.now) result hs e }
+    {
         let (first, announced, kind) = match start {
             Start::Ethernet2 => (First::Ethernet2, EtherType(0), RestKind::Start),
             Start::Ethernet2Fcs => (First::Ethernet2Fcs, EtherType(0), RestKind::Start),
             Start::LinuxSll => (First::LinuxSll, EtherType(0), RestKind::Start),
             Start::EtherType(ether_type) => {
-                (First::Read, ether_type, RestKind::EtherType(ether_type))
+                let announced = permitted(limit, ether_type);
+                (First::Read, announced, RestKind::EtherType(ether_type))
             }
         };
         Peel {
@@ -101,6 +139,7 @@ impl<'a> Peel<'a> {
             first,
             announced,
             kind,
+            limit,
         }
     }
 
@@ -229,7 +268,7 @@ impl<'a> Peel<'a> {
                 let ether_type = slice.ether_type();
                 self.start += slice.header_len();
                 self.first = First::Read;
-                self.announced = ether_type;
+                self.announced = permitted(self.limit, ether_type);
                 self.kind = RestKind::EtherType(ether_type);
                 Some(Ok(PeelUnit::Ethernet2(slice)))
             }
@@ -252,7 +291,7 @@ impl<'a> Peel<'a> {
                 self.start += slice.header_len();
                 self.end = self.start + slice.payload_slice().len();
                 self.first = First::Read;
-                self.announced = ether_type;
+                self.announced = permitted(self.limit, ether_type);
                 self.kind = RestKind::EtherType(ether_type);
                 Some(Ok(PeelUnit::Ethernet2(slice)))
             }
@@ -274,7 +313,7 @@ impl<'a> Peel<'a> {
                 let (announced, kind) = announced_in(&slice);
                 self.start += slice.header_len();
                 self.first = First::Read;
-                self.announced = announced;
+                self.announced = permitted(self.limit, announced);
                 self.kind = kind;
                 Some(Ok(PeelUnit::LinuxSll(slice)))
             }
@@ -301,7 +340,8 @@ impl<'a> Peel<'a> {
                 let ether_type = slice.ether_type();
                 self.start += slice.header_len();
                 self.first = First::Read;
-                self.announced = ether_type;
+                self.limit = lowered(self.limit);
+                self.announced = permitted(self.limit, ether_type);
                 self.kind = RestKind::EtherType(ether_type);
                 Some(Ok(PeelUnit::Vlan(slice)))
             }
@@ -327,7 +367,8 @@ impl<'a> Peel<'a> {
                 self.is_closed |= known.is_some();
                 self.bound = bound_behind(known, self.bound);
                 self.first = First::Read;
-                self.announced = announced;
+                self.limit = lowered(self.limit);
+                self.announced = permitted(self.limit, announced);
                 self.kind = kind;
                 Some(Ok(PeelUnit::Macsec(slice)))
             }
@@ -362,6 +403,34 @@ impl<'a> Peel<'a> {
     }
 }
 
+/// How many extensions may still be read after one more, if that is limited.
+#[inline(always)]
+fn lowered(limit: Option<usize>) -> Option<usize>
+    ensures { result ≡ lowered_of true limit }
+{
+    match limit {
+        Some(left) => Some(left.saturating_sub(1)),
+        None => None,
+    }
+}
+
+/// The ether type, or one that announces nothing in place of an extension where none may be read any more.
+#[inline(always)]
+fn permitted(limit: Option<usize>, ether_type: EtherType) -> EtherType
+    ensures { permitted_of limit (announced_by ether_type.0) ≡ announced_by result.0 }
+{
+    match (limit, ether_type) {
+        (
+            Some(0),
+            EtherType::VLAN_TAGGED_FRAME
+            | EtherType::PROVIDER_BRIDGING
+            | EtherType::VLAN_DOUBLE_TAGGED_FRAME
+            | EtherType::MACSEC,
+        ) => EtherType(0),
+        _ => ether_type,
+    }
+}
+
 /// The error, with the bound of the window in place of the slice that the unit was read from.
 #[inline(always)]
 fn bounded(error: PeelError, bound: LenSource) -> PeelError
@@ -382,8 +451,8 @@ fn bounded(error: PeelError, bound: LenSource) -> PeelError
 #[inline(always)]
 fn announced_in(packet: &LinuxSllSlice<'_>) -> (EtherType, RestKind)
     ensures expected { shown_of result.1 ≡ after_protocol (protocol_type_of_header packet.now) }
-    ensures announced { announced (after_protocol (protocol_type_of_header packet.now)) ≡ announced_by result.0.0 }
-    ensures shown { result.1 ≡ kind_shown (after_protocol (protocol_type_of_header packet.now)) }
+    ensures announced { announced_next (after_protocol (protocol_type_of_header packet.now)) ≡ announced_by result.0.0 }
+    ensures shown { result.1 ≡ next_shown (after_protocol (protocol_type_of_header packet.now)) }
 {
     let protocol_type = packet.protocol_type();
     match LinkSlice::LinuxSllPayload(packet.payload()).ether_payload() {
@@ -396,8 +465,8 @@ fn announced_in(packet: &LinuxSllSlice<'_>) -> (EtherType, RestKind)
 #[inline(always)]
 fn announced_behind(payload: MacsecPayloadSlice<'_>) -> (EtherType, RestKind)
     ensures expected { shown_of result.1 ≡ behind_sec_tag payload.entry }
-    ensures announced { announced (behind_sec_tag payload.entry) ≡ announced_by result.0.0 }
-    ensures shown { result.1 ≡ kind_shown (behind_sec_tag payload.entry) }
+    ensures announced { announced_next (behind_sec_tag payload.entry) ≡ announced_by result.0.0 }
+    ensures shown { result.1 ≡ next_shown (behind_sec_tag payload.entry) }
 {
     match payload {
         MacsecPayloadSlice::Unmodified(payload) => (

@@ -125,9 +125,16 @@ enum PlainStep<'a> {
     Nothing,
 }
 
-/// The walk of a frame that begins with `start`. Where memory runs out there is no answer, and no other error comes.
-pub fn walk<'a>(alloc: Global, start: Start, frame: &'a [u8]) -> Result<PlainWalk<'a>, AllocError> {
+/// The walk of a frame that begins with `start`, of no more VLAN tags and SecTags than a limit. Where memory runs out there
+/// is no answer, and no other error comes.
+pub fn walk<'a>(
+    alloc: Global,
+    start: Start,
+    frame: &'a [u8],
+    limit: Option<usize>,
+) -> Result<PlainWalk<'a>, AllocError> {
     let mut headers = Vec::new(alloc);
+    let mut extensions = 0usize;
     let mut expected = expected_at(start);
     let mut window = PlainWindow {
         start: 0,
@@ -141,8 +148,12 @@ pub fn walk<'a>(alloc: Global, start: Start, frame: &'a [u8]) -> Result<PlainWal
             break;
         };
         match reading::step(bytes, expected) {
+            _ if is_extension(expected) && limit == Some(extensions) => break,
             PlainStep::Header(header) => {
                 headers.push(header)?;
+                if is_extension(expected) {
+                    extensions = extensions.saturating_add(1);
+                }
                 expected = expected_after(header);
                 window = payload(window, header);
             }
@@ -159,6 +170,14 @@ pub fn walk<'a>(alloc: Global, start: Start, frame: &'a [u8]) -> Result<PlainWal
         refusal,
     };
     Ok(PlainWalk { headers, ending })
+}
+
+/// Whether a VLAN tag or a SecTag stands next.
+fn is_extension(expected: PlainExpected) -> bool {
+    matches!(
+        expected,
+        PlainExpected::EtherType(0x8100 | 0x88A8 | 0x9100 | 0x88E5)
+    )
 }
 
 /// The refusal of a unit, which names the bound of its window in place of the slice.

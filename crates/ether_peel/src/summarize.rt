@@ -1,7 +1,8 @@
 //! The whole walk through a frame in one call.
-ghost use Rattle.std.specs.Prelude.{◌≡◌, ◌+◌, ◌≤◌, length};
-ghost use Rattle.ether_peel.specs.PeelStart.{start_of, kind_shown};
+ghost use Rattle.std.specs.Prelude.{◌≡◌, ◌+◌, ◌/◌, ◌<◌, ◌≤◌, length};
+ghost use Rattle.ether_peel.specs.PeelStart.{start_of, start_with, limited_start, kind_shown};
 ghost use Rattle.ether_peel.specs.Summary.{IsSummary, IsCutSummary};
+ghost use Rattle.ether_peel.specs.Limits.{IsFrontOfUnlimited};
 
 use crate::{Peel, PeelFault, Start, Summary};
 
@@ -23,7 +24,41 @@ use crate::{Peel, PeelFault, Start, Summary};
 pub fn summary(start: Start, bytes: &[u8]) -> Summary
     ensures { IsSummary (start_of start) bytes.now result }
 {
-    let mut peel = Peel::new(start, bytes);
+    summarized(start, bytes, None)
+}
+
+/// What the walk through a frame comes to that reads no more than `limit` VLAN tags and MACsec SecTags, as that of
+/// [`Peel::with_limit`] does.
+///
+/// Its units are the first ones of the walk without a limit. Since each tag takes at least four bytes, a limit greater than
+/// `bytes.len() / 4` changes nothing.
+///
+/// ```
+/// let frame = [
+///     0xFF, 0xFF, 0xFF, 0xFF, 0xFF, 0xFF, 0x02, 0x00, 0x00, 0x00, 0x00, 0x01, 0x81, 0x00, // Ethernet II
+///     0xB1, 0x23, 0x08, 0x00, // VLAN
+/// ];
+/// let found = summary_limited(Start::Ethernet2, &frame, 0);
+/// assert_eq!(rt; found.units, 1);
+/// assert_eq!(rt; (found.rest_start, found.rest_end), (14, 18));
+/// assert_eq!(rt; found.kind, RestKind::EtherType(EtherType::VLAN_TAGGED_FRAME));
+/// assert_eq!(rt; found.fault, None);
+/// ```
+#[inline(always)]
+pub fn summary_limited(start: Start, bytes: &[u8], limit: usize) -> Summary
+    ensures summary { IsSummary (limited_start start limit) bytes.now result }
+    ensures front { IsFrontOfUnlimited start bytes.now limit }
+    ensures spare { length bytes.now / 4 < limit → IsSummary (start_of start) bytes.now result }
+{
+    summarized(start, bytes, Some(limit))
+}
+
+/// What the walk through a frame comes to, with a limit on extensions or without.
+#[inline(always)]
+pub(crate) fn summarized(start: Start, bytes: &[u8], limit: Option<usize>) -> Summary
+    ensures { IsSummary (start_with start limit) bytes.now result }
+{
+    let mut peel = Peel::begin(start, bytes, limit);
     let mut units = 0;
     loop {
         match peel.next() {
@@ -54,7 +89,36 @@ pub fn snap(start: Start, bytes: &[u8], n: usize) -> Summary
     requires { n ≤ length bytes.now }
     ensures { IsCutSummary (start_of start) bytes.now n result }
 {
-    summary(start, &bytes[..n])
+    snapped(start, bytes, n, None)
+}
+
+/// What the walk through the first `n` bytes of a frame comes to that reads no more than `limit` VLAN tags and MACsec
+/// SecTags: [`snap`] with the walk of [`Peel::with_limit`].
+///
+/// ```
+/// let frame = [
+///     0xFF, 0xFF, 0xFF, 0xFF, 0xFF, 0xFF, 0x02, 0x00, 0x00, 0x00, 0x00, 0x01, 0x81, 0x00, // Ethernet II
+///     0xB1, 0x23, 0x08, 0x00, // VLAN
+/// ];
+/// assert_eq!(rt; snap_limited(Start::Ethernet2, &frame, 16, 0).fault, None);
+/// let found = snap_limited(Start::Ethernet2, &frame, 16, 1);
+/// assert_eq!(rt; found.fault.as_ref().and_then(|fault| fault.missing()), Some(2));
+/// ```
+#[inline(always)]
+pub fn snap_limited(start: Start, bytes: &[u8], n: usize, limit: usize) -> Summary
+    requires { n ≤ length bytes.now }
+    ensures { IsCutSummary (limited_start start limit) bytes.now n result }
+{
+    snapped(start, bytes, n, Some(limit))
+}
+
+/// What the walk through the first `n` bytes of a frame comes to, with a limit on extensions or without.
+#[inline(always)]
+fn snapped(start: Start, bytes: &[u8], n: usize, limit: Option<usize>) -> Summary
+    requires { n ≤ length bytes.now }
+    ensures { IsCutSummary (start_with start limit) bytes.now n result }
+{
+    summarized(start, &bytes[..n], limit)
 }
 
 /// The summary of a walk at its end.

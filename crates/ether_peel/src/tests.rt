@@ -3,6 +3,7 @@ mod bounds;
 mod captured;
 mod compared;
 mod feeding;
+mod limits;
 mod refusals;
 mod sources;
 mod streams;

@@ -2,10 +2,11 @@
 ghost use Rattle.std.specs.Prelude.{◌≡◌, ◌+◌, ◌≤◌, List, ◌++◌, length, take, drop, IfOk, IfErr};
 ghost use Rattle.etherparse.specs.Header.{Header};
 ghost use Rattle.ether_peel.specs.Stack.{Ending, last_window, Walk};
-ghost use Rattle.ether_peel.specs.PeelStart.{start_of};
+ghost use Rattle.ether_peel.specs.PeelStart.{start_of, start_with, limited_start};
 ghost use Rattle.ether_peel.specs.WriteBack.{unit_bytes, WritesBack, RefusesBack};
 
-use crate::{Peel, PeelUnit, Start, summary};
+use crate::summarize::summarized;
+use crate::{Peel, PeelUnit, Start};
 use etherparse::err::{Layer, SliceWriteSpaceError};
 
 /// Writes the headers of a frame to the front of a target, each by its `to_bytes`, and behind them the bytes of the window
@@ -43,7 +44,53 @@ pub fn write_back(
     ensures refused { IfErr result (RefusesBack (start_of start) bytes.now target.old) }
     ensures kept { IfErr result (λ _. target.new ≡ target.old) }
 {
-    let required_len = summary(start, bytes).rest_end;
+    written(start, bytes, target, None)
+}
+
+/// Writes the headers of a frame to the front of a target as [`write_back`] does, but only those that the walk of
+/// [`Peel::with_limit`] finds: the tags beyond the `limit` are written as they are.
+///
+/// # Errors
+///
+/// As of [`write_back`], the target ends before the window does that this walk leaves.
+///
+/// ```
+/// let tag = [
+///     0x2C, 0xC0, 0x00, 0x00, 0x00, 0x01, // SecTag: has both reserved bits set
+///     0x00, 0x11, 0x22, 0x33, 0x44, 0x55, 0x66, 0x77, // SCI
+///     0x99,
+/// ];
+/// let mut target = [0; 15];
+/// let end = write_back_limited(Start::EtherType(EtherType::MACSEC), &tag, &mut target, 0)?;
+/// assert_eq!(rt; end, 15);
+/// assert_eq!(rt; target, tag);
+/// ```
+pub fn write_back_limited(
+    start: Start,
+    bytes: &[u8],
+    target: &mut [u8],
+    limit: usize,
+) -> Result<usize, SliceWriteSpaceError>
+    ensures ok { IfOk result (λ end. WritesBack (limited_start start limit) bytes.now end target.old target.new) }
+    ensures refused { IfErr result (RefusesBack (limited_start start limit) bytes.now target.old) }
+    ensures kept { IfErr result (λ _. target.new ≡ target.old) }
+{
+    written(start, bytes, target, Some(limit))
+}
+
+/// Writes the headers of a walk with a limit on extensions or without, and what it leaves.
+#[inline(always)]
+fn written(
+    start: Start,
+    bytes: &[u8],
+    target: &mut [u8],
+    limit: Option<usize>,
+) -> Result<usize, SliceWriteSpaceError>
+    ensures ok { IfOk result (λ end. WritesBack (start_with start limit) bytes.now end target.old target.new) }
+    ensures refused { IfErr result (RefusesBack (start_with start limit) bytes.now target.old) }
+    ensures kept { IfErr result (λ _. target.new ≡ target.old) }
+{
+    let required_len = summarized(start, bytes, limit).rest_end;
     let len = target.len();
     if len < required_len {
         return Err(SliceWriteSpaceError {
@@ -53,15 +100,15 @@ pub fn write_back(
             layer_start_offset: 0,
         });
     }
-    Ok(put_walk(start, bytes, target))
+    Ok(put_walk(start, bytes, target, limit))
 }
 
 /// Writes the headers of a walk and then its last window to the front of a target, and returns where that ends.
-fn put_walk(start: Start, bytes: &[u8], target: &mut [u8]) -> usize
-    requires { (hs : List Header) (e : Ending) → Walk (start_of start) bytes.now hs e → (last_window e).finish ≤ length target.old }
-    ensures { WritesBack (start_of start) bytes.now result target.old target.new }
+fn put_walk(start: Start, bytes: &[u8], target: &mut [u8], limit: Option<usize>) -> usize
+    requires { (hs : List Header) (e : Ending) → Walk (start_with start limit) bytes.now hs e → (last_window e).finish ≤ length target.old }
+    ensures { WritesBack (start_with start limit) bytes.now result target.old target.new }
 {
-    let mut peel = Peel::new(start, bytes);
+    let mut peel = Peel::begin(start, bytes, limit);
     let mut at = 0;
     while let Some(Ok(unit)) = peel.next() {
         put_header(target, at, &unit);

@@ -13,10 +13,10 @@ use Rattle.etherparse.specs.Refusal.{Refusal, Length, UnsupportedPacketType, Uns
 use Rattle.etherparse.specs.Refusal as rows
 use Rattle.etherparse.proofs.SubLists.{length-part, part_of_part, IsBytes-part}
 use Rattle.ether_peel.specs.Window.{Window, within, IsIn, payload}
-use Rattle.ether_peel.specs.Expectation.{Expectation, Start, EtherType, Sll, Sealed, AfterArp}
+use Rattle.ether_peel.specs.Expectation.{Next, Expectation, Start, EtherType, Sll, Sealed, AfterArp}
 use Rattle.ether_peel.specs.Stack.{Ending, IsUnit, whole, Walk}
 use Rattle.ether_peel.specs.PeelState.{State}
-use Rattle.ether_peel.specs.PeelStart.{kind_shown}
+use Rattle.ether_peel.specs.PeelStart.{next_shown, kind_shown}
 use Rattle.ether_peel.specs.PeelFault.{fault_in}
 use Rattle.ether_peel.specs.Peel.{Faces, ShowsUnit, Gives}
 use Rattle.ether_peel.proofs.ViewValues.{ethernet2_shown, linux_sll_shown, vlan_shown, macsec_shown, arp_shown}
@@ -81,7 +81,7 @@ fault_view_text-fault w (UnsupportedHardwareType n) = refl
 fault_view_text-fault w UnexpectedVersion = refl
 fault_view_text-fault w InvalidShortLen = refl
 
-kind_view_text-kind : (x : Expectation) → kind_view_text (kind_shown x) ≡ kind_text x
+kind_view_text-kind : (x : Next) → kind_view_text (next_shown x) ≡ kind_text x
 unfolding kind_text
 kind_view_text-kind (Start kind) = refl
 kind_view_text-kind (EtherType t) = refl
@@ -92,7 +92,7 @@ kind_view_text-kind AfterArp = refl
 rest_view_text-rest : (w : Window) (x : Expectation) (start end : ℕ) (k : RestKind) → start ≡ w.start → end ≡ w.finish → k ≡ kind_shown x → rest_view_text start end k ≡ rest_text w x
 unfolding rest_view_text rest_text
 rest_view_text-rest w x start end k at to shows =
-    let kind = ap kind_view_text shows ∙ kind_view_text-kind x in
+    let kind = ap kind_view_text shows ∙ kind_view_text-kind x.next in
     ap (λ (n : ℕ). rest_view_text n end k) at ∙ ap (λ (n : ℕ). rest_view_text w.start n k) to ∙ ap (λ (t : List ℕ). codes "rest" ++ (codes " " ++ (decimal w.start ++ (codes " " ++ (decimal w.finish ++ (codes " " ++ t)))))) kind
 
 -- ---- the lines so far, and those that are left

@@ -18,7 +18,7 @@ use Rattle.etherparse.specs.Refusal.{Refusal, Length, UnsupportedPacketType, Uns
 use Rattle.etherparse.specs.NumberText.{hex_number}
 use Rattle.ether_tool.specs.HexText.{hex_text}
 use Rattle.ether_peel.specs.Window.{Window, payload}
-use Rattle.ether_peel.specs.Expectation.{Expectation, Start, EtherType, Sll, Sealed, AfterArp}
+use Rattle.ether_peel.specs.Expectation.{Next, Expectation, Start, EtherType, Sll, Sealed, AfterArp}
 use Rattle.ether_peel.specs.Stack.{Ending, Accepted, Fault}
 
 -- ---- words
@@ -98,7 +98,7 @@ protocol_text (protocols.EtherType t) = []
 protocol_text (protocols.LinuxNonstandardEtherType n) = []
 
 -- nothing is left expected of a start kind, which announces itself
-unfoldable pub kind_text : Expectation → List ℕ
+unfoldable pub kind_text : Next → List ℕ
 kind_text (Start kind) = []
 kind_text (EtherType t) = codes "type " ++ hex_number t
 kind_text (Sll protocol) = protocol_text protocol
@@ -106,7 +106,7 @@ kind_text Sealed = codes "sealed"
 kind_text AfterArp = codes "after_arp"
 
 unfoldable pub rest_text : Window → Expectation → List ℕ
-rest_text w x = spaced (codes "rest" ∷ decimal w.start ∷ decimal w.finish ∷ kind_text x ∷ [])
+rest_text w x = spaced (codes "rest" ∷ decimal w.start ∷ decimal w.finish ∷ kind_text x.next ∷ [])
 
 unfoldable pub fault_text : Window → Refusal → List ℕ
 fault_text w (Length required len source layer) = spaced (codes "fault" ∷ decimal w.start ∷ mark_text w.closed ∷ codes "length" ∷ decimal required ∷ decimal len ∷ source_text source ∷ [])

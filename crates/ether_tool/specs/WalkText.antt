@@ -1,8 +1,8 @@
 -- The text that answers a frame.
-use Rattle.std.specs.Prelude.{◌≡◌, ℕ, List, ◌++◌, length, take, codes, Bool}
+use Rattle.std.specs.Prelude.{◌≡◌, ℕ, List, ◌++◌, length, take, codes, Bool, None}
 use Rattle.etherparse.specs.Kind as kinds
 use Rattle.etherparse.specs.Header.{Header}
-use Rattle.ether_peel.specs.Expectation.{Expectation, Start, EtherType}
+use Rattle.ether_peel.specs.Expectation.{Next, Expectation, Start, EtherType}
 use Rattle.ether_peel.specs.Stack.{Ending, whole, Walk}
 use Rattle.ether_peel.specs.Feeding.{AreDemands, greatest}
 use Rattle.ether_tool.specs.Lines.{frame_text, feed_text, fault_line, is_accepted}
@@ -10,12 +10,15 @@ use Rattle.ether_tool.specs.declared.mode.Mode.{Mode}
 use Rattle.ether_tool.specs.declared.mode.Mode.TheVariants as modes
 
 -- what the frames of a mode begin with
+abbrev pub next_of_mode : Mode → Next
+next_of_mode modes.Eth = Start kinds.Ethernet2
+next_of_mode modes.Fcs = Start kinds.Ethernet2Fcs
+next_of_mode modes.Sll = Start kinds.LinuxSll
+next_of_mode (modes.EtherType t) = EtherType t.0
+next_of_mode modes.Feed = Start kinds.Ethernet2
+
 abbrev pub start_of_mode : Mode → Expectation
-start_of_mode modes.Eth = Start kinds.Ethernet2
-start_of_mode modes.Fcs = Start kinds.Ethernet2Fcs
-start_of_mode modes.Sll = Start kinds.LinuxSll
-start_of_mode (modes.EtherType t) = EtherType t.0
-start_of_mode modes.Feed = Start kinds.Ethernet2
+start_of_mode mode = record { next = next_of_mode mode; limit = None }
 
 -- The text is the lines of the frame's walk, and the frame is accepted exactly if the walk ends in no fault.
 pub record AnswersWalk (start : Expectation) (frame text : List ℕ) (accepted : Bool) : Type 0 where

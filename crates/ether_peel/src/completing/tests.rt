@@ -6,7 +6,7 @@ use crate::test_frames::{
     INTEGRITY, NAMED, PACKET, SEALED, SECOND_TAG_CUT, SPANNING_TREE, TAGGED, TAGGED_ARP_REQUEST,
     TWICE_TAGGED_ARP_REQUEST,
 };
-use crate::{PeelFault, RestKind};
+use crate::{PeelFault, RestKind, summary};
 use etherparse::EtherType;
 use std::alloc::{AllocError, Global};
 use std::process::Abort;

@@ -1,14 +1,12 @@
-//! The walker, the summary and the plain walk, on the same frames: units with all their fields, windows, marks, and how
-//! they end.
+//! The walker, the summary and the plain walk, on the same frames, with limits on extensions and without: units with all their
+//! fields, windows, marks, and how they end.
 mod generated;
 
+use super::limits::{fed, snapped, summed, walker, written};
 use super::{behind, shown};
 use crate::plain::{PlainEnding, PlainExpected, PlainRefusal, walk};
 use crate::test_frames::{ARP_REQUEST, CHECKED, COOKED, NAMED, SEALED, SECOND_TAG_CUT, TAGGED};
-use crate::{
-    Feed, Peel, PeelError, PeelFault, PeelUnit, RestKind, Start, Summary, feed, snap, summary,
-    write_back,
-};
+use crate::{Feed, PeelError, PeelFault, PeelUnit, RestKind, Start, Summary};
 use etherparse::err::{self, LenError};
 use etherparse::{ArpHardwareId, EtherType, LinuxSllProtocolType};
 use std::process::Abort;
@@ -86,35 +84,60 @@ fn every_front_of_the_made_frames(rt: HostRuntime) -> Result<(), Fail> {
     Ok(())
 }
 
-/// Walks a frame both ways: the headers, the end or the fault, the window that is left and its announcement are the same.
+/// Walks a frame without a limit on extensions, and with a few.
 fn compare<R: Abort + AllocGlobal>(rt: &R, start: Start, frame: &[u8]) -> Result<(), Fail> {
-    let plain = walk(rt.alloc(), start, frame)?;
+    for limit in [None, Some(0), Some(1), Some(2)] {
+        compare_walks(rt, start, frame, limit)?;
+    }
+    Ok(())
+}
+
+/// Walks a frame both ways: the headers, the end or the fault, the window that is left and its announcement are the same.
+fn compare_walks<R: Abort + AllocGlobal>(
+    rt: &R,
+    start: Start,
+    frame: &[u8],
+    limit: Option<usize>,
+) -> Result<(), Fail> {
+    let plain = walk(rt.alloc(), start, frame, limit)?;
     let mut cleared = Vec::new(rt.alloc());
     cleared.extend_from_slice(frame)?;
-    let mut peel = Peel::new(start, frame);
+    let mut peel = walker(start, frame, limit);
     for header in &plain.headers {
         let second = peel.offset().saturating_add(1);
         let Some(Ok(unit)) = peel.next() else {
-            panic!(rt; "{header:?} in {start:?} {frame:?}");
+            panic!(rt; "{header:?} in {limit:?} {start:?} {frame:?}");
         };
-        assert_eq!(rt; shown(&unit), *header, "{start:?} {frame:?}");
+        assert_eq!(rt; shown(&unit), *header, "{limit:?} {start:?} {frame:?}");
         if let (PeelUnit::Macsec(_), Some(byte)) = (&unit, cleared.get_mut(second)) {
             *byte %= 64;
         }
     }
     let ending = plain.ending;
     let window = ending.window;
-    assert_eq!(rt; peel.next(), last_item(ending), "{start:?} {frame:?}");
-    assert!(rt; peel.next().is_none(), "{start:?} {frame:?}");
+    assert_eq!(rt;
+        peel.next(),
+        last_item(ending),
+        "{limit:?} {start:?} {frame:?}"
+    );
+    assert!(rt; peel.next().is_none(), "{limit:?} {start:?} {frame:?}");
     let left = frame.get(window.start..window.end);
-    assert_eq!(rt; Some(peel.rest()), left, "{start:?} {frame:?}");
-    assert_eq!(rt; peel.offset(), window.start, "{start:?} {frame:?}");
-    assert_eq!(rt; peel.closed(), window.closed, "{start:?} {frame:?}");
-    assert_eq!(rt; peel.bound(), window.bound, "{start:?} {frame:?}");
+    assert_eq!(rt; Some(peel.rest()), left, "{limit:?} {start:?} {frame:?}");
+    assert_eq!(rt;
+        peel.offset(),
+        window.start,
+        "{limit:?} {start:?} {frame:?}"
+    );
+    assert_eq!(rt;
+        peel.closed(),
+        window.closed,
+        "{limit:?} {start:?} {frame:?}"
+    );
+    assert_eq!(rt; peel.bound(), window.bound, "{limit:?} {start:?} {frame:?}");
     assert_eq!(rt;
         peel.kind(),
         kind_of(ending.expected),
-        "{start:?} {frame:?}"
+        "{limit:?} {start:?} {frame:?}"
     );
     let counted = Summary {
         units: plain.headers.len(),
@@ -123,13 +146,17 @@ fn compare<R: Abort + AllocGlobal>(rt: &R, start: Start, frame: &[u8]) -> Result
         kind: kind_of(ending.expected),
         fault: fault_of(ending),
     };
-    assert_eq!(rt; summary(start, frame), counted, "{start:?} {frame:?}");
     assert_eq!(rt;
-        feed(start, frame),
-        fed_by_fronts(start, frame),
-        "{start:?} {frame:?}"
+        summed(start, frame, limit),
+        counted,
+        "{limit:?} {start:?} {frame:?}"
     );
-    writes_back(rt, start, frame, cleared.get(..window.end))
+    assert_eq!(rt;
+        fed(start, frame, limit),
+        fed_by_fronts(start, frame, limit),
+        "{limit:?} {start:?} {frame:?}"
+    );
+    writes_back(rt, start, frame, limit, cleared.get(..window.end))
 }
 
 /// The headers of a frame and what is left are written back as this list; what stands behind it in the target stays.
@@ -137,6 +164,7 @@ fn writes_back<R: Abort + AllocGlobal>(
     rt: &R,
     start: Start,
     frame: &[u8],
+    limit: Option<usize>,
     front: Option<&[u8]>,
 ) -> Result<(), Fail> {
     let mut target = Vec::new(rt.alloc());
@@ -145,24 +173,28 @@ fn writes_back<R: Abort + AllocGlobal>(
     for byte in &mut target {
         *byte = 0x5A;
     }
-    let end = write_back(start, frame, &mut target).ok();
-    assert_eq!(rt; end, front.map(|front| front.len()), "{start:?} {frame:?}");
+    let end = written(start, frame, &mut target, limit).ok();
+    assert_eq!(rt;
+        end,
+        front.map(|front| front.len()),
+        "{limit:?} {start:?} {frame:?}"
+    );
     let (written, rest) = target.split_at(end.unwrap_or(0).min(target.len()));
-    assert_eq!(rt; Some(written), front, "{start:?} {frame:?}");
+    assert_eq!(rt; Some(written), front, "{limit:?} {start:?} {frame:?}");
     assert!(rt;
         rest.iter().all(|byte| *byte == 0x5A),
-        "{start:?} {frame:?}"
+        "{limit:?} {start:?} {frame:?}"
     );
     Ok(())
 }
 
 /// What is asked for, by the walk of each front: the length of a front is asked for if the front that is one byte shorter ends in
 /// an open refusal that names it.
-fn fed_by_fronts(start: Start, frame: &[u8]) -> Feed {
+fn fed_by_fronts(start: Start, frame: &[u8], limit: Option<usize>) -> Feed {
     let mut refusals = 0usize;
     let mut taken = 0;
     for n in 0..frame.len() {
-        if named(&snap(start, frame, n)) == Some(n + 1) {
+        if named(&snapped(start, frame, n, limit)) == Some(n + 1) {
             refusals = refusals.saturating_add(1);
             taken = n + 1;
         }
@@ -171,7 +203,7 @@ fn fed_by_fronts(start: Start, frame: &[u8]) -> Feed {
     Feed {
         refusals,
         taken,
-        fault: summary(start, front).fault,
+        fault: summed(start, front, limit).fault,
     }
 }
 

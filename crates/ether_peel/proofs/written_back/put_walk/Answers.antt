@@ -1,5 +1,5 @@
 use Rattle.std.proofs.Common.{ℕ, sym, subst, ap, ◌∙◌, arith, rules}
-use Rattle.ether_peel.specs.PeelStart.{start_of}
+use Rattle.ether_peel.specs.PeelStart.{start_with}
 use Rattle.ether_peel.specs.PeelState.{State}
 use Rattle.ether_peel.proofs.WriteBackLemmas.{WritesSoFar, NextAt, Stops, writes_first, next_at, writes_next, rest_ends, writes_back, stops}
 use Rattle.ether_peel.proofs.written_back.put_walk.Goals as goal
@@ -7,21 +7,21 @@ use Rattle.ether_peel.proofs.written_back.put_walk.Goals.{In-Some-Ok, After-rest
 
 pub loop-unit-init : goal.loop-unit-init
 loop-unit-init c =
-    let w = c.new-peel.ensures.walk in
-    writes_first (start_of c.args.start) c.args.bytes.now c.new-peel.result c.args.target.now w.0 w.1 w.2 w.3 (ap (λ (k : State). k.over) c.new-peel.ensures.state)
+    let w = c.begin-peel.ensures.walk in
+    writes_first (start_with c.args.start c.args.limit) c.args.bytes.now c.begin-peel.result c.args.target.now w.0 w.1 w.2 w.3 (ap (λ (k : State). k.over) c.begin-peel.ensures.state)
 
 -- the unit that is given
-next : (c : In-Some-Ok) → NextAt (start_of c.args.start) c.args.bytes.now c.loop-unit.peel c.next.new.self c.in-Some-Ok.unit c.loop-unit.at c.args.target.now c.loop-unit.target c.loop-unit.invariant.stands
+next : (c : In-Some-Ok) → NextAt (start_with c.args.start c.args.limit) c.args.bytes.now c.loop-unit.peel c.next.new.self c.in-Some-Ok.unit c.loop-unit.at c.args.target.now c.loop-unit.target c.loop-unit.invariant.stands
 next c =
     let gives = rw c.in-Some-Ok.field-0-is at c.in-Some-Ok.ensures.steps in
-    next_at (start_of c.args.start) c.args.bytes.now c.loop-unit.peel c.next.new.self c.in-Some-Ok.unit c.loop-unit.at c.args.target.now c.loop-unit.target (λ i. omega (arith, c.type_inv.bytes i)) c.requires c.loop-unit.auto.target c.loop-unit.invariant gives
+    next_at (start_with c.args.start c.args.limit) c.args.bytes.now c.loop-unit.peel c.next.new.self c.in-Some-Ok.unit c.loop-unit.at c.args.target.now c.loop-unit.target (λ i. omega (arith, c.type_inv.bytes i)) c.requires c.loop-unit.auto.target c.loop-unit.invariant gives
 
 pub put_header-requires : goal.put_header-requires
 put_header-requires c = (next (goal.at.put_header-requires c).In-Some-Ok).room
 
 pub loop-unit-preserved : goal.loop-unit-preserved
 loop-unit-preserved c =
-    let x = start_of c.args.start in
+    let x = start_with c.args.start c.args.limit in
     let list = c.args.bytes.now in
     let t = c.next.new.self in
     let old = c.args.target.now in
@@ -30,9 +30,9 @@ loop-unit-preserved c =
     subst (λ (n : ℕ). WritesSoFar x list t n old new) (sym c.offset-at.ensures.value) is
 
 -- no unit is given
-end : (c : After-rest-rest) → Stops (start_of c.args.start) c.args.bytes.now c.loop-unit.peel c.next.new.self c.loop-unit.invariant.stands
+end : (c : After-rest-rest) → Stops (start_with c.args.start c.args.limit) c.args.bytes.now c.loop-unit.peel c.next.new.self c.loop-unit.invariant.stands
 end c =
-    stops (start_of c.args.start) c.args.bytes.now c.loop-unit.peel c.next.new.self c.next.result c.loop-unit.invariant.stands (elim c.match-next.branch [
+    stops (start_with c.args.start c.args.limit) c.args.bytes.now c.loop-unit.peel c.next.new.self c.next.result c.loop-unit.invariant.stands (elim c.match-next.branch [
       | in_default w ↦ λ u e. search (rules, w, e)
       | in_default-2 w ↦ λ u e. let f = sym w.in_default.is ∙ e in cc
     ]) c.next.ensures.steps
@@ -41,10 +41,10 @@ pub put_at-requires : goal.put_at-requires
 put_at-requires c =
     let a = c.loop-unit.invariant in
     let p = end (goal.at.put_at-requires c).After-rest-rest in
-    let ends = rest_ends (start_of c.args.start) c.args.bytes.now c.loop-unit.peel c.next.new.self c.loop-unit.at c.args.target.now c.loop-unit.target c.rest-rest.result.now a p c.rest-rest.ensures in
+    let ends = rest_ends (start_with c.args.start c.args.limit) c.args.bytes.now c.loop-unit.peel c.next.new.self c.loop-unit.at c.args.target.now c.loop-unit.target c.rest-rest.result.now a p c.rest-rest.ensures in
     let fits = c.requires a.stands.done a.stands.ending p.walk in
     omega (arith, c.loop-unit.auto.target)
 
 pub returns : goal.returns
 returns c =
-    writes_back (start_of c.args.start) c.args.bytes.now c.loop-unit.peel c.next.new.self c.loop-unit.at c.args.target.now c.loop-unit.target c.rest-rest.result.now c.put_at.new.target (λ i. omega (arith, c.type_inv.bytes i)) c.requires c.loop-unit.invariant (end (goal.at.returns c).After-rest-rest) c.rest-rest.ensures c.put_at.ensures
+    writes_back (start_with c.args.start c.args.limit) c.args.bytes.now c.loop-unit.peel c.next.new.self c.loop-unit.at c.args.target.now c.loop-unit.target c.rest-rest.result.now c.put_at.new.target (λ i. omega (arith, c.type_inv.bytes i)) c.requires c.loop-unit.invariant (end (goal.at.returns c).After-rest-rest) c.rest-rest.ensures c.put_at.ensures

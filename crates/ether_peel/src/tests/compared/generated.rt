@@ -1,5 +1,5 @@
 //! Stacks of headers that are drawn from a fixed seed, cut off and with bits changed.
-use super::{behind, compare};
+use super::{behind, compare_walks};
 use crate::Start;
 use std::alloc::{AllocError, Global};
 use std::test::Fail;
@@ -46,16 +46,18 @@ fn ten_thousand_stacks(rt: HostRuntime) -> Result<(), Fail> {
             _ => behind(random.ether_type()),
         };
         let mut frame = stack(rt.alloc(), &mut random, start)?;
-        compare(&rt, start, &frame)?;
+        let limit = (random.next() % 4) as usize;
+        compare_walks(&rt, start, &frame, None)?;
+        compare_walks(&rt, start, &frame, Some(limit))?;
         let bit = [1, 2, 4, 8, 16, 32, 64, 128][(random.next() % 8) as usize];
         let place = (random.next() % 64) as usize;
         if let Some(byte) = frame.get_mut(place) {
             *byte ^= bit;
         }
-        compare(&rt, start, &frame)?;
+        compare_walks(&rt, start, &frame, None)?;
         let cut = (random.next() % 64) as usize;
         if let Some(front) = frame.get(..cut) {
-            compare(&rt, start, front)?;
+            compare_walks(&rt, start, front, None)?;
         }
     }
     Ok(())

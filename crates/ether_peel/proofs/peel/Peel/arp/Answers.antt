@@ -23,7 +23,7 @@ returns-in-Ok-clause-gives c =
     let n = length c.slice.result.now in
     let h = headers.Arp (arp_of packet) in
     let u = units.Arp packet in
-    let t : State = record { rest = slice_range a.frame.now (a.start + n) a.end; offset = a.start + n; closed = a.is_closed; bound = a.bound; expected = AfterArp; over = a.is_over } in
+    let t : State = record { rest = slice_range a.frame.now (a.start + n) a.end; offset = a.start + n; closed = a.is_closed; bound = a.bound; expected = record { next = AfterArp; limit = a.limit }; over = a.is_over } in
     let going : a.is_over ≡ false = ap (λ (s : State). s.over) c.self.view_is ∙ c.requires.going in
     let bytes_are = c.slice.ensures.bytes in
     let same_len : n ≡ length packet = ap length bytes_are in
@@ -41,6 +41,7 @@ returns-in-Ok-clause-gives c =
       offset = ap (λ k. a.start + k) len;
       closed = refl;
       bound = refl;
-      expected = refl;
+      next = refl;
+      limit = refl;
       over = going;
     }))

@@ -29,7 +29,7 @@ returns-in-Ok-clause-gives c =
     let long : length bytes ≡ a.end - a.start = length-part a.frame.now a.start a.end c.self.invariant.1 in
     let ordered = c.self.invariant.0 in
     let behind = c.header_len.ensures in
-    let t : State = record { rest = slice_range a.frame.now start end; offset = start; closed = a.is_closed; bound = a.bound; expected = EtherType c.ether_type-ether_type.result.0; over = a.is_over } in
+    let t : State = record { rest = slice_range a.frame.now start end; offset = start; closed = a.is_closed; bound = a.bound; expected = record { next = EtherType c.ether_type-ether_type.result.0; limit = a.limit }; over = a.is_over } in
     let going : a.is_over ≡ false = ap (λ (s : State). s.over) c.self.view_is ∙ c.requires.going in
     let is = c.in-Ok.ensures.frame in
     subst (λ (s : State). Gives s (Some (Ok u)) t) c.self.view_is (gives_unit (shown a) t u (record {
@@ -43,6 +43,7 @@ returns-in-Ok-clause-gives c =
       offset = ap (λ n. a.start + n) c.header_len.ensures;
       closed = refl;
       bound = refl;
-      expected = ap EtherType (c.ether_type-ether_type.ensures ∙ ap (λ f. (ethernet2_of f.bytes).ether_type) is);
+      next = ap EtherType (c.ether_type-ether_type.ensures ∙ ap (λ f. (ethernet2_of f.bytes).ether_type) is);
+      limit = refl;
       over = going;
     }))

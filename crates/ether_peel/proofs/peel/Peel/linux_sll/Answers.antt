@@ -25,7 +25,7 @@ returns-in-Ok-clause-gives c =
     let a = c.self.inside in
     let bytes = slice_range a.frame.now a.start a.end in
     let u = units.LinuxSll c.in-Ok.slice in
-    let t : State = record { rest = slice_range a.frame.now (a.start + c.header_len.result) a.end; offset = a.start + c.header_len.result; closed = a.is_closed; bound = a.bound; expected = shown_of c.announced_in-kind.result.1; over = a.is_over } in
+    let t : State = record { rest = slice_range a.frame.now (a.start + c.header_len.result) a.end; offset = a.start + c.header_len.result; closed = a.is_closed; bound = a.bound; expected = record { next = shown_of c.announced_in-kind.result.1; limit = a.limit }; over = a.is_over } in
     let going : a.is_over ≡ false = ap (λ (s : State). s.over) c.self.view_is ∙ c.requires.going in
     let is = c.in-Ok.ensures.bytes in
     subst (λ (s : State). Gives s (Some (Ok u)) t) c.self.view_is (gives_unit (shown a) t u (record {
@@ -39,6 +39,7 @@ returns-in-Ok-clause-gives c =
       offset = ap (λ n. a.start + n) c.header_len.ensures;
       closed = refl;
       bound = refl;
-      expected = c.announced_in-kind.ensures.expected;
+      next = c.announced_in-kind.ensures.expected;
+      limit = refl;
       over = going;
     }))

@@ -5,8 +5,8 @@ use Rattle.etherparse.proofs.SubLists.{length-part}
 use Rattle.etherparse.specs.Macsec.{sec_tag_of, tag_bytes}
 use Rattle.etherparse.specs.Header as headers
 use Rattle.ether_peel.specs.PeelState.{State, shown_of}
-use Rattle.ether_peel.specs.Expectation.{announced}
-use Rattle.ether_peel.specs.PeelStart.{kind_shown}
+use Rattle.ether_peel.specs.Expectation.{announced, announced_next, permitted}
+use Rattle.ether_peel.specs.PeelStart.{next_shown}
 use Rattle.ether_peel.specs.Window.{payload_closed, payload_bound}
 use Rattle.ether_peel.specs.Peel.{Gives, ShowsMacsec}
 use Rattle.ether_peel.specs.declared.peel_unit.PeelUnit.TheVariants as units
@@ -25,7 +25,8 @@ invariant_of-self c =
     let ordered = c.self.invariant.0 in
     let inside = c.self.invariant.1 in
     let behind = c.announced_behind-kind.ensures in
-    (omega arith, omega arith, ap announced behind.expected ∙ behind.announced, behind.shown ∙ ap kind_shown (sym behind.expected))
+    let announces = ap (λ y. permitted c.lowered-self-inside.result (announced_next y)) behind.expected ∙ ap (permitted c.lowered-self-inside.result) behind.announced ∙ c.permitted-self-inside.ensures in
+    (omega arith, omega arith, announces, behind.shown ∙ ap next_shown (sym behind.expected))
 
 pub returns-in-Ok-clause-gives : goal.returns-in-Ok-clause-gives
 returns-in-Ok-clause-gives c =
@@ -36,7 +37,7 @@ returns-in-Ok-clause-gives c =
     let tag = sec_tag_of (tag_bytes m.header) in
     let u = units.Macsec m in
     let start = a.start + n in
-    let t : State = record { rest = slice_range a.frame.now start (start + length c.payload_bytes.result.now); offset = start; closed = a.is_closed || c.is_some.result; bound = c.bound_behind-self-inside.result; expected = shown_of c.announced_behind-kind.result.1; over = a.is_over } in
+    let t : State = record { rest = slice_range a.frame.now start (start + length c.payload_bytes.result.now); offset = start; closed = a.is_closed || c.is_some.result; bound = c.bound_behind-self-inside.result; expected = record { next = shown_of c.announced_behind-kind.result.1; limit = c.lowered-self-inside.result }; over = a.is_over } in
     let going : a.is_over ≡ false = ap (λ (s : State). s.over) c.self.view_is ∙ c.requires.going in
     let read = tag_read bytes m n c.in-Ok.ensures.header c.in-Ok.ensures.payload c.header_len.ensures.tag c.in-Ok.ensures.value.whole in
     let payload = tag_payload_part a.frame.now a.start a.end m n (length c.payload_bytes.result.now) tag c.self.invariant.0 c.self.invariant.1 c.in-Ok.ensures.accepted c.in-Ok.ensures.value read (ap length c.payload_bytes.ensures) in
@@ -51,7 +52,8 @@ returns-in-Ok-clause-gives c =
       offset = ap (λ k. a.start + k) read.len;
       closed = ap (λ b. a.is_closed || b) c.is_some.ensures ∙ marked a.is_closed c.expected_payload_len-known.result ∙ ap (payload_closed a.is_closed) (c.expected_payload_len-known.ensures ∙ read.known);
       bound = c.bound_behind-self-inside.ensures ∙ ap (payload_bound a.bound) (c.expected_payload_len-known.ensures ∙ read.known);
-      expected = c.announced_behind-kind.ensures.expected ∙ read.expected;
+      next = c.announced_behind-kind.ensures.expected ∙ read.expected;
+      limit = c.lowered-self-inside.ensures;
       over = going;
     }))
 

@@ -18,7 +18,7 @@ returns-in-Ok-clause-gives c =
     let a = c.self.inside in
     let bytes = slice_range a.frame.now a.start a.end in
     let u = units.Vlan c.in-Ok.slice in
-    let t : State = record { rest = slice_range a.frame.now (a.start + c.header_len.result) a.end; offset = a.start + c.header_len.result; closed = a.is_closed; bound = a.bound; expected = EtherType c.ether_type-ether_type.result.0; over = a.is_over } in
+    let t : State = record { rest = slice_range a.frame.now (a.start + c.header_len.result) a.end; offset = a.start + c.header_len.result; closed = a.is_closed; bound = a.bound; expected = record { next = EtherType c.ether_type-ether_type.result.0; limit = c.lowered-self-inside.result }; over = a.is_over } in
     let going : a.is_over ≡ false = ap (λ (s : State). s.over) c.self.view_is ∙ c.requires.going in
     let is = c.in-Ok.ensures.bytes in
     subst (λ (s : State). Gives s (Some (Ok u)) t) c.self.view_is (gives_unit (shown a) t u (record {
@@ -32,6 +32,7 @@ returns-in-Ok-clause-gives c =
       offset = ap (λ n. a.start + n) c.header_len.ensures;
       closed = refl;
       bound = refl;
-      expected = ap EtherType (c.ether_type-ether_type.ensures ∙ ap (λ l. (vlan_of l).ether_type) is);
+      next = ap EtherType (c.ether_type-ether_type.ensures ∙ ap (λ l. (vlan_of l).ether_type) is);
+      limit = c.lowered-self-inside.ensures;
       over = going;
     }))

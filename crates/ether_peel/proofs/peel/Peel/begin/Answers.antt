@@ -1,16 +1,17 @@
 use Rattle.std.proofs.Common.{◌≡◌, refl, sym, subst, arith, rules}
 use Rattle.ether_peel.specs.Expectation.{Expectation}
 use Rattle.ether_peel.specs.Stack.{whole, Stack}
-use Rattle.ether_peel.specs.PeelStart.{start_of}
+use Rattle.ether_peel.specs.PeelStart.{start_with}
 use Rattle.ether_peel.specs.PeelState.{expected_of}
 use Rattle.ether_peel.proofs.StackLemmas.{some_stack}
-use Rattle.ether_peel.proofs.peel.Peel.new.Goals as goal
+use Rattle.ether_peel.proofs.peel.Peel.begin.Goals as goal
 
 pub returns-clause-walk : goal.returns-clause-walk
 returns-clause-walk c =
     let list = c.args.bytes.now in
-    let x = start_of c.args.start in
-    let is : expected_of c.match-start.first.0 c.match-start.first.2 ≡ x = search rules in
+    let x = start_with c.args.start c.args.limit in
+    let is : expected_of c.match-start.first.0 c.match-start.first.2 ≡ x.next = search rules in
+    let expected : record { next = expected_of c.match-start.first.0 c.match-start.first.2; limit = c.args.limit } ≡ x = λ i. record { next = is i; limit = c.args.limit } in
     let s = some_stack list x (whole x list) (λ i. omega (arith, c.type_inv.bytes i)) in (
       s.0,
       s.1,
@@ -21,6 +22,6 @@ returns-clause-walk c =
         offset = refl;
         closed = search rules;
         bound = search rules;
-        stack = subst (λ (y : Expectation). Stack list y (whole x list) s.0 s.1) (sym is) s.2;
+        stack = subst (λ (y : Expectation). Stack list y (whole x list) s.0 s.1) (sym expected) s.2;
       },
     )

@@ -1,10 +1,10 @@
 use Rattle.std.proofs.Common.{◌+◌, ◌-◌, length}
-use Rattle.ether_peel.specs.PeelStart.{start_of}
+use Rattle.ether_peel.specs.PeelStart.{start_with}
 use Rattle.ether_peel.proofs.FeedingLemmas.{Feeds}
-use Rattle.ether_peel.proofs.feeding.feed.Given as goal
+use Rattle.ether_peel.proofs.feeding.fed.Given as goal
 
 abbrev pub invariant-loop-fault : goal.invariant-loop-fault
-invariant-loop-fault l = Feeds (start_of l.fn.start) l.fn.bytes l.peel l.taken l.refusals
+invariant-loop-fault l = Feeds (start_with l.fn.start l.fn.limit) l.fn.bytes l.peel l.taken l.refusals
 
 abbrev pub decreases-loop-fault : goal.decreases-loop-fault
 decreases-loop-fault l = (length l.fn.bytes - l.taken) + (length l.fn.bytes - l.peel.offset)

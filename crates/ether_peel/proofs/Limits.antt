@@ -1,0 +1,105 @@
+-- What a limit on extensions changes.
+use Rattle.std.proofs.Common.{◌≡◌, ℕ, zero, suc, ◌-◌, ◌*◌, ◌<◌, ◌≤◌, List, [], ◌∷◌, ◌++◌, length, refl, sym, ap, subst, ◌∙◌, arith, Bool, true, false, cond}
+use Rattle.std.specs.Prelude.{Option, Some, None, ◌&&◌}
+use Rattle.etherparse.specs.Kind.{Kind}
+use Rattle.etherparse.specs.Header.{Header, kind_of}
+use Rattle.etherparse.specs.Refusal.{Refuses}
+use Rattle.etherparse.proofs.Means.{one_header}
+use Rattle.ether_peel.specs.Window.{Window, within, payload}
+use Rattle.ether_peel.specs.Expectation.{Next, Expectation, is_extension, is_spent, permitted, announced_next, announced, next_after, lowered, after}
+use Rattle.ether_peel.specs.Stack.{Ending, Accepted, Fault, last_window, last_expected, IsUnit, Stack}
+use Rattle.ether_peel.specs.Summary.{fault_of}
+use Rattle.ether_peel.specs.PeelFault.{fault_in}
+use Rattle.ether_peel.proofs.StackLemmas.{shrinks}
+
+abbrev pub limited : Next → Option ℕ → Expectation
+limited next limit = record { next = next; limit = limit }
+
+-- ---- what is announced
+
+chosen : (b : Bool) (k kind : Kind) → cond b None (Some k) ≡ Some kind → k ≡ kind
+chosen true k kind e = absurd cc
+chosen false k kind e = cc
+
+permitted_is : (limit : Option ℕ) (o : Option Kind) (kind : Kind) → permitted limit o ≡ Some kind → o ≡ Some kind
+permitted_is limit None kind e = e
+permitted_is limit (Some k) kind e = ap Some (chosen (is_extension k && is_spent limit) k kind e)
+
+-- what is announced at some limit is so without one
+pub announced_is : (x : Expectation) (kind : Kind) → announced x ≡ Some kind → announced_next x.next ≡ Some kind
+announced_is x kind e = permitted_is x.limit (announced_next x.next) kind e
+
+unspent : (b : Bool) (k : Kind) → cond (b && false) None (Some k) ≡ Some k
+unspent true k = refl
+unspent false k = refl
+
+-- where an extension may still be read, all is announced
+permitted_all : (limit : Option ℕ) (o : Option Kind) → is_spent limit ≡ false → permitted limit o ≡ o
+permitted_all limit None left = refl
+permitted_all limit (Some k) left = ap (λ (b : Bool). cond (is_extension k && b) None (Some k)) left ∙ unspent (is_extension k) k
+
+announced_free : (next : Next) (limit : Option ℕ) (kind : Kind) → announced (limited next limit) ≡ Some kind → announced (limited next None) ≡ Some kind
+announced_free next limit kind e = permitted_all None (announced_next next) refl ∙ announced_is (limited next limit) kind e
+
+announced_more : (next : Next) (n : ℕ) → announced (limited next (Some (suc n))) ≡ announced (limited next None)
+announced_more next n = permitted_all (Some (suc n)) (announced_next next) refl ∙ sym (permitted_all None (announced_next next) refl)
+
+-- ---- a front
+
+lowered_none : (b : Bool) → lowered b None ≡ None
+lowered_none true = refl
+lowered_none false = refl
+
+-- the stack without a limit behind a header
+free_behind : (list : List ℕ) (next : Next) (w : Window) (h : Header) (ks : List Header) (f : Ending) → Stack list (after (limited next None) h) w ks f → Stack list (limited (next_after h) None) w ks f
+free_behind list next w h ks f t = subst (λ (l : Option ℕ). Stack list (limited (next_after h) l) w ks f) (lowered_none (is_extension (kind_of h))) t
+
+-- with a limit there is a front of the headers
+pub cut_off : (list : List ℕ) (next : Next) (limit : Option ℕ) (w : Window) (hs ks : List Header) (e f : Ending) → Stack list (limited next limit) w hs e → Stack list (limited next None) w ks f → (rest : List Header) × (ks ≡ hs ++ rest)
+cut_off list next limit w [] ks e f s t = (ks, refl)
+cut_off list next limit w (h ∷ hs) [] e (Accepted v y) s t =
+    let g : None ≡ Some (kind_of h) = sym t.2 ∙ announced_free next limit (kind_of h) s.0.announced in
+    absurd cc
+cut_off list next limit w (h ∷ hs) [] e (Fault v y r) s t =
+    let g : Some t.2 ≡ Some (kind_of h) = sym t.3 ∙ announced_free next limit (kind_of h) s.0.announced in
+    let same : t.2 ≡ kind_of h = cc in
+    absurd (s.0.accepted r (subst (λ (k : Kind). Refuses w.bound (within list w) k r) same t.4))
+cut_off list next limit w (h ∷ hs) (k ∷ ks) e f s t =
+    let g : Some (kind_of k) ≡ Some (kind_of h) = sym t.0.announced ∙ announced_free next limit (kind_of h) s.0.announced in
+    let kind : kind_of k ≡ kind_of h = cc in
+    let same = one_header (within list w) k h kind t.0.means s.0.means in
+    let behind = subst (λ (x : Header). Stack list (after (limited next None) x) (payload w x) ks f) same t.1 in
+    let rest = cut_off list (next_after h) (lowered (is_extension (kind_of h)) limit) (payload w h) hs ks e f s.1 (free_behind list next (payload w h) h ks f behind) in
+    (rest.0, λ i. same i ∷ rest.1 i)
+
+-- ---- all of them
+
+-- the same but for how many extensions may still be read
+pub record SameEnd (e f : Ending) : Type 0 where
+  pub window : last_window f ≡ last_window e
+  pub next : (last_expected f).next ≡ (last_expected e).next
+  pub fault : fault_of f ≡ fault_of e
+
+-- an extension, which takes at least four bytes, lowers it by one
+lowered_by : (b : Bool) (n : ℕ) → (m : ℕ) × (lowered b (Some (suc n)) ≡ Some m) × (n ≤ m)
+lowered_by true n = (suc n - 1, refl, omega arith)
+lowered_by false n = (suc n, refl, omega arith)
+
+-- with a limit greater than a fourth of the bytes there are all of the headers
+pub leave_alone : (list : List ℕ) (next : Next) (n : ℕ) (w : Window) (hs : List Header) (e : Ending) → length (within list w) < 4 * n → Stack list (limited next None) w hs e
+    → (f : Ending) × Stack list (limited next (Some n)) w hs f × SameEnd e f
+leave_alone list next zero w hs e lt s = absurd (omega arith)
+leave_alone list next (suc n) w [] (Accepted v y) lt s =
+    (Accepted w (limited next (Some (suc n))), (refl, refl, announced_more next n ∙ s.2), record { window = sym s.0; next = ap (λ (x : Expectation). x.next) (sym s.1); fault = refl })
+leave_alone list next (suc n) w [] (Fault v y r) lt s = (
+  Fault w (limited next (Some (suc n))) r,
+  (refl, refl, s.2, announced_more next n ∙ s.3, s.4),
+  record { window = sym s.0; next = ap (λ (x : Expectation). x.next) (sym s.1); fault = ap (λ (u : Window). Some (fault_in u r)) (sym s.0) },
+)
+leave_alone list next (suc n) w (h ∷ hs) e lt s =
+    let u : IsUnit list (limited next (Some (suc n))) w h = record { announced = announced_more next n ∙ s.0.announced; accepted = s.0.accepted; means = s.0.means } in
+    let less = shrinks list (limited next None) w h s.0 in
+    let m = lowered_by (is_extension (kind_of h)) n in
+    let below = m.2 in
+    let rest = leave_alone list (next_after h) m.0 (payload w h) hs e (omega arith) (free_behind list next (payload w h) h hs e s.1) in
+    (rest.0, (u, subst (λ (l : Option ℕ). Stack list (limited (next_after h) l) (payload w h) hs rest.0) (sym m.1) rest.1), rest.2)
