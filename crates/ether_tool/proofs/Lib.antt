@@ -10,3 +10,4 @@ pub mod FrameLemmas
 pub mod LineLoopLemmas
 pub mod RunLemmas
 pub mod ModeLemmas
+pub mod CommandLemmas

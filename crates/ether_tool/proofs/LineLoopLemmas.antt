@@ -8,7 +8,7 @@ use Rattle.ether_tool.specs.Run.{HasNoLineFeed, IsLineAnswered, AreAnswered, Sto
 use Rattle.ether_tool.specs.Frame.{IsBadLine}
 use Rattle.ether_tool.specs.LineBuffer.{KeepsLine, without_end}
 use Rattle.ether_tool.specs.LineLoop.{Reached, JudgesLine, RefusesLine, Advances, StopsWithin, Finishes, IsStart}
-use Rattle.ether_tool.specs.declared.mode.Mode.{Mode}
+use Rattle.ether_tool.specs.declared.command.Command.{Command}
 use Rattle.ether_tool.specs.declared.outcome.Verdict.{Verdict}
 use Rattle.ether_tool.specs.declared.outcome.ToolFault.{ToolFault}
 use Rattle.ether_tool.specs.declared.outcome.ToolFault.TheVariants.{BadLine, Input, Output}
@@ -33,9 +33,9 @@ and_assoc true b c = refl
 and_assoc false b c = refl
 
 -- one answered line more
-pub AreAnswered-push : (mode : Mode) (done : List (List ℕ)) (text : List ℕ) (all : Bool) (line more : List ℕ) (accepted : Bool)
-    → AreAnswered mode done text all → IsLineAnswered mode line more accepted → AreAnswered mode (done ++ line ∷ []) (text ++ more) (all && accepted)
-AreAnswered-push mode [] text all line more accepted so_far is = (
+pub AreAnswered-push : (command : Command) (done : List (List ℕ)) (text : List ℕ) (all : Bool) (line more : List ℕ) (accepted : Bool)
+    → AreAnswered command done text all → IsLineAnswered command line more accepted → AreAnswered command (done ++ line ∷ []) (text ++ more) (all && accepted)
+AreAnswered-push command [] text all line more accepted so_far is = (
   more,
   accepted,
   [],
@@ -45,14 +45,14 @@ AreAnswered-push mode [] text all line more accepted so_far is = (
   ap (λ (t : List ℕ). t ++ more) so_far.0 ∙ sym (append-nil more),
   ap (λ (b : Bool). b && accepted) so_far.1 ∙ and_true accepted,
 )
-AreAnswered-push mode (first ∷ others) text all line more accepted so_far is =
+AreAnswered-push command (first ∷ others) text all line more accepted so_far is =
     let (one, one_accepted, rest, others_accepted, here, there, whole, every) = so_far in (
       one,
       one_accepted,
       rest ++ more,
       others_accepted && accepted,
       here,
-      AreAnswered-push mode others rest others_accepted line more accepted there is,
+      AreAnswered-push command others rest others_accepted line more accepted there is,
       ap (λ (t : List ℕ). t ++ more) whole ∙ append_assoc one rest more,
       ap (λ (b : Bool). b && accepted) every ∙ and_assoc one_accepted others_accepted accepted,
     )
@@ -61,9 +61,9 @@ verdict_with-verdict_of : (all accepted : Bool) → verdict_with (verdict_of all
 verdict_with-verdict_of true accepted = refl
 verdict_with-verdict_of false accepted = refl
 
-module _ {W : Type 0} (mode : Mode) (contents : W → Option (List ℕ)) where
+module _ {W : Type 0} (command : Command) (contents : W → Option (List ℕ)) where
   -- nothing is read
-  pub Reached-start : (start : LineLoop) (out : OutputBuffer W) → IsStart start → Reached mode contents (contents_of contents out) [] start out
+  pub Reached-start : (start : LineLoop) (out : OutputBuffer W) → IsStart start → Reached command contents (contents_of contents out) [] start out
   Reached-start start out is = record {
     done = [];
     line = [];
@@ -80,7 +80,7 @@ module _ {W : Type 0} (mode : Mode) (contents : W → Option (List ℕ)) where
 
   -- what waited is written out
   pub Reached-written_out : (held : Option (List ℕ)) (input : List ℕ) (at : LineLoop) (old new : OutputBuffer W)
-      → WritesOut contents old new → Reached mode contents held input at old → Reached mode contents held input at new
+      → WritesOut contents old new → Reached command contents held input at old → Reached command contents held input at new
   Reached-written_out held input at old new drains so_far = record {
     done = so_far.done;
     line = so_far.line;
@@ -96,26 +96,26 @@ module _ {W : Type 0} (mode : Mode) (contents : W → Option (List ℕ)) where
   }
 
   -- no byte more
-  pub Advances-none : (at : LineLoop) (out : OutputBuffer W) → Advances mode contents at out [] at out
+  pub Advances-none : (at : LineLoop) (out : OutputBuffer W) → Advances command contents at out [] at out
   Advances-none at out = record {
-    reached = λ held input so_far. subst (λ (i : List ℕ). Reached mode contents held i at out) (sym (append-nil input)) so_far;
+    reached = λ held input so_far. subst (λ (i : List ℕ). Reached command contents held i at out) (sym (append-nil input)) so_far;
   }
 
   pub Advances-then : (old mid new : LineLoop) (from between to : OutputBuffer W) (xs ys : List ℕ)
-      → Advances mode contents old from xs mid between → Advances mode contents mid between ys new to → Advances mode contents old from (xs ++ ys) new to
+      → Advances command contents old from xs mid between → Advances command contents mid between ys new to → Advances command contents old from (xs ++ ys) new to
   Advances-then old mid new from between to xs ys first second = record {
     reached = λ held input so_far.
-        subst (λ (i : List ℕ). Reached mode contents held i new to) (append_assoc input xs ys)
+        subst (λ (i : List ℕ). Reached command contents held i new to) (append_assoc input xs ys)
         (second.reached held (input ++ xs) (first.reached held input so_far));
   }
 
   -- a piece of the line under way
   pub Advances-piece : (old new : LineLoop) (out : OutputBuffer W) (piece : List ℕ) → HasNoLineFeed piece
       → ((line : List ℕ) → KeepsLine old.line line → KeepsLine new.line (line ++ piece)) → new.count ≡ old.count → new.verdict ≡ old.verdict
-      → Advances mode contents old out piece new out
+      → Advances command contents old out piece new out
   Advances-piece old new out piece none keeps count verdict = record { reached = more }
     where
-      more : (held : Option (List ℕ)) (input : List ℕ) → Reached mode contents held input old out → Reached mode contents held (input ++ piece) new out
+      more : (held : Option (List ℕ)) (input : List ℕ) → Reached command contents held input old out → Reached command contents held (input ++ piece) new out
       more held input so_far = record {
         done = so_far.done;
         line = so_far.line ++ piece;
@@ -134,11 +134,11 @@ module _ {W : Type 0} (mode : Mode) (contents : W → Option (List ℕ)) where
 
   -- the last piece of a line and its LF, where the line is answered
   pub Advances-line : (old new : LineLoop) (from to : OutputBuffer W) (piece : List ℕ) → HasNoLineFeed piece
-      → ((line : List ℕ) → KeepsLine old.line line → JudgesLine mode contents (without_end LineFeed (line ++ piece)) old from new to)
-      → Advances mode contents old from (piece ++ 10 ∷ []) new to
+      → ((line : List ℕ) → KeepsLine old.line line → JudgesLine command contents (without_end LineFeed (line ++ piece)) old from new to)
+      → Advances command contents old from (piece ++ 10 ∷ []) new to
   Advances-line old new from to piece none judges = record { reached = more }
     where
-      more : (held : Option (List ℕ)) (input : List ℕ) → Reached mode contents held input old from → Reached mode contents held (input ++ (piece ++ 10 ∷ [])) new to
+      more : (held : Option (List ℕ)) (input : List ℕ) → Reached command contents held input old from → Reached command contents held (input ++ (piece ++ 10 ∷ [])) new to
       more held input so_far =
           let judged = judges so_far.line so_far.kept in
           let line : List ℕ = so_far.line ++ piece in
@@ -155,7 +155,7 @@ module _ {W : Type 0} (mode : Mode) (contents : W → Option (List ℕ)) where
                 ∙ ap (λ (ls : List (List ℕ)). so_far.done ++ ls) (lines-line line rest (HasNoLineFeed-append so_far.line piece so_far.in_line none))
                 ∙ sym (append_assoc so_far.done (ended ∷ []) (lines rest));
             in_line = HasNoLineFeed-nil;
-            answered = AreAnswered-push mode so_far.done so_far.text so_far.all_accepted ended judged.text judged.accepted so_far.answered judged.answered;
+            answered = AreAnswered-push command so_far.done so_far.text so_far.all_accepted ended judged.text judged.accepted so_far.answered judged.answered;
             is_verdict = judged.is_verdict ∙ ap (λ (v : Verdict). verdict_with v judged.accepted) so_far.is_verdict ∙ verdict_with-verdict_of so_far.all_accepted judged.accepted;
             is_count = let k = judged.is_count in let l = so_far.is_count in omega (arith, length-append so_far.done (ended ∷ []));
             kept = judged.begins;
@@ -164,11 +164,11 @@ module _ {W : Type 0} (mode : Mode) (contents : W → Option (List ℕ)) where
 
   -- the last piece of a line and its LF, where the line is bad
   pub StopsWithin-line : (old : LineLoop) (from to : OutputBuffer W) (number : ℕ) (piece after later : List ℕ) → HasNoLineFeed piece
-      → RefusesLine piece LineFeed old from to number → StopsWithin mode contents old from (piece ++ 10 ∷ after) later to number
+      → RefusesLine piece LineFeed old from to number → StopsWithin command contents old from (piece ++ 10 ∷ after) later to number
   StopsWithin-line old from to number piece after later none refuses = record { stops = stop }
     where
-      stop : (held : Option (List ℕ)) (input : List ℕ) → Reached mode contents held input old from
-          → (text : List ℕ) × Appends held (contents_of contents to) text × StopsAtLine mode ((input ++ (piece ++ 10 ∷ after)) ++ later) number text
+      stop : (held : Option (List ℕ)) (input : List ℕ) → Reached command contents held input old from
+          → (text : List ℕ) × Appends held (contents_of contents to) text × StopsAtLine command ((input ++ (piece ++ 10 ∷ after)) ++ later) number text
       stop held input so_far =
           let line : List ℕ = so_far.line ++ piece in (
             so_far.text,
@@ -190,20 +190,20 @@ module _ {W : Type 0} (mode : Mode) (contents : W → Option (List ℕ)) where
           )
 
   pub StopsWithin-after : (old mid : LineLoop) (from between to : OutputBuffer W) (number : ℕ) (xs ys later : List ℕ)
-      → Advances mode contents old from xs mid between → StopsWithin mode contents mid between ys later to number → StopsWithin mode contents old from (xs ++ ys) later to number
+      → Advances command contents old from xs mid between → StopsWithin command contents mid between ys later to number → StopsWithin command contents old from (xs ++ ys) later to number
   StopsWithin-after old mid from between to number xs ys later first second = record {
     stops = λ held input so_far.
-        subst (λ (i : List ℕ). (text : List ℕ) × Appends held (contents_of contents to) text × StopsAtLine mode (i ++ later) number text) (append_assoc input xs ys)
+        subst (λ (i : List ℕ). (text : List ℕ) × Appends held (contents_of contents to) text × StopsAtLine command (i ++ later) number text) (append_assoc input xs ys)
         (second.stops held (input ++ xs) (first.reached held input so_far));
   }
 
   -- the end of the input, where no line is under way
   pub Finishes-nothing : (at : LineLoop) (out : OutputBuffer W) → ((line : List ℕ) → KeepsLine at.line line → (length line == 0) ≡ true)
-      → Finishes mode contents at out out at.verdict
+      → Finishes command contents at out out at.verdict
   Finishes-nothing at out empty = record { answered = all }
     where
-      all : (held : Option (List ℕ)) (input : List ℕ) → Reached mode contents held input at out
-          → (text : List ℕ) × (all_accepted : Bool) × Appends held (contents_of contents out) text × AreAnswered mode (lines input) text all_accepted × (at.verdict ≡ verdict_of all_accepted)
+      all : (held : Option (List ℕ)) (input : List ℕ) → Reached command contents held input at out
+          → (text : List ℕ) × (all_accepted : Bool) × Appends held (contents_of contents out) text × AreAnswered command (lines input) text all_accepted × (at.verdict ≡ verdict_of all_accepted)
       all held input so_far =
           let whole : lines input ≡ so_far.done =
           ap lines (sym (append-nil input)) ∙ so_far.parts []
@@ -212,12 +212,12 @@ module _ {W : Type 0} (mode : Mode) (contents : W → Option (List ℕ)) where
             so_far.text,
             so_far.all_accepted,
             so_far.written,
-            subst (λ (ls : List (List ℕ)). AreAnswered mode ls so_far.text so_far.all_accepted) (sym whole) so_far.answered,
+            subst (λ (ls : List (List ℕ)). AreAnswered command ls so_far.text so_far.all_accepted) (sym whole) so_far.answered,
             so_far.is_verdict,
           )
 
   -- the lines of an input that ends in a line with no LF
-  ended_lines : (held : Option (List ℕ)) (input : List ℕ) (at : LineLoop) (out : OutputBuffer W) (so_far : Reached mode contents held input at out)
+  ended_lines : (held : Option (List ℕ)) (input : List ℕ) (at : LineLoop) (out : OutputBuffer W) (so_far : Reached command contents held input at out)
       → (length so_far.line == 0) ≡ false → lines input ≡ so_far.done ++ so_far.line ∷ []
   ended_lines held input at out so_far some =
       ap lines (sym (append-nil input)) ∙ so_far.parts []
@@ -226,30 +226,30 @@ module _ {W : Type 0} (mode : Mode) (contents : W → Option (List ℕ)) where
 
   -- the end of the input, where it ends a line that is answered
   pub Finishes-line : (old new : LineLoop) (from to : OutputBuffer W) → ((line : List ℕ) → KeepsLine old.line line → (length line == 0) ≡ false)
-      → ((line : List ℕ) → KeepsLine old.line line → JudgesLine mode contents (without_end InputEnd (line ++ [])) old from new to)
-      → Finishes mode contents old from to new.verdict
+      → ((line : List ℕ) → KeepsLine old.line line → JudgesLine command contents (without_end InputEnd (line ++ [])) old from new to)
+      → Finishes command contents old from to new.verdict
   Finishes-line old new from to some judges = record { answered = all }
     where
-      all : (held : Option (List ℕ)) (input : List ℕ) → Reached mode contents held input old from
-          → (text : List ℕ) × (all_accepted : Bool) × Appends held (contents_of contents to) text × AreAnswered mode (lines input) text all_accepted × (new.verdict ≡ verdict_of all_accepted)
+      all : (held : Option (List ℕ)) (input : List ℕ) → Reached command contents held input old from
+          → (text : List ℕ) × (all_accepted : Bool) × Appends held (contents_of contents to) text × AreAnswered command (lines input) text all_accepted × (new.verdict ≡ verdict_of all_accepted)
       all held input so_far =
-          let judged = subst (λ (l : List ℕ). JudgesLine mode contents l old from new to) (append-nil so_far.line) (judges so_far.line so_far.kept) in
+          let judged = subst (λ (l : List ℕ). JudgesLine command contents l old from new to) (append-nil so_far.line) (judges so_far.line so_far.kept) in
           let whole = ended_lines held input old from so_far (some so_far.line so_far.kept) in (
             so_far.text ++ judged.text,
             so_far.all_accepted && judged.accepted,
             Appends-then held (contents_of contents from) (contents_of contents to) so_far.text judged.text so_far.written judged.taken.grown,
-            subst (λ (ls : List (List ℕ)). AreAnswered mode ls (so_far.text ++ judged.text) (so_far.all_accepted && judged.accepted)) (sym whole)
-                (AreAnswered-push mode so_far.done so_far.text so_far.all_accepted so_far.line judged.text judged.accepted so_far.answered judged.answered),
+            subst (λ (ls : List (List ℕ)). AreAnswered command ls (so_far.text ++ judged.text) (so_far.all_accepted && judged.accepted)) (sym whole)
+                (AreAnswered-push command so_far.done so_far.text so_far.all_accepted so_far.line judged.text judged.accepted so_far.answered judged.answered),
             judged.is_verdict ∙ ap (λ (v : Verdict). verdict_with v judged.accepted) so_far.is_verdict ∙ verdict_with-verdict_of so_far.all_accepted judged.accepted,
           )
 
   -- the end of the input, where it ends a bad line
   pub StopsWithin-end : (old : LineLoop) (from to : OutputBuffer W) (number : ℕ) → ((line : List ℕ) → KeepsLine old.line line → (length line == 0) ≡ false)
-      → RefusesLine [] InputEnd old from to number → StopsWithin mode contents old from [] [] to number
+      → RefusesLine [] InputEnd old from to number → StopsWithin command contents old from [] [] to number
   StopsWithin-end old from to number some refuses = record { stops = stop }
     where
-      stop : (held : Option (List ℕ)) (input : List ℕ) → Reached mode contents held input old from
-          → (text : List ℕ) × Appends held (contents_of contents to) text × StopsAtLine mode ((input ++ []) ++ []) number text
+      stop : (held : Option (List ℕ)) (input : List ℕ) → Reached command contents held input old from
+          → (text : List ℕ) × Appends held (contents_of contents to) text × StopsAtLine command ((input ++ []) ++ []) number text
       stop held input so_far = (
         so_far.text,
         subst (λ (g : OutputBuffer W). Appends held (contents_of contents g) so_far.text) (sym refuses.same) so_far.written,
@@ -267,29 +267,29 @@ module _ {W : Type 0} (mode : Mode) (contents : W → Option (List ℕ)) where
 
   -- the same of a fault that names the bad line
   pub end_fault : (fault : ToolFault) (old : LineLoop) (from to : OutputBuffer W) → ((line : List ℕ) → KeepsLine old.line line → (length line == 0) ≡ false)
-      → OnBadLine fault (RefusesLine [] InputEnd old from to) → OnBadLine fault (StopsWithin mode contents old from [] [] to)
+      → OnBadLine fault (RefusesLine [] InputEnd old from to) → OnBadLine fault (StopsWithin command contents old from [] [] to)
   end_fault fault old from to some refuses =
-      OnBadLine-map fault (RefusesLine [] InputEnd old from to) (StopsWithin mode contents old from [] [] to) (λ number h. StopsWithin-end old from to number some h) refuses
+      OnBadLine-map fault (RefusesLine [] InputEnd old from to) (StopsWithin command contents old from [] [] to) (λ number h. StopsWithin-end old from to number some h) refuses
 
   -- a bad line of the chunk
   pub line_fault : (fault : ToolFault) (start old : LineLoop) (first from to : OutputBuffer W) (chunk front rest piece behind : List ℕ)
-      → chunk ≡ front ++ rest → Advances mode contents start first front old from → HasNoLineFeed piece → rest ≡ piece ++ 10 ∷ behind
+      → chunk ≡ front ++ rest → Advances command contents start first front old from → HasNoLineFeed piece → rest ≡ piece ++ 10 ∷ behind
       → OnBadLine fault (RefusesLine piece LineFeed old from to)
-      → OnBadLine fault (λ number. (later : List ℕ) → StopsWithin mode contents start first chunk later to number)
+      → OnBadLine fault (λ number. (later : List ℕ) → StopsWithin command contents start first chunk later to number)
   line_fault fault start old first from to chunk front rest piece behind whole so_far none parts refuses =
-      OnBadLine-map fault (RefusesLine piece LineFeed old from to) (λ number. (later : List ℕ) → StopsWithin mode contents start first chunk later to number) (λ number h later. stop number h later) refuses
+      OnBadLine-map fault (RefusesLine piece LineFeed old from to) (λ number. (later : List ℕ) → StopsWithin command contents start first chunk later to number) (λ number h later. stop number h later) refuses
     where
-      stop : (number : ℕ) → RefusesLine piece LineFeed old from to number → (later : List ℕ) → StopsWithin mode contents start first chunk later to number
+      stop : (number : ℕ) → RefusesLine piece LineFeed old from to number → (later : List ℕ) → StopsWithin command contents start first chunk later to number
       stop number h later =
           let joined : front ++ (piece ++ 10 ∷ behind) ≡ chunk = ap (λ (bytes : List ℕ). front ++ bytes) (sym parts) ∙ sym whole in
-          subst (λ (bytes : List ℕ). StopsWithin mode contents start first bytes later to number) joined
+          subst (λ (bytes : List ℕ). StopsWithin command contents start first bytes later to number) joined
           (StopsWithin-after start old first from to number front (piece ++ 10 ∷ behind) later so_far (StopsWithin-line old from to number piece behind later none h))
 
   -- a line of the chunk more
   pub line_taken : (start old new : LineLoop) (first from to : OutputBuffer W) (chunk front rest piece behind : List ℕ)
-      → chunk ≡ front ++ rest → Advances mode contents start first front old from → HasNoLineFeed piece → rest ≡ piece ++ 10 ∷ behind
-      → ((line : List ℕ) → KeepsLine old.line line → JudgesLine mode contents (without_end LineFeed (line ++ piece)) old from new to)
-      → (more : List ℕ) × (chunk ≡ more ++ behind) × Advances mode contents start first more new to
+      → chunk ≡ front ++ rest → Advances command contents start first front old from → HasNoLineFeed piece → rest ≡ piece ++ 10 ∷ behind
+      → ((line : List ℕ) → KeepsLine old.line line → JudgesLine command contents (without_end LineFeed (line ++ piece)) old from new to)
+      → (more : List ℕ) × (chunk ≡ more ++ behind) × Advances command contents start first more new to
   line_taken start old new first from to chunk front rest piece behind whole so_far none parts judges = (
     front ++ (piece ++ 10 ∷ []),
     whole ∙ ap (λ (bytes : List ℕ). front ++ bytes) (parts ∙ sym (append_assoc piece (10 ∷ []) behind)) ∙ sym (append_assoc front (piece ++ 10 ∷ []) behind),
@@ -298,9 +298,9 @@ module _ {W : Type 0} (mode : Mode) (contents : W → Option (List ℕ)) where
 
   -- the rest of the chunk
   pub rest_taken : (start old new : LineLoop) (first out : OutputBuffer W) (chunk front rest : List ℕ)
-      → chunk ≡ front ++ rest → Advances mode contents start first front old out → HasNoLineFeed rest
+      → chunk ≡ front ++ rest → Advances command contents start first front old out → HasNoLineFeed rest
       → ((kept : List ℕ) → KeepsLine old.line kept → KeepsLine new.line (kept ++ rest)) → new.count ≡ old.count → new.verdict ≡ old.verdict
-      → Advances mode contents start first chunk new out
+      → Advances command contents start first chunk new out
   rest_taken start old new first out chunk front rest whole so_far none keeps count verdict =
-      subst (λ (bytes : List ℕ). Advances mode contents start first bytes new out) (sym whole)
+      subst (λ (bytes : List ℕ). Advances command contents start first bytes new out) (sym whole)
       (Advances-then start old new first out out front rest so_far (Advances-piece old new out rest none keeps count verdict))

@@ -3,9 +3,9 @@ use Rattle.std.proofs.Common.{◌≡◌, ℕ, List, [], ◌++◌, Option, Some, 
 use Rattle.std.specs.Str.Lines.{lines}
 use Rattle.std.specs.Io.KnownBytes.{Consumes, IsAtEnd, Keeps}
 use Rattle.ether_tool.specs.OutputBuffer.{contents_of, WritesOut}
-use Rattle.ether_tool.specs.Run.{AreAnswered, AnswersInput, StopsInput, BreaksOff, IsLeft, OnBadLine, OnInput}
+use Rattle.ether_tool.specs.Run.{AreAnswered, AnswersInputBy, StopsInputBy, BreaksOffBy, IsLeft, OnBadLine, OnInput}
 use Rattle.ether_tool.specs.LineLoop.{Reached, StopsWithin, Finishes}
-use Rattle.ether_tool.specs.declared.mode.Mode.{Mode}
+use Rattle.ether_tool.specs.declared.command.Command.{Command}
 use Rattle.ether_tool.specs.declared.outcome.Verdict.{Verdict}
 use Rattle.ether_tool.specs.declared.outcome.ToolFault.{ToolFault}
 use Rattle.ether_tool.specs.declared.outcome.ToolFault.TheVariants.{BadLine, Input, Output}
@@ -33,22 +33,22 @@ pub of_same : (P : Option (List ℕ) → Option (List ℕ) → Option (List ℕ)
 of_same P before after held holds before' after' held' holds' e f g h p =
     subst (λ (x : Option (List ℕ)). P x after' held' holds') e (subst (λ (x : Option (List ℕ)). P before x held' holds') f (subst (λ (x : Option (List ℕ)). P before after x holds') g (subst (λ (x : Option (List ℕ)). P before after held x) h p)))
 
-module _ {W : Type 0} (mode : Mode) (contents : W → Option (List ℕ)) (before mid after held : Option (List ℕ)) where
+module _ {W : Type 0} (command : Command) (contents : W → Option (List ℕ)) (before mid after held : Option (List ℕ)) where
   -- the last read gave nothing, and all lines are answered
   pub finish_ok : (r : Result Verdict ToolFault) (input nothing : List ℕ) (at : LineLoop) (old from to : OutputBuffer W)
       → Consumes before mid input → Consumes mid after nothing → nothing ≡ [] → IsAtEnd after
-      → WritesOut contents old from → Reached mode contents held input at old
-      → IfOk r (Finishes mode contents at from to) → IfOk r (AnswersInput mode before after held (contents_of contents to))
+      → WritesOut contents old from → Reached command contents held input at old
+      → IfOk r (Finishes command contents at from to) → IfOk r (AnswersInputBy command before after held (contents_of contents to))
   finish_ok (Err fault) input nothing at old from to read last none end drains so_far h = tt
   finish_ok (Ok verdict) input nothing at old from to read last none end drains so_far h =
-      let (text, all_accepted, written, answered, is_verdict) = h.answered held input (Reached-written_out mode contents held input at old from drains so_far) in
+      let (text, all_accepted, written, answered, is_verdict) = h.answered held input (Reached-written_out command contents held input at old from drains so_far) in
       record {
         input = input ++ [];
         text = text;
         all_accepted = all_accepted;
         read = consumed_nothing before mid after input nothing read last none;
         at_end = end;
-        answered = subst (λ (bytes : List ℕ). AreAnswered mode (lines bytes) text all_accepted) (sym (append-nil input)) answered;
+        answered = subst (λ (bytes : List ℕ). AreAnswered command (lines bytes) text all_accepted) (sym (append-nil input)) answered;
         is_verdict = is_verdict;
         written = written;
       }
@@ -56,16 +56,16 @@ module _ {W : Type 0} (mode : Mode) (contents : W → Option (List ℕ)) (before
   -- the last read gave nothing, and the last line is bad
   pub finish_bad : (r : Result Verdict ToolFault) (input nothing : List ℕ) (at : LineLoop) (old from to : OutputBuffer W)
       → Consumes before mid input → Consumes mid after nothing → nothing ≡ [] → IsAtEnd after
-      → WritesOut contents old from → Reached mode contents held input at old
-      → IfErr r (λ fault. OnBadLine fault (StopsWithin mode contents at from [] [] to))
-      → IfErr r (λ fault. OnBadLine fault (StopsInput mode before after held (contents_of contents to)))
+      → WritesOut contents old from → Reached command contents held input at old
+      → IfErr r (λ fault. OnBadLine fault (StopsWithin command contents at from [] [] to))
+      → IfErr r (λ fault. OnBadLine fault (StopsInputBy command before after held (contents_of contents to)))
   finish_bad (Ok verdict) input nothing at old from to read last none end drains so_far h = tt
   finish_bad (Err fault) input nothing at old from to read last none end drains so_far h =
-      OnBadLine-map fault (StopsWithin mode contents at from [] [] to) (StopsInput mode before after held (contents_of contents to)) stop h
+      OnBadLine-map fault (StopsWithin command contents at from [] [] to) (StopsInputBy command before after held (contents_of contents to)) stop h
     where
-      stop : (number : ℕ) → StopsWithin mode contents at from [] [] to number → StopsInput mode before after held (contents_of contents to) number
+      stop : (number : ℕ) → StopsWithin command contents at from [] [] to number → StopsInputBy command before after held (contents_of contents to) number
       stop number k =
-          let (text, written, stops) = k.stops held input (Reached-written_out mode contents held input at old from drains so_far) in
+          let (text, written, stops) = k.stops held input (Reached-written_out command contents held input at old from drains so_far) in
           record {
             taken = input ++ [];
             left = [];
@@ -78,16 +78,16 @@ module _ {W : Type 0} (mode : Mode) (contents : W → Option (List ℕ)) (before
 
   -- a line that ends in what was read is bad
   pub chunk_bad : (fault : ToolFault) (input chunk : List ℕ) (at : LineLoop) (old from to : OutputBuffer W)
-      → Consumes before mid input → Consumes mid after chunk → WritesOut contents old from → Reached mode contents held input at old
-      → OnBadLine fault (λ number. (later : List ℕ) → StopsWithin mode contents at from chunk later to number)
-      → OnBadLine fault (StopsInput mode before after held (contents_of contents to))
+      → Consumes before mid input → Consumes mid after chunk → WritesOut contents old from → Reached command contents held input at old
+      → OnBadLine fault (λ number. (later : List ℕ) → StopsWithin command contents at from chunk later to number)
+      → OnBadLine fault (StopsInputBy command before after held (contents_of contents to))
   chunk_bad fault input chunk at old from to read last drains so_far h =
-      OnBadLine-map fault (λ number. (later : List ℕ) → StopsWithin mode contents at from chunk later to number)
-      (StopsInput mode before after held (contents_of contents to)) stop h
+      OnBadLine-map fault (λ number. (later : List ℕ) → StopsWithin command contents at from chunk later to number)
+      (StopsInputBy command before after held (contents_of contents to)) stop h
     where
-      stop : (number : ℕ) → ((later : List ℕ) → StopsWithin mode contents at from chunk later to number) → StopsInput mode before after held (contents_of contents to) number
+      stop : (number : ℕ) → ((later : List ℕ) → StopsWithin command contents at from chunk later to number) → StopsInputBy command before after held (contents_of contents to) number
       stop number k =
-          let (text, written, stops) = (k (unwrap_or after [])).stops held input (Reached-written_out mode contents held input at old from drains so_far) in
+          let (text, written, stops) = (k (unwrap_or after [])).stops held input (Reached-written_out command contents held input at old from drains so_far) in
           record {
             taken = input ++ chunk;
             left = unwrap_or after [];
@@ -100,8 +100,8 @@ module _ {W : Type 0} (mode : Mode) (contents : W → Option (List ℕ)) (before
 
   -- a read fails
   pub breaks_off : (fault : ToolFault) (input : List ℕ) (at : LineLoop) (old from : OutputBuffer W)
-      → Consumes before mid input → Keeps mid after → WritesOut contents old from → Reached mode contents held input at old
-      → OnInput fault (BreaksOff mode before after held (contents from.writer.now))
+      → Consumes before mid input → Keeps mid after → WritesOut contents old from → Reached command contents held input at old
+      → OnInput fault (BreaksOffBy command before after held (contents from.writer.now))
   breaks_off (BadLine number) input at old from read kept drains so_far = tt
   breaks_off Output input at old from read kept drains so_far = tt
   breaks_off Input input at old from read kept drains so_far = record {

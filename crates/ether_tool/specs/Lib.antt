@@ -2,6 +2,7 @@ pub mod HexText
 pub mod Lines
 pub mod ViewLines
 pub mod Mode
+pub mod Command
 pub mod WalkText
 pub mod OutputBuffer
 pub mod Frame

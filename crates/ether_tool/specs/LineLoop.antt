@@ -6,7 +6,7 @@ use Rattle.ether_tool.specs.OutputBuffer.{contents_of, Takes}
 use Rattle.ether_tool.specs.Run.{HasNoLineFeed, IsLineAnswered, AreAnswered, StopsAtLine, verdict_of, verdict_with, number_behind}
 use Rattle.ether_tool.specs.Frame.{IsBadLine}
 use Rattle.ether_tool.specs.LineBuffer.{KeepsLine, without_end}
-use Rattle.ether_tool.specs.declared.mode.Mode.{Mode}
+use Rattle.ether_tool.specs.declared.command.Command.{Command}
 use Rattle.ether_tool.specs.declared.outcome.Verdict.{Verdict}
 use Rattle.ether_tool.specs.declared.outcome.Verdict.TheVariants.{AllAccepted}
 use Rattle.ether_tool.specs.declared.output_buffer.OutputBuffer.{OutputBuffer}
@@ -19,24 +19,24 @@ pub record SplitsAtLineFeed (bytes before behind : List ℕ) : Type 0 where
   pub parts : bytes ≡ before ++ 10 ∷ behind
 
 -- Of the input so far the done lines are answered, and the last of it is the line under way.
-pub record Reached {W : Type 0} (mode : Mode) (contents : W → Option (List ℕ)) (held : Option (List ℕ)) (input : List ℕ) (at : LineLoop) (out : OutputBuffer W) : Type 0 where
+pub record Reached {W : Type 0} (command : Command) (contents : W → Option (List ℕ)) (held : Option (List ℕ)) (input : List ℕ) (at : LineLoop) (out : OutputBuffer W) : Type 0 where
   pub done : List (List ℕ)
   pub line : List ℕ
   pub text : List ℕ
   pub all_accepted : Bool
   pub parts : (rest : List ℕ) → lines (input ++ rest) ≡ done ++ lines (line ++ rest)
   pub in_line : HasNoLineFeed line
-  pub answered : AreAnswered mode done text all_accepted
+  pub answered : AreAnswered command done text all_accepted
   pub is_verdict : at.verdict ≡ verdict_of all_accepted
   pub is_count : at.count ≡ min (length done) (2 ^ 64 - 1)
   pub kept : KeepsLine at.line line
   pub written : Appends held (contents_of contents out) text
 
 -- the line is answered, and the next begins
-pub record JudgesLine {W : Type 0} (mode : Mode) (contents : W → Option (List ℕ)) (line : List ℕ) (old : LineLoop) (from : OutputBuffer W) (new : LineLoop) (to : OutputBuffer W) : Type 0 where
+pub record JudgesLine {W : Type 0} (command : Command) (contents : W → Option (List ℕ)) (line : List ℕ) (old : LineLoop) (from : OutputBuffer W) (new : LineLoop) (to : OutputBuffer W) : Type 0 where
   pub text : List ℕ
   pub accepted : Bool
-  pub answered : IsLineAnswered mode line text accepted
+  pub answered : IsLineAnswered command line text accepted
   pub taken : Takes contents from text to
   pub is_verdict : new.verdict ≡ verdict_with old.verdict accepted
   pub is_count : new.count ≡ number_behind old.count
@@ -49,21 +49,21 @@ pub record RefusesLine {W : Type 0} (piece : List ℕ) (end : LineEnd) (old : Li
   pub same : to ≡ from
 
 -- the run has come further by these bytes
-pub record Advances {W : Type 0} (mode : Mode) (contents : W → Option (List ℕ)) (old : LineLoop) (from : OutputBuffer W) (bytes : List ℕ) (new : LineLoop) (to : OutputBuffer W) : Type 0 where
-  pub reached : (held : Option (List ℕ)) (input : List ℕ) → Reached mode contents held input old from
-      → Reached mode contents held (input ++ bytes) new to
+pub record Advances {W : Type 0} (command : Command) (contents : W → Option (List ℕ)) (old : LineLoop) (from : OutputBuffer W) (bytes : List ℕ) (new : LineLoop) (to : OutputBuffer W) : Type 0 where
+  pub reached : (held : Option (List ℕ)) (input : List ℕ) → Reached command contents held input old from
+      → Reached command contents held (input ++ bytes) new to
 
 -- a bad line ends in these bytes, whatever comes later
-pub record StopsWithin {W : Type 0} (mode : Mode) (contents : W → Option (List ℕ)) (old : LineLoop) (from : OutputBuffer W) (bytes later : List ℕ) (to : OutputBuffer W) (number : ℕ) : Type 0 where
-  pub stops : (held : Option (List ℕ)) (input : List ℕ) → Reached mode contents held input old from
+pub record StopsWithin {W : Type 0} (command : Command) (contents : W → Option (List ℕ)) (old : LineLoop) (from : OutputBuffer W) (bytes later : List ℕ) (to : OutputBuffer W) (number : ℕ) : Type 0 where
+  pub stops : (held : Option (List ℕ)) (input : List ℕ) → Reached command contents held input old from
       → (text : List ℕ) × Appends held (contents_of contents to) text
-      × StopsAtLine mode ((input ++ bytes) ++ later) number text
+      × StopsAtLine command ((input ++ bytes) ++ later) number text
 
 -- all the lines of the input are answered
-pub record Finishes {W : Type 0} (mode : Mode) (contents : W → Option (List ℕ)) (old : LineLoop) (from to : OutputBuffer W) (verdict : Verdict) : Type 0 where
-  pub answered : (held : Option (List ℕ)) (input : List ℕ) → Reached mode contents held input old from
+pub record Finishes {W : Type 0} (command : Command) (contents : W → Option (List ℕ)) (old : LineLoop) (from to : OutputBuffer W) (verdict : Verdict) : Type 0 where
+  pub answered : (held : Option (List ℕ)) (input : List ℕ) → Reached command contents held input old from
       → (text : List ℕ) × (all_accepted : Bool) × Appends held (contents_of contents to) text
-      × AreAnswered mode (lines input) text all_accepted × (verdict ≡ verdict_of all_accepted)
+      × AreAnswered command (lines input) text all_accepted × (verdict ≡ verdict_of all_accepted)
 
 -- nothing is read
 pub record IsStart (at : LineLoop) : Type 0 where

@@ -18,12 +18,12 @@ exit_status (Err Input) = 4
 exit_status (Err Output) = 4
 
 abbrev pub usage_text : List ℕ
-usage_text = codes "usage: ether_tool eth | fcs | sll | type XXXX | feed"
+usage_text = codes "usage: ether_tool eth | fcs | sll | type XXXX | feed [limit N]"
 
 abbrev pub bad_line_text : ℕ → List ℕ
 bad_line_text number = codes "line " ++ (decimal number ++ codes ": bad line")
 
--- what the program prints last, without its line feed: the usage where the arguments name no mode
+-- what the program prints last, without its line feed: the usage if the arguments are wrong
 abbrev pub last_text : Result (Result Verdict ToolFault) Usage → Option (List ℕ)
 last_text (Err usage) = Some usage_text
 last_text (Ok (Ok verdict)) = None

@@ -5,24 +5,26 @@ use Rattle.std.specs.Str.Lines.{lines}
 use Rattle.std.specs.Io.KnownBytes.{Appends, Consumes, IsAtEnd}
 use Rattle.ether_tool.specs.WalkText.{Answers}
 use Rattle.ether_tool.specs.Frame.{IsFrame, IsBadLine}
+use Rattle.ether_tool.specs.Command.{unlimited}
 use Rattle.ether_tool.specs.declared.mode.Mode.{Mode}
+use Rattle.ether_tool.specs.declared.command.Command.{Command}
 use Rattle.ether_tool.specs.declared.outcome.Verdict.{Verdict}
 use Rattle.ether_tool.specs.declared.outcome.Verdict.TheVariants.{AllAccepted, SomeRefused}
 use Rattle.ether_tool.specs.declared.outcome.ToolFault.{ToolFault}
 use Rattle.ether_tool.specs.declared.outcome.ToolFault.TheVariants.{BadLine, Input, Output}
 
 -- the line names a frame, and the text answers it
-pub record IsLineAnswered (mode : Mode) (line text : List ℕ) (accepted : Bool) : Type 0 where
+pub record IsLineAnswered (command : Command) (line text : List ℕ) (accepted : Bool) : Type 0 where
   pub frame : List ℕ
   pub named : IsFrame line frame
-  pub answered : Answers mode frame text accepted
+  pub answered : Answers command frame text accepted
 
 -- the text answers the lines in order, and all says that each of their frames is accepted
-abbrev pub AreAnswered : Mode → List (List ℕ) → List ℕ → Bool → Type 0
-AreAnswered mode [] text all = (text ≡ []) × (all ≡ true)
-AreAnswered mode (line ∷ others) text all =
+abbrev pub AreAnswered : Command → List (List ℕ) → List ℕ → Bool → Type 0
+AreAnswered command [] text all = (text ≡ []) × (all ≡ true)
+AreAnswered command (line ∷ others) text all =
     (first : List ℕ) × (accepted : Bool) × (rest : List ℕ) × (others_accepted : Bool)
-    × IsLineAnswered mode line first accepted × AreAnswered mode others rest others_accepted
+    × IsLineAnswered command line first accepted × AreAnswered command others rest others_accepted
     × (text ≡ first ++ rest) × (all ≡ (accepted && others_accepted))
 
 -- no byte of the line is an LF
@@ -44,24 +46,24 @@ abbrev pub number_behind : ℕ → ℕ
 number_behind count = min (count + 1) (2 ^ 64 - 1)
 
 -- The line of this number is the first bad line of the input, and the text answers the lines before it.
-pub record StopsAtLine (mode : Mode) (input : List ℕ) (number : ℕ) (text : List ℕ) : Type 0 where
+pub record StopsAtLine (command : Command) (input : List ℕ) (number : ℕ) (text : List ℕ) : Type 0 where
   pub good : List (List ℕ)
   pub bad : List ℕ
   pub later : List (List ℕ)
   pub all_accepted : Bool
   pub parts : lines input ≡ good ++ bad ∷ later
-  pub answered : AreAnswered mode good text all_accepted
+  pub answered : AreAnswered command good text all_accepted
   pub is_bad : IsBadLine bad
   pub is_number : number ≡ number_behind (length good)
 
 -- From before to after the reader gave all its bytes, and the writer took the text that answers their lines.
-pub record AnswersInput (mode : Mode) (before after held holds : Option (List ℕ)) (verdict : Verdict) : Type 0 where
+pub record AnswersInputBy (command : Command) (before after held holds : Option (List ℕ)) (verdict : Verdict) : Type 0 where
   pub input : List ℕ
   pub text : List ℕ
   pub all_accepted : Bool
   pub read : Consumes before after input
   pub at_end : IsAtEnd after
-  pub answered : AreAnswered mode (lines input) text all_accepted
+  pub answered : AreAnswered command (lines input) text all_accepted
   pub is_verdict : verdict ≡ verdict_of all_accepted
   pub written : Appends held holds text
 
@@ -71,18 +73,18 @@ IsLeft after bytes = IfSome after (λ known. bytes ≡ known)
 
 -- From before to after the reader gave some of its bytes. The line of this number is the first bad line of all of
 -- them, and the writer took the text that answers the lines before it.
-pub record StopsInput (mode : Mode) (before after held holds : Option (List ℕ)) (number : ℕ) : Type 0 where
+pub record StopsInputBy (command : Command) (before after held holds : Option (List ℕ)) (number : ℕ) : Type 0 where
   pub taken : List ℕ
   pub left : List ℕ
   pub text : List ℕ
   pub read : Consumes before after taken
   pub is_left : IsLeft after left
-  pub stops : StopsAtLine mode (taken ++ left) number text
+  pub stops : StopsAtLine command (taken ++ left) number text
   pub written : Appends held holds text
 
 -- From before to after the reader gave some of its bytes. In them these lines have ended, whatever follows, and the
 -- writer took the text that answers them.
-pub record BreaksOff (mode : Mode) (before after held holds : Option (List ℕ)) : Type 0 where
+pub record BreaksOffBy (command : Command) (before after held holds : Option (List ℕ)) : Type 0 where
   pub taken : List ℕ
   pub done : List (List ℕ)
   pub begun : List ℕ
@@ -91,8 +93,19 @@ pub record BreaksOff (mode : Mode) (before after held holds : Option (List ℕ))
   pub read : Consumes before after taken
   pub parts : (rest : List ℕ) → lines (taken ++ rest) ≡ done ++ lines (begun ++ rest)
   pub in_line : HasNoLineFeed begun
-  pub answered : AreAnswered mode done text all_accepted
+  pub answered : AreAnswered command done text all_accepted
   pub written : Appends held holds text
+
+-- ---- the same in a mode without a limit
+
+abbrev pub AnswersInput : Mode → (before after held holds : Option (List ℕ)) → Verdict → Type 0
+AnswersInput mode = AnswersInputBy (unlimited mode)
+
+abbrev pub StopsInput : Mode → (before after held holds : Option (List ℕ)) → ℕ → Type 0
+StopsInput mode = StopsInputBy (unlimited mode)
+
+abbrev pub BreaksOff : Mode → (before after held holds : Option (List ℕ)) → Type 0
+BreaksOff mode = BreaksOffBy (unlimited mode)
 
 -- ---- what is said of each outcome
 

@@ -1,24 +1,26 @@
 -- The text that answers a frame.
-use Rattle.std.specs.Prelude.{◌≡◌, ℕ, List, ◌++◌, length, take, codes, Bool, None}
+use Rattle.std.specs.Prelude.{◌≡◌, ℕ, List, ◌++◌, length, take, codes, Bool}
 use Rattle.etherparse.specs.Kind as kinds
 use Rattle.etherparse.specs.Header.{Header}
 use Rattle.ether_peel.specs.Expectation.{Next, Expectation, Start, EtherType}
 use Rattle.ether_peel.specs.Stack.{Ending, whole, Walk}
 use Rattle.ether_peel.specs.Feeding.{AreDemands, greatest}
 use Rattle.ether_tool.specs.Lines.{frame_text, feed_text, fault_line, is_accepted}
+use Rattle.ether_tool.specs.declared.command.Command.{Command}
 use Rattle.ether_tool.specs.declared.mode.Mode.{Mode}
 use Rattle.ether_tool.specs.declared.mode.Mode.TheVariants as modes
 
 -- what the frames of a mode begin with
-abbrev pub next_of_mode : Mode → Next
-next_of_mode modes.Eth = Start kinds.Ethernet2
-next_of_mode modes.Fcs = Start kinds.Ethernet2Fcs
-next_of_mode modes.Sll = Start kinds.LinuxSll
-next_of_mode (modes.EtherType t) = EtherType t.0
-next_of_mode modes.Feed = Start kinds.Ethernet2
+abbrev pub start_of_mode : Mode → Next
+start_of_mode modes.Eth = Start kinds.Ethernet2
+start_of_mode modes.Fcs = Start kinds.Ethernet2Fcs
+start_of_mode modes.Sll = Start kinds.LinuxSll
+start_of_mode (modes.EtherType t) = EtherType t.0
+start_of_mode modes.Feed = Start kinds.Ethernet2
 
-abbrev pub start_of_mode : Mode → Expectation
-start_of_mode mode = record { next = next_of_mode mode; limit = None }
+-- .. and how many extensions a command reads of them
+abbrev pub start_of_command : Command → Expectation
+start_of_command command = record { next = start_of_mode command.mode; limit = command.limit }
 
 -- The text is the lines of the frame's walk, and the frame is accepted exactly if the walk ends in no fault.
 pub record AnswersWalk (start : Expectation) (frame text : List ℕ) (accepted : Bool) : Type 0 where
@@ -39,7 +41,11 @@ pub record AnswersFeed (start : Expectation) (frame text : List ℕ) (accepted :
   pub lines : text ≡ (feed_text (length demands) (greatest demands) ++ codes "\n") ++ fault_line ending
   pub verdict : accepted ≡ is_accepted ending
 
--- what answers a frame in a mode
-abbrev pub Answers : Mode → (frame text : List ℕ) → (accepted : Bool) → Type 0
-Answers modes.Feed frame text accepted = AnswersFeed (start_of_mode modes.Feed) frame text accepted
-Answers mode frame text accepted = AnswersWalk (start_of_mode mode) frame text accepted
+-- what answers a frame in a mode, from what it begins with
+abbrev pub AnswersFrom : Mode → Expectation → (frame text : List ℕ) → (accepted : Bool) → Type 0
+AnswersFrom modes.Feed start frame text accepted = AnswersFeed start frame text accepted
+AnswersFrom mode start frame text accepted = AnswersWalk start frame text accepted
+
+-- what answers a frame by a command
+abbrev pub Answers : Command → (frame text : List ℕ) → (accepted : Bool) → Type 0
+Answers command = AnswersFrom command.mode (start_of_command command)

@@ -1,6 +1,7 @@
 //! What callers learn of the derived traits, at each type of this crate. These functions are proved and never run.
 ghost use Rattle.std.specs.Prelude.{◌≡◌, ◌↔◌, IsTrue};
 
+use crate::command::Command;
 use crate::line_buffer::LineEnd;
 use crate::mode::{Mode, Usage};
 use crate::outcome::{Ending, LastLine, ToolFault, Verdict};
@@ -13,6 +14,12 @@ pub fn clone_of_verdict(value: &Verdict) -> Result<Verdict, AllocError>
 }
 
 pub fn clone_of_mode(value: &Mode) -> Result<Mode, AllocError>
+    ensures { result ≡ Ok value.now }
+{
+    value.clone()
+}
+
+pub fn clone_of_command(value: &Command) -> Result<Command, AllocError>
     ensures { result ≡ Ok value.now }
 {
     value.clone()
@@ -37,6 +44,12 @@ pub fn copy_of_verdict(value: Verdict) -> (Verdict, Verdict)
 }
 
 pub fn copy_of_mode(value: Mode) -> (Mode, Mode)
+    ensures { result ≡ (value, value) }
+{
+    (value, value)
+}
+
+pub fn copy_of_command(value: Command) -> (Command, Command)
     ensures { result ≡ (value, value) }
 {
     (value, value)

@@ -2,12 +2,13 @@
 ghost use Rattle.std.specs.Prelude.{◌≡◌, true, IfOk, IfErr, OnErr};
 ghost use Rattle.ether_tool.specs.OutputBuffer.{TakesAnswer};
 ghost use Rattle.ether_tool.specs.WalkText.{AnswersFeed};
-ghost use Rattle.ether_peel.specs.PeelStart.{start_of};
+ghost use Rattle.ether_peel.specs.Feeding.{IsFeed};
+ghost use Rattle.ether_peel.specs.PeelStart.{start_with};
 
 use crate::lines::{put_counts, put_fault};
 use crate::outcome::ToolFault;
 use crate::output_buffer::OutputBuffer;
-use ether_peel::{Start, feed};
+use ether_peel::{Feed, Start, feed, feed_limited};
 use std::io::Write;
 
 /// Puts how often a walk asks for more of the frame, how much it takes, and the fault of what it takes, if there is
@@ -16,15 +17,16 @@ use std::io::Write;
 /// After an `Err`, which only the writer causes, nothing is said of how much was written.
 pub fn put_feed<W: Write>(
     start: Start,
+    limit: Option<usize>,
     frame: &[u8],
     out: &mut OutputBuffer<'_, W>,
 ) -> Result<bool, ToolFault>
     ensures same_writer { out.new.writer.ghost_name ≡ out.old.writer.ghost_name }
-    ensures ok { IfOk result (λ accepted. TakesAnswer W.contents (AnswersFeed (start_of start) frame.now) out.old out.new accepted) }
+    ensures ok { IfOk result (λ accepted. TakesAnswer W.contents (AnswersFeed (start_with start limit) frame.now) out.old out.new accepted) }
     ensures fault { IfErr result (λ fault. fault ≡ ToolFault.Output) }
     ensures failed { OnErr result (out.new.has_failed ≡ true) }
 {
-    let fed = feed(start, frame);
+    let fed = fed(start, limit, frame);
     put_counts(out, fed.refusals, fed.taken)?;
     match &fed.fault {
         Some(fault) => {
@@ -32,5 +34,15 @@ pub fn put_feed<W: Write>(
             Ok(false)
         }
         None => Ok(true),
+    }
+}
+
+/// What a reader of a stream takes of a frame.
+fn fed(start: Start, limit: Option<usize>, frame: &[u8]) -> Feed
+    ensures { IsFeed (start_with start limit) frame.now result }
+{
+    match limit {
+        Some(limit) => feed_limited(start, frame, limit),
+        None => feed(start, frame),
     }
 }

@@ -1,7 +1,7 @@
 //! How far a run has come.
+use crate::command::Command;
 use crate::frame::MAX_FRAME_LEN;
 use crate::line_buffer::{LineBuffer, LineEnd};
-use crate::mode::Mode;
 use crate::outcome::{ToolFault, Verdict};
 use crate::output_buffer::OutputBuffer;
 use crate::walk_text::put_answer;
@@ -37,7 +37,7 @@ impl LineLoop {
     /// room for the line's frame.
     fn judge<W: Write>(
         &mut self,
-        mode: Mode,
+        command: Command,
         piece: &[u8],
         end: LineEnd,
         frame: &mut [u8; MAX_FRAME_LEN],
@@ -45,7 +45,7 @@ impl LineLoop {
     ) -> Result<(), ToolFault>
         ensures same_writer { out.new.writer.ghost_name ≡ out.old.writer.ghost_name }
         ensures ok { OnOk result ((line : List ℕ) → KeepsLine self.old.line line
-            → JudgesLine mode W.contents (without_end end (line ++ piece.now)) self.old out.old self.new out.new) }
+            → JudgesLine command W.contents (without_end end (line ++ piece.now)) self.old out.old self.new out.new) }
         ensures bad { IfErr result (λ fault. OnBadLine fault (RefusesLine piece.now end self.old out.old out.new)) }
         ensures failed { IfErr result (λ fault. OnStreamFault fault ⊥ (out.new.has_failed ≡ true)) }
     {
@@ -53,7 +53,7 @@ impl LineLoop {
         let Some(len) = self.line.end(piece, end, frame) else {
             return Err(ToolFault::BadLine(number));
         };
-        let accepted = match put_answer(mode, &frame[..len], out) {
+        let accepted = match put_answer(command, &frame[..len], out) {
             Ok(accepted) => accepted,
             Err(fault) => return Err(fault),
         };
@@ -65,20 +65,20 @@ impl LineLoop {
     /// Takes the next bytes of the input, and answers each line that ends in them.
     pub fn take_chunk<W: Write>(
         &mut self,
-        mode: Mode,
+        command: Command,
         chunk: &[u8],
         out: &mut OutputBuffer<'_, W>,
     ) -> Result<(), ToolFault>
         ensures same_writer { out.new.writer.ghost_name ≡ out.old.writer.ghost_name }
-        ensures ok { OnOk result (Advances mode W.contents self.old out.old chunk.now self.new out.new) }
+        ensures ok { OnOk result (Advances command W.contents self.old out.old chunk.now self.new out.new) }
         ensures bad { IfErr result (λ fault. OnBadLine fault (λ number. (later : List ℕ)
-            → StopsWithin mode W.contents self.old out.old chunk.now later out.new number)) }
+            → StopsWithin command W.contents self.old out.old chunk.now later out.new number)) }
         ensures failed { IfErr result (λ fault. OnStreamFault fault ⊥ (out.new.has_failed ≡ true)) }
     {
         let mut frame = [0; MAX_FRAME_LEN];
         let mut rest = chunk;
         while let Some((piece, behind)) = split_line(rest) {
-            if let Err(fault) = self.judge(mode, piece, LineEnd::LineFeed, &mut frame, out) {
+            if let Err(fault) = self.judge(command, piece, LineEnd::LineFeed, &mut frame, out) {
                 return Err(fault);
             }
             rest = behind;
@@ -90,20 +90,20 @@ impl LineLoop {
     /// Answers the last line, where the input ends in one without an LF, and tells the verdict.
     pub fn finish<W: Write>(
         mut self,
-        mode: Mode,
+        command: Command,
         out: &mut OutputBuffer<'_, W>,
     ) -> Result<Verdict, ToolFault>
         ensures same_writer { out.new.writer.ghost_name ≡ out.old.writer.ghost_name }
-        ensures ok { IfOk result (Finishes mode W.contents self out.old out.new) }
+        ensures ok { IfOk result (Finishes command W.contents self out.old out.new) }
         ensures bad { IfErr result (λ fault. OnBadLine fault
-            (StopsWithin mode W.contents self out.old [] [] out.new)) }
+            (StopsWithin command W.contents self out.old [] [] out.new)) }
         ensures failed { IfErr result (λ fault. OnStreamFault fault ⊥ (out.new.has_failed ≡ true)) }
     {
         if self.line.is_empty() {
             return Ok(self.verdict);
         }
         let mut frame = [0; MAX_FRAME_LEN];
-        if let Err(fault) = self.judge(mode, &[], LineEnd::InputEnd, &mut frame, out) {
+        if let Err(fault) = self.judge(command, &[], LineEnd::InputEnd, &mut frame, out) {
             return Err(fault);
         }
         Ok(self.verdict)

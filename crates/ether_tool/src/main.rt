@@ -1,10 +1,11 @@
 //! Reads frames, one line of hexadecimal digits each, and answers each with the text of its walk.
 //!
-//! `main` reads the mode from the arguments ([`mode::mode_of_args`]), calls [`run::run`] on the
-//! standard streams, and ends with the line and the status of [`outcome::ending_of`]. All that it
-//! prints goes to standard output.
+//! `main` reads the mode and the limit from the arguments ([`command::command_of_args`]), calls
+//! [`run::run`] or [`run::run_limited`] on the standard streams, and ends with the line and the
+//! status of [`outcome::ending_of`]. All that it prints goes to standard output.
 #![tactic(auto)]
 
+pub mod command;
 #[cfg(test)]
 mod derived_traits;
 mod feed_text;
@@ -23,7 +24,7 @@ pub mod run;
 mod test_frames;
 mod walk_text;
 
-use mode::mode_of_args;
+use command::command_of_args;
 use outcome::{ToolFault, ending_of, status_of};
 use std::process::ExitCode;
 use std::{env, io};
@@ -31,8 +32,15 @@ use std::{env, io};
 /// Runs the tool on the standard streams, and answers its exit status. Arguments that cannot be
 /// read are a fault of the input.
 fn tool<R: Print + Input + AllocGlobal + std::rt::Env>(rt: &R) -> u8 {
-    let outcome = match env::args(rt).map(mode_of_args) {
-        Ok(Ok(mode)) => Ok(run::run(mode, &mut rt.reader(), &mut io::writer(rt))),
+    let outcome = match env::args(rt).map(command_of_args) {
+        Ok(Ok((mode, limit))) => {
+            let reader = &mut rt.reader();
+            let writer = &mut io::writer(rt);
+            Ok(match limit {
+                Some(limit) => run::run_limited(mode, limit, reader, writer),
+                None => run::run(mode, reader, writer),
+            })
+        }
         Ok(Err(usage)) => Err(usage),
         Err(_) => Ok(Err(ToolFault::Input)),
     };

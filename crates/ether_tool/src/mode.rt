@@ -1,10 +1,8 @@
 //! The modes of the tool, and the words that name them.
 ghost use Rattle.std.specs.Prelude.{map, IfOk, OnErr, ℕ, IfSome, IfNone};
-ghost use Rattle.std.specs.Vec.Iter.{into_iter_items};
-ghost use Rattle.ether_tool.specs.Mode.{NamesMode, NamesNoMode, NamesType, words_behind};
+ghost use Rattle.ether_tool.specs.Mode.{NamesMode, NamesNoMode, NamesType};
 
 use etherparse::EtherType;
-use std::env;
 
 /// How the frames of a run begin, and how they are read.
 #[derive(Clone, Copy, PartialEq, Eq, Debug)]
@@ -21,17 +19,12 @@ pub enum Mode {
     Feed,
 }
 
-/// The arguments name no mode.
+/// The arguments are wrong.
 #[derive(Clone, Copy, PartialEq, Eq, Debug)]
 pub struct Usage;
 
-/// The mode that the words name.
-///
-/// No word at all, or `eth`, is [`Mode::Eth`], `fcs` [`Mode::Fcs`], `sll` [`Mode::Sll`] and `feed` [`Mode::Feed`]. `type` and
-/// a second word of exactly four hexadecimal digits of either case is [`Mode::EtherType`]. Nothing else names a mode.
-///
-/// The words are the arguments without the program's own name. Their case matters, but that of the digits.
-pub fn mode_of(words: &[&str]) -> Result<Mode, Usage>
+/// The mode that the words name, which are all those of a command without a limit.
+pub(crate) fn named_mode(words: &[&str]) -> Result<Mode, Usage>
     ensures ok { IfOk result (NamesMode (map (λ word. word.now) words.now)) }
     ensures err { OnErr result (NamesNoMode (map (λ word. word.now) words.now)) }
 {
@@ -64,39 +57,21 @@ fn number_of(digits: &str) -> Option<u16>
     }
 }
 
-/// The mode that the program's arguments name. The first of them is its own name.
-pub fn mode_of_args(mut args: env::Args) -> Result<Mode, Usage>
-    ensures ok { IfOk result (NamesMode (words_behind (into_iter_items args))) }
-    ensures err { OnErr result (NamesNoMode (words_behind (into_iter_items args))) }
-{
-    let _program = args.next();
-    let Some(first) = args.next() else {
-        return mode_of(&[]);
-    };
-    let Some(second) = args.next() else {
-        return mode_of(&[first.as_str()]);
-    };
-    if args.next().is_some() {
-        return Err(Usage);
-    }
-    mode_of(&[first.as_str(), second.as_str()])
-}
-
 #[cfg(test)]
 mod tests {
     use super::*;
 
     #[test]
     fn names_modes(rt: HostRuntime) {
-        assert_eq!(rt; mode_of(&[]), Ok(Mode::Eth));
-        assert_eq!(rt; mode_of(&["eth"]), Ok(Mode::Eth));
-        assert_eq!(rt; mode_of(&["fcs"]), Ok(Mode::Fcs));
-        assert_eq!(rt; mode_of(&["sll"]), Ok(Mode::Sll));
-        assert_eq!(rt; mode_of(&["feed"]), Ok(Mode::Feed));
+        assert_eq!(rt; named_mode(&[]), Ok(Mode::Eth));
+        assert_eq!(rt; named_mode(&["eth"]), Ok(Mode::Eth));
+        assert_eq!(rt; named_mode(&["fcs"]), Ok(Mode::Fcs));
+        assert_eq!(rt; named_mode(&["sll"]), Ok(Mode::Sll));
+        assert_eq!(rt; named_mode(&["feed"]), Ok(Mode::Feed));
         for word in [
             "Eth", "et", "eth ", "", "FCS", "fc", "sll1", "type", "Feed", "fee", "feeds", "88E5",
         ] {
-            assert_eq!(rt; mode_of(&[word]), Err(Usage), "{word}");
+            assert_eq!(rt; named_mode(&[word]), Err(Usage), "{word}");
         }
         for words in [
             ["eth", "eth"],
@@ -106,7 +81,7 @@ mod tests {
             ["feed", "eth"],
             ["feed", "88E5"],
         ] {
-            assert_eq!(rt; mode_of(&words), Err(Usage));
+            assert_eq!(rt; named_mode(&words), Err(Usage));
         }
     }
 
@@ -124,7 +99,7 @@ mod tests {
         ];
         for (digits, number) in types {
             let mode = Ok(Mode::EtherType(EtherType(number)));
-            assert_eq!(rt; mode_of(&["type", digits]), mode, "{digits}");
+            assert_eq!(rt; named_mode(&["type", digits]), mode, "{digits}");
         }
     }
 
@@ -135,12 +110,12 @@ mod tests {
             "0x88", " 88E", "+88E", "-806", "88_5", "88\u{e9}", "eth",
         ];
         for digits in others {
-            assert_eq!(rt; mode_of(&["type", digits]), Err(Usage), "{digits}");
+            assert_eq!(rt; named_mode(&["type", digits]), Err(Usage), "{digits}");
         }
         for word in ["Type", "types", "", "eth"] {
-            assert_eq!(rt; mode_of(&[word, "88E5"]), Err(Usage), "{word}");
+            assert_eq!(rt; named_mode(&[word, "88E5"]), Err(Usage), "{word}");
         }
-        assert_eq!(rt; mode_of(&["type", "88E5", "88E5"]), Err(Usage));
-        assert_eq!(rt; mode_of(&["88E5", "type"]), Err(Usage));
+        assert_eq!(rt; named_mode(&["type", "88E5", "88E5"]), Err(Usage));
+        assert_eq!(rt; named_mode(&["88E5", "type"]), Err(Usage));
     }
 }

@@ -54,13 +54,13 @@ pub fn status_of(outcome: &Result<Verdict, ToolFault>) -> u8
     }
 }
 
-/// The line that is printed where the arguments name no mode, without its LF.
-pub const USAGE: &str = "usage: ether_tool eth | fcs | sll | type XXXX | feed";
+/// The line that is printed where the arguments are wrong, without its LF.
+pub const USAGE: &str = "usage: ether_tool eth | fcs | sll | type XXXX | feed [limit N]";
 
 /// A line that the program prints behind all answers.
 #[derive(Clone, Copy, PartialEq, Eq, Debug)]
 pub enum LastLine {
-    /// The arguments name no mode.
+    /// The arguments are wrong.
     Usage,
     /// The line of this number is no frame.
     BadLine(u64),
@@ -87,7 +87,7 @@ pub struct Ending {
     pub status: u8,
 }
 
-/// The ending of a program whose arguments named a mode, by the outcome of its run, or named none.
+/// The ending of a program, by the outcome of its run, or of wrong arguments.
 pub fn ending_of(outcome: &Result<Result<Verdict, ToolFault>, Usage>) -> Ending
     ensures line { option_map last_line_text result.line ≡ last_text outcome.now }
     ensures status { result.status ≡ program_status outcome.now }
@@ -126,7 +126,7 @@ mod tests {
         let endings = [
             (
                 Err(Usage),
-                "usage: ether_tool eth | fcs | sll | type XXXX | feed",
+                "usage: ether_tool eth | fcs | sll | type XXXX | feed [limit N]",
                 2,
             ),
             (Ok(Err(ToolFault::BadLine(12))), "line 12: bad line", 3),

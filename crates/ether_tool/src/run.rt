@@ -1,8 +1,10 @@
 //! The engine: from a reader of lines to a writer of answers.
 ghost use Rattle.std.specs.Prelude.{◌≡◌, true, IfOk, IfErr};
 ghost use Rattle.ether_tool.specs.OutputBuffer.{contents_of};
-ghost use Rattle.ether_tool.specs.Run.{AnswersInput, BreaksOff, IfSettled, OnBadLine, OnInput, OnStreamFault, StopsInput};
+ghost use Rattle.ether_tool.specs.Command.{limited_to};
+ghost use Rattle.ether_tool.specs.Run.{AnswersInput, AnswersInputBy, BreaksOff, BreaksOffBy, IfSettled, OnBadLine, OnInput, OnStreamFault, StopsInput, StopsInputBy};
 
+use crate::command::Command;
 use crate::input_reader::InputReader;
 use crate::line_loop::LineLoop;
 use crate::mode::Mode;
@@ -36,32 +38,69 @@ pub fn run<R: Read, W: Write>(
         (BreaksOff mode (R.remaining reader.old) (R.remaining reader.new)
         (W.contents writer.old) (W.contents writer.new))) }
 {
+    run_command(Command { mode, limit: None }, reader, writer)
+}
+
+/// Does as [`run`], but of each frame reads at most `limit` VLAN tags and SecTags.
+pub fn run_limited<R: Read, W: Write>(
+    mode: Mode,
+    limit: usize,
+    reader: &mut R,
+    writer: &mut W,
+) -> Result<Verdict, ToolFault>
+    ensures ok { IfOk result (AnswersInputBy (limited_to mode limit) (R.remaining reader.old) (R.remaining reader.new)
+        (W.contents writer.old) (W.contents writer.new)) }
+    ensures bad_line { IfErr result (λ fault. OnBadLine fault
+        (StopsInputBy (limited_to mode limit) (R.remaining reader.old) (R.remaining reader.new)
+        (W.contents writer.old) (W.contents writer.new))) }
+    ensures input_fault { IfErr result (λ fault. OnInput fault
+        (BreaksOffBy (limited_to mode limit) (R.remaining reader.old) (R.remaining reader.new)
+        (W.contents writer.old) (W.contents writer.new))) }
+{
+    let limit = Some(limit);
+    run_command(Command { mode, limit }, reader, writer)
+}
+
+fn run_command<R: Read, W: Write>(
+    command: Command,
+    reader: &mut R,
+    writer: &mut W,
+) -> Result<Verdict, ToolFault>
+    ensures ok { IfOk result (AnswersInputBy command (R.remaining reader.old) (R.remaining reader.new)
+        (W.contents writer.old) (W.contents writer.new)) }
+    ensures bad_line { IfErr result (λ fault. OnBadLine fault
+        (StopsInputBy command (R.remaining reader.old) (R.remaining reader.new)
+        (W.contents writer.old) (W.contents writer.new))) }
+    ensures input_fault { IfErr result (λ fault. OnInput fault
+        (BreaksOffBy command (R.remaining reader.old) (R.remaining reader.new)
+        (W.contents writer.old) (W.contents writer.new))) }
+{
     let mut input = InputReader::new(reader);
     let mut out = OutputBuffer::new(writer);
-    answer_input(mode, &mut input, &mut out)
+    answer_input(command, &mut input, &mut out)
 }
 
 /// Reads the input to its end, and writes the answers and flushes them. After a fault of the
 /// reader or the writer neither is called again.
 fn answer_input<R: Read, W: Write>(
-    mode: Mode,
+    command: Command,
     input: &mut InputReader<'_, R>,
     out: &mut OutputBuffer<'_, W>,
 ) -> Result<Verdict, ToolFault>
     ensures same_reader { input.new.inner.ghost_name ≡ input.old.inner.ghost_name }
     ensures same_writer { out.new.writer.ghost_name ≡ out.old.writer.ghost_name }
-    ensures ok { IfOk result (AnswersInput mode (R.remaining input.old.inner.now) (R.remaining input.new.inner.now)
+    ensures ok { IfOk result (AnswersInputBy command (R.remaining input.old.inner.now) (R.remaining input.new.inner.now)
         (contents_of W.contents out.old) (W.contents out.new.writer.now)) }
     ensures bad_line { IfErr result (λ fault. OnBadLine fault
-        (StopsInput mode (R.remaining input.old.inner.now) (R.remaining input.new.inner.now)
+        (StopsInputBy command (R.remaining input.old.inner.now) (R.remaining input.new.inner.now)
         (contents_of W.contents out.old) (W.contents out.new.writer.now))) }
     ensures input_fault { IfErr result (λ fault. OnInput fault
-        (BreaksOff mode (R.remaining input.old.inner.now) (R.remaining input.new.inner.now)
+        (BreaksOffBy command (R.remaining input.old.inner.now) (R.remaining input.new.inner.now)
         (contents_of W.contents out.old) (W.contents out.new.writer.now))) }
     ensures failed { IfErr result (λ fault. OnStreamFault fault (input.new.has_failed ≡ true) (out.new.has_failed ≡ true)) }
     ensures flushed { IfSettled result (out.new.is_flushed ≡ true) }
 {
-    match read_lines(mode, input, out) {
+    match read_lines(command, input, out) {
         Ok(verdict) => {
             if let Err(fault) = out.flush() {
                 return Err(fault);
@@ -81,19 +120,19 @@ fn answer_input<R: Read, W: Write>(
 /// Reads the input to its end, and gathers the answers. What is gathered is written out before
 /// each read.
 fn read_lines<R: Read, W: Write>(
-    mode: Mode,
+    command: Command,
     input: &mut InputReader<'_, R>,
     out: &mut OutputBuffer<'_, W>,
 ) -> Result<Verdict, ToolFault>
     ensures same_reader { input.new.inner.ghost_name ≡ input.old.inner.ghost_name }
     ensures same_writer { out.new.writer.ghost_name ≡ out.old.writer.ghost_name }
-    ensures ok { IfOk result (AnswersInput mode (R.remaining input.old.inner.now) (R.remaining input.new.inner.now)
+    ensures ok { IfOk result (AnswersInputBy command (R.remaining input.old.inner.now) (R.remaining input.new.inner.now)
         (contents_of W.contents out.old) (contents_of W.contents out.new)) }
     ensures bad_line { IfErr result (λ fault. OnBadLine fault
-        (StopsInput mode (R.remaining input.old.inner.now) (R.remaining input.new.inner.now)
+        (StopsInputBy command (R.remaining input.old.inner.now) (R.remaining input.new.inner.now)
         (contents_of W.contents out.old) (contents_of W.contents out.new))) }
     ensures input_fault { IfErr result (λ fault. OnInput fault
-        (BreaksOff mode (R.remaining input.old.inner.now) (R.remaining input.new.inner.now)
+        (BreaksOffBy command (R.remaining input.old.inner.now) (R.remaining input.new.inner.now)
         (contents_of W.contents out.old) (W.contents out.new.writer.now))) }
     ensures failed { IfErr result (λ fault. OnStreamFault fault (input.new.has_failed ≡ true) (out.new.has_failed ≡ true)) }
 {
@@ -108,9 +147,9 @@ fn read_lines<R: Read, W: Write>(
             Err(fault) => return Err(fault),
         };
         if count == 0 {
-            return lines.finish(mode, out);
+            return lines.finish(command, out);
         }
-        if let Err(fault) = lines.take_chunk(mode, &chunk[..count], out) {
+        if let Err(fault) = lines.take_chunk(command, &chunk[..count], out) {
             return Err(fault);
         }
     }
@@ -120,6 +159,8 @@ fn read_lines<R: Read, W: Write>(
 mod feed_tests;
 #[cfg(test)]
 mod format_tests;
+#[cfg(test)]
+mod limit_tests;
 #[cfg(test)]
 mod source_tests;
 #[cfg(test)]

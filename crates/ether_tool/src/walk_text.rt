@@ -1,9 +1,13 @@
 //! The answer to one frame: the lines of its walk, or what feeding it comes to.
-ghost use Rattle.std.specs.Prelude.{◌≡◌, ◌++◌, true, IfOk, IfErr, OnErr};
+ghost use Rattle.std.specs.Prelude.{◌≡◌, ◌++◌, List, true, false, IfOk, IfErr, OnErr};
 ghost use Rattle.ether_tool.specs.OutputBuffer.{TakesAnswer};
 ghost use Rattle.ether_tool.specs.WalkText.{start_of_mode, Answers, AnswersWalk};
-ghost use Rattle.ether_peel.specs.PeelStart.{start_of};
+ghost use Rattle.etherparse.specs.Header.{Header};
+ghost use Rattle.ether_peel.specs.Stack.{Ending, Walk, whole};
+ghost use Rattle.ether_peel.specs.Peel.{Faces};
+ghost use Rattle.ether_peel.specs.PeelStart.{next_of, start_with};
 
+use crate::command::Command;
 use crate::feed_text::put_feed;
 use crate::lines::{put_fault, put_rest, put_unit};
 use crate::mode::Mode;
@@ -16,18 +20,19 @@ use std::io::Write;
 ///
 /// After an `Err`, which only the writer causes, nothing is said of how much was written.
 pub fn put_answer<W: Write>(
-    mode: Mode,
+    command: Command,
     frame: &[u8],
     out: &mut OutputBuffer<'_, W>,
 ) -> Result<bool, ToolFault>
     ensures same_writer { out.new.writer.ghost_name ≡ out.old.writer.ghost_name }
-    ensures ok { IfOk result (λ accepted. TakesAnswer W.contents (Answers mode frame.now) out.old out.new accepted) }
+    ensures ok { IfOk result (λ accepted. TakesAnswer W.contents (Answers command frame.now) out.old out.new accepted) }
     ensures fault { IfErr result (λ fault. fault ≡ ToolFault.Output) }
     ensures failed { OnErr result (out.new.has_failed ≡ true) }
 {
-    match mode {
-        Mode::Feed => put_feed(start(mode), frame, out),
-        _ => put_walk(start(mode), frame, out),
+    let start = start(command.mode);
+    match command.mode {
+        Mode::Feed => put_feed(start, command.limit, frame, out),
+        _ => put_walk(start, command.limit, frame, out),
     }
 }
 
@@ -36,15 +41,16 @@ pub fn put_answer<W: Write>(
 /// After an `Err`, which only the writer causes, nothing is said of how much was written.
 fn put_walk<W: Write>(
     start: Start,
+    limit: Option<usize>,
     frame: &[u8],
     out: &mut OutputBuffer<'_, W>,
 ) -> Result<bool, ToolFault>
     ensures same_writer { out.new.writer.ghost_name ≡ out.old.writer.ghost_name }
-    ensures ok { IfOk result (λ accepted. TakesAnswer W.contents (AnswersWalk (start_of start) frame.now) out.old out.new accepted) }
+    ensures ok { IfOk result (λ accepted. TakesAnswer W.contents (AnswersWalk (start_with start limit) frame.now) out.old out.new accepted) }
     ensures fault { IfErr result (λ fault. fault ≡ ToolFault.Output) }
     ensures failed { OnErr result (out.new.has_failed ≡ true) }
 {
-    let mut peel = Peel::new(start, frame);
+    let mut peel = walker(start, limit, frame);
     loop {
         let offset = peel.offset();
         match peel.next() {
@@ -65,9 +71,21 @@ fn put_walk<W: Write>(
     }
 }
 
+/// The walker over a frame.
+fn walker(start: Start, limit: Option<usize>, frame: &[u8]) -> Peel<'_>
+    ensures going { result.over ≡ false }
+    ensures walk { (headers : List Header) × (ending : Ending) × Walk (start_with start limit) frame.now headers ending
+        × Faces frame.now (whole (start_with start limit) frame.now) result headers ending }
+{
+    match limit {
+        Some(limit) => Peel::with_limit(start, frame, limit),
+        None => Peel::new(start, frame),
+    }
+}
+
 /// What the frames of a mode begin with.
 fn start(mode: Mode) -> Start
-    ensures { start_of result ≡ start_of_mode mode }
+    ensures { next_of result ≡ start_of_mode mode }
 {
     match mode {
         Mode::Eth | Mode::Feed => Start::Ethernet2,

@@ -3,13 +3,13 @@
 //! What is expected was not taken from the tool: a separate script unpacked the fields in the order of the standards, and
 //! printed them. The captured frames are those of the libraries' tests; tshark shows the same fields of them.
 use super::*;
-use crate::mode::mode_of;
+use crate::command::command_of;
 use crate::outcome::status_of;
 use arrayvec::ArrayVec;
 use std::process::Abort;
 use std::test::Fail;
 
-/// The frame is answered by these lines in the mode that the words name, and the run ends with this status.
+/// The frame is answered by these lines by the command that the words name, and the run ends with this status.
 pub fn answers(
     rt: &impl Abort,
     words: &[&str],
@@ -17,9 +17,12 @@ pub fn answers(
     status: u8,
     answer: &[u8],
 ) -> Result<(), Fail> {
-    let mode = mode_of(words).ok().ok_or("a mode")?;
+    let (mode, limit) = command_of(words).ok().ok_or("a command")?;
     let mut output = ArrayVec::<u8, 4096>::new();
-    let outcome = run(mode, &mut line, &mut output);
+    let outcome = match limit {
+        Some(limit) => run_limited(mode, limit, &mut line, &mut output),
+        None => run(mode, &mut line, &mut output),
+    };
     assert_eq!(rt; output.as_slice(), answer);
     assert_eq!(rt; status_of(&outcome), status);
     Ok(())

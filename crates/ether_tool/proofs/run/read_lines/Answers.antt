@@ -12,7 +12,7 @@ loop-fault-init g c = (
     same_reader = refl;
     same_writer = refl;
     read = Consumes-none _;
-    reached = Reached-start c.args.mode g.W.Write.contents c.new-lines.result c.args.out.now c.new-lines.ensures;
+    reached = Reached-start c.args.command g.W.Write.contents c.new-lines.result c.args.out.now c.new-lines.ensures;
   },
 )
 
@@ -25,7 +25,7 @@ returns-in-Err-read-clause-same_reader g c = c.read.ensures.same_reader ∙ c.lo
 pub returns-in-Err-read-clause-input_fault : goal.returns-in-Err-read-clause-input_fault
 returns-in-Err-read-clause-input_fault g c =
     let (taken, so_far) = c.loop-fault.invariant in
-    breaks_off c.args.mode g.W.Write.contents (g.R.Read.remaining c.args.input.now.inner.now) (g.R.Read.remaining c.loop-fault.input.inner.now) (g.R.Read.remaining c.read.new.self.inner.now)
+    breaks_off c.args.command g.W.Write.contents (g.R.Read.remaining c.args.input.now.inner.now) (g.R.Read.remaining c.loop-fault.input.inner.now) (g.R.Read.remaining c.read.new.self.inner.now)
     (contents_of g.W.Write.contents c.args.out.now) c.in-Err-read.fault taken c.loop-fault.lines c.loop-fault.out c.write_out.new.self
     so_far.read c.in-Err-read.ensures.kept c.in_default.ensures.ok so_far.reached
 
@@ -37,7 +37,7 @@ returns-then-count-eq0-clause-ok g c =
     let (taken, so_far) = c.loop-fault.invariant in
     let nothing = ap (λ (n : ℕ). take n c.read.new.chunk) c.if-count-eq0.true in
     let end = c.in-Ok.ensures.end c.if-count-eq0.true (omega arith) in
-    finish_ok c.args.mode g.W.Write.contents (g.R.Read.remaining c.args.input.now.inner.now) (g.R.Read.remaining c.loop-fault.input.inner.now) (g.R.Read.remaining c.read.new.self.inner.now)
+    finish_ok c.args.command g.W.Write.contents (g.R.Read.remaining c.args.input.now.inner.now) (g.R.Read.remaining c.loop-fault.input.inner.now) (g.R.Read.remaining c.read.new.self.inner.now)
     (contents_of g.W.Write.contents c.args.out.now) c.finish.result taken _ c.loop-fault.lines c.loop-fault.out c.write_out.new.self c.finish.new.out
     so_far.read c.in-Ok.ensures.read nothing end c.in_default.ensures.ok so_far.reached c.finish.ensures.ok
 
@@ -46,7 +46,7 @@ returns-then-count-eq0-clause-bad_line g c =
     let (taken, so_far) = c.loop-fault.invariant in
     let nothing = ap (λ (n : ℕ). take n c.read.new.chunk) c.if-count-eq0.true in
     let end = c.in-Ok.ensures.end c.if-count-eq0.true (omega arith) in
-    finish_bad c.args.mode g.W.Write.contents (g.R.Read.remaining c.args.input.now.inner.now) (g.R.Read.remaining c.loop-fault.input.inner.now) (g.R.Read.remaining c.read.new.self.inner.now)
+    finish_bad c.args.command g.W.Write.contents (g.R.Read.remaining c.args.input.now.inner.now) (g.R.Read.remaining c.loop-fault.input.inner.now) (g.R.Read.remaining c.read.new.self.inner.now)
     (contents_of g.W.Write.contents c.args.out.now) c.finish.result taken _ c.loop-fault.lines c.loop-fault.out c.write_out.new.self c.finish.new.out
     so_far.read c.in-Ok.ensures.read nothing end c.in_default.ensures.ok so_far.reached c.finish.ensures.bad
 
@@ -57,7 +57,7 @@ pub returns-in-Err-take_chunk-clause-bad_line : goal.returns-in-Err-take_chunk-c
 returns-in-Err-take_chunk-clause-bad_line g c =
     let (taken, so_far) = c.loop-fault.invariant in
     let chunk : List ℕ = take c.in-Ok.count c.read.new.chunk in
-    chunk_bad c.args.mode g.W.Write.contents (g.R.Read.remaining c.args.input.now.inner.now) (g.R.Read.remaining c.loop-fault.input.inner.now) (g.R.Read.remaining c.read.new.self.inner.now)
+    chunk_bad c.args.command g.W.Write.contents (g.R.Read.remaining c.args.input.now.inner.now) (g.R.Read.remaining c.loop-fault.input.inner.now) (g.R.Read.remaining c.read.new.self.inner.now)
     (contents_of g.W.Write.contents c.args.out.now) c.in-Err-take_chunk.fault taken chunk c.loop-fault.lines c.loop-fault.out c.write_out.new.self c.take_chunk.new.out
     so_far.read c.in-Ok.ensures.read c.in_default.ensures.ok so_far.reached c.in-Err-take_chunk.ensures.bad
 
@@ -76,6 +76,6 @@ loop-fault-preserved g c =
         same_reader = c.read.ensures.same_reader ∙ so_far.same_reader;
         same_writer = c.take_chunk.ensures.same_writer ∙ c.write_out.ensures.same_writer ∙ so_far.same_writer;
         read = Consumes-then (g.R.Read.remaining c.args.input.now.inner.now) (g.R.Read.remaining c.loop-fault.input.inner.now) (g.R.Read.remaining c.read.new.self.inner.now) taken chunk so_far.read c.in-Ok.ensures.read;
-        reached = more.reached held taken (Reached-written_out c.args.mode g.W.Write.contents held taken c.loop-fault.lines c.loop-fault.out c.write_out.new.self drains so_far.reached);
+        reached = more.reached held taken (Reached-written_out c.args.command g.W.Write.contents held taken c.loop-fault.lines c.loop-fault.out c.write_out.new.self drains so_far.reached);
       },
     )

@@ -10,7 +10,7 @@ invariant-loop-fault g l =
       same_reader : l.input.inner.ghost_name ≡ l.fn.input.inner.ghost_name;
       same_writer : l.out.writer.ghost_name ≡ l.fn.out.writer.ghost_name;
       read : Consumes (g.R.Read.remaining l.fn.input.inner.now) (g.R.Read.remaining l.input.inner.now) taken;
-      reached : Reached l.mode g.W.Write.contents (contents_of g.W.Write.contents l.fn.out) taken l.lines l.out;
+      reached : Reached l.command g.W.Write.contents (contents_of g.W.Write.contents l.fn.out) taken l.lines l.out;
     }
 
 abbrev pub decreases-loop-fault : goal.decreases-loop-fault

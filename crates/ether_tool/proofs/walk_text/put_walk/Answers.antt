@@ -1,6 +1,6 @@
 use Rattle.std.proofs.Common.{◌≡◌, ℕ, ◌+◌, List, ◌++◌, length, Bool, ap, subst, ◌∙◌, arith}
 use Rattle.std.specs.Prelude.{codes}
-use Rattle.ether_peel.specs.PeelStart.{start_of}
+use Rattle.ether_peel.specs.PeelStart.{start_with}
 use Rattle.ether_tool.specs.OutputBuffer.{Takes}
 use Rattle.ether_tool.specs.ViewLines.{view_text, rest_view_text}
 use Rattle.ether_tool.proofs.WalkTextLemmas.{walk_unit, walk_fault, walk_rest}
@@ -15,12 +15,12 @@ loop-unit-preserved g c =
     let len = ap length c.rest.ensures in
     let same = ap (λ (n : ℕ). view_text n (length c.rest.result.now) c.closed.result u) c.offset-offset.ensures.value ∙ ap (λ (n : ℕ). view_text c.loop-unit.peel.offset n c.closed.result u) len ∙ ap (λ (b : Bool). view_text c.loop-unit.peel.offset (length s.rest) b u) c.closed.ensures in
     let line = subst (λ (l : List ℕ). Takes contents c.loop-unit.out (l ++ codes "\n") c.put_unit.new.out) same c.in_ok-put_unit-in-Some-Ok.ensures.ok in
-    (c.put_unit.ensures.same_writer ∙ c.loop-unit.invariant.0, walk_unit contents (start_of c.args.start) c.args.frame.now c.loop-unit.peel c.next.new.self c.args.out.now c.loop-unit.out c.put_unit.new.out u (λ i. omega (arith, c.type_inv.frame i)) c.loop-unit.invariant.1 gives line)
+    (c.put_unit.ensures.same_writer ∙ c.loop-unit.invariant.0, walk_unit contents (start_with c.args.start c.args.limit) c.args.frame.now c.loop-unit.peel c.next.new.self c.args.out.now c.loop-unit.out c.put_unit.new.out u (λ i. omega (arith, c.type_inv.frame i)) c.loop-unit.invariant.1 gives line)
 
 pub returns-in-Some-Err-clause-ok : goal.returns-in-Some-Err-clause-ok
 returns-in-Some-Err-clause-ok g c =
     let gives = rw c.in-Some-Err.field-0-is at c.in-Some-Err.ensures.steps in
-    walk_fault g.W.Write.contents (start_of c.args.start) c.args.frame.now c.loop-unit.peel c.next.new.self c.args.out.now c.loop-unit.out c.put_fault.new.out c.in-Some-Err.fault c.loop-unit.invariant.1 gives c.in_ok-put_fault-in-Some-Err.ensures.ok
+    walk_fault g.W.Write.contents (start_with c.args.start c.args.limit) c.args.frame.now c.loop-unit.peel c.next.new.self c.args.out.now c.loop-unit.out c.put_fault.new.out c.in-Some-Err.fault c.loop-unit.invariant.1 gives c.in_ok-put_fault-in-Some-Err.ensures.ok
 
 pub returns-in-None-clause-ok : goal.returns-in-None-clause-ok
 returns-in-None-clause-ok g c =
@@ -29,4 +29,4 @@ returns-in-None-clause-ok g c =
     let end = c.offset-offset.result + length c.rest-in-None.result.now in
     let line = subst (λ (n : ℕ). Takes contents c.loop-unit.out (rest_view_text n end k ++ codes "\n") c.put_rest.new.out) c.offset-offset.ensures.value c.in_ok-put_rest-in-None.ensures.ok in
     let to : end ≡ c.loop-unit.peel.offset + length c.next.new.self.rest = ap (λ (n : ℕ). n + length c.rest-in-None.result.now) c.offset-offset.ensures.value ∙ ap (λ (l : List ℕ). c.loop-unit.peel.offset + length l) c.rest-in-None.ensures in
-    walk_rest contents (start_of c.args.start) c.args.frame.now c.loop-unit.peel c.next.new.self c.args.out.now c.loop-unit.out c.put_rest.new.out end k c.loop-unit.invariant.1 c.in-None.ensures.steps to c.kind-kind.ensures line
+    walk_rest contents (start_with c.args.start c.args.limit) c.args.frame.now c.loop-unit.peel c.next.new.self c.args.out.now c.loop-unit.out c.put_rest.new.out end k c.loop-unit.invariant.1 c.in-None.ensures.steps to c.kind-kind.ensures line

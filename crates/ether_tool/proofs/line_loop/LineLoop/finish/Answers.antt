@@ -7,7 +7,7 @@ returns-then-is_empty-clause-ok g c = Finishes-nothing _ _ _ _ (λ line kept. sy
 
 pub returns-in-Err-clause-bad : goal.returns-in-Err-clause-bad
 returns-in-Err-clause-bad g c =
-    end_fault c.args.mode g.W.Write.contents c.in-Err.fault c.args.self c.args.out.now c.judge.new.out
+    end_fault c.args.command g.W.Write.contents c.in-Err.fault c.args.self c.args.out.now c.judge.new.out
     (λ line kept. sym (c.is_empty.ensures line kept) ∙ c.if-is_empty.false) c.in-Err.ensures.bad
 
 pub returns-clause-ok : goal.returns-clause-ok

@@ -1,6 +1,6 @@
 use Rattle.ether_tool.specs.Mode.{eth, fcs, sll, feed}
 use Rattle.ether_tool.proofs.ModeLemmas.{NamesMode-none, NamesMode-word, NamesMode-type}
-use Rattle.ether_tool.proofs.mode.mode_of.Goals as goal
+use Rattle.ether_tool.proofs.mode.named_mode.Goals as goal
 
 pub returns-in-empty-clause-ok : goal.returns-in-empty-clause-ok
 returns-in-empty-clause-ok c = NamesMode-none c.args.words.now c.in-empty.len_below

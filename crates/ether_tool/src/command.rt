@@ -1,0 +1,185 @@
+//! What a run is told to do, and the words that tell it.
+ghost use Rattle.std.specs.Prelude.{map, IfOk, OnErr, ℕ};
+ghost use Rattle.std.specs.Vec.Iter.{into_iter_items};
+ghost use Rattle.ether_tool.specs.Command.{NamesCommand, NamesLimit, NamesNoCommand, words_behind};
+
+use crate::mode::{Mode, Usage, named_mode};
+use std::env;
+
+/// How the frames of a run are read.
+#[derive(Clone, Copy)]
+pub struct Command {
+    /// How the frames begin, and how they are read.
+    pub mode: Mode,
+    /// How many VLAN tags and SecTags are read of a frame at most; `None` for all.
+    pub limit: Option<usize>,
+}
+
+/// The mode that the words name, and its limit on the VLAN tags and SecTags of a frame, if they name one.
+///
+/// No word at all, or `eth`, is [`Mode::Eth`], `fcs` [`Mode::Fcs`], `sll` [`Mode::Sll`] and `feed` [`Mode::Feed`]. `type` and
+/// a second word of exactly four hexadecimal digits of either case is [`Mode::EtherType`]. After the words of a mode,
+/// at least one, `limit` and a word of one to four decimal digits name its limit. Nothing else names a mode.
+///
+/// The words are the arguments without the program's own name. Their case matters, but not that of the digits.
+pub fn command_of(words: &[&str]) -> Result<(Mode, Option<usize>), Usage>
+    ensures ok { IfOk result (NamesCommand (map (λ word. word.now) words.now)) }
+    ensures err { OnErr result (NamesNoCommand (map (λ word. word.now) words.now)) }
+{
+    match words {
+        ["limit", _] => Err(Usage),
+        [mode @ .., "limit", digits] => Ok((named_mode(mode)?, Some(limit_of(digits)?))),
+        _ => Ok((named_mode(words)?, None)),
+    }
+}
+
+/// The number that one to four decimal digits name.
+fn limit_of(digits: &str) -> Result<usize, Usage>
+    ensures ok { IfOk result (NamesLimit digits.now) }
+    ensures err { OnErr result ((limit : ℕ) → ¬ (NamesLimit digits.now limit)) }
+{
+    if digits.len() > 4 || digits.starts_with('+') {
+        return Err(Usage);
+    }
+    match digits.parse() {
+        Ok(limit) => Ok(limit),
+        Err(_) => Err(Usage),
+    }
+}
+
+/// The mode and the limit that the program's arguments name. The first of them is its own name.
+pub fn command_of_args(mut args: env::Args) -> Result<(Mode, Option<usize>), Usage>
+    ensures ok { IfOk result (NamesCommand (words_behind (into_iter_items args))) }
+    ensures err { OnErr result (NamesNoCommand (words_behind (into_iter_items args))) }
+{
+    let _program = args.next();
+    let Some(first) = args.next() else {
+        return command_of(&[]);
+    };
+    let Some(second) = args.next() else {
+        return command_of(&[first.as_str()]);
+    };
+    let Some(third) = args.next() else {
+        return command_of(&[first.as_str(), second.as_str()]);
+    };
+    let Some(fourth) = args.next() else {
+        return command_of(&[first.as_str(), second.as_str(), third.as_str()]);
+    };
+    if args.next().is_some() {
+        return Err(Usage);
+    }
+    command_of(&[
+        first.as_str(),
+        second.as_str(),
+        third.as_str(),
+        fourth.as_str(),
+    ])
+}
+
+#[cfg(test)]
+mod tests {
+    use super::*;
+    use etherparse::EtherType;
+
+    #[test]
+    fn names_a_mode_without_a_limit(rt: HostRuntime) {
+        assert_eq!(rt; command_of(&[]), Ok((Mode::Eth, None)));
+        assert_eq!(rt; command_of(&["feed"]), Ok((Mode::Feed, None)));
+        let mode = Mode::EtherType(EtherType(0x88e5));
+        assert_eq!(rt; command_of(&["type", "88E5"]), Ok((mode, None)));
+        assert_eq!(rt; command_of(&["eth", "fcs"]), Err(Usage));
+    }
+
+    #[test]
+    fn names_a_limit_after_any_mode(rt: HostRuntime) {
+        let limits = [
+            ("0", 0),
+            ("1", 1),
+            ("9", 9),
+            ("10", 10),
+            ("256", 256),
+            ("9999", 9999),
+            ("0000", 0),
+            ("0007", 7),
+            ("01", 1),
+        ];
+        for (digits, limit) in limits {
+            let limit = Some(limit);
+            assert_eq!(rt;
+                command_of(&["eth", "limit", digits]),
+                Ok((Mode::Eth, limit)),
+                "{digits}"
+            );
+            assert_eq!(rt;
+                command_of(&["fcs", "limit", digits]),
+                Ok((Mode::Fcs, limit)),
+                "{digits}"
+            );
+            assert_eq!(rt;
+                command_of(&["sll", "limit", digits]),
+                Ok((Mode::Sll, limit)),
+                "{digits}"
+            );
+            assert_eq!(rt;
+                command_of(&["feed", "limit", digits]),
+                Ok((Mode::Feed, limit)),
+                "{digits}"
+            );
+            let mode = Mode::EtherType(EtherType(0x8100));
+            assert_eq!(rt;
+                command_of(&["type", "8100", "limit", digits]),
+                Ok((mode, limit)),
+                "{digits}"
+            );
+        }
+    }
+
+    #[test]
+    fn refuses_a_limit_without_a_mode(rt: HostRuntime) {
+        assert_eq!(rt; command_of(&["limit"]), Err(Usage));
+        assert_eq!(rt; command_of(&["limit", "1"]), Err(Usage));
+        assert_eq!(rt; command_of(&["limit", "1", "eth"]), Err(Usage));
+        assert_eq!(rt; command_of(&["limit", "limit", "1"]), Err(Usage));
+        assert_eq!(rt; command_of(&["type", "limit", "1"]), Err(Usage));
+        assert_eq!(rt; command_of(&["", "limit", "1"]), Err(Usage));
+        assert_eq!(rt; command_of(&["et", "limit", "1"]), Err(Usage));
+        assert_eq!(rt; command_of(&["type", "88E", "limit", "1"]), Err(Usage));
+        assert_eq!(rt; command_of(&["eth", "fcs", "limit", "1"]), Err(Usage));
+    }
+
+    #[test]
+    fn refuses_a_limit_without_its_number(rt: HostRuntime) {
+        assert_eq!(rt; command_of(&["eth", "limit"]), Err(Usage));
+        assert_eq!(rt; command_of(&["type", "88E5", "limit"]), Err(Usage));
+        assert_eq!(rt; command_of(&["eth", "1"]), Err(Usage));
+        assert_eq!(rt; command_of(&["eth", "limit", "1", "limit"]), Err(Usage));
+        assert_eq!(rt;
+            command_of(&["eth", "limit", "1", "limit", "1"]),
+            Err(Usage)
+        );
+        assert_eq!(rt; command_of(&["eth", "1", "limit"]), Err(Usage));
+        assert_eq!(rt; command_of(&["eth", "limit", "limit", "1"]), Err(Usage));
+        assert_eq!(rt; command_of(&["eth", "Limit", "1"]), Err(Usage));
+        assert_eq!(rt; command_of(&["eth", "limits", "1"]), Err(Usage));
+    }
+
+    #[test]
+    fn refuses_other_words_after_limit(rt: HostRuntime) {
+        let others = [
+            "", "12345", "00001", "99999", "+1", "+", "-1", " 1", "1 ", "1_0", "0x1", "a", "1a",
+            "F", "1.0", "eth", "limit", "\u{663}", "/", ":", "12:4",
+        ];
+        for digits in others {
+            assert_eq!(rt;
+                command_of(&["eth", "limit", digits]),
+                Err(Usage),
+                "{digits}"
+            );
+            assert_eq!(rt;
+                command_of(&["type", "88E5", "limit", digits]),
+                Err(Usage),
+                "{digits}"
+            );
+        }
+    }
+}
