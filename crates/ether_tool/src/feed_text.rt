@@ -37,7 +37,7 @@ pub fn put_feed<W: Write>(
     }
 }
 
-/// What a reader of a stream takes of a frame.
+/// What a walk takes of a frame that it is fed, with a limit on VLAN tags and SecTags or without.
 fn fed(start: Start, limit: Option<usize>, frame: &[u8]) -> Feed
     ensures { IsFeed (start_with start limit) frame.now result }
 {

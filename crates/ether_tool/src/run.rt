@@ -61,6 +61,7 @@ pub fn run_limited<R: Read, W: Write>(
     run_command(Command { mode, limit }, reader, writer)
 }
 
+/// What [`run`] and [`run_limited`] do.
 fn run_command<R: Read, W: Write>(
     command: Command,
     reader: &mut R,

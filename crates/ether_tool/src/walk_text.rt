@@ -71,7 +71,7 @@ fn put_walk<W: Write>(
     }
 }
 
-/// The walker over a frame.
+/// The walk of a frame, with a limit on VLAN tags and SecTags or without.
 fn walker(start: Start, limit: Option<usize>, frame: &[u8]) -> Peel<'_>
     ensures going { result.over ≡ false }
     ensures walk { (headers : List Header) × (ending : Ending) × Walk (start_with start limit) frame.now headers ending
