@@ -123,7 +123,7 @@ impl<'a> PartialEq for Ethernet2HeaderSlice<'a> {
     ghost laws = { Prim.search (comparing, rules) };
 
     fn eq(&self, other: &Ethernet2HeaderSlice<'a>) -> bool {
-        self.slice == other.slice
+        ethernet2_fields::are_same(self.slice, other.slice)
     }
 }
 

@@ -127,7 +127,7 @@ impl<'a> PartialEq for SingleVlanHeaderSlice<'a> {
     ghost laws = { Prim.search (comparing, rules) };
 
     fn eq(&self, other: &SingleVlanHeaderSlice<'a>) -> bool {
-        self.slice == other.slice
+        vlan_fields::tag(self.slice) == vlan_fields::tag(other.slice)
     }
 }
 

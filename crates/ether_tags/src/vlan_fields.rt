@@ -56,6 +56,14 @@ pub fn header(bytes: &[u8]) -> SingleVlanHeader
     }
 }
 
+/// The bytes of a tag as an array, which is compared in one piece.
+pub fn tag(bytes: &[u8]) -> [u8; 4]
+    requires { length bytes.now ≡ 4 }
+    ensures { result ≡ bytes.now }
+{
+    [bytes[0], bytes[1], bytes[2], bytes[3]]
+}
+
 /// The error of `len` bytes, which are fewer than the 4 of a tag.
 pub fn too_short(len: usize) -> LenError
     ensures { result ≡ record { required_len = 4; len = len; len_source = LenSource.Slice; layer = Layer.VlanHeader; layer_start_offset = 0 } }
