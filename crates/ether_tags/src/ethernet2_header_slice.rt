@@ -74,7 +74,8 @@ impl<'a> Ethernet2HeaderSlice<'a> {
         ensures bytes { result.now ≡ self.now }
         ensures len { length result.now ≡ 14 }
     {
-        self.slice
+        // Its length is then a constant for the compiler.
+        &self.slice[..Ethernet2Header::LEN]
     }
 
     /// The destination MAC address.

@@ -72,7 +72,8 @@ impl<'a> SingleVlanHeaderSlice<'a> {
         ensures bytes { result.now ≡ self.now }
         ensures len { length result.now ≡ 4 }
     {
-        self.slice
+        // Its length is then a constant for the compiler.
+        &self.slice[..SingleVlanHeader::LEN]
     }
 
     /// The priority code point (PCP).
