@@ -1,3 +1,4 @@
 pub mod MacsecFields
 pub mod SameValues
 pub mod SameHeaders
+mod SameParts

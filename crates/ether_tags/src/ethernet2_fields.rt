@@ -1,6 +1,7 @@
 //! The fields of an Ethernet II header in bytes that begin with one (IEEE 802.3, 3.1.1): destination address, source
 //! address and type, in this order.
-ghost use Rattle.std.specs.Prelude.{◌≡◌, ◌+◌, ◌≤◌, ◌<◌, length, slice_range};
+ghost use Rattle.std.specs.Prelude.{◌≡◌, ◌==◌, ◌+◌, ◌≤◌, ◌<◌, length, slice_range};
+ghost use Rattle.std.specs.Cmp.Lexicographic.{pointwise};
 ghost use Rattle.ether_base.specs.Bytes.{IsBytes, spelled};
 ghost use Rattle.ether_base.specs.Ethernet2.{ethernet2_of};
 ghost use Rattle.ether_tags.specs.Ethernet2.{ethernet2_header_of, ethernet2_view};
@@ -49,6 +50,18 @@ pub fn header(bytes: &[u8]) -> Ethernet2Header
         destination: address_at(bytes, 0),
         ether_type: ether_type(bytes),
     }
+}
+
+/// Whether two headers have the same bytes. Arrays of 8, 4 and 2 bytes are compared in one piece each, and a slice by a call.
+pub fn are_same(a: &[u8], b: &[u8]) -> bool
+    requires first { length a.now ≡ 14 }
+    requires second { length b.now ≡ 14 }
+    ensures { result ≡ pointwise ◌==◌ a.now b.now }
+{
+    [a[0], a[1], a[2], a[3], a[4], a[5], a[6], a[7]]
+        == [b[0], b[1], b[2], b[3], b[4], b[5], b[6], b[7]]
+        && [a[8], a[9], a[10], a[11]] == [b[8], b[9], b[10], b[11]]
+        && [a[12], a[13]] == [b[12], b[13]]
 }
 
 /// The error of `len` bytes where a frame takes `required_len`.

@@ -74,7 +74,8 @@ impl<'a> Ethernet2HeaderSlice<'a> {
         ensures bytes { result.now ≡ self.now }
         ensures len { length result.now ≡ 14 }
     {
-        self.slice
+        // Its length is then a constant for the compiler.
+        &self.slice[..Ethernet2Header::LEN]
     }
 
     /// The destination MAC address.
@@ -123,7 +124,7 @@ impl<'a> PartialEq for Ethernet2HeaderSlice<'a> {
     ghost laws = { Prim.search (comparing, rules) };
 
     fn eq(&self, other: &Ethernet2HeaderSlice<'a>) -> bool {
-        self.slice == other.slice
+        ethernet2_fields::are_same(self.slice, other.slice)
     }
 }
 

@@ -1,5 +1,5 @@
 //! A view of a MACsec SecTag and its payload.
-ghost use Rattle.std.specs.Prelude.{◌≡◌, ◌≤◌, ◌<◌, IfOk, IfErr, IfSome, slice_range};
+ghost use Rattle.std.specs.Prelude.{◌≡◌, ◌≤◌, ◌<◌, IfOk, IfErr, slice_range};
 ghost use Rattle.std.specs.Option.{option_map};
 ghost use Rattle.ether_base.specs.declared.header_slice_error.HeaderSliceError.TheVariants.{Len};
 ghost use Rattle.ether_base.specs.declared.len_source.LenSource.TheVariants as sources;
@@ -10,7 +10,7 @@ ghost use Rattle.ether_base.specs.Kind as kinds;
 ghost use Rattle.ether_base.specs.Refusal.{Accepts};
 ghost use Rattle.ether_tags.specs.Macsec.{HoldsPayload, HoldsTyped, IsRefusedPacket, payload_end, payload_source, readable_payload, readable_type, tag_bytes};
 
-use crate::{EtherPayloadSlice, MacsecHeaderSlice, MacsecPayloadSlice};
+use crate::{EtherPayloadSlice, MacsecHeaderSlice, MacsecPayloadSlice, macsec_fields};
 use ether_base::err::macsec::HeaderSliceError;
 use ether_base::err::{Layer, LenError};
 use ether_base::{EtherType, LenSource};
@@ -58,11 +58,10 @@ impl<'a> MacsecSlice<'a> {
     {
         let header = MacsecHeaderSlice::from_slice(slice)?;
         let start = header.header_len();
-        let known = header.expected_payload_len();
-        let end = end_within(known, start, slice.len())?;
+        let end = end_within(&header, slice.len())?;
         let payload = payload_of(
             header.next_ether_type(),
-            source_of(known),
+            source_of(&header),
             &slice[start..end],
         );
         Ok(MacsecSlice { header, payload })
@@ -99,37 +98,32 @@ fn cut_short(required_len: usize, len: usize) -> HeaderSliceError
     })
 }
 
-/// Where the payload behind a tag of `start` bytes ends: after its length if that is known, otherwise with the slice. An
-/// error if the slice ends before.
-fn end_within(
-    known: Option<usize>,
-    start: usize,
-    slice_len: usize,
-) -> Result<usize, HeaderSliceError>
-    requires start { start ≤ 16 }
-    requires known { IfSome known (λ len. len ≤ 63) }
-    ensures end { IfOk result (λ end. end ≡ payload_end known start slice_len) }
+/// Where the payload after a tag ends: after the length that the tag gives, otherwise with the slice. An error if the slice
+/// ends before. The short length counts the ether type, so the end needs neither E nor C.
+fn end_within(header: &MacsecHeaderSlice<'_>, slice_len: usize) -> Result<usize, HeaderSliceError>
+    ensures end { IfOk result (λ end. end ≡ payload_end (known_payload_len (sec_tag_front_in (tag_bytes header.now))) (sec_tag_len (sec_tag_front_in (tag_bytes header.now))) slice_len) }
     ensures within { IfOk result (λ end. end ≤ slice_len) }
-    ensures refused { IfErr result (λ e. e ≡ Len (record { required_len = payload_end known start slice_len; len = slice_len; len_source = LenSource.MacsecShortLength; layer = Layer.MacsecPacket; layer_start_offset = 0 })) }
-    ensures cut { IfErr result (λ _. slice_len < payload_end known start slice_len) }
+    ensures refused { IfErr result (λ e. e ≡ Len (record { required_len = payload_end (known_payload_len (sec_tag_front_in (tag_bytes header.now))) (sec_tag_len (sec_tag_front_in (tag_bytes header.now))) slice_len; len = slice_len; len_source = LenSource.MacsecShortLength; layer = Layer.MacsecPacket; layer_start_offset = 0 })) }
+    ensures cut { IfErr result (λ _. slice_len < payload_end (known_payload_len (sec_tag_front_in (tag_bytes header.now))) (sec_tag_len (sec_tag_front_in (tag_bytes header.now))) slice_len) }
 {
-    let Some(len) = known else {
+    let named = usize::from(header.short_len().value());
+    if named == 0 {
         return Ok(slice_len);
-    };
-    let end = start + len;
+    }
+    let end = macsec_fields::tag_len(header.sci_present(), false) + named;
     if slice_len < end {
         return Err(cut_short(end, slice_len));
     }
     Ok(end)
 }
 
-/// What named the length of a payload.
-fn source_of(known: Option<usize>) -> LenSource
-    ensures { result ≡ payload_source known }
+/// What gives the length of the payload after a tag.
+fn source_of(header: &MacsecHeaderSlice<'_>) -> LenSource
+    ensures { result ≡ payload_source (known_payload_len (sec_tag_front_in (tag_bytes header.now))) }
 {
-    match known {
-        Some(_) => LenSource::MacsecShortLength,
-        None => LenSource::Slice,
+    match header.short_len().value() {
+        0 => LenSource::Slice,
+        _ => LenSource::MacsecShortLength,
     }
 }
 

@@ -11,6 +11,7 @@ ghost use Rattle.ether_tags.specs.Vlan.{vlan_view};
 
 use crate::SingleVlanHeaderSlice;
 use crate::vlan_fields::{self, tag_control_of};
+use ether_base::big_endian::bytes_of_u32;
 use ether_base::err::LenError;
 use ether_base::{EtherType, VlanId, VlanPcp};
 
@@ -114,9 +115,7 @@ impl SingleVlanHeader {
         ensures same { (h : SingleVlanHeader) → IsVlan result (vlan_view h) → h ≡ self.now }
     {
         let control = tag_control_of(self.pcp, self.drop_eligible_indicator, self.vlan_id);
-        let c = control.to_be_bytes();
-        let t = self.ether_type.0.to_be_bytes();
-        [c[0], c[1], t[0], t[1]]
+        bytes_of_u32(vlan_fields::joined(control, self.ether_type.0))
     }
 }
 

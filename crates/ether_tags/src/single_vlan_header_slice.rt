@@ -72,7 +72,8 @@ impl<'a> SingleVlanHeaderSlice<'a> {
         ensures bytes { result.now ≡ self.now }
         ensures len { length result.now ≡ 4 }
     {
-        self.slice
+        // Its length is then a constant for the compiler.
+        &self.slice[..SingleVlanHeader::LEN]
     }
 
     /// The priority code point (PCP).
@@ -127,7 +128,7 @@ impl<'a> PartialEq for SingleVlanHeaderSlice<'a> {
     ghost laws = { Prim.search (comparing, rules) };
 
     fn eq(&self, other: &SingleVlanHeaderSlice<'a>) -> bool {
-        self.slice == other.slice
+        vlan_fields::tag(self.slice) == vlan_fields::tag(other.slice)
     }
 }
 

@@ -15,7 +15,7 @@ pub fn priority_code_point(bytes: &[u8]) -> VlanPcp
     requires { 4 ≤ length bytes.now }
     ensures { result ≡ (vlan_of bytes.now).pcp }
 {
-    VlanPcp::try_new((tag_control(bytes) >> 13) as u8).unwrap()
+    pcp_of(tag_control(bytes))
 }
 
 /// The drop eligible indicator.
@@ -23,7 +23,7 @@ pub fn drop_eligible_indicator(bytes: &[u8]) -> bool
     requires { 4 ≤ length bytes.now }
     ensures { bit result ≡ (vlan_of bytes.now).dei }
 {
-    tag_control(bytes) >> 12 & 1 == 1
+    dei_of(tag_control(bytes))
 }
 
 /// The VLAN identifier.
@@ -31,7 +31,7 @@ pub fn vlan_identifier(bytes: &[u8]) -> VlanId
     requires { 4 ≤ length bytes.now }
     ensures { result ≡ (vlan_of bytes.now).vid }
 {
-    VlanId::try_new(tag_control(bytes) & 0x0fff).unwrap()
+    vid_of(tag_control(bytes))
 }
 
 /// The ether type of what follows the tag.
@@ -42,18 +42,27 @@ pub fn ether_type(bytes: &[u8]) -> EtherType
     EtherType(u16_of([bytes[2], bytes[3]]))
 }
 
-/// All fields.
+/// All fields. The tag control information is read once: read three times, it is taken apart byte by byte.
 pub fn header(bytes: &[u8]) -> SingleVlanHeader
     requires { 4 ≤ length bytes.now }
     ensures value { vlan_view result ≡ vlan_of bytes.now }
     ensures bytes { IsBytes bytes.now }
 {
+    let control = tag_control(bytes);
     SingleVlanHeader {
-        pcp: priority_code_point(bytes),
-        drop_eligible_indicator: drop_eligible_indicator(bytes),
-        vlan_id: vlan_identifier(bytes),
+        pcp: pcp_of(control),
+        drop_eligible_indicator: dei_of(control),
+        vlan_id: vid_of(control),
         ether_type: ether_type(bytes),
     }
+}
+
+/// The bytes of a tag as an array, which is compared in one piece.
+pub fn tag(bytes: &[u8]) -> [u8; 4]
+    requires { length bytes.now ≡ 4 }
+    ensures { result ≡ bytes.now }
+{
+    [bytes[0], bytes[1], bytes[2], bytes[3]]
 }
 
 /// The error of `len` bytes, which are fewer than the 4 of a tag.
@@ -76,6 +85,34 @@ pub fn tag_control_of(pcp: VlanPcp, drop_eligible: bool, vlan_id: VlanId) -> u16
     ensures vid { vlan_id < 4096 }
 {
     u16::from(pcp.value()) << 13 | (u16::from(drop_eligible) << 12 | vlan_id.value())
+}
+
+/// The tag control information and an ether type as one number.
+pub fn joined(control: u16, ether_type: u16) -> u32
+    ensures { result ≡ control * 2 ^ 16 + ether_type }
+{
+    u32::from(control) << 16 | u32::from(ether_type)
+}
+
+/// The priority code point in a tag control information.
+fn pcp_of(control: u16) -> VlanPcp
+    ensures { result ≡ control / 2 ^ 13 }
+{
+    VlanPcp::try_new((control >> 13) as u8).unwrap()
+}
+
+/// The drop eligible indicator in a tag control information.
+fn dei_of(control: u16) -> bool
+    ensures { bit result ≡ control / 2 ^ 12 % 2 }
+{
+    control >> 12 & 1 == 1
+}
+
+/// The VLAN identifier in a tag control information.
+fn vid_of(control: u16) -> VlanId
+    ensures { result ≡ control % 2 ^ 12 }
+{
+    VlanId::try_new(control & 0x0fff).unwrap()
 }
 
 /// The tag control information as one number.
