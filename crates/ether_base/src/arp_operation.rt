@@ -19,20 +19,17 @@ impl ArpOperation {
 #[cfg(test)]
 mod tests {
     use super::*;
+    use crate::test_asserts::{assert_debug, check_eq};
     use std::test::Fail;
 
     #[test]
     fn the_example(rt: HostRuntime) {
-        assert_eq!(rt; ArpOperation(1), ArpOperation::REQUEST);
-        assert_eq!(rt; ArpOperation(2), ArpOperation::REPLY);
+        check_eq!(rt; ArpOperation(1), ArpOperation::REQUEST);
+        check_eq!(rt; ArpOperation(2), ArpOperation::REPLY);
     }
 
     #[test]
     fn shown_in_debug(rt: HostRuntime) -> Result<(), Fail> {
-        assert_eq!(rt;
-            format!(in rt.alloc(); "{:?}", ArpOperation::REPLY)?.as_str(),
-            "ArpOperation(2)"
-        );
-        Ok(())
+        assert_debug(&rt, &ArpOperation::REPLY, "ArpOperation(2)")
     }
 }

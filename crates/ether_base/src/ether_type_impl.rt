@@ -98,90 +98,90 @@ impl fmt::Debug for EtherType {
 #[cfg(test)]
 mod tests {
     use super::*;
+    use crate::test_asserts::{assert_debug, check_eq};
     use std::test::Fail;
 
     #[test]
     fn the_example(rt: HostRuntime) {
-        assert_eq!(rt; EtherType::from(0x0806), EtherType::ARP);
-        assert_eq!(rt;
+        check_eq!(rt; EtherType::from(0x0806), EtherType::ARP);
+        check_eq!(rt;
             EtherType::ARP.name(),
             Some("Address Resolution Protocol (ARP)")
         );
-        assert_eq!(rt; EtherType(1500).name(), None);
+        check_eq!(rt; EtherType(1500).name(), None);
     }
+
+    /// Number, associated constant, constant of [`ether_type`], and description.
+    static ROWS: [(u16, EtherType, EtherType, &str); 8] = [
+        (
+            0x0800,
+            EtherType::IPV4,
+            ether_type::IPV4,
+            "Internet Protocol version 4 (IPv4)",
+        ),
+        (
+            0x86DD,
+            EtherType::IPV6,
+            ether_type::IPV6,
+            "Internet Protocol Version 6 (IPV6)",
+        ),
+        (
+            0x0806,
+            EtherType::ARP,
+            ether_type::ARP,
+            "Address Resolution Protocol (ARP)",
+        ),
+        (
+            0x0842,
+            EtherType::WAKE_ON_LAN,
+            ether_type::WAKE_ON_LAN,
+            "Wake on LAN",
+        ),
+        (
+            0x8100,
+            EtherType::VLAN_TAGGED_FRAME,
+            ether_type::VLAN_TAGGED_FRAME,
+            "Customer VLAN Tag (C-TAG) as defined in IEEE Std 802.1Q",
+        ),
+        (
+            0x88A8,
+            EtherType::PROVIDER_BRIDGING,
+            ether_type::PROVIDER_BRIDGING,
+            "IEEE Std 802.1Q - Service VLAN tag identifier (S-Tag)",
+        ),
+        (
+            0x88E5,
+            EtherType::MACSEC,
+            ether_type::MACSEC,
+            "IEEE Std 802.1AE - Media Access Control Security",
+        ),
+        (
+            0x9100,
+            EtherType::VLAN_DOUBLE_TAGGED_FRAME,
+            ether_type::VLAN_DOUBLE_TAGGED_FRAME,
+            "VLAN Double Tagged Frame",
+        ),
+    ];
 
     #[test]
     fn every_ether_type_with_a_name(rt: HostRuntime) -> Result<(), Fail> {
         let alloc = rt.alloc();
-        let rows = [
-            (
-                0x0800,
-                EtherType::IPV4,
-                ether_type::IPV4,
-                "Internet Protocol version 4 (IPv4)",
-            ),
-            (
-                0x86DD,
-                EtherType::IPV6,
-                ether_type::IPV6,
-                "Internet Protocol Version 6 (IPV6)",
-            ),
-            (
-                0x0806,
-                EtherType::ARP,
-                ether_type::ARP,
-                "Address Resolution Protocol (ARP)",
-            ),
-            (
-                0x0842,
-                EtherType::WAKE_ON_LAN,
-                ether_type::WAKE_ON_LAN,
-                "Wake on LAN",
-            ),
-            (
-                0x8100,
-                EtherType::VLAN_TAGGED_FRAME,
-                ether_type::VLAN_TAGGED_FRAME,
-                "Customer VLAN Tag (C-TAG) as defined in IEEE Std 802.1Q",
-            ),
-            (
-                0x88A8,
-                EtherType::PROVIDER_BRIDGING,
-                ether_type::PROVIDER_BRIDGING,
-                "IEEE Std 802.1Q - Service VLAN tag identifier (S-Tag)",
-            ),
-            (
-                0x88E5,
-                EtherType::MACSEC,
-                ether_type::MACSEC,
-                "IEEE Std 802.1AE - Media Access Control Security",
-            ),
-            (
-                0x9100,
-                EtherType::VLAN_DOUBLE_TAGGED_FRAME,
-                ether_type::VLAN_DOUBLE_TAGGED_FRAME,
-                "VLAN Double Tagged Frame",
-            ),
-        ];
-        for (number, constant, by_name, description) in rows {
-            assert_eq!(rt; EtherType::from(number), constant, "{number}");
-            assert_eq!(rt; u16::from(by_name), number, "{number}");
-            assert_eq!(rt; constant.name(), Some(description), "{number}");
-            assert_eq!(rt;
-                format!(in alloc; "{constant:?}")?.as_str(),
-                format!(in alloc; "0x{number:04X} ({description})")?.as_str()
-            );
+        for &(number, constant, by_name, description) in &ROWS {
+            check_eq!(rt; EtherType::from(number), constant);
+            check_eq!(rt; u16::from(by_name), number);
+            check_eq!(rt; constant.name(), Some(description));
+            assert_debug(
+                &rt,
+                &constant,
+                format!(in alloc; "0x{number:04X} ({description})")?.as_str(),
+            )?;
         }
         Ok(())
     }
 
     #[test]
     fn a_number_without_a_name(rt: HostRuntime) -> Result<(), Fail> {
-        assert_eq!(rt; EtherType(0x1234).name(), None);
-        assert_eq!(rt;
-            format!(in rt.alloc(); "{:?}", EtherType(0x01AB))?.as_str(),
-            "0x01AB"
-        );
-        Ok(())
+        check_eq!(rt; EtherType(0x1234).name(), None);
+        assert_debug(&rt, &EtherType(0x01AB), "0x01AB")
     }
 }

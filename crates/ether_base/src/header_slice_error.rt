@@ -49,6 +49,7 @@ impl<E: Error + Drop> Error for HeaderSliceError<E> {}
 mod tests {
     use crate::LenSource;
     use crate::err::{Layer, LenError, linux_sll, macsec};
+    use crate::test_asserts::{assert_debug, assert_display};
     use std::test::Fail;
 
     #[test]
@@ -60,11 +61,11 @@ mod tests {
             layer: Layer::LinuxSllHeader,
             layer_start_offset: 6,
         });
-        assert_eq!(rt;
-            format!(in rt.alloc(); "{}", short.add_slice_offset(14))?.as_str(),
-            "Linux Cooked Capture v1 Error: Not enough data to decode 'Linux Cooked Capture v1 header'. 16 byte(s) would be required, but only 3 byte(s) are available based on the slice length ('Linux Cooked Capture v1 header' starts at overall parsed byte 20)."
-        );
-        Ok(())
+        assert_display(
+            &rt,
+            &short.add_slice_offset(14),
+            "Linux Cooked Capture v1 Error: Not enough data to decode 'Linux Cooked Capture v1 header'. 16 byte(s) would be required, but only 3 byte(s) are available based on the slice length ('Linux Cooked Capture v1 header' starts at overall parsed byte 20).",
+        )
     }
 
     #[test]
@@ -72,11 +73,11 @@ mod tests {
         let content = linux_sll::HeaderSliceError::Content(
             linux_sll::HeaderError::UnsupportedPacketTypeField { packet_type: 8 },
         );
-        assert_eq!(rt;
-            format!(in rt.alloc(); "{}", content.add_slice_offset(usize::MAX))?.as_str(),
-            "Linux cooked capture v1 (SLL) Header Error: Encountered '8' as the packet type, but its not supported."
-        );
-        Ok(())
+        assert_display(
+            &rt,
+            &content.add_slice_offset(usize::MAX),
+            "Linux cooked capture v1 (SLL) Header Error: Encountered '8' as the packet type, but its not supported.",
+        )
     }
 
     #[test]
@@ -88,21 +89,21 @@ mod tests {
             layer: Layer::MacsecHeader,
             layer_start_offset: 6,
         });
-        assert_eq!(rt;
-            format!(in rt.alloc(); "{}", short.add_slice_offset(14))?.as_str(),
-            "MACsec Header Error: Not enough data to decode 'MACsec header'. 6 byte(s) would be required, but only 3 byte(s) are available based on the slice length ('MACsec header' starts at overall parsed byte 20)."
-        );
-        Ok(())
+        assert_display(
+            &rt,
+            &short.add_slice_offset(14),
+            "MACsec Header Error: Not enough data to decode 'MACsec header'. 6 byte(s) would be required, but only 3 byte(s) are available based on the slice length ('MACsec header' starts at overall parsed byte 20).",
+        )
     }
 
     #[test]
     fn contents_of_a_sec_tag_stay(rt: HostRuntime) -> Result<(), Fail> {
         let content = macsec::HeaderSliceError::Content(macsec::HeaderError::UnexpectedVersion);
-        assert_eq!(rt;
-            format!(in rt.alloc(); "{}", content.add_slice_offset(usize::MAX))?.as_str(),
-            "MACsec Header Error: Encountered '1' as MACsec version in the MACsec SecTag header (must be '0')."
-        );
-        Ok(())
+        assert_display(
+            &rt,
+            &content.add_slice_offset(usize::MAX),
+            "MACsec Header Error: Encountered '1' as MACsec version in the MACsec SecTag header (must be '0').",
+        )
     }
 
     #[test]
@@ -111,14 +112,11 @@ mod tests {
         let of_cooked_capture = linux_sll::HeaderSliceError::Content(
             linux_sll::HeaderError::UnsupportedPacketTypeField { packet_type: 8 },
         );
-        assert_eq!(rt;
-            format!(in rt.alloc(); "{of_macsec:?}")?.as_str(),
-            "Content(UnexpectedVersion)"
-        );
-        assert_eq!(rt;
-            format!(in rt.alloc(); "{of_cooked_capture:?}")?.as_str(),
-            "Content(UnsupportedPacketTypeField { packet_type: 8 })"
-        );
-        Ok(())
+        assert_debug(&rt, &of_macsec, "Content(UnexpectedVersion)")?;
+        assert_debug(
+            &rt,
+            &of_cooked_capture,
+            "Content(UnsupportedPacketTypeField { packet_type: 8 })",
+        )
     }
 }

@@ -51,45 +51,48 @@ impl LenSource {
 #[cfg(test)]
 mod tests {
     use super::*;
+    use crate::test_asserts::{assert_less, check_eq};
 
     #[test]
     fn the_example(rt: HostRuntime) {
         assert!(rt; LenSource::Slice < LenSource::MacsecShortLength);
     }
 
+    /// Source and name.
+    static ROWS: [(LenSource, &str); 7] = [
+        (LenSource::Slice, "slice length"),
+        (
+            LenSource::MacsecShortLength,
+            "length calculated from the MACsec header 'short length' field",
+        ),
+        (
+            LenSource::Ipv4HeaderTotalLen,
+            "length calculated from the IPv4 header 'total length' field",
+        ),
+        (
+            LenSource::Ipv6HeaderPayloadLen,
+            "length calculated from the IPv6 header 'payload length' field",
+        ),
+        (
+            LenSource::UdpHeaderLen,
+            "length calculated from the UDP header 'length' field",
+        ),
+        (
+            LenSource::TcpHeaderLen,
+            "length calculated from the TCP header 'length' field",
+        ),
+        (
+            LenSource::ArpAddrLengths,
+            "length calculated from the ARP 'hw_addr_size' & 'proto_addr_size' fields",
+        ),
+    ];
+
     #[test]
     fn every_source_in_order(rt: HostRuntime) {
-        let rows = [
-            (LenSource::Slice, "slice length"),
-            (
-                LenSource::MacsecShortLength,
-                "length calculated from the MACsec header 'short length' field",
-            ),
-            (
-                LenSource::Ipv4HeaderTotalLen,
-                "length calculated from the IPv4 header 'total length' field",
-            ),
-            (
-                LenSource::Ipv6HeaderPayloadLen,
-                "length calculated from the IPv6 header 'payload length' field",
-            ),
-            (
-                LenSource::UdpHeaderLen,
-                "length calculated from the UDP header 'length' field",
-            ),
-            (
-                LenSource::TcpHeaderLen,
-                "length calculated from the TCP header 'length' field",
-            ),
-            (
-                LenSource::ArpAddrLengths,
-                "length calculated from the ARP 'hw_addr_size' & 'proto_addr_size' fields",
-            ),
-        ];
         let mut before = None;
-        for (source, name) in rows {
-            assert_eq!(rt; source.name(), name);
-            assert!(rt; before < Some(source), "{source:?}");
+        for &(source, name) in &ROWS {
+            check_eq!(rt; source.name(), name);
+            assert_less(&rt, &before, &Some(source));
             before = Some(source);
         }
     }

@@ -19,6 +19,8 @@ mod linux_sll_protocol_type;
 mod macsec_an;
 mod macsec_short_len;
 pub mod number_text;
+#[cfg(test)]
+mod test_asserts;
 mod vlan_id;
 mod vlan_pcp;
 pub mod write_front;

@@ -205,147 +205,69 @@ fn description_of(number: u16) -> Option<&'static str>
 #[cfg(test)]
 mod tests {
     use super::*;
+    use crate::test_asserts::{assert_debug, check_eq};
+    use std::process::Abort;
     use std::test::Fail;
 
     #[test]
     fn the_example(rt: HostRuntime) {
         let read = LinuxNonstandardEtherType::try_from(0x0C);
-        assert_eq!(rt; read, Ok(LinuxNonstandardEtherType::CAN));
-        assert_eq!(rt; LinuxNonstandardEtherType::try_from(0x0800), Err(()));
+        check_eq!(rt; read, Ok(LinuxNonstandardEtherType::CAN));
+        check_eq!(rt; LinuxNonstandardEtherType::try_from(0x0800), Err(()));
     }
 
+    /// Fails if `number` isn't read as `constant`, or `constant` isn't shown with `description`.
+    fn reads(
+        rt: &(impl Abort + AllocGlobal),
+        number: u16,
+        constant: LinuxNonstandardEtherType,
+        description: &str,
+    ) -> Result<(), Fail> {
+        check_eq!(rt; LinuxNonstandardEtherType::try_from(number), Ok(constant));
+        check_eq!(rt; u16::from(constant), number);
+        let alloc = rt.alloc();
+        let shown = format!(in alloc; "0x{number:04X} ({description})")?;
+        assert_debug(rt, &constant, shown.as_str())
+    }
+
+    #[rattlefmt::skip]
     #[test]
     fn every_nonstandard_number(rt: HostRuntime) -> Result<(), Fail> {
-        let alloc = rt.alloc();
-        let rows = [
-            (
-                0x01,
-                LinuxNonstandardEtherType::N802_3,
-                "Dummy type for 802.3 frames",
-            ),
-            (
-                0x02,
-                LinuxNonstandardEtherType::AX25,
-                "Dummy protocol id for AX.25",
-            ),
-            (0x03, LinuxNonstandardEtherType::ALL, "Every packet"),
-            (0x04, LinuxNonstandardEtherType::N802_2, "802.2 frames"),
-            (0x05, LinuxNonstandardEtherType::SNAP, "SNAP: Internal only"),
-            (
-                0x06,
-                LinuxNonstandardEtherType::DDCMP,
-                "DEC DDCMP: Internal only",
-            ),
-            (
-                0x07,
-                LinuxNonstandardEtherType::WAN_PPP,
-                "Dummy type for WAN PPP frames",
-            ),
-            (
-                0x08,
-                LinuxNonstandardEtherType::PPP_MP,
-                "Dummy type for PPP MP frames",
-            ),
-            (
-                0x09,
-                LinuxNonstandardEtherType::LOCALTALK,
-                "Localtalk pseudo type",
-            ),
-            (
-                0x0C,
-                LinuxNonstandardEtherType::CAN,
-                "CAN: Controller Area Network",
-            ),
-            (
-                0x0D,
-                LinuxNonstandardEtherType::CANFD,
-                "CANFD: CAN flexible data rate",
-            ),
-            (
-                0x0E,
-                LinuxNonstandardEtherType::CANXL,
-                "CANXL: eXtended frame Length",
-            ),
-            (
-                0x10,
-                LinuxNonstandardEtherType::PPPTALK,
-                "Dummy type for Atalk over PPP",
-            ),
-            (0x11, LinuxNonstandardEtherType::TR_802_2, "802.2 frames"),
-            (0x15, LinuxNonstandardEtherType::MOBITEX, "Mobitex"),
-            (
-                0x16,
-                LinuxNonstandardEtherType::CONTROL,
-                "Card specific control frames",
-            ),
-            (0x17, LinuxNonstandardEtherType::IRDA, "Linux-IrDA"),
-            (0x18, LinuxNonstandardEtherType::ECONET, "Acorn Econet"),
-            (0x19, LinuxNonstandardEtherType::HDLC, "HDLC frames"),
-            (0x1A, LinuxNonstandardEtherType::ARCNET, "1A for ArcNet"),
-            (
-                0x1B,
-                LinuxNonstandardEtherType::DSA,
-                "Distributed Switch Arch",
-            ),
-            (
-                0x1C,
-                LinuxNonstandardEtherType::TRAILER,
-                "Trailer switch tagging",
-            ),
-            (
-                0xF5,
-                LinuxNonstandardEtherType::PHONET,
-                "Nokia Phonet frame",
-            ),
-            (
-                0xF6,
-                LinuxNonstandardEtherType::IEEE802154,
-                "IEEE802.15.4 frame",
-            ),
-            (
-                0xF7,
-                LinuxNonstandardEtherType::CAIF,
-                "ST-Ericsson CAIF protocol",
-            ),
-            (
-                0xF8,
-                LinuxNonstandardEtherType::XDSA,
-                "Multiplexed DSA protocol",
-            ),
-            (
-                0xF9,
-                LinuxNonstandardEtherType::MAP,
-                "Qualcomm multiplexing and aggregation protocol",
-            ),
-            (
-                0xFA,
-                LinuxNonstandardEtherType::MCTP,
-                "Management component transport protocol packets",
-            ),
-        ];
-        for (number, constant, description) in rows {
-            assert_eq!(rt;
-                LinuxNonstandardEtherType::try_from(number),
-                Ok(constant),
-                "{number}"
-            );
-            assert_eq!(rt; u16::from(constant), number, "{number}");
-            assert_eq!(rt;
-                format!(in alloc; "{constant:?}")?.as_str(),
-                format!(in alloc; "0x{number:04X} ({description})")?.as_str()
-            );
-        }
+        reads(&rt, 0x01, LinuxNonstandardEtherType::N802_3, "Dummy type for 802.3 frames")?;
+        reads(&rt, 0x02, LinuxNonstandardEtherType::AX25, "Dummy protocol id for AX.25")?;
+        reads(&rt, 0x03, LinuxNonstandardEtherType::ALL, "Every packet")?;
+        reads(&rt, 0x04, LinuxNonstandardEtherType::N802_2, "802.2 frames")?;
+        reads(&rt, 0x05, LinuxNonstandardEtherType::SNAP, "SNAP: Internal only")?;
+        reads(&rt, 0x06, LinuxNonstandardEtherType::DDCMP, "DEC DDCMP: Internal only")?;
+        reads(&rt, 0x07, LinuxNonstandardEtherType::WAN_PPP, "Dummy type for WAN PPP frames")?;
+        reads(&rt, 0x08, LinuxNonstandardEtherType::PPP_MP, "Dummy type for PPP MP frames")?;
+        reads(&rt, 0x09, LinuxNonstandardEtherType::LOCALTALK, "Localtalk pseudo type")?;
+        reads(&rt, 0x0C, LinuxNonstandardEtherType::CAN, "CAN: Controller Area Network")?;
+        reads(&rt, 0x0D, LinuxNonstandardEtherType::CANFD, "CANFD: CAN flexible data rate")?;
+        reads(&rt, 0x0E, LinuxNonstandardEtherType::CANXL, "CANXL: eXtended frame Length")?;
+        reads(&rt, 0x10, LinuxNonstandardEtherType::PPPTALK, "Dummy type for Atalk over PPP")?;
+        reads(&rt, 0x11, LinuxNonstandardEtherType::TR_802_2, "802.2 frames")?;
+        reads(&rt, 0x15, LinuxNonstandardEtherType::MOBITEX, "Mobitex")?;
+        reads(&rt, 0x16, LinuxNonstandardEtherType::CONTROL, "Card specific control frames")?;
+        reads(&rt, 0x17, LinuxNonstandardEtherType::IRDA, "Linux-IrDA")?;
+        reads(&rt, 0x18, LinuxNonstandardEtherType::ECONET, "Acorn Econet")?;
+        reads(&rt, 0x19, LinuxNonstandardEtherType::HDLC, "HDLC frames")?;
+        reads(&rt, 0x1A, LinuxNonstandardEtherType::ARCNET, "1A for ArcNet")?;
+        reads(&rt, 0x1B, LinuxNonstandardEtherType::DSA, "Distributed Switch Arch")?;
+        reads(&rt, 0x1C, LinuxNonstandardEtherType::TRAILER, "Trailer switch tagging")?;
+        reads(&rt, 0xF5, LinuxNonstandardEtherType::PHONET, "Nokia Phonet frame")?;
+        reads(&rt, 0xF6, LinuxNonstandardEtherType::IEEE802154, "IEEE802.15.4 frame")?;
+        reads(&rt, 0xF7, LinuxNonstandardEtherType::CAIF, "ST-Ericsson CAIF protocol")?;
+        reads(&rt, 0xF8, LinuxNonstandardEtherType::XDSA, "Multiplexed DSA protocol")?;
+        reads(&rt, 0xF9, LinuxNonstandardEtherType::MAP, "Qualcomm multiplexing and aggregation protocol")?;
+        reads(&rt, 0xFA, LinuxNonstandardEtherType::MCTP, "Management component transport protocol packets")?;
         Ok(())
     }
 
     #[test]
     fn the_numbers_between_are_refused(rt: HostRuntime) {
         for number in [0, 0x0A, 0x0F, 0x14, 0x1D, 0xF4, 0xFB] {
-            assert_eq!(rt;
-                LinuxNonstandardEtherType::try_from(number),
-                Err(()),
-                "{number}"
-            );
+            check_eq!(rt; LinuxNonstandardEtherType::try_from(number), Err(()));
         }
     }
 }

@@ -119,46 +119,45 @@ impl fmt::Debug for LinuxSllPacketType {
 #[cfg(test)]
 mod tests {
     use super::*;
+    use crate::test_asserts::{assert_debug, check_eq};
     use std::test::Fail;
 
     #[test]
     fn the_example(rt: HostRuntime) {
         let read = LinuxSllPacketType::try_from(4);
-        assert_eq!(rt; read, Ok(LinuxSllPacketType::OUTGOING));
+        check_eq!(rt; read, Ok(LinuxSllPacketType::OUTGOING));
         assert!(rt; LinuxSllPacketType::try_from(8).is_err());
     }
 
+    /// Number, constant, and what `Debug` shows.
+    const ROWS: [(u16, LinuxSllPacketType, &str); 8] = [
+        (0, LinuxSllPacketType::HOST, "0 (Sent to us)"),
+        (1, LinuxSllPacketType::BROADCAST, "1 (Sent to all)"),
+        (2, LinuxSllPacketType::MULTICAST, "2 (Sent to group)"),
+        (3, LinuxSllPacketType::OTHERHOST, "3 (Sent to someone else)"),
+        (4, LinuxSllPacketType::OUTGOING, "4 (Sent by us)"),
+        (
+            5,
+            LinuxSllPacketType::LOOPBACK,
+            "5 (MC/BRD frame looped back)",
+        ),
+        (6, LinuxSllPacketType::USER, "6 (Sent to user space)"),
+        (7, LinuxSllPacketType::KERNEL, "7 (Sent to kernel space)"),
+    ];
+
     #[test]
     fn every_packet_type(rt: HostRuntime) -> Result<(), Fail> {
-        let rows = [
-            (0, LinuxSllPacketType::HOST, "0 (Sent to us)"),
-            (1, LinuxSllPacketType::BROADCAST, "1 (Sent to all)"),
-            (2, LinuxSllPacketType::MULTICAST, "2 (Sent to group)"),
-            (3, LinuxSllPacketType::OTHERHOST, "3 (Sent to someone else)"),
-            (4, LinuxSllPacketType::OUTGOING, "4 (Sent by us)"),
-            (
-                5,
-                LinuxSllPacketType::LOOPBACK,
-                "5 (MC/BRD frame looped back)",
-            ),
-            (6, LinuxSllPacketType::USER, "6 (Sent to user space)"),
-            (7, LinuxSllPacketType::KERNEL, "7 (Sent to kernel space)"),
-        ];
-        for (number, constant, shown) in rows {
-            assert_eq!(rt;
-                LinuxSllPacketType::try_from(number),
-                Ok(constant),
-                "{number}"
-            );
-            assert_eq!(rt; u16::from(constant), number, "{number}");
-            assert_eq!(rt; format!(in rt.alloc(); "{constant:?}")?.as_str(), shown);
+        for (number, constant, shown) in ROWS {
+            check_eq!(rt; LinuxSllPacketType::try_from(number), Ok(constant));
+            check_eq!(rt; u16::from(constant), number);
+            assert_debug(&rt, &constant, shown)?;
         }
         Ok(())
     }
 
     #[test]
     fn refused_above_7(rt: HostRuntime) {
-        assert_eq!(rt;
+        check_eq!(rt;
             LinuxSllPacketType::try_from(8),
             Err(HeaderError::UnsupportedPacketTypeField { packet_type: 8 })
         );

@@ -113,13 +113,14 @@ fn on_ethernet(number: u16) -> LinuxSllProtocolType
 #[cfg(test)]
 mod tests {
     use super::*;
+    use crate::test_asserts::check_eq;
     use std::process::Abort;
     use std::test::Fail;
 
     #[test]
     fn the_example(rt: HostRuntime) {
         let read = LinuxSllProtocolType::try_from((ArpHardwareId::ETHERNET, 0x0800));
-        assert_eq!(rt; read, Ok(LinuxSllProtocolType::EtherType(EtherType::IPV4)));
+        check_eq!(rt; read, Ok(LinuxSllProtocolType::EtherType(EtherType::IPV4)));
         assert!(rt; LinuxSllProtocolType::try_from((ArpHardwareId::SLIP, 0x0800)).is_err());
     }
 
@@ -133,9 +134,9 @@ mod tests {
         let written = u16::from(again);
         let supported = LinuxSllProtocolType::SUPPORTED_ARPHWD.contains(&hardware);
         let read = LinuxSllProtocolType::try_from((hardware, number));
-        assert_eq!(rt; written, number, "{number}");
-        assert!(rt; supported, "{number}");
-        assert_eq!(rt; read, Ok(protocol_type), "{number}");
+        check_eq!(rt; written, number);
+        check_eq!(rt; supported, true);
+        check_eq!(rt; read, Ok(protocol_type));
     }
 
     #[test]
@@ -180,7 +181,7 @@ mod tests {
 
     #[test]
     fn another_hardware_type_is_refused(rt: HostRuntime) {
-        assert_eq!(rt;
+        check_eq!(rt;
             LinuxSllProtocolType::try_from((ArpHardwareId(257), 0x0800)),
             Err(HeaderError::UnsupportedArpHardwareId {
                 arp_hardware_type: ArpHardwareId(257)
@@ -198,15 +199,15 @@ mod tests {
         let nonstandard = LinuxSllProtocolType::LinuxNonstandardEtherType(
             LinuxNonstandardEtherType::N802_3,
         );
-        assert_eq!(rt;
+        check_eq!(rt;
             changed(LinuxSllProtocolType::EtherType(EtherType::IPV4), 1),
             nonstandard
         );
-        assert_eq!(rt;
+        check_eq!(rt;
             changed(nonstandard, 0),
             LinuxSllProtocolType::EtherType(EtherType(0))
         );
-        assert_eq!(rt;
+        check_eq!(rt;
             changed(LinuxSllProtocolType::Ignored(5), 1),
             LinuxSllProtocolType::Ignored(1)
         );

@@ -95,20 +95,21 @@ impl fmt::Display for MacsecAn {
 #[cfg(test)]
 mod tests {
     use super::*;
+    use crate::test_asserts::{assert_debug, assert_display, check_eq};
     use std::test::Fail;
 
     #[test]
     fn the_example(rt: HostRuntime) -> Result<(), Fail> {
         let number = MacsecAn::try_new(2)?;
-        assert_eq!(rt; number.value(), 2);
+        check_eq!(rt; number.value(), 2);
         assert!(rt; MacsecAn::try_new(4).is_err());
         Ok(())
     }
 
     #[test]
     fn the_greatest_is_3(rt: HostRuntime) -> Result<(), Fail> {
-        assert_eq!(rt; MacsecAn::try_new(3)?.value(), MacsecAn::MAX_U8);
-        assert_eq!(rt; u8::from(MacsecAn::try_from(3)?), 3);
+        check_eq!(rt; MacsecAn::try_new(3)?.value(), MacsecAn::MAX_U8);
+        check_eq!(rt; u8::from(MacsecAn::try_from(3)?), 3);
         Ok(())
     }
 
@@ -119,14 +120,13 @@ mod tests {
             max_allowed: 3,
             value_type: ValueType::MacsecAn,
         };
-        assert_eq!(rt; MacsecAn::try_from(4), Err(refused));
+        check_eq!(rt; MacsecAn::try_from(4), Err(refused));
     }
 
     #[test]
     fn shown_as_its_number(rt: HostRuntime) -> Result<(), Fail> {
         let two = MacsecAn::try_new(2)?;
-        assert_eq!(rt; format!(in rt.alloc(); "{two}")?.as_str(), "2");
-        assert_eq!(rt; format!(in rt.alloc(); "{two:?}")?.as_str(), "MacsecAn(2)");
-        Ok(())
+        assert_display(&rt, &two, "2")?;
+        assert_debug(&rt, &two, "MacsecAn(2)")
     }
 }

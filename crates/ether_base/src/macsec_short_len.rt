@@ -114,23 +114,24 @@ impl fmt::Display for MacsecShortLen {
 #[cfg(test)]
 mod tests {
     use super::*;
+    use crate::test_asserts::{assert_debug, assert_display, check_eq};
     use std::test::Fail;
 
     #[test]
     fn the_example(rt: HostRuntime) -> Result<(), Fail> {
         let short_len = MacsecShortLen::try_from_u8(46)?;
-        assert_eq!(rt; short_len.value(), 46);
+        check_eq!(rt; short_len.value(), 46);
         assert!(rt; MacsecShortLen::try_from_u8(64).is_err());
         Ok(())
     }
 
     #[test]
     fn the_greatest_is_63(rt: HostRuntime) -> Result<(), Fail> {
-        assert_eq!(rt;
+        check_eq!(rt;
             MacsecShortLen::try_from_u8(63)?.value(),
             MacsecShortLen::MAX_U8
         );
-        assert_eq!(rt; u8::from(MacsecShortLen::try_from(63)?), 63);
+        check_eq!(rt; u8::from(MacsecShortLen::try_from(63)?), 63);
         Ok(())
     }
 
@@ -141,25 +142,21 @@ mod tests {
             max_allowed: 63,
             value_type: ValueType::MacsecShortLen,
         };
-        assert_eq!(rt; MacsecShortLen::try_from(64), Err(refused));
+        check_eq!(rt; MacsecShortLen::try_from(64), Err(refused));
     }
 
     #[test]
     fn shown_as_its_number(rt: HostRuntime) -> Result<(), Fail> {
         let two = MacsecShortLen::try_from_u8(2)?;
-        assert_eq!(rt; format!(in rt.alloc(); "{two}")?.as_str(), "2");
-        assert_eq!(rt;
-            format!(in rt.alloc(); "{two:?}")?.as_str(),
-            "MacsecShortLen(2)"
-        );
-        Ok(())
+        assert_display(&rt, &two, "2")?;
+        assert_debug(&rt, &two, "MacsecShortLen(2)")
     }
 
     #[test]
     fn lengths_above_63_have_no_name(rt: HostRuntime) {
         for (len, value) in [(34, 34), (63, 63), (64, 0), (65, 0)] {
-            assert_eq!(rt; MacsecShortLen::from_len(len).value(), value, "{len}");
+            check_eq!(rt; (len, MacsecShortLen::from_len(len).value()), (len, value));
         }
-        assert_eq!(rt; MacsecShortLen::MAX_USIZE, 63);
+        check_eq!(rt; MacsecShortLen::MAX_USIZE, 63);
     }
 }

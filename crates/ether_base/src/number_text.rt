@@ -65,13 +65,13 @@ impl fmt::Display for ShownArpHardwareId {
 #[cfg(test)]
 mod tests {
     use super::*;
+    use crate::test_asserts::assert_display;
     use std::test::Fail;
 
     #[test]
     fn the_example(rt: HostRuntime) -> Result<(), Fail> {
         let number = HexNumber(0x01AB);
-        assert_eq!(rt; format!(in rt.alloc(); "{number}")?.as_str(), "0x01AB");
-        Ok(())
+        assert_display(&rt, &number, "0x01AB")
     }
 
     #[test]
@@ -84,7 +84,7 @@ mod tests {
         ];
         for (number, shown) in rows {
             let hex = HexNumber(number);
-            assert_eq!(rt; format!(in rt.alloc(); "{hex}")?.as_str(), shown);
+            assert_display(&rt, &hex, shown)?;
         }
         Ok(())
     }

@@ -95,20 +95,21 @@ impl fmt::Display for VlanId {
 #[cfg(test)]
 mod tests {
     use super::*;
+    use crate::test_asserts::{assert_debug, assert_display, check_eq};
     use std::test::Fail;
 
     #[test]
     fn the_example(rt: HostRuntime) -> Result<(), Fail> {
         let vlan = VlanId::try_new(100)?;
-        assert_eq!(rt; vlan.value(), 100);
+        check_eq!(rt; vlan.value(), 100);
         assert!(rt; VlanId::try_new(4096).is_err());
         Ok(())
     }
 
     #[test]
     fn the_greatest_is_4095(rt: HostRuntime) -> Result<(), Fail> {
-        assert_eq!(rt; VlanId::try_new(4095)?.value(), VlanId::MAX_U16);
-        assert_eq!(rt; u16::from(VlanId::try_from(4095)?), 4095);
+        check_eq!(rt; VlanId::try_new(4095)?.value(), VlanId::MAX_U16);
+        check_eq!(rt; u16::from(VlanId::try_from(4095)?), 4095);
         Ok(())
     }
 
@@ -119,14 +120,13 @@ mod tests {
             max_allowed: 4095,
             value_type: ValueType::VlanId,
         };
-        assert_eq!(rt; VlanId::try_from(4096), Err(refused));
+        check_eq!(rt; VlanId::try_from(4096), Err(refused));
     }
 
     #[test]
     fn shown_as_its_number(rt: HostRuntime) -> Result<(), Fail> {
         let two = VlanId::try_new(2)?;
-        assert_eq!(rt; format!(in rt.alloc(); "{two}")?.as_str(), "2");
-        assert_eq!(rt; format!(in rt.alloc(); "{two:?}")?.as_str(), "VlanId(2)");
-        Ok(())
+        assert_display(&rt, &two, "2")?;
+        assert_debug(&rt, &two, "VlanId(2)")
     }
 }

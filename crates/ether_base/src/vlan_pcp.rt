@@ -95,20 +95,21 @@ impl fmt::Display for VlanPcp {
 #[cfg(test)]
 mod tests {
     use super::*;
+    use crate::test_asserts::{assert_debug, assert_display, check_eq};
     use std::test::Fail;
 
     #[test]
     fn the_example(rt: HostRuntime) -> Result<(), Fail> {
         let priority = VlanPcp::try_new(5)?;
-        assert_eq!(rt; priority.value(), 5);
+        check_eq!(rt; priority.value(), 5);
         assert!(rt; VlanPcp::try_new(8).is_err());
         Ok(())
     }
 
     #[test]
     fn the_greatest_is_7(rt: HostRuntime) -> Result<(), Fail> {
-        assert_eq!(rt; VlanPcp::try_new(7)?.value(), VlanPcp::MAX_U8);
-        assert_eq!(rt; u8::from(VlanPcp::try_from(7)?), 7);
+        check_eq!(rt; VlanPcp::try_new(7)?.value(), VlanPcp::MAX_U8);
+        check_eq!(rt; u8::from(VlanPcp::try_from(7)?), 7);
         Ok(())
     }
 
@@ -119,14 +120,13 @@ mod tests {
             max_allowed: 7,
             value_type: ValueType::VlanPcp,
         };
-        assert_eq!(rt; VlanPcp::try_from(8), Err(refused));
+        check_eq!(rt; VlanPcp::try_from(8), Err(refused));
     }
 
     #[test]
     fn shown_as_its_number(rt: HostRuntime) -> Result<(), Fail> {
         let two = VlanPcp::try_new(2)?;
-        assert_eq!(rt; format!(in rt.alloc(); "{two}")?.as_str(), "2");
-        assert_eq!(rt; format!(in rt.alloc(); "{two:?}")?.as_str(), "VlanPcp(2)");
-        Ok(())
+        assert_display(&rt, &two, "2")?;
+        assert_debug(&rt, &two, "VlanPcp(2)")
     }
 }

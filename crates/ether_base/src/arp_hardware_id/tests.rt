@@ -1,5 +1,6 @@
 //! The hardware types, one by one.
 use super::*;
+use crate::test_asserts::{assert_debug, check_eq};
 use std::test::Fail;
 
 /// Number, constant and description.
@@ -134,23 +135,24 @@ static ROWS: [(u16, ArpHardwareId, &str); 90] = [
 
 #[test]
 fn the_example(rt: HostRuntime) {
-    assert_eq!(rt; ArpHardwareId::from(1), ArpHardwareId::ETHERNET);
-    assert_eq!(rt; ArpHardwareId::ETHERNET.name(), Some("Ethernet"));
-    assert_eq!(rt; ArpHardwareId(39).name(), None);
+    check_eq!(rt; ArpHardwareId::from(1), ArpHardwareId::ETHERNET);
+    check_eq!(rt; ArpHardwareId::ETHERNET.name(), Some("Ethernet"));
+    check_eq!(rt; ArpHardwareId(39).name(), None);
 }
 
 #[test]
 fn every_hardware_type_with_a_name(rt: HostRuntime) -> Result<(), Fail> {
     let alloc = rt.alloc();
     for &(number, constant, description) in &ROWS {
-        assert_eq!(rt; ArpHardwareId::from(number), constant, "{number}");
-        assert_eq!(rt; u16::from(constant), number, "{number}");
-        assert_eq!(rt; constant.name(), Some(description), "{number}");
+        check_eq!(rt; ArpHardwareId::from(number), constant);
+        check_eq!(rt; u16::from(constant), number);
+        check_eq!(rt; constant.name(), Some(description));
         if number < 0xFFFE {
-            assert_eq!(rt;
-                format!(in alloc; "{constant:?}")?.as_str(),
-                format!(in alloc; "{number} ({description})")?.as_str()
-            );
+            assert_debug(
+                &rt,
+                &constant,
+                format!(in alloc; "{number} ({description})")?.as_str(),
+            )?;
         }
     }
     Ok(())
@@ -158,9 +160,9 @@ fn every_hardware_type_with_a_name(rt: HostRuntime) -> Result<(), Fail> {
 
 #[test]
 fn second_names(rt: HostRuntime) {
-    assert_eq!(rt; ArpHardwareId::ETHER, ArpHardwareId(1));
-    assert_eq!(rt; ArpHardwareId::APPLETLK, ArpHardwareId(8));
-    assert_eq!(rt; ArpHardwareId::FRAME_RELAY, ArpHardwareId(15));
+    check_eq!(rt; ArpHardwareId::ETHER, ArpHardwareId(1));
+    check_eq!(rt; ArpHardwareId::APPLETLK, ArpHardwareId(8));
+    check_eq!(rt; ArpHardwareId::FRAME_RELAY, ArpHardwareId(15));
 }
 
 #[test]
@@ -174,7 +176,7 @@ fn hexadecimal_digits_of_the_last_two_and_of_those_without_a_name(
         (ArpHardwareId(0xFFFD), "0xFFFD"),
     ];
     for (id, shown) in rows {
-        assert_eq!(rt; format!(in rt.alloc(); "{id:?}")?.as_str(), shown);
+        assert_debug(&rt, &id, shown)?;
     }
     Ok(())
 }

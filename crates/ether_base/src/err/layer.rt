@@ -138,96 +138,99 @@ impl fmt::Display for Layer {
 #[cfg(test)]
 mod tests {
     use super::*;
+    use crate::test_asserts::{assert_display, assert_less, check_eq};
     use std::test::Fail;
 
     #[test]
     fn the_example(rt: HostRuntime) {
-        assert_eq!(rt; Layer::VlanHeader.error_title(), "VLAN Header Error");
+        check_eq!(rt; Layer::VlanHeader.error_title(), "VLAN Header Error");
         assert!(rt; Layer::VlanHeader < Layer::MacsecHeader);
     }
 
+    /// Layer, title of its errors, and name.
+    static ROWS: [(Layer, &str, &str); 25] = [
+        (
+            Layer::LinuxSllHeader,
+            "Linux Cooked Capture v1 Error",
+            "Linux Cooked Capture v1 header",
+        ),
+        (
+            Layer::Ethernet2Header,
+            "Ethernet 2 Header Error",
+            "Ethernet 2 header",
+        ),
+        (
+            Layer::EtherPayload,
+            "Payload with Ether Type Error",
+            "Ether type payload",
+        ),
+        (Layer::VlanHeader, "VLAN Header Error", "VLAN header"),
+        (Layer::MacsecHeader, "MACsec Header Error", "MACsec header"),
+        (Layer::MacsecPacket, "MACsec Packet Error", "MACsec packet"),
+        (Layer::IpHeader, "IP Header Error", "IP header"),
+        (Layer::Ipv4Header, "IPv4 Header Error", "IPv4 header"),
+        (Layer::Ipv4Packet, "IPv4 Packet Error", "IPv4 packet"),
+        (
+            Layer::IpAuthHeader,
+            "IP Authentication Header Error",
+            "IP Authentication header",
+        ),
+        (Layer::Ipv6Header, "IPv6 Header Error", "IPv6 header"),
+        (Layer::Ipv6Packet, "IPv6 Packet Error", "IPv6 packet"),
+        (
+            Layer::Ipv6ExtHeader,
+            "IPv6 Extension Header Error",
+            "IPv6 extension header",
+        ),
+        (
+            Layer::Ipv6HopByHopHeader,
+            "IPv6 Hop-by-Hop Option Header Error",
+            "IPv6 hop-by-hop option header",
+        ),
+        (
+            Layer::Ipv6DestOptionsHeader,
+            "IPv6 Destination Options Header Error",
+            "IPv6 destination options header",
+        ),
+        (
+            Layer::Ipv6RouteHeader,
+            "IPv6 Routing Header Error",
+            "IPv6 routing header",
+        ),
+        (
+            Layer::Ipv6FragHeader,
+            "IPv6 Fragment Header Error",
+            "IPv6 fragment header",
+        ),
+        (Layer::UdpHeader, "UDP Header Error", "UDP header"),
+        (Layer::UdpPayload, "UDP Payload Error", "UDP payload"),
+        (Layer::TcpHeader, "TCP Header Error", "TCP header"),
+        (Layer::Icmpv4, "ICMP Packet Error", "ICMP packet"),
+        (
+            Layer::Icmpv4Timestamp,
+            "ICMP Timestamp Error",
+            "ICMP timestamp message",
+        ),
+        (
+            Layer::Icmpv4TimestampReply,
+            "ICMP Timestamp Reply Error",
+            "ICMP timestamp reply message",
+        ),
+        (Layer::Icmpv6, "ICMPv6 Packet Error", "ICMPv6 packet"),
+        (
+            Layer::Arp,
+            "Address Resolution Protocol Packet Error",
+            "Address Resolution Protocol packet",
+        ),
+    ];
+
     #[test]
     fn every_layer_in_order(rt: HostRuntime) -> Result<(), Fail> {
-        let rows = [
-            (
-                Layer::LinuxSllHeader,
-                "Linux Cooked Capture v1 Error",
-                "Linux Cooked Capture v1 header",
-            ),
-            (
-                Layer::Ethernet2Header,
-                "Ethernet 2 Header Error",
-                "Ethernet 2 header",
-            ),
-            (
-                Layer::EtherPayload,
-                "Payload with Ether Type Error",
-                "Ether type payload",
-            ),
-            (Layer::VlanHeader, "VLAN Header Error", "VLAN header"),
-            (Layer::MacsecHeader, "MACsec Header Error", "MACsec header"),
-            (Layer::MacsecPacket, "MACsec Packet Error", "MACsec packet"),
-            (Layer::IpHeader, "IP Header Error", "IP header"),
-            (Layer::Ipv4Header, "IPv4 Header Error", "IPv4 header"),
-            (Layer::Ipv4Packet, "IPv4 Packet Error", "IPv4 packet"),
-            (
-                Layer::IpAuthHeader,
-                "IP Authentication Header Error",
-                "IP Authentication header",
-            ),
-            (Layer::Ipv6Header, "IPv6 Header Error", "IPv6 header"),
-            (Layer::Ipv6Packet, "IPv6 Packet Error", "IPv6 packet"),
-            (
-                Layer::Ipv6ExtHeader,
-                "IPv6 Extension Header Error",
-                "IPv6 extension header",
-            ),
-            (
-                Layer::Ipv6HopByHopHeader,
-                "IPv6 Hop-by-Hop Option Header Error",
-                "IPv6 hop-by-hop option header",
-            ),
-            (
-                Layer::Ipv6DestOptionsHeader,
-                "IPv6 Destination Options Header Error",
-                "IPv6 destination options header",
-            ),
-            (
-                Layer::Ipv6RouteHeader,
-                "IPv6 Routing Header Error",
-                "IPv6 routing header",
-            ),
-            (
-                Layer::Ipv6FragHeader,
-                "IPv6 Fragment Header Error",
-                "IPv6 fragment header",
-            ),
-            (Layer::UdpHeader, "UDP Header Error", "UDP header"),
-            (Layer::UdpPayload, "UDP Payload Error", "UDP payload"),
-            (Layer::TcpHeader, "TCP Header Error", "TCP header"),
-            (Layer::Icmpv4, "ICMP Packet Error", "ICMP packet"),
-            (
-                Layer::Icmpv4Timestamp,
-                "ICMP Timestamp Error",
-                "ICMP timestamp message",
-            ),
-            (
-                Layer::Icmpv4TimestampReply,
-                "ICMP Timestamp Reply Error",
-                "ICMP timestamp reply message",
-            ),
-            (Layer::Icmpv6, "ICMPv6 Packet Error", "ICMPv6 packet"),
-            (
-                Layer::Arp,
-                "Address Resolution Protocol Packet Error",
-                "Address Resolution Protocol packet",
-            ),
-        ];
         let mut before = None;
-        for (layer, title, name) in rows {
-            assert_eq!(rt; layer.error_title(), title);
-            assert_eq!(rt; format!(in rt.alloc(); "{layer}")?.as_str(), name);
-            assert!(rt; before < Some(layer), "{layer:?}");
+        for &(layer, title, name) in &ROWS {
+            check_eq!(rt; layer.error_title(), title);
+            assert_display(&rt, &layer, name)?;
+            assert_less(&rt, &before, &Some(layer));
             before = Some(layer);
         }
         Ok(())

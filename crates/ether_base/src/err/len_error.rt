@@ -102,6 +102,7 @@ impl fmt::Display for LayerStart {
 #[cfg(test)]
 mod tests {
     use super::*;
+    use crate::test_asserts::{assert_debug, assert_display, check_eq};
     use std::test::Fail;
 
     #[test]
@@ -113,7 +114,7 @@ mod tests {
             layer: Layer::VlanHeader,
             layer_start_offset: 0,
         };
-        assert_eq!(rt; error.add_offset(14).layer_start_offset, 14);
+        check_eq!(rt; error.add_offset(14).layer_start_offset, 14);
     }
 
     const SHORT: LenError = LenError {
@@ -127,10 +128,11 @@ mod tests {
     #[test]
     fn both_texts_letter_by_letter(rt: HostRuntime) -> Result<(), Fail> {
         let alloc = rt.alloc();
-        assert_eq!(rt;
-            format!(in alloc; "{SHORT}")?.as_str(),
-            "VLAN Header Error: Not enough data to decode 'VLAN header'. 4 byte(s) would be required, but only 2 byte(s) are available based on the slice length ('VLAN header' starts at overall parsed byte 18)."
-        );
+        assert_display(
+            &rt,
+            &SHORT,
+            "VLAN Header Error: Not enough data to decode 'VLAN header'. 4 byte(s) would be required, but only 2 byte(s) are available based on the slice length ('VLAN header' starts at overall parsed byte 18).",
+        )?;
         let long = LenError {
             required_len: 5,
             len: 5,
@@ -138,11 +140,11 @@ mod tests {
             layer: Layer::Arp,
             layer_start_offset: 0,
         };
-        assert_eq!(rt;
-            format!(in alloc; "{long}")?.as_str(),
-            "Address Resolution Protocol Packet Error: Length of 5 byte(s) is too big for an 'Address Resolution Protocol packet' (maximum is 5 bytes). The length calculated from the ARP 'hw_addr_size' & 'proto_addr_size' fields was used to determine the length."
-        );
-        Ok(())
+        assert_display(
+            &rt,
+            &long,
+            "Address Resolution Protocol Packet Error: Length of 5 byte(s) is too big for an 'Address Resolution Protocol packet' (maximum is 5 bytes). The length calculated from the ARP 'hw_addr_size' & 'proto_addr_size' fields was used to determine the length.",
+        )
     }
 
     #[test]
@@ -151,15 +153,15 @@ mod tests {
             layer_start_offset: 4,
             ..SHORT
         };
-        assert_eq!(rt; early.add_offset(14), SHORT);
+        check_eq!(rt; early.add_offset(14), SHORT);
     }
 
     #[test]
     fn shown_in_debug(rt: HostRuntime) -> Result<(), Fail> {
-        assert_eq!(rt;
-            format!(in rt.alloc(); "{SHORT:?}")?.as_str(),
-            "LenError { required_len: 4, len: 2, len_source: Slice, layer: VlanHeader, layer_start_offset: 18 }"
-        );
-        Ok(())
+        assert_debug(
+            &rt,
+            &SHORT,
+            "LenError { required_len: 4, len: 2, len_source: Slice, layer: VlanHeader, layer_start_offset: 18 }",
+        )
     }
 }

@@ -78,6 +78,7 @@ impl fmt::Display for WriteStart {
 #[cfg(test)]
 mod tests {
     use super::*;
+    use crate::test_asserts::assert_display;
     use std::test::Fail;
 
     #[test]
@@ -88,11 +89,11 @@ mod tests {
             layer: Layer::Ethernet2Header,
             layer_start_offset: 0,
         };
-        assert_eq!(rt;
-            format!(in rt.alloc(); "{error}")?.as_str(),
-            "Not enough space to write Ethernet 2 header to slice. Needed 14 byte(s), but only 13 byte(s) were available."
-        );
-        Ok(())
+        assert_display(
+            &rt,
+            &error,
+            "Not enough space to write Ethernet 2 header to slice. Needed 14 byte(s), but only 13 byte(s) were available.",
+        )
     }
 
     #[test]
@@ -114,7 +115,7 @@ mod tests {
                 layer: Layer::Ethernet2Header,
                 layer_start_offset,
             };
-            assert_eq!(rt; format!(in rt.alloc(); "{error}")?.as_str(), text);
+            assert_display(&rt, &error, text)?;
         }
         Ok(())
     }

@@ -46,6 +46,7 @@ impl<T: Clone + Display + Debug + Eq + Hash + Drop> Error for ValueTooBigError<T
 mod tests {
     use super::*;
     use crate::VlanPcp;
+    use crate::test_asserts::{assert_display, check_eq};
     use std::test::Fail;
 
     #[test]
@@ -55,7 +56,7 @@ mod tests {
             max_allowed: 7,
             value_type: ValueType::VlanPcp,
         };
-        assert_eq!(rt; VlanPcp::try_new(8), Err(refused));
+        check_eq!(rt; VlanPcp::try_new(8), Err(refused));
     }
 
     const REFUSED: ValueTooBigError<u16> = ValueTooBigError {
@@ -66,16 +67,16 @@ mod tests {
 
     #[test]
     fn a_clone_is_equal(rt: HostRuntime) -> Result<(), Fail> {
-        assert_eq!(rt; REFUSED.clone()?, REFUSED);
+        check_eq!(rt; REFUSED.clone()?, REFUSED);
         Ok(())
     }
 
     #[test]
     fn the_text(rt: HostRuntime) -> Result<(), Fail> {
-        assert_eq!(rt;
-            format!(in rt.alloc(); "{REFUSED}")?.as_str(),
-            "Error '4096' is too big to be a 'VLAN ID' (maximum allowed value is '4095')"
-        );
-        Ok(())
+        assert_display(
+            &rt,
+            &REFUSED,
+            "Error '4096' is too big to be a 'VLAN ID' (maximum allowed value is '4095')",
+        )
     }
 }

@@ -77,17 +77,17 @@ impl fmt::Display for ValueType {
 #[cfg(test)]
 mod tests {
     use super::*;
+    use crate::test_asserts::{assert_display, assert_less};
     use std::test::Fail;
 
     #[test]
     fn the_example(rt: HostRuntime) -> Result<(), Fail> {
         let field = ValueType::VlanId;
-        assert_eq!(rt; format!(in rt.alloc(); "{field}")?.as_str(), "VLAN ID");
-        Ok(())
+        assert_display(&rt, &field, "VLAN ID")
     }
 
     #[rattlefmt::skip]
-    const NAMES: [(ValueType, &str); 16] = [
+    static NAMES: [(ValueType, &str); 16] = [
         (ValueType::VlanId, "VLAN ID"),
         (ValueType::VlanPcp, "VLAN PCP (Priority Code Point)"),
         (ValueType::MacsecAn, "MACsec AN (Association Number)"),
@@ -109,9 +109,9 @@ mod tests {
     #[test]
     fn every_value_type_in_order(rt: HostRuntime) -> Result<(), Fail> {
         let mut before = None;
-        for (value_type, name) in NAMES {
-            assert_eq!(rt; format!(in rt.alloc(); "{value_type}")?.as_str(), name);
-            assert!(rt; before < Some(value_type), "{value_type:?}");
+        for &(value_type, name) in &NAMES {
+            assert_display(&rt, &value_type, name)?;
+            assert_less(&rt, &before, &Some(value_type));
             before = Some(value_type);
         }
         Ok(())

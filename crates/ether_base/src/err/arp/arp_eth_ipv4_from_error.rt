@@ -62,16 +62,17 @@ impl Error for ArpEthIpv4FromError {}
 #[cfg(test)]
 mod tests {
     use super::*;
+    use crate::test_asserts::assert_display;
     use std::test::Fail;
 
     #[test]
     fn the_example(rt: HostRuntime) -> Result<(), Fail> {
         let error = ArpEthIpv4FromError::NonMatchingHwAddrSize(8);
-        assert_eq!(rt;
-            format!(in rt.alloc(); "{error}")?.as_str(),
-            "Hardware address size is expected to be 6 but is 8"
-        );
-        Ok(())
+        assert_display(
+            &rt,
+            &error,
+            "Hardware address size is expected to be 6 but is 8",
+        )
     }
 
     #[test]
@@ -95,7 +96,7 @@ mod tests {
             ),
         ];
         for (error, text) in rows {
-            assert_eq!(rt; format!(in rt.alloc(); "{error}")?.as_str(), text);
+            assert_display(&rt, &error, text)?;
         }
         Ok(())
     }

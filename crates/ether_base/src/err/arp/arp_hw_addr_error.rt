@@ -44,16 +44,17 @@ impl Error for ArpHwAddrError {}
 #[cfg(test)]
 mod tests {
     use super::*;
+    use crate::test_asserts::assert_display;
     use std::test::Fail;
 
     #[test]
     fn the_example(rt: HostRuntime) -> Result<(), Fail> {
         let error = ArpHwAddrError::LenTooBig(256);
-        assert_eq!(rt;
-            format!(in rt.alloc(); "{error}")?.as_str(),
-            "ARP Hardware Address Error: Given hardware address has a length of 256 which is greater then the maximum of 255."
-        );
-        Ok(())
+        assert_display(
+            &rt,
+            &error,
+            "ARP Hardware Address Error: Given hardware address has a length of 256 which is greater then the maximum of 255.",
+        )
     }
 
     #[test]
@@ -69,7 +70,7 @@ mod tests {
             ),
         ];
         for (error, text) in rows {
-            assert_eq!(rt; format!(in rt.alloc(); "{error}")?.as_str(), text);
+            assert_display(&rt, &error, text)?;
         }
         Ok(())
     }

@@ -53,12 +53,13 @@ impl Error for HeaderError {}
 mod tests {
     use super::*;
     use crate::LinuxSllPacketType;
+    use crate::test_asserts::{assert_display, check_eq};
     use std::test::Fail;
 
     #[test]
     fn the_example(rt: HostRuntime) {
         let refused = HeaderError::UnsupportedPacketTypeField { packet_type: 8 };
-        assert_eq!(rt; LinuxSllPacketType::try_from(8), Err(refused));
+        check_eq!(rt; LinuxSllPacketType::try_from(8), Err(refused));
     }
 
     #[test]
@@ -76,7 +77,7 @@ mod tests {
             ),
         ];
         for (error, text) in rows {
-            assert_eq!(rt; format!(in rt.alloc(); "{error}")?.as_str(), text);
+            assert_display(&rt, &error, text)?;
         }
         Ok(())
     }

@@ -44,16 +44,17 @@ impl Error for HeaderError {}
 #[cfg(test)]
 mod tests {
     use super::*;
+    use crate::test_asserts::assert_display;
     use std::test::Fail;
 
     #[test]
     fn the_example(rt: HostRuntime) -> Result<(), Fail> {
         let error = HeaderError::UnexpectedVersion;
-        assert_eq!(rt;
-            format!(in rt.alloc(); "{error}")?.as_str(),
-            "MACsec Header Error: Encountered '1' as MACsec version in the MACsec SecTag header (must be '0')."
-        );
-        Ok(())
+        assert_display(
+            &rt,
+            &error,
+            "MACsec Header Error: Encountered '1' as MACsec version in the MACsec SecTag header (must be '0').",
+        )
     }
 
     #[rattlefmt::skip]
@@ -65,7 +66,7 @@ mod tests {
     #[test]
     fn both_texts(rt: HostRuntime) -> Result<(), Fail> {
         for (error, text) in TEXTS {
-            assert_eq!(rt; format!(in rt.alloc(); "{error}")?.as_str(), text);
+            assert_display(&rt, &error, text)?;
         }
         Ok(())
     }
