@@ -11,6 +11,8 @@ mod linux_sll_header_slice;
 mod linux_sll_payload_slice;
 mod linux_sll_slice;
 #[cfg(test)]
+mod test_asserts;
+#[cfg(test)]
 mod test_frames;
 
 pub use link_header::LinkHeader;

@@ -84,6 +84,7 @@ impl LinkHeader {
 #[cfg(test)]
 mod tests {
     use super::*;
+    use crate::test_asserts::{assert_debug, check_eq, check_ne};
     use ether_base::{ArpHardwareId, EtherType, LinuxSllPacketType, LinuxSllProtocolType};
     use std::test::Fail;
 
@@ -107,19 +108,19 @@ mod tests {
         if let Some(header) = link.mut_ethernet2() {
             header.ether_type = EtherType::IPV4;
         }
-        assert_eq!(rt; link.header_len(), 14);
-        assert_eq!(rt; link.linux_sll(), None);
+        check_eq!(rt; link.header_len(), 14);
+        check_eq!(rt; link.linux_sll(), None);
     }
 
     #[test]
     fn headers_differ_by_variant_and_header(rt: HostRuntime) {
         let frame = LinkHeader::Ethernet2(FRAME);
         let capture = LinkHeader::LinuxSll(CAPTURE);
-        assert_eq!(rt; frame, frame);
-        assert_eq!(rt; capture, capture);
-        assert_ne!(rt; frame, capture);
-        assert_ne!(rt; frame, LinkHeader::Ethernet2(Ethernet2Header::default()));
-        assert_ne!(rt;
+        check_eq!(rt; frame, frame);
+        check_eq!(rt; capture, capture);
+        check_ne!(rt; frame, capture);
+        check_ne!(rt; frame, LinkHeader::Ethernet2(Ethernet2Header::default()));
+        check_ne!(rt;
             capture,
             LinkHeader::LinuxSll(LinuxSllHeader {
                 packet_type: LinuxSllPacketType::HOST,
@@ -131,15 +132,15 @@ mod tests {
     #[test]
     fn a_frame_changed_in_place(rt: HostRuntime) {
         let mut link = LinkHeader::Ethernet2(FRAME);
-        assert_eq!(rt; link.ethernet2(), Some(FRAME));
-        assert_eq!(rt; link.linux_sll(), None);
-        assert_eq!(rt; link.header_len(), 14);
+        check_eq!(rt; link.ethernet2(), Some(FRAME));
+        check_eq!(rt; link.linux_sll(), None);
+        check_eq!(rt; link.header_len(), 14);
         let lent = link.mut_linux_sll().is_some();
         assert!(rt; !lent);
         if let Some(header) = link.mut_ethernet2() {
             header.ether_type = EtherType(0x0806);
         }
-        assert_eq!(rt;
+        check_eq!(rt;
             link,
             LinkHeader::Ethernet2(Ethernet2Header {
                 ether_type: EtherType(0x0806),
@@ -151,15 +152,15 @@ mod tests {
     #[test]
     fn a_capture_changed_in_place(rt: HostRuntime) {
         let mut link = LinkHeader::LinuxSll(CAPTURE);
-        assert_eq!(rt; link.linux_sll(), Some(CAPTURE));
-        assert_eq!(rt; link.ethernet2(), None);
-        assert_eq!(rt; link.header_len(), 16);
+        check_eq!(rt; link.linux_sll(), Some(CAPTURE));
+        check_eq!(rt; link.ethernet2(), None);
+        check_eq!(rt; link.header_len(), 16);
         let lent = link.mut_ethernet2().is_some();
         assert!(rt; !lent);
         if let Some(header) = link.mut_linux_sll() {
             header.packet_type = LinuxSllPacketType::HOST;
         }
-        assert_eq!(rt;
+        check_eq!(rt;
             link,
             LinkHeader::LinuxSll(LinuxSllHeader {
                 packet_type: LinuxSllPacketType::HOST,
@@ -171,10 +172,10 @@ mod tests {
     #[test]
     fn shown_by_its_header(rt: HostRuntime) -> Result<(), Fail> {
         let link = LinkHeader::LinuxSll(CAPTURE);
-        assert_eq!(rt;
-            format!(in rt.alloc(); "{link:?}")?.as_str(),
-            "LinuxSll(LinuxSllHeader { packet_type: 4 (Sent by us), arp_hrd_type: 824 (Netlink header), sender_address_valid_length: 0, sender_address: [0, 0, 0, 0, 0, 0, 0, 0], protocol_type: NetlinkProtocolType(1) })"
-        );
-        Ok(())
+        assert_debug(
+            &rt,
+            &link,
+            "LinuxSll(LinuxSllHeader { packet_type: 4 (Sent by us), arp_hrd_type: 824 (Netlink header), sender_address_valid_length: 0, sender_address: [0, 0, 0, 0, 0, 0, 0, 0], protocol_type: NetlinkProtocolType(1) })",
+        )
     }
 }

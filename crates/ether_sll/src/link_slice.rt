@@ -75,6 +75,7 @@ impl<'a> LinkSlice<'a> {
 #[cfg(test)]
 mod tests {
     use super::*;
+    use crate::test_asserts::{assert_debug, check_eq, check_ne};
     use crate::test_frames::{GRE, PACKET};
     use ether_base::{EtherType, LenSource, LinuxSllProtocolType};
     use std::test::Fail;
@@ -93,7 +94,7 @@ mod tests {
             len_source: LenSource::Slice,
             payload: &[0x45],
         };
-        assert_eq!(rt; link.ether_payload(), Some(payload));
+        check_eq!(rt; link.ether_payload(), Some(payload));
         Ok(())
     }
 
@@ -103,9 +104,9 @@ mod tests {
         let header = LinkHeader::Ethernet2(frame.to_header());
         let payload = frame.payload();
         let link = LinkSlice::Ethernet2(frame);
-        assert_eq!(rt; link.to_header(), Some(header));
-        assert_eq!(rt; link.ether_payload(), Some(payload));
-        assert_eq!(rt;
+        check_eq!(rt; link.to_header(), Some(header));
+        check_eq!(rt; link.ether_payload(), Some(payload));
+        check_eq!(rt;
             link.sll_payload(),
             LinuxSllPayloadSlice {
                 protocol_type: LinuxSllProtocolType::EtherType(EtherType::IPV4),
@@ -120,9 +121,9 @@ mod tests {
         let capture = LinuxSllSlice::from_slice(&GRE)?;
         let header = LinkHeader::LinuxSll(capture.to_header());
         let link = LinkSlice::LinuxSll(capture);
-        assert_eq!(rt; link.to_header(), Some(header));
-        assert_eq!(rt; link.ether_payload(), None);
-        assert_eq!(rt;
+        check_eq!(rt; link.to_header(), Some(header));
+        check_eq!(rt; link.ether_payload(), None);
+        check_eq!(rt;
             link.sll_payload(),
             LinuxSllPayloadSlice {
                 protocol_type: LinuxSllProtocolType::GenericRoutingEncapsulationProtocolType(
@@ -140,11 +141,11 @@ mod tests {
         let header = LinkSlice::Ethernet2(Ethernet2Slice::from_slice_without_fcs(&FRAME[..14])?);
         let gre = LinkSlice::LinuxSll(LinuxSllSlice::from_slice(&GRE)?);
         let other = LinkSlice::LinuxSll(LinuxSllSlice::from_slice(&PACKET)?);
-        assert_eq!(rt; frame.clone()?, frame);
-        assert_eq!(rt; gre.clone()?, gre);
-        assert_ne!(rt; frame, header);
-        assert_ne!(rt; gre, other);
-        assert_ne!(rt; frame, gre);
+        check_eq!(rt; frame.clone()?, frame);
+        check_eq!(rt; gre.clone()?, gre);
+        check_ne!(rt; frame, header);
+        check_ne!(rt; gre, other);
+        check_ne!(rt; frame, gre);
         Ok(())
     }
 
@@ -163,15 +164,15 @@ mod tests {
             protocol_type: LinuxSllProtocolType::NetlinkProtocolType(0x8100),
             payload: &[0xAA],
         };
-        assert_ne!(rt;
+        check_ne!(rt;
             LinkSlice::EtherPayload(ether),
             LinkSlice::EtherPayload(macsec)
         );
-        assert_ne!(rt;
+        check_ne!(rt;
             LinkSlice::LinuxSllPayload(vlan()),
             LinkSlice::LinuxSllPayload(netlink)
         );
-        assert_ne!(rt;
+        check_ne!(rt;
             LinkSlice::EtherPayload(ether),
             LinkSlice::LinuxSllPayload(vlan())
         );
@@ -193,17 +194,17 @@ mod tests {
             payload: &[0xAA],
         };
         let link = LinkSlice::EtherPayload(payload);
-        assert_eq!(rt; link.to_header(), None);
-        assert_eq!(rt; link.ether_payload(), Some(payload));
-        assert_eq!(rt; link.sll_payload(), vlan());
+        check_eq!(rt; link.to_header(), None);
+        check_eq!(rt; link.ether_payload(), Some(payload));
+        check_eq!(rt; link.sll_payload(), vlan());
     }
 
     #[test]
     fn a_payload_of_cooked_capture(rt: HostRuntime) {
         let link = LinkSlice::LinuxSllPayload(vlan());
-        assert_eq!(rt; link.to_header(), None);
-        assert_eq!(rt; link.sll_payload(), vlan());
-        assert_eq!(rt;
+        check_eq!(rt; link.to_header(), None);
+        check_eq!(rt; link.sll_payload(), vlan());
+        check_eq!(rt;
             link.ether_payload(),
             Some(EtherPayloadSlice {
                 ether_type: EtherType(0x8100),
@@ -216,10 +217,10 @@ mod tests {
     #[test]
     fn shown_by_its_payload(rt: HostRuntime) -> Result<(), Fail> {
         let link = LinkSlice::LinuxSllPayload(vlan());
-        assert_eq!(rt;
-            format!(in rt.alloc(); "{link:?}")?.as_str(),
-            "LinuxSllPayload(LinuxSllPayloadSlice { protocol_type: EtherType(0x8100 (Customer VLAN Tag (C-TAG) as defined in IEEE Std 802.1Q)), payload: [170] })"
-        );
-        Ok(())
+        assert_debug(
+            &rt,
+            &link,
+            "LinuxSllPayload(LinuxSllPayloadSlice { protocol_type: EtherType(0x8100 (Customer VLAN Tag (C-TAG) as defined in IEEE Std 802.1Q)), payload: [170] })",
+        )
     }
 }

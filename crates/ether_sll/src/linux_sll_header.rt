@@ -178,6 +178,7 @@ fn joined(
 #[cfg(test)]
 mod tests {
     use super::*;
+    use crate::test_asserts::{assert_debug, check_eq, check_ne};
     use crate::test_frames::{ARP_REQUEST, GRE, LOOPBACK, PACKET, SPANNING_TREE, UNSUPPORTED};
     use ether_base::err::LenError;
     use ether_base::{EtherType, LenSource, LinuxNonstandardEtherType};
@@ -204,8 +205,8 @@ mod tests {
             sender_address: [2, 0, 0, 0, 0, 1, 0, 0],
             protocol_type: LinuxSllProtocolType::EtherType(EtherType::IPV4),
         };
-        assert_eq!(rt; LinuxSllHeader::from_bytes(bytes), Ok(header));
-        assert_eq!(rt; header.to_bytes(), bytes);
+        check_eq!(rt; LinuxSllHeader::from_bytes(bytes), Ok(header));
+        check_eq!(rt; header.to_bytes(), bytes);
     }
 
     #[test]
@@ -218,11 +219,11 @@ mod tests {
             protocol_type: LinuxSllProtocolType::EtherType(EtherType::ARP),
         };
         let packet = ARP_REQUEST;
-        assert_eq!(rt;
+        check_eq!(rt;
             LinuxSllHeader::from_slice(&packet),
             Ok((header, &packet[16..]))
         );
-        assert_eq!(rt; header.to_bytes().as_slice(), &packet[..16]);
+        check_eq!(rt; header.to_bytes().as_slice(), &packet[..16]);
     }
 
     #[test]
@@ -237,7 +238,7 @@ mod tests {
             ),
         };
         let packet = SPANNING_TREE;
-        assert_eq!(rt;
+        check_eq!(rt;
             LinuxSllHeader::from_slice(&packet),
             Ok((header, &packet[16..]))
         );
@@ -248,7 +249,7 @@ mod tests {
         let refused = HeaderError::UnsupportedArpHardwareId {
             arp_hardware_type: ArpHardwareId(772),
         };
-        assert_eq!(rt;
+        check_eq!(rt;
             LinuxSllHeader::from_slice(&LOOPBACK),
             Err(HeaderSliceError::Content(refused))
         );
@@ -258,7 +259,7 @@ mod tests {
     fn the_hardware_type_decides_the_variant(rt: HostRuntime) -> Result<(), Fail> {
         let mut bytes = [0; 16];
         bytes.copy_from_slice(&GRE[..16]);
-        assert_eq!(rt;
+        check_eq!(rt;
             LinuxSllHeader::from_bytes(bytes)?.protocol_type,
             LinuxSllProtocolType::GenericRoutingEncapsulationProtocolType(0x0800)
         );
@@ -267,7 +268,7 @@ mod tests {
 
     #[test]
     fn the_packet_type_is_refused_first(rt: HostRuntime) {
-        assert_eq!(rt;
+        check_eq!(rt;
             LinuxSllHeader::from_bytes(UNSUPPORTED),
             Err(HeaderError::UnsupportedPacketTypeField { packet_type: 8 })
         );
@@ -277,7 +278,7 @@ mod tests {
     fn the_hardware_type_is_refused_then(rt: HostRuntime) {
         let mut bytes = UNSUPPORTED;
         bytes[1] = 0;
-        assert_eq!(rt;
+        check_eq!(rt;
             LinuxSllHeader::from_bytes(bytes),
             Err(HeaderError::UnsupportedArpHardwareId {
                 arp_hardware_type: ArpHardwareId(257)
@@ -291,14 +292,14 @@ mod tests {
             protocol_type: LinuxSllProtocolType::EtherType(EtherType(1)),
             ..HEADER
         };
-        assert_eq!(rt; LinuxSllHeader::from_bytes(header.to_bytes())?, HEADER);
+        check_eq!(rt; LinuxSllHeader::from_bytes(header.to_bytes())?, HEADER);
         Ok(())
     }
 
     #[test]
     fn the_front_of_a_slice_and_the_rest(rt: HostRuntime) {
         let rest = [0xAA].as_slice();
-        assert_eq!(rt; LinuxSllHeader::from_slice(&PACKET), Ok((HEADER, rest)));
+        check_eq!(rt; LinuxSllHeader::from_slice(&PACKET), Ok((HEADER, rest)));
     }
 
     #[test]
@@ -311,7 +312,7 @@ mod tests {
             layer: Layer::LinuxSllHeader,
             layer_start_offset: 0,
         };
-        assert_eq!(rt;
+        check_eq!(rt;
             LinuxSllHeader::from_slice(&packet[..15]),
             Err(HeaderSliceError::Len(short))
         );
@@ -319,8 +320,8 @@ mod tests {
 
     #[test]
     fn the_length(rt: HostRuntime) {
-        assert_eq!(rt; HEADER.header_len(), 16);
-        assert_eq!(rt; LinuxSllHeader::LEN, 16);
+        check_eq!(rt; HEADER.header_len(), 16);
+        check_eq!(rt; LinuxSllHeader::LEN, 16);
     }
 
     #[test]
@@ -348,28 +349,28 @@ mod tests {
             },
         ];
         for other in others {
-            assert_ne!(rt; other, HEADER);
-            assert_eq!(rt; other, other);
+            check_ne!(rt; other, HEADER);
+            check_eq!(rt; other, other);
         }
     }
 
     #[test]
     fn shown_by_its_fields(rt: HostRuntime) -> Result<(), Fail> {
-        assert_eq!(rt;
-            format!(in rt.alloc(); "{HEADER:?}")?.as_str(),
-            "LinuxSllHeader { packet_type: 0 (Sent to us), arp_hrd_type: 1 (Ethernet), sender_address_valid_length: 255, sender_address: [2, 0, 0, 0, 0, 1, 0, 0], protocol_type: LinuxNonstandardEtherType(0x0001 (Dummy type for 802.3 frames)) }"
-        );
-        Ok(())
+        assert_debug(
+            &rt,
+            &HEADER,
+            "LinuxSllHeader { packet_type: 0 (Sent to us), arp_hrd_type: 1 (Ethernet), sender_address_valid_length: 255, sender_address: [2, 0, 0, 0, 0, 1, 0, 0], protocol_type: LinuxNonstandardEtherType(0x0001 (Dummy type for 802.3 frames)) }",
+        )
     }
 
     #[test]
     fn written_to_the_front_and_the_rest_lent(rt: HostRuntime) -> Result<(), Fail> {
         let mut slice = [0x55; 18];
         let rest = HEADER.write_to_slice(&mut slice)?;
-        assert_eq!(rt; rest.len(), 2);
+        check_eq!(rt; rest.len(), 2);
         rest[0] = 0xAA;
-        assert_eq!(rt; &slice[..17], PACKET.as_slice());
-        assert_eq!(rt; slice[17], 0x55);
+        check_eq!(rt; &slice[..17], PACKET.as_slice());
+        check_eq!(rt; slice[17], 0x55);
         Ok(())
     }
 
@@ -382,7 +383,7 @@ mod tests {
             layer: Layer::LinuxSllHeader,
             layer_start_offset: 0,
         };
-        assert_eq!(rt; HEADER.write_to_slice(&mut slice).err(), Some(refused));
-        assert_eq!(rt; slice, [0x55; 15]);
+        check_eq!(rt; HEADER.write_to_slice(&mut slice).err(), Some(refused));
+        check_eq!(rt; slice, [0x55; 15]);
     }
 }

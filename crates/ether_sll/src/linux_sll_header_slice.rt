@@ -162,6 +162,7 @@ impl<'a> Eq for LinuxSllHeaderSlice<'a> {
 #[cfg(test)]
 mod tests {
     use super::*;
+    use crate::test_asserts::{assert_debug, check_eq, check_ne};
     use crate::test_frames::{PACKET, UNSUPPORTED};
     use ether_base::err::linux_sll::HeaderError;
     use ether_base::err::{Layer, LenError};
@@ -172,21 +173,21 @@ mod tests {
     fn the_example(rt: HostRuntime) -> Result<(), Fail> {
         let bytes = [0, 4, 0, 1, 0, 6, 2, 0, 0, 0, 0, 1, 0, 0, 0x08, 0x00, 0x45];
         let header = LinuxSllHeaderSlice::from_slice(&bytes)?;
-        assert_eq!(rt; header.packet_type(), LinuxSllPacketType::OUTGOING);
-        assert_eq!(rt; header.arp_hardware_type(), ArpHardwareId::ETHERNET);
-        assert_eq!(rt; header.sender_address(), [2, 0, 0, 0, 0, 1].as_slice());
-        assert_eq!(rt;
+        check_eq!(rt; header.packet_type(), LinuxSllPacketType::OUTGOING);
+        check_eq!(rt; header.arp_hardware_type(), ArpHardwareId::ETHERNET);
+        check_eq!(rt; header.sender_address(), [2, 0, 0, 0, 0, 1].as_slice());
+        check_eq!(rt;
             header.protocol_type(),
             LinuxSllProtocolType::EtherType(EtherType::IPV4)
         );
-        assert_eq!(rt; header.slice(), &bytes[..16]);
+        check_eq!(rt; header.slice(), &bytes[..16]);
         Ok(())
     }
 
     #[test]
     fn the_header_as_a_value(rt: HostRuntime) -> Result<(), Fail> {
         let header = LinuxSllHeaderSlice::from_slice(&PACKET)?.to_header();
-        assert_eq!(rt; header.to_bytes().as_slice(), &PACKET[..16]);
+        check_eq!(rt; header.to_bytes().as_slice(), &PACKET[..16]);
         Ok(())
     }
 
@@ -196,9 +197,9 @@ mod tests {
         for (valid, len) in [(0, 0), (6, 6), (8, 8), (9, 8), (255, 8)] {
             let bytes = [0, 0, 0, 1, 0, valid, 1, 2, 3, 4, 5, 6, 7, 8, 0x08, 0x00];
             let header = LinuxSllHeaderSlice::from_slice(&bytes)?;
-            assert_eq!(rt; header.sender_address_valid_length(), u16::from(valid));
-            assert_eq!(rt; header.sender_address_full(), address);
-            assert_eq!(rt; header.sender_address(), &address[..len]);
+            check_eq!(rt; header.sender_address_valid_length(), u16::from(valid));
+            check_eq!(rt; header.sender_address_full(), address);
+            check_eq!(rt; header.sender_address(), &address[..len]);
         }
         Ok(())
     }
@@ -206,7 +207,7 @@ mod tests {
     #[test]
     fn refused_by_length_before_contents(rt: HostRuntime) {
         let bytes = UNSUPPORTED;
-        assert_eq!(rt;
+        check_eq!(rt;
             LinuxSllHeaderSlice::from_slice(&bytes[..15]).err(),
             Some(HeaderSliceError::Len(LenError {
                 required_len: 16,
@@ -216,7 +217,7 @@ mod tests {
                 layer_start_offset: 0,
             }))
         );
-        assert_eq!(rt;
+        check_eq!(rt;
             LinuxSllHeaderSlice::from_slice(&bytes).err(),
             Some(HeaderSliceError::Content(HeaderError::UnsupportedPacketTypeField {
                 packet_type: 8
@@ -229,18 +230,18 @@ mod tests {
         let mut changed = PACKET;
         changed[15] = 2;
         let header = LinuxSllHeaderSlice::from_slice(&PACKET)?;
-        assert_eq!(rt; header.clone()?, header);
-        assert_ne!(rt; header, LinuxSllHeaderSlice::from_slice(&changed)?);
+        check_eq!(rt; header.clone()?, header);
+        check_ne!(rt; header, LinuxSllHeaderSlice::from_slice(&changed)?);
         Ok(())
     }
 
     #[test]
     fn shown_by_its_bytes(rt: HostRuntime) -> Result<(), Fail> {
         let header = LinuxSllHeaderSlice::from_slice(&PACKET)?;
-        assert_eq!(rt;
-            format!(in rt.alloc(); "{header:?}")?.as_str(),
-            "LinuxSllHeaderSlice { slice: [0, 0, 0, 1, 0, 255, 2, 0, 0, 0, 0, 1, 0, 0, 0, 1] }"
-        );
-        Ok(())
+        assert_debug(
+            &rt,
+            &header,
+            "LinuxSllHeaderSlice { slice: [0, 0, 0, 1, 0, 255, 2, 0, 0, 0, 0, 1, 0, 0, 0, 1] }",
+        )
     }
 }

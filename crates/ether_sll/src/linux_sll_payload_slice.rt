@@ -84,6 +84,7 @@ impl<'a> TryFrom<LinuxSllPayloadSlice<'a>> for EtherPayloadSlice<'a> {
 #[cfg(test)]
 mod tests {
     use super::*;
+    use crate::test_asserts::{check_eq, check_ne};
     use ether_base::LinuxNonstandardEtherType;
 
     #[test]
@@ -97,7 +98,7 @@ mod tests {
             len_source: LenSource::Slice,
             payload: &[0x45],
         };
-        assert_eq!(rt; EtherPayloadSlice::try_from(ipv4), Ok(payload));
+        check_eq!(rt; EtherPayloadSlice::try_from(ipv4), Ok(payload));
     }
 
     #[test]
@@ -107,13 +108,13 @@ mod tests {
             protocol_type: ipv4.protocol_type,
             payload: &[0xAA, 0xBB],
         };
-        assert_eq!(rt; ipv4, ipv4);
-        assert_ne!(rt; ipv4, sll(LinuxSllProtocolType::EtherType(EtherType::IPV6)));
-        assert_ne!(rt;
+        check_eq!(rt; ipv4, ipv4);
+        check_ne!(rt; ipv4, sll(LinuxSllProtocolType::EtherType(EtherType::IPV6)));
+        check_ne!(rt;
             ipv4,
             sll(LinuxSllProtocolType::NetlinkProtocolType(0x0800))
         );
-        assert_ne!(rt; ipv4, longer);
+        check_ne!(rt; ipv4, longer);
         assert!(rt; ipv4 < longer);
     }
 
@@ -139,18 +140,18 @@ mod tests {
             len_source: LenSource::MacsecShortLength,
             payload: &[0xAA],
         });
-        assert_eq!(rt;
+        check_eq!(rt;
             vlan,
             sll(LinuxSllProtocolType::EtherType(EtherType(0x8100)))
         );
-        assert_eq!(rt;
+        check_eq!(rt;
             EtherPayloadSlice::try_from(vlan),
             Ok(ether(EtherType(0x8100)))
         );
         let nonstandard = LinuxSllProtocolType::LinuxNonstandardEtherType(
             LinuxNonstandardEtherType::N802_3,
         );
-        assert_eq!(rt;
+        check_eq!(rt;
             EtherPayloadSlice::try_from(sll(nonstandard)),
             Ok(ether(EtherType(1)))
         );
@@ -164,7 +165,7 @@ mod tests {
             LinuxSllProtocolType::Ignored(1),
         ];
         for protocol_type in refused {
-            assert_eq!(rt; EtherPayloadSlice::try_from(sll(protocol_type)), Err(()));
+            check_eq!(rt; EtherPayloadSlice::try_from(sll(protocol_type)), Err(()));
         }
     }
 }

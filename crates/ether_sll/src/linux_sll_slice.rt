@@ -199,6 +199,7 @@ impl fmt::Debug for LinuxSllSlice<'_> {
 #[cfg(test)]
 mod tests {
     use super::*;
+    use crate::test_asserts::{assert_debug, check_eq, check_ne};
     use crate::test_frames::{ARP_REQUEST, LOOPBACK, PACKET, UNSUPPORTED};
     use ether_base::err::linux_sll::HeaderError;
     use ether_base::err::{Layer, LenError};
@@ -210,9 +211,9 @@ mod tests {
         let bytes = [0, 4, 0, 1, 0, 6, 2, 0, 0, 0, 0, 1, 0, 0, 0x08, 0x00, 0x45];
         let packet = LinuxSllSlice::from_slice(&bytes)?;
         let ipv4 = LinuxSllProtocolType::EtherType(EtherType::IPV4);
-        assert_eq!(rt; packet.packet_type(), LinuxSllPacketType::OUTGOING);
-        assert_eq!(rt; packet.protocol_type(), ipv4);
-        assert_eq!(rt; packet.payload_slice(), [0x45].as_slice());
+        check_eq!(rt; packet.packet_type(), LinuxSllPacketType::OUTGOING);
+        check_eq!(rt; packet.protocol_type(), ipv4);
+        check_eq!(rt; packet.payload_slice(), [0x45].as_slice());
         Ok(())
     }
 
@@ -220,14 +221,14 @@ mod tests {
     fn a_captured_packet(rt: HostRuntime) -> Result<(), Fail> {
         let bytes = ARP_REQUEST;
         let packet = LinuxSllSlice::from_slice(&bytes)?;
-        assert_eq!(rt; packet.packet_type(), LinuxSllPacketType::BROADCAST);
-        assert_eq!(rt; packet.arp_hardware_type(), ArpHardwareId::ETHERNET);
-        assert_eq!(rt; packet.sender_address_valid_length(), 6);
-        assert_eq!(rt;
+        check_eq!(rt; packet.packet_type(), LinuxSllPacketType::BROADCAST);
+        check_eq!(rt; packet.arp_hardware_type(), ArpHardwareId::ETHERNET);
+        check_eq!(rt; packet.sender_address_valid_length(), 6);
+        check_eq!(rt;
             packet.sender_address(),
             [2, 0, 0x5E, 0x10, 0, 1].as_slice()
         );
-        assert_eq!(rt;
+        check_eq!(rt;
             packet.protocol_type(),
             LinuxSllProtocolType::EtherType(EtherType::ARP)
         );
@@ -237,11 +238,11 @@ mod tests {
     #[test]
     fn the_header_as_bytes_and_as_a_value(rt: HostRuntime) -> Result<(), Fail> {
         let packet = LinuxSllSlice::from_slice(&PACKET)?;
-        assert_eq!(rt; packet.slice(), PACKET.as_slice());
-        assert_eq!(rt; packet.header_slice(), &PACKET[..16]);
-        assert_eq!(rt; packet.header_len(), 16);
-        assert_eq!(rt; packet.sender_address_full(), [2, 0, 0, 0, 0, 1, 0, 0]);
-        assert_eq!(rt; packet.to_header().to_bytes().as_slice(), &PACKET[..16]);
+        check_eq!(rt; packet.slice(), PACKET.as_slice());
+        check_eq!(rt; packet.header_slice(), &PACKET[..16]);
+        check_eq!(rt; packet.header_len(), 16);
+        check_eq!(rt; packet.sender_address_full(), [2, 0, 0, 0, 0, 1, 0, 0]);
+        check_eq!(rt; packet.to_header().to_bytes().as_slice(), &PACKET[..16]);
         Ok(())
     }
 
@@ -252,7 +253,7 @@ mod tests {
             protocol_type: packet.protocol_type(),
             payload: &[0xAA],
         };
-        assert_eq!(rt; packet.payload(), payload);
+        check_eq!(rt; packet.payload(), payload);
         Ok(())
     }
 
@@ -262,7 +263,7 @@ mod tests {
         let cslip = [0, 7, 1, 1, 0, 0, 0, 0, 0, 0, 0, 0, 0, 0, 0, 0];
         let rows: [(&[u8], u16); 2] = [(&LOOPBACK, 772), (&cslip, 257)];
         for (bytes, number) in rows {
-            assert_eq!(rt;
+            check_eq!(rt;
                 LinuxSllSlice::from_slice(bytes).err(),
                 Some(HeaderSliceError::Content(HeaderError::UnsupportedArpHardwareId {
                     arp_hardware_type: ArpHardwareId(number),
@@ -276,7 +277,7 @@ mod tests {
         // The second has an unsupported hardware type as well.
         let greatest = [0xFF, 0xFF, 0, 1, 0, 0, 0, 0, 0, 0, 0, 0, 0, 0, 0, 0];
         for (bytes, packet_type) in [(greatest, 65535), (UNSUPPORTED, 8)] {
-            assert_eq!(rt;
+            check_eq!(rt;
                 LinuxSllSlice::from_slice(&bytes).err(),
                 Some(HeaderSliceError::Content(HeaderError::UnsupportedPacketTypeField {
                     packet_type
@@ -288,7 +289,7 @@ mod tests {
     #[test]
     fn fifteen_bytes_are_refused(rt: HostRuntime) {
         let bytes = PACKET;
-        assert_eq!(rt;
+        check_eq!(rt;
             LinuxSllSlice::from_slice(&bytes[..15]).err(),
             Some(HeaderSliceError::Len(LenError {
                 required_len: 16,
@@ -305,18 +306,18 @@ mod tests {
         let mut changed = PACKET;
         changed[16] = 0xAB;
         let packet = LinuxSllSlice::from_slice(&PACKET)?;
-        assert_eq!(rt; packet.clone()?, packet);
-        assert_ne!(rt; packet, LinuxSllSlice::from_slice(&changed)?);
+        check_eq!(rt; packet.clone()?, packet);
+        check_ne!(rt; packet, LinuxSllSlice::from_slice(&changed)?);
         Ok(())
     }
 
     #[test]
     fn shown_by_header_and_payload(rt: HostRuntime) -> Result<(), Fail> {
         let packet = LinuxSllSlice::from_slice(&PACKET)?;
-        assert_eq!(rt;
-            format!(in rt.alloc(); "{packet:?}")?.as_str(),
-            "LinuxSllSlice { header: LinuxSllHeader { packet_type: 0 (Sent to us), arp_hrd_type: 1 (Ethernet), sender_address_valid_length: 255, sender_address: [2, 0, 0, 0, 0, 1, 0, 0], protocol_type: LinuxNonstandardEtherType(0x0001 (Dummy type for 802.3 frames)) }, payload: LinuxSllPayloadSlice { protocol_type: LinuxNonstandardEtherType(0x0001 (Dummy type for 802.3 frames)), payload: [170] } }"
-        );
-        Ok(())
+        assert_debug(
+            &rt,
+            &packet,
+            "LinuxSllSlice { header: LinuxSllHeader { packet_type: 0 (Sent to us), arp_hrd_type: 1 (Ethernet), sender_address_valid_length: 255, sender_address: [2, 0, 0, 0, 0, 1, 0, 0], protocol_type: LinuxNonstandardEtherType(0x0001 (Dummy type for 802.3 frames)) }, payload: LinuxSllPayloadSlice { protocol_type: LinuxNonstandardEtherType(0x0001 (Dummy type for 802.3 frames)), payload: [170] } }",
+        )
     }
 }
