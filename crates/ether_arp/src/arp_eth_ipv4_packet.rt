@@ -129,6 +129,7 @@ impl TryFrom<ArpPacket> for ArpEthIpv4Packet {
 #[cfg(test)]
 mod tests {
     use super::*;
+    use crate::test_asserts::{assert_debug, check_eq, check_ne};
     use std::hash::{DefaultHasher, Hash, Hasher};
     use std::test::Fail;
 
@@ -153,9 +154,9 @@ mod tests {
 
     #[test]
     fn a_request_in_bytes(rt: HostRuntime) {
-        assert_eq!(rt; REQUEST.to_bytes(), BYTES);
-        assert_eq!(rt; BYTES.len(), ArpEthIpv4Packet::LEN);
-        assert_eq!(rt;
+        check_eq!(rt; REQUEST.to_bytes(), BYTES);
+        check_eq!(rt; BYTES.len(), ArpEthIpv4Packet::LEN);
+        check_eq!(rt;
             REQUEST.to_arp_packet().to_bytes().as_slice(),
             BYTES.as_slice()
         );
@@ -164,14 +165,14 @@ mod tests {
     #[test]
     fn there_and_back(rt: HostRuntime) -> Result<(), Fail> {
         let read = ArpPacket::from_slice(&REQUEST.to_bytes())?;
-        assert_eq!(rt; read.try_eth_ipv4(), Ok(REQUEST));
-        assert_eq!(rt; REQUEST.to_arp_packet().try_eth_ipv4(), Ok(REQUEST));
+        check_eq!(rt; read.try_eth_ipv4(), Ok(REQUEST));
+        check_eq!(rt; REQUEST.to_arp_packet().try_eth_ipv4(), Ok(REQUEST));
         let packet = ArpPacket::from(REQUEST);
-        assert_eq!(rt; packet, ArpPacket::from_slice(&BYTES)?);
-        assert_eq!(rt; ArpEthIpv4Packet::try_from(packet), Ok(REQUEST));
+        check_eq!(rt; packet, ArpPacket::from_slice(&BYTES)?);
+        check_eq!(rt; ArpEthIpv4Packet::try_from(packet), Ok(REQUEST));
         let mut other = REQUEST.to_arp_packet();
         other.set_protocol_addrs(&[0; 16], &[0; 16])?;
-        assert_eq!(rt;
+        check_eq!(rt;
             ArpEthIpv4Packet::try_from(other),
             Err(ArpEthIpv4FromError::NonMatchingProtoAddrSize(16))
         );
@@ -180,54 +181,54 @@ mod tests {
 
     #[test]
     fn the_addresses_of_ipv4(rt: HostRuntime) {
-        assert_eq!(rt; REQUEST.sender_ipv4_addr(), Ipv4Addr::new(10, 0, 0, 1));
-        assert_eq!(rt; REQUEST.target_ipv4_addr(), Ipv4Addr::new(10, 0, 0, 2));
+        check_eq!(rt; REQUEST.sender_ipv4_addr(), Ipv4Addr::new(10, 0, 0, 1));
+        check_eq!(rt; REQUEST.target_ipv4_addr(), Ipv4Addr::new(10, 0, 0, 2));
     }
 
     #[test]
     fn copied_compared_hashed_and_shown(rt: HostRuntime) -> Result<(), Fail> {
         let copy = REQUEST;
-        assert_eq!(rt; copy, REQUEST.clone()?);
-        assert_eq!(rt; hash_of(&copy), hash_of(&REQUEST));
-        assert_ne!(rt;
+        check_eq!(rt; copy, REQUEST.clone()?);
+        check_eq!(rt; hash_of(&copy), hash_of(&REQUEST));
+        check_ne!(rt;
             copy,
             ArpEthIpv4Packet {
                 operation: ArpOperation::REPLY,
                 ..copy
             }
         );
-        assert_ne!(rt;
+        check_ne!(rt;
             copy,
             ArpEthIpv4Packet {
                 sender_mac: [9; 6],
                 ..copy
             }
         );
-        assert_ne!(rt;
+        check_ne!(rt;
             copy,
             ArpEthIpv4Packet {
                 sender_ipv4: [9; 4],
                 ..copy
             }
         );
-        assert_ne!(rt;
+        check_ne!(rt;
             copy,
             ArpEthIpv4Packet {
                 target_mac: [9; 6],
                 ..copy
             }
         );
-        assert_ne!(rt;
+        check_ne!(rt;
             copy,
             ArpEthIpv4Packet {
                 target_ipv4: [9; 4],
                 ..copy
             }
         );
-        assert_eq!(rt;
-            format!(in rt.alloc(); "{copy:?}")?.as_str(),
-            "ArpEthIpv4Packet { operation: ArpOperation(1), sender_mac: [2, 0, 0, 0, 0, 1], sender_ipv4: [10, 0, 0, 1], target_mac: [0, 0, 0, 0, 0, 0], target_ipv4: [10, 0, 0, 2] }"
-        );
-        Ok(())
+        assert_debug(
+            &rt,
+            &copy,
+            "ArpEthIpv4Packet { operation: ArpOperation(1), sender_mac: [2, 0, 0, 0, 0, 1], sender_ipv4: [10, 0, 0, 1], target_mac: [0, 0, 0, 0, 0, 0], target_ipv4: [10, 0, 0, 2] }",
+        )
     }
 }

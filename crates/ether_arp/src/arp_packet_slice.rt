@@ -177,6 +177,7 @@ impl<'a> Eq for ArpPacketSlice<'a> {
 #[cfg(test)]
 mod tests {
     use super::*;
+    use crate::test_asserts::{assert_debug, check_eq, check_ne};
     use ether_base::LenSource;
     use ether_base::err::Layer;
     use std::test::Fail;
@@ -206,38 +207,44 @@ mod tests {
     #[test]
     fn a_captured_request(rt: HostRuntime) -> Result<(), Fail> {
         let packet = ArpPacketSlice::from_slice(&REQUEST)?;
-        assert_eq!(rt; packet.slice(), REQUEST.as_slice());
-        assert_eq!(rt; packet.hw_addr_type(), ArpHardwareId::ETHERNET);
-        assert_eq!(rt; packet.proto_addr_type(), EtherType::IPV4);
-        assert_eq!(rt; packet.hw_addr_size(), 6);
-        assert_eq!(rt; packet.proto_addr_size(), 4);
-        assert_eq!(rt; packet.operation(), ArpOperation::REQUEST);
-        assert_eq!(rt; packet.sender_hw_addr(), [2, 0, 0, 0, 0, 1].as_slice());
-        assert_eq!(rt; packet.sender_protocol_addr(), [10, 0, 0, 1].as_slice());
-        assert_eq!(rt; packet.target_hw_addr(), [0; 6].as_slice());
-        assert_eq!(rt; packet.target_protocol_addr(), [10, 0, 0, 2].as_slice());
-        assert_eq!(rt; packet.to_packet(), ArpPacket::from_slice(&REQUEST)?);
-        assert_eq!(rt;
+        check_eq!(rt; packet.slice(), REQUEST.as_slice());
+        check_eq!(rt; packet.hw_addr_type(), ArpHardwareId::ETHERNET);
+        check_eq!(rt; packet.proto_addr_type(), EtherType::IPV4);
+        check_eq!(rt; packet.hw_addr_size(), 6);
+        check_eq!(rt; packet.proto_addr_size(), 4);
+        check_eq!(rt; packet.operation(), ArpOperation::REQUEST);
+        check_eq!(rt; packet.sender_hw_addr(), [2, 0, 0, 0, 0, 1].as_slice());
+        check_eq!(rt; packet.sender_protocol_addr(), [10, 0, 0, 1].as_slice());
+        check_eq!(rt; packet.target_hw_addr(), [0; 6].as_slice());
+        check_eq!(rt; packet.target_protocol_addr(), [10, 0, 0, 2].as_slice());
+        Ok(())
+    }
+
+    #[test]
+    fn a_captured_request_as_a_value(rt: HostRuntime) -> Result<(), Fail> {
+        let packet = ArpPacketSlice::from_slice(&REQUEST)?;
+        check_eq!(rt; packet.to_packet(), ArpPacket::from_slice(&REQUEST)?);
+        check_eq!(rt;
             packet.to_packet().to_bytes().as_slice(),
             REQUEST.as_slice()
         );
-        assert_eq!(rt; packet.clone()?, packet);
-        assert_eq!(rt;
-            format!(in rt.alloc(); "{packet:?}")?.as_str(),
-            "ArpPacketSlice { slice: [0, 1, 8, 0, 6, 4, 0, 1, 2, 0, 0, 0, 0, 1, 10, 0, 0, 1, 0, 0, 0, 0, 0, 0, 10, 0, 0, 2] }"
-        );
-        Ok(())
+        check_eq!(rt; packet.clone()?, packet);
+        assert_debug(
+            &rt,
+            &packet,
+            "ArpPacketSlice { slice: [0, 1, 8, 0, 6, 4, 0, 1, 2, 0, 0, 0, 0, 1, 10, 0, 0, 1, 0, 0, 0, 0, 0, 0, 10, 0, 0, 2] }",
+        )
     }
 
     #[test]
     fn a_captured_reply(rt: HostRuntime) -> Result<(), Fail> {
         let packet = ArpPacketSlice::from_slice(&REPLY)?;
-        assert_eq!(rt; packet.operation(), ArpOperation::REPLY);
-        assert_eq!(rt; packet.sender_hw_addr(), [2, 0, 0, 0, 0, 2].as_slice());
-        assert_eq!(rt; packet.sender_protocol_addr(), [10, 0, 0, 2].as_slice());
-        assert_eq!(rt; packet.target_hw_addr(), [2, 0, 0, 0, 0, 1].as_slice());
-        assert_eq!(rt; packet.target_protocol_addr(), [10, 0, 0, 1].as_slice());
-        assert_eq!(rt; packet.to_packet().to_bytes().as_slice(), REPLY.as_slice());
+        check_eq!(rt; packet.operation(), ArpOperation::REPLY);
+        check_eq!(rt; packet.sender_hw_addr(), [2, 0, 0, 0, 0, 2].as_slice());
+        check_eq!(rt; packet.sender_protocol_addr(), [10, 0, 0, 2].as_slice());
+        check_eq!(rt; packet.target_hw_addr(), [2, 0, 0, 0, 0, 1].as_slice());
+        check_eq!(rt; packet.target_protocol_addr(), [10, 0, 0, 1].as_slice());
+        check_eq!(rt; packet.to_packet().to_bytes().as_slice(), REPLY.as_slice());
         Ok(())
     }
 
@@ -247,13 +254,13 @@ mod tests {
             0x01, 0x02, 0x86, 0xDD, 2, 3, 0xAB, 0xCD, 1, 2, 3, 4, 5, 6, 7, 8, 9, 10,
         ];
         let packet = ArpPacketSlice::from_slice(&bytes)?;
-        assert_eq!(rt; packet.hw_addr_type(), ArpHardwareId(0x0102));
-        assert_eq!(rt; packet.proto_addr_type(), EtherType::IPV6);
-        assert_eq!(rt; packet.operation(), ArpOperation(0xABCD));
-        assert_eq!(rt; packet.sender_hw_addr(), [1, 2].as_slice());
-        assert_eq!(rt; packet.sender_protocol_addr(), [3, 4, 5].as_slice());
-        assert_eq!(rt; packet.target_hw_addr(), [6, 7].as_slice());
-        assert_eq!(rt; packet.target_protocol_addr(), [8, 9, 10].as_slice());
+        check_eq!(rt; packet.hw_addr_type(), ArpHardwareId(0x0102));
+        check_eq!(rt; packet.proto_addr_type(), EtherType::IPV6);
+        check_eq!(rt; packet.operation(), ArpOperation(0xABCD));
+        check_eq!(rt; packet.sender_hw_addr(), [1, 2].as_slice());
+        check_eq!(rt; packet.sender_protocol_addr(), [3, 4, 5].as_slice());
+        check_eq!(rt; packet.target_hw_addr(), [6, 7].as_slice());
+        check_eq!(rt; packet.target_protocol_addr(), [8, 9, 10].as_slice());
         Ok(())
     }
 
@@ -262,11 +269,11 @@ mod tests {
         let mut frame = [0; 46];
         frame[..28].copy_from_slice(&REQUEST);
         let packet = ArpPacketSlice::from_slice(&frame)?;
-        assert_eq!(rt; packet.operation(), ArpOperation::REQUEST);
-        assert_eq!(rt; packet.target_protocol_addr(), [10, 0, 0, 2].as_slice());
-        assert_eq!(rt; packet.slice(), REQUEST.as_slice());
+        check_eq!(rt; packet.operation(), ArpOperation::REQUEST);
+        check_eq!(rt; packet.target_protocol_addr(), [10, 0, 0, 2].as_slice());
+        check_eq!(rt; packet.slice(), REQUEST.as_slice());
         frame[28] = 0x55;
-        assert_eq!(rt;
+        check_eq!(rt;
             ArpPacketSlice::from_slice(&frame)?,
             ArpPacketSlice::from_slice(&REQUEST)?
         );
@@ -278,14 +285,14 @@ mod tests {
         let request = ArpPacketSlice::from_slice(&REQUEST)?;
         let mut other = REQUEST;
         other[27] = 3;
-        assert_ne!(rt; request, ArpPacketSlice::from_slice(&other)?);
-        assert_ne!(rt; request, ArpPacketSlice::from_slice(&REPLY)?);
+        check_ne!(rt; request, ArpPacketSlice::from_slice(&other)?);
+        check_ne!(rt; request, ArpPacketSlice::from_slice(&REPLY)?);
         Ok(())
     }
 
     #[test]
     fn the_front_alone(rt: HostRuntime) {
-        assert_eq!(rt;
+        check_eq!(rt;
             ArpPacketSlice::from_slice(&REQUEST[..8]).err(),
             Some(cut_short(28, 8, LenSource::ArpAddrLengths))
         );
@@ -293,15 +300,15 @@ mod tests {
 
     #[test]
     fn the_front_is_asked_for_before_the_addresses(rt: HostRuntime) {
-        assert_eq!(rt;
+        check_eq!(rt;
             ArpPacketSlice::from_slice(&[0, 1, 8, 0, 0, 1, 0]).err(),
             Some(cut_short(8, 7, LenSource::Slice))
         );
-        assert_eq!(rt;
+        check_eq!(rt;
             ArpPacketSlice::from_slice(&[0, 1, 8, 0, 0, 1, 0, 1]).err(),
             Some(cut_short(10, 8, LenSource::ArpAddrLengths))
         );
-        assert_eq!(rt;
+        check_eq!(rt;
             ArpPacketSlice::from_slice(&[]).err(),
             Some(cut_short(8, 0, LenSource::Slice))
         );
@@ -313,9 +320,9 @@ mod tests {
         bytes[4] = 255;
         bytes[5] = 255;
         let packet = ArpPacketSlice::from_slice(&bytes)?;
-        assert_eq!(rt; packet.slice().len(), 1028);
-        assert_eq!(rt; packet.target_protocol_addr(), [7; 255].as_slice());
-        assert_eq!(rt;
+        check_eq!(rt; packet.slice().len(), 1028);
+        check_eq!(rt; packet.target_protocol_addr(), [7; 255].as_slice());
+        check_eq!(rt;
             ArpPacketSlice::from_slice(&bytes[..1027]).err(),
             Some(cut_short(1028, 1027, LenSource::ArpAddrLengths))
         );
@@ -325,9 +332,9 @@ mod tests {
     #[test]
     fn no_addresses(rt: HostRuntime) -> Result<(), Fail> {
         let packet = ArpPacketSlice::from_slice(&[0, 1, 8, 0, 0, 0, 0, 1])?;
-        assert_eq!(rt; packet.slice().len(), 8);
-        assert_eq!(rt; packet.sender_hw_addr(), [].as_slice());
-        assert_eq!(rt; packet.target_protocol_addr(), [].as_slice());
+        check_eq!(rt; packet.slice().len(), 8);
+        check_eq!(rt; packet.sender_hw_addr(), [].as_slice());
+        check_eq!(rt; packet.target_protocol_addr(), [].as_slice());
         Ok(())
     }
 
@@ -337,9 +344,9 @@ mod tests {
         bytes[4] = 255;
         bytes[5] = 0;
         let packet = ArpPacketSlice::from_slice(&bytes)?;
-        assert_eq!(rt; packet.target_hw_addr(), [7; 255].as_slice());
-        assert_eq!(rt; packet.target_protocol_addr(), [].as_slice());
-        assert_eq!(rt;
+        check_eq!(rt; packet.target_hw_addr(), [7; 255].as_slice());
+        check_eq!(rt; packet.target_protocol_addr(), [].as_slice());
+        check_eq!(rt;
             ArpPacketSlice::from_slice(&bytes[..517]).err(),
             Some(cut_short(518, 517, LenSource::ArpAddrLengths))
         );

@@ -9,6 +9,8 @@ mod arp_packet_slice;
 #[cfg(test)]
 mod derived_traits;
 pub mod laws;
+#[cfg(test)]
+mod test_asserts;
 
 pub use arp_eth_ipv4_packet::ArpEthIpv4Packet;
 pub use arp_packet::ArpPacket;
