@@ -44,6 +44,7 @@ impl Default for DoubleVlanHeader {
 #[cfg(test)]
 mod tests {
     use super::*;
+    use crate::test_asserts::{assert_debug, check_eq, check_ne};
     use ether_base::VlanId;
     use std::test::Fail;
 
@@ -53,16 +54,16 @@ mod tests {
         tags.outer.vlan_id = VlanId::try_new(10)?;
         tags.inner.vlan_id = VlanId::try_new(100)?;
         tags.inner.ether_type = EtherType::IPV4;
-        assert_eq!(rt; tags.outer.to_bytes(), [0x00, 0x0A, 0x81, 0x00]);
-        assert_eq!(rt; tags.inner.to_bytes(), [0x00, 0x64, 0x08, 0x00]);
+        check_eq!(rt; tags.outer.to_bytes(), [0x00, 0x0A, 0x81, 0x00]);
+        check_eq!(rt; tags.inner.to_bytes(), [0x00, 0x64, 0x08, 0x00]);
         Ok(())
     }
 
     #[test]
     fn the_default_announces_the_inner_tag(rt: HostRuntime) {
         let tags = DoubleVlanHeader::default();
-        assert_eq!(rt; tags.outer.to_bytes(), [0, 0, 0x81, 0x00]);
-        assert_eq!(rt; tags.inner.to_bytes(), [0; 4]);
+        check_eq!(rt; tags.outer.to_bytes(), [0, 0, 0x81, 0x00]);
+        check_eq!(rt; tags.inner.to_bytes(), [0; 4]);
     }
 
     #[test]
@@ -72,18 +73,18 @@ mod tests {
         outer.outer.ether_type = EtherType::PROVIDER_BRIDGING;
         let mut inner = DoubleVlanHeader::default();
         inner.inner.ether_type = EtherType::IPV4;
-        assert_eq!(rt; tags, DoubleVlanHeader::default());
-        assert_ne!(rt; tags, outer);
-        assert_ne!(rt; tags, inner);
+        check_eq!(rt; tags, DoubleVlanHeader::default());
+        check_ne!(rt; tags, outer);
+        check_ne!(rt; tags, inner);
     }
 
     #[test]
     fn shown_by_its_fields(rt: HostRuntime) -> Result<(), Fail> {
         let tags = DoubleVlanHeader::default();
-        assert_eq!(rt;
-            format!(in rt.alloc(); "{tags:?}")?.as_str(),
-            "DoubleVlanHeader { outer: SingleVlanHeader { pcp: VlanPcp(0), drop_eligible_indicator: false, vlan_id: VlanId(0), ether_type: 0x8100 (Customer VLAN Tag (C-TAG) as defined in IEEE Std 802.1Q) }, inner: SingleVlanHeader { pcp: VlanPcp(0), drop_eligible_indicator: false, vlan_id: VlanId(0), ether_type: 0x0000 } }"
-        );
-        Ok(())
+        assert_debug(
+            &rt,
+            &tags,
+            "DoubleVlanHeader { outer: SingleVlanHeader { pcp: VlanPcp(0), drop_eligible_indicator: false, vlan_id: VlanId(0), ether_type: 0x8100 (Customer VLAN Tag (C-TAG) as defined in IEEE Std 802.1Q) }, inner: SingleVlanHeader { pcp: VlanPcp(0), drop_eligible_indicator: false, vlan_id: VlanId(0), ether_type: 0x0000 } }",
+        )
     }
 }

@@ -72,6 +72,7 @@ impl fmt::Debug for DoubleVlanSlice<'_> {
 mod tests {
     use super::*;
     use crate::SingleVlanHeader;
+    use crate::test_asserts::{assert_debug, check_eq, check_ne};
     use crate::test_frames::{TWICE_TAGGED_ARP_REQUEST, TWO_TAGS};
     use ether_base::{EtherType, LenSource};
     use std::test::Fail;
@@ -89,9 +90,9 @@ mod tests {
         let outer = SingleVlanSlice::from_slice(&bytes)?;
         let inner = SingleVlanSlice::from_slice(outer.payload_slice())?;
         let tags = DoubleVlanSlice { outer, inner };
-        assert_eq!(rt; tags.outer.vlan_identifier().value(), 10);
-        assert_eq!(rt; tags.inner.vlan_identifier().value(), 100);
-        assert_eq!(rt; tags.payload_slice(), [0x45].as_slice());
+        check_eq!(rt; tags.outer.vlan_identifier().value(), 10);
+        check_eq!(rt; tags.inner.vlan_identifier().value(), 100);
+        check_eq!(rt; tags.payload_slice(), [0x45].as_slice());
         Ok(())
     }
 
@@ -99,16 +100,16 @@ mod tests {
     fn two_captured_tags(rt: HostRuntime) -> Result<(), Fail> {
         let frame = TWICE_TAGGED_ARP_REQUEST;
         let tags = two_tags(&frame[14..])?;
-        assert_eq!(rt; tags.outer.vlan_identifier().value(), 10);
-        assert_eq!(rt; tags.outer.ether_type(), EtherType::VLAN_TAGGED_FRAME);
-        assert_eq!(rt; tags.inner.vlan_identifier().value(), 100);
-        assert_eq!(rt; tags.inner.ether_type(), EtherType::ARP);
+        check_eq!(rt; tags.outer.vlan_identifier().value(), 10);
+        check_eq!(rt; tags.outer.ether_type(), EtherType::VLAN_TAGGED_FRAME);
+        check_eq!(rt; tags.inner.vlan_identifier().value(), 100);
+        check_eq!(rt; tags.inner.ether_type(), EtherType::ARP);
         Ok(())
     }
 
     #[test]
     fn both_tags_as_a_value(rt: HostRuntime) -> Result<(), Fail> {
-        assert_eq!(rt;
+        check_eq!(rt;
             two_tags(&TWO_TAGS)?.to_header(),
             DoubleVlanHeader {
                 outer: SingleVlanHeader::from_bytes([0x00, 0x01, 0x81, 0x00]),
@@ -121,8 +122,8 @@ mod tests {
     #[test]
     fn the_payload_of_the_inner_tag(rt: HostRuntime) -> Result<(), Fail> {
         let tags = two_tags(&TWO_TAGS)?;
-        assert_eq!(rt; tags.payload_slice(), [0x45].as_slice());
-        assert_eq!(rt;
+        check_eq!(rt; tags.payload_slice(), [0x45].as_slice());
+        check_eq!(rt;
             tags.payload(),
             EtherPayloadSlice {
                 ether_type: EtherType::IPV4,
@@ -145,19 +146,19 @@ mod tests {
             outer: tags.outer.clone()?,
             inner: other,
         };
-        assert_eq!(rt; tags.clone()?, tags);
-        assert_ne!(rt; tags, outer);
-        assert_ne!(rt; tags, inner);
+        check_eq!(rt; tags.clone()?, tags);
+        check_ne!(rt; tags, outer);
+        check_ne!(rt; tags, inner);
         Ok(())
     }
 
     #[test]
     fn shown_by_tags_and_payload(rt: HostRuntime) -> Result<(), Fail> {
         let tags = two_tags(&TWO_TAGS)?;
-        assert_eq!(rt;
-            format!(in rt.alloc(); "{tags:?}")?.as_str(),
-            "DoubleVlanSlice { outer: SingleVlanHeader { pcp: VlanPcp(0), drop_eligible_indicator: false, vlan_id: VlanId(1), ether_type: 0x8100 (Customer VLAN Tag (C-TAG) as defined in IEEE Std 802.1Q) }, inner: SingleVlanHeader { pcp: VlanPcp(0), drop_eligible_indicator: false, vlan_id: VlanId(2), ether_type: 0x0800 (Internet Protocol version 4 (IPv4)) }, payload: EtherPayloadSlice { ether_type: 0x0800 (Internet Protocol version 4 (IPv4)), len_source: Slice, payload: [69] } }"
-        );
-        Ok(())
+        assert_debug(
+            &rt,
+            &tags,
+            "DoubleVlanSlice { outer: SingleVlanHeader { pcp: VlanPcp(0), drop_eligible_indicator: false, vlan_id: VlanId(1), ether_type: 0x8100 (Customer VLAN Tag (C-TAG) as defined in IEEE Std 802.1Q) }, inner: SingleVlanHeader { pcp: VlanPcp(0), drop_eligible_indicator: false, vlan_id: VlanId(2), ether_type: 0x0800 (Internet Protocol version 4 (IPv4)) }, payload: EtherPayloadSlice { ether_type: 0x0800 (Internet Protocol version 4 (IPv4)), len_source: Slice, payload: [69] } }",
+        )
     }
 }

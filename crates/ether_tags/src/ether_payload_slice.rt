@@ -28,6 +28,7 @@ pub struct EtherPayloadSlice<'a> {
 mod tests {
     use super::*;
     use crate::SingleVlanSlice;
+    use crate::test_asserts::{check_eq, check_ne};
     use std::test::Fail;
 
     /// One byte of IPv4.
@@ -45,7 +46,7 @@ mod tests {
             len_source: LenSource::Slice,
             payload: &[0x45],
         };
-        assert_eq!(rt; tag.payload(), payload);
+        check_eq!(rt; tag.payload(), payload);
         Ok(())
     }
 
@@ -66,9 +67,9 @@ mod tests {
             },
         ];
         for other in others {
-            assert_ne!(rt; other, IPV4);
+            check_ne!(rt; other, IPV4);
             assert!(rt; IPV4 < other);
-            assert_eq!(rt; other, other);
+            check_eq!(rt; other, other);
         }
     }
 }

@@ -159,6 +159,7 @@ fn joined(destination: &[u8], source: &[u8], ether_type: u16) -> [u8; 14]
 #[cfg(test)]
 mod tests {
     use super::*;
+    use crate::test_asserts::{assert_debug, check_eq, check_ne};
     use crate::test_frames::{ARP_REQUEST, FRAME, SPANNING_TREE};
     use ether_base::LenSource;
     use std::test::Fail;
@@ -178,8 +179,8 @@ mod tests {
             ether_type: EtherType::IPV4,
         };
         let bytes = [255, 255, 255, 255, 255, 255, 2, 0, 0, 0, 0, 1, 0x08, 0x00];
-        assert_eq!(rt; header.to_bytes(), bytes);
-        assert_eq!(rt; Ethernet2Header::from_bytes(bytes), header);
+        check_eq!(rt; header.to_bytes(), bytes);
+        check_eq!(rt; Ethernet2Header::from_bytes(bytes), header);
     }
 
     #[test]
@@ -190,11 +191,11 @@ mod tests {
             ether_type: EtherType::ARP,
         };
         let frame = ARP_REQUEST;
-        assert_eq!(rt;
+        check_eq!(rt;
             Ethernet2Header::from_slice(&frame),
             Ok((header, &frame[14..]))
         );
-        assert_eq!(rt; header.to_bytes().as_slice(), &frame[..14]);
+        check_eq!(rt; header.to_bytes().as_slice(), &frame[..14]);
     }
 
     #[test]
@@ -205,7 +206,7 @@ mod tests {
             ether_type: EtherType(38),
         };
         let frame = SPANNING_TREE;
-        assert_eq!(rt;
+        check_eq!(rt;
             Ethernet2Header::from_slice(&frame),
             Ok((header, &frame[14..]))
         );
@@ -214,11 +215,11 @@ mod tests {
     #[test]
     fn the_front_of_a_slice_and_the_rest(rt: HostRuntime) {
         let frame = FRAME;
-        assert_eq!(rt;
+        check_eq!(rt;
             Ethernet2Header::from_slice(&frame),
             Ok((HEADER, &frame[14..]))
         );
-        assert_eq!(rt;
+        check_eq!(rt;
             Ethernet2Header::read_from_slice(&frame),
             Ok((HEADER, &frame[14..]))
         );
@@ -234,11 +235,11 @@ mod tests {
             layer: Layer::Ethernet2Header,
             layer_start_offset: 0,
         };
-        assert_eq!(rt;
+        check_eq!(rt;
             Ethernet2Header::from_slice(&frame[..13]),
             Err(refused.clone()?)
         );
-        assert_eq!(rt;
+        check_eq!(rt;
             Ethernet2Header::read_from_slice(&frame[..13]),
             Err(refused)
         );
@@ -247,14 +248,14 @@ mod tests {
 
     #[test]
     fn the_length(rt: HostRuntime) {
-        assert_eq!(rt; HEADER.header_len(), 14);
-        assert_eq!(rt; Ethernet2Header::LEN, 14);
-        assert_eq!(rt; Ethernet2Header::SERIALIZED_SIZE, 14);
+        check_eq!(rt; HEADER.header_len(), 14);
+        check_eq!(rt; Ethernet2Header::LEN, 14);
+        check_eq!(rt; Ethernet2Header::SERIALIZED_SIZE, 14);
     }
 
     #[test]
     fn the_default_is_zero(rt: HostRuntime) {
-        assert_eq!(rt; Ethernet2Header::default().to_bytes(), [0; 14]);
+        check_eq!(rt; Ethernet2Header::default().to_bytes(), [0; 14]);
     }
 
     #[test]
@@ -274,28 +275,28 @@ mod tests {
             },
         ];
         for other in others {
-            assert_ne!(rt; other, HEADER);
-            assert_eq!(rt; other, other);
+            check_ne!(rt; other, HEADER);
+            check_eq!(rt; other, other);
         }
     }
 
     #[test]
     fn shown_by_its_fields(rt: HostRuntime) -> Result<(), Fail> {
-        assert_eq!(rt;
-            format!(in rt.alloc(); "{HEADER:?}")?.as_str(),
-            "Ethernet2Header { source: [2, 0, 0, 0, 0, 1], destination: [255, 255, 255, 255, 255, 255], ether_type: 0x0800 (Internet Protocol version 4 (IPv4)) }"
-        );
-        Ok(())
+        assert_debug(
+            &rt,
+            &HEADER,
+            "Ethernet2Header { source: [2, 0, 0, 0, 0, 1], destination: [255, 255, 255, 255, 255, 255], ether_type: 0x0800 (Internet Protocol version 4 (IPv4)) }",
+        )
     }
 
     #[test]
     fn written_to_the_front_and_the_rest_lent(rt: HostRuntime) -> Result<(), Fail> {
         let mut slice = [0x55; 16];
         let rest = HEADER.write_to_slice(&mut slice)?;
-        assert_eq!(rt; rest.len(), 2);
+        check_eq!(rt; rest.len(), 2);
         rest[0] = 0xAA;
-        assert_eq!(rt; &slice[..14], &FRAME[..14]);
-        assert_eq!(rt; &slice[14..], [0xAA, 0x55].as_slice());
+        check_eq!(rt; &slice[..14], &FRAME[..14]);
+        check_eq!(rt; &slice[14..], [0xAA, 0x55].as_slice());
         Ok(())
     }
 
@@ -308,7 +309,7 @@ mod tests {
             layer: Layer::Ethernet2Header,
             layer_start_offset: 0,
         };
-        assert_eq!(rt; HEADER.write_to_slice(&mut slice).err(), Some(refused));
-        assert_eq!(rt; slice, [0x55; 13]);
+        check_eq!(rt; HEADER.write_to_slice(&mut slice).err(), Some(refused));
+        check_eq!(rt; slice, [0x55; 13]);
     }
 }

@@ -135,6 +135,7 @@ impl<'a> Eq for Ethernet2HeaderSlice<'a> {
 #[cfg(test)]
 mod tests {
     use super::*;
+    use crate::test_asserts::{assert_debug, check_eq, check_ne};
     use crate::test_frames::FRAME;
     use ether_base::LenSource;
     use ether_base::err::Layer;
@@ -146,16 +147,16 @@ mod tests {
             255, 255, 255, 255, 255, 255, 2, 0, 0, 0, 0, 1, 0x08, 0x00, 0x45,
         ];
         let header = Ethernet2HeaderSlice::from_slice(&bytes)?;
-        assert_eq!(rt; header.destination(), [0xFF; 6]);
-        assert_eq!(rt; header.source(), [2, 0, 0, 0, 0, 1]);
-        assert_eq!(rt; header.ether_type(), EtherType::IPV4);
-        assert_eq!(rt; header.slice(), &bytes[..14]);
+        check_eq!(rt; header.destination(), [0xFF; 6]);
+        check_eq!(rt; header.source(), [2, 0, 0, 0, 0, 1]);
+        check_eq!(rt; header.ether_type(), EtherType::IPV4);
+        check_eq!(rt; header.slice(), &bytes[..14]);
         Ok(())
     }
 
     #[test]
     fn the_header_as_a_value(rt: HostRuntime) -> Result<(), Fail> {
-        assert_eq!(rt;
+        check_eq!(rt;
             Ethernet2HeaderSlice::from_slice(&FRAME)?.to_header(),
             Ethernet2Header {
                 source: [2, 0, 0, 0, 0, 1],
@@ -169,7 +170,7 @@ mod tests {
     #[test]
     fn thirteen_bytes_are_refused(rt: HostRuntime) {
         let frame = FRAME;
-        assert_eq!(rt;
+        check_eq!(rt;
             Ethernet2HeaderSlice::from_slice(&frame[..13]).err(),
             Some(LenError {
                 required_len: 14,
@@ -187,18 +188,18 @@ mod tests {
         let mut changed = FRAME;
         changed[13] = 0x01;
         let view = Ethernet2HeaderSlice::from_slice(&frame)?;
-        assert_eq!(rt; view.clone()?, view);
-        assert_ne!(rt; view, Ethernet2HeaderSlice::from_slice(&changed)?);
+        check_eq!(rt; view.clone()?, view);
+        check_ne!(rt; view, Ethernet2HeaderSlice::from_slice(&changed)?);
         Ok(())
     }
 
     #[test]
     fn shown_by_its_bytes(rt: HostRuntime) -> Result<(), Fail> {
         let view = Ethernet2HeaderSlice::from_slice(&FRAME)?;
-        assert_eq!(rt;
-            format!(in rt.alloc(); "{view:?}")?.as_str(),
-            "Ethernet2HeaderSlice { slice: [255, 255, 255, 255, 255, 255, 2, 0, 0, 0, 0, 1, 8, 0] }"
-        );
-        Ok(())
+        assert_debug(
+            &rt,
+            &view,
+            "Ethernet2HeaderSlice { slice: [255, 255, 255, 255, 255, 255, 2, 0, 0, 0, 0, 1, 8, 0] }",
+        )
     }
 }

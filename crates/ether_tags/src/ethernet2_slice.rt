@@ -218,6 +218,7 @@ impl fmt::Debug for Ethernet2Slice<'_> {
 #[cfg(test)]
 mod tests {
     use super::*;
+    use crate::test_asserts::{assert_debug, check_eq, check_ne};
     use crate::test_frames::{FRAME, SPANNING_TREE};
     use ether_base::err::Layer;
     use std::test::Fail;
@@ -228,30 +229,30 @@ mod tests {
             255, 255, 255, 255, 255, 255, 2, 0, 0, 0, 0, 1, 0x08, 0x00, 0x45,
         ];
         let frame = Ethernet2Slice::from_slice_without_fcs(&bytes)?;
-        assert_eq!(rt; frame.ether_type(), EtherType::IPV4);
-        assert_eq!(rt; frame.payload_slice(), [0x45].as_slice());
-        assert_eq!(rt; frame.fcs(), None);
+        check_eq!(rt; frame.ether_type(), EtherType::IPV4);
+        check_eq!(rt; frame.payload_slice(), [0x45].as_slice());
+        check_eq!(rt; frame.fcs(), None);
         Ok(())
     }
 
     #[test]
     fn a_frame_with_a_check_sequence(rt: HostRuntime) -> Result<(), Fail> {
         let view = Ethernet2Slice::from_slice_with_crc32_fcs(&FRAME)?;
-        assert_eq!(rt; view.slice(), FRAME.as_slice());
-        assert_eq!(rt; view.fcs(), Some([0x11, 0x22, 0x33, 0x44]));
-        assert_eq!(rt; view.payload_slice(), [].as_slice());
+        check_eq!(rt; view.slice(), FRAME.as_slice());
+        check_eq!(rt; view.fcs(), Some([0x11, 0x22, 0x33, 0x44]));
+        check_eq!(rt; view.payload_slice(), [].as_slice());
         Ok(())
     }
 
     #[test]
     fn the_fields_of_the_header(rt: HostRuntime) -> Result<(), Fail> {
         let view = Ethernet2Slice::from_slice_without_fcs(&FRAME)?;
-        assert_eq!(rt; view.header_slice(), &FRAME[..14]);
-        assert_eq!(rt; view.header_len(), 14);
-        assert_eq!(rt; view.destination(), [0xFF; 6]);
-        assert_eq!(rt; view.source(), [2, 0, 0, 0, 0, 1]);
-        assert_eq!(rt; view.ether_type(), EtherType::IPV4);
-        assert_eq!(rt;
+        check_eq!(rt; view.header_slice(), &FRAME[..14]);
+        check_eq!(rt; view.header_len(), 14);
+        check_eq!(rt; view.destination(), [0xFF; 6]);
+        check_eq!(rt; view.source(), [2, 0, 0, 0, 0, 1]);
+        check_eq!(rt; view.ether_type(), EtherType::IPV4);
+        check_eq!(rt;
             view.to_header(),
             Ethernet2Header {
                 source: [2, 0, 0, 0, 0, 1],
@@ -266,8 +267,8 @@ mod tests {
     fn the_payload(rt: HostRuntime) -> Result<(), Fail> {
         let frame = FRAME;
         let view = Ethernet2Slice::from_slice_without_fcs(&frame[..15])?;
-        assert_eq!(rt; view.slice(), &frame[..15]);
-        assert_eq!(rt;
+        check_eq!(rt; view.slice(), &frame[..15]);
+        check_eq!(rt;
             view.payload(),
             EtherPayloadSlice {
                 ether_type: EtherType::IPV4,
@@ -282,8 +283,8 @@ mod tests {
     fn a_length_in_the_place_of_the_type(rt: HostRuntime) -> Result<(), Fail> {
         let frame = SPANNING_TREE;
         let payload = Ethernet2Slice::from_slice_without_fcs(&frame)?.payload();
-        assert_eq!(rt; payload.ether_type, EtherType(38));
-        assert_eq!(rt; payload.payload, &frame[14..]);
+        check_eq!(rt; payload.ether_type, EtherType(38));
+        check_eq!(rt; payload.payload, &frame[14..]);
         Ok(())
     }
 
@@ -294,10 +295,10 @@ mod tests {
         changed[17] = 0x45;
         let view = Ethernet2Slice::from_slice_without_fcs(&frame)?;
         let with_fcs = Ethernet2Slice::from_slice_with_crc32_fcs(&frame)?;
-        assert_eq!(rt; view.clone()?, view);
-        assert_eq!(rt; with_fcs.clone()?, with_fcs);
-        assert_ne!(rt; view, with_fcs);
-        assert_ne!(rt; view, Ethernet2Slice::from_slice_without_fcs(&changed)?);
+        check_eq!(rt; view.clone()?, view);
+        check_eq!(rt; with_fcs.clone()?, with_fcs);
+        check_ne!(rt; view, with_fcs);
+        check_ne!(rt; view, Ethernet2Slice::from_slice_without_fcs(&changed)?);
         Ok(())
     }
 
@@ -305,15 +306,16 @@ mod tests {
     fn shown_with_and_without_a_check_sequence(rt: HostRuntime) -> Result<(), Fail> {
         let with = Ethernet2Slice::from_slice_with_crc32_fcs(&FRAME)?;
         let without = Ethernet2Slice::from_slice_without_fcs(&FRAME)?;
-        assert_eq!(rt;
-            format!(in rt.alloc(); "{with:?}")?.as_str(),
-            "Ethernet2Slice { header: Ethernet2Header { source: [2, 0, 0, 0, 0, 1], destination: [255, 255, 255, 255, 255, 255], ether_type: 0x0800 (Internet Protocol version 4 (IPv4)) }, payload: EtherPayloadSlice { ether_type: 0x0800 (Internet Protocol version 4 (IPv4)), len_source: Slice, payload: [] }, fcs: Some([17, 34, 51, 68]) }"
-        );
-        assert_eq!(rt;
-            format!(in rt.alloc(); "{without:?}")?.as_str(),
-            "Ethernet2Slice { header: Ethernet2Header { source: [2, 0, 0, 0, 0, 1], destination: [255, 255, 255, 255, 255, 255], ether_type: 0x0800 (Internet Protocol version 4 (IPv4)) }, payload: EtherPayloadSlice { ether_type: 0x0800 (Internet Protocol version 4 (IPv4)), len_source: Slice, payload: [17, 34, 51, 68] }, fcs: None }"
-        );
-        Ok(())
+        assert_debug(
+            &rt,
+            &with,
+            "Ethernet2Slice { header: Ethernet2Header { source: [2, 0, 0, 0, 0, 1], destination: [255, 255, 255, 255, 255, 255], ether_type: 0x0800 (Internet Protocol version 4 (IPv4)) }, payload: EtherPayloadSlice { ether_type: 0x0800 (Internet Protocol version 4 (IPv4)), len_source: Slice, payload: [] }, fcs: Some([17, 34, 51, 68]) }",
+        )?;
+        assert_debug(
+            &rt,
+            &without,
+            "Ethernet2Slice { header: Ethernet2Header { source: [2, 0, 0, 0, 0, 1], destination: [255, 255, 255, 255, 255, 255], ether_type: 0x0800 (Internet Protocol version 4 (IPv4)) }, payload: EtherPayloadSlice { ether_type: 0x0800 (Internet Protocol version 4 (IPv4)), len_source: Slice, payload: [17, 34, 51, 68] }, fcs: None }",
+        )
     }
 
     /// The error of a slice that is too short for a header, or for a header and a check sequence.
@@ -330,11 +332,11 @@ mod tests {
     #[test]
     fn slices_that_are_too_short(rt: HostRuntime) {
         let frame = FRAME;
-        assert_eq!(rt;
+        check_eq!(rt;
             Ethernet2Slice::from_slice_without_fcs(&frame[..13]).err(),
             Some(too_short(14, 13))
         );
-        assert_eq!(rt;
+        check_eq!(rt;
             Ethernet2Slice::from_slice_with_crc32_fcs(&frame[..17]).err(),
             Some(too_short(18, 17))
         );

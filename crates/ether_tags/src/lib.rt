@@ -22,6 +22,8 @@ mod single_vlan_header;
 mod single_vlan_header_slice;
 mod single_vlan_slice;
 #[cfg(test)]
+mod test_asserts;
+#[cfg(test)]
 mod test_frames;
 mod vlan_fields;
 mod vlan_header;

@@ -35,6 +35,7 @@ impl LinkExtHeader {
 #[cfg(test)]
 mod tests {
     use super::*;
+    use crate::test_asserts::{assert_debug, check_eq, check_ne};
     use crate::test_frames::{NAMED, SEALED};
     use ether_base::{EtherType, VlanId, VlanPcp};
     use std::test::Fail;
@@ -49,9 +50,9 @@ mod tests {
     #[test]
     fn the_example(rt: HostRuntime) -> Result<(), Fail> {
         let tag = SingleVlanHeader::from_bytes([0xB1, 0x23, 0x08, 0x00]);
-        assert_eq!(rt; LinkExtHeader::Vlan(tag).header_len(), 4);
+        check_eq!(rt; LinkExtHeader::Vlan(tag).header_len(), 4);
         let tag = MacsecHeader::from_slice(&[0x0C, 0x00, 0, 0, 0, 1])?;
-        assert_eq!(rt; LinkExtHeader::Macsec(tag).header_len(), 6);
+        check_eq!(rt; LinkExtHeader::Macsec(tag).header_len(), 6);
         Ok(())
     }
 
@@ -60,21 +61,21 @@ mod tests {
         let named = LinkExtHeader::Macsec(MacsecHeader::from_slice(&NAMED)?);
         let sealed = LinkExtHeader::Macsec(MacsecHeader::from_slice(&SEALED)?);
         let other = LinkExtHeader::Vlan(SingleVlanHeader::from_bytes([0, 1, 0x08, 0x00]));
-        assert_eq!(rt; TAG, TAG);
-        assert_eq!(rt; sealed, sealed);
-        assert_ne!(rt; TAG, other);
-        assert_ne!(rt; named, sealed);
-        assert_ne!(rt; TAG, sealed);
+        check_eq!(rt; TAG, TAG);
+        check_eq!(rt; sealed, sealed);
+        check_ne!(rt; TAG, other);
+        check_ne!(rt; named, sealed);
+        check_ne!(rt; TAG, sealed);
         Ok(())
     }
 
     #[test]
     fn shown_by_its_tag(rt: HostRuntime) -> Result<(), Fail> {
         let tag = LinkExtHeader::Macsec(MacsecHeader::from_slice(&SEALED)?);
-        assert_eq!(rt;
-            format!(in rt.alloc(); "{tag:?}")?.as_str(),
-            "Macsec(MacsecHeader { ptype: Encrypted, endstation_id: false, scb: false, an: MacsecAn(0), short_len: MacsecShortLen(0), packet_nr: 1, sci: Some(4822678189205111) })"
-        );
-        Ok(())
+        assert_debug(
+            &rt,
+            &tag,
+            "Macsec(MacsecHeader { ptype: Encrypted, endstation_id: false, scb: false, an: MacsecAn(0), short_len: MacsecShortLen(0), packet_nr: 1, sci: Some(4822678189205111) })",
+        )
     }
 }

@@ -60,6 +60,7 @@ impl<'a> LinkExtSlice<'a> {
 #[cfg(test)]
 mod tests {
     use super::*;
+    use crate::test_asserts::{assert_debug, check_eq, check_ne};
     use crate::test_frames::{NAMED, SEALED, TAG};
     use ether_base::{EtherType, LenSource};
     use std::test::Fail;
@@ -73,8 +74,8 @@ mod tests {
             len_source: LenSource::Slice,
             payload: &[0x45],
         };
-        assert_eq!(rt; ext.header_len(), 4);
-        assert_eq!(rt; ext.ether_payload(), Some(payload));
+        check_eq!(rt; ext.header_len(), 4);
+        check_eq!(rt; ext.ether_payload(), Some(payload));
         Ok(())
     }
 
@@ -82,7 +83,7 @@ mod tests {
     fn a_vlan_tag(rt: HostRuntime) -> Result<(), Fail> {
         let slice = SingleVlanSlice::from_slice(&TAG)?;
         let header = slice.to_header();
-        assert_eq!(rt;
+        check_eq!(rt;
             LinkExtSlice::Vlan(slice).to_header(),
             LinkExtHeader::Vlan(header)
         );
@@ -94,9 +95,9 @@ mod tests {
         let slice = MacsecSlice::from_slice(&SEALED)?;
         let header = slice.header.to_header();
         let ext = LinkExtSlice::Macsec(slice);
-        assert_eq!(rt; ext.header_len(), 14);
-        assert_eq!(rt; ext.to_header(), LinkExtHeader::Macsec(header));
-        assert_eq!(rt; ext.ether_payload(), None);
+        check_eq!(rt; ext.header_len(), 14);
+        check_eq!(rt; ext.to_header(), LinkExtHeader::Macsec(header));
+        check_eq!(rt; ext.ether_payload(), None);
         Ok(())
     }
 
@@ -106,21 +107,21 @@ mod tests {
         let other = LinkExtSlice::Vlan(SingleVlanSlice::from_slice(&TAG[..4])?);
         let named = LinkExtSlice::Macsec(MacsecSlice::from_slice(&NAMED)?);
         let sealed = LinkExtSlice::Macsec(MacsecSlice::from_slice(&SEALED)?);
-        assert_eq!(rt; vlan.clone()?, vlan);
-        assert_eq!(rt; sealed.clone()?, sealed);
-        assert_ne!(rt; vlan, other);
-        assert_ne!(rt; named, sealed);
-        assert_ne!(rt; vlan, sealed);
+        check_eq!(rt; vlan.clone()?, vlan);
+        check_eq!(rt; sealed.clone()?, sealed);
+        check_ne!(rt; vlan, other);
+        check_ne!(rt; named, sealed);
+        check_ne!(rt; vlan, sealed);
         Ok(())
     }
 
     #[test]
     fn shown_by_its_tag(rt: HostRuntime) -> Result<(), Fail> {
         let ext = LinkExtSlice::Macsec(MacsecSlice::from_slice(&SEALED)?);
-        assert_eq!(rt;
-            format!(in rt.alloc(); "{ext:?}")?.as_str(),
-            "Macsec(MacsecSlice { header: MacsecHeaderSlice { slice: [44, 192, 0, 0, 0, 1, 0, 17, 34, 51, 68, 85, 102, 119] }, payload: Modified([153]) })"
-        );
-        Ok(())
+        assert_debug(
+            &rt,
+            &ext,
+            "Macsec(MacsecSlice { header: MacsecHeaderSlice { slice: [44, 192, 0, 0, 0, 1, 0, 17, 34, 51, 68, 85, 102, 119] }, payload: Modified([153]) })",
+        )
     }
 }

@@ -220,6 +220,7 @@ fn put<const N: usize>(tag: &mut ArrayVec<u8, 16>, number: [u8; N])
 #[cfg(test)]
 mod tests {
     use super::*;
+    use crate::test_asserts::{assert_debug, check_eq, check_ne};
     use crate::test_frames::{CONFIDENTIALITY, INTEGRITY};
     use ether_base::err::macsec::HeaderError;
     use std::test::Fail;
@@ -262,14 +263,14 @@ mod tests {
             sci: None,
         };
         tag.set_payload_len(40);
-        assert_eq!(rt; tag.short_len.value(), 42);
+        check_eq!(rt; tag.short_len.value(), 42);
 
         let bytes = tag.to_bytes();
-        assert_eq!(rt;
+        check_eq!(rt;
             bytes.as_slice(),
             [0x02, 42, 0, 0, 0, 7, 0x08, 0x00].as_slice()
         );
-        assert_eq!(rt; MacsecHeader::from_slice(bytes.as_slice()), Ok(tag));
+        check_eq!(rt; MacsecHeader::from_slice(bytes.as_slice()), Ok(tag));
         Ok(())
     }
 
@@ -285,8 +286,8 @@ mod tests {
             sci: Some(0x1215_3524_C089_5E81),
         };
         let frame = INTEGRITY;
-        assert_eq!(rt; MacsecHeader::from_slice(&frame[14..]), Ok(tag));
-        assert_eq!(rt; tag.to_bytes().as_slice(), &frame[14..30]);
+        check_eq!(rt; MacsecHeader::from_slice(&frame[14..]), Ok(tag));
+        check_eq!(rt; tag.to_bytes().as_slice(), &frame[14..30]);
         Ok(())
     }
 
@@ -302,16 +303,16 @@ mod tests {
             sci: None,
         };
         let frame = CONFIDENTIALITY;
-        assert_eq!(rt; MacsecHeader::from_slice(&frame[14..]), Ok(tag));
-        assert_eq!(rt; tag.to_bytes().as_slice(), &frame[14..20]);
+        check_eq!(rt; MacsecHeader::from_slice(&frame[14..]), Ok(tag));
+        check_eq!(rt; tag.to_bytes().as_slice(), &frame[14..20]);
         Ok(())
     }
 
     #[test]
     fn written_and_refused(rt: HostRuntime) -> Result<(), Fail> {
         let bytes = too_short()?.to_bytes();
-        assert_eq!(rt; bytes.as_slice(), [0, 1, 0, 0, 0, 1, 8, 0].as_slice());
-        assert_eq!(rt;
+        check_eq!(rt; bytes.as_slice(), [0, 1, 0, 0, 0, 1, 8, 0].as_slice());
+        check_eq!(rt;
             MacsecHeader::from_slice(bytes.as_slice()),
             Err(HeaderSliceError::Content(HeaderError::InvalidUnmodifiedShortLen))
         );
@@ -322,14 +323,14 @@ mod tests {
     fn written_and_read_again(rt: HostRuntime) -> Result<(), Fail> {
         let header = changed()?;
         let bytes = header.to_bytes();
-        assert_eq!(rt;
+        check_eq!(rt;
             bytes.as_slice(),
             [
                 0x76, 5, 1, 2, 3, 4, 0x11, 0x22, 0x33, 0x44, 0x55, 0x66, 0x77, 0x88
             ]
             .as_slice()
         );
-        assert_eq!(rt; MacsecHeader::from_slice(bytes.as_slice()), Ok(header));
+        check_eq!(rt; MacsecHeader::from_slice(bytes.as_slice()), Ok(header));
         Ok(())
     }
 
@@ -351,19 +352,19 @@ mod tests {
                 ptype,
                 ..too_short()?
             };
-            assert_eq!(rt; header.encrypted(), encrypted);
-            assert_eq!(rt; header.userdata_changed(), changed);
-            assert_eq!(rt; header.next_ether_type(), ether_type);
+            check_eq!(rt; header.encrypted(), encrypted);
+            check_eq!(rt; header.userdata_changed(), changed);
+            check_eq!(rt; header.next_ether_type(), ether_type);
         }
         Ok(())
     }
 
     #[test]
     fn the_length_of_a_tag(rt: HostRuntime) -> Result<(), Fail> {
-        assert_eq!(rt; changed()?.header_len(), 14);
-        assert_eq!(rt; too_short()?.header_len(), 8);
-        assert_eq!(rt; MacsecHeader::MIN_LEN, 6);
-        assert_eq!(rt; MacsecHeader::MAX_LEN, 16);
+        check_eq!(rt; changed()?.header_len(), 14);
+        check_eq!(rt; too_short()?.header_len(), 8);
+        check_eq!(rt; MacsecHeader::MIN_LEN, 6);
+        check_eq!(rt; MacsecHeader::MAX_LEN, 16);
         Ok(())
     }
 
@@ -383,15 +384,15 @@ mod tests {
                 ..too_short()?
             };
             header.set_payload_len(len);
-            assert_eq!(rt; header.short_len.value(), short_len, "{len}");
-            assert_eq!(rt; header.expected_payload_len(), expected, "{len}");
+            check_eq!(rt; (len, header.short_len.value()), (len, short_len));
+            check_eq!(rt; (len, header.expected_payload_len()), (len, expected));
         }
         Ok(())
     }
 
     #[test]
     fn no_payload_is_named_without_room_for_its_type(rt: HostRuntime) -> Result<(), Fail> {
-        assert_eq!(rt; too_short()?.expected_payload_len(), None);
+        check_eq!(rt; too_short()?.expected_payload_len(), None);
         Ok(())
     }
 
@@ -427,18 +428,18 @@ mod tests {
             },
         ];
         for other in others {
-            assert_ne!(rt; other, tag);
-            assert_eq!(rt; other, other);
+            check_ne!(rt; other, tag);
+            check_eq!(rt; other, other);
         }
         Ok(())
     }
 
     #[test]
     fn shown_by_its_fields(rt: HostRuntime) -> Result<(), Fail> {
-        assert_eq!(rt;
-            format!(in rt.alloc(); "{:?}", changed()?)?.as_str(),
-            "MacsecHeader { ptype: Modified, endstation_id: true, scb: true, an: MacsecAn(2), short_len: MacsecShortLen(5), packet_nr: 16909060, sci: Some(1234605616436508552) }"
-        );
-        Ok(())
+        assert_debug(
+            &rt,
+            &changed()?,
+            "MacsecHeader { ptype: Modified, endstation_id: true, scb: true, an: MacsecAn(2), short_len: MacsecShortLen(5), packet_nr: 16909060, sci: Some(1234605616436508552) }",
+        )
     }
 }

@@ -230,6 +230,7 @@ fn cut_short(required_len: usize, len: usize) -> HeaderSliceError
 #[cfg(test)]
 mod tests {
     use super::*;
+    use crate::test_asserts::{assert_debug, check_eq, check_ne};
     use crate::test_frames::SEALED;
     use std::test::Fail;
 
@@ -237,34 +238,34 @@ mod tests {
     fn the_example(rt: HostRuntime) -> Result<(), Fail> {
         let bytes = [0x53, 0x2A, 0x01, 0x02, 0x03, 0x04, 0x08, 0x00, 0x45];
         let tag = MacsecHeaderSlice::from_slice(&bytes)?;
-        assert_eq!(rt; tag.an().value(), 3);
-        assert_eq!(rt; tag.packet_nr(), 0x0102_0304);
-        assert_eq!(rt; tag.next_ether_type(), Some(EtherType::IPV4));
-        assert_eq!(rt; tag.expected_payload_len(), Some(40));
-        assert_eq!(rt; tag.slice(), &bytes[..8]);
+        check_eq!(rt; tag.an().value(), 3);
+        check_eq!(rt; tag.packet_nr(), 0x0102_0304);
+        check_eq!(rt; tag.next_ether_type(), Some(EtherType::IPV4));
+        check_eq!(rt; tag.expected_payload_len(), Some(40));
+        check_eq!(rt; tag.slice(), &bytes[..8]);
         Ok(())
     }
 
     #[test]
     fn the_bits_of_a_sealed_tag(rt: HostRuntime) -> Result<(), Fail> {
         let tag = MacsecHeaderSlice::from_slice(&SEALED)?;
-        assert_eq!(rt; tag.tci_an_raw(), 0x2C);
+        check_eq!(rt; tag.tci_an_raw(), 0x2C);
         assert!(rt; !tag.endstation_id() && tag.sci_present() && !tag.tci_scb());
         assert!(rt; tag.encrypted() && tag.userdata_changed() && !tag.is_unmodified());
-        assert_eq!(rt; tag.ptype(), MacsecPType::Encrypted);
-        assert_eq!(rt; tag.next_ether_type(), None);
+        check_eq!(rt; tag.ptype(), MacsecPType::Encrypted);
+        check_eq!(rt; tag.next_ether_type(), None);
         Ok(())
     }
 
     #[test]
     fn the_numbers_of_a_sealed_tag(rt: HostRuntime) -> Result<(), Fail> {
         let tag = MacsecHeaderSlice::from_slice(&SEALED)?;
-        assert_eq!(rt; tag.an(), MacsecAn::ZERO);
-        assert_eq!(rt; tag.short_len(), MacsecShortLen::ZERO);
-        assert_eq!(rt; tag.packet_nr(), 1);
-        assert_eq!(rt; tag.sci(), Some(0x0011_2233_4455_6677));
-        assert_eq!(rt; tag.header_len(), 14);
-        assert_eq!(rt; tag.expected_payload_len(), None);
+        check_eq!(rt; tag.an(), MacsecAn::ZERO);
+        check_eq!(rt; tag.short_len(), MacsecShortLen::ZERO);
+        check_eq!(rt; tag.packet_nr(), 1);
+        check_eq!(rt; tag.sci(), Some(0x0011_2233_4455_6677));
+        check_eq!(rt; tag.header_len(), 14);
+        check_eq!(rt; tag.expected_payload_len(), None);
         Ok(())
     }
 
@@ -273,9 +274,9 @@ mod tests {
         let tag = MacsecHeaderSlice::from_slice(&[0x53, 0x2A, 1, 2, 3, 4, 0x08, 0x00])?;
         assert!(rt; tag.endstation_id() && !tag.sci_present() && tag.tci_scb());
         assert!(rt; !tag.encrypted() && !tag.userdata_changed() && tag.is_unmodified());
-        assert_eq!(rt; tag.ptype(), MacsecPType::Unmodified(EtherType::IPV4));
-        assert_eq!(rt; tag.short_len().value(), 42);
-        assert_eq!(rt; tag.sci(), None);
+        check_eq!(rt; tag.ptype(), MacsecPType::Unmodified(EtherType::IPV4));
+        check_eq!(rt; tag.short_len().value(), 42);
+        check_eq!(rt; tag.sci(), None);
         Ok(())
     }
 
@@ -284,8 +285,8 @@ mod tests {
         let tag = MacsecHeaderSlice::from_slice(&SEALED)?;
         let mut written = SEALED;
         written[1] = 0;
-        assert_eq!(rt; tag.slice(), &SEALED[..14]);
-        assert_eq!(rt; tag.to_header().to_bytes().as_slice(), &written[..14]);
+        check_eq!(rt; tag.slice(), &SEALED[..14]);
+        check_eq!(rt; tag.to_header().to_bytes().as_slice(), &written[..14]);
         Ok(())
     }
 
@@ -298,7 +299,7 @@ mod tests {
         ];
         for (first, ptype) in rows {
             let bytes = [first, 0, 0, 0, 0, 0];
-            assert_eq!(rt; MacsecHeaderSlice::from_slice(&bytes)?.ptype(), ptype);
+            check_eq!(rt; MacsecHeaderSlice::from_slice(&bytes)?.ptype(), ptype);
         }
         Ok(())
     }
@@ -309,18 +310,18 @@ mod tests {
         changed[13] = 0x78;
         let tag = MacsecHeaderSlice::from_slice(&SEALED)?;
         let copy = tag;
-        assert_eq!(rt; copy, tag.clone()?);
-        assert_ne!(rt; tag, MacsecHeaderSlice::from_slice(&changed)?);
+        check_eq!(rt; copy, tag.clone()?);
+        check_ne!(rt; tag, MacsecHeaderSlice::from_slice(&changed)?);
         Ok(())
     }
 
     #[test]
     fn shown_by_its_bytes(rt: HostRuntime) -> Result<(), Fail> {
         let tag = MacsecHeaderSlice::from_slice(&SEALED)?;
-        assert_eq!(rt;
-            format!(in rt.alloc(); "{tag:?}")?.as_str(),
-            "MacsecHeaderSlice { slice: [44, 192, 0, 0, 0, 1, 0, 17, 34, 51, 68, 85, 102, 119] }"
-        );
-        Ok(())
+        assert_debug(
+            &rt,
+            &tag,
+            "MacsecHeaderSlice { slice: [44, 192, 0, 0, 0, 1, 0, 17, 34, 51, 68, 85, 102, 119] }",
+        )
     }
 }

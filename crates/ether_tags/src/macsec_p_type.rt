@@ -26,14 +26,15 @@ pub enum MacsecPType {
 mod tests {
     use super::*;
     use crate::MacsecHeader;
+    use crate::test_asserts::{check_eq, check_ne};
     use std::test::Fail;
 
     #[test]
     fn the_example(rt: HostRuntime) -> Result<(), Fail> {
         let readable = MacsecHeader::from_slice(&[0x00, 0x00, 0, 0, 0, 1, 0x08, 0x00])?;
-        assert_eq!(rt; readable.ptype, MacsecPType::Unmodified(EtherType::IPV4));
+        check_eq!(rt; readable.ptype, MacsecPType::Unmodified(EtherType::IPV4));
         let encrypted = MacsecHeader::from_slice(&[0x0C, 0x00, 0, 0, 0, 1])?;
-        assert_eq!(rt; encrypted.ptype, MacsecPType::Encrypted);
+        check_eq!(rt; encrypted.ptype, MacsecPType::Encrypted);
         Ok(())
     }
 
@@ -47,8 +48,8 @@ mod tests {
             MacsecPType::EncryptedUnmodified,
         ];
         for other in others {
-            assert_ne!(rt; other, readable);
-            assert_eq!(rt; other, other);
+            check_ne!(rt; other, readable);
+            check_eq!(rt; other, other);
         }
     }
 }

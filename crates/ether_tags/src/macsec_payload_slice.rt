@@ -20,13 +20,14 @@ pub enum MacsecPayloadSlice<'a> {
 mod tests {
     use super::*;
     use crate::MacsecSlice;
+    use crate::test_asserts::{check_eq, check_ne};
     use ether_base::{EtherType, LenSource};
     use std::test::Fail;
 
     #[test]
     fn the_example(rt: HostRuntime) -> Result<(), Fail> {
         let encrypted = MacsecSlice::from_slice(&[0x0C, 0x00, 0, 0, 0, 1, 0xAA])?;
-        assert_eq!(rt; encrypted.payload, MacsecPayloadSlice::Modified(&[0xAA]));
+        check_eq!(rt; encrypted.payload, MacsecPayloadSlice::Modified(&[0xAA]));
         Ok(())
     }
 
@@ -43,10 +44,10 @@ mod tests {
         };
         let readable = MacsecPayloadSlice::Unmodified(ether);
         let sealed = MacsecPayloadSlice::Modified(&[0xAA]);
-        assert_eq!(rt; readable, readable);
-        assert_eq!(rt; sealed, sealed);
-        assert_ne!(rt; readable, sealed);
-        assert_ne!(rt; readable, MacsecPayloadSlice::Unmodified(longer));
-        assert_ne!(rt; sealed, MacsecPayloadSlice::Modified(&[0xBB]));
+        check_eq!(rt; readable, readable);
+        check_eq!(rt; sealed, sealed);
+        check_ne!(rt; readable, sealed);
+        check_ne!(rt; readable, MacsecPayloadSlice::Unmodified(longer));
+        check_ne!(rt; sealed, MacsecPayloadSlice::Modified(&[0xBB]));
     }
 }

@@ -148,6 +148,7 @@ fn payload_of<'a>(
 #[cfg(test)]
 mod tests {
     use super::*;
+    use crate::test_asserts::{assert_debug, check_eq, check_ne};
     use crate::test_frames::{CONFIDENTIALITY, INTEGRITY, NAMED, SEALED};
     use ether_base::err::macsec::HeaderError;
     use std::test::Fail;
@@ -161,8 +162,8 @@ mod tests {
             len_source: LenSource::MacsecShortLength,
             payload: &[0x45],
         };
-        assert_eq!(rt; packet.header.packet_nr(), 1);
-        assert_eq!(rt; packet.ether_payload(), Some(payload));
+        check_eq!(rt; packet.header.packet_nr(), 1);
+        check_eq!(rt; packet.ether_payload(), Some(payload));
         Ok(())
     }
 
@@ -175,7 +176,7 @@ mod tests {
             len_source: LenSource::MacsecShortLength,
             payload: &frame[30..70],
         };
-        assert_eq!(rt; packet.ether_payload(), Some(payload));
+        check_eq!(rt; packet.ether_payload(), Some(payload));
         Ok(())
     }
 
@@ -183,7 +184,7 @@ mod tests {
     fn a_frame_with_confidentiality_protection(rt: HostRuntime) -> Result<(), Fail> {
         let frame = CONFIDENTIALITY;
         let packet = MacsecSlice::from_slice(&frame[14..])?;
-        assert_eq!(rt;
+        check_eq!(rt;
             packet.payload,
             MacsecPayloadSlice::Modified(&frame[20..62])
         );
@@ -198,19 +199,19 @@ mod tests {
             len_source: LenSource::MacsecShortLength,
             payload: &[0xAA, 0xBB, 0xCC, 0xDD],
         };
-        assert_eq!(rt; packet.header.slice(), &NAMED[..8]);
-        assert_eq!(rt; packet.payload, MacsecPayloadSlice::Unmodified(payload));
-        assert_eq!(rt; packet.ether_payload(), Some(payload));
-        assert_eq!(rt; packet.next_ether_type(), Some(EtherType(0x8100)));
+        check_eq!(rt; packet.header.slice(), &NAMED[..8]);
+        check_eq!(rt; packet.payload, MacsecPayloadSlice::Unmodified(payload));
+        check_eq!(rt; packet.ether_payload(), Some(payload));
+        check_eq!(rt; packet.next_ether_type(), Some(EtherType(0x8100)));
         Ok(())
     }
 
     #[test]
     fn a_sealed_payload_runs_to_the_end(rt: HostRuntime) -> Result<(), Fail> {
         let packet = MacsecSlice::from_slice(&SEALED)?;
-        assert_eq!(rt; packet.payload, MacsecPayloadSlice::Modified(&[0x99]));
-        assert_eq!(rt; packet.ether_payload(), None);
-        assert_eq!(rt; packet.next_ether_type(), None);
+        check_eq!(rt; packet.payload, MacsecPayloadSlice::Modified(&[0x99]));
+        check_eq!(rt; packet.ether_payload(), None);
+        check_eq!(rt; packet.next_ether_type(), None);
         Ok(())
     }
 
@@ -218,7 +219,7 @@ mod tests {
     fn a_sealed_payload_of_named_length(rt: HostRuntime) -> Result<(), Fail> {
         let bytes = [0x0C, 0x01, 0x00, 0x00, 0x00, 0x01, 0xAA, 0xBB];
         let packet = MacsecSlice::from_slice(&bytes)?;
-        assert_eq!(rt; packet.payload, MacsecPayloadSlice::Modified(&[0xAA]));
+        check_eq!(rt; packet.payload, MacsecPayloadSlice::Modified(&[0xAA]));
         Ok(())
     }
 
@@ -234,20 +235,20 @@ mod tests {
             header: packet.header,
             payload: other.payload,
         };
-        assert_eq!(rt; packet.clone()?, packet);
-        assert_ne!(rt; packet, header);
-        assert_ne!(rt; packet, payload);
+        check_eq!(rt; packet.clone()?, packet);
+        check_ne!(rt; packet, header);
+        check_ne!(rt; packet, payload);
         Ok(())
     }
 
     #[test]
     fn shown_by_header_and_payload(rt: HostRuntime) -> Result<(), Fail> {
         let packet = MacsecSlice::from_slice(&NAMED)?;
-        assert_eq!(rt;
-            format!(in rt.alloc(); "{packet:?}")?.as_str(),
-            "MacsecSlice { header: MacsecHeaderSlice { slice: [0, 6, 0, 0, 0, 1, 129, 0] }, payload: Unmodified(EtherPayloadSlice { ether_type: 0x8100 (Customer VLAN Tag (C-TAG) as defined in IEEE Std 802.1Q), len_source: MacsecShortLength, payload: [170, 187, 204, 221] }) }"
-        );
-        Ok(())
+        assert_debug(
+            &rt,
+            &packet,
+            "MacsecSlice { header: MacsecHeaderSlice { slice: [0, 6, 0, 0, 0, 1, 129, 0] }, payload: Unmodified(EtherPayloadSlice { ether_type: 0x8100 (Customer VLAN Tag (C-TAG) as defined in IEEE Std 802.1Q), len_source: MacsecShortLength, payload: [170, 187, 204, 221] }) }",
+        )
     }
 
     fn refusal(bytes: &[u8]) -> Option<HeaderSliceError> {
@@ -283,25 +284,25 @@ mod tests {
 
     #[test]
     fn a_payload_that_is_cut_short(rt: HostRuntime) {
-        assert_eq!(rt; refusal(&NAMED[..10]), cut_packet(12, 10));
-        assert_eq!(rt; refusal(&[0x04, 1, 0, 0, 0, 0]), cut_packet(7, 6));
-        assert_eq!(rt; refusal(&[0x08, 0x3F, 0, 0, 0, 0]), cut_packet(69, 6));
+        check_eq!(rt; refusal(&NAMED[..10]), cut_packet(12, 10));
+        check_eq!(rt; refusal(&[0x04, 1, 0, 0, 0, 0]), cut_packet(7, 6));
+        check_eq!(rt; refusal(&[0x08, 0x3F, 0, 0, 0, 0]), cut_packet(69, 6));
     }
 
     #[test]
     fn a_tag_that_is_cut_short(rt: HostRuntime) {
-        assert_eq!(rt; refusal(&NAMED[..6]), cut_header(8, 6));
-        assert_eq!(rt; refusal(&[0x80, 0, 0, 0, 0]), cut_header(6, 5));
-        assert_eq!(rt; refusal(&[0x24, 1, 0, 0, 0, 0]), cut_header(14, 6));
+        check_eq!(rt; refusal(&NAMED[..6]), cut_header(8, 6));
+        check_eq!(rt; refusal(&[0x80, 0, 0, 0, 0]), cut_header(6, 5));
+        check_eq!(rt; refusal(&[0x24, 1, 0, 0, 0, 0]), cut_header(14, 6));
     }
 
     #[test]
     fn contents_that_are_refused(rt: HostRuntime) {
-        assert_eq!(rt;
+        check_eq!(rt;
             refusal(&[0x80, 0, 0, 0, 0, 0]),
             content(HeaderError::UnexpectedVersion)
         );
-        assert_eq!(rt;
+        check_eq!(rt;
             refusal(&[0, 1, 0, 0, 0, 0]),
             content(HeaderError::InvalidUnmodifiedShortLen)
         );
@@ -310,14 +311,14 @@ mod tests {
     #[test]
     fn the_first_of_several_errors(rt: HostRuntime) {
         // Five bytes of a tag with version 1 and short length 1, then all six.
-        assert_eq!(rt; refusal(&[0x80, 1, 0, 0, 0]), cut_header(6, 5));
-        assert_eq!(rt;
+        check_eq!(rt; refusal(&[0x80, 1, 0, 0, 0]), cut_header(6, 5));
+        check_eq!(rt;
             refusal(&[0x80, 1, 0, 0, 0, 0]),
             content(HeaderError::UnexpectedVersion)
         );
         // Short length 1, the second time with a reserved bit. SCI and ether type are missing as well.
         for second in [0x01, 0x41] {
-            assert_eq!(rt;
+            check_eq!(rt;
                 refusal(&[0x20, second, 0, 0, 0, 0]),
                 content(HeaderError::InvalidUnmodifiedShortLen)
             );

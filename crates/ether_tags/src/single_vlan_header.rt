@@ -122,6 +122,7 @@ impl SingleVlanHeader {
 #[cfg(test)]
 mod tests {
     use super::*;
+    use crate::test_asserts::{assert_debug, check_eq, check_ne};
     use crate::test_frames::{TAG, TAGGED_ARP_REQUEST};
     use ether_base::LenSource;
     use ether_base::err::Layer;
@@ -140,13 +141,13 @@ mod tests {
     #[test]
     fn the_example(rt: HostRuntime) -> Result<(), Fail> {
         let mut tag = SingleVlanHeader::from_bytes([0xB1, 0x23, 0x08, 0x00]);
-        assert_eq!(rt; tag.pcp.value(), 5);
+        check_eq!(rt; tag.pcp.value(), 5);
         assert!(rt; tag.drop_eligible_indicator);
-        assert_eq!(rt; tag.vlan_id.value(), 0x123);
-        assert_eq!(rt; tag.ether_type, EtherType::IPV4);
+        check_eq!(rt; tag.vlan_id.value(), 0x123);
+        check_eq!(rt; tag.ether_type, EtherType::IPV4);
 
         tag.vlan_id = VlanId::try_new(100)?;
-        assert_eq!(rt; tag.to_bytes(), [0xB0, 0x64, 0x08, 0x00]);
+        check_eq!(rt; tag.to_bytes(), [0xB0, 0x64, 0x08, 0x00]);
         Ok(())
     }
 
@@ -159,19 +160,19 @@ mod tests {
             ether_type: EtherType::ARP,
         };
         let frame = TAGGED_ARP_REQUEST;
-        assert_eq!(rt;
+        check_eq!(rt;
             SingleVlanHeader::from_slice(&frame[14..]),
             Ok((tag, &frame[18..]))
         );
-        assert_eq!(rt; tag.to_bytes().as_slice(), &frame[14..18]);
+        check_eq!(rt; tag.to_bytes().as_slice(), &frame[14..18]);
         Ok(())
     }
 
     #[test]
     fn the_front_of_a_slice_and_the_rest(rt: HostRuntime) -> Result<(), Fail> {
         let rest = [0x45].as_slice();
-        assert_eq!(rt; SingleVlanHeader::from_slice(&TAG), Ok((tag()?, rest)));
-        assert_eq!(rt; SingleVlanHeader::read_from_slice(&TAG), Ok((tag()?, rest)));
+        check_eq!(rt; SingleVlanHeader::from_slice(&TAG), Ok((tag()?, rest)));
+        check_eq!(rt; SingleVlanHeader::read_from_slice(&TAG), Ok((tag()?, rest)));
         Ok(())
     }
 
@@ -185,11 +186,11 @@ mod tests {
             layer: Layer::VlanHeader,
             layer_start_offset: 0,
         };
-        assert_eq!(rt;
+        check_eq!(rt;
             SingleVlanHeader::from_slice(&bytes[..3]),
             Err(refused.clone()?)
         );
-        assert_eq!(rt;
+        check_eq!(rt;
             SingleVlanHeader::read_from_slice(&bytes[..3]),
             Err(refused)
         );
@@ -198,14 +199,14 @@ mod tests {
 
     #[test]
     fn the_length(rt: HostRuntime) {
-        assert_eq!(rt; SingleVlanHeader::default().header_len(), 4);
-        assert_eq!(rt; SingleVlanHeader::LEN, 4);
-        assert_eq!(rt; SingleVlanHeader::SERIALIZED_SIZE, 4);
+        check_eq!(rt; SingleVlanHeader::default().header_len(), 4);
+        check_eq!(rt; SingleVlanHeader::LEN, 4);
+        check_eq!(rt; SingleVlanHeader::SERIALIZED_SIZE, 4);
     }
 
     #[test]
     fn the_default_is_zero(rt: HostRuntime) {
-        assert_eq!(rt; SingleVlanHeader::default().to_bytes(), [0; 4]);
+        check_eq!(rt; SingleVlanHeader::default().to_bytes(), [0; 4]);
     }
 
     #[test]
@@ -230,18 +231,18 @@ mod tests {
             },
         ];
         for other in others {
-            assert_ne!(rt; other, tag);
-            assert_eq!(rt; other, other);
+            check_ne!(rt; other, tag);
+            check_eq!(rt; other, other);
         }
         Ok(())
     }
 
     #[test]
     fn shown_by_its_fields(rt: HostRuntime) -> Result<(), Fail> {
-        assert_eq!(rt;
-            format!(in rt.alloc(); "{:?}", tag()?)?.as_str(),
-            "SingleVlanHeader { pcp: VlanPcp(5), drop_eligible_indicator: true, vlan_id: VlanId(291), ether_type: 0x0800 (Internet Protocol version 4 (IPv4)) }"
-        );
-        Ok(())
+        assert_debug(
+            &rt,
+            &tag()?,
+            "SingleVlanHeader { pcp: VlanPcp(5), drop_eligible_indicator: true, vlan_id: VlanId(291), ether_type: 0x0800 (Internet Protocol version 4 (IPv4)) }",
+        )
     }
 }

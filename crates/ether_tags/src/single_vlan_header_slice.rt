@@ -139,6 +139,7 @@ impl<'a> Eq for SingleVlanHeaderSlice<'a> {
 #[cfg(test)]
 mod tests {
     use super::*;
+    use crate::test_asserts::{assert_debug, check_eq, check_ne};
     use crate::test_frames::TAG;
     use ether_base::err::Layer;
     use std::test::Fail;
@@ -146,18 +147,18 @@ mod tests {
     #[test]
     fn the_example(rt: HostRuntime) -> Result<(), Fail> {
         let tag = SingleVlanHeaderSlice::from_slice(&[0xB1, 0x23, 0x08, 0x00, 0x45])?;
-        assert_eq!(rt; tag.priority_code_point().value(), 5);
+        check_eq!(rt; tag.priority_code_point().value(), 5);
         assert!(rt; tag.drop_eligible_indicator());
-        assert_eq!(rt; tag.vlan_identifier().value(), 0x123);
-        assert_eq!(rt; tag.ether_type(), EtherType::IPV4);
+        check_eq!(rt; tag.vlan_identifier().value(), 0x123);
+        check_eq!(rt; tag.ether_type(), EtherType::IPV4);
         Ok(())
     }
 
     #[test]
     fn the_tag_as_bytes_and_as_a_value(rt: HostRuntime) -> Result<(), Fail> {
         let tag = SingleVlanHeaderSlice::from_slice(&TAG)?;
-        assert_eq!(rt; tag.slice(), &TAG[..4]);
-        assert_eq!(rt;
+        check_eq!(rt; tag.slice(), &TAG[..4]);
+        check_eq!(rt;
             tag.to_header(),
             SingleVlanHeader {
                 pcp: VlanPcp::try_new(5)?,
@@ -172,7 +173,7 @@ mod tests {
     #[test]
     fn two_bytes_are_refused(rt: HostRuntime) {
         let bytes = TAG;
-        assert_eq!(rt;
+        check_eq!(rt;
             SingleVlanHeaderSlice::from_slice(&bytes[..2]).err(),
             Some(LenError {
                 required_len: 4,
@@ -188,18 +189,18 @@ mod tests {
     fn views_differ_by_their_bytes(rt: HostRuntime) -> Result<(), Fail> {
         let tag = SingleVlanHeaderSlice::from_slice(&TAG)?;
         let other = SingleVlanHeaderSlice::from_slice(&[0xB1, 0x23, 0x08, 0x01])?;
-        assert_eq!(rt; tag.clone()?, tag);
-        assert_ne!(rt; tag, other);
+        check_eq!(rt; tag.clone()?, tag);
+        check_ne!(rt; tag, other);
         Ok(())
     }
 
     #[test]
     fn shown_by_its_bytes(rt: HostRuntime) -> Result<(), Fail> {
         let tag = SingleVlanHeaderSlice::from_slice(&TAG)?;
-        assert_eq!(rt;
-            format!(in rt.alloc(); "{tag:?}")?.as_str(),
-            "SingleVlanHeaderSlice { slice: [177, 35, 8, 0] }"
-        );
-        Ok(())
+        assert_debug(
+            &rt,
+            &tag,
+            "SingleVlanHeaderSlice { slice: [177, 35, 8, 0] }",
+        )
     }
 }

@@ -181,6 +181,7 @@ impl fmt::Debug for SingleVlanSlice<'_> {
 #[cfg(test)]
 mod tests {
     use super::*;
+    use crate::test_asserts::{assert_debug, check_eq, check_ne};
     use crate::test_frames::{TAG, TAGGED_ARP_REQUEST};
     use ether_base::err::Layer;
     use std::test::Fail;
@@ -188,9 +189,9 @@ mod tests {
     #[test]
     fn the_example(rt: HostRuntime) -> Result<(), Fail> {
         let tag = SingleVlanSlice::from_slice(&[0xB1, 0x23, 0x08, 0x00, 0x45])?;
-        assert_eq!(rt; tag.vlan_identifier().value(), 0x123);
-        assert_eq!(rt; tag.ether_type(), EtherType::IPV4);
-        assert_eq!(rt; tag.payload_slice(), [0x45].as_slice());
+        check_eq!(rt; tag.vlan_identifier().value(), 0x123);
+        check_eq!(rt; tag.ether_type(), EtherType::IPV4);
+        check_eq!(rt; tag.payload_slice(), [0x45].as_slice());
         Ok(())
     }
 
@@ -198,26 +199,26 @@ mod tests {
     fn a_captured_tag(rt: HostRuntime) -> Result<(), Fail> {
         let frame = TAGGED_ARP_REQUEST;
         let tag = SingleVlanSlice::from_slice(&frame[14..])?;
-        assert_eq!(rt; tag.priority_code_point().value(), 5);
+        check_eq!(rt; tag.priority_code_point().value(), 5);
         assert!(rt; tag.drop_eligible_indicator());
-        assert_eq!(rt; tag.vlan_identifier().value(), 291);
-        assert_eq!(rt; tag.ether_type(), EtherType::ARP);
+        check_eq!(rt; tag.vlan_identifier().value(), 291);
+        check_eq!(rt; tag.ether_type(), EtherType::ARP);
         Ok(())
     }
 
     #[test]
     fn the_tag_as_bytes_and_as_a_value(rt: HostRuntime) -> Result<(), Fail> {
         let tag = SingleVlanSlice::from_slice(&TAG)?;
-        assert_eq!(rt; tag.slice(), TAG.as_slice());
-        assert_eq!(rt; tag.header_slice(), &TAG[..4]);
-        assert_eq!(rt; tag.header_len(), 4);
-        assert_eq!(rt; tag.to_header().to_bytes().as_slice(), &TAG[..4]);
+        check_eq!(rt; tag.slice(), TAG.as_slice());
+        check_eq!(rt; tag.header_slice(), &TAG[..4]);
+        check_eq!(rt; tag.header_len(), 4);
+        check_eq!(rt; tag.to_header().to_bytes().as_slice(), &TAG[..4]);
         Ok(())
     }
 
     #[test]
     fn the_payload(rt: HostRuntime) -> Result<(), Fail> {
-        assert_eq!(rt;
+        check_eq!(rt;
             SingleVlanSlice::from_slice(&TAG)?.payload(),
             EtherPayloadSlice {
                 ether_type: EtherType::IPV4,
@@ -231,7 +232,7 @@ mod tests {
     #[test]
     fn two_bytes_are_refused(rt: HostRuntime) {
         let bytes = TAG;
-        assert_eq!(rt;
+        check_eq!(rt;
             SingleVlanSlice::from_slice(&bytes[..2]).err(),
             Some(LenError {
                 required_len: 4,
@@ -247,18 +248,18 @@ mod tests {
     fn views_differ_by_their_bytes(rt: HostRuntime) -> Result<(), Fail> {
         let tag = SingleVlanSlice::from_slice(&TAG)?;
         let other = SingleVlanSlice::from_slice(&[0xB1, 0x23, 0x08, 0x00, 0x46])?;
-        assert_eq!(rt; tag.clone()?, tag);
-        assert_ne!(rt; tag, other);
+        check_eq!(rt; tag.clone()?, tag);
+        check_ne!(rt; tag, other);
         Ok(())
     }
 
     #[test]
     fn shown_by_header_and_payload(rt: HostRuntime) -> Result<(), Fail> {
         let tag = SingleVlanSlice::from_slice(&TAG)?;
-        assert_eq!(rt;
-            format!(in rt.alloc(); "{tag:?}")?.as_str(),
-            "SingleVlanSlice { header: SingleVlanHeader { pcp: VlanPcp(5), drop_eligible_indicator: true, vlan_id: VlanId(291), ether_type: 0x0800 (Internet Protocol version 4 (IPv4)) }, payload: EtherPayloadSlice { ether_type: 0x0800 (Internet Protocol version 4 (IPv4)), len_source: Slice, payload: [69] } }"
-        );
-        Ok(())
+        assert_debug(
+            &rt,
+            &tag,
+            "SingleVlanSlice { header: SingleVlanHeader { pcp: VlanPcp(5), drop_eligible_indicator: true, vlan_id: VlanId(291), ether_type: 0x0800 (Internet Protocol version 4 (IPv4)) }, payload: EtherPayloadSlice { ether_type: 0x0800 (Internet Protocol version 4 (IPv4)), len_source: Slice, payload: [69] } }",
+        )
     }
 }

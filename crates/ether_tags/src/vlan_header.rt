@@ -45,6 +45,7 @@ impl VlanHeader {
 #[cfg(test)]
 mod tests {
     use super::*;
+    use crate::test_asserts::{assert_debug, check_eq, check_ne};
     use std::test::Fail;
 
     const OUTER: [u8; 4] = [0x00, 0x01, 0x81, 0x00];
@@ -64,18 +65,18 @@ mod tests {
         let inner = SingleVlanHeader::from_bytes([0x00, 0x64, 0x08, 0x00]);
         let tags = VlanHeader::Double(DoubleVlanHeader { outer, inner });
         assert!(rt; VlanHeader::VLAN_ETHER_TYPES.contains(&outer.ether_type));
-        assert_eq!(rt; tags.next_header(), EtherType::IPV4);
+        check_eq!(rt; tags.next_header(), EtherType::IPV4);
     }
 
     #[test]
     fn the_type_behind_one_tag(rt: HostRuntime) {
         let tag = VlanHeader::Single(SingleVlanHeader::from_bytes(OUTER));
-        assert_eq!(rt; tag.next_header(), EtherType(0x8100));
+        check_eq!(rt; tag.next_header(), EtherType(0x8100));
     }
 
     #[test]
     fn the_types_that_announce_a_tag(rt: HostRuntime) {
-        assert_eq!(rt;
+        check_eq!(rt;
             VlanHeader::VLAN_ETHER_TYPES,
             [EtherType(0x8100), EtherType(0x88A8), EtherType(0x9100)]
         );
@@ -86,19 +87,19 @@ mod tests {
         let single = VlanHeader::Single(SingleVlanHeader::from_bytes(OUTER));
         let other = VlanHeader::Single(SingleVlanHeader::from_bytes(INNER));
         let double = two_tags(OUTER, INNER);
-        assert_eq!(rt; double, double);
-        assert_ne!(rt; single, other);
-        assert_ne!(rt; single, double);
-        assert_ne!(rt; double, two_tags(OUTER, OUTER));
+        check_eq!(rt; double, double);
+        check_ne!(rt; single, other);
+        check_ne!(rt; single, double);
+        check_ne!(rt; double, two_tags(OUTER, OUTER));
     }
 
     #[test]
     fn shown_by_its_tags(rt: HostRuntime) -> Result<(), Fail> {
         let tag = VlanHeader::Single(SingleVlanHeader::from_bytes(OUTER));
-        assert_eq!(rt;
-            format!(in rt.alloc(); "{tag:?}")?.as_str(),
-            "Single(SingleVlanHeader { pcp: VlanPcp(0), drop_eligible_indicator: false, vlan_id: VlanId(1), ether_type: 0x8100 (Customer VLAN Tag (C-TAG) as defined in IEEE Std 802.1Q) })"
-        );
-        Ok(())
+        assert_debug(
+            &rt,
+            &tag,
+            "Single(SingleVlanHeader { pcp: VlanPcp(0), drop_eligible_indicator: false, vlan_id: VlanId(1), ether_type: 0x8100 (Customer VLAN Tag (C-TAG) as defined in IEEE Std 802.1Q) })",
+        )
     }
 }

@@ -52,6 +52,7 @@ impl<'a> VlanSlice<'a> {
 mod tests {
     use super::*;
     use crate::SingleVlanHeader;
+    use crate::test_asserts::{assert_debug, check_eq, check_ne};
     use crate::test_frames::TWO_TAGS;
     use ether_base::{EtherType, LenSource};
     use std::test::Fail;
@@ -72,8 +73,8 @@ mod tests {
     fn the_example(rt: HostRuntime) -> Result<(), Fail> {
         let bytes = [0xB1, 0x23, 0x08, 0x00, 0x45];
         let tags = VlanSlice::SingleVlan(SingleVlanSlice::from_slice(&bytes)?);
-        assert_eq!(rt; tags.to_header().next_header(), EtherType::IPV4);
-        assert_eq!(rt; tags.payload().payload, [0x45].as_slice());
+        check_eq!(rt; tags.to_header().next_header(), EtherType::IPV4);
+        check_eq!(rt; tags.payload().payload, [0x45].as_slice());
         Ok(())
     }
 
@@ -81,17 +82,17 @@ mod tests {
     fn one_tag(rt: HostRuntime) -> Result<(), Fail> {
         let tag = single()?;
         let header = SingleVlanHeader::from_bytes([0x00, 0x01, 0x81, 0x00]);
-        assert_eq!(rt; tag.to_header(), VlanHeader::Single(header));
-        assert_eq!(rt; tag.payload().ether_type, EtherType::VLAN_TAGGED_FRAME);
-        assert_eq!(rt; tag.payload().payload, &TWO_TAGS[4..]);
+        check_eq!(rt; tag.to_header(), VlanHeader::Single(header));
+        check_eq!(rt; tag.payload().ether_type, EtherType::VLAN_TAGGED_FRAME);
+        check_eq!(rt; tag.payload().payload, &TWO_TAGS[4..]);
         Ok(())
     }
 
     #[test]
     fn two_tags(rt: HostRuntime) -> Result<(), Fail> {
         let tags = double()?;
-        assert_eq!(rt; tags.to_header().next_header(), EtherType::IPV4);
-        assert_eq!(rt;
+        check_eq!(rt; tags.to_header().next_header(), EtherType::IPV4);
+        check_eq!(rt;
             tags.payload(),
             EtherPayloadSlice {
                 ether_type: EtherType::IPV4,
@@ -104,21 +105,23 @@ mod tests {
 
     #[test]
     fn views_differ_by_variant_and_tags(rt: HostRuntime) -> Result<(), Fail> {
+        let single = single()?;
+        let double = double()?;
         let other = SingleVlanSlice::from_slice(&[0xB1, 0x23, 0x08, 0x00])?;
-        assert_eq!(rt; single()?.clone()?, single()?);
-        assert_eq!(rt; double()?.clone()?, double()?);
-        assert_ne!(rt; single()?, double()?);
-        assert_ne!(rt; single()?, VlanSlice::SingleVlan(other));
+        check_eq!(rt; single.clone()?, single);
+        check_eq!(rt; double.clone()?, double);
+        check_ne!(rt; single, double);
+        check_ne!(rt; single, VlanSlice::SingleVlan(other));
         Ok(())
     }
 
     #[test]
     fn shown_by_its_tags(rt: HostRuntime) -> Result<(), Fail> {
         let tag = VlanSlice::SingleVlan(SingleVlanSlice::from_slice(&[0, 2, 8, 0, 0x45])?);
-        assert_eq!(rt;
-            format!(in rt.alloc(); "{tag:?}")?.as_str(),
-            "SingleVlan(SingleVlanSlice { header: SingleVlanHeader { pcp: VlanPcp(0), drop_eligible_indicator: false, vlan_id: VlanId(2), ether_type: 0x0800 (Internet Protocol version 4 (IPv4)) }, payload: EtherPayloadSlice { ether_type: 0x0800 (Internet Protocol version 4 (IPv4)), len_source: Slice, payload: [69] } })"
-        );
-        Ok(())
+        assert_debug(
+            &rt,
+            &tag,
+            "SingleVlan(SingleVlanSlice { header: SingleVlanHeader { pcp: VlanPcp(0), drop_eligible_indicator: false, vlan_id: VlanId(2), ether_type: 0x0800 (Internet Protocol version 4 (IPv4)) }, payload: EtherPayloadSlice { ether_type: 0x0800 (Internet Protocol version 4 (IPv4)), len_source: Slice, payload: [69] } })",
+        )
     }
 }
