@@ -12,7 +12,7 @@ ghost use Rattle.ether_peel.specs.PeelRead.{behind_sec_tag, named_error, sec_tag
 use crate::{PeelError, PeelFault, PeelUnit, RestKind, Start};
 use etherparse::err::LenError;
 use etherparse::{
-    ArpPacketSlice, EtherType, Ethernet2Slice, LenSource, LinkSlice, LinuxSllSlice,
+    ArpPacketSlice, EtherType, Ethernet2Slice, LenSource, LinuxSllProtocolType, LinuxSllSlice,
     MacsecPayloadSlice, MacsecSlice, SingleVlanSlice, err,
 };
 use std::marker::Model;
@@ -455,9 +455,12 @@ fn announced_in(packet: &LinuxSllSlice<'_>) -> (EtherType, RestKind)
     ensures shown { result.1 ≡ next_shown (after_protocol (protocol_type_of_header packet.now)) }
 {
     let protocol_type = packet.protocol_type();
-    match LinkSlice::LinuxSllPayload(packet.payload()).ether_payload() {
-        Some(payload) => (payload.ether_type, RestKind::EtherType(payload.ether_type)),
-        None => (EtherType(0), RestKind::Sll(protocol_type)),
+    match protocol_type {
+        LinuxSllProtocolType::EtherType(_) | LinuxSllProtocolType::LinuxNonstandardEtherType(_) => {
+            let ether_type = EtherType(u16::from(protocol_type));
+            (ether_type, RestKind::EtherType(ether_type))
+        }
+        _ => (EtherType(0), RestKind::Sll(protocol_type)),
     }
 }
 
