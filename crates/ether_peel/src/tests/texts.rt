@@ -93,6 +93,10 @@ fn faults_as_developers_read_them(rt: HostRuntime) -> Result<(), Fail> {
             "PeelFault { offset: 18, closed: false, error: Len(LenError { required_len: 4, len: 2, len_source: Slice, layer: VlanHeader, layer_start_offset: 18 }) }",
         ),
         (
+            cut_short(0, true, 18, 17, LenSource::Slice, Layer::Ethernet2Header),
+            "PeelFault { offset: 0, closed: true, error: Len(LenError { required_len: 18, len: 17, len_source: Slice, layer: Ethernet2Header, layer_start_offset: 0 }) }",
+        ),
+        (
             content(22, true, PeelError::Macsec(version)),
             "PeelFault { offset: 22, closed: true, error: Macsec(UnexpectedVersion) }",
         ),
