@@ -25,7 +25,7 @@ const WORKED: [Worked; 24] = [
     (Start::Ethernet2, &[0xFF, 0xFF, 0xFF, 0xFF, 0xFF, 0xFF, 0x02, 0x00, 0x00, 0x00, 0x00, 0x01, 0x88, 0xA8, 0x00, 0x01, 0x81, 0x00, 0x00, 0x02]),
     // A named MACsec payload cut short.
     (Start::EtherType(EtherType::MACSEC), &[0x00, 0x06, 0x00, 0x00, 0x00, 0x01, 0x81, 0x00, 0xAA, 0xBB]),
-    // A VLAN tag in a closed MACsec window, and 2 bytes behind it.
+    // A VLAN tag in a closed MACsec window, and 2 bytes after it.
     (Start::EtherType(EtherType::MACSEC), &[0x00, 0x06, 0x00, 0x00, 0x00, 0x01, 0x81, 0x00, 0xAA, 0xBB, 0xCC, 0xDD, 0xEE, 0xEE]),
     // A VLAN tag cut short in a closed MACsec window.
     (Start::EtherType(EtherType::MACSEC), &[0x00, 0x04, 0x00, 0x00, 0x00, 0x01, 0x81, 0x00, 0xAA, 0xBB, 0xCC, 0xDD]),
@@ -35,7 +35,7 @@ const WORKED: [Worked; 24] = [
     (Start::EtherType(EtherType::MACSEC), &[0x80, 0x00, 0x00, 0x00, 0x00]),
     // A SecTag of version 1.
     (Start::EtherType(EtherType::MACSEC), &[0x80, 0x00, 0x00, 0x00, 0x00, 0x00]),
-    // An encrypted payload of one byte, and one behind it.
+    // An encrypted payload of one byte, and one after it.
     (Start::EtherType(EtherType::MACSEC), &[0x0C, 0x01, 0x00, 0x00, 0x00, 0x01, 0xAA, 0xBB]),
     // A SecTag with an SCI and a payload of unknown length.
     (Start::EtherType(EtherType::MACSEC), &[0x2C, 0xC0, 0x00, 0x00, 0x00, 0x01, 0x00, 0x11, 0x22, 0x33, 0x44, 0x55, 0x66, 0x77, 0x99]),
@@ -59,7 +59,7 @@ const WORKED: [Worked; 24] = [
     (Start::Ethernet2Fcs, &[0xFF, 0xFF, 0xFF, 0xFF, 0xFF, 0xFF, 0x02, 0x00, 0x00, 0x00, 0x00, 0x01, 0x08, 0x00, 0x11, 0x22, 0x33]),
     // A frame with a check sequence.
     (Start::Ethernet2Fcs, &[0xFF, 0xFF, 0xFF, 0xFF, 0xFF, 0xFF, 0x02, 0x00, 0x00, 0x00, 0x00, 0x01, 0x08, 0x00, 0x11, 0x22, 0x33, 0x44]),
-    // Nothing behind the ether type of IPv4.
+    // Nothing after the ether type of IPv4.
     (Start::EtherType(EtherType::IPV4), &[]),
 ];
 
@@ -200,7 +200,7 @@ fn closed_windows_in_one_another(rt: HostRuntime) {
     assert_eq!(rt; summary(MACSEC, &NESTED), whole);
 }
 
-/// The nested tags with another byte at a place are refused, alone and with bytes behind them, by the same fault.
+/// The nested tags with another byte at a place are refused, alone and with bytes after them, by the same fault.
 fn refuses_nested(rt: &impl Abort, place: usize, byte: u8, units: usize, fault: &PeelFault) {
     let mut bytes = [0xFF; 1032];
     bytes[..32].copy_from_slice(&NESTED);
@@ -219,7 +219,7 @@ fn refuses_nested(rt: &impl Abort, place: usize, byte: u8, units: usize, fault: 
 }
 
 #[test]
-fn bytes_behind_a_closed_window_change_nothing(rt: HostRuntime) {
+fn bytes_after_a_closed_window_change_nothing(rt: HostRuntime) {
     let too_long = |required_len: usize, len: usize, at: usize| PeelFault {
         offset: at,
         error: PeelError::Len(LenError {

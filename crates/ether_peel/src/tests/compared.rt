@@ -3,7 +3,7 @@
 mod generated;
 
 use super::limits::{fed, snapped, summed, walker, written};
-use super::{behind, shown};
+use super::{shown, with_type};
 use crate::plain::{PlainEnding, PlainExpected, PlainRefusal, walk};
 use crate::test_frames::{ARP_REQUEST, CHECKED, COOKED, NAMED, SEALED, SECOND_TAG_CUT, TAGGED};
 use crate::{Feed, Peel, PeelError, PeelFault, PeelUnit, RestKind, Start, Summary};
@@ -67,12 +67,12 @@ fn all_beginnings_of_sec_tags_and_arp_packets(rt: HostRuntime) -> Result<(), Fai
         let sec_tag = [
             a, b, 0, 0, 0, 1, c, d, 0x81, 0x00, 0x08, 0x06, 0, 7, c, d, 0, 0, 0, 0,
         ];
-        compare(&rt, behind(0x88E5), &sec_tag)?;
-        compare(&rt, behind(0x88E5), &sec_tag[..11])?;
+        compare(&rt, with_type(0x88E5), &sec_tag)?;
+        compare(&rt, with_type(0x88E5), &sec_tag[..11])?;
         let arp = [
             0, 1, 8, 0, a, b, c, d, 1, 2, 3, 4, 5, 6, 7, 8, 9, 10, 11, 12,
         ];
-        compare(&rt, behind(0x0806), &arp)?;
+        compare(&rt, with_type(0x0806), &arp)?;
     }
     Ok(())
 }
@@ -242,7 +242,7 @@ fn kind_of(expected: PlainExpected) -> RestKind {
     }
 }
 
-/// The walker's item behind the units: the fault, if there is one.
+/// The walker's item after the units: the fault, if there is one.
 fn last_item<'a>(ending: PlainEnding) -> Option<Result<PeelUnit<'a>, PeelFault>> {
     let fault = fault_of(ending)?;
     Some(Err(fault))

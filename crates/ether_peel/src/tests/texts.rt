@@ -1,5 +1,5 @@
 //! The texts of values.
-use super::{behind, content, cut_short};
+use super::{content, cut_short, with_type};
 use crate::test_frames::{NAMED, TAGGED};
 use crate::{Peel, PeelError, RestKind, Start, Summary};
 use etherparse::err::{self, Layer};
@@ -116,7 +116,7 @@ fn faults_as_developers_read_them(rt: HostRuntime) -> Result<(), Fail> {
 fn starts_and_kinds(rt: HostRuntime) -> Result<(), Fail> {
     let ignored = RestKind::Sll(LinuxSllProtocolType::Ignored(5));
     assert_debug(&rt, &Start::Ethernet2Fcs, "Ethernet2Fcs")?;
-    assert_debug(&rt, &behind(5), "EtherType(0x0005)")?;
+    assert_debug(&rt, &with_type(5), "EtherType(0x0005)")?;
     assert_debug(&rt, &RestKind::Start, "Start")?;
     assert_debug(&rt, &ignored, "Sll(Ignored(5))")?;
     assert_debug(&rt, &RestKind::Sealed, "Sealed")?;
@@ -133,7 +133,7 @@ fn units_and_summaries(rt: HostRuntime) -> Result<(), Fail> {
         &tag,
         "Vlan(SingleVlanSlice { header: SingleVlanHeader { pcp: VlanPcp(5), drop_eligible_indicator: true, vlan_id: VlanId(291), ether_type: 0x0800 (Internet Protocol version 4 (IPv4)) }, payload: EtherPayloadSlice { ether_type: 0x0800 (Internet Protocol version 4 (IPv4)), len_source: Slice, payload: [] } })",
     )?;
-    peel = Peel::new(behind(0x88E5), &NAMED);
+    peel = Peel::new(with_type(0x88E5), &NAMED);
     let sec_tag = peel.next().ok_or("a unit")?.ok().ok_or("a unit")?;
     assert_debug(
         &rt,
