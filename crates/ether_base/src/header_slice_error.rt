@@ -99,11 +99,9 @@ mod tests {
     #[test]
     fn contents_of_a_sec_tag_stay(rt: HostRuntime) -> Result<(), Fail> {
         let content = macsec::HeaderSliceError::Content(macsec::HeaderError::UnexpectedVersion);
-        assert_display(
-            &rt,
-            &content.add_slice_offset(usize::MAX),
-            "MACsec Header Error: Encountered '1' as MACsec version in the MACsec SecTag header (must be '0').",
-        )
+        let text =
+            "MACsec Header Error: Encountered '1' as MACsec version in the MACsec SecTag header (must be '0').";
+        assert_display(&rt, &content.add_slice_offset(usize::MAX), text)
     }
 
     #[test]

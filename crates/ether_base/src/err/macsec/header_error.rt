@@ -50,11 +50,9 @@ mod tests {
     #[test]
     fn the_example(rt: HostRuntime) -> Result<(), Fail> {
         let error = HeaderError::UnexpectedVersion;
-        assert_display(
-            &rt,
-            &error,
-            "MACsec Header Error: Encountered '1' as MACsec version in the MACsec SecTag header (must be '0').",
-        )
+        let text =
+            "MACsec Header Error: Encountered '1' as MACsec version in the MACsec SecTag header (must be '0').";
+        assert_display(&rt, &error, text)
     }
 
     #[rattlefmt::skip]
