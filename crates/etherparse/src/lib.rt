@@ -23,6 +23,8 @@
 #![tactic(auto)]
 
 #[cfg(test)]
+mod test_asserts;
+#[cfg(test)]
 mod tests;
 
 pub use ether_arp::{ArpEthIpv4Packet, ArpPacket, ArpPacketSlice};

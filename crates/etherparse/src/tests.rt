@@ -8,6 +8,7 @@ mod numbers;
 ghost use Rattle.std.specs.Prelude.{◌≡◌};
 
 use crate::err::{Layer, LenError};
+use crate::test_asserts::check_eq;
 use crate::{
     EtherPayloadSlice, EtherType, Ethernet2Slice, LenSource, SingleVlanSlice, VlanId, ether_type,
 };
@@ -20,11 +21,11 @@ fn the_example(rt: HostRuntime) -> Result<(), Fail> {
         0xB1, 0x23, 0x08, 0x00, // VLAN
     ];
     let ethernet = Ethernet2Slice::from_slice_without_fcs(&frame)?;
-    assert_eq!(rt; ethernet.ether_type(), ether_type::VLAN_TAGGED_FRAME);
+    check_eq!(rt; ethernet.ether_type(), ether_type::VLAN_TAGGED_FRAME);
 
     let vlan = SingleVlanSlice::from_slice(ethernet.payload_slice())?;
-    assert_eq!(rt; vlan.vlan_identifier(), VlanId::try_new(0x123)?);
-    assert_eq!(rt; vlan.ether_type(), ether_type::IPV4);
+    check_eq!(rt; vlan.vlan_identifier(), VlanId::try_new(0x123)?);
+    check_eq!(rt; vlan.ether_type(), ether_type::IPV4);
     Ok(())
 }
 

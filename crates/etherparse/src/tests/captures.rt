@@ -1,6 +1,7 @@
 //! Linux cooked capture, and links of either kind.
 use super::{cut_short, ipv4};
 use crate::err::{Layer, SliceWriteSpaceError, linux_sll};
+use crate::test_asserts::{check_eq, check_ne};
 use crate::{
     ArpHardwareId, EtherPayloadSlice, EtherType, Ethernet2Header, Ethernet2Slice, LinkHeader,
     LinkSlice, LinuxNonstandardEtherType, LinuxSllHeader, LinuxSllHeaderSlice, LinuxSllPacketType,
@@ -33,11 +34,11 @@ fn sll_ipv4() -> LinuxSllPayloadSlice<'static> {
 #[test]
 fn a_cooked_capture_header(rt: HostRuntime) {
     let bytes = HEADER.to_bytes();
-    assert_eq!(rt;
+    check_eq!(rt;
         (bytes.as_slice(), HEADER.header_len()),
         (&CAPTURE[..LinuxSllHeader::LEN], 16)
     );
-    assert_eq!(rt;
+    check_eq!(rt;
         (
             LinuxSllHeader::from_bytes(bytes),
             LinuxSllHeader::from_slice(&CAPTURE)
@@ -45,7 +46,7 @@ fn a_cooked_capture_header(rt: HostRuntime) {
         (Ok(HEADER), Ok((HEADER, [0xAA].as_slice())))
     );
     let refused = linux_sll::HeaderSliceError::Len(cut_short(16, 15, Layer::LinuxSllHeader));
-    assert_eq!(rt; LinuxSllHeader::from_slice(&CAPTURE[..15]), Err(refused));
+    check_eq!(rt; LinuxSllHeader::from_slice(&CAPTURE[..15]), Err(refused));
 }
 
 #[test]
@@ -53,14 +54,14 @@ fn a_cooked_capture_header_written_to_a_slice(rt: HostRuntime) -> Result<(), Fai
     let mut target = [0x55; 17];
     let rest = HEADER.write_to_slice(&mut target)?;
     assert_eq!(rt; rest.len(), 1);
-    assert_eq!(rt; &target[..16], &CAPTURE[..16]);
+    check_eq!(rt; &target[..16], &CAPTURE[..16]);
     let refused = SliceWriteSpaceError {
         required_len: 16,
         len: 15,
         layer: Layer::LinuxSllHeader,
         layer_start_offset: 0,
     };
-    assert_eq!(rt;
+    check_eq!(rt;
         HEADER.write_to_slice(&mut target[..15]).err(),
         Some(refused)
     );
@@ -70,7 +71,7 @@ fn a_cooked_capture_header_written_to_a_slice(rt: HostRuntime) -> Result<(), Fai
 #[test]
 fn a_view_of_a_cooked_capture_header(rt: HostRuntime) -> Result<(), Fail> {
     let view = LinuxSllHeaderSlice::from_slice(&CAPTURE)?;
-    assert_eq!(rt;
+    check_eq!(rt;
         (
             view.packet_type(),
             view.arp_hardware_type(),
@@ -79,7 +80,7 @@ fn a_view_of_a_cooked_capture_header(rt: HostRuntime) -> Result<(), Fail> {
         (LinuxSllPacketType::HOST, ArpHardwareId::ETHERNET, 255)
     );
     let address = [2, 0, 0, 0, 0, 1, 0, 0];
-    assert_eq!(rt;
+    check_eq!(rt;
         (
             view.sender_address_full(),
             view.sender_address(),
@@ -87,14 +88,14 @@ fn a_view_of_a_cooked_capture_header(rt: HostRuntime) -> Result<(), Fail> {
         ),
         (address, address.as_slice(), 1)
     );
-    assert_eq!(rt; (view.slice(), view.to_header()), (&CAPTURE[..16], HEADER));
+    check_eq!(rt; (view.slice(), view.to_header()), (&CAPTURE[..16], HEADER));
     Ok(())
 }
 
 #[test]
 fn a_view_of_a_cooked_capture(rt: HostRuntime) -> Result<(), Fail> {
     let view = LinuxSllSlice::from_slice(&CAPTURE)?;
-    assert_eq!(rt;
+    check_eq!(rt;
         (
             view.packet_type(),
             view.arp_hardware_type(),
@@ -103,7 +104,7 @@ fn a_view_of_a_cooked_capture(rt: HostRuntime) -> Result<(), Fail> {
         (LinuxSllPacketType::HOST, ArpHardwareId::ETHERNET, 255)
     );
     let address = [2, 0, 0, 0, 0, 1, 0, 0];
-    assert_eq!(rt;
+    check_eq!(rt;
         (
             view.sender_address_full(),
             view.sender_address(),
@@ -111,18 +112,18 @@ fn a_view_of_a_cooked_capture(rt: HostRuntime) -> Result<(), Fail> {
         ),
         (address, address.as_slice(), 1)
     );
-    assert_eq!(rt; view.to_header(), HEADER);
+    check_eq!(rt; view.to_header(), HEADER);
     Ok(())
 }
 
 #[test]
 fn the_bytes_of_a_cooked_capture(rt: HostRuntime) -> Result<(), Fail> {
     let view = LinuxSllSlice::from_slice(&CAPTURE)?;
-    assert_eq!(rt;
+    check_eq!(rt;
         (view.slice(), view.header_slice(), view.header_len()),
         (CAPTURE.as_slice(), &CAPTURE[..16], 16)
     );
-    assert_eq!(rt;
+    check_eq!(rt;
         (view.payload_slice(), view.payload().payload),
         ([0xAA].as_slice(), [0xAA].as_slice())
     );
@@ -131,12 +132,12 @@ fn the_bytes_of_a_cooked_capture(rt: HostRuntime) -> Result<(), Fail> {
 
 #[test]
 fn payloads_of_either_kind(rt: HostRuntime) {
-    assert_eq!(rt; LinuxSllPayloadSlice::from(ipv4()), sll_ipv4());
+    check_eq!(rt; LinuxSllPayloadSlice::from(ipv4()), sll_ipv4());
     let netlink = LinuxSllPayloadSlice {
         protocol_type: LinuxSllProtocolType::NetlinkProtocolType(1),
         payload: &[0x45],
     };
-    assert_eq!(rt;
+    check_eq!(rt;
         (
             EtherPayloadSlice::try_from(sll_ipv4()),
             EtherPayloadSlice::try_from(netlink)
@@ -148,14 +149,14 @@ fn payloads_of_either_kind(rt: HostRuntime) {
 #[test]
 fn the_header_of_a_capture(rt: HostRuntime) {
     let mut link = LinkHeader::LinuxSll(HEADER);
-    assert_eq!(rt;
+    check_eq!(rt;
         (link.header_len(), link.linux_sll(), link.ethernet2()),
         (16, Some(HEADER), None)
     );
     if let Some(header) = link.mut_linux_sll() {
         header.packet_type = LinuxSllPacketType::OUTGOING;
     }
-    assert_ne!(rt; link.linux_sll(), Some(HEADER));
+    check_ne!(rt; link.linux_sll(), Some(HEADER));
 }
 
 #[test]
@@ -168,31 +169,31 @@ fn the_header_of_a_frame(rt: HostRuntime) {
     if let Some(header) = link.mut_ethernet2() {
         header.ether_type = EtherType::IPV4;
     }
-    assert_eq!(rt; link, LinkHeader::Ethernet2(ipv4));
+    check_eq!(rt; link, LinkHeader::Ethernet2(ipv4));
 }
 
 #[test]
 fn a_link_with_a_header(rt: HostRuntime) -> Result<(), Fail> {
     let bytes = [0, 0, 0, 0, 0, 0, 0, 0, 0, 0, 0, 0, 0x08, 0x00, 0x45];
     let frame = LinkSlice::Ethernet2(Ethernet2Slice::from_slice_without_fcs(&bytes)?);
-    assert_eq!(rt;
+    check_eq!(rt;
         (frame.ether_payload(), frame.sll_payload()),
         (Some(ipv4()), sll_ipv4())
     );
     let capture = LinkSlice::LinuxSll(LinuxSllSlice::from_slice(&CAPTURE)?);
-    assert_eq!(rt; capture.to_header(), Some(LinkHeader::LinuxSll(HEADER)));
+    check_eq!(rt; capture.to_header(), Some(LinkHeader::LinuxSll(HEADER)));
     Ok(())
 }
 
 #[test]
 fn a_link_without_a_header(rt: HostRuntime) {
     let ether = LinkSlice::EtherPayload(ipv4());
-    assert_eq!(rt;
+    check_eq!(rt;
         (ether.to_header(), ether.sll_payload()),
         (None, sll_ipv4())
     );
     let sll = LinkSlice::LinuxSllPayload(sll_ipv4());
-    assert_eq!(rt;
+    check_eq!(rt;
         (sll.to_header(), sll.ether_payload()),
         (None, Some(ipv4()))
     );

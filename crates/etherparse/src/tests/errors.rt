@@ -4,6 +4,7 @@ use crate::err::arp::{ArpEthIpv4FromError, ArpHwAddrError, ArpNewError, ArpProto
 use crate::err::{
     Layer, LenError, SliceWriteSpaceError, ValueTooBigError, ValueType, linux_sll, macsec,
 };
+use crate::test_asserts::{assert_less, check_eq};
 use crate::{ArpHardwareId, EtherType, LenSource};
 use std::alloc::AllocGlobal;
 use std::error::Error;
@@ -19,7 +20,7 @@ fn shows<R: Abort + AllocGlobal, E: Error + Clone + Eq + Hash + Drop>(
 ) -> Result<(), Fail> {
     let clone = error.clone()?;
     assert!(rt; clone == error);
-    assert_eq!(rt; format!(in rt.alloc(); "{clone}")?.as_str(), text);
+    check_eq!(rt; format!(in rt.alloc(); "{clone}")?.as_str(), text);
     Ok(())
 }
 
@@ -54,14 +55,14 @@ fn layers(rt: HostRuntime) -> Result<(), Fail> {
     ];
     let mut before = None;
     for layer in layers {
-        assert!(rt; before < Some(layer), "{layer:?}");
+        assert_less(&rt, &before, &Some(layer));
         before = Some(layer);
     }
-    assert_eq!(rt;
+    check_eq!(rt;
         Layer::Arp.error_title(),
         "Address Resolution Protocol Packet Error"
     );
-    assert_eq!(rt;
+    check_eq!(rt;
         format!(in rt.alloc(); "{}", Layer::Icmpv4TimestampReply)?.as_str(),
         "ICMP timestamp reply message"
     );
@@ -90,10 +91,10 @@ fn value_types(rt: HostRuntime) -> Result<(), Fail> {
     ];
     let mut before = None;
     for value_type in value_types {
-        assert!(rt; before < Some(value_type), "{value_type:?}");
+        assert_less(&rt, &before, &Some(value_type));
         before = Some(value_type);
     }
-    assert_eq!(rt;
+    check_eq!(rt;
         format!(in rt.alloc(); "{}", ValueType::LinuxSllType)?.as_str(),
         "Linux Cooked Capture v1 (SLL)"
     );
@@ -123,9 +124,9 @@ fn a_slice_that_is_too_short(rt: HostRuntime) -> Result<(), Fail> {
         layer,
         layer_start_offset,
     } = cut_short(4, 2, Layer::VlanHeader).add_offset(14);
-    assert_eq!(rt; (required_len, len, layer_start_offset), (4, 2, 14));
-    assert_eq!(rt; len_source, LenSource::Slice);
-    assert_eq!(rt; layer, Layer::VlanHeader);
+    check_eq!(rt; (required_len, len, layer_start_offset), (4, 2, 14));
+    check_eq!(rt; len_source, LenSource::Slice);
+    check_eq!(rt; layer, Layer::VlanHeader);
     shows(
         &rt,
         cut_short(4, 2, Layer::VlanHeader),
@@ -181,7 +182,7 @@ fn contents_of_a_sec_tag(rt: HostRuntime) -> Result<(), Fail> {
         "MACsec Header Error: Encountered '1' as MACsec short len in an unmodified packet (must be '0' or '2' or greater).";
     shows(&rt, short_len, short_len_text)?;
     let short = cut_short(6, 5, Layer::MacsecHeader);
-    assert_eq!(rt;
+    check_eq!(rt;
         macsec::HeaderSliceError::Len(short).add_slice_offset(14),
         macsec::HeaderSliceError::Len(LenError {
             layer_start_offset: 14,

@@ -1,6 +1,7 @@
 //! Ethernet II, VLAN tags and SecTags, and the extensions of a link.
 use super::{cut_short, ipv4};
 use crate::err::{Layer, SliceWriteSpaceError, macsec};
+use crate::test_asserts::check_eq;
 use crate::{
     DoubleVlanHeader, DoubleVlanSlice, EtherPayloadSlice, EtherType, Ethernet2Header,
     Ethernet2HeaderSlice, Ethernet2Slice, LenSource, LinkExtHeader, LinkExtSlice, MacsecAn,
@@ -56,12 +57,12 @@ fn tag() -> Result<SingleVlanHeader, Fail> {
 #[test]
 fn an_ethernet_header(rt: HostRuntime) -> Result<(), Fail> {
     let bytes = HEADER.to_bytes();
-    assert_eq!(rt;
+    check_eq!(rt;
         (bytes.as_slice(), HEADER.header_len()),
         (&FRAME[..14], Ethernet2Header::LEN)
     );
-    assert_eq!(rt; Ethernet2Header::from_bytes(bytes), HEADER);
-    assert_eq!(rt;
+    check_eq!(rt; Ethernet2Header::from_bytes(bytes), HEADER);
+    check_eq!(rt;
         (
             Ethernet2Header::default().to_bytes(),
             Ethernet2Header::SERIALIZED_SIZE
@@ -69,7 +70,7 @@ fn an_ethernet_header(rt: HostRuntime) -> Result<(), Fail> {
         ([0; 14], 14)
     );
     let rest = &FRAME[14..];
-    assert_eq!(rt;
+    check_eq!(rt;
         (
             Ethernet2Header::from_slice(&FRAME)?,
             Ethernet2Header::read_from_slice(&FRAME)?
@@ -84,14 +85,14 @@ fn an_ethernet_header_written_to_a_slice(rt: HostRuntime) -> Result<(), Fail> {
     let mut target = [0x55; 16];
     let rest = HEADER.write_to_slice(&mut target)?;
     assert_eq!(rt; rest.len(), 2);
-    assert_eq!(rt; &target[..14], &FRAME[..14]);
+    check_eq!(rt; &target[..14], &FRAME[..14]);
     let refused = SliceWriteSpaceError {
         required_len: 14,
         len: 13,
         layer: Layer::Ethernet2Header,
         layer_start_offset: 0,
     };
-    assert_eq!(rt;
+    check_eq!(rt;
         HEADER.write_to_slice(&mut target[..13]).err(),
         Some(refused)
     );
@@ -101,12 +102,12 @@ fn an_ethernet_header_written_to_a_slice(rt: HostRuntime) -> Result<(), Fail> {
 #[test]
 fn a_view_of_an_ethernet_header(rt: HostRuntime) -> Result<(), Fail> {
     let view = Ethernet2HeaderSlice::from_slice(&FRAME)?;
-    assert_eq!(rt;
+    check_eq!(rt;
         (view.destination(), view.source(), view.ether_type()),
         ([0xFF; 6], [2, 0, 0, 0, 0, 1], EtherType::IPV4)
     );
-    assert_eq!(rt; (view.slice(), view.to_header()), (&FRAME[..14], HEADER));
-    assert_eq!(rt;
+    check_eq!(rt; (view.slice(), view.to_header()), (&FRAME[..14], HEADER));
+    check_eq!(rt;
         Ethernet2HeaderSlice::from_slice(&FRAME[..13]).err(),
         Some(cut_short(14, 13, Layer::Ethernet2Header))
     );
@@ -116,11 +117,11 @@ fn a_view_of_an_ethernet_header(rt: HostRuntime) -> Result<(), Fail> {
 #[test]
 fn a_frame_with_a_check_sequence(rt: HostRuntime) -> Result<(), Fail> {
     let view = Ethernet2Slice::from_slice_with_crc32_fcs(&FRAME)?;
-    assert_eq!(rt;
+    check_eq!(rt;
         (view.slice(), view.header_slice(), view.payload_slice()),
         (FRAME.as_slice(), &FRAME[..14], [].as_slice())
     );
-    assert_eq!(rt;
+    check_eq!(rt;
         (view.header_len(), view.fcs(), view.payload().ether_type),
         (14, Some([0x11, 0x22, 0x33, 0x44]), EtherType::IPV4)
     );
@@ -130,25 +131,25 @@ fn a_frame_with_a_check_sequence(rt: HostRuntime) -> Result<(), Fail> {
 #[test]
 fn the_fields_of_a_frame(rt: HostRuntime) -> Result<(), Fail> {
     let view = Ethernet2Slice::from_slice_with_crc32_fcs(&FRAME)?;
-    assert_eq!(rt;
+    check_eq!(rt;
         (view.destination(), view.source(), view.to_header()),
         ([0xFF; 6], [2, 0, 0, 0, 0, 1], HEADER)
     );
-    assert_eq!(rt; view.clone()?, view);
+    check_eq!(rt; view.clone()?, view);
     Ok(())
 }
 
 #[test]
 fn a_vlan_tag(rt: HostRuntime) -> Result<(), Fail> {
     let tag = tag()?;
-    assert_eq!(rt; tag.to_bytes(), [0xB1, 0x23, 0x08, 0x00]);
-    assert_eq!(rt; SingleVlanHeader::from_bytes(tag.to_bytes()), tag);
-    assert_eq!(rt; tag.header_len(), SingleVlanHeader::LEN);
-    assert_eq!(rt; SingleVlanHeader::SERIALIZED_SIZE, 4);
-    assert_eq!(rt; SingleVlanHeader::default().to_bytes(), [0; 4]);
+    check_eq!(rt; tag.to_bytes(), [0xB1, 0x23, 0x08, 0x00]);
+    check_eq!(rt; SingleVlanHeader::from_bytes(tag.to_bytes()), tag);
+    check_eq!(rt; tag.header_len(), SingleVlanHeader::LEN);
+    check_eq!(rt; SingleVlanHeader::SERIALIZED_SIZE, 4);
+    check_eq!(rt; SingleVlanHeader::default().to_bytes(), [0; 4]);
     let rest = [0x45].as_slice();
-    assert_eq!(rt; SingleVlanHeader::from_slice(&TAGS[4..]), Ok((tag, rest)));
-    assert_eq!(rt;
+    check_eq!(rt; SingleVlanHeader::from_slice(&TAGS[4..]), Ok((tag, rest)));
+    check_eq!(rt;
         SingleVlanHeader::read_from_slice(&TAGS[4..]),
         Ok((tag, rest))
     );
@@ -158,7 +159,7 @@ fn a_vlan_tag(rt: HostRuntime) -> Result<(), Fail> {
 #[test]
 fn a_view_of_a_vlan_tag(rt: HostRuntime) -> Result<(), Fail> {
     let view = SingleVlanHeaderSlice::from_slice(&TAGS[4..])?;
-    assert_eq!(rt;
+    check_eq!(rt;
         (
             view.priority_code_point().value(),
             view.drop_eligible_indicator(),
@@ -167,18 +168,18 @@ fn a_view_of_a_vlan_tag(rt: HostRuntime) -> Result<(), Fail> {
         ),
         (5, true, 0x123, EtherType::IPV4)
     );
-    assert_eq!(rt; (view.slice(), view.to_header()), (&TAGS[4..8], tag()?));
+    check_eq!(rt; (view.slice(), view.to_header()), (&TAGS[4..8], tag()?));
     Ok(())
 }
 
 #[test]
 fn a_view_of_a_vlan_tag_and_its_payload(rt: HostRuntime) -> Result<(), Fail> {
     let view = SingleVlanSlice::from_slice(&TAGS[4..])?;
-    assert_eq!(rt;
+    check_eq!(rt;
         (view.slice(), view.header_slice(), view.payload_slice()),
         (&TAGS[4..], &TAGS[4..8], [0x45].as_slice())
     );
-    assert_eq!(rt;
+    check_eq!(rt;
         (
             view.header_len(),
             view.priority_code_point().value(),
@@ -186,13 +187,13 @@ fn a_view_of_a_vlan_tag_and_its_payload(rt: HostRuntime) -> Result<(), Fail> {
         ),
         (4, 5, true)
     );
-    assert_eq!(rt; (view.to_header(), view.payload()), (tag()?, ipv4()));
+    check_eq!(rt; (view.to_header(), view.payload()), (tag()?, ipv4()));
     Ok(())
 }
 
 #[test]
 fn half_a_vlan_tag(rt: HostRuntime) {
-    assert_eq!(rt;
+    check_eq!(rt;
         SingleVlanSlice::from_slice(&TAGS[..2]).err(),
         Some(cut_short(4, 2, Layer::VlanHeader))
     );
@@ -211,7 +212,7 @@ fn two_vlan_tags(rt: HostRuntime) -> Result<(), Fail> {
             ..DoubleVlanHeader::default().outer
         },
     };
-    assert_eq!(rt;
+    check_eq!(rt;
         (view.to_header(), view.payload_slice(), view.payload()),
         (header, [0x45].as_slice(), ipv4())
     );
@@ -223,13 +224,13 @@ fn one_vlan_tag_or_two(rt: HostRuntime) -> Result<(), Fail> {
     let outer = SingleVlanSlice::from_slice(&TAGS)?;
     let inner = SingleVlanSlice::from_slice(&TAGS[4..])?;
     let single = VlanSlice::SingleVlan(inner.clone()?);
-    assert_eq!(rt;
+    check_eq!(rt;
         (single.to_header(), single.payload()),
         (VlanHeader::Single(tag()?), ipv4())
     );
     let double = VlanSlice::DoubleVlan(DoubleVlanSlice { outer, inner }).to_header();
     assert!(rt; matches!(double, VlanHeader::Double(_)));
-    assert_eq!(rt;
+    check_eq!(rt;
         (double.next_header(), VlanHeader::VLAN_ETHER_TYPES),
         (
             EtherType::IPV4,
@@ -250,7 +251,7 @@ fn a_sec_tag(rt: HostRuntime) -> Result<(), Fail> {
         packet_nr: 1,
         sci: None,
     };
-    assert_eq!(rt;
+    check_eq!(rt;
         (
             MacsecHeader::from_slice(&READABLE),
             header.to_bytes().as_slice()
@@ -258,7 +259,7 @@ fn a_sec_tag(rt: HostRuntime) -> Result<(), Fail> {
         (Ok(header), &READABLE[..8])
     );
     assert!(rt; !header.encrypted() && !header.userdata_changed());
-    assert_eq!(rt;
+    check_eq!(rt;
         (
             header.next_ether_type(),
             header.header_len(),
@@ -267,7 +268,7 @@ fn a_sec_tag(rt: HostRuntime) -> Result<(), Fail> {
         (Some(EtherType(0x8100)), 8, Some(4))
     );
     header.set_payload_len(61);
-    assert_eq!(rt;
+    check_eq!(rt;
         (
             header.short_len.value(),
             MacsecHeader::MIN_LEN,
@@ -283,7 +284,7 @@ fn a_view_of_a_sec_tag(rt: HostRuntime) -> Result<(), Fail> {
     let tag = MacsecHeaderSlice::from_slice(&SEALED)?;
     assert!(rt; !tag.endstation_id() && !tag.tci_scb() && tag.sci_present());
     assert!(rt; tag.encrypted() && tag.userdata_changed() && !tag.is_unmodified());
-    assert_eq!(rt;
+    check_eq!(rt;
         (
             tag.tci_an_raw(),
             tag.ptype(),
@@ -307,12 +308,12 @@ fn a_view_of_a_sec_tag(rt: HostRuntime) -> Result<(), Fail> {
 #[test]
 fn the_lengths_of_a_sec_tag(rt: HostRuntime) -> Result<(), Fail> {
     let tag = MacsecHeaderSlice::from_slice(&SEALED)?;
-    assert_eq!(rt; (tag.slice(), tag.header_len()), (&SEALED[..14], 14));
-    assert_eq!(rt;
+    check_eq!(rt; (tag.slice(), tag.header_len()), (&SEALED[..14], 14));
+    check_eq!(rt;
         (tag.next_ether_type(), tag.expected_payload_len()),
         (None, None)
     );
-    assert_eq!(rt; tag.to_header().sci, tag.sci());
+    check_eq!(rt; tag.to_header().sci, tag.sci());
     Ok(())
 }
 
@@ -320,7 +321,7 @@ fn the_lengths_of_a_sec_tag(rt: HostRuntime) -> Result<(), Fail> {
 fn the_other_payload_types(rt: HostRuntime) -> Result<(), Fail> {
     let changed = MacsecHeaderSlice::from_slice(&[0x04, 0, 0, 0, 0, 0])?.ptype();
     let sealed = MacsecHeaderSlice::from_slice(&[0x08, 0, 0, 0, 0, 0])?.ptype();
-    assert_eq!(rt;
+    check_eq!(rt;
         (changed, sealed),
         (MacsecPType::Modified, MacsecPType::EncryptedUnmodified)
     );
@@ -330,7 +331,7 @@ fn the_other_payload_types(rt: HostRuntime) -> Result<(), Fail> {
 #[test]
 fn a_view_of_a_sec_tag_and_its_payload(rt: HostRuntime) -> Result<(), Fail> {
     let readable = MacsecSlice::from_slice(&READABLE)?;
-    assert_eq!(rt;
+    check_eq!(rt;
         (
             readable.header.slice(),
             readable.ether_payload(),
@@ -339,7 +340,7 @@ fn a_view_of_a_sec_tag_and_its_payload(rt: HostRuntime) -> Result<(), Fail> {
         (&READABLE[..8], Some(named()), Some(EtherType(0x8100)))
     );
     let sealed = MacsecSlice::from_slice(&SEALED)?;
-    assert_eq!(rt;
+    check_eq!(rt;
         (readable.payload, sealed.payload),
         (
             MacsecPayloadSlice::Unmodified(named()),
@@ -353,7 +354,7 @@ fn a_view_of_a_sec_tag_and_its_payload(rt: HostRuntime) -> Result<(), Fail> {
 fn a_sec_tag_that_is_refused(rt: HostRuntime) {
     let version = macsec::HeaderError::UnexpectedVersion;
     let cut = cut_short(6, 5, Layer::MacsecHeader);
-    assert_eq!(rt;
+    check_eq!(rt;
         (
             MacsecHeader::from_slice(&[0x80, 0, 0, 0, 0, 0]),
             MacsecHeader::from_slice(&[0x80, 0, 0, 0, 0])
@@ -368,13 +369,13 @@ fn a_sec_tag_that_is_refused(rt: HostRuntime) {
 #[test]
 fn the_extensions_of_a_link(rt: HostRuntime) -> Result<(), Fail> {
     let vlan = LinkExtSlice::Vlan(SingleVlanSlice::from_slice(&TAGS[4..])?);
-    assert_eq!(rt;
+    check_eq!(rt;
         (vlan.header_len(), vlan.to_header(), vlan.ether_payload()),
         (4, LinkExtHeader::Vlan(tag()?), Some(ipv4()))
     );
     let macsec = LinkExtSlice::Macsec(MacsecSlice::from_slice(&READABLE)?);
     assert!(rt; matches!(macsec.to_header(), LinkExtHeader::Macsec(_)));
-    assert_eq!(rt;
+    check_eq!(rt;
         (macsec.to_header().header_len(), macsec.ether_payload()),
         (8, Some(named()))
     );

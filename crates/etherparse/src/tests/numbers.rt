@@ -1,5 +1,6 @@
 //! Numbers with a range, and numbers with names.
 use crate::err::{ValueTooBigError, ValueType, linux_sll};
+use crate::test_asserts::{assert_display, assert_less, check_eq};
 use crate::{
     ArpHardwareId, ArpOperation, EtherType, LenSource, LinuxNonstandardEtherType,
     LinuxSllPacketType, LinuxSllProtocolType, MacsecAn, MacsecShortLen, VlanId, VlanPcp,
@@ -10,7 +11,7 @@ use std::test::Fail;
 #[test]
 fn vlan_ids(rt: HostRuntime) -> Result<(), Fail> {
     let id = VlanId::try_new(0x123)?;
-    assert_eq!(rt;
+    check_eq!(rt;
         (
             id.value(),
             u16::from(id),
@@ -19,21 +20,21 @@ fn vlan_ids(rt: HostRuntime) -> Result<(), Fail> {
         ),
         (0x123, 0x123, Ok(id), 4095)
     );
-    assert_eq!(rt; VlanId::default(), VlanId::ZERO);
-    assert_eq!(rt; format!(in rt.alloc(); "{id}")?.as_str(), "291");
+    check_eq!(rt; VlanId::default(), VlanId::ZERO);
+    assert_display(&rt, &id, "291")?;
     let refused = ValueTooBigError {
         actual: 4096,
         max_allowed: 4095,
         value_type: ValueType::VlanId,
     };
-    assert_eq!(rt; VlanId::try_new(4096), Err(refused));
+    check_eq!(rt; VlanId::try_new(4096), Err(refused));
     Ok(())
 }
 
 #[test]
 fn vlan_priorities(rt: HostRuntime) -> Result<(), Fail> {
     let pcp = VlanPcp::try_new(7)?;
-    assert_eq!(rt;
+    check_eq!(rt;
         (
             pcp.value(),
             u8::from(pcp),
@@ -49,7 +50,7 @@ fn vlan_priorities(rt: HostRuntime) -> Result<(), Fail> {
 #[test]
 fn association_numbers(rt: HostRuntime) -> Result<(), Fail> {
     let an = MacsecAn::try_new(3)?;
-    assert_eq!(rt;
+    check_eq!(rt;
         (
             an.value(),
             u8::from(an),
@@ -65,7 +66,7 @@ fn association_numbers(rt: HostRuntime) -> Result<(), Fail> {
 #[test]
 fn short_lengths(rt: HostRuntime) -> Result<(), Fail> {
     let short_len = MacsecShortLen::try_from_u8(63)?;
-    assert_eq!(rt;
+    check_eq!(rt;
         (
             short_len.value(),
             u8::from(short_len),
@@ -73,14 +74,14 @@ fn short_lengths(rt: HostRuntime) -> Result<(), Fail> {
         ),
         (MacsecShortLen::MAX_U8, 63, Ok(short_len))
     );
-    assert_eq!(rt;
+    check_eq!(rt;
         (
             MacsecShortLen::from_len(MacsecShortLen::MAX_USIZE),
             MacsecShortLen::from_len(64)
         ),
         (short_len, MacsecShortLen::ZERO)
     );
-    assert_eq!(rt; MacsecShortLen::default(), MacsecShortLen::ZERO);
+    check_eq!(rt; MacsecShortLen::default(), MacsecShortLen::ZERO);
     assert!(rt; MacsecShortLen::try_from_u8(64).is_err());
     Ok(())
 }
@@ -110,21 +111,21 @@ fn ether_types(rt: HostRuntime) {
         ),
     ];
     for (number, constant, in_module) in rows {
-        assert_eq!(rt; EtherType::from(number), constant);
-        assert_eq!(rt; u16::from(in_module), number);
+        check_eq!(rt; EtherType::from(number), constant);
+        check_eq!(rt; u16::from(in_module), number);
     }
-    assert_eq!(rt; EtherType::WAKE_ON_LAN.name(), Some("Wake on LAN"));
-    assert_eq!(rt; EtherType::default(), EtherType(0));
+    check_eq!(rt; EtherType::WAKE_ON_LAN.name(), Some("Wake on LAN"));
+    check_eq!(rt; EtherType::default(), EtherType(0));
 }
 
 #[test]
 fn hardware_types(rt: HostRuntime) {
     for &(number, constant) in &HARDWARE_TYPES {
-        assert_eq!(rt; ArpHardwareId::from(number), constant, "{number}");
+        check_eq!(rt; ArpHardwareId::from(number), constant);
     }
-    assert_eq!(rt; u16::from(ArpHardwareId::NETLINK), 824);
-    assert_eq!(rt; ArpHardwareId::SLIP.name(), Some("SLIP"));
-    assert_eq!(rt; ArpHardwareId::default(), ArpHardwareId(0));
+    check_eq!(rt; u16::from(ArpHardwareId::NETLINK), 824);
+    check_eq!(rt; ArpHardwareId::SLIP.name(), Some("SLIP"));
+    check_eq!(rt; ArpHardwareId::default(), ArpHardwareId(0));
 }
 
 static HARDWARE_TYPES: [(u16, ArpHardwareId); 93] = [
@@ -256,15 +257,13 @@ fn nonstandard_ether_types(rt: HostRuntime) {
         (0xFA, LinuxNonstandardEtherType::MCTP),
     ];
     for (number, constant) in rows {
-        assert_eq!(rt;
+        check_eq!(rt;
             LinuxNonstandardEtherType::try_from(number),
-            Ok(constant),
-            "{number}"
-        );
-        assert_eq!(rt; u16::from(constant), number, "{number}");
+            Ok(constant));
+        check_eq!(rt; u16::from(constant), number);
     }
-    assert_eq!(rt; LinuxNonstandardEtherType::try_from(0x0800), Err(()));
-    assert_eq!(rt;
+    check_eq!(rt; LinuxNonstandardEtherType::try_from(0x0800), Err(()));
+    check_eq!(rt;
         LinuxNonstandardEtherType::default(),
         LinuxNonstandardEtherType::N802_3
     );
@@ -283,11 +282,11 @@ fn packet_types(rt: HostRuntime) {
         (LinuxSllPacketType::MAX_VAL, LinuxSllPacketType::KERNEL),
     ];
     for (number, constant) in rows {
-        assert_eq!(rt; LinuxSllPacketType::try_from(number), Ok(constant));
-        assert_eq!(rt; u16::from(constant), number);
+        check_eq!(rt; LinuxSllPacketType::try_from(number), Ok(constant));
+        check_eq!(rt; u16::from(constant), number);
     }
-    assert_eq!(rt; LinuxSllPacketType::default(), LinuxSllPacketType::HOST);
-    assert_eq!(rt;
+    check_eq!(rt; LinuxSllPacketType::default(), LinuxSllPacketType::HOST);
+    check_eq!(rt;
         LinuxSllPacketType::try_from(8),
         Err(linux_sll::HeaderError::UnsupportedPacketTypeField { packet_type: 8 })
     );
@@ -295,7 +294,7 @@ fn packet_types(rt: HostRuntime) {
 
 #[test]
 fn protocol_types(rt: HostRuntime) {
-    assert_eq!(rt;
+    check_eq!(rt;
         (
             LinuxSllProtocolType::try_from((ArpHardwareId::NETLINK, 123)),
             LinuxSllProtocolType::try_from((ArpHardwareId::FRAD, 123)),
@@ -311,7 +310,7 @@ fn protocol_types(rt: HostRuntime) {
 
 #[test]
 fn hardware_types_of_cooked_captures(rt: HostRuntime) {
-    assert_eq!(rt;
+    check_eq!(rt;
         LinuxSllProtocolType::SUPPORTED_ARPHWD,
         [
             ArpHardwareId::NETLINK,
@@ -327,9 +326,9 @@ fn hardware_types_of_cooked_captures(rt: HostRuntime) {
 fn another_protocol_type(rt: HostRuntime) {
     let dummy = LinuxNonstandardEtherType::N802_3;
     let mut protocol_type = LinuxSllProtocolType::LinuxNonstandardEtherType(dummy);
-    assert_eq!(rt; u16::from(protocol_type), 1);
+    check_eq!(rt; u16::from(protocol_type), 1);
     protocol_type.change_value(0x0800);
-    assert_eq!(rt;
+    check_eq!(rt;
         protocol_type,
         LinuxSllProtocolType::EtherType(EtherType::IPV4)
     );
@@ -348,14 +347,14 @@ fn sources_of_lengths(rt: HostRuntime) {
     ];
     let mut before = None;
     for source in sources {
-        assert!(rt; before < Some(source), "{source:?}");
+        assert_less(&rt, &before, &Some(source));
         before = Some(source);
     }
 }
 
 #[test]
 fn operations(rt: HostRuntime) {
-    assert_eq!(rt;
+    check_eq!(rt;
         (
             ArpOperation::REQUEST,
             ArpOperation::REPLY,

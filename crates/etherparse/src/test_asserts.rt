@@ -1,0 +1,47 @@
+//! Assertions of tests. Those of std are expanded in place, and each makes the proof of its test longer; these are calls of
+//! functions that are proved once. A failure shows the assertion's first expression and the values.
+use std::fmt::{Debug, Display};
+use std::process::Abort;
+use std::test::Fail;
+
+/// Fails if `left`, whose expression is `what`, isn't equal to `right`.
+pub fn equal<R: Abort, T: PartialEq + Debug>(rt: &R, left: &T, right: &T, what: &str) {
+    assert_eq!(rt; left, right, "{what}");
+}
+
+/// Fails if `left`, whose expression is `what`, is equal to `right`.
+pub fn unequal<R: Abort, T: PartialEq + Debug>(rt: &R, left: &T, right: &T, what: &str) {
+    assert_ne!(rt; left, right, "{what}");
+}
+
+/// Fails if `left` isn't less than `right`.
+pub fn assert_less<R: Abort, T: PartialOrd + Debug>(rt: &R, left: &T, right: &T) {
+    assert!(rt; left < right, "{left:?} < {right:?}");
+}
+
+/// Fails if `value` isn't displayed as `text`.
+pub fn assert_display<R: Abort + AllocGlobal, T: Display>(
+    rt: &R,
+    value: &T,
+    text: &str,
+) -> Result<(), Fail> {
+    assert_eq!(rt; format!(in rt.alloc(); "{value}")?.as_str(), text);
+    Ok(())
+}
+
+/// Fails if the two values aren't equal.
+macro_rules! check_eq {
+    ($rt:expr; $left:expr, $right:expr $(,)?) => {
+        $crate::test_asserts::equal(&$rt, &$left, &$right, stringify!($left))
+    };
+}
+
+/// Fails if the two values are equal.
+macro_rules! check_ne {
+    ($rt:expr; $left:expr, $right:expr $(,)?) => {
+        $crate::test_asserts::unequal(&$rt, &$left, &$right, stringify!($left))
+    };
+}
+
+pub(crate) use check_eq;
+pub(crate) use check_ne;
