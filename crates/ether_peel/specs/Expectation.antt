@@ -46,9 +46,7 @@ announced_by t =
 abbrev pub announced_next : Next → Option Kind
 announced_next (Start kind) = Some kind
 announced_next (EtherType t) = announced_by t
-announced_next (Sll protocol) = None
-announced_next Sealed = None
-announced_next AfterArp = None
+announced_next _ = None
 
 -- an extension is not announced where none may be read any more
 abbrev pub permitted : Option ℕ → Option Kind → Option Kind
@@ -67,9 +65,7 @@ after_protocol (protocols.GenericRoutingEncapsulationProtocolType n) = Sll (prot
 
 abbrev pub after_payload : PayloadType → Next
 after_payload (payloads.Unmodified ether_type) = EtherType ether_type
-after_payload payloads.Modified = Sealed
-after_payload payloads.EncryptedUnmodified = Sealed
-after_payload payloads.Encrypted = Sealed
+after_payload _ = Sealed
 
 abbrev pub next_after : Header → Next
 next_after (headers.Ethernet2 e) = EtherType e.ether_type
