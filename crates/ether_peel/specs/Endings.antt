@@ -3,7 +3,7 @@ use Rattle.std.specs.Prelude.{◌≡◌, ℕ, ◌+◌, List, Option, Some, None,
 use Rattle.etherparse.specs.Types.LenSource.{LenSource}
 use Rattle.etherparse.specs.Types.Layer.{Layer}
 use Rattle.etherparse.specs.Header.{Header}
-use Rattle.etherparse.specs.Refusal.{Refusal, Length, UnsupportedPacketType, UnsupportedHardwareType, UnexpectedVersion, InvalidShortLen}
+use Rattle.etherparse.specs.Refusal.{Refusal, Length}
 use Rattle.ether_peel.specs.Stack.{Ending, Accepted, Fault, last_window, last_expected}
 
 -- the refusal with which it ends, if it does not end accepted
