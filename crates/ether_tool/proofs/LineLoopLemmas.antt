@@ -159,7 +159,7 @@ module _ {W : Type 0} (command : Command) (contents : W → Option (List ℕ)) w
             is_verdict = judged.is_verdict ∙ ap (λ (v : Verdict). verdict_with v judged.accepted) so_far.is_verdict ∙ verdict_with-verdict_of so_far.all_accepted judged.accepted;
             is_count = let k = judged.is_count in let l = so_far.is_count in omega (arith, length-append so_far.done (ended ∷ []));
             kept = judged.begins;
-            written = Appends-then held (contents_of contents from) (contents_of contents to) so_far.text judged.text so_far.written judged.taken.grown;
+            written = Appends-then held (contents_of contents from) (contents_of contents to) so_far.text judged.text so_far.written judged.written;
           }
 
   -- the last piece of a line and its LF, where the line is bad
@@ -237,7 +237,7 @@ module _ {W : Type 0} (command : Command) (contents : W → Option (List ℕ)) w
           let whole = ended_lines held input old from so_far (some so_far.line so_far.kept) in (
             so_far.text ++ judged.text,
             so_far.all_accepted && judged.accepted,
-            Appends-then held (contents_of contents from) (contents_of contents to) so_far.text judged.text so_far.written judged.taken.grown,
+            Appends-then held (contents_of contents from) (contents_of contents to) so_far.text judged.text so_far.written judged.written,
             subst (λ (ls : List (List ℕ)). AreAnswered command ls (so_far.text ++ judged.text) (so_far.all_accepted && judged.accepted)) (sym whole)
                 (AreAnswered-push command so_far.done so_far.text so_far.all_accepted so_far.line judged.text judged.accepted so_far.answered judged.answered),
             judged.is_verdict ∙ ap (λ (v : Verdict). verdict_with v judged.accepted) so_far.is_verdict ∙ verdict_with-verdict_of so_far.all_accepted judged.accepted,

@@ -2,7 +2,7 @@
 use Rattle.std.specs.Prelude.{◌≡◌, ℕ, ◌-◌, ◌^◌, min, List, [], ◌∷◌, ◌++◌, length, Bool, Option}
 use Rattle.std.specs.Str.Lines.{lines}
 use Rattle.std.specs.Io.KnownBytes.{Appends}
-use Rattle.ether_tool.specs.OutputBuffer.{contents_of, Takes}
+use Rattle.ether_tool.specs.OutputBuffer.{contents_of}
 use Rattle.ether_tool.specs.Run.{HasNoLineFeed, IsLineAnswered, AreAnswered, StopsAtLine, verdict_of, verdict_with, number_behind}
 use Rattle.ether_tool.specs.Frame.{IsBadLine}
 use Rattle.ether_tool.specs.LineBuffer.{KeepsLine, without_end}
@@ -37,7 +37,7 @@ pub record JudgesLine {W : Type 0} (command : Command) (contents : W → Option 
   pub text : List ℕ
   pub accepted : Bool
   pub answered : IsLineAnswered command line text accepted
-  pub taken : Takes contents from text to
+  pub written : Appends (contents_of contents from) (contents_of contents to) text
   pub is_verdict : new.verdict ≡ verdict_with old.verdict accepted
   pub is_count : new.count ≡ number_behind old.count
   pub begins : KeepsLine new.line []

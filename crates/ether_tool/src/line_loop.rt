@@ -53,10 +53,10 @@ impl LineLoop {
         let Some(len) = self.line.end(piece, end, frame) else {
             return Err(ToolFault::BadLine(number));
         };
-        let accepted = match put_answer(command, &frame[..len], out) {
-            Ok(accepted) => accepted,
-            Err(fault) => return Err(fault),
-        };
+        let accepted = put_answer(command, &frame[..len], out);
+        if let Err(fault) = out.check() {
+            return Err(fault);
+        }
         self.verdict = self.verdict.with(accepted);
         self.count = number;
         Ok(())
