@@ -272,27 +272,27 @@ module _ {W : Type 0} (command : Command) (contents : W → Option (List ℕ)) w
       OnBadLine-map fault (RefusesLine [] InputEnd old from to) (StopsWithin command contents old from [] [] to) (λ number h. StopsWithin-end old from to number some h) refuses
 
   -- a bad line of the chunk
-  pub line_fault : (fault : ToolFault) (start old : LineLoop) (first from to : OutputBuffer W) (chunk front rest piece behind : List ℕ)
-      → chunk ≡ front ++ rest → Advances command contents start first front old from → HasNoLineFeed piece → rest ≡ piece ++ 10 ∷ behind
+  pub line_fault : (fault : ToolFault) (start old : LineLoop) (first from to : OutputBuffer W) (chunk front rest piece after : List ℕ)
+      → chunk ≡ front ++ rest → Advances command contents start first front old from → HasNoLineFeed piece → rest ≡ piece ++ 10 ∷ after
       → OnBadLine fault (RefusesLine piece LineFeed old from to)
       → OnBadLine fault (λ number. (later : List ℕ) → StopsWithin command contents start first chunk later to number)
-  line_fault fault start old first from to chunk front rest piece behind whole so_far none parts refuses =
+  line_fault fault start old first from to chunk front rest piece after whole so_far none parts refuses =
       OnBadLine-map fault (RefusesLine piece LineFeed old from to) (λ number. (later : List ℕ) → StopsWithin command contents start first chunk later to number) (λ number h later. stop number h later) refuses
     where
       stop : (number : ℕ) → RefusesLine piece LineFeed old from to number → (later : List ℕ) → StopsWithin command contents start first chunk later to number
       stop number h later =
-          let joined : front ++ (piece ++ 10 ∷ behind) ≡ chunk = ap (λ (bytes : List ℕ). front ++ bytes) (sym parts) ∙ sym whole in
+          let joined : front ++ (piece ++ 10 ∷ after) ≡ chunk = ap (λ (bytes : List ℕ). front ++ bytes) (sym parts) ∙ sym whole in
           subst (λ (bytes : List ℕ). StopsWithin command contents start first bytes later to number) joined
-          (StopsWithin-after start old first from to number front (piece ++ 10 ∷ behind) later so_far (StopsWithin-line old from to number piece behind later none h))
+          (StopsWithin-after start old first from to number front (piece ++ 10 ∷ after) later so_far (StopsWithin-line old from to number piece after later none h))
 
   -- a line of the chunk more
-  pub line_taken : (start old new : LineLoop) (first from to : OutputBuffer W) (chunk front rest piece behind : List ℕ)
-      → chunk ≡ front ++ rest → Advances command contents start first front old from → HasNoLineFeed piece → rest ≡ piece ++ 10 ∷ behind
+  pub line_taken : (start old new : LineLoop) (first from to : OutputBuffer W) (chunk front rest piece after : List ℕ)
+      → chunk ≡ front ++ rest → Advances command contents start first front old from → HasNoLineFeed piece → rest ≡ piece ++ 10 ∷ after
       → ((line : List ℕ) → KeepsLine old.line line → JudgesLine command contents (without_end LineFeed (line ++ piece)) old from new to)
-      → (more : List ℕ) × (chunk ≡ more ++ behind) × Advances command contents start first more new to
-  line_taken start old new first from to chunk front rest piece behind whole so_far none parts judges = (
+      → (more : List ℕ) × (chunk ≡ more ++ after) × Advances command contents start first more new to
+  line_taken start old new first from to chunk front rest piece after whole so_far none parts judges = (
     front ++ (piece ++ 10 ∷ []),
-    whole ∙ ap (λ (bytes : List ℕ). front ++ bytes) (parts ∙ sym (append_assoc piece (10 ∷ []) behind)) ∙ sym (append_assoc front (piece ++ 10 ∷ []) behind),
+    whole ∙ ap (λ (bytes : List ℕ). front ++ bytes) (parts ∙ sym (append_assoc piece (10 ∷ []) after)) ∙ sym (append_assoc front (piece ++ 10 ∷ []) after),
     Advances-then start old new first from to front (piece ++ 10 ∷ []) so_far (Advances-line old new from to piece none judges),
   )
 

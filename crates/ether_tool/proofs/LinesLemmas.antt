@@ -11,7 +11,7 @@ parts_cons : (x : List ℕ) (parts : List (List ℕ)) → 0 < length parts → l
 parts_cons x [] some = absurd (omega arith)
 parts_cons x (y ∷ more) some = refl
 
--- a line that an LF ends, and the lines behind it
+-- a line that an LF ends, and the lines after it
 pub lines-line : (line rest : List ℕ) → HasNoLineFeed line → lines (line ++ 10 ∷ rest) ≡ strip_carriage_return line ∷ lines rest
 lines-line line rest none =
     let some = length-slice_split (λ b. b == 10) rest in

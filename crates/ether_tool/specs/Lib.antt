@@ -5,6 +5,7 @@ pub mod Mode
 pub mod Command
 pub mod WalkText
 pub mod OutputBuffer
+pub mod InputReader
 pub mod Frame
 pub mod LineBuffer
 pub mod Run

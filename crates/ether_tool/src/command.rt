@@ -1,7 +1,7 @@
 //! What a run is told to do, and the words that tell it.
 ghost use Rattle.std.specs.Prelude.{map, IfOk, OnErr, ℕ};
 ghost use Rattle.std.specs.Vec.Iter.{into_iter_items};
-ghost use Rattle.ether_tool.specs.Command.{NamesCommand, NamesLimit, NamesNoCommand, words_behind};
+ghost use Rattle.ether_tool.specs.Command.{NamesCommand, NamesLimit, NamesNoCommand, words_after};
 
 use crate::mode::{Mode, Usage, named_mode};
 use std::env;
@@ -49,8 +49,8 @@ fn limit_of(digits: &str) -> Result<usize, Usage>
 
 /// The mode and the limit that the program's arguments name. The first of them is its own name.
 pub fn command_of_args(mut args: env::Args) -> Result<(Mode, Option<usize>), Usage>
-    ensures ok { IfOk result (NamesCommand (words_behind (into_iter_items args))) }
-    ensures err { OnErr result (NamesNoCommand (words_behind (into_iter_items args))) }
+    ensures ok { IfOk result (NamesCommand (words_after (into_iter_items args))) }
+    ensures err { OnErr result (NamesNoCommand (words_after (into_iter_items args))) }
 {
     let _program = args.next();
     let Some(first) = args.next() else {

@@ -5,7 +5,7 @@ use arrayvec::ArrayVec;
 /// What ended a line.
 #[derive(Clone, Copy, PartialEq, Eq, Debug)]
 pub enum LineEnd {
-    /// An LF, behind which another line may come.
+    /// An LF, after which another line may come.
     LineFeed,
     /// The end of the input.
     InputEnd,

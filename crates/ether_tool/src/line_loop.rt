@@ -77,11 +77,11 @@ impl LineLoop {
     {
         let mut frame = [0; MAX_FRAME_LEN];
         let mut rest = chunk;
-        while let Some((piece, behind)) = split_line(rest) {
+        while let Some((piece, after)) = split_line(rest) {
             if let Err(fault) = self.judge(command, piece, LineEnd::LineFeed, &mut frame, out) {
                 return Err(fault);
             }
-            rest = behind;
+            rest = after;
         }
         self.line.extend(rest);
         Ok(())
@@ -114,7 +114,7 @@ ghost use Rattle.std.specs.Prelude.{IfSome, IfNone};
 ghost use Rattle.ether_tool.specs.LineLoop.{SplitsAtLineFeed};
 ghost use Rattle.ether_tool.specs.Run.{HasNoLineFeed};
 
-/// The bytes before the first LF, and those behind it. `None` where there is no LF.
+/// The bytes before the first LF, and those after it. `None` where there is no LF.
 fn split_line(bytes: &[u8]) -> Option<(&[u8], &[u8])>
     ensures some { IfSome result (λ parts. SplitsAtLineFeed bytes.now parts.0.now parts.1.now) }
     ensures none { IfNone result (HasNoLineFeed bytes.now) }

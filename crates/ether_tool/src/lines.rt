@@ -21,7 +21,7 @@ use etherparse::{
 };
 use std::io::Write;
 
-/// Puts the line of a unit that starts at a place of the frame. Behind the unit there is left a
+/// Puts the line of a unit that starts at a place of the frame. After the unit there is left a
 /// window of `len` bytes, which is closed or open.
 pub fn put_unit<W: Write>(
     out: &mut OutputBuffer<'_, W>,
@@ -126,7 +126,7 @@ fn put_vlan<W: Write>(out: &mut OutputBuffer<'_, W>, start: usize, slice: &Singl
     out.put(&ether_type);
 }
 
-/// Puts the text of a MACsec SecTag, and of the window behind it.
+/// Puts the text of a MACsec SecTag, and of the window after it.
 fn put_macsec<W: Write>(
     out: &mut OutputBuffer<'_, W>,
     start: usize,

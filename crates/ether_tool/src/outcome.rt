@@ -57,7 +57,7 @@ pub fn status_of(outcome: &Result<Verdict, ToolFault>) -> u8
 /// The line that is printed where the arguments are wrong, without its LF.
 pub const USAGE: &str = "usage: ether_tool eth | fcs | sll | type XXXX | feed [limit N]";
 
-/// A line that the program prints behind all answers.
+/// A line that the program prints after all answers.
 #[derive(Clone, Copy, PartialEq, Eq, Debug)]
 pub enum LastLine {
     /// The arguments are wrong.

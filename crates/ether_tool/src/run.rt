@@ -1,8 +1,8 @@
 //! The engine: from a reader of lines to a writer of answers.
-ghost use Rattle.std.specs.Prelude.{◌≡◌, true, IfOk, IfErr};
+ghost use Rattle.std.specs.Prelude.{◌≡◌, [], true, IfErr};
 ghost use Rattle.ether_tool.specs.OutputBuffer.{contents_of};
-ghost use Rattle.ether_tool.specs.Command.{limited_to};
-ghost use Rattle.ether_tool.specs.Run.{AnswersInput, AnswersInputBy, BreaksOff, BreaksOffBy, IfSettled, OnBadLine, OnInput, OnStreamFault, StopsInput, StopsInputBy};
+ghost use Rattle.ether_tool.specs.Command.{limited_to, unlimited};
+ghost use Rattle.ether_tool.specs.Run.{HasRun, IfSettled, OnInput, OnStreamFault};
 
 use crate::command::Command;
 use crate::input_reader::InputReader;
@@ -29,14 +29,8 @@ pub fn run<R: Read, W: Write>(
     reader: &mut R,
     writer: &mut W,
 ) -> Result<Verdict, ToolFault>
-    ensures ok { IfOk result (AnswersInput mode (R.remaining reader.old) (R.remaining reader.new)
-        (W.contents writer.old) (W.contents writer.new)) }
-    ensures bad_line { IfErr result (λ fault. OnBadLine fault
-        (StopsInput mode (R.remaining reader.old) (R.remaining reader.new)
-        (W.contents writer.old) (W.contents writer.new))) }
-    ensures input_fault { IfErr result (λ fault. OnInput fault
-        (BreaksOff mode (R.remaining reader.old) (R.remaining reader.new)
-        (W.contents writer.old) (W.contents writer.new))) }
+    ensures { HasRun (unlimited mode) (R.remaining reader.old) (R.remaining reader.new)
+        (W.contents writer.old) (W.contents writer.new) result }
 {
     run_command(Command { mode, limit: None }, reader, writer)
 }
@@ -48,14 +42,8 @@ pub fn run_limited<R: Read, W: Write>(
     reader: &mut R,
     writer: &mut W,
 ) -> Result<Verdict, ToolFault>
-    ensures ok { IfOk result (AnswersInputBy (limited_to mode limit) (R.remaining reader.old) (R.remaining reader.new)
-        (W.contents writer.old) (W.contents writer.new)) }
-    ensures bad_line { IfErr result (λ fault. OnBadLine fault
-        (StopsInputBy (limited_to mode limit) (R.remaining reader.old) (R.remaining reader.new)
-        (W.contents writer.old) (W.contents writer.new))) }
-    ensures input_fault { IfErr result (λ fault. OnInput fault
-        (BreaksOffBy (limited_to mode limit) (R.remaining reader.old) (R.remaining reader.new)
-        (W.contents writer.old) (W.contents writer.new))) }
+    ensures { HasRun (limited_to mode limit) (R.remaining reader.old) (R.remaining reader.new)
+        (W.contents writer.old) (W.contents writer.new) result }
 {
     let limit = Some(limit);
     run_command(Command { mode, limit }, reader, writer)
@@ -67,14 +55,8 @@ fn run_command<R: Read, W: Write>(
     reader: &mut R,
     writer: &mut W,
 ) -> Result<Verdict, ToolFault>
-    ensures ok { IfOk result (AnswersInputBy command (R.remaining reader.old) (R.remaining reader.new)
-        (W.contents writer.old) (W.contents writer.new)) }
-    ensures bad_line { IfErr result (λ fault. OnBadLine fault
-        (StopsInputBy command (R.remaining reader.old) (R.remaining reader.new)
-        (W.contents writer.old) (W.contents writer.new))) }
-    ensures input_fault { IfErr result (λ fault. OnInput fault
-        (BreaksOffBy command (R.remaining reader.old) (R.remaining reader.new)
-        (W.contents writer.old) (W.contents writer.new))) }
+    ensures { HasRun command (R.remaining reader.old) (R.remaining reader.new)
+        (W.contents writer.old) (W.contents writer.new) result }
 {
     let mut input = InputReader::new(reader);
     let mut out = OutputBuffer::new(writer);
@@ -90,14 +72,8 @@ fn answer_input<R: Read, W: Write>(
 ) -> Result<Verdict, ToolFault>
     ensures same_reader { input.new.inner.ghost_name ≡ input.old.inner.ghost_name }
     ensures same_writer { out.new.writer.ghost_name ≡ out.old.writer.ghost_name }
-    ensures ok { IfOk result (AnswersInputBy command (R.remaining input.old.inner.now) (R.remaining input.new.inner.now)
-        (contents_of W.contents out.old) (W.contents out.new.writer.now)) }
-    ensures bad_line { IfErr result (λ fault. OnBadLine fault
-        (StopsInputBy command (R.remaining input.old.inner.now) (R.remaining input.new.inner.now)
-        (contents_of W.contents out.old) (W.contents out.new.writer.now))) }
-    ensures input_fault { IfErr result (λ fault. OnInput fault
-        (BreaksOffBy command (R.remaining input.old.inner.now) (R.remaining input.new.inner.now)
-        (contents_of W.contents out.old) (W.contents out.new.writer.now))) }
+    ensures run { HasRun command (R.remaining input.old.inner.now) (R.remaining input.new.inner.now)
+        (contents_of W.contents out.old) (W.contents out.new.writer.now) result }
     ensures failed { IfErr result (λ fault. OnStreamFault fault (input.new.has_failed ≡ true) (out.new.has_failed ≡ true)) }
     ensures flushed { IfSettled result (out.new.is_flushed ≡ true) }
 {
@@ -127,14 +103,9 @@ fn read_lines<R: Read, W: Write>(
 ) -> Result<Verdict, ToolFault>
     ensures same_reader { input.new.inner.ghost_name ≡ input.old.inner.ghost_name }
     ensures same_writer { out.new.writer.ghost_name ≡ out.old.writer.ghost_name }
-    ensures ok { IfOk result (AnswersInputBy command (R.remaining input.old.inner.now) (R.remaining input.new.inner.now)
-        (contents_of W.contents out.old) (contents_of W.contents out.new)) }
-    ensures bad_line { IfErr result (λ fault. OnBadLine fault
-        (StopsInputBy command (R.remaining input.old.inner.now) (R.remaining input.new.inner.now)
-        (contents_of W.contents out.old) (contents_of W.contents out.new))) }
-    ensures input_fault { IfErr result (λ fault. OnInput fault
-        (BreaksOffBy command (R.remaining input.old.inner.now) (R.remaining input.new.inner.now)
-        (contents_of W.contents out.old) (W.contents out.new.writer.now))) }
+    ensures run { HasRun command (R.remaining input.old.inner.now) (R.remaining input.new.inner.now)
+        (contents_of W.contents out.old) (contents_of W.contents out.new) result }
+    ensures none_waits { IfErr result (λ fault. OnInput fault (out.new.waiting.items ≡ [])) }
     ensures failed { IfErr result (λ fault. OnStreamFault fault (input.new.has_failed ≡ true) (out.new.has_failed ≡ true)) }
 {
     let mut lines = LineLoop::new();
