@@ -11,4 +11,5 @@ pub mod LineBuffer
 pub mod Run
 pub mod LineLoop
 pub mod Outcome
+pub mod Program
 pub mod Laws
