@@ -16,6 +16,9 @@ use ether_peel::{Peel, Start};
 use std::io::Write;
 
 /// Puts the lines that answer a frame, and returns whether the frame is accepted.
+///
+/// Inlined into the loop over the lines, it would make the decoding of their digits slower.
+#[inline(never)]
 pub fn put_answer<W: Write>(command: Command, frame: &[u8], out: &mut OutputBuffer<'_, W>) -> bool
     ensures { TakesAnswer W.contents (Answers command frame.now) out.old out.new result }
 {
