@@ -110,12 +110,42 @@ impl LineLoop {
     }
 }
 
-ghost use Rattle.std.specs.Prelude.{IfSome, IfNone};
+ghost use Rattle.std.specs.Prelude.{◌≤◌, length, take, IfSome, IfNone};
 ghost use Rattle.ether_tool.specs.LineLoop.{SplitsAtLineFeed};
 ghost use Rattle.ether_tool.specs.Run.{HasNoLineFeed};
 
-/// The bytes before the first LF, and those after it. `None` where there is no LF.
+/// The bytes before the first LF, and those after it. `None` if there is no LF.
 fn split_line(bytes: &[u8]) -> Option<(&[u8], &[u8])>
+    ensures some { IfSome result (λ parts. SplitsAtLineFeed bytes.now parts.0.now parts.1.now) }
+    ensures none { IfNone result (HasNoLineFeed bytes.now) }
+{
+    let skipped = blocks_len(bytes);
+    match split_near(&bytes[skipped..]) {
+        Some((piece, after)) => Some((&bytes[..skipped + piece.len()], after)),
+        None => None,
+    }
+}
+
+/// The number of bytes that [`blocks_len`] tests at once.
+const BLOCK_LEN: usize = 32;
+
+/// The length of the whole blocks before the first that has an LF.
+fn blocks_len(bytes: &[u8]) -> usize
+    ensures within { result ≤ length bytes.now }
+    ensures none { HasNoLineFeed (take result bytes.now) }
+{
+    let mut len = 0;
+    while bytes.len() - len >= BLOCK_LEN {
+        if bytes[len..len + BLOCK_LEN].contains(&b'\n') {
+            return len;
+        }
+        len += BLOCK_LEN;
+    }
+    len
+}
+
+/// Does as [`split_line`], byte by byte.
+fn split_near(bytes: &[u8]) -> Option<(&[u8], &[u8])>
     ensures some { IfSome result (λ parts. SplitsAtLineFeed bytes.now parts.0.now parts.1.now) }
     ensures none { IfNone result (HasNoLineFeed bytes.now) }
 {
