@@ -1,4 +1,4 @@
-//! What a run is told to do, and the words that tell it.
+//! A command: a mode with its limit, if it has one, and the words that name it.
 ghost use Rattle.std.specs.Prelude.{map, IfOk, OnErr, ℕ};
 ghost use Rattle.std.specs.Vec.Iter.{into_iter_items};
 ghost use Rattle.ether_tool.specs.Command.{NamesCommand, NamesLimit, NamesNoCommand, words_after};
@@ -6,7 +6,7 @@ ghost use Rattle.ether_tool.specs.Command.{NamesCommand, NamesLimit, NamesNoComm
 use crate::mode::{Mode, Usage, named_mode};
 use std::env;
 
-/// How the frames of a run are read.
+/// The mode of a run, and its limit.
 #[derive(Clone, Copy)]
 pub struct Command {
     /// How the frames begin, and how they are read.

@@ -33,7 +33,7 @@ impl LineLoop {
         }
     }
 
-    /// Answers the line under way, which ends with this piece, and begins the next. `frame` is
+    /// Puts the text for the line under way, which ends with this piece, and begins the next. `frame` is
     /// room for the line's frame.
     fn judge<W: Write>(
         &mut self,
@@ -62,7 +62,7 @@ impl LineLoop {
         Ok(())
     }
 
-    /// Takes the next bytes of the input, and answers each line that ends in them.
+    /// Takes the next bytes of the input, and puts the text for each line that ends in them.
     pub fn take_chunk<W: Write>(
         &mut self,
         command: Command,
@@ -87,7 +87,7 @@ impl LineLoop {
         Ok(())
     }
 
-    /// Answers the last line, where the input ends in one without an LF, and tells the verdict.
+    /// Puts the text for the last line, if the input ends in one without an LF, and returns the verdict.
     pub fn finish<W: Write>(
         mut self,
         command: Command,

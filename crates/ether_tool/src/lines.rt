@@ -166,7 +166,7 @@ fn put_payload_type<W: Write>(out: &mut OutputBuffer<'_, W>, ptype: MacsecPType)
     }
 }
 
-/// Puts the digits of a secure channel identifier, or a hyphen where there is none.
+/// Puts the digits of a secure channel identifier, or a hyphen if there is none.
 fn put_sci<W: Write>(out: &mut OutputBuffer<'_, W>, sci: Option<u64>)
     ensures { Takes W.contents out.old (sci_text sci) out.new }
 {

@@ -1,4 +1,4 @@
-//! The engine: from a reader of lines to a writer of answers.
+//! A run: from a reader of lines to a writer of the text for each.
 ghost use Rattle.std.specs.Prelude.{◌≡◌, [], true, IfErr};
 ghost use Rattle.ether_tool.specs.OutputBuffer.{contents_of};
 ghost use Rattle.ether_tool.specs.Command.{limited_to, unlimited};
@@ -15,13 +15,13 @@ use std::io::{Read, Write};
 /// The room for one read.
 const CHUNK_LEN: usize = 65536;
 
-/// Reads the input to its end, and writes the answer of each line as soon as the line has ended.
+/// Reads the input to its end, and writes the text for each line as soon as the line has ended.
 ///
 /// A line is a frame of up to 2,048 bytes as digits of either case. At the first line that is no
-/// frame the run stops with [`ToolFault::BadLine`]. The answers of the lines before it have been
+/// frame the run stops with [`ToolFault::BadLine`]. The text for the lines before it has been
 /// written and flushed, and nothing is written for the line itself. Any fault of the reader,
-/// an interruption too, is [`ToolFault::Input`], as is a reader that comes to no end: the answers
-/// of the lines that had ended have been written, and are not flushed. Any fault of the writer,
+/// an interruption too, is [`ToolFault::Input`], as is a reader that never ends: the text
+/// for the lines that had ended has been written, and is not flushed. Any fault of the writer,
 /// also at the closing flush, is [`ToolFault::Output`], and nothing is said of how much was
 /// written. After a fault neither is called again. No memory is taken.
 pub fn run<R: Read, W: Write>(
@@ -63,7 +63,7 @@ fn run_command<R: Read, W: Write>(
     answer_input(command, &mut input, &mut out)
 }
 
-/// Reads the input to its end, and writes the answers and flushes them. After a fault of the
+/// Reads the input to its end, and writes the text and flushes it. After a fault of the
 /// reader or the writer neither is called again.
 fn answer_input<R: Read, W: Write>(
     command: Command,
@@ -94,7 +94,7 @@ fn answer_input<R: Read, W: Write>(
     }
 }
 
-/// Reads the input to its end, and gathers the answers. What is gathered is written out before
+/// Reads the input to its end, and gathers the text. What is gathered is written out before
 /// each read.
 fn read_lines<R: Read, W: Write>(
     command: Command,
