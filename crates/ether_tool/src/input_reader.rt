@@ -6,7 +6,7 @@ use crate::outcome::ToolFault;
 use crate::output_buffer::OutputBuffer;
 use std::io::Read;
 
-/// The reader of a run. Nothing else in this crate calls it, and after a fault nothing does.
+/// The reader of a run. During a run nothing else calls it, and after a fault nothing does.
 #[derive(Drop)]
 pub struct InputReader<'a, R> {
     inner: &'a mut R,

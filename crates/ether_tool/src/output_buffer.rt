@@ -8,7 +8,7 @@ const ROOM: usize = 65536;
 
 /// Text on its way to a writer, gathered so that many short pieces cost one write.
 ///
-/// What it holds is the writer's contents followed by the text that waits. Nothing else in this crate
+/// What it holds is the writer's contents followed by the text that waits. During a run nothing else
 /// calls the writer, and after a fault nothing does.
 #[derive(Drop)]
 pub struct OutputBuffer<'a, W> {
