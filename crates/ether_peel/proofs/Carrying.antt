@@ -1,4 +1,4 @@
--- A stack carried from a window of one list to a window of another that holds the same bytes or, where it is open, more behind them.
+-- A stack carried from a window of one list to a window of another that holds the same bytes or, where it is open, more after them.
 use Rattle.std.proofs.Common.{◌≡◌, ℕ, ◌+◌, ◌-◌, ◌≤◌, List, [], ◌∷◌, ◌++◌, length, drop, refl, sym, ap, subst, ◌∙◌, arith, inl, inr, ◌⊎◌, Bool, true, false, cond}
 use Rattle.std.specs.Prelude.{slice_range, Option, Some, None, unwrap_or, nat_eq}
 use Rattle.std.proofs.lemmas.List.{append-nil, length-append, drop-append-le}
@@ -60,12 +60,12 @@ payload_from_in list w n trailer (Some p) at fits =
 pub payload_in : (list : List ℕ) (x : Expectation) (w : Window) (h : Header) → IsIn list w → IsUnit list x w h → IsIn list (payload w h)
 payload_in list x w h at u = payload_from_in list w (header_len h) (trailer_len h) (payload_len h) at (unit_fits w.bound (within list w) h u.accepted u.means)
 
--- of bytes that come behind the list, those that come behind the window's
+-- of bytes that come after the list, those that come after the window's
 abbrev pub beyond : Bool → List ℕ → List ℕ
 beyond true more = []
 beyond false more = more
 
--- a window of another list has the window's mark, bound and bytes, and behind them those that come there
+-- a window of another list has the window's mark, bound and bytes, and after them those that come there
 pub record Carries (list other more : List ℕ) (w v : Window) : Type 0 where
   pub old : IsIn list w
   pub new : IsIn other v
@@ -142,7 +142,7 @@ carries_payload_from list other more w v n trailer (Some p) c fits either =
       bytes = ap (slice_range other (v.start + n)) b ∙ carried_part list other more w v n (n + p) c (omega arith) (omega arith) ∙ ap (slice_range list (w.start + n)) (sym a) ∙ sym (append-nil _);
     }
 
--- ---- frame check sequences: bytes behind the list would move one
+-- ---- frame check sequences: bytes after the list would move one
 
 abbrev pub NoFcs : Expectation → Type 0
 NoFcs x = announced x ≡ Some kinds.Ethernet2Fcs → ⊥
@@ -193,7 +193,7 @@ no_trailer (headers.Vlan v) free = refl
 no_trailer (headers.Macsec t) free = refl
 no_trailer (headers.Arp a) free = refl
 
--- either nothing comes behind the window's bytes, or no frame check sequence is expected
+-- either nothing comes after the window's bytes, or no frame check sequence is expected
 abbrev pub KeepsFcs : Expectation → Bool → List ℕ → Type 0
 KeepsFcs x closed more = (beyond closed more ≡ []) ⊎ NoFcs x
 
@@ -240,7 +240,7 @@ abbrev pub StaysShort : List ℕ → List ℕ → Ending → Type 0
 StaysShort list more (Accepted v y) = Unit {0}
 StaysShort list more (Fault v y r) = IsBelow (length (within list v) + length (beyond v.closed more)) r
 
--- the ending in another window, behind whose bytes come these
+-- the ending in another window, after whose bytes come these
 abbrev pub ending_in : List ℕ → Window → Ending → Ending
 ending_in more u (Accepted v y) = Accepted u y
 ending_in more u (Fault v y r) = Fault u y (longer (length (beyond v.closed more)) r)

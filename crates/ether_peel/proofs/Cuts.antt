@@ -26,7 +26,7 @@ use Rattle.ether_peel.specs.Cuts.{reach, EndsInUnit, KeepsCut, CutsKeep}
 use Rattle.ether_peel.proofs.LongerBytes.{sec_tag_longer, arp_longer}
 use Rattle.ether_peel.proofs.StackLemmas.{some_stack, one_stack}
 use Rattle.ether_peel.proofs.Carrying.{leads, led, beyond, Carries, carry, StaysShort}
-use Rattle.ether_peel.proofs.Places.{leads_behind}
+use Rattle.ether_peel.proofs.Places.{leads_after}
 use Rattle.ether_peel.proofs.WriteBack.{whole_in}
 use Rattle.ether_peel.proofs.Extensions.{no_fcs_start, carries_whole, walk_open_to_end, kept}
 
@@ -102,7 +102,7 @@ wants start cut more hs ks v y required len source layer (unit ∷ later) last u
     let kind = l.1.2 in
     let row = l.1.4 in
     let o = walk_open_to_end start cut ks f h s in
-    let b = leads_behind cut start (whole start cut) ks y v (whole_in start cut) l.0 in
+    let b = leads_after cut start (whole start cut) ks y v (whole_in start cut) l.0 in
     let e : Some kind ≡ Some (kind_of unit) = sym l.1.3 ∙ t.0.announced in
     let same : kind ≡ kind_of unit = cc in
     let means : Means (within cut v ++ beyond v.closed more) unit = subst (λ (l : List ℕ). Means l unit) c.bytes t.0.means in

@@ -50,9 +50,9 @@ lowered_none : (b : Bool) → lowered b None ≡ None
 lowered_none true = refl
 lowered_none false = refl
 
--- the stack without a limit behind a header
-free_behind : (list : List ℕ) (next : Next) (w : Window) (h : Header) (ks : List Header) (f : Ending) → Stack list (after (limited next None) h) w ks f → Stack list (limited (next_after h) None) w ks f
-free_behind list next w h ks f t = subst (λ (l : Option ℕ). Stack list (limited (next_after h) l) w ks f) (lowered_none (is_extension (kind_of h))) t
+-- the stack without a limit after a header
+free_after : (list : List ℕ) (next : Next) (w : Window) (h : Header) (ks : List Header) (f : Ending) → Stack list (after (limited next None) h) w ks f → Stack list (limited (next_after h) None) w ks f
+free_after list next w h ks f t = subst (λ (l : Option ℕ). Stack list (limited (next_after h) l) w ks f) (lowered_none (is_extension (kind_of h))) t
 
 -- with a limit there is a front of the headers
 pub cut_off : (list : List ℕ) (next : Next) (limit : Option ℕ) (w : Window) (hs ks : List Header) (e f : Ending) → Stack list (limited next limit) w hs e → Stack list (limited next None) w ks f → (rest : List Header) × (ks ≡ hs ++ rest)
@@ -68,8 +68,8 @@ cut_off list next limit w (h ∷ hs) (k ∷ ks) e f s t =
     let g : Some (kind_of k) ≡ Some (kind_of h) = sym t.0.announced ∙ announced_free next limit (kind_of h) s.0.announced in
     let kind : kind_of k ≡ kind_of h = cc in
     let same = one_header (within list w) k h kind t.0.means s.0.means in
-    let behind = subst (λ (x : Header). Stack list (after (limited next None) x) (payload w x) ks f) same t.1 in
-    let rest = cut_off list (next_after h) (lowered (is_extension (kind_of h)) limit) (payload w h) hs ks e f s.1 (free_behind list next (payload w h) h ks f behind) in
+    let following = subst (λ (x : Header). Stack list (after (limited next None) x) (payload w x) ks f) same t.1 in
+    let rest = cut_off list (next_after h) (lowered (is_extension (kind_of h)) limit) (payload w h) hs ks e f s.1 (free_after list next (payload w h) h ks f following) in
     (rest.0, λ i. same i ∷ rest.1 i)
 
 -- ---- all of them
@@ -101,5 +101,5 @@ leave_alone list next (suc n) w (h ∷ hs) e lt s =
     let less = shrinks list (limited next None) w h s.0 in
     let m = lowered_by (is_extension (kind_of h)) n in
     let below = m.2 in
-    let rest = leave_alone list (next_after h) m.0 (payload w h) hs e (omega arith) (free_behind list next (payload w h) h hs e s.1) in
+    let rest = leave_alone list (next_after h) m.0 (payload w h) hs e (omega arith) (free_after list next (payload w h) h hs e s.1) in
     (rest.0, (u, subst (λ (l : Option ℕ). Stack list (limited (next_after h) l) (payload w h) hs rest.0) (sym m.1) rest.1), rest.2)

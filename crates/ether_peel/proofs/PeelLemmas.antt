@@ -172,14 +172,14 @@ pub moved_part : (frame : List ℕ) (i j start end : ℕ) (u : Window) → u.sta
 moved_part frame i j start end u ordered inside at to =
     ap (λ (x : ℕ). slice_range frame x end) at ∙ ap (slice_range frame (i + u.start)) to ∙ sym (part_of_part frame i j u.start u.finish ordered inside)
 
--- all of it behind a header
+-- all of it after a header
 pub plain_part : (frame : List ℕ) (i j n k : ℕ) (closed : Bool) → i ≤ j → j ≤ length frame → n ≤ length (slice_range frame i j) → k ≡ n
     → slice_range frame (i + k) j ≡ within (slice_range frame i j) (record { start = n; finish = length (slice_range frame i j) - 0; closed = closed; bound = sources.Slice })
 plain_part frame i j n k closed ordered inside whole is =
     let long = length-part frame i j inside in
     moved_part frame i j (i + k) j (record { start = n; finish = length (slice_range frame i j) - 0; closed = closed; bound = sources.Slice }) (omega arith) (omega arith) (omega arith) (omega arith)
 
--- the unit that is announced was read, and t is the walk behind it
+-- the unit that is announced was read, and t is the walk after it
 pub record IsReadBy (s : State) (u : PeelUnit) (t : State) : Type 0 where
   pub going : s.over ≡ false
   pub header : Header
@@ -195,8 +195,8 @@ pub record IsReadBy (s : State) (u : PeelUnit) (t : State) : Type 0 where
   pub limit : t.expected.limit ≡ lowered (is_extension (kind_of header)) s.expected.limit
   pub over : t.over ≡ false
 
-expected_behind : (s t : State) (u : PeelUnit) (r : IsReadBy s u t) → t.expected ≡ after s.expected r.header
-expected_behind s t u r =
+expected_after : (s t : State) (u : PeelUnit) (r : IsReadBy s u t) → t.expected ≡ after s.expected r.header
+expected_after s t u r =
     let next = r.next in
     let limit = r.limit in
     λ i. record { next = next i; limit = limit i }
@@ -233,8 +233,8 @@ payload_part list w s n trailer (Some p) i is mark bound fits =
       bound = refl;
     }
 
-faces_behind : (list : List ℕ) (w : Window) (s t : State) (u : PeelUnit) (hs : List Header) (e : Ending) (r : IsReadBy s u t) → Faces list w s (r.header ∷ hs) e → Faces list (payload w r.header) t hs e
-faces_behind list w s t u hs e r f =
+faces_after : (list : List ℕ) (w : Window) (s t : State) (u : PeelUnit) (hs : List Header) (e : Ending) (r : IsReadBy s u t) → Faces list w s (r.header ∷ hs) e → Faces list (payload w r.header) t hs e
+faces_after list w s t u hs e r f =
     let h = r.header in
     let part = payload_part list w s (header_len h) (trailer_len h) (payload_len h) f.inside f.rest f.closed f.bound (unit_fits sources.Slice s.rest h r.accepted r.means) in
     record {
@@ -243,7 +243,7 @@ faces_behind list w s t u hs e r f =
       offset = r.offset ∙ ap (λ (n : ℕ). n + header_len h) f.offset;
       closed = r.closed ∙ part.closed;
       bound = r.bound ∙ part.bound;
-      stack = subst (λ (x : Expectation). Stack list x (payload w h) hs e) (sym (expected_behind s t u r)) f.stack.1;
+      stack = subst (λ (x : Expectation). Stack list x (payload w h) hs e) (sym (expected_after s t u r)) f.stack.1;
     }
 
 next_unit : (list : List ℕ) (w : Window) (s t : State) (u : PeelUnit) (hs : List Header) (e : Ending) → IsReadBy s u t → Faces list w s hs e → GivesNext list w hs e s (Some (Ok u)) t
@@ -255,7 +255,7 @@ next_unit list w s t u (h ∷ hs) e r f =
     let same = same_kind (announced s.expected) (kind_of r.header) (kind_of h) r.announced f.stack.0.announced in
     let is = one_header s.rest r.header h same r.means (subst (λ (l : List ℕ). Means l h) (sym f.rest) f.stack.0.means) in
     let own = subst (λ (g : Header). Faces list w s (g ∷ hs) e) (sym is) f in
-    subst (λ (g : Header). GivesNext list w (g ∷ hs) e s (Some (Ok u)) t) is (u, refl, r.shows, r.over, expected_behind s t u r, faces_behind list w s t u hs e r own)
+    subst (λ (g : Header). GivesNext list w (g ∷ hs) e s (Some (Ok u)) t) is (u, refl, r.shows, r.over, expected_after s t u r, faces_after list w s t u hs e r own)
 
 -- the unit is there
 pub gives_unit : (s t : State) (u : PeelUnit) → IsReadBy s u t → Gives s (Some (Ok u)) t

@@ -40,17 +40,17 @@ pub record LiesBehind (w : Window) (hs : List Header) (v : Window) : Type 0 wher
   pub ordered : v.start ≤ v.finish
   pub inside : v.finish ≤ w.finish
 
-pub leads_behind : (list : List ℕ) (x : Expectation) (w : Window) (hs : List Header) (y : Expectation) (v : Window) → IsIn list w → Leads list x w hs y v → LiesBehind w hs v
-leads_behind list x w [] y v at l = subst (LiesBehind w []) (sym l.1) (record { start = refl; ordered = at.ordered; inside = omega arith })
-leads_behind list x w (h ∷ hs) y v at l =
-    let rest = leads_behind list (after x h) (payload w h) hs y v (payload_in list x w h at l.0) l.1 in
+pub leads_after : (list : List ℕ) (x : Expectation) (w : Window) (hs : List Header) (y : Expectation) (v : Window) → IsIn list w → Leads list x w hs y v → LiesBehind w hs v
+leads_after list x w [] y v at l = subst (LiesBehind w []) (sym l.1) (record { start = refl; ordered = at.ordered; inside = omega arith })
+leads_after list x w (h ∷ hs) y v at l =
+    let rest = leads_after list (after x h) (payload w h) hs y v (payload_in list x w h at l.0) l.1 in
     let a = rest.inside in
     let b = payload_narrows list x w h at l.0 in
     record { start = rest.start; ordered = rest.ordered; inside = omega arith }
 
 -- the last window of a stack
-pub last_behind : (list : List ℕ) (x : Expectation) (w : Window) (hs : List Header) (e : Ending) → IsIn list w → Stack list x w hs e → LiesBehind w hs (last_window e)
-last_behind list x w hs e at s = leads_behind list x w hs (last_expected e) (last_window e) at (leads list x w hs e s).0
+pub last_after : (list : List ℕ) (x : Expectation) (w : Window) (hs : List Header) (e : Ending) → IsIn list w → Stack list x w hs e → LiesBehind w hs (last_window e)
+last_after list x w hs e at s = leads_after list x w hs (last_expected e) (last_window e) at (leads list x w hs e s).0
 
 -- each header ends before the last window does
 pub header_before : (w v : Window) (hs : List Header) (h : Header) (later : List Header) → LiesBehind w (hs ++ h ∷ later) v → place w.start hs + header_len h ≤ v.finish
@@ -80,7 +80,7 @@ stays_short list (Fault v y r) s =
     let a : length (within list v) ≡ length (within list v) + length (beyond v.closed []) = sym (ap (λ (l : List ℕ). length (within list v) + length l) (beyond_nil v.closed) ∙ omega arith) in
     subst (λ (n : ℕ). IsBelow n r) a (refused_below v.bound (within list v) s.2 r s.4)
 
--- a window with the same bytes and mark, as far behind v as u is behind w
+-- a window with the same bytes and mark, as far after v as u is after w
 moved_is : (list other : List ℕ) (w v u last : Window) → w.start ≤ u.start → Carries list other [] u last → last.start + w.start ≡ u.start + v.start → last ≡ moved w.start v.start u
 moved_is list other w v u last le c at =
     let f = carried_finish list other [] u last c in
@@ -102,7 +102,7 @@ is_local list other x w v hs e old new same mark bound s =
     let bytes : within other v ≡ within list w ++ beyond w.closed [] = sym same ∙ sym (append-nil (within list w)) ∙ ap (λ (l : List ℕ). within list w ++ l) (sym (beyond_nil w.closed)) in
     let c : Carries list other [] w v = record { old = old; new = new; closed = sym mark; bound = sym bound; bytes = bytes } in
     let t = carry_stack list other [] x w v hs e c (inl (beyond_nil w.closed)) s (stays_short list e l.1) in
-    let b = leads_behind list x w hs (last_expected e) (last_window e) old l.0 in
+    let b = leads_after list x w hs (last_expected e) (last_window e) old l.0 in
     let p = place_least w.start hs in
     let k = b.start in
     let m = moved_is list other w v (last_window e) t.last (omega arith) t.carries t.start in

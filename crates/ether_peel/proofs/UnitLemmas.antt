@@ -22,7 +22,7 @@ use Rattle.etherparse.proofs.Reading.{arp_front_of_part, arp_front_back}
 use Rattle.ether_peel.specs.Window.{payload_finish, payload_closed}
 use Rattle.ether_peel.specs.Peel.{ShowsMacsec}
 use Rattle.ether_peel.specs.Expectation.{EtherType, after_payload}
-use Rattle.ether_peel.specs.PeelRead.{behind_sec_tag, sec_tag_payload}
+use Rattle.ether_peel.specs.PeelRead.{after_sec_tag, sec_tag_payload}
 use Rattle.ether_peel.proofs.PeelLemmas.{moved_part}
 
 -- ---- SecTags
@@ -79,15 +79,15 @@ tag_taken bytes tag part =
       front = front;
     }
 
-pub behind_typed : (type : PayloadType) (p : MacsecPayloadSlice) (source : LenSource) (bytes : List ℕ) → HoldsTyped p (readable_type type) source bytes → behind_sec_tag p ≡ after_payload type
-behind_typed (payloads.Unmodified t) (kept.Unmodified p) source bytes h = ap EtherType h.0
-behind_typed (payloads.Unmodified t) (kept.Modified p) source bytes h = absurd h
-behind_typed payloads.Modified (kept.Unmodified p) source bytes h = absurd h
-behind_typed payloads.Modified (kept.Modified p) source bytes h = refl
-behind_typed payloads.EncryptedUnmodified (kept.Unmodified p) source bytes h = absurd h
-behind_typed payloads.EncryptedUnmodified (kept.Modified p) source bytes h = refl
-behind_typed payloads.Encrypted (kept.Unmodified p) source bytes h = absurd h
-behind_typed payloads.Encrypted (kept.Modified p) source bytes h = refl
+pub after_typed : (type : PayloadType) (p : MacsecPayloadSlice) (source : LenSource) (bytes : List ℕ) → HoldsTyped p (readable_type type) source bytes → after_sec_tag p ≡ after_payload type
+after_typed (payloads.Unmodified t) (kept.Unmodified p) source bytes h = ap EtherType h.0
+after_typed (payloads.Unmodified t) (kept.Modified p) source bytes h = absurd h
+after_typed payloads.Modified (kept.Unmodified p) source bytes h = absurd h
+after_typed payloads.Modified (kept.Modified p) source bytes h = refl
+after_typed payloads.EncryptedUnmodified (kept.Unmodified p) source bytes h = absurd h
+after_typed payloads.EncryptedUnmodified (kept.Modified p) source bytes h = refl
+after_typed payloads.Encrypted (kept.Unmodified p) source bytes h = absurd h
+after_typed payloads.Encrypted (kept.Modified p) source bytes h = refl
 
 pub payload_typed : (p : MacsecPayloadSlice) (type : Option ℕ) (source : LenSource) (bytes : List ℕ) → HoldsTyped p type source bytes → sec_tag_payload p ≡ bytes
 payload_typed (kept.Unmodified p) (Some t) source bytes h = h.2
@@ -105,7 +105,7 @@ pub record IsTagRead (bytes : List ℕ) (m : MacsecSlice) (n : ℕ) (t : SecTagV
   pub rest : sec_tag_payload m.payload ≡ slice_range bytes (header_len (headers.Macsec t)) (payload_finish (header_len (headers.Macsec t)) 0 (length bytes) (payload_len (headers.Macsec t)))
   pub shorter : n + length (sec_tag_payload m.payload) ≤ length bytes
   pub shows : ShowsMacsec bytes (sec_tag_payload m.payload) t m
-  pub expected : behind_sec_tag m.payload ≡ after_payload t.payload_type
+  pub expected : after_sec_tag m.payload ≡ after_payload t.payload_type
   pub known : known_payload_len (sec_tag_front_in (tag_bytes m.header)) ≡ payload_len (headers.Macsec t)
 
 pub tag_read : (bytes : List ℕ) (m : MacsecSlice) (n : ℕ) → tag_bytes m.header ≡ slice_range bytes 0 (sec_tag_len (sec_tag_front_in bytes)) → HoldsPayload m.payload (sec_tag_front_in bytes) bytes
@@ -132,7 +132,7 @@ tag_read bytes m n part payload len whole =
         header = part ∙ ap (slice_range bytes 0) (sym taken.len);
         payload = subst (λ (l : List ℕ). HoldsTyped m.payload (readable_type t.payload_type) (payload_source (payload_len h)) l) (sym (payload_typed m.payload _ _ _ payload)) (subst (λ (o : Option ℕ). HoldsTyped m.payload (readable_type t.payload_type) (payload_source o) (payload_in f bytes)) (sym taken.known) type);
       };
-      expected = behind_typed t.payload_type m.payload _ _ type;
+      expected = after_typed t.payload_type m.payload _ _ type;
       known = ap known_payload_len taken.front ∙ sym taken.known;
     }
 

@@ -22,7 +22,7 @@ use Rattle.ether_peel.proofs.Extensions.{extensions_keep}
 
 -- ---- what was next
 
--- a unit, behind which t stands
+-- a unit, after which t stands
 pub record UnitNext (list : List ℕ) (w : Window) (left : List Header) (e : Ending) (s t : State) (u : PeelUnit) : Type 0 where
   pub header : Header
   pub later : List Header

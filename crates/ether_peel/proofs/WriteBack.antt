@@ -13,7 +13,7 @@ use Rattle.ether_peel.specs.Expectation.{Expectation, after}
 use Rattle.ether_peel.specs.Stack.{Ending, last_window, last_expected, Stack, whole}
 use Rattle.ether_peel.specs.WriteBack.{cleared_at, cleared, HeadersGoBack}
 use Rattle.ether_peel.proofs.Carrying.{Leads, leads, payload_in}
-use Rattle.ether_peel.proofs.Places.{place_least, leads_behind}
+use Rattle.ether_peel.proofs.Places.{place_least, leads_after}
 use Rattle.ether_peel.proofs.HeaderBytes.{length-means, cleared_bytes, written}
 
 -- ---- what is cleared
@@ -55,14 +55,14 @@ cleared_before list at [] i j le = refl
 cleared_before list at (h ∷ hs) i j le =
     cleared_at_before (cleared list (at + header_len h) hs) at h i j le ∙ cleared_before list (at + header_len h) hs i j (omega arith)
 
--- nor behind a header
-cleared_at_behind : (list : List ℕ) (at : ℕ) (h : Header) (j : ℕ) → slice_range (cleared_at list at h) (at + header_len h) j ≡ slice_range list (at + header_len h) j
-cleared_at_behind list at (headers.Ethernet2 e) j = refl
-cleared_at_behind list at (headers.Ethernet2Fcs e) j = refl
-cleared_at_behind list at (headers.LinuxSll s) j = refl
-cleared_at_behind list at (headers.Vlan v) j = refl
-cleared_at_behind list at (headers.Arp a) j = refl
-cleared_at_behind list at (headers.Macsec t) j = ap (take (j - (at + header_len (headers.Macsec t)))) (drop-set-lt (at + header_len (headers.Macsec t)) list (at + 1) _ (omega arith))
+-- nor after a header
+cleared_at_after : (list : List ℕ) (at : ℕ) (h : Header) (j : ℕ) → slice_range (cleared_at list at h) (at + header_len h) j ≡ slice_range list (at + header_len h) j
+cleared_at_after list at (headers.Ethernet2 e) j = refl
+cleared_at_after list at (headers.Ethernet2Fcs e) j = refl
+cleared_at_after list at (headers.LinuxSll s) j = refl
+cleared_at_after list at (headers.Vlan v) j = refl
+cleared_at_after list at (headers.Arp a) j = refl
+cleared_at_after list at (headers.Macsec t) j = ap (take (j - (at + header_len (headers.Macsec t)))) (drop-set-lt (at + header_len (headers.Macsec t)) list (at + 1) _ (omega arith))
 
 -- ---- all headers
 
@@ -86,10 +86,10 @@ headers_back list x w (h ∷ hs) y v ok at l =
     let bytes = within list w in
     let next = payload_in list x w h at l.0 in
     let rest = headers_back list (after x h) (payload w h) hs y v ok next l.1 in
-    let behind = leads_behind list (after x h) (payload w h) hs y v next l.1 in
+    let following = leads_after list (after x h) (payload w h) hs y v next l.1 in
     let least = place_least (w.start + n) hs in
-    let start = behind.start in
-    let ends = behind.ordered in
+    let start = following.start in
+    let ends = following.ordered in
     let order : w.start + n ≤ v.finish = omega arith in
     let len = length-part list w.start w.finish at.inside in
     let ordered = at.ordered in
@@ -101,7 +101,7 @@ headers_back list x w (h ∷ hs) y v ok at l =
     let first : slice_range (cleared_at c w.start h) w.start (w.start + n) ≡ header_bytes h =
     cleared_part c w.start h ∙ ap (λ (b : List ℕ). cleared_bytes b h) same ∙ written w.bound bytes h (IsBytes-part w.start w.finish list ok) l.0.accepted l.0.means in
     append_assoc (header_bytes h) (flat_map header_bytes hs) (within list v)
-    ∙ ap (λ (b : List ℕ). header_bytes h ++ b) (rest ∙ sym (cleared_at_behind c w.start h v.finish))
+    ∙ ap (λ (b : List ℕ). header_bytes h ++ b) (rest ∙ sym (cleared_at_after c w.start h v.finish))
     ∙ ap (λ (b : List ℕ). b ++ slice_range (cleared_at c w.start h) (w.start + n) v.finish) (sym first)
     ∙ part_join (cleared_at c w.start h) w.start (w.start + n) v.finish (omega arith) order
 

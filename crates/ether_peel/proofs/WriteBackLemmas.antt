@@ -1,4 +1,4 @@
--- Headers and a last window that are written one behind the other.
+-- Headers and a last window that are written one after the other.
 use Rattle.std.proofs.Common.{◌≡◌, ℕ, ◌+◌, ◌≤◌, List, [], ◌∷◌, ◌++◌, length, take, drop, false, refl, sym, ap, subst, ◌∙◌, arith}
 use Rattle.std.specs.Prelude.{flat_map, Option, Some, None, Result, Ok, Err}
 use Rattle.std.proofs.Math.Seq.{take-append_seam, drop-append-add}
@@ -25,7 +25,7 @@ use Rattle.ether_peel.specs.declared.peel_fault.PeelFault.{PeelFault}
 use Rattle.ether_peel.proofs.ViewValues.{ethernet2_shown, linux_sll_shown, vlan_shown, macsec_shown}
 use Rattle.ether_peel.proofs.WalkedLemmas.{UnitNext, unit_next}
 use Rattle.ether_peel.proofs.HeaderBytes.{length-means, written}
-use Rattle.ether_peel.proofs.Places.{last_behind, header_before}
+use Rattle.ether_peel.proofs.Places.{last_after, header_before}
 use Rattle.ether_peel.proofs.WriteBack.{headers_go_back}
 
 -- ---- the bytes of a view's header
@@ -124,7 +124,7 @@ stop_finish x list s t a p =
 
 -- ---- a target that was written so far
 
--- bytes that replace those behind a front
+-- bytes that replace those after a front
 replaced : (front old bytes new : List ℕ) (from at : ℕ) → length front ≡ from → at ≡ from → new ≡ take at (front ++ drop from old) ++ bytes ++ drop (at + length bytes) (front ++ drop from old)
     → new ≡ (front ++ bytes) ++ drop (from + length bytes) old
 replaced front old bytes new from at len same is =
@@ -168,7 +168,7 @@ next_at x list s t u at old mid ok fits same a gives =
     let okw = IsBytes-part w.start w.finish list ok in
     let bytes = unit_bytes-shown w.bound (within list w) t.rest p.header u okw unit.accepted unit.means shows in
     let len = ap length bytes ∙ length-means (within list w) p.header okw unit.means in
-    let before = header_before w (last_window b.ending) [] p.header p.later (last_behind list s.expected w (p.header ∷ p.later) b.ending faces.inside faces.stack) in
+    let before = header_before w (last_window b.ending) [] p.header p.later (last_after list s.expected w (p.header ∷ p.later) b.ending faces.inside faces.stack) in
     let long = fits (b.done ++ b.left) b.ending b.walk in
     let from = a.place in
     record { passes = p; bytes = bytes; len = len; room = omega arith }
@@ -200,7 +200,7 @@ rest_ends x list s t at old mid rest a p shows =
     let place : at ≡ t.offset = a.place ∙ ap (λ (w : Window). w.start) p.window ∙ sym p.offset in
     (λ i. place i + length (shows i)) ∙ stop_finish x list s t b p
 
--- the target holds the last window behind all headers
+-- the target holds the last window after all headers
 pub writes_back : (x : Expectation) (list : List ℕ) (s t : State) (at : ℕ) (old mid rest new : List ℕ) → IsBytes list → Fits x list old → (a : WritesSoFar x list s at old mid) → Stops x list s t a.stands → rest ≡ t.rest
     → new ≡ take at mid ++ rest ++ drop (at + length rest) mid → WritesBack x list (at + length rest) old new
 writes_back x list s t at old mid rest new ok fits a p shows is =

@@ -40,8 +40,8 @@ ShowsUnit bytes rest (headers.Vlan v) u = u ≡ units.Vlan bytes
 ShowsUnit bytes rest (headers.Macsec t) u = (m : MacsecSlice) × (u ≡ units.Macsec m) × ShowsMacsec bytes rest t m
 ShowsUnit bytes rest (headers.Arp a) u = u ≡ units.Arp (slice_range bytes 0 (header_len (headers.Arp a)))
 
--- What comes next where these headers and this ending are faced: nothing, and nothing changes; the fault, behind which
--- nothing comes; the first header's unit, behind which what it announces is expected, and the others are faced in the
+-- What comes next where these headers and this ending are faced: nothing, and nothing changes; the fault, after which
+-- nothing comes; the first header's unit, after which what it announces is expected, and the others are faced in the
 -- window of its payload.
 abbrev pub GivesNext : List ℕ → Window → List Header → Ending → State → Option (Result PeelUnit PeelFault) → State → Type 0
 GivesNext list w [] (Accepted v y) s r t = (r ≡ None) × (t ≡ s)
@@ -54,6 +54,6 @@ pub record Gives (s : State) (r : Option (Result PeelUnit PeelFault)) (t : State
   pub over : s.over ≡ true → (r ≡ None) × (t ≡ s)
   pub next : s.over ≡ false → (list : List ℕ) (w : Window) (hs : List Header) (e : Ending) → Faces list w s hs e → GivesNext list w hs e s r t
 
--- of k bytes at most k / 4 units and a fault are still to come, and nothing behind the fault
+-- of k bytes at most k / 4 units and a fault are still to come, and nothing after the fault
 abbrev pub items_left : State → Count
 items_left s = at_most (if s.over then 0 else length s.rest / 4 + 1)

@@ -32,9 +32,9 @@ named_error bound (errors.LinuxSll e) = errors.LinuxSll e
 named_error bound (errors.Macsec e) = errors.Macsec e
 
 -- what is expected in the payload of a SecTag
-abbrev pub behind_sec_tag : MacsecPayloadSlice → Next
-behind_sec_tag (payloads.Unmodified p) = EtherType p.ether_type.0
-behind_sec_tag (payloads.Modified p) = Sealed
+abbrev pub after_sec_tag : MacsecPayloadSlice → Next
+after_sec_tag (payloads.Unmodified p) = EtherType p.ether_type.0
+after_sec_tag (payloads.Modified p) = Sealed
 
 -- its bytes
 abbrev pub sec_tag_payload : MacsecPayloadSlice → List ℕ

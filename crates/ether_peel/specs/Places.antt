@@ -12,7 +12,7 @@ place at (h ∷ hs) = place (at + header_len h) hs
 
 -- ---- moving
 
--- the window that lies as far behind one place as this window lies behind another
+-- the window that lies as far after one place as this window lies after another
 abbrev pub moved : (old new : ℕ) → Window → Window
 moved old new w = record { start = new + (w.start - old); finish = new + (w.finish - old); closed = w.closed; bound = w.bound }
 

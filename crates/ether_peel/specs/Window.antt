@@ -4,7 +4,7 @@ use Rattle.etherparse.specs.Types.LenSource.{LenSource}
 use Rattle.etherparse.specs.Types.LenSource.TheVariants as sources
 use Rattle.etherparse.specs.Header.{Header, header_len, payload_len, trailer_len}
 
--- From a start up to an end, which is not in it. Further bytes behind the list belong to it only where it is open. Its bound is what
+-- From a start up to an end, which is not in it. Further bytes after the list belong to it only where it is open. Its bound is what
 -- named its end: the list itself, or the short length of a SecTag around it.
 pub record Window : Type 0 where
   pub start : ℕ
@@ -20,7 +20,7 @@ pub record IsIn (list : List ℕ) (w : Window) : Type 0 where
   pub ordered : w.start ≤ w.finish
   pub inside : w.finish ≤ length list
 
--- ---- the window of a payload, behind a header at the window's start
+-- ---- the window of a payload, after a header at the window's start
 
 -- where the header names the payload's length it ends after it, else before the trailer
 abbrev pub payload_finish : ℕ → ℕ → ℕ → Option ℕ → ℕ

@@ -26,12 +26,12 @@ cleared_at list at (headers.Vlan v) = list
 cleared_at list at (headers.Macsec t) = slice_set list (at + 1) (slice_index list (at + 1) % 64)
 cleared_at list at (headers.Arp a) = list
 
--- the list in which that is done for each of these headers, which stand one behind the other from a place on
+-- the list in which that is done for each of these headers, which stand one after the other from a place on
 abbrev pub cleared : List ℕ → ℕ → List Header → List ℕ
 cleared list at [] = list
 cleared list at (h ∷ hs) = cleared_at (cleared list (at + header_len h) hs) at h
 
--- The bytes of the headers of a walk, and behind them those of its last window, are the front of the cleared list up to the end of
+-- The bytes of the headers of a walk, and after them those of its last window, are the front of the cleared list up to the end of
 -- that window.
 abbrev pub HeadersGoBack : Type 0
 HeadersGoBack =
@@ -41,7 +41,7 @@ HeadersGoBack =
 
 -- ---- writing
 
--- A target that holds the headers of the walk and the bytes of the last window, up to where that ends, and behind them what it
+-- A target that holds the headers of the walk and the bytes of the last window, up to where that ends, and after them what it
 -- held before. So it begins with the front of the cleared list.
 pub record WritesBack (start : Expectation) (list : List ℕ) (end : ℕ) (old new : List ℕ) : Type 0 where
   pub found : List Header

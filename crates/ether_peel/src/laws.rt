@@ -27,7 +27,7 @@ pub fn cuts_keep()
     ensures { CutsKeep }
 {}
 
-/// Bytes behind a list leave it accepted, leave a refusal for content or in a closed window as it is, and leave an open refusal until
+/// Bytes after a list leave it accepted, leave a refusal for content or in a closed window as it is, and leave an open refusal until
 /// its named length is there.
 pub fn extensions_keep()
     ensures { ExtensionsKeep }

@@ -7,12 +7,12 @@ ghost use Rattle.ether_peel.specs.Expectation.{has_fcs, after_protocol, announce
 ghost use Rattle.ether_peel.specs.PeelState.{shown_of};
 ghost use Rattle.ether_peel.specs.Stack.{Ending, whole, Walk};
 ghost use Rattle.ether_peel.specs.PeelStart.{start_of, start_with, limited_start, kind_shown, next_shown};
-ghost use Rattle.ether_peel.specs.PeelRead.{behind_sec_tag, named_error, sec_tag_payload};
+ghost use Rattle.ether_peel.specs.PeelRead.{after_sec_tag, named_error, sec_tag_payload};
 
 use crate::{PeelError, PeelFault, PeelUnit, RestKind, Start};
 use etherparse::err::LenError;
 use etherparse::{
-    ArpPacketSlice, EtherType, Ethernet2Slice, LenSource, LinkSlice, LinuxSllSlice,
+    ArpPacketSlice, EtherType, Ethernet2Slice, LenSource, LinuxSllProtocolType, LinuxSllSlice,
     MacsecPayloadSlice, MacsecSlice, SingleVlanSlice, err,
 };
 use std::marker::Model;
@@ -360,12 +360,12 @@ impl<'a> Peel<'a> {
         let bytes = &self.frame[self.start..self.end];
         match MacsecSlice::from_slice(bytes) {
             Ok(slice) => {
-                let (announced, kind) = announced_behind(slice.payload);
+                let (announced, kind) = announced_after(slice.payload);
                 self.start += slice.header.header_len();
                 self.end = self.start + payload_bytes(slice.payload).len();
                 let known = slice.header.expected_payload_len();
                 self.is_closed |= known.is_some();
-                self.bound = bound_behind(known, self.bound);
+                self.bound = bound_after(known, self.bound);
                 self.first = First::Read;
                 self.limit = lowered(self.limit);
                 self.announced = permitted(self.limit, announced);
@@ -455,18 +455,21 @@ fn announced_in(packet: &LinuxSllSlice<'_>) -> (EtherType, RestKind)
     ensures shown { result.1 ≡ next_shown (after_protocol (protocol_type_of_header packet.now)) }
 {
     let protocol_type = packet.protocol_type();
-    match LinkSlice::LinuxSllPayload(packet.payload()).ether_payload() {
-        Some(payload) => (payload.ether_type, RestKind::EtherType(payload.ether_type)),
-        None => (EtherType(0), RestKind::Sll(protocol_type)),
+    match protocol_type {
+        LinuxSllProtocolType::EtherType(_) | LinuxSllProtocolType::LinuxNonstandardEtherType(_) => {
+            let ether_type = EtherType(u16::from(protocol_type));
+            (ether_type, RestKind::EtherType(ether_type))
+        }
+        _ => (EtherType(0), RestKind::Sll(protocol_type)),
     }
 }
 
 /// The ether type that announces the payload of a SecTag, and what is shown of it.
 #[inline(always)]
-fn announced_behind(payload: MacsecPayloadSlice<'_>) -> (EtherType, RestKind)
-    ensures expected { shown_of result.1 ≡ behind_sec_tag payload.entry }
-    ensures announced { announced_next (behind_sec_tag payload.entry) ≡ announced_by result.0.0 }
-    ensures shown { result.1 ≡ next_shown (behind_sec_tag payload.entry) }
+fn announced_after(payload: MacsecPayloadSlice<'_>) -> (EtherType, RestKind)
+    ensures expected { shown_of result.1 ≡ after_sec_tag payload.entry }
+    ensures announced { announced_next (after_sec_tag payload.entry) ≡ announced_by result.0.0 }
+    ensures shown { result.1 ≡ next_shown (after_sec_tag payload.entry) }
 {
     match payload {
         MacsecPayloadSlice::Unmodified(payload) => (
@@ -479,7 +482,7 @@ fn announced_behind(payload: MacsecPayloadSlice<'_>) -> (EtherType, RestKind)
 
 /// The bound of the payload of a SecTag, whose length the tag names or not.
 #[inline(always)]
-fn bound_behind(known: Option<usize>, bound: LenSource) -> LenSource
+fn bound_after(known: Option<usize>, bound: LenSource) -> LenSource
     ensures { result ≡ payload_bound bound known }
 {
     match known {

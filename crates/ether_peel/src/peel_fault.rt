@@ -23,7 +23,7 @@ pub struct PeelFault {
 impl PeelFault {
     /// How many bytes the unit needs at least beyond those that are there.
     ///
-    /// `None` if more bytes behind the frame would not help: the contents are refused, or the unit's window is closed.
+    /// `None` if more bytes after the frame would not help: the contents are refused, or the unit's window is closed.
     pub fn missing(&self) -> Option<usize>
         ensures { MatchOption result ((n : ℕ) → Misses self.now n → ⊥) (Misses self.now) }
     {

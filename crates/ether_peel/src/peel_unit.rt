@@ -8,10 +8,10 @@ pub enum PeelUnit<'a> {
     Ethernet2(Ethernet2Slice<'a>),
     /// A header of Linux cooked capture v1, which only a frame begins with.
     LinuxSll(LinuxSllSlice<'a>),
-    /// A VLAN tag, the TCI and the next ether type, behind an ether type that announces one (IEEE 802.1Q).
+    /// A VLAN tag, the TCI and the next ether type, after an ether type that announces one (IEEE 802.1Q).
     Vlan(SingleVlanSlice<'a>),
-    /// A MACsec SecTag, behind the ether type 0x88E5 (IEEE 802.1AE).
+    /// A MACsec SecTag, after the ether type 0x88E5 (IEEE 802.1AE).
     Macsec(MacsecSlice<'a>),
-    /// An ARP packet, without what follows it, behind the ether type 0x0806 (RFC 826).
+    /// An ARP packet, without what follows it, after the ether type 0x0806 (RFC 826).
     Arp(ArpPacketSlice<'a>),
 }

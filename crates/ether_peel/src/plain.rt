@@ -208,7 +208,7 @@ fn expected_at(start: Start) -> PlainExpected {
     }
 }
 
-/// What stands behind a header.
+/// What stands after a header.
 fn expected_after(header: PlainHeader<'_>) -> PlainExpected {
     match header {
         PlainHeader::Ethernet2 { ether_type, .. }
@@ -232,7 +232,7 @@ fn expected_after(header: PlainHeader<'_>) -> PlainExpected {
     }
 }
 
-/// The window behind a header at the start of a window.
+/// The window after a header at the start of a window.
 fn payload(window: PlainWindow, header: PlainHeader<'_>) -> PlainWindow {
     let start = window.start.saturating_add(header_len(header));
     match header {

@@ -6,7 +6,7 @@ ghost use Rattle.ether_peel.specs.Limits.{IsFrontOfUnlimited};
 
 use crate::{Peel, PeelFault, Start, Summary};
 
-/// What the walk through a frame comes to.
+/// The result of the walk through a frame.
 ///
 /// ```
 /// let frame = [
@@ -27,8 +27,7 @@ pub fn summary(start: Start, bytes: &[u8]) -> Summary
     summarized(start, bytes, None)
 }
 
-/// What the walk through a frame comes to that reads no more than `limit` VLAN tags and MACsec SecTags, as that of
-/// [`Peel::with_limit`] does.
+/// The result of the walk of [`Peel::with_limit`], which reads no more than `limit` VLAN tags and MACsec SecTags.
 ///
 /// Its units are the first ones of the walk without a limit. Since each tag takes at least four bytes, a limit greater than
 /// `bytes.len() / 4` changes nothing.
@@ -53,7 +52,7 @@ pub fn summary_limited(start: Start, bytes: &[u8], limit: usize) -> Summary
     summarized(start, bytes, Some(limit))
 }
 
-/// What the walk through a frame comes to, with a limit on extensions or without.
+/// The result of the walk through a frame, with a limit on extensions or without.
 #[inline(always)]
 pub(crate) fn summarized(start: Start, bytes: &[u8], limit: Option<usize>) -> Summary
     ensures { IsSummary (start_with start limit) bytes.now result }
@@ -69,11 +68,11 @@ pub(crate) fn summarized(start: Start, bytes: &[u8], limit: Option<usize>) -> Su
     }
 }
 
-/// What the walk through the first `n` bytes of a frame comes to, as of a frame that was captured in part.
+/// The result of the walk through the first `n` bytes of a frame, as if it was captured with that snap length.
 ///
-/// Where the frame does not end in a frame check sequence, the units are the first ones of the whole frame. If that is
-/// accepted, then the cut has exactly the units that it has whole, and where one is missing its fault says how many
-/// bytes that one needs at least.
+/// Unless the frame ends in a frame check sequence, the units are the first ones of the whole frame. If the whole frame
+/// is accepted, the cut has exactly the units that fit into it, and if one is cut off the fault says how many bytes that
+/// one needs at least.
 ///
 /// ```
 /// let frame = [
@@ -92,8 +91,7 @@ pub fn snap(start: Start, bytes: &[u8], n: usize) -> Summary
     snapped(start, bytes, n, None)
 }
 
-/// What the walk through the first `n` bytes of a frame comes to that reads no more than `limit` VLAN tags and MACsec
-/// SecTags: [`snap`] with the walk of [`Peel::with_limit`].
+/// Does as [`snap`] with the walk of [`Peel::with_limit`], which reads no more than `limit` VLAN tags and MACsec SecTags.
 ///
 /// ```
 /// let frame = [
@@ -112,7 +110,7 @@ pub fn snap_limited(start: Start, bytes: &[u8], n: usize, limit: usize) -> Summa
     snapped(start, bytes, n, Some(limit))
 }
 
-/// What the walk through the first `n` bytes of a frame comes to, with a limit on extensions or without.
+/// The result of the walk through the first `n` bytes of a frame, with a limit on extensions or without.
 #[inline(always)]
 fn snapped(start: Start, bytes: &[u8], n: usize, limit: Option<usize>) -> Summary
     requires { n ≤ length bytes.now }

@@ -24,12 +24,12 @@ const fn ether_type(number: u16) -> RestKind {
     RestKind::EtherType(EtherType(number))
 }
 
-/// The start behind an ether type.
-const fn behind(number: u16) -> Start {
+/// The start after an ether type.
+const fn with_type(number: u16) -> Start {
     Start::EtherType(EtherType(number))
 }
 
-/// Parts one behind the other.
+/// Parts one after the other.
 fn joined(alloc: Global, parts: &[&[u8]]) -> Result<Vec<u8>, AllocError> {
     let mut bytes = Vec::new(alloc);
     for part in parts {

@@ -1,4 +1,4 @@
-//! What feeding a walk comes to.
+//! The result of feeding a walk.
 use crate::PeelFault;
 
 /// The result of [`feed`](crate::feed): how often a walk asked for more bytes, how many it took, and how it ended.

@@ -1,7 +1,7 @@
-//! What a whole walk comes to.
+//! The result of a whole walk.
 use crate::{PeelFault, RestKind};
 
-/// What the walk through a frame comes to.
+/// The result of the walk through a frame.
 #[derive(Clone, PartialEq, Eq, Debug, Drop)]
 pub struct Summary {
     /// The number of units.

@@ -9,11 +9,11 @@ use crate::summarize::summarized;
 use crate::{Peel, PeelUnit, Start};
 use etherparse::err::{Layer, SliceWriteSpaceError};
 
-/// Writes the headers of a frame to the front of a target, each by its `to_bytes`, and behind them the bytes of the window
+/// Writes the headers of a frame to the front of a target, each by its `to_bytes`, and after them the bytes of the window
 /// that is left. Returns where that window ends, in bytes from the start of the frame.
 ///
 /// The target then begins with the bytes of the frame up to there, but the two reserved bits of each MACsec SecTag are 0.
-/// Its further bytes stay as they were. What stands behind the window, as a frame check sequence does, is not written.
+/// Its further bytes stay as they were. What stands after the window, as a frame check sequence does, is not written.
 /// After a fault the window is the one in which it came.
 ///
 /// # Errors

@@ -46,6 +46,7 @@ pub fn require_content(bytes: &[u8]) -> Result<(), HeaderError>
 }
 
 /// The packet type.
+#[inline(always)]
 pub fn packet_type(bytes: &[u8]) -> LinuxSllPacketType
     requires { HoldsLinuxSll bytes.now }
     ensures { result ≡ (linux_sll_of bytes.now).packet_type }
@@ -91,6 +92,7 @@ pub fn sender_address(bytes: &[u8]) -> &[u8]
 }
 
 /// The protocol type, in the variant that the hardware type gives it.
+#[inline(always)]
 pub fn protocol_type(bytes: &[u8]) -> LinuxSllProtocolType
     requires { HoldsLinuxSll bytes.now }
     ensures { result ≡ protocol_type_of_header bytes.now }

@@ -79,6 +79,7 @@ impl<'a> LinuxSllSlice<'a> {
     }
 
     /// The packet type: who sent the packet to whom.
+    #[inline(always)]
     pub fn packet_type(&self) -> LinuxSllPacketType
         ensures { result ≡ (linux_sll_of self.now).packet_type }
     {
@@ -114,6 +115,7 @@ impl<'a> LinuxSllSlice<'a> {
     }
 
     /// The protocol of the payload. The hardware type decides which variant its number has.
+    #[inline(always)]
     pub fn protocol_type(&self) -> LinuxSllProtocolType
         ensures { result ≡ protocol_type_of_header self.now }
     {

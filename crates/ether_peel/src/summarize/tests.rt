@@ -25,7 +25,7 @@ const WORKED: [Worked; 24] = [
     (Start::Ethernet2, &[0xFF, 0xFF, 0xFF, 0xFF, 0xFF, 0xFF, 0x02, 0x00, 0x00, 0x00, 0x00, 0x01, 0x88, 0xA8, 0x00, 0x01, 0x81, 0x00, 0x00, 0x02]),
     // A named MACsec payload cut short.
     (Start::EtherType(EtherType::MACSEC), &[0x00, 0x06, 0x00, 0x00, 0x00, 0x01, 0x81, 0x00, 0xAA, 0xBB]),
-    // A VLAN tag in a closed MACsec window, and 2 bytes behind it.
+    // A VLAN tag in a closed MACsec window, and 2 bytes after it.
     (Start::EtherType(EtherType::MACSEC), &[0x00, 0x06, 0x00, 0x00, 0x00, 0x01, 0x81, 0x00, 0xAA, 0xBB, 0xCC, 0xDD, 0xEE, 0xEE]),
     // A VLAN tag cut short in a closed MACsec window.
     (Start::EtherType(EtherType::MACSEC), &[0x00, 0x04, 0x00, 0x00, 0x00, 0x01, 0x81, 0x00, 0xAA, 0xBB, 0xCC, 0xDD]),
@@ -35,7 +35,7 @@ const WORKED: [Worked; 24] = [
     (Start::EtherType(EtherType::MACSEC), &[0x80, 0x00, 0x00, 0x00, 0x00]),
     // A SecTag of version 1.
     (Start::EtherType(EtherType::MACSEC), &[0x80, 0x00, 0x00, 0x00, 0x00, 0x00]),
-    // An encrypted payload of one byte, and one behind it.
+    // An encrypted payload of one byte, and one after it.
     (Start::EtherType(EtherType::MACSEC), &[0x0C, 0x01, 0x00, 0x00, 0x00, 0x01, 0xAA, 0xBB]),
     // A SecTag with an SCI and a payload of unknown length.
     (Start::EtherType(EtherType::MACSEC), &[0x2C, 0xC0, 0x00, 0x00, 0x00, 0x01, 0x00, 0x11, 0x22, 0x33, 0x44, 0x55, 0x66, 0x77, 0x99]),
@@ -59,7 +59,7 @@ const WORKED: [Worked; 24] = [
     (Start::Ethernet2Fcs, &[0xFF, 0xFF, 0xFF, 0xFF, 0xFF, 0xFF, 0x02, 0x00, 0x00, 0x00, 0x00, 0x01, 0x08, 0x00, 0x11, 0x22, 0x33]),
     // A frame with a check sequence.
     (Start::Ethernet2Fcs, &[0xFF, 0xFF, 0xFF, 0xFF, 0xFF, 0xFF, 0x02, 0x00, 0x00, 0x00, 0x00, 0x01, 0x08, 0x00, 0x11, 0x22, 0x33, 0x44]),
-    // Nothing behind the ether type of IPv4.
+    // Nothing after the ether type of IPv4.
     (Start::EtherType(EtherType::IPV4), &[]),
 ];
 
@@ -91,10 +91,14 @@ fn the_example(rt: HostRuntime) {
         0x23, 0x08, 0x00, 0x45,
     ];
     let found = summary(Start::Ethernet2, &frame);
-    assert_eq!(rt; found.units, 2);
-    assert_eq!(rt; (found.rest_start, found.rest_end), (18, 19));
-    assert_eq!(rt; found.kind, RestKind::EtherType(EtherType::IPV4));
-    assert_eq!(rt; found.fault, None);
+    assert_eq!(rt;
+        (found.units, found.rest_start, found.rest_end),
+        (2, 18, 19)
+    );
+    assert_eq!(rt;
+        (found.kind, found.fault),
+        (RestKind::EtherType(EtherType::IPV4), None)
+    );
 }
 
 #[test]
@@ -125,8 +129,8 @@ fn a_cut_is_the_summary_of_the_first_bytes(rt: HostRuntime) {
 fn cuts_of_a_vlan_tag_in_a_closed_macsec_window(rt: HostRuntime) {
     for n in 0..6 {
         let found = snap(MACSEC, &NAMED, n);
-        assert_eq!(rt; found.units, 0);
-        assert_eq!(rt; found.fault, open(len_error(6, n, Layer::MacsecHeader, 0)));
+        let refused = open(len_error(6, n, Layer::MacsecHeader, 0));
+        assert_eq!(rt; (found.units, found.fault), (0, refused));
     }
     for n in 6..8 {
         let found = snap(MACSEC, &NAMED, n);
@@ -154,15 +158,14 @@ fn cuts_of_a_vlan_tag_in_a_closed_macsec_window(rt: HostRuntime) {
 #[test]
 fn cuts_of_an_arp_request_with_padding(rt: HostRuntime) {
     let short = snap(Start::Ethernet2, &PADDED_ARP, 21);
-    assert_eq!(rt; short.units, 1);
-    assert_eq!(rt; short.fault, open(len_error(8, 7, Layer::Arp, 14)));
+    let fixed = len_error(8, 7, Layer::Arp, 14);
+    assert_eq!(rt; (short.units, short.fault), (1, open(fixed)));
     let addresses = LenError {
         len_source: LenSource::ArpAddrLengths,
         ..len_error(28, 27, Layer::Arp, 14)
     };
     let cut = snap(Start::Ethernet2, &PADDED_ARP, 41);
-    assert_eq!(rt; cut.units, 1);
-    assert_eq!(rt; cut.fault, open(addresses));
+    assert_eq!(rt; (cut.units, cut.fault), (1, open(addresses)));
     for n in [42, 50] {
         let whole = Summary {
             units: 2,
@@ -181,9 +184,10 @@ fn closed_windows_in_one_another(rt: HostRuntime) {
     for (start, left) in [(8, 24), (16, 16), (24, 8), (32, 0)] {
         let is_tag = matches!(peel.next(), Some(Ok(PeelUnit::Macsec(_))));
         assert!(rt; is_tag, "a SecTag before {start}");
-        assert_eq!(rt; peel.offset(), start);
-        assert_eq!(rt; peel.rest().len(), left);
-        assert!(rt; peel.closed());
+        assert_eq!(rt;
+            (peel.offset(), peel.rest().len(), peel.closed()),
+            (start, left, true)
+        );
     }
     assert_eq!(rt; peel.next(), None);
     let whole = Summary {
@@ -196,7 +200,7 @@ fn closed_windows_in_one_another(rt: HostRuntime) {
     assert_eq!(rt; summary(MACSEC, &NESTED), whole);
 }
 
-/// The nested tags with another byte at a place are refused, alone and with bytes behind them, by the same fault.
+/// The nested tags with another byte at a place are refused, alone and with bytes after them, by the same fault.
 fn refuses_nested(rt: &impl Abort, place: usize, byte: u8, units: usize, fault: &PeelFault) {
     let mut bytes = [0xFF; 1032];
     bytes[..32].copy_from_slice(&NESTED);
@@ -205,14 +209,17 @@ fn refuses_nested(rt: &impl Abort, place: usize, byte: u8, units: usize, fault: 
     }
     for len in [32, 33, 64, 1032] {
         let found = summary(MACSEC, &bytes[..len]);
-        assert_eq!(rt; found.units, units, "{len} bytes");
-        assert_eq!(rt; found.fault.as_ref(), Some(fault), "{len} bytes");
-        assert_eq!(rt; fault.missing(), None);
+        assert_eq!(rt;
+            (found.units, found.fault.as_ref()),
+            (units, Some(fault)),
+            "{len} bytes"
+        );
     }
+    assert_eq!(rt; fault.missing(), None);
 }
 
 #[test]
-fn bytes_behind_a_closed_window_change_nothing(rt: HostRuntime) {
+fn bytes_after_a_closed_window_change_nothing(rt: HostRuntime) {
     let too_long = |required_len: usize, len: usize, at: usize| PeelFault {
         offset: at,
         error: PeelError::Len(LenError {
@@ -241,8 +248,7 @@ fn an_open_refusal_waits_for_its_length(rt: HostRuntime) {
         .fault
         .as_ref()
         .and_then(|fault| fault.missing());
-    assert_eq!(rt; missing(20), Some(2));
-    assert_eq!(rt; missing(21), Some(1));
+    assert_eq!(rt; (missing(20), missing(21)), (Some(2), Some(1)));
     let whole = Summary {
         units: 3,
         rest_start: 22,
@@ -264,24 +270,22 @@ fn what_is_missing_of_worked_examples(rt: HostRuntime) {
         .fault
         .as_ref()
         .and_then(|fault| fault.missing());
-    assert_eq!(rt; missing(Start::Ethernet2, &[]), Some(14));
-    assert_eq!(rt; missing(MACSEC, &NAMED[..10]), Some(2));
-    assert_eq!(rt; missing(MACSEC, &NAMED[..11]), Some(1));
-    assert_eq!(rt;
-        missing(
-            MACSEC,
-            &[0x00, 0x04, 0, 0, 0, 1, 0x81, 0x00, 0xAA, 0xBB, 0xCC, 0xDD]
-        ),
-        None
-    );
-    assert_eq!(rt; missing(MACSEC, &[0x80, 0, 0, 0, 0]), Some(1));
-    assert_eq!(rt; missing(MACSEC, &[0x80, 0, 0, 0, 0, 0]), None);
-    assert_eq!(rt;
-        missing(Start::EtherType(EtherType::ARP), &[0, 1, 8, 0, 6, 4, 0, 1]),
-        Some(20)
-    );
-    assert_eq!(rt; missing(Start::Ethernet2Fcs, &PADDED_ARP[..17]), None);
-    assert_eq!(rt; missing(Start::Ethernet2, &PADDED_ARP), None);
+    let longer_inside = [0x00, 0x04, 0, 0, 0, 1, 0x81, 0x00, 0xAA, 0xBB, 0xCC, 0xDD];
+    let arp = Start::EtherType(EtherType::ARP);
+    let rows: [(Start, &[u8], Option<usize>); 9] = [
+        (Start::Ethernet2, &[], Some(14)),
+        (MACSEC, &NAMED[..10], Some(2)),
+        (MACSEC, &NAMED[..11], Some(1)),
+        (MACSEC, &longer_inside, None),
+        (MACSEC, &[0x80, 0, 0, 0, 0], Some(1)),
+        (MACSEC, &[0x80, 0, 0, 0, 0, 0], None),
+        (arp, &[0, 1, 8, 0, 6, 4, 0, 1], Some(20)),
+        (Start::Ethernet2Fcs, &PADDED_ARP[..17], None),
+        (Start::Ethernet2, &PADDED_ARP, None),
+    ];
+    for (start, list, len) in rows {
+        assert_eq!(rt; missing(start, list), len);
+    }
 }
 
 #[test]
@@ -291,21 +295,24 @@ fn nothing_is_missing_where_there_is_more_than_required(rt: HostRuntime) {
         error: PeelError::Len(len_error(required_len, len, Layer::Arp, 0)),
         closed,
     };
-    assert_eq!(rt; fault(3, 5, false).missing(), None);
-    assert_eq!(rt; fault(5, 5, false).missing(), None);
-    assert_eq!(rt; fault(5, 3, true).missing(), None);
-    assert_eq!(rt; fault(5, 3, false).missing(), Some(2));
+    assert_eq!(rt;
+        [
+            fault(3, 5, false).missing(),
+            fault(5, 5, false).missing(),
+            fault(5, 3, true).missing(),
+            fault(5, 3, false).missing()
+        ],
+        [None, None, None, Some(2)]
+    );
 }
 
 /// An extension by so many bytes keeps all that was found, but that an open refusal counts the bytes.
 fn keeps(rt: &impl Abort, before: &Summary, added: usize, after: &Summary) {
+    assert_eq!(rt; after.units, before.units);
     let Some(fault) = &before.fault else {
-        assert_eq!(rt; after.fault, None);
-        assert_eq!(rt; after.units, before.units);
-        assert_eq!(rt; after.kind, before.kind);
+        assert_eq!(rt; (&after.fault, after.kind), (&None, before.kind));
         return;
     };
-    assert_eq!(rt; after.units, before.units);
     match &fault.error {
         PeelError::Len(error) if !fault.closed => {
             let counted = LenError {

@@ -1,5 +1,5 @@
 //! Long frames, and the number of calls that a walk takes.
-use super::{behind, cut_short, ether_type, refuses};
+use super::{cut_short, ether_type, refuses, with_type};
 use crate::{Peel, PeelUnit, Start};
 use etherparse::LenSource;
 use etherparse::err::Layer;
@@ -7,7 +7,7 @@ use std::alloc::{AllocError, Global};
 use std::process::Abort;
 use std::test::Fail;
 
-/// So many VLAN tags one behind the other, each with its place as VID, the last of them in front of IPv4.
+/// So many VLAN tags one after the other, each with its place as VID, the last of them in front of IPv4.
 fn tags(alloc: Global, count: u16) -> Result<Vec<u8>, AllocError> {
     let mut bytes = Vec::new(alloc);
     for i in 0..count {
@@ -36,7 +36,7 @@ fn counts_tags(rt: &impl Abort, peel: &mut Peel<'_>, count: u16) {
 #[test]
 fn three_hundred_vlan_tags(rt: HostRuntime) -> Result<(), Fail> {
     let list = tags(rt.alloc(), 300)?;
-    let mut peel = Peel::new(behind(0x88A8), &list);
+    let mut peel = Peel::new(with_type(0x88A8), &list);
     counts_tags(&rt, &mut peel, 300);
     assert!(rt; peel.next().is_none());
     assert_eq!(rt; peel.offset(), 1200);
@@ -48,14 +48,14 @@ fn three_hundred_vlan_tags(rt: HostRuntime) -> Result<(), Fail> {
 fn a_frame_of_tags_alone(rt: HostRuntime) -> Result<(), Fail> {
     let list = tags(rt.alloc(), 512)?;
     assert_eq!(rt; list.len(), 2048);
-    let mut peel = Peel::new(behind(0x8100), &list);
+    let mut peel = Peel::new(with_type(0x8100), &list);
     counts_tags(&rt, &mut peel, 512);
     assert!(rt; peel.next().is_none());
     assert_eq!(rt; peel.rest(), [].as_slice());
 
     // without its last byte the last tag is cut short
     let cut = list.get(..2047).ok_or("2047 bytes")?;
-    peel = Peel::new(behind(0x8100), cut);
+    peel = Peel::new(with_type(0x8100), cut);
     counts_tags(&rt, &mut peel, 511);
     let fault = cut_short(2044, false, 4, 3, LenSource::Slice, Layer::VlanHeader);
     refuses(
@@ -73,7 +73,7 @@ fn no_more_calls_than_a_quarter_of_the_bytes_and_two(rt: HostRuntime) -> Result<
     // a walk of tags that are cut short takes all the calls that are allowed
     let cut = [0, 0, 0x81, 0, 0, 0, 0x81, 0, 0, 0, 0x81, 0, 0];
     for len in 0..=cut.len() {
-        let mut peel = Peel::new(behind(0x8100), &cut[..len]);
+        let mut peel = Peel::new(with_type(0x8100), &cut[..len]);
         assert_eq!(rt; peel.by_ref().count() + 1, len / 4 + 2, "{len} bytes");
     }
     let list = tags(rt.alloc(), 6)?;
@@ -81,9 +81,9 @@ fn no_more_calls_than_a_quarter_of_the_bytes_and_two(rt: HostRuntime) -> Result<
         Start::Ethernet2,
         Start::Ethernet2Fcs,
         Start::LinuxSll,
-        behind(0x88E5),
-        behind(0x0806),
-        behind(0x0800),
+        with_type(0x88E5),
+        with_type(0x0806),
+        with_type(0x0800),
     ] {
         for len in 0..=list.len() {
             let mut peel = Peel::new(start, &list[..len]);

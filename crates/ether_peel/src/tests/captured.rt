@@ -100,7 +100,7 @@ fn a_frame_with_integrity_protection(rt: HostRuntime) {
         ether_type: Some(0x0800),
     };
     gives(&rt, &mut peel, &tag);
-    // the ICV is the last 16 bytes, behind the payload
+    // the ICV is the last 16 bytes, after the payload
     let rest = &INTEGRITY[30..70];
     ends(&rt, &mut peel, 30, rest, &ether_type(0x0800), true);
 }

@@ -3,14 +3,28 @@
 mod generated;
 
 use super::limits::{fed, snapped, summed, walker, written};
-use super::{behind, shown};
+use super::{shown, with_type};
 use crate::plain::{PlainEnding, PlainExpected, PlainRefusal, walk};
 use crate::test_frames::{ARP_REQUEST, CHECKED, COOKED, NAMED, SEALED, SECOND_TAG_CUT, TAGGED};
-use crate::{Feed, PeelError, PeelFault, PeelUnit, RestKind, Start, Summary};
+use crate::{Feed, Peel, PeelError, PeelFault, PeelUnit, RestKind, Start, Summary};
 use etherparse::err::{self, LenError};
 use etherparse::{ArpHardwareId, EtherType, LinuxSllProtocolType};
+use std::fmt::Debug;
 use std::process::Abort;
 use std::test::Fail;
+
+/// A frame, the header that it starts with, and the limit on extensions.
+#[derive(Clone, Copy, Debug)]
+struct Case<'a> {
+    start: Start,
+    frame: &'a [u8],
+    limit: Option<usize>,
+}
+
+/// Fails if the two differ, and says in which case.
+fn same<R: Abort, T: PartialEq + Debug + Drop>(rt: &R, case: Case<'_>, found: T, expected: T) {
+    assert_eq!(rt; found, expected, "{case:?}");
+}
 
 /// The bytes of the ether types that announce a unit, and a few others.
 const LETTERS: [u8; 9] = [0x00, 0x01, 0x08, 0x0C, 0x81, 0x88, 0xA8, 0xE5, 0x06];
@@ -53,12 +67,12 @@ fn all_beginnings_of_sec_tags_and_arp_packets(rt: HostRuntime) -> Result<(), Fai
         let sec_tag = [
             a, b, 0, 0, 0, 1, c, d, 0x81, 0x00, 0x08, 0x06, 0, 7, c, d, 0, 0, 0, 0,
         ];
-        compare(&rt, behind(0x88E5), &sec_tag)?;
-        compare(&rt, behind(0x88E5), &sec_tag[..11])?;
+        compare(&rt, with_type(0x88E5), &sec_tag)?;
+        compare(&rt, with_type(0x88E5), &sec_tag[..11])?;
         let arp = [
             0, 1, 8, 0, a, b, c, d, 1, 2, 3, 4, 5, 6, 7, 8, 9, 10, 11, 12,
         ];
-        compare(&rt, behind(0x0806), &arp)?;
+        compare(&rt, with_type(0x0806), &arp)?;
     }
     Ok(())
 }
@@ -99,6 +113,11 @@ fn compare_walks<R: Abort + AllocGlobal>(
     frame: &[u8],
     limit: Option<usize>,
 ) -> Result<(), Fail> {
+    let case = Case {
+        start,
+        frame,
+        limit,
+    };
     let plain = walk(rt.alloc(), start, frame, limit)?;
     let mut cleared = Vec::new(rt.alloc());
     cleared.extend_from_slice(frame)?;
@@ -106,85 +125,70 @@ fn compare_walks<R: Abort + AllocGlobal>(
     for header in &plain.headers {
         let second = peel.offset().saturating_add(1);
         let Some(Ok(unit)) = peel.next() else {
-            panic!(rt; "{header:?} in {limit:?} {start:?} {frame:?}");
+            panic!(rt; "{header:?} in {case:?}");
         };
-        assert_eq!(rt; shown(&unit), *header, "{limit:?} {start:?} {frame:?}");
+        same(rt, case, shown(&unit), *header);
         if let (PeelUnit::Macsec(_), Some(byte)) = (&unit, cleared.get_mut(second)) {
             *byte %= 64;
         }
     }
-    let ending = plain.ending;
+    compare_ends(rt, case, peel, plain.ending);
+    compare_counts(rt, case, plain.headers.len(), plain.ending);
+    writes_back(rt, case, cleared.get(..plain.ending.window.end))
+}
+
+/// The walk after its units: the fault or nothing, then nothing, and the window that is left.
+fn compare_ends<R: Abort>(rt: &R, case: Case<'_>, mut peel: Peel<'_>, ending: PlainEnding) {
     let window = ending.window;
-    assert_eq!(rt;
-        peel.next(),
-        last_item(ending),
-        "{limit:?} {start:?} {frame:?}"
+    same(rt, case, peel.next(), last_item(ending));
+    assert!(rt; peel.next().is_none(), "{case:?}");
+    let left = case.frame.get(window.start..window.end);
+    same(rt, case, Some(peel.rest()), left);
+    same(
+        rt,
+        case,
+        (peel.offset(), peel.closed(), peel.bound()),
+        (window.start, window.closed, window.bound),
     );
-    assert!(rt; peel.next().is_none(), "{limit:?} {start:?} {frame:?}");
-    let left = frame.get(window.start..window.end);
-    assert_eq!(rt; Some(peel.rest()), left, "{limit:?} {start:?} {frame:?}");
-    assert_eq!(rt;
-        peel.offset(),
-        window.start,
-        "{limit:?} {start:?} {frame:?}"
-    );
-    assert_eq!(rt;
-        peel.closed(),
-        window.closed,
-        "{limit:?} {start:?} {frame:?}"
-    );
-    assert_eq!(rt; peel.bound(), window.bound, "{limit:?} {start:?} {frame:?}");
-    assert_eq!(rt;
-        peel.kind(),
-        kind_of(ending.expected),
-        "{limit:?} {start:?} {frame:?}"
-    );
+    same(rt, case, peel.kind(), kind_of(ending.expected));
+}
+
+/// The summary, and what is asked for while the frame arrives byte by byte.
+fn compare_counts<R: Abort>(rt: &R, case: Case<'_>, units: usize, ending: PlainEnding) {
+    let Case {
+        start,
+        frame,
+        limit,
+    } = case;
     let counted = Summary {
-        units: plain.headers.len(),
-        rest_start: window.start,
-        rest_end: window.end,
+        units,
+        rest_start: ending.window.start,
+        rest_end: ending.window.end,
         kind: kind_of(ending.expected),
         fault: fault_of(ending),
     };
-    assert_eq!(rt;
-        summed(start, frame, limit),
-        counted,
-        "{limit:?} {start:?} {frame:?}"
-    );
-    assert_eq!(rt;
-        fed(start, frame, limit),
-        fed_by_fronts(start, frame, limit),
-        "{limit:?} {start:?} {frame:?}"
-    );
-    writes_back(rt, start, frame, limit, cleared.get(..window.end))
+    same(rt, case, summed(start, frame, limit), counted);
+    let by_fronts = fed_by_fronts(start, frame, limit);
+    same(rt, case, fed(start, frame, limit), by_fronts);
 }
 
-/// The headers of a frame and what is left are written back as this list; what stands behind it in the target stays.
+/// The headers of a frame and what is left are written back as this list; what follows it in the target stays.
 fn writes_back<R: Abort + AllocGlobal>(
     rt: &R,
-    start: Start,
-    frame: &[u8],
-    limit: Option<usize>,
+    case: Case<'_>,
     front: Option<&[u8]>,
 ) -> Result<(), Fail> {
     let mut target = Vec::new(rt.alloc());
-    target.extend_from_slice(frame)?;
+    target.extend_from_slice(case.frame)?;
     target.push(0)?;
     for byte in &mut target {
         *byte = 0x5A;
     }
-    let end = written(start, frame, &mut target, limit).ok();
-    assert_eq!(rt;
-        end,
-        front.map(|front| front.len()),
-        "{limit:?} {start:?} {frame:?}"
-    );
+    let end = written(case.start, case.frame, &mut target, case.limit).ok();
+    same(rt, case, end, front.map(|front| front.len()));
     let (written, rest) = target.split_at(end.unwrap_or(0).min(target.len()));
-    assert_eq!(rt; Some(written), front, "{limit:?} {start:?} {frame:?}");
-    assert!(rt;
-        rest.iter().all(|byte| *byte == 0x5A),
-        "{limit:?} {start:?} {frame:?}"
-    );
+    assert!(rt; Some(written) == front, "{case:?}");
+    assert!(rt; rest.iter().all(|byte| *byte == 0x5A), "{case:?}");
     Ok(())
 }
 
@@ -238,7 +242,7 @@ fn kind_of(expected: PlainExpected) -> RestKind {
     }
 }
 
-/// The walker's item behind the units: the fault, if there is one.
+/// The walker's item after the units: the fault, if there is one.
 fn last_item<'a>(ending: PlainEnding) -> Option<Result<PeelUnit<'a>, PeelFault>> {
     let fault = fault_of(ending)?;
     Some(Err(fault))

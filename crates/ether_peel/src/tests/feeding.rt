@@ -1,5 +1,5 @@
 //! What a walk asks for that is given a frame by and by.
-use super::{behind, content, cut_short};
+use super::{content, cut_short, with_type};
 use crate::test_frames::{CHECKED, NAMED, NESTED, PADDED_ARP, SECOND_TAG_CUT};
 use crate::{Feed, PeelError, PeelFault, Start, feed};
 use etherparse::LenSource;
@@ -45,7 +45,7 @@ fn a_sec_tag_with_its_payload(rt: HostRuntime) {
         0x06, 0x00, 0x00, 0x00, 0x01, 0x81, 0x00, 0xAA, 0xBB, 0xCC, 0xDD, 0xEE, 0xEE,
     ];
     feeds(&rt, Start::Ethernet2, &frame, 4, 26, None);
-    feeds(&rt, behind(MACSEC), &NAMED, 3, 12, None);
+    feeds(&rt, with_type(MACSEC), &NAMED, 3, 12, None);
 }
 
 #[test]
@@ -73,15 +73,15 @@ fn a_tag_cut_short_in_a_closed_window(rt: HostRuntime) {
         LenSource::MacsecShortLength,
         Layer::VlanHeader,
     );
-    feeds(&rt, behind(MACSEC), &frame, 3, 10, Some(fault));
-    feeds(&rt, behind(MACSEC), &NESTED, 3, 32, None);
+    feeds(&rt, with_type(MACSEC), &frame, 3, 10, Some(fault));
+    feeds(&rt, with_type(MACSEC), &NESTED, 3, 32, None);
 }
 
 #[test]
 fn contents_that_are_refused(rt: HostRuntime) {
     let fault = content(0, false, PeelError::Macsec(HeaderError::UnexpectedVersion));
     let frame = [0x80, 0x00, 0x00, 0x00, 0x00, 0x00];
-    feeds(&rt, behind(MACSEC), &frame, 1, 6, Some(fault));
+    feeds(&rt, with_type(MACSEC), &frame, 1, 6, Some(fault));
 }
 
 #[test]
@@ -92,7 +92,7 @@ fn a_frame_with_a_check_sequence(rt: HostRuntime) {
 
 #[test]
 fn no_bytes(rt: HostRuntime) {
-    feeds(&rt, behind(0x0800), &[], 0, 0, None);
+    feeds(&rt, with_type(0x0800), &[], 0, 0, None);
     let fault = cut_short(0, false, 14, 0, LenSource::Slice, Layer::Ethernet2Header);
     feeds(&rt, Start::Ethernet2, &[], 0, 0, Some(fault));
 }

@@ -1,7 +1,7 @@
 //! Walks that read no more VLAN tags and SecTags than a limit.
 ghost use Rattle.std.specs.Prelude.{◌≤◌, length};
 
-use super::{behind, cut_short, ether_type};
+use super::{cut_short, ether_type, with_type};
 use crate::test_frames::{
     ADDRESSES, NAMED, NESTED, PADDED_ARP, SEALED, SECOND_TAG_CUT, TAGGED, TWICE_TAGGED_ARP_REQUEST,
 };
@@ -185,7 +185,7 @@ fn a_second_tag_that_is_cut_short(rt: HostRuntime) {
 
 #[test]
 fn sec_tags_count(rt: HostRuntime) {
-    let macsec = behind(0x88E5);
+    let macsec = with_type(0x88E5);
     ends(
         &rt,
         macsec,
@@ -230,10 +230,10 @@ fn arp_packets_do_not_count(rt: HostRuntime) {
 #[test]
 fn a_tag_beyond_the_limit_is_written_as_it_is(rt: HostRuntime) {
     let mut target = [0; 15];
-    let end = write_back_limited(behind(0x88E5), &SEALED, &mut target, 0);
+    let end = write_back_limited(with_type(0x88E5), &SEALED, &mut target, 0);
     assert_eq!(rt; end, Ok(15));
     assert_eq!(rt; target, SEALED);
-    let end = write_back_limited(behind(0x88E5), &SEALED, &mut target, 1);
+    let end = write_back_limited(with_type(0x88E5), &SEALED, &mut target, 1);
     assert_eq!(rt; end, Ok(15));
     assert_eq!(rt; target[1], 0x00);
 }

@@ -1,7 +1,7 @@
 //! Faults with all their fields, and what is left where they come.
 use super::{
-    behind, broadcast, content, cut_short, ends, ether_type, gives, is_left, joined, readable,
-    refuses, vlan,
+    broadcast, content, cut_short, ends, ether_type, gives, is_left, joined, readable, refuses,
+    vlan, with_type,
 };
 use crate::test_frames::{ADDRESSES, COOKED, COOKED_GRE, NAMED, SECOND_TAG_CUT, TAGGED};
 use crate::{Peel, PeelError, PeelFault, RestKind, Start};
@@ -107,7 +107,7 @@ fn a_named_payload_that_is_not_there(rt: HostRuntime) {
         let fault = cut_short(0, false, 12, len, source, Layer::MacsecPacket);
         is_refused(
             &rt,
-            behind(0x88E5),
+            with_type(0x88E5),
             front,
             0,
             fault,
@@ -122,7 +122,7 @@ fn a_tag_cut_short_by_a_named_payload(rt: HostRuntime) {
     let list = [
         0x00, 0x04, 0x00, 0x00, 0x00, 0x01, 0x81, 0x00, 0xAA, 0xBB, 0xCC, 0xDD,
     ];
-    let mut peel = Peel::new(behind(0x88E5), &list);
+    let mut peel = Peel::new(with_type(0x88E5), &list);
     gives(&rt, &mut peel, &readable(4, 0x8100));
     is_left(&rt, &peel, 8, &[0xAA, 0xBB], &ether_type(0x8100), true);
     let fault = cut_short(
@@ -143,7 +143,7 @@ fn a_short_length_without_room_for_the_ether_type(rt: HostRuntime) {
     let fault = content(0, false, error);
     is_refused(
         &rt,
-        behind(0x88E5),
+        with_type(0x88E5),
         &list,
         0,
         fault,
@@ -160,7 +160,7 @@ fn a_version_is_refused_once_six_bytes_are_there(rt: HostRuntime) {
         let fault = cut_short(0, false, 6, len, LenSource::Slice, Layer::MacsecHeader);
         is_refused(
             &rt,
-            behind(0x88E5),
+            with_type(0x88E5),
             front,
             0,
             fault,
@@ -172,7 +172,7 @@ fn a_version_is_refused_once_six_bytes_are_there(rt: HostRuntime) {
     let fault = content(0, false, error);
     is_refused(
         &rt,
-        behind(0x88E5),
+        with_type(0x88E5),
         &list,
         0,
         fault,
@@ -191,7 +191,7 @@ fn a_sec_tag_without_its_ether_type(rt: HostRuntime) {
         let fault = cut_short(0, false, 8, len, LenSource::Slice, Layer::MacsecHeader);
         is_refused(
             &rt,
-            behind(0x88E5),
+            with_type(0x88E5),
             front,
             0,
             fault,
@@ -199,7 +199,7 @@ fn a_sec_tag_without_its_ether_type(rt: HostRuntime) {
             &ether_type(0x88E5),
         );
     }
-    let mut peel = Peel::new(behind(0x88E5), &list);
+    let mut peel = Peel::new(with_type(0x88E5), &list);
     gives(&rt, &mut peel, &readable(6, 0x8101));
     ends(&rt, &mut peel, 8, &[0; 4], &ether_type(0x8101), true);
 }
@@ -213,7 +213,7 @@ fn a_sec_tag_without_its_sci(rt: HostRuntime) {
         let fault = cut_short(0, false, required_len, 13, slice, Layer::MacsecHeader);
         is_refused(
             &rt,
-            behind(0x88E5),
+            with_type(0x88E5),
             &list,
             0,
             fault,
@@ -231,7 +231,7 @@ fn the_addresses_of_an_arp_packet_missing(rt: HostRuntime) {
         let fault = cut_short(0, false, 8, len, LenSource::Slice, Layer::Arp);
         is_refused(
             &rt,
-            behind(0x0806),
+            with_type(0x0806),
             front,
             0,
             fault,
@@ -242,7 +242,7 @@ fn the_addresses_of_an_arp_packet_missing(rt: HostRuntime) {
     let fault = cut_short(0, false, 28, 8, LenSource::ArpAddrLengths, Layer::Arp);
     is_refused(
         &rt,
-        behind(0x0806),
+        with_type(0x0806),
         &list,
         0,
         fault,
@@ -258,7 +258,7 @@ fn the_greatest_arp_packet_without_its_last_byte(rt: HostRuntime) -> Result<(), 
     let fault = cut_short(0, false, 1028, 1027, LenSource::ArpAddrLengths, Layer::Arp);
     is_refused(
         &rt,
-        behind(0x0806),
+        with_type(0x0806),
         &list,
         0,
         fault,
@@ -316,7 +316,7 @@ fn what_a_cooked_capture_is_refused_for(rt: HostRuntime) {
     );
 }
 
-/// Behind two units, from byte 22 on in a closed window, stands a third one in these bytes, and 2 bytes behind them. It is
+/// Behind two units, from byte 22 on in a closed window, stands a third one in these bytes, and 2 bytes after them. It is
 /// refused with this fault.
 fn is_refused_in_a_payload<R: Abort + AllocGlobal>(
     rt: &R,
@@ -413,14 +413,14 @@ fn each_refusal_of_a_tag_in_a_named_payload(rt: HostRuntime) -> Result<(), Fail>
 }
 
 #[test]
-fn a_refusal_behind_an_open_sec_tag_is_open(rt: HostRuntime) {
+fn a_refusal_after_an_open_sec_tag_is_open(rt: HostRuntime) {
     let list = [
         0x00, 0x00, 0x00, 0x00, 0x00, 0x01, 0x81, 0x00, 0xAA, 0xBB, 0xCC,
     ];
     let fault = cut_short(8, false, 4, 3, LenSource::Slice, Layer::VlanHeader);
     is_refused(
         &rt,
-        behind(0x88E5),
+        with_type(0x88E5),
         &list,
         1,
         fault,

@@ -1,5 +1,5 @@
 //! What bounds a window, which a length refusal in it names.
-use super::{behind, cut_short, joined};
+use super::{cut_short, joined, with_type};
 use crate::test_frames::{ADDRESSES, NAMED};
 use crate::{Peel, PeelFault, Start, summary};
 use etherparse::LenSource;
@@ -26,7 +26,7 @@ fn a_tag_cut_short_in_the_payload_of_a_sec_tag(rt: HostRuntime) {
         LenSource::MacsecShortLength,
         Layer::VlanHeader,
     );
-    is_refused(&rt, behind(MACSEC), &frame, fault);
+    is_refused(&rt, with_type(MACSEC), &frame, fault);
 }
 
 /// The addresses of a packet are still missing by the sizes that the packet itself gives.
@@ -36,13 +36,13 @@ fn an_arp_packet_cut_short_in_the_payload_of_a_sec_tag(rt: HostRuntime) {
         0x00, 0x06, 0x00, 0x00, 0x00, 0x01, 0x08, 0x06, 0x00, 0x01, 0x08, 0x00,
     ];
     let fault = cut_short(8, true, 8, 4, LenSource::MacsecShortLength, Layer::Arp);
-    is_refused(&rt, behind(MACSEC), &front, fault);
+    is_refused(&rt, with_type(MACSEC), &front, fault);
     let sizes = [
         0x00, 0x0A, 0x00, 0x00, 0x00, 0x01, 0x08, 0x06, 0x00, 0x01, 0x08, 0x00, 0x06, 0x04, 0x00,
         0x01,
     ];
     let fault = cut_short(8, true, 28, 8, LenSource::ArpAddrLengths, Layer::Arp);
-    is_refused(&rt, behind(MACSEC), &sizes, fault);
+    is_refused(&rt, with_type(MACSEC), &sizes, fault);
 }
 
 /// A check sequence closes a window, and does not bound it.
@@ -71,14 +71,14 @@ fn a_tag_cut_short_before_a_check_sequence(rt: HostRuntime) -> Result<(), Fail> 
 
 #[test]
 fn the_bound_of_what_is_left(rt: HostRuntime) {
-    let mut peel = Peel::new(behind(MACSEC), &NAMED);
+    let mut peel = Peel::new(with_type(MACSEC), &NAMED);
     assert_eq!(rt; peel.bound(), LenSource::Slice);
     assert!(rt; peel.next().is_some());
     assert_eq!(rt; peel.bound(), LenSource::MacsecShortLength);
     assert!(rt; peel.next().is_some());
     assert_eq!(rt; peel.bound(), LenSource::MacsecShortLength);
     let open = [0x00, 0x00, 0x00, 0x00, 0x00, 0x01, 0x81, 0x00, 0xAA];
-    peel = Peel::new(behind(MACSEC), &open);
+    peel = Peel::new(with_type(MACSEC), &open);
     assert!(rt; peel.next().is_some());
     assert_eq!(rt; peel.bound(), LenSource::Slice);
 }

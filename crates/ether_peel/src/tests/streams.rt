@@ -1,5 +1,5 @@
 //! A reader of a stream, which reads what the walk misses.
-use super::behind;
+use super::with_type;
 use crate::test_frames::{ARP_REPLY_FRAME, COOKED_ARP_REQUEST, NAMED, NESTED, PADDED_ARP, TAGGED};
 use crate::{Start, feed, summary};
 use std::io;
@@ -33,8 +33,8 @@ fn a_stream_is_read_up_to_the_last_unit(rt: HostRuntime) -> io::Result<()> {
         (Start::Ethernet2, &PADDED_ARP, 42),
         (Start::Ethernet2, &ARP_REPLY_FRAME, 42),
         (Start::LinuxSll, &COOKED_ARP_REQUEST, 44),
-        (behind(0x88E5), &NAMED, 12),
-        (behind(0x88E5), &NESTED, 32),
+        (with_type(0x88E5), &NAMED, 12),
+        (with_type(0x88E5), &NESTED, 32),
     ];
     for (start, frame, len) in frames {
         let mut buffer = [0; 64];

@@ -1,5 +1,7 @@
-//! The units of frames, with all their fields and what is left behind each.
-use super::{behind, broadcast, ends, ether_type, gives, is_left, joined, readable, shown, vlan};
+//! The units of frames, with all their fields and what is left after each.
+use super::{
+    broadcast, ends, ether_type, gives, is_left, joined, readable, shown, vlan, with_type,
+};
 use crate::plain::PlainHeader;
 use crate::test_frames::{
     ADDRESSES, ARP_REQUEST, CHECKED, COOKED, COOKED_GRE, NAMED, PACKET, SEALED, TAGGED,
@@ -50,7 +52,7 @@ fn a_vlan_tag_and_what_it_names(rt: HostRuntime) {
 fn each_ether_type_of_vlan_tags(rt: HostRuntime) {
     let list = [0x00, 0x05, 0x91, 0x00, 0xE0, 0x00, 0x86, 0xDD, 0x60];
     for announced in [0x8100, 0x88A8, 0x9100] {
-        let mut peel = Peel::new(behind(announced), &list);
+        let mut peel = Peel::new(with_type(announced), &list);
         gives(&rt, &mut peel, &vlan(0, 0, 5, 0x9100));
         is_left(&rt, &peel, 4, &list[4..], &ether_type(0x9100), false);
         gives(&rt, &mut peel, &vlan(7, 0, 0, 0x86DD));
@@ -64,7 +66,7 @@ fn an_ether_type_that_announces_nothing(rt: HostRuntime) {
         0x0000, 0x0026, 0x0800, 0x0807, 0x80FF, 0x88E4, 0x9101, 0xFFFF,
     ] {
         for list in [[].as_slice(), PACKET.as_slice()] {
-            let mut peel = Peel::new(behind(unread), list);
+            let mut peel = Peel::new(with_type(unread), list);
             ends(&rt, &mut peel, 0, list, &ether_type(unread), false);
         }
     }
@@ -72,7 +74,7 @@ fn an_ether_type_that_announces_nothing(rt: HostRuntime) {
 
 #[test]
 fn a_named_payload_closes_the_window(rt: HostRuntime) {
-    let mut peel = Peel::new(behind(0x88E5), &NAMED);
+    let mut peel = Peel::new(with_type(0x88E5), &NAMED);
     gives(&rt, &mut peel, &readable(6, 0x8100));
     is_left(
         &rt,
@@ -89,7 +91,7 @@ fn a_named_payload_closes_the_window(rt: HostRuntime) {
 #[test]
 fn an_encrypted_payload_ends_the_walk(rt: HostRuntime) {
     let list = [0x0C, 0x01, 0x00, 0x00, 0x00, 0x01, 0xAA, 0xBB];
-    let mut peel = Peel::new(behind(0x88E5), &list);
+    let mut peel = Peel::new(with_type(0x88E5), &list);
     let header = PlainHeader::Macsec {
         end_station: 0,
         single_copy_broadcast: 0,
@@ -114,7 +116,7 @@ fn each_payload_type_that_cant_be_read(rt: HostRuntime) {
     ];
     for (front, payload_type) in types {
         let list = [front, 0x00, 0x00, 0x00, 0x00, 0x01, 0x81, 0x00];
-        let mut peel = Peel::new(behind(0x88E5), &list);
+        let mut peel = Peel::new(with_type(0x88E5), &list);
         let Some(Ok(PeelUnit::Macsec(packet))) = peel.next() else {
             panic!(rt; "a SecTag");
         };
@@ -125,7 +127,7 @@ fn each_payload_type_that_cant_be_read(rt: HostRuntime) {
 
 #[test]
 fn a_sec_tag_with_an_sci_and_no_length(rt: HostRuntime) {
-    let mut peel = Peel::new(behind(0x88E5), &SEALED);
+    let mut peel = Peel::new(with_type(0x88E5), &SEALED);
     let header = PlainHeader::Macsec {
         end_station: 0,
         single_copy_broadcast: 0,
@@ -227,7 +229,7 @@ fn a_cooked_capture_goes_on_with_its_ether_type(rt: HostRuntime) -> Result<(), F
 }
 
 #[test]
-fn the_padding_behind_an_arp_packet(rt: HostRuntime) -> Result<(), Fail> {
+fn the_padding_after_an_arp_packet(rt: HostRuntime) -> Result<(), Fail> {
     let frame = joined(
         rt.alloc(),
         &[&ADDRESSES, &[0x08, 0x06], &ARP_REQUEST, &[0; 18]],
@@ -246,7 +248,7 @@ fn arp_packets_of_the_greatest_and_the_least_size(rt: HostRuntime) -> Result<(),
     let greatest = joined(rt.alloc(), &[&front, &[7; 1020]])?;
     let least = [0x00, 0x01, 0x08, 0x00, 0x00, 0x00, 0x00, 0x02];
     for (list, size) in [(greatest.as_slice(), 255), (least.as_slice(), 0)] {
-        let mut peel = Peel::new(behind(0x0806), list);
+        let mut peel = Peel::new(with_type(0x0806), list);
         let Some(Ok(PeelUnit::Arp(packet))) = peel.next() else {
             panic!(rt; "an ARP packet");
         };
@@ -287,7 +289,7 @@ fn a_closed_window_in_a_closed_window(rt: HostRuntime) {
         0x00, 0x10, 0x00, 0x00, 0x00, 0x01, 0x88, 0xE5, 0x00, 0x06, 0x00, 0x00, 0x00, 0x01, 0x81,
         0x00, 0x00, 0x07, 0x08, 0x00, 0xEE, 0xEE, 0xFF,
     ];
-    let mut peel = Peel::new(behind(0x88E5), &list);
+    let mut peel = Peel::new(with_type(0x88E5), &list);
     gives(&rt, &mut peel, &readable(16, 0x88E5));
     is_left(&rt, &peel, 8, &list[8..22], &ether_type(0x88E5), true);
     gives(&rt, &mut peel, &readable(6, 0x8100));
@@ -303,7 +305,7 @@ fn an_unnamed_length_in_a_closed_window(rt: HostRuntime) {
         0x00, 0x0C, 0x00, 0x00, 0x00, 0x01, 0x88, 0xE5, 0x00, 0x00, 0x00, 0x00, 0x00, 0x01, 0x08,
         0x00, 0x45, 0x00, 0xFF,
     ];
-    let mut peel = Peel::new(behind(0x88E5), &list);
+    let mut peel = Peel::new(with_type(0x88E5), &list);
     assert!(rt; peel.next().is_some());
     gives(&rt, &mut peel, &readable(0, 0x0800));
     ends(&rt, &mut peel, 16, &[0x45, 0x00], &ether_type(0x0800), true);

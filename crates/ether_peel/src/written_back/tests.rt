@@ -6,7 +6,7 @@ use std::test::Fail;
 /// What a target holds before.
 const OLD: u8 = 0x55;
 
-/// A SecTag with a reserved bit set, which names four bytes of payload: a VLAN tag. Two bytes stand behind it.
+/// A SecTag with a reserved bit set, which names four bytes of payload: a VLAN tag. Two bytes stand after it.
 const TAG_IN_A_CLOSED_WINDOW: [u8; 14] = [
     0x00, 0x46, 0x00, 0x00, 0x00, 0x01, 0x81, 0x00, 0xAA, 0xBB, 0xCC, 0xDD, 0xEE, 0xEE,
 ];
@@ -30,7 +30,7 @@ fn the_example(rt: HostRuntime) -> Result<(), Fail> {
 }
 
 #[test]
-fn what_stands_behind_a_closed_window_is_not_written(rt: HostRuntime) -> Result<(), Fail> {
+fn what_follows_a_closed_window_is_not_written(rt: HostRuntime) -> Result<(), Fail> {
     let mut target = [OLD; 14];
     let end = write_back(
         Start::EtherType(EtherType::MACSEC),
@@ -155,7 +155,7 @@ fn a_sec_tag_with_a_channel_identifier_without_its_reserved_bits(
 }
 
 #[test]
-fn an_arp_packet_and_the_padding_behind_it(rt: HostRuntime) -> Result<(), Fail> {
+fn an_arp_packet_and_the_padding_after_it(rt: HostRuntime) -> Result<(), Fail> {
     let mut frame = [0; 60];
     frame[..42].copy_from_slice(&[
         0xFF, 0xFF, 0xFF, 0xFF, 0xFF, 0xFF, 0x02, 0x00, 0x00, 0x00, 0x00, 0x01, 0x08, 0x06, // Ethernet II

@@ -39,18 +39,34 @@ fn asked_by(sender_hw_addr: &[u8], target_hw_addr: &[u8]) -> Result<ArpPacket, A
 fn a_packet(rt: HostRuntime) -> Result<(), Fail> {
     let packet = ArpPacket::from_slice(&REQUEST)?;
     assert_eq!(rt; packet, asked_by(&[2, 0, 0, 0, 0, 1], &[0; 6])?);
-    assert_eq!(rt; packet.hw_addr_type, ArpHardwareId::ETHERNET);
-    assert_eq!(rt; packet.proto_addr_type, EtherType::IPV4);
-    assert_eq!(rt; packet.operation, ArpOperation::REQUEST);
-    assert_eq!(rt; packet.hw_addr_size(), 6);
-    assert_eq!(rt; packet.protocol_addr_size(), 4);
+    assert_eq!(rt;
+        (
+            packet.hw_addr_type,
+            packet.proto_addr_type,
+            packet.operation
+        ),
+        (
+            ArpHardwareId::ETHERNET,
+            EtherType::IPV4,
+            ArpOperation::REQUEST
+        )
+    );
+    assert_eq!(rt;
+        (packet.hw_addr_size(), packet.protocol_addr_size()),
+        (6, 4)
+    );
+    assert_eq!(rt; (packet.packet_len(), ArpPacket::MAX_LEN), (28, 1028));
+    assert_eq!(rt; packet.to_bytes().as_slice(), REQUEST.as_slice());
+    Ok(())
+}
+
+#[test]
+fn the_addresses_of_a_packet(rt: HostRuntime) -> Result<(), Fail> {
+    let packet = ArpPacket::from_slice(&REQUEST)?;
     assert_eq!(rt; packet.sender_hw_addr(), [2, 0, 0, 0, 0, 1].as_slice());
     assert_eq!(rt; packet.sender_protocol_addr(), [10, 0, 0, 1].as_slice());
     assert_eq!(rt; packet.target_hw_addr(), [0; 6].as_slice());
     assert_eq!(rt; packet.target_protocol_addr(), [10, 0, 0, 2].as_slice());
-    assert_eq!(rt; packet.packet_len(), 28);
-    assert_eq!(rt; packet.to_bytes().as_slice(), REQUEST.as_slice());
-    assert_eq!(rt; ArpPacket::MAX_LEN, 1028);
     Ok(())
 }
 
@@ -74,40 +90,66 @@ fn other_addresses(rt: HostRuntime) -> Result<(), Fail> {
 #[test]
 fn a_view_of_a_packet(rt: HostRuntime) -> Result<(), Fail> {
     let view = ArpPacketSlice::from_slice(&REQUEST)?;
-    assert_eq!(rt; view.slice(), REQUEST.as_slice());
-    assert_eq!(rt; view.hw_addr_type(), ArpHardwareId::ETHERNET);
-    assert_eq!(rt; view.proto_addr_type(), EtherType::IPV4);
-    assert_eq!(rt; view.hw_addr_size(), 6);
-    assert_eq!(rt; view.proto_addr_size(), 4);
-    assert_eq!(rt; view.operation(), ArpOperation::REQUEST);
-    assert_eq!(rt; view.sender_hw_addr(), [2, 0, 0, 0, 0, 1].as_slice());
-    assert_eq!(rt; view.sender_protocol_addr(), [10, 0, 0, 1].as_slice());
-    assert_eq!(rt; view.target_hw_addr(), [0; 6].as_slice());
-    assert_eq!(rt; view.target_protocol_addr(), [10, 0, 0, 2].as_slice());
-    assert_eq!(rt; view.to_packet(), ArpPacket::from_slice(&REQUEST)?);
     assert_eq!(rt;
-        ArpPacketSlice::from_slice(&REQUEST[..8]).err(),
-        Some(LenError {
-            required_len: 28,
-            len: 8,
-            len_source: LenSource::ArpAddrLengths,
-            layer: Layer::Arp,
-            layer_start_offset: 0,
-        })
+        (
+            view.hw_addr_type(),
+            view.proto_addr_type(),
+            view.operation()
+        ),
+        (
+            ArpHardwareId::ETHERNET,
+            EtherType::IPV4,
+            ArpOperation::REQUEST
+        )
     );
+    assert_eq!(rt; (view.hw_addr_size(), view.proto_addr_size()), (6, 4));
+    assert_eq!(rt; view.slice(), REQUEST.as_slice());
+    assert_eq!(rt; view.to_packet(), ArpPacket::from_slice(&REQUEST)?);
     Ok(())
 }
 
 #[test]
-fn a_packet_of_ethernet_and_ipv4(rt: HostRuntime) -> Result<(), Fail> {
-    assert_eq!(rt; QUESTION.to_bytes(), REQUEST);
-    assert_eq!(rt; ArpEthIpv4Packet::LEN, 28);
-    assert_eq!(rt; QUESTION.sender_ipv4_addr(), Ipv4Addr::new(10, 0, 0, 1));
-    assert_eq!(rt; QUESTION.target_ipv4_addr(), Ipv4Addr::new(10, 0, 0, 2));
+fn the_addresses_of_a_view(rt: HostRuntime) -> Result<(), Fail> {
+    let view = ArpPacketSlice::from_slice(&REQUEST)?;
+    assert_eq!(rt; view.sender_hw_addr(), [2, 0, 0, 0, 0, 1].as_slice());
+    assert_eq!(rt; view.sender_protocol_addr(), [10, 0, 0, 1].as_slice());
+    assert_eq!(rt; view.target_hw_addr(), [0; 6].as_slice());
+    assert_eq!(rt; view.target_protocol_addr(), [10, 0, 0, 2].as_slice());
+    Ok(())
+}
+
+#[test]
+fn a_packet_without_its_addresses(rt: HostRuntime) {
+    let refused = LenError {
+        required_len: 28,
+        len: 8,
+        len_source: LenSource::ArpAddrLengths,
+        layer: Layer::Arp,
+        layer_start_offset: 0,
+    };
+    assert_eq!(rt;
+        ArpPacketSlice::from_slice(&REQUEST[..8]).err(),
+        Some(refused)
+    );
+}
+
+#[test]
+fn a_packet_of_ethernet_and_ipv4(rt: HostRuntime) {
+    assert_eq!(rt; (QUESTION.to_bytes(), ArpEthIpv4Packet::LEN), (REQUEST, 28));
+    assert_eq!(rt;
+        (QUESTION.sender_ipv4_addr(), QUESTION.target_ipv4_addr()),
+        (Ipv4Addr::new(10, 0, 0, 1), Ipv4Addr::new(10, 0, 0, 2))
+    );
+}
+
+#[test]
+fn packets_of_either_type(rt: HostRuntime) -> Result<(), Fail> {
     let packet = ArpPacket::from(QUESTION);
     assert_eq!(rt; packet, QUESTION.to_arp_packet());
-    assert_eq!(rt; packet.try_eth_ipv4(), Ok(QUESTION));
-    assert_eq!(rt; ArpEthIpv4Packet::try_from(packet), Ok(QUESTION));
+    assert_eq!(rt;
+        (packet.try_eth_ipv4(), ArpEthIpv4Packet::try_from(packet)),
+        (Ok(QUESTION), Ok(QUESTION))
+    );
     assert_eq!(rt;
         asked_by(&[0; 8], &[0; 8])?.try_eth_ipv4(),
         Err(ArpEthIpv4FromError::NonMatchingHwAddrSize(8))

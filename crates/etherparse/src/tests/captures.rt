@@ -33,15 +33,19 @@ fn sll_ipv4() -> LinuxSllPayloadSlice<'static> {
 #[test]
 fn a_cooked_capture_header(rt: HostRuntime) {
     let bytes = HEADER.to_bytes();
-    assert_eq!(rt; bytes.as_slice(), &CAPTURE[..LinuxSllHeader::LEN]);
-    assert_eq!(rt; LinuxSllHeader::from_bytes(bytes), Ok(HEADER));
-    assert_eq!(rt; HEADER.header_len(), 16);
-    let rest = [0xAA].as_slice();
-    assert_eq!(rt; LinuxSllHeader::from_slice(&CAPTURE), Ok((HEADER, rest)));
     assert_eq!(rt;
-        LinuxSllHeader::from_slice(&CAPTURE[..15]),
-        Err(linux_sll::HeaderSliceError::Len(cut_short(16, 15, Layer::LinuxSllHeader)))
+        (bytes.as_slice(), HEADER.header_len()),
+        (&CAPTURE[..LinuxSllHeader::LEN], 16)
     );
+    assert_eq!(rt;
+        (
+            LinuxSllHeader::from_bytes(bytes),
+            LinuxSllHeader::from_slice(&CAPTURE)
+        ),
+        (Ok(HEADER), Ok((HEADER, [0xAA].as_slice())))
+    );
+    let refused = linux_sll::HeaderSliceError::Len(cut_short(16, 15, Layer::LinuxSllHeader));
+    assert_eq!(rt; LinuxSllHeader::from_slice(&CAPTURE[..15]), Err(refused));
 }
 
 #[test]
@@ -66,73 +70,115 @@ fn a_cooked_capture_header_written_to_a_slice(rt: HostRuntime) -> Result<(), Fai
 #[test]
 fn a_view_of_a_cooked_capture_header(rt: HostRuntime) -> Result<(), Fail> {
     let view = LinuxSllHeaderSlice::from_slice(&CAPTURE)?;
-    assert_eq!(rt; view.slice(), &CAPTURE[..16]);
-    assert_eq!(rt; view.packet_type(), LinuxSllPacketType::HOST);
-    assert_eq!(rt; view.arp_hardware_type(), ArpHardwareId::ETHERNET);
-    assert_eq!(rt; view.sender_address_valid_length(), 255);
-    assert_eq!(rt; view.sender_address_full(), [2, 0, 0, 0, 0, 1, 0, 0]);
-    assert_eq!(rt; view.sender_address(), [2, 0, 0, 0, 0, 1, 0, 0].as_slice());
-    assert_eq!(rt; u16::from(view.protocol_type()), 1);
-    assert_eq!(rt; view.to_header(), HEADER);
+    assert_eq!(rt;
+        (
+            view.packet_type(),
+            view.arp_hardware_type(),
+            view.sender_address_valid_length()
+        ),
+        (LinuxSllPacketType::HOST, ArpHardwareId::ETHERNET, 255)
+    );
+    let address = [2, 0, 0, 0, 0, 1, 0, 0];
+    assert_eq!(rt;
+        (
+            view.sender_address_full(),
+            view.sender_address(),
+            u16::from(view.protocol_type())
+        ),
+        (address, address.as_slice(), 1)
+    );
+    assert_eq!(rt; (view.slice(), view.to_header()), (&CAPTURE[..16], HEADER));
     Ok(())
 }
 
 #[test]
 fn a_view_of_a_cooked_capture(rt: HostRuntime) -> Result<(), Fail> {
     let view = LinuxSllSlice::from_slice(&CAPTURE)?;
-    assert_eq!(rt; view.slice(), CAPTURE.as_slice());
-    assert_eq!(rt; view.header_slice(), &CAPTURE[..16]);
-    assert_eq!(rt; view.header_len(), 16);
-    assert_eq!(rt; view.packet_type(), LinuxSllPacketType::HOST);
-    assert_eq!(rt; view.arp_hardware_type(), ArpHardwareId::ETHERNET);
-    assert_eq!(rt; view.sender_address_valid_length(), 255);
-    assert_eq!(rt; view.sender_address_full(), [2, 0, 0, 0, 0, 1, 0, 0]);
-    assert_eq!(rt; view.sender_address().len(), 8);
-    assert_eq!(rt; u16::from(view.protocol_type()), 1);
+    assert_eq!(rt;
+        (
+            view.packet_type(),
+            view.arp_hardware_type(),
+            view.sender_address_valid_length()
+        ),
+        (LinuxSllPacketType::HOST, ArpHardwareId::ETHERNET, 255)
+    );
+    let address = [2, 0, 0, 0, 0, 1, 0, 0];
+    assert_eq!(rt;
+        (
+            view.sender_address_full(),
+            view.sender_address(),
+            u16::from(view.protocol_type())
+        ),
+        (address, address.as_slice(), 1)
+    );
     assert_eq!(rt; view.to_header(), HEADER);
-    assert_eq!(rt; view.payload_slice(), [0xAA].as_slice());
-    assert_eq!(rt; view.payload().payload, [0xAA].as_slice());
+    Ok(())
+}
+
+#[test]
+fn the_bytes_of_a_cooked_capture(rt: HostRuntime) -> Result<(), Fail> {
+    let view = LinuxSllSlice::from_slice(&CAPTURE)?;
+    assert_eq!(rt;
+        (view.slice(), view.header_slice(), view.header_len()),
+        (CAPTURE.as_slice(), &CAPTURE[..16], 16)
+    );
+    assert_eq!(rt;
+        (view.payload_slice(), view.payload().payload),
+        ([0xAA].as_slice(), [0xAA].as_slice())
+    );
     Ok(())
 }
 
 #[test]
 fn payloads_of_either_kind(rt: HostRuntime) {
     assert_eq!(rt; LinuxSllPayloadSlice::from(ipv4()), sll_ipv4());
-    assert_eq!(rt; EtherPayloadSlice::try_from(sll_ipv4()), Ok(ipv4()));
     let netlink = LinuxSllPayloadSlice {
         protocol_type: LinuxSllProtocolType::NetlinkProtocolType(1),
         payload: &[0x45],
     };
-    assert_eq!(rt; EtherPayloadSlice::try_from(netlink), Err(()));
+    assert_eq!(rt;
+        (
+            EtherPayloadSlice::try_from(sll_ipv4()),
+            EtherPayloadSlice::try_from(netlink)
+        ),
+        (Ok(ipv4()), Err(()))
+    );
 }
 
 #[test]
-fn the_header_of_a_link(rt: HostRuntime) {
+fn the_header_of_a_capture(rt: HostRuntime) {
     let mut link = LinkHeader::LinuxSll(HEADER);
-    assert_eq!(rt; link.header_len(), 16);
-    assert_eq!(rt; link.linux_sll(), Some(HEADER));
-    assert_eq!(rt; link.ethernet2(), None);
+    assert_eq!(rt;
+        (link.header_len(), link.linux_sll(), link.ethernet2()),
+        (16, Some(HEADER), None)
+    );
     if let Some(header) = link.mut_linux_sll() {
         header.packet_type = LinuxSllPacketType::OUTGOING;
     }
     assert_ne!(rt; link.linux_sll(), Some(HEADER));
-    let frame = Ethernet2Header {
+}
+
+#[test]
+fn the_header_of_a_frame(rt: HostRuntime) {
+    let ipv4 = Ethernet2Header {
         ether_type: EtherType::IPV4,
         ..Ethernet2Header::default()
     };
-    link = LinkHeader::Ethernet2(Ethernet2Header::default());
+    let mut link = LinkHeader::Ethernet2(Ethernet2Header::default());
     if let Some(header) = link.mut_ethernet2() {
         header.ether_type = EtherType::IPV4;
     }
-    assert_eq!(rt; link, LinkHeader::Ethernet2(frame));
+    assert_eq!(rt; link, LinkHeader::Ethernet2(ipv4));
 }
 
 #[test]
 fn a_link_with_a_header(rt: HostRuntime) -> Result<(), Fail> {
     let bytes = [0, 0, 0, 0, 0, 0, 0, 0, 0, 0, 0, 0, 0x08, 0x00, 0x45];
     let frame = LinkSlice::Ethernet2(Ethernet2Slice::from_slice_without_fcs(&bytes)?);
-    assert_eq!(rt; frame.ether_payload(), Some(ipv4()));
-    assert_eq!(rt; frame.sll_payload(), sll_ipv4());
+    assert_eq!(rt;
+        (frame.ether_payload(), frame.sll_payload()),
+        (Some(ipv4()), sll_ipv4())
+    );
     let capture = LinkSlice::LinuxSll(LinuxSllSlice::from_slice(&CAPTURE)?);
     assert_eq!(rt; capture.to_header(), Some(LinkHeader::LinuxSll(HEADER)));
     Ok(())
@@ -141,9 +187,13 @@ fn a_link_with_a_header(rt: HostRuntime) -> Result<(), Fail> {
 #[test]
 fn a_link_without_a_header(rt: HostRuntime) {
     let ether = LinkSlice::EtherPayload(ipv4());
-    assert_eq!(rt; ether.to_header(), None);
-    assert_eq!(rt; ether.sll_payload(), sll_ipv4());
+    assert_eq!(rt;
+        (ether.to_header(), ether.sll_payload()),
+        (None, sll_ipv4())
+    );
     let sll = LinkSlice::LinuxSllPayload(sll_ipv4());
-    assert_eq!(rt; sll.to_header(), None);
-    assert_eq!(rt; sll.ether_payload(), Some(ipv4()));
+    assert_eq!(rt;
+        (sll.to_header(), sll.ether_payload()),
+        (None, Some(ipv4()))
+    );
 }

@@ -56,13 +56,26 @@ fn tag() -> Result<SingleVlanHeader, Fail> {
 #[test]
 fn an_ethernet_header(rt: HostRuntime) -> Result<(), Fail> {
     let bytes = HEADER.to_bytes();
-    assert_eq!(rt; bytes.as_slice(), &FRAME[..Ethernet2Header::LEN]);
+    assert_eq!(rt;
+        (bytes.as_slice(), HEADER.header_len()),
+        (&FRAME[..14], Ethernet2Header::LEN)
+    );
     assert_eq!(rt; Ethernet2Header::from_bytes(bytes), HEADER);
-    assert_eq!(rt; HEADER.header_len(), Ethernet2Header::SERIALIZED_SIZE);
-    assert_eq!(rt; Ethernet2Header::default().to_bytes(), [0; 14]);
+    assert_eq!(rt;
+        (
+            Ethernet2Header::default().to_bytes(),
+            Ethernet2Header::SERIALIZED_SIZE
+        ),
+        ([0; 14], 14)
+    );
     let rest = &FRAME[14..];
-    assert_eq!(rt; Ethernet2Header::from_slice(&FRAME)?, (HEADER, rest));
-    assert_eq!(rt; Ethernet2Header::read_from_slice(&FRAME)?, (HEADER, rest));
+    assert_eq!(rt;
+        (
+            Ethernet2Header::from_slice(&FRAME)?,
+            Ethernet2Header::read_from_slice(&FRAME)?
+        ),
+        ((HEADER, rest), (HEADER, rest))
+    );
     Ok(())
 }
 
@@ -88,11 +101,11 @@ fn an_ethernet_header_written_to_a_slice(rt: HostRuntime) -> Result<(), Fail> {
 #[test]
 fn a_view_of_an_ethernet_header(rt: HostRuntime) -> Result<(), Fail> {
     let view = Ethernet2HeaderSlice::from_slice(&FRAME)?;
-    assert_eq!(rt; view.slice(), &FRAME[..14]);
-    assert_eq!(rt; view.destination(), [0xFF; 6]);
-    assert_eq!(rt; view.source(), [2, 0, 0, 0, 0, 1]);
-    assert_eq!(rt; view.ether_type(), EtherType::IPV4);
-    assert_eq!(rt; view.to_header(), HEADER);
+    assert_eq!(rt;
+        (view.destination(), view.source(), view.ether_type()),
+        ([0xFF; 6], [2, 0, 0, 0, 0, 1], EtherType::IPV4)
+    );
+    assert_eq!(rt; (view.slice(), view.to_header()), (&FRAME[..14], HEADER));
     assert_eq!(rt;
         Ethernet2HeaderSlice::from_slice(&FRAME[..13]).err(),
         Some(cut_short(14, 13, Layer::Ethernet2Header))
@@ -102,17 +115,25 @@ fn a_view_of_an_ethernet_header(rt: HostRuntime) -> Result<(), Fail> {
 
 #[test]
 fn a_frame_with_a_check_sequence(rt: HostRuntime) -> Result<(), Fail> {
-    let frame = FRAME;
-    let view = Ethernet2Slice::from_slice_with_crc32_fcs(&frame)?;
-    assert_eq!(rt; view.slice(), frame.as_slice());
-    assert_eq!(rt; view.header_slice(), &frame[..14]);
-    assert_eq!(rt; view.header_len(), 14);
-    assert_eq!(rt; view.destination(), [0xFF; 6]);
-    assert_eq!(rt; view.source(), [2, 0, 0, 0, 0, 1]);
-    assert_eq!(rt; view.to_header(), HEADER);
-    assert_eq!(rt; view.fcs(), Some([0x11, 0x22, 0x33, 0x44]));
-    assert_eq!(rt; view.payload_slice(), [].as_slice());
-    assert_eq!(rt; view.payload().ether_type, EtherType::IPV4);
+    let view = Ethernet2Slice::from_slice_with_crc32_fcs(&FRAME)?;
+    assert_eq!(rt;
+        (view.slice(), view.header_slice(), view.payload_slice()),
+        (FRAME.as_slice(), &FRAME[..14], [].as_slice())
+    );
+    assert_eq!(rt;
+        (view.header_len(), view.fcs(), view.payload().ether_type),
+        (14, Some([0x11, 0x22, 0x33, 0x44]), EtherType::IPV4)
+    );
+    Ok(())
+}
+
+#[test]
+fn the_fields_of_a_frame(rt: HostRuntime) -> Result<(), Fail> {
+    let view = Ethernet2Slice::from_slice_with_crc32_fcs(&FRAME)?;
+    assert_eq!(rt;
+        (view.destination(), view.source(), view.to_header()),
+        ([0xFF; 6], [2, 0, 0, 0, 0, 1], HEADER)
+    );
     assert_eq!(rt; view.clone()?, view);
     Ok(())
 }
@@ -137,31 +158,44 @@ fn a_vlan_tag(rt: HostRuntime) -> Result<(), Fail> {
 #[test]
 fn a_view_of_a_vlan_tag(rt: HostRuntime) -> Result<(), Fail> {
     let view = SingleVlanHeaderSlice::from_slice(&TAGS[4..])?;
-    assert_eq!(rt; view.slice(), &TAGS[4..8]);
-    assert_eq!(rt; view.priority_code_point().value(), 5);
-    assert!(rt; view.drop_eligible_indicator());
-    assert_eq!(rt; view.vlan_identifier().value(), 0x123);
-    assert_eq!(rt; view.ether_type(), EtherType::IPV4);
-    assert_eq!(rt; view.to_header(), tag()?);
+    assert_eq!(rt;
+        (
+            view.priority_code_point().value(),
+            view.drop_eligible_indicator(),
+            view.vlan_identifier().value(),
+            view.ether_type()
+        ),
+        (5, true, 0x123, EtherType::IPV4)
+    );
+    assert_eq!(rt; (view.slice(), view.to_header()), (&TAGS[4..8], tag()?));
     Ok(())
 }
 
 #[test]
 fn a_view_of_a_vlan_tag_and_its_payload(rt: HostRuntime) -> Result<(), Fail> {
     let view = SingleVlanSlice::from_slice(&TAGS[4..])?;
-    assert_eq!(rt; view.slice(), &TAGS[4..]);
-    assert_eq!(rt; view.header_slice(), &TAGS[4..8]);
-    assert_eq!(rt; view.header_len(), 4);
-    assert_eq!(rt; view.priority_code_point().value(), 5);
-    assert!(rt; view.drop_eligible_indicator());
-    assert_eq!(rt; view.to_header(), tag()?);
-    assert_eq!(rt; view.payload_slice(), [0x45].as_slice());
-    assert_eq!(rt; view.payload(), ipv4());
+    assert_eq!(rt;
+        (view.slice(), view.header_slice(), view.payload_slice()),
+        (&TAGS[4..], &TAGS[4..8], [0x45].as_slice())
+    );
+    assert_eq!(rt;
+        (
+            view.header_len(),
+            view.priority_code_point().value(),
+            view.drop_eligible_indicator()
+        ),
+        (4, 5, true)
+    );
+    assert_eq!(rt; (view.to_header(), view.payload()), (tag()?, ipv4()));
+    Ok(())
+}
+
+#[test]
+fn half_a_vlan_tag(rt: HostRuntime) {
     assert_eq!(rt;
         SingleVlanSlice::from_slice(&TAGS[..2]).err(),
         Some(cut_short(4, 2, Layer::VlanHeader))
     );
-    Ok(())
 }
 
 #[test]
@@ -177,9 +211,10 @@ fn two_vlan_tags(rt: HostRuntime) -> Result<(), Fail> {
             ..DoubleVlanHeader::default().outer
         },
     };
-    assert_eq!(rt; view.to_header(), header);
-    assert_eq!(rt; view.payload_slice(), [0x45].as_slice());
-    assert_eq!(rt; view.payload(), ipv4());
+    assert_eq!(rt;
+        (view.to_header(), view.payload_slice(), view.payload()),
+        (header, [0x45].as_slice(), ipv4())
+    );
     Ok(())
 }
 
@@ -188,14 +223,18 @@ fn one_vlan_tag_or_two(rt: HostRuntime) -> Result<(), Fail> {
     let outer = SingleVlanSlice::from_slice(&TAGS)?;
     let inner = SingleVlanSlice::from_slice(&TAGS[4..])?;
     let single = VlanSlice::SingleVlan(inner.clone()?);
-    assert_eq!(rt; single.to_header(), VlanHeader::Single(tag()?));
-    assert_eq!(rt; single.payload(), ipv4());
-    let double = VlanSlice::DoubleVlan(DoubleVlanSlice { outer, inner });
-    assert!(rt; matches!(double.to_header(), VlanHeader::Double(_)));
-    assert_eq!(rt; double.to_header().next_header(), EtherType::IPV4);
     assert_eq!(rt;
-        VlanHeader::VLAN_ETHER_TYPES,
-        [EtherType(0x8100), EtherType(0x88A8), EtherType(0x9100)]
+        (single.to_header(), single.payload()),
+        (VlanHeader::Single(tag()?), ipv4())
+    );
+    let double = VlanSlice::DoubleVlan(DoubleVlanSlice { outer, inner }).to_header();
+    assert!(rt; matches!(double, VlanHeader::Double(_)));
+    assert_eq!(rt;
+        (double.next_header(), VlanHeader::VLAN_ETHER_TYPES),
+        (
+            EtherType::IPV4,
+            [EtherType(0x8100), EtherType(0x88A8), EtherType(0x9100)]
+        )
     );
     Ok(())
 }
@@ -211,34 +250,68 @@ fn a_sec_tag(rt: HostRuntime) -> Result<(), Fail> {
         packet_nr: 1,
         sci: None,
     };
-    assert_eq!(rt; MacsecHeader::from_slice(&READABLE), Ok(header));
-    assert_eq!(rt; header.to_bytes().as_slice(), &READABLE[..8]);
+    assert_eq!(rt;
+        (
+            MacsecHeader::from_slice(&READABLE),
+            header.to_bytes().as_slice()
+        ),
+        (Ok(header), &READABLE[..8])
+    );
     assert!(rt; !header.encrypted() && !header.userdata_changed());
-    assert_eq!(rt; header.next_ether_type(), Some(EtherType(0x8100)));
-    assert_eq!(rt; header.header_len(), 8);
-    assert_eq!(rt; header.expected_payload_len(), Some(4));
+    assert_eq!(rt;
+        (
+            header.next_ether_type(),
+            header.header_len(),
+            header.expected_payload_len()
+        ),
+        (Some(EtherType(0x8100)), 8, Some(4))
+    );
     header.set_payload_len(61);
-    assert_eq!(rt; header.short_len.value(), 63);
-    assert_eq!(rt; (MacsecHeader::MIN_LEN, MacsecHeader::MAX_LEN), (6, 16));
+    assert_eq!(rt;
+        (
+            header.short_len.value(),
+            MacsecHeader::MIN_LEN,
+            MacsecHeader::MAX_LEN
+        ),
+        (63, 6, 16)
+    );
     Ok(())
 }
 
 #[test]
 fn a_view_of_a_sec_tag(rt: HostRuntime) -> Result<(), Fail> {
     let tag = MacsecHeaderSlice::from_slice(&SEALED)?;
-    assert_eq!(rt; tag.slice(), &SEALED[..14]);
-    assert_eq!(rt; tag.tci_an_raw(), 0x2C);
-    assert!(rt; !tag.endstation_id() && !tag.tci_scb());
+    assert!(rt; !tag.endstation_id() && !tag.tci_scb() && tag.sci_present());
     assert!(rt; tag.encrypted() && tag.userdata_changed() && !tag.is_unmodified());
-    assert_eq!(rt; tag.ptype(), MacsecPType::Encrypted);
-    assert_eq!(rt; tag.an(), MacsecAn::ZERO);
-    assert_eq!(rt; tag.short_len(), MacsecShortLen::ZERO);
-    assert_eq!(rt; tag.packet_nr(), 1);
-    assert!(rt; tag.sci_present());
-    assert_eq!(rt; tag.sci(), Some(0x0011_2233_4455_6677));
-    assert_eq!(rt; tag.next_ether_type(), None);
-    assert_eq!(rt; tag.header_len(), 14);
-    assert_eq!(rt; tag.expected_payload_len(), None);
+    assert_eq!(rt;
+        (
+            tag.tci_an_raw(),
+            tag.ptype(),
+            tag.an(),
+            tag.short_len(),
+            tag.packet_nr(),
+            tag.sci()
+        ),
+        (
+            0x2C,
+            MacsecPType::Encrypted,
+            MacsecAn::ZERO,
+            MacsecShortLen::ZERO,
+            1,
+            Some(0x0011_2233_4455_6677)
+        )
+    );
+    Ok(())
+}
+
+#[test]
+fn the_lengths_of_a_sec_tag(rt: HostRuntime) -> Result<(), Fail> {
+    let tag = MacsecHeaderSlice::from_slice(&SEALED)?;
+    assert_eq!(rt; (tag.slice(), tag.header_len()), (&SEALED[..14], 14));
+    assert_eq!(rt;
+        (tag.next_ether_type(), tag.expected_payload_len()),
+        (None, None)
+    );
     assert_eq!(rt; tag.to_header().sci, tag.sci());
     Ok(())
 }
@@ -246,46 +319,64 @@ fn a_view_of_a_sec_tag(rt: HostRuntime) -> Result<(), Fail> {
 #[test]
 fn the_other_payload_types(rt: HostRuntime) -> Result<(), Fail> {
     let changed = MacsecHeaderSlice::from_slice(&[0x04, 0, 0, 0, 0, 0])?.ptype();
-    assert_eq!(rt; changed, MacsecPType::Modified);
     let sealed = MacsecHeaderSlice::from_slice(&[0x08, 0, 0, 0, 0, 0])?.ptype();
-    assert_eq!(rt; sealed, MacsecPType::EncryptedUnmodified);
+    assert_eq!(rt;
+        (changed, sealed),
+        (MacsecPType::Modified, MacsecPType::EncryptedUnmodified)
+    );
     Ok(())
 }
 
 #[test]
 fn a_view_of_a_sec_tag_and_its_payload(rt: HostRuntime) -> Result<(), Fail> {
     let readable = MacsecSlice::from_slice(&READABLE)?;
-    assert_eq!(rt; readable.header.slice(), &READABLE[..8]);
-    assert_eq!(rt; readable.payload, MacsecPayloadSlice::Unmodified(named()));
-    assert_eq!(rt; readable.ether_payload(), Some(named()));
-    assert_eq!(rt; readable.next_ether_type(), Some(EtherType(0x8100)));
+    assert_eq!(rt;
+        (
+            readable.header.slice(),
+            readable.ether_payload(),
+            readable.next_ether_type()
+        ),
+        (&READABLE[..8], Some(named()), Some(EtherType(0x8100)))
+    );
     let sealed = MacsecSlice::from_slice(&SEALED)?;
-    assert_eq!(rt; sealed.payload, MacsecPayloadSlice::Modified(&[0x99]));
+    assert_eq!(rt;
+        (readable.payload, sealed.payload),
+        (
+            MacsecPayloadSlice::Unmodified(named()),
+            MacsecPayloadSlice::Modified(&[0x99])
+        )
+    );
     Ok(())
 }
 
 #[test]
 fn a_sec_tag_that_is_refused(rt: HostRuntime) {
     let version = macsec::HeaderError::UnexpectedVersion;
+    let cut = cut_short(6, 5, Layer::MacsecHeader);
     assert_eq!(rt;
-        MacsecHeader::from_slice(&[0x80, 0, 0, 0, 0, 0]),
-        Err(macsec::HeaderSliceError::Content(version))
-    );
-    assert_eq!(rt;
-        MacsecHeader::from_slice(&[0x80, 0, 0, 0, 0]),
-        Err(macsec::HeaderSliceError::Len(cut_short(6, 5, Layer::MacsecHeader)))
+        (
+            MacsecHeader::from_slice(&[0x80, 0, 0, 0, 0, 0]),
+            MacsecHeader::from_slice(&[0x80, 0, 0, 0, 0])
+        ),
+        (
+            Err(macsec::HeaderSliceError::Content(version)),
+            Err(macsec::HeaderSliceError::Len(cut))
+        )
     );
 }
 
 #[test]
 fn the_extensions_of_a_link(rt: HostRuntime) -> Result<(), Fail> {
     let vlan = LinkExtSlice::Vlan(SingleVlanSlice::from_slice(&TAGS[4..])?);
-    assert_eq!(rt; vlan.header_len(), 4);
-    assert_eq!(rt; vlan.to_header(), LinkExtHeader::Vlan(tag()?));
-    assert_eq!(rt; vlan.ether_payload(), Some(ipv4()));
+    assert_eq!(rt;
+        (vlan.header_len(), vlan.to_header(), vlan.ether_payload()),
+        (4, LinkExtHeader::Vlan(tag()?), Some(ipv4()))
+    );
     let macsec = LinkExtSlice::Macsec(MacsecSlice::from_slice(&READABLE)?);
     assert!(rt; matches!(macsec.to_header(), LinkExtHeader::Macsec(_)));
-    assert_eq!(rt; macsec.to_header().header_len(), 8);
-    assert_eq!(rt; macsec.ether_payload(), Some(named()));
+    assert_eq!(rt;
+        (macsec.to_header().header_len(), macsec.ether_payload()),
+        (8, Some(named()))
+    );
     Ok(())
 }

@@ -10,11 +10,16 @@ use std::test::Fail;
 #[test]
 fn vlan_ids(rt: HostRuntime) -> Result<(), Fail> {
     let id = VlanId::try_new(0x123)?;
-    assert_eq!(rt; id.value(), 0x123);
-    assert_eq!(rt; u16::from(id), 0x123);
-    assert_eq!(rt; VlanId::try_from(0x123), Ok(id));
+    assert_eq!(rt;
+        (
+            id.value(),
+            u16::from(id),
+            VlanId::try_from(0x123),
+            VlanId::MAX_U16
+        ),
+        (0x123, 0x123, Ok(id), 4095)
+    );
     assert_eq!(rt; VlanId::default(), VlanId::ZERO);
-    assert_eq!(rt; VlanId::MAX_U16, 4095);
     assert_eq!(rt; format!(in rt.alloc(); "{id}")?.as_str(), "291");
     let refused = ValueTooBigError {
         actual: 4096,
@@ -28,10 +33,15 @@ fn vlan_ids(rt: HostRuntime) -> Result<(), Fail> {
 #[test]
 fn vlan_priorities(rt: HostRuntime) -> Result<(), Fail> {
     let pcp = VlanPcp::try_new(7)?;
-    assert_eq!(rt; pcp.value(), VlanPcp::MAX_U8);
-    assert_eq!(rt; u8::from(pcp), 7);
-    assert_eq!(rt; VlanPcp::try_from(7), Ok(pcp));
-    assert_eq!(rt; VlanPcp::default(), VlanPcp::ZERO);
+    assert_eq!(rt;
+        (
+            pcp.value(),
+            u8::from(pcp),
+            VlanPcp::try_from(7),
+            VlanPcp::default()
+        ),
+        (VlanPcp::MAX_U8, 7, Ok(pcp), VlanPcp::ZERO)
+    );
     assert!(rt; VlanPcp::try_new(8).is_err());
     Ok(())
 }
@@ -39,10 +49,15 @@ fn vlan_priorities(rt: HostRuntime) -> Result<(), Fail> {
 #[test]
 fn association_numbers(rt: HostRuntime) -> Result<(), Fail> {
     let an = MacsecAn::try_new(3)?;
-    assert_eq!(rt; an.value(), MacsecAn::MAX_U8);
-    assert_eq!(rt; u8::from(an), 3);
-    assert_eq!(rt; MacsecAn::try_from(3), Ok(an));
-    assert_eq!(rt; MacsecAn::default(), MacsecAn::ZERO);
+    assert_eq!(rt;
+        (
+            an.value(),
+            u8::from(an),
+            MacsecAn::try_from(3),
+            MacsecAn::default()
+        ),
+        (MacsecAn::MAX_U8, 3, Ok(an), MacsecAn::ZERO)
+    );
     assert!(rt; MacsecAn::try_new(4).is_err());
     Ok(())
 }
@@ -50,14 +65,21 @@ fn association_numbers(rt: HostRuntime) -> Result<(), Fail> {
 #[test]
 fn short_lengths(rt: HostRuntime) -> Result<(), Fail> {
     let short_len = MacsecShortLen::try_from_u8(63)?;
-    assert_eq!(rt; short_len.value(), MacsecShortLen::MAX_U8);
-    assert_eq!(rt; u8::from(short_len), 63);
-    assert_eq!(rt; MacsecShortLen::try_from(63), Ok(short_len));
     assert_eq!(rt;
-        MacsecShortLen::from_len(MacsecShortLen::MAX_USIZE),
-        short_len
+        (
+            short_len.value(),
+            u8::from(short_len),
+            MacsecShortLen::try_from(63)
+        ),
+        (MacsecShortLen::MAX_U8, 63, Ok(short_len))
     );
-    assert_eq!(rt; MacsecShortLen::from_len(64), MacsecShortLen::ZERO);
+    assert_eq!(rt;
+        (
+            MacsecShortLen::from_len(MacsecShortLen::MAX_USIZE),
+            MacsecShortLen::from_len(64)
+        ),
+        (short_len, MacsecShortLen::ZERO)
+    );
     assert_eq!(rt; MacsecShortLen::default(), MacsecShortLen::ZERO);
     assert!(rt; MacsecShortLen::try_from_u8(64).is_err());
     Ok(())
@@ -274,6 +296,22 @@ fn packet_types(rt: HostRuntime) {
 #[test]
 fn protocol_types(rt: HostRuntime) {
     assert_eq!(rt;
+        (
+            LinuxSllProtocolType::try_from((ArpHardwareId::NETLINK, 123)),
+            LinuxSllProtocolType::try_from((ArpHardwareId::FRAD, 123)),
+            LinuxSllProtocolType::try_from((ArpHardwareId::IPGRE, 0x0800))
+        ),
+        (
+            Ok(LinuxSllProtocolType::NetlinkProtocolType(123)),
+            Ok(LinuxSllProtocolType::Ignored(123)),
+            Ok(LinuxSllProtocolType::GenericRoutingEncapsulationProtocolType(0x0800))
+        )
+    );
+}
+
+#[test]
+fn hardware_types_of_cooked_captures(rt: HostRuntime) {
+    assert_eq!(rt;
         LinuxSllProtocolType::SUPPORTED_ARPHWD,
         [
             ArpHardwareId::NETLINK,
@@ -283,21 +321,12 @@ fn protocol_types(rt: HostRuntime) {
             ArpHardwareId::ETHERNET,
         ]
     );
-    assert_eq!(rt;
-        LinuxSllProtocolType::try_from((ArpHardwareId::NETLINK, 123)),
-        Ok(LinuxSllProtocolType::NetlinkProtocolType(123))
-    );
-    assert_eq!(rt;
-        LinuxSllProtocolType::try_from((ArpHardwareId::FRAD, 123)),
-        Ok(LinuxSllProtocolType::Ignored(123))
-    );
-    assert_eq!(rt;
-        LinuxSllProtocolType::try_from((ArpHardwareId::IPGRE, 0x0800)),
-        Ok(LinuxSllProtocolType::GenericRoutingEncapsulationProtocolType(0x0800))
-    );
-    let mut protocol_type = LinuxSllProtocolType::LinuxNonstandardEtherType(
-        LinuxNonstandardEtherType::N802_3,
-    );
+}
+
+#[test]
+fn another_protocol_type(rt: HostRuntime) {
+    let dummy = LinuxNonstandardEtherType::N802_3;
+    let mut protocol_type = LinuxSllProtocolType::LinuxNonstandardEtherType(dummy);
     assert_eq!(rt; u16::from(protocol_type), 1);
     protocol_type.change_value(0x0800);
     assert_eq!(rt;
@@ -326,7 +355,12 @@ fn sources_of_lengths(rt: HostRuntime) {
 
 #[test]
 fn operations(rt: HostRuntime) {
-    assert_eq!(rt; ArpOperation::REQUEST, ArpOperation(1));
-    assert_eq!(rt; ArpOperation::REPLY, ArpOperation(2));
-    assert_eq!(rt; ArpOperation::default(), ArpOperation(0));
+    assert_eq!(rt;
+        (
+            ArpOperation::REQUEST,
+            ArpOperation::REPLY,
+            ArpOperation::default()
+        ),
+        (ArpOperation(1), ArpOperation(2), ArpOperation(0))
+    );
 }

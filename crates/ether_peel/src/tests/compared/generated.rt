@@ -1,5 +1,5 @@
 //! Stacks of headers that are drawn from a fixed seed, cut off and with bits changed.
-use super::{behind, compare_walks};
+use super::{compare_walks, with_type};
 use crate::Start;
 use std::alloc::{AllocError, Global};
 use std::test::Fail;
@@ -43,7 +43,7 @@ fn ten_thousand_stacks(rt: HostRuntime) -> Result<(), Fail> {
             0 => Start::Ethernet2,
             1 => Start::Ethernet2Fcs,
             2 => Start::LinuxSll,
-            _ => behind(random.ether_type()),
+            _ => with_type(random.ether_type()),
         };
         let mut frame = stack(rt.alloc(), &mut random, start)?;
         let limit = (random.next() % 4) as usize;
@@ -63,7 +63,7 @@ fn ten_thousand_stacks(rt: HostRuntime) -> Result<(), Fail> {
     Ok(())
 }
 
-/// The bytes of up to six headers, each announced by the one before it, and up to 40 bytes behind them.
+/// The bytes of up to six headers, each announced by the one before it, and up to 40 bytes after them.
 fn stack(alloc: Global, random: &mut Random, start: Start) -> Result<Vec<u8>, AllocError> {
     let mut bytes = Vec::new(alloc);
     let mut announced = match start {

@@ -28,7 +28,7 @@ returns-in-Ok-clause-gives c =
     let len : length c.payload_slice.result.now ≡ length bytes - 4 - 14 = ap length (c.payload_slice.ensures ∙ ap payload_of c.in-Ok.ensures.frame) ∙ length-part bytes 14 (length bytes - 4) (omega arith) in
     let long : length bytes ≡ a.end - a.start = length-part a.frame.now a.start a.end c.self.invariant.1 in
     let ordered = c.self.invariant.0 in
-    let behind = c.header_len.ensures in
+    let following = c.header_len.ensures in
     let t : State = record { rest = slice_range a.frame.now start end; offset = start; closed = a.is_closed; bound = a.bound; expected = record { next = EtherType c.ether_type-ether_type.result.0; limit = a.limit }; over = a.is_over } in
     let going : a.is_over ≡ false = ap (λ (s : State). s.over) c.self.view_is ∙ c.requires.going in
     let is = c.in-Ok.ensures.frame in

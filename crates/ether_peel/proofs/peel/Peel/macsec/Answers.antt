@@ -24,9 +24,9 @@ invariant_of-self c =
     let long = length-part a.frame.now a.start a.end c.self.invariant.1 in
     let ordered = c.self.invariant.0 in
     let inside = c.self.invariant.1 in
-    let behind = c.announced_behind-kind.ensures in
-    let announces = ap (λ y. permitted c.lowered-self-inside.result (announced_next y)) behind.expected ∙ ap (permitted c.lowered-self-inside.result) behind.announced ∙ c.permitted-self-inside.ensures in
-    (omega arith, omega arith, announces, behind.shown ∙ ap next_shown (sym behind.expected))
+    let following = c.announced_after-kind.ensures in
+    let announces = ap (λ y. permitted c.lowered-self-inside.result (announced_next y)) following.expected ∙ ap (permitted c.lowered-self-inside.result) following.announced ∙ c.permitted-self-inside.ensures in
+    (omega arith, omega arith, announces, following.shown ∙ ap next_shown (sym following.expected))
 
 pub returns-in-Ok-clause-gives : goal.returns-in-Ok-clause-gives
 returns-in-Ok-clause-gives c =
@@ -37,7 +37,7 @@ returns-in-Ok-clause-gives c =
     let tag = sec_tag_of (tag_bytes m.header) in
     let u = units.Macsec m in
     let start = a.start + n in
-    let t : State = record { rest = slice_range a.frame.now start (start + length c.payload_bytes.result.now); offset = start; closed = a.is_closed || c.is_some.result; bound = c.bound_behind-self-inside.result; expected = record { next = shown_of c.announced_behind-kind.result.1; limit = c.lowered-self-inside.result }; over = a.is_over } in
+    let t : State = record { rest = slice_range a.frame.now start (start + length c.payload_bytes.result.now); offset = start; closed = a.is_closed || c.is_some.result; bound = c.bound_after-self-inside.result; expected = record { next = shown_of c.announced_after-kind.result.1; limit = c.lowered-self-inside.result }; over = a.is_over } in
     let going : a.is_over ≡ false = ap (λ (s : State). s.over) c.self.view_is ∙ c.requires.going in
     let read = tag_read bytes m n c.in-Ok.ensures.header c.in-Ok.ensures.payload c.header_len.ensures.tag c.in-Ok.ensures.value.whole in
     let payload = tag_payload_part a.frame.now a.start a.end m n (length c.payload_bytes.result.now) tag c.self.invariant.0 c.self.invariant.1 c.in-Ok.ensures.accepted c.in-Ok.ensures.value read (ap length c.payload_bytes.ensures) in
@@ -51,8 +51,8 @@ returns-in-Ok-clause-gives c =
       rest = payload ∙ read.rest;
       offset = ap (λ k. a.start + k) read.len;
       closed = ap (λ b. a.is_closed || b) c.is_some.ensures ∙ marked a.is_closed c.expected_payload_len-known.result ∙ ap (payload_closed a.is_closed) (c.expected_payload_len-known.ensures ∙ read.known);
-      bound = c.bound_behind-self-inside.ensures ∙ ap (payload_bound a.bound) (c.expected_payload_len-known.ensures ∙ read.known);
-      next = c.announced_behind-kind.ensures.expected ∙ read.expected;
+      bound = c.bound_after-self-inside.ensures ∙ ap (payload_bound a.bound) (c.expected_payload_len-known.ensures ∙ read.known);
+      next = c.announced_after-kind.ensures.expected ∙ read.expected;
       limit = c.lowered-self-inside.ensures;
       over = going;
     }))
