@@ -1,7 +1,7 @@
 -- The fields of a VLAN tag, read from the parts of a list.
-use Rattle.std.proofs.Common.{◌≡◌, ℕ, ◌+◌, ◌*◌, ◌/◌, ◌%◌, ◌^◌, ◌≤◌, List, length, sym, ap, ◌∙◌, arith}
+use Rattle.std.proofs.Common.{◌≡◌, ℕ, ◌≤◌, List, length, sym, ap, ◌∙◌, arith}
 use Rattle.std.specs.Prelude.{slice_range}
-use Rattle.ether_base.specs.Bytes.{IsBytes, number, spelled}
+use Rattle.ether_base.specs.Bytes.{IsBytes, spelled}
 use Rattle.ether_base.specs.Vlan.{VlanValue, IsVlan, vlan_bytes, vlan_of}
 use Rattle.ether_base.specs.Header.{Means}
 use Rattle.ether_base.specs.Header as headers

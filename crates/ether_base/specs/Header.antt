@@ -36,21 +36,13 @@ header_len (Arp a) = arp_len (arp_front_of a)
 
 -- the payload's length, where the header names it
 abbrev pub payload_len : Header → Option ℕ
-payload_len (Ethernet2 e) = None
-payload_len (Ethernet2Fcs e) = None
-payload_len (LinuxSll s) = None
-payload_len (Vlan v) = None
 payload_len (Macsec t) = known_payload_len (sec_tag_front_of 0 0 t)
-payload_len (Arp a) = None
+payload_len _ = None
 
 -- the bytes behind the payload that are no part of it: a frame check sequence
 abbrev pub trailer_len : Header → ℕ
-trailer_len (Ethernet2 e) = 0
 trailer_len (Ethernet2Fcs e) = 4
-trailer_len (LinuxSll s) = 0
-trailer_len (Vlan v) = 0
-trailer_len (Macsec t) = 0
-trailer_len (Arp a) = 0
+trailer_len _ = 0
 
 -- the bytes of a unit: its header's, and with them its payload's where the header names their number
 abbrev pub unit_len : Header → ℕ

@@ -13,13 +13,16 @@ abbrev pub ethernet_protocol_type : ℕ → LinuxSllProtocolType
 ethernet_protocol_type number =
     if is_nonstandard number then LinuxNonstandardEtherType number else EtherType (record { 0 = number })
 
--- what the protocol number of a cooked capture means, by a supported hardware type of the link (LINKTYPE_LINUX_SLL):
--- 824 netlink, 778 GRE over IP, 1 Ethernet; 803 radiotap and 770 frame relay have no meaning for it
-abbrev pub protocol_of : ℕ → ℕ → LinuxSllProtocolType
-protocol_of hardware number =
+-- What the protocol number of a cooked capture means, by a supported hardware type of the link (LINKTYPE_LINUX_SLL). On another link
+-- than Ethernet: 824 netlink, 778 GRE over IP; 803 radiotap and 770 frame relay have no meaning for it.
+abbrev pub link_protocol_of : ℕ → ℕ → LinuxSllProtocolType
+link_protocol_of hardware number =
     if hardware == 824 then NetlinkProtocolType number
-    else (if hardware == 778 then GenericRoutingEncapsulationProtocolType number
-    else (if hardware == 1 then ethernet_protocol_type number else Ignored number))
+    else (if hardware == 778 then GenericRoutingEncapsulationProtocolType number else Ignored number)
+
+-- 1 Ethernet
+abbrev pub protocol_of : ℕ → ℕ → LinuxSllProtocolType
+protocol_of hardware number = if hardware == 1 then ethernet_protocol_type number else link_protocol_of hardware number
 
 abbrev pub protocol_type_of : ArpHardwareId → ℕ → Result LinuxSllProtocolType HeaderError
 protocol_type_of hardware number =

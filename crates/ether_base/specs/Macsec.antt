@@ -40,8 +40,7 @@ pub record BeginsSecTag (bytes : List ℕ) (t : SecTagFront) : Type 0 where
 -- the bytes of the ether type, which can be read exactly where E and C are 0
 abbrev pub ether_type_len : ℕ → ℕ → ℕ
 ether_type_len zero zero = 2
-ether_type_len zero (suc changed) = 0
-ether_type_len (suc encrypted) changed = 0
+ether_type_len _ _ = 0
 
 -- the header's length, 6 to 16: two bytes, the packet number (9.8), the SCI if there is one (9.9), the ether type
 abbrev pub sec_tag_len : SecTagFront → ℕ
@@ -52,10 +51,8 @@ abbrev pub known_len : ℕ → ℕ → ℕ → Option ℕ
 known_len zero zero zero = None
 known_len zero zero (suc zero) = None
 known_len zero zero (suc (suc n)) = Some n
-known_len zero (suc changed) zero = None
-known_len zero (suc changed) (suc n) = Some (suc n)
-known_len (suc encrypted) changed zero = None
-known_len (suc encrypted) changed (suc n) = Some (suc n)
+known_len _ _ zero = None
+known_len _ _ (suc n) = Some (suc n)
 
 abbrev pub known_payload_len : SecTagFront → Option ℕ
 known_payload_len t = known_len t.encrypted t.changed t.short_len
@@ -119,9 +116,7 @@ HasSci bytes (Some sci) = number (slice_range bytes 6 14) ≡ sci
 -- the ether type stands at a place
 abbrev pub HasEtherType : List ℕ → ℕ → PayloadType → Type 0
 HasEtherType bytes at (Unmodified ether_type) = number (slice_range bytes at (at + 2)) ≡ ether_type
-HasEtherType bytes at Modified = Unit {0}
-HasEtherType bytes at EncryptedUnmodified = Unit {0}
-HasEtherType bytes at Encrypted = Unit {0}
+HasEtherType bytes at _ = Unit {0}
 
 -- the bytes of a tag mean a value
 pub record IsSecTag (bytes : List ℕ) (t : SecTagValue) : Type 0 where
@@ -204,9 +199,7 @@ sci_bytes (Some sci) = spelled 8 sci
 
 abbrev pub ether_type_bytes : PayloadType → List ℕ
 ether_type_bytes (Unmodified ether_type) = spelled 2 ether_type
-ether_type_bytes Modified = []
-ether_type_bytes EncryptedUnmodified = []
-ether_type_bytes Encrypted = []
+ether_type_bytes _ = []
 
 -- the bytes of a value, with version and reserved bits 0
 abbrev pub sec_tag_bytes : SecTagValue → List ℕ

@@ -1,11 +1,10 @@
 -- A stack carried from a window of one list to a window of another that holds the same bytes or, where it is open, more after them.
 use Rattle.std.proofs.Common.{◌≡◌, ℕ, ◌+◌, ◌-◌, ◌≤◌, List, [], ◌∷◌, ◌++◌, length, drop, refl, sym, ap, subst, ◌∙◌, arith, inl, inr, ◌⊎◌, Bool, true, false, cond}
-use Rattle.std.specs.Prelude.{slice_range, Option, Some, None, unwrap_or, nat_eq}
+use Rattle.std.specs.Prelude.{slice_range, Option, Some, None, unwrap_or, nat_eq, ◌==◌, if◌then◌else◌}
 use Rattle.std.proofs.lemmas.List.{append-nil, length-append, drop-append-le}
 use Rattle.etherparse.specs.Types.LenSource.{LenSource}
 use Rattle.etherparse.specs.Types.LinuxSllProtocolType.{LinuxSllProtocolType}
-use Rattle.etherparse.specs.Types.LinuxSllProtocolType.TheVariants as protocols
-use Rattle.etherparse.specs.LinuxSllProtocolType.{protocol_of}
+use Rattle.etherparse.specs.LinuxSllProtocolType.{link_protocol_of}
 use Rattle.etherparse.specs.Vlan.{is_vlan_ether_type}
 use Rattle.etherparse.specs.Macsec.{PayloadType}
 use Rattle.etherparse.specs.Macsec as payloads
@@ -18,7 +17,7 @@ use Rattle.etherparse.proofs.SubLists.{length-part, part-append, part_of_part, r
 use Rattle.etherparse.proofs.Rows.{row_short}
 use Rattle.etherparse.proofs.Means.{unit_fits}
 use Rattle.ether_peel.specs.Window.{Window, within, IsIn, payload_from, payload}
-use Rattle.ether_peel.specs.Expectation.{Expectation, announced_by, announced, announced_next, next_after, Next, after_protocol, after_payload, after}
+use Rattle.ether_peel.specs.Expectation.{Expectation, announced_by, announced, announced_next, next_after, Next, EtherType, Sll, after_payload, after}
 use Rattle.ether_peel.proofs.Limits.{announced_is}
 use Rattle.ether_peel.specs.Stack.{Ending, Accepted, Fault, last_window, last_expected, IsUnit, Stack}
 use Rattle.ether_peel.proofs.LongerBytes.{means_longer, accepts_longer, refuses_longer, longer, IsBelow}
@@ -160,12 +159,9 @@ no_fcs_announced t e = no_fcs_cond (is_vlan_ether_type t) (nat_eq t 0x88E5) (nat
 abbrev pub NextNoFcs : Next → Type 0
 NextNoFcs y = announced_next y ≡ Some kinds.Ethernet2Fcs → ⊥
 
-no_fcs_protocol : (q : LinuxSllProtocolType) → NextNoFcs (after_protocol q)
-no_fcs_protocol (protocols.EtherType t) e = no_fcs_announced t.0 e
-no_fcs_protocol (protocols.LinuxNonstandardEtherType n) e = no_fcs_announced n e
-no_fcs_protocol (protocols.Ignored n) e = cc
-no_fcs_protocol (protocols.NetlinkProtocolType n) e = cc
-no_fcs_protocol (protocols.GenericRoutingEncapsulationProtocolType n) e = cc
+no_fcs_capture : (is_ethernet : Bool) (n : ℕ) (q : LinuxSllProtocolType) → NextNoFcs (if is_ethernet then EtherType n else Sll q)
+no_fcs_capture true n q e = no_fcs_announced n e
+no_fcs_capture false n q e = cc
 
 no_fcs_payload : (p : PayloadType) → NextNoFcs (after_payload p)
 no_fcs_payload (payloads.Unmodified t) e = no_fcs_announced t e
@@ -176,7 +172,7 @@ no_fcs_payload payloads.Encrypted e = cc
 no_fcs_next : (h : Header) → NextNoFcs (next_after h)
 no_fcs_next (headers.Ethernet2 a) e = no_fcs_announced a.ether_type e
 no_fcs_next (headers.Ethernet2Fcs a) e = no_fcs_announced a.ether_type e
-no_fcs_next (headers.LinuxSll s) e = no_fcs_protocol (protocol_of s.hardware_type s.protocol) e
+no_fcs_next (headers.LinuxSll s) e = no_fcs_capture (s.hardware_type == 1) s.protocol (link_protocol_of s.hardware_type s.protocol) e
 no_fcs_next (headers.Vlan v) e = no_fcs_announced v.ether_type e
 no_fcs_next (headers.Macsec t) e = no_fcs_payload t.payload_type e
 no_fcs_next (headers.Arp a) e = cc

@@ -1,6 +1,6 @@
 -- One step of a walk.
 use Rattle.std.proofs.Common.{◌≡◌, ℕ, ◌+◌, ◌-◌, ◌/◌, ◌<◌, ◌≤◌, List, [], ◌∷◌, length, Bool, true, false, refl, sym, ap, subst, ◌∙◌, arith}
-use Rattle.std.specs.Prelude.{slice_range, Option, Some, None, Ok, Err, unwrap_or, if◌then◌else◌}
+use Rattle.std.specs.Prelude.{slice_range, Option, Some, None, Ok, Err, unwrap_or, if◌then◌else◌, ◌==◌}
 use Rattle.std.specs.Iterator.{size}
 use Rattle.etherparse.specs.Types.LenSource.{LenSource}
 use Rattle.etherparse.specs.Types.LenSource.TheVariants as sources
@@ -16,16 +16,20 @@ use Rattle.etherparse.specs.Header.{Header, kind_of, header_len, payload_len, tr
 use Rattle.etherparse.specs.Refusal.{Length, UnsupportedPacketType, UnsupportedHardwareType, Refuses, Accepts}
 use Rattle.etherparse.specs.RefusedLen.{IsRefusedLen}
 use Rattle.etherparse.specs.LinuxSll.{IsRefusedContent}
+use Rattle.etherparse.specs.LinuxNonstandardEtherType.{is_nonstandard}
+use Rattle.etherparse.specs.LinuxSllProtocolType.{ethernet_protocol_type, link_protocol_of, protocol_of}
+use Rattle.etherparse.specs.Types.LinuxSllProtocolType.TheVariants as protocols
+use Rattle.etherparse.specs.Types.LinuxSllProtocolType.TheVariants.{NetlinkProtocolType, GenericRoutingEncapsulationProtocolType, Ignored, LinuxNonstandardEtherType}
 use Rattle.etherparse.specs.Macsec.{IsRefusedPacket}
 use Rattle.etherparse.proofs.SubLists.{length-part, part_of_part}
 use Rattle.etherparse.proofs.Rows.{one_row}
 use Rattle.etherparse.proofs.Means.{one_header, unit_fits}
 use Rattle.ether_peel.specs.Window.{Window, within, IsIn, payload, payload_from}
-use Rattle.ether_peel.specs.Expectation.{Expectation, is_extension, announced, next_after, lowered, after}
+use Rattle.ether_peel.specs.Expectation.{Expectation, EtherType, Sll, is_extension, announced, after_capture, next_after, lowered, after}
 use Rattle.ether_peel.specs.Stack.{Ending, Accepted, Fault, Stack}
 use Rattle.ether_peel.specs.PeelState.{State, expected_of}
 use Rattle.ether_peel.specs.PeelFault.{error_at, fault_in}
-use Rattle.ether_peel.specs.PeelRead.{IsRefusedBy, named_error}
+use Rattle.ether_peel.specs.PeelRead.{IsRefusedBy, after_protocol, named_error}
 use Rattle.ether_peel.proofs.Bounds.{named, bounded_row, accepts_bounded, named_at}
 use Rattle.ether_peel.specs.Peel.{Faces, ShowsUnit, GivesNext, Gives, items_left}
 use Rattle.ether_peel.specs.declared.peel.Peel.TheInside.{Inside}
@@ -33,6 +37,29 @@ use Rattle.ether_peel.specs.declared.peel_unit.PeelUnit.{PeelUnit}
 use Rattle.ether_peel.specs.declared.peel_error.PeelError.{PeelError}
 use Rattle.ether_peel.specs.declared.peel_error.PeelError.TheVariants as errors
 use Rattle.ether_peel.specs.declared.peel_fault.PeelFault.{PeelFault}
+
+-- ---- what is expected after a cooked capture
+
+after_link : (is_netlink is_gre : Bool) (n : ℕ) →
+    after_protocol (if is_netlink then NetlinkProtocolType n else (if is_gre then GenericRoutingEncapsulationProtocolType n else Ignored n))
+    ≡ Sll (if is_netlink then NetlinkProtocolType n else (if is_gre then GenericRoutingEncapsulationProtocolType n else Ignored n))
+after_link true is_gre n = refl
+after_link false true n = refl
+after_link false false n = refl
+
+after_ethernet : (is_nonstandard : Bool) (n : ℕ) →
+    after_protocol (if is_nonstandard then LinuxNonstandardEtherType n else protocols.EtherType (record { 0 = n })) ≡ EtherType n
+after_ethernet true n = refl
+after_ethernet false n = refl
+
+after_either : (is_ethernet : Bool) (hardware n : ℕ) →
+    after_protocol (if is_ethernet then ethernet_protocol_type n else link_protocol_of hardware n)
+    ≡ (if is_ethernet then EtherType n else Sll (link_protocol_of hardware n))
+after_either true hardware n = after_ethernet (is_nonstandard n) n
+after_either false hardware n = after_link (hardware == 824) (hardware == 778) n
+
+pub after_capture_is : (hardware n : ℕ) → after_protocol (protocol_of hardware n) ≡ after_capture hardware n
+after_capture_is hardware n = after_either (hardware == 1) hardware n
 
 -- what the fields of a walker show
 abbrev pub shown : Inside → State

@@ -1,5 +1,5 @@
 -- The bytes that complete a unit of which the list has only the first bytes.
-use Rattle.std.specs.Prelude.{◌≡◌, ℕ, zero, suc, ◌+◌, ◌-◌, ◌*◌, ◌≤◌, List, [], ◌∷◌, ◌++◌, length, replicate, slice_index, Option, Some, None, unwrap_or, Bool, nat_eq, ◌||◌, ◌&&◌, if◌then◌else◌}
+use Rattle.std.specs.Prelude.{◌≡◌, ℕ, zero, ◌+◌, ◌-◌, ◌*◌, ◌≤◌, List, [], ◌∷◌, ◌++◌, length, replicate, slice_index, Option, Some, None, unwrap_or, Bool, nat_eq, ◌||◌, ◌&&◌, if◌then◌else◌}
 use Rattle.etherparse.specs.Types.LenSource.{LenSource}
 use Rattle.etherparse.specs.Types.Layer.{Layer}
 use Rattle.etherparse.specs.Types.Layer.TheVariants as layers
@@ -28,8 +28,7 @@ pub data CanBeCompleted : Layer → ℕ → Type 0 where
 -- (IEEE 802.1AE, 9.3).
 abbrev pub type_place : (encrypted changed sci_present : ℕ) → Option ℕ
 type_place zero zero sci_present = Some (6 + 8 * sci_present)
-type_place zero (suc changed) sci_present = None
-type_place (suc encrypted) changed sci_present = None
+type_place _ _ sci_present = None
 
 -- A unit of a layer that begins with these bytes: the number of its bytes, and the place of its ether type if it has one.
 pub data Plan (begun : List ℕ) : Layer → ℕ → Option ℕ → Type 0 where

@@ -3,7 +3,7 @@ use Rattle.std.specs.Prelude.{◌≡◌, ℕ, ◌+◌, List, Option, Some, None,
 use Rattle.etherparse.specs.Types.LenSource.{LenSource}
 use Rattle.etherparse.specs.Types.Layer.{Layer}
 use Rattle.etherparse.specs.Header.{Header}
-use Rattle.etherparse.specs.Refusal.{Refusal, Length, UnsupportedPacketType, UnsupportedHardwareType, UnexpectedVersion, InvalidShortLen}
+use Rattle.etherparse.specs.Refusal.{Refusal, Length}
 use Rattle.ether_peel.specs.Stack.{Ending, Accepted, Fault, last_window, last_expected}
 
 -- the refusal with which it ends, if it does not end accepted
@@ -14,10 +14,7 @@ refusal_of (Fault v y r) = Some r
 -- refused for what stands in the bytes, not for their number
 abbrev pub IsContent : Refusal → Type 0
 IsContent (Length required len source layer) = ⊥
-IsContent (UnsupportedPacketType n) = Unit {0}
-IsContent (UnsupportedHardwareType n) = Unit {0}
-IsContent UnexpectedVersion = Unit {0}
-IsContent InvalidShortLen = Unit {0}
+IsContent _ = Unit {0}
 
 -- an open refusal: of a length, in an open window
 pub record OpenRefusal (e : Ending) : Type 0 where

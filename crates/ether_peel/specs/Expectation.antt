@@ -1,8 +1,7 @@
 -- What is expected at a place, and what that announces.
-use Rattle.std.specs.Prelude.{ℕ, zero, ◌-◌, Option, Some, None, Bool, true, false, nat_eq, if◌then◌else◌, ◌&&◌}
+use Rattle.std.specs.Prelude.{ℕ, zero, ◌-◌, Option, Some, None, Bool, true, false, nat_eq, if◌then◌else◌, ◌&&◌, ◌==◌}
 use Rattle.etherparse.specs.Types.LinuxSllProtocolType.{LinuxSllProtocolType}
-use Rattle.etherparse.specs.Types.LinuxSllProtocolType.TheVariants as protocols
-use Rattle.etherparse.specs.LinuxSllProtocolType.{protocol_of}
+use Rattle.etherparse.specs.LinuxSllProtocolType.{link_protocol_of}
 use Rattle.etherparse.specs.Macsec.{PayloadType}
 use Rattle.etherparse.specs.Macsec as payloads
 use Rattle.etherparse.specs.Vlan.{is_vlan_ether_type}
@@ -46,9 +45,7 @@ announced_by t =
 abbrev pub announced_next : Next → Option Kind
 announced_next (Start kind) = Some kind
 announced_next (EtherType t) = announced_by t
-announced_next (Sll protocol) = None
-announced_next Sealed = None
-announced_next AfterArp = None
+announced_next _ = None
 
 -- an extension is not announced where none may be read any more
 abbrev pub permitted : Option ℕ → Option Kind → Option Kind
@@ -58,23 +55,18 @@ permitted limit (Some kind) = if is_extension kind && is_spent limit then None e
 abbrev pub announced : Expectation → Option Kind
 announced x = permitted x.limit (announced_next x.next)
 
-abbrev pub after_protocol : LinuxSllProtocolType → Next
-after_protocol (protocols.EtherType t) = EtherType t.0
-after_protocol (protocols.LinuxNonstandardEtherType n) = EtherType n
-after_protocol (protocols.Ignored n) = Sll (protocols.Ignored n)
-after_protocol (protocols.NetlinkProtocolType n) = Sll (protocols.NetlinkProtocolType n)
-after_protocol (protocols.GenericRoutingEncapsulationProtocolType n) = Sll (protocols.GenericRoutingEncapsulationProtocolType n)
+-- the protocol number of a cooked capture is an ether type on Ethernet, which is hardware type 1 (LINKTYPE_LINUX_SLL)
+abbrev pub after_capture : (hardware number : ℕ) → Next
+after_capture hardware number = if hardware == 1 then EtherType number else Sll (link_protocol_of hardware number)
 
 abbrev pub after_payload : PayloadType → Next
 after_payload (payloads.Unmodified ether_type) = EtherType ether_type
-after_payload payloads.Modified = Sealed
-after_payload payloads.EncryptedUnmodified = Sealed
-after_payload payloads.Encrypted = Sealed
+after_payload _ = Sealed
 
 abbrev pub next_after : Header → Next
 next_after (headers.Ethernet2 e) = EtherType e.ether_type
 next_after (headers.Ethernet2Fcs e) = EtherType e.ether_type
-next_after (headers.LinuxSll s) = after_protocol (protocol_of s.hardware_type s.protocol)
+next_after (headers.LinuxSll s) = after_capture s.hardware_type s.protocol
 next_after (headers.Vlan v) = EtherType v.ether_type
 next_after (headers.Macsec t) = after_payload t.payload_type
 next_after (headers.Arp a) = AfterArp

@@ -2,11 +2,13 @@
 use Rattle.std.specs.Prelude.{◌≡◌, ℕ, List, Some, false}
 use Rattle.etherparse.specs.Types.LenSource.{LenSource}
 use Rattle.etherparse.specs.Types.LenSource.TheVariants as sources
+use Rattle.etherparse.specs.Types.LinuxSllProtocolType.{LinuxSllProtocolType}
+use Rattle.etherparse.specs.Types.LinuxSllProtocolType.TheVariants as protocols
 use Rattle.etherparse.specs.Types.MacsecPayloadSlice.{MacsecPayloadSlice}
 use Rattle.etherparse.specs.Types.MacsecPayloadSlice.TheVariants as payloads
 use Rattle.etherparse.specs.Kind.{Kind}
 use Rattle.etherparse.specs.Refusal.{Refusal, Refuses}
-use Rattle.ether_peel.specs.Expectation.{Next, EtherType, Sealed, announced}
+use Rattle.ether_peel.specs.Expectation.{Next, EtherType, Sll, Sealed, announced}
 use Rattle.ether_peel.specs.PeelState.{State}
 use Rattle.ether_peel.specs.PeelFault.{error_at}
 use Rattle.ether_peel.specs.declared.peel_error.PeelError.{PeelError}
@@ -30,6 +32,12 @@ abbrev pub named_error : LenSource → PeelError → PeelError
 named_error bound (errors.Len e) = errors.Len (record e { len_source = named_source bound e.len_source })
 named_error bound (errors.LinuxSll e) = errors.LinuxSll e
 named_error bound (errors.Macsec e) = errors.Macsec e
+
+-- what is expected in the payload of a cooked capture
+abbrev pub after_protocol : LinuxSllProtocolType → Next
+after_protocol (protocols.EtherType t) = EtherType t.0
+after_protocol (protocols.LinuxNonstandardEtherType n) = EtherType n
+after_protocol other = Sll other
 
 -- what is expected in the payload of a SecTag
 abbrev pub after_sec_tag : MacsecPayloadSlice → Next

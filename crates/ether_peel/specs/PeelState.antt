@@ -38,9 +38,7 @@ expected_of firsts.LinuxSll kind = Start kinds.LinuxSll
 -- once the first header was read, the ether type that is kept announces what is expected
 abbrev pub Announces : First → Option ℕ → ℕ → RestKind → Type 0
 Announces firsts.Read limit ether_type kind = permitted limit (announced_next (shown_of kind)) ≡ announced_by ether_type
-Announces firsts.Ethernet2 limit ether_type kind = Unit {0}
-Announces firsts.Ethernet2Fcs limit ether_type kind = Unit {0}
-Announces firsts.LinuxSll limit ether_type kind = Unit {0}
+Announces _ limit ether_type kind = Unit {0}
 
 -- the kind that is kept is what is shown
 abbrev pub IsShown : First → RestKind → Type 0

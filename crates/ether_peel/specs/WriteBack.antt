@@ -19,12 +19,8 @@ use Rattle.ether_peel.specs.declared.peel_unit.PeelUnit.TheVariants as units
 -- Where a SecTag begins at a place, its second byte is replaced by its remainder by 64, which leaves out the two reserved bits
 -- (IEEE 802.1AE, 9.7).
 abbrev pub cleared_at : List ℕ → ℕ → Header → List ℕ
-cleared_at list at (headers.Ethernet2 e) = list
-cleared_at list at (headers.Ethernet2Fcs e) = list
-cleared_at list at (headers.LinuxSll s) = list
-cleared_at list at (headers.Vlan v) = list
 cleared_at list at (headers.Macsec t) = slice_set list (at + 1) (slice_index list (at + 1) % 64)
-cleared_at list at (headers.Arp a) = list
+cleared_at list at _ = list
 
 -- the list in which that is done for each of these headers, which stand one after the other from a place on
 abbrev pub cleared : List ℕ → ℕ → List Header → List ℕ

@@ -3,11 +3,11 @@ ghost use Rattle.std.specs.Prelude.{◌≡◌, ◌+◌, ◌^◌, ◌<◌, List, 
 ghost use Rattle.etherparse.specs.Header.{Header};
 ghost use Rattle.etherparse.specs.LinuxSll.{protocol_type_of_header};
 ghost use Rattle.ether_peel.specs.Window.{payload_bound};
-ghost use Rattle.ether_peel.specs.Expectation.{has_fcs, after_protocol, announced_next, announced_by, lowered as lowered_of, permitted as permitted_of};
+ghost use Rattle.ether_peel.specs.Expectation.{has_fcs, announced_next, announced_by, lowered as lowered_of, permitted as permitted_of};
 ghost use Rattle.ether_peel.specs.PeelState.{shown_of};
 ghost use Rattle.ether_peel.specs.Stack.{Ending, whole, Walk};
 ghost use Rattle.ether_peel.specs.PeelStart.{start_of, start_with, limited_start, kind_shown, next_shown};
-ghost use Rattle.ether_peel.specs.PeelRead.{after_sec_tag, named_error, sec_tag_payload};
+ghost use Rattle.ether_peel.specs.PeelRead.{after_protocol, after_sec_tag, named_error, sec_tag_payload};
 
 use crate::{PeelError, PeelFault, PeelUnit, RestKind, Start};
 use etherparse::err::LenError;

@@ -101,7 +101,7 @@ pub enum PlainRefusal {
     ShortLen,
 }
 
-/// How a walk ends: in the window that is left, where `expected` is what stands next. It is refused, or announces no
+/// How a walk ends: in the window that is left, where `expected` is what comes next. It is refused, or announces no
 /// unit.
 #[derive(Clone, Copy, PartialEq, Eq, Debug)]
 pub struct PlainEnding {
@@ -172,7 +172,7 @@ pub fn walk<'a>(
     Ok(PlainWalk { headers, ending })
 }
 
-/// Whether a VLAN tag or a SecTag stands next.
+/// Whether a VLAN tag or a SecTag comes next.
 fn is_extension(expected: PlainExpected) -> bool {
     matches!(
         expected,

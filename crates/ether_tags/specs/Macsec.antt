@@ -29,9 +29,7 @@ payload_type_view EncryptedUnmodified = payloads.EncryptedUnmodified
 -- the ether type that can be read behind a tag
 abbrev pub readable_type : PayloadType → Option ℕ
 readable_type (payloads.Unmodified ether_type) = Some ether_type
-readable_type payloads.Modified = None
-readable_type payloads.EncryptedUnmodified = None
-readable_type payloads.Encrypted = None
+readable_type _ = None
 
 -- a tag as the value of the wire format
 abbrev pub sec_tag_view : MacsecHeader → SecTagValue

@@ -159,7 +159,7 @@ module _ {W : Type 0} (command : Command) (contents : W → Option (List ℕ)) w
             is_verdict = judged.is_verdict ∙ ap (λ (v : Verdict). verdict_with v judged.accepted) so_far.is_verdict ∙ verdict_with-verdict_of so_far.all_accepted judged.accepted;
             is_count = let k = judged.is_count in let l = so_far.is_count in omega (arith, length-append so_far.done (ended ∷ []));
             kept = judged.begins;
-            written = Appends-then held (contents_of contents from) (contents_of contents to) so_far.text judged.text so_far.written judged.taken.grown;
+            written = Appends-then held (contents_of contents from) (contents_of contents to) so_far.text judged.text so_far.written judged.written;
           }
 
   -- the last piece of a line and its LF, where the line is bad
@@ -237,7 +237,7 @@ module _ {W : Type 0} (command : Command) (contents : W → Option (List ℕ)) w
           let whole = ended_lines held input old from so_far (some so_far.line so_far.kept) in (
             so_far.text ++ judged.text,
             so_far.all_accepted && judged.accepted,
-            Appends-then held (contents_of contents from) (contents_of contents to) so_far.text judged.text so_far.written judged.taken.grown,
+            Appends-then held (contents_of contents from) (contents_of contents to) so_far.text judged.text so_far.written judged.written,
             subst (λ (ls : List (List ℕ)). AreAnswered command ls (so_far.text ++ judged.text) (so_far.all_accepted && judged.accepted)) (sym whole)
                 (AreAnswered-push command so_far.done so_far.text so_far.all_accepted so_far.line judged.text judged.accepted so_far.answered judged.answered),
             judged.is_verdict ∙ ap (λ (v : Verdict). verdict_with v judged.accepted) so_far.is_verdict ∙ verdict_with-verdict_of so_far.all_accepted judged.accepted,
@@ -272,27 +272,27 @@ module _ {W : Type 0} (command : Command) (contents : W → Option (List ℕ)) w
       OnBadLine-map fault (RefusesLine [] InputEnd old from to) (StopsWithin command contents old from [] [] to) (λ number h. StopsWithin-end old from to number some h) refuses
 
   -- a bad line of the chunk
-  pub line_fault : (fault : ToolFault) (start old : LineLoop) (first from to : OutputBuffer W) (chunk front rest piece behind : List ℕ)
-      → chunk ≡ front ++ rest → Advances command contents start first front old from → HasNoLineFeed piece → rest ≡ piece ++ 10 ∷ behind
+  pub line_fault : (fault : ToolFault) (start old : LineLoop) (first from to : OutputBuffer W) (chunk front rest piece after : List ℕ)
+      → chunk ≡ front ++ rest → Advances command contents start first front old from → HasNoLineFeed piece → rest ≡ piece ++ 10 ∷ after
       → OnBadLine fault (RefusesLine piece LineFeed old from to)
       → OnBadLine fault (λ number. (later : List ℕ) → StopsWithin command contents start first chunk later to number)
-  line_fault fault start old first from to chunk front rest piece behind whole so_far none parts refuses =
+  line_fault fault start old first from to chunk front rest piece after whole so_far none parts refuses =
       OnBadLine-map fault (RefusesLine piece LineFeed old from to) (λ number. (later : List ℕ) → StopsWithin command contents start first chunk later to number) (λ number h later. stop number h later) refuses
     where
       stop : (number : ℕ) → RefusesLine piece LineFeed old from to number → (later : List ℕ) → StopsWithin command contents start first chunk later to number
       stop number h later =
-          let joined : front ++ (piece ++ 10 ∷ behind) ≡ chunk = ap (λ (bytes : List ℕ). front ++ bytes) (sym parts) ∙ sym whole in
+          let joined : front ++ (piece ++ 10 ∷ after) ≡ chunk = ap (λ (bytes : List ℕ). front ++ bytes) (sym parts) ∙ sym whole in
           subst (λ (bytes : List ℕ). StopsWithin command contents start first bytes later to number) joined
-          (StopsWithin-after start old first from to number front (piece ++ 10 ∷ behind) later so_far (StopsWithin-line old from to number piece behind later none h))
+          (StopsWithin-after start old first from to number front (piece ++ 10 ∷ after) later so_far (StopsWithin-line old from to number piece after later none h))
 
   -- a line of the chunk more
-  pub line_taken : (start old new : LineLoop) (first from to : OutputBuffer W) (chunk front rest piece behind : List ℕ)
-      → chunk ≡ front ++ rest → Advances command contents start first front old from → HasNoLineFeed piece → rest ≡ piece ++ 10 ∷ behind
+  pub line_taken : (start old new : LineLoop) (first from to : OutputBuffer W) (chunk front rest piece after : List ℕ)
+      → chunk ≡ front ++ rest → Advances command contents start first front old from → HasNoLineFeed piece → rest ≡ piece ++ 10 ∷ after
       → ((line : List ℕ) → KeepsLine old.line line → JudgesLine command contents (without_end LineFeed (line ++ piece)) old from new to)
-      → (more : List ℕ) × (chunk ≡ more ++ behind) × Advances command contents start first more new to
-  line_taken start old new first from to chunk front rest piece behind whole so_far none parts judges = (
+      → (more : List ℕ) × (chunk ≡ more ++ after) × Advances command contents start first more new to
+  line_taken start old new first from to chunk front rest piece after whole so_far none parts judges = (
     front ++ (piece ++ 10 ∷ []),
-    whole ∙ ap (λ (bytes : List ℕ). front ++ bytes) (parts ∙ sym (append_assoc piece (10 ∷ []) behind)) ∙ sym (append_assoc front (piece ++ 10 ∷ []) behind),
+    whole ∙ ap (λ (bytes : List ℕ). front ++ bytes) (parts ∙ sym (append_assoc piece (10 ∷ []) after)) ∙ sym (append_assoc front (piece ++ 10 ∷ []) after),
     Advances-then start old new first from to front (piece ++ 10 ∷ []) so_far (Advances-line old new from to piece none judges),
   )
 

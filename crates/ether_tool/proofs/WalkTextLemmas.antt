@@ -48,28 +48,28 @@ fcs_shown list w inside accepted =
 view_text-unit : (list : List ℕ) (x : Expectation) (w : Window) (h : Header) (u : PeelUnit) (rest : List ℕ) (closed : Bool) → IsBytes list → IsIn list w → IsUnit list x w h → IsIn list (payload w h)
     → rest ≡ within list (payload w h) → closed ≡ (payload w h).closed → ShowsUnit (within list w) rest h u → view_text w.start (length rest) closed u ≡ unit_text list w h
 unfolding unit_text
-view_text-unit list x w (headers.Ethernet2 e) u rest closed ok inside unit behind left mark shows =
+view_text-unit list x w (headers.Ethernet2 e) u rest closed ok inside unit after left mark shows =
     let bytes = within list w in
     let is = ethernet2_shown bytes e (IsBytes-part w.start w.finish list ok) unit.means in
     ap (view_text w.start (length rest) closed) shows ∙ ap (ethernet2_text w.start) is
-view_text-unit list x w (headers.Ethernet2Fcs e) u rest closed ok inside unit behind left mark shows =
+view_text-unit list x w (headers.Ethernet2Fcs e) u rest closed ok inside unit after left mark shows =
     let bytes = within list w in
     let plain : Means bytes (headers.Ethernet2 e) = record { whole = unit.means.whole; spells = unit.means.spells } in
     let is = ethernet2_shown bytes e (IsBytes-part w.start w.finish list ok) plain in
     ap (view_text w.start (length rest) closed) shows ∙ ap (λ (v : Ethernet2Value). ethernet2_fcs_text w.start v (slice_range bytes (length bytes - 4) (length bytes))) is ∙ ap (ethernet2_fcs_text w.start e) (fcs_shown list w inside unit.accepted)
-view_text-unit list x w (headers.LinuxSll s) u rest closed ok inside unit behind left mark shows =
+view_text-unit list x w (headers.LinuxSll s) u rest closed ok inside unit after left mark shows =
     let is = linux_sll_shown (within list w) s (IsBytes-part w.start w.finish list ok) unit.means in
     ap (view_text w.start (length rest) closed) shows ∙ ap (linux_sll_text w.start) is
-view_text-unit list x w (headers.Vlan v) u rest closed ok inside unit behind left mark shows =
+view_text-unit list x w (headers.Vlan v) u rest closed ok inside unit after left mark shows =
     let is = vlan_shown (within list w) v (IsBytes-part w.start w.finish list ok) unit.means in
     ap (view_text w.start (length rest) closed) shows ∙ ap (vlan_text w.start) is
-view_text-unit list x w (headers.Macsec t) u rest closed ok inside unit behind left mark shows =
+view_text-unit list x w (headers.Macsec t) u rest closed ok inside unit after left mark shows =
     let inner = payload w (headers.Macsec t) in
     let (m, is_view, view) = shows in
     let is = ap sec_tag_of view.header ∙ macsec_shown (within list w) t (IsBytes-part w.start w.finish list ok) unit.means in
-    let len : length rest ≡ inner.finish - inner.start = ap length left ∙ length-part list inner.start inner.finish behind.inside in
+    let len : length rest ≡ inner.finish - inner.start = ap length left ∙ length-part list inner.start inner.finish after.inside in
     ap (view_text w.start (length rest) closed) is_view ∙ ap (λ (v : SecTagValue). macsec_text w.start v (length rest) closed) is ∙ ap (λ (n : ℕ). macsec_text w.start t n closed) len ∙ ap (macsec_text w.start t (inner.finish - inner.start)) mark
-view_text-unit list x w (headers.Arp a) u rest closed ok inside unit behind left mark shows =
+view_text-unit list x w (headers.Arp a) u rest closed ok inside unit after left mark shows =
     let is = arp_shown (within list w) a (IsBytes-part w.start w.finish list ok) unit.means in
     ap (view_text w.start (length rest) closed) shows ∙ ap (arp_text w.start) is
 
@@ -135,9 +135,9 @@ module _ {W : Type 0} (contents : W → Option (List ℕ)) where
       let hs = n.later in
       let faces = subst (λ (l : List Header). Faces frame a.window s l a.ending) n.parts a.faces in
       let shows = subst (λ (l : List ℕ). ShowsUnit l t.rest h u) faces.rest n.shows in
-      let behind = n.faces in
+      let after = n.faces in
       let is : view_text s.offset (length t.rest) t.closed u ≡ unit_text frame a.window h =
-      ap (λ (k : ℕ). view_text k (length t.rest) t.closed u) faces.offset ∙ view_text-unit frame s.expected a.window h u t.rest t.closed ok faces.inside faces.stack.0 behind.inside behind.rest behind.closed shows in
+      ap (λ (k : ℕ). view_text k (length t.rest) t.closed u) faces.offset ∙ view_text-unit frame s.expected a.window h u t.rest t.closed ok faces.inside faces.stack.0 after.inside after.rest after.closed shows in
       let written = unit_text frame a.window h ++ codes "\n" in
       record {
         all = a.all;

@@ -5,9 +5,11 @@ pub mod Mode
 pub mod Command
 pub mod WalkText
 pub mod OutputBuffer
+pub mod InputReader
 pub mod Frame
 pub mod LineBuffer
 pub mod Run
 pub mod LineLoop
 pub mod Outcome
+pub mod Program
 pub mod Laws

@@ -2,8 +2,8 @@
 use Rattle.std.specs.Prelude.{◌≡◌, ℕ, ◌-◌, ◌^◌, min, List, [], ◌∷◌, ◌++◌, length, Bool, Option}
 use Rattle.std.specs.Str.Lines.{lines}
 use Rattle.std.specs.Io.KnownBytes.{Appends}
-use Rattle.ether_tool.specs.OutputBuffer.{contents_of, Takes}
-use Rattle.ether_tool.specs.Run.{HasNoLineFeed, IsLineAnswered, AreAnswered, StopsAtLine, verdict_of, verdict_with, number_behind}
+use Rattle.ether_tool.specs.OutputBuffer.{contents_of}
+use Rattle.ether_tool.specs.Run.{HasNoLineFeed, IsLineAnswered, AreAnswered, StopsAtLine, verdict_of, verdict_with, number_after}
 use Rattle.ether_tool.specs.Frame.{IsBadLine}
 use Rattle.ether_tool.specs.LineBuffer.{KeepsLine, without_end}
 use Rattle.ether_tool.specs.declared.command.Command.{Command}
@@ -13,10 +13,10 @@ use Rattle.ether_tool.specs.declared.output_buffer.OutputBuffer.{OutputBuffer}
 use Rattle.ether_tool.specs.declared.line_buffer.LineEnd.{LineEnd}
 use Rattle.ether_tool.specs.declared.line_loop.LineLoop.{LineLoop}
 
--- the bytes are those before their first LF, the LF, and those behind it
-pub record SplitsAtLineFeed (bytes before behind : List ℕ) : Type 0 where
+-- the bytes are those before their first LF, the LF, and those after it
+pub record SplitsAtLineFeed (bytes before after : List ℕ) : Type 0 where
   pub in_line : HasNoLineFeed before
-  pub parts : bytes ≡ before ++ 10 ∷ behind
+  pub parts : bytes ≡ before ++ 10 ∷ after
 
 -- Of the input so far the done lines are answered, and the last of it is the line under way.
 pub record Reached {W : Type 0} (command : Command) (contents : W → Option (List ℕ)) (held : Option (List ℕ)) (input : List ℕ) (at : LineLoop) (out : OutputBuffer W) : Type 0 where
@@ -37,15 +37,15 @@ pub record JudgesLine {W : Type 0} (command : Command) (contents : W → Option 
   pub text : List ℕ
   pub accepted : Bool
   pub answered : IsLineAnswered command line text accepted
-  pub taken : Takes contents from text to
+  pub written : Appends (contents_of contents from) (contents_of contents to) text
   pub is_verdict : new.verdict ≡ verdict_with old.verdict accepted
-  pub is_count : new.count ≡ number_behind old.count
+  pub is_count : new.count ≡ number_after old.count
   pub begins : KeepsLine new.line []
 
 -- the line under way and its last piece are a bad line, and nothing is written for it
 pub record RefusesLine {W : Type 0} (piece : List ℕ) (end : LineEnd) (old : LineLoop) (from to : OutputBuffer W) (number : ℕ) : Type 0 where
   pub is_bad : (line : List ℕ) → KeepsLine old.line line → IsBadLine (without_end end (line ++ piece))
-  pub is_number : number ≡ number_behind old.count
+  pub is_number : number ≡ number_after old.count
   pub same : to ≡ from
 
 -- the run has come further by these bytes

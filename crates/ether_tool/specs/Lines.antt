@@ -23,7 +23,7 @@ use Rattle.ether_peel.specs.Stack.{Ending, Accepted, Fault}
 
 -- ---- words
 
--- the words one behind the other, with a space between two
+-- the words one after the other, with a space between two
 abbrev pub spaced : List (List ℕ) → List ℕ
 spaced [] = []
 spaced (word ∷ []) = word

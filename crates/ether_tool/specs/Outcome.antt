@@ -1,5 +1,5 @@
 -- How the program ends: what it prints last, and its exit status.
-use Rattle.std.specs.Prelude.{ℕ, List, ◌++◌, codes, Option, Some, None, Result, Ok, Err}
+use Rattle.std.specs.Prelude.{ℕ, List, ◌++◌, codes, Option, Some, None, Result, Ok, Err, Bool, true, false}
 use Rattle.std.specs.Fmt.{decimal}
 use Rattle.ether_tool.specs.declared.mode.Usage.{Usage}
 use Rattle.ether_tool.specs.declared.outcome.LastLine.{LastLine}
@@ -31,9 +31,11 @@ last_text (Ok (Err (BadLine number))) = Some (bad_line_text number)
 last_text (Ok (Err Input)) = None
 last_text (Ok (Err Output)) = None
 
-abbrev pub program_status : Result (Result Verdict ToolFault) Usage → ℕ
-program_status (Err usage) = 2
-program_status (Ok outcome) = exit_status outcome
+-- the exit status of the program, by whether its last line was printed: if not, output failed
+abbrev pub status_of_program : Result (Result Verdict ToolFault) Usage → (printed : Bool) → ℕ
+status_of_program outcome false = exit_status (Err Output)
+status_of_program (Ok outcome) true = exit_status outcome
+status_of_program (Err usage) true = 2
 
 abbrev pub last_line_text : LastLine → List ℕ
 last_line_text last_lines.Usage = usage_text

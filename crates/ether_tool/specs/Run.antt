@@ -5,8 +5,6 @@ use Rattle.std.specs.Str.Lines.{lines}
 use Rattle.std.specs.Io.KnownBytes.{Appends, Consumes, IsAtEnd}
 use Rattle.ether_tool.specs.WalkText.{Answers}
 use Rattle.ether_tool.specs.Frame.{IsFrame, IsBadLine}
-use Rattle.ether_tool.specs.Command.{unlimited}
-use Rattle.ether_tool.specs.declared.mode.Mode.{Mode}
 use Rattle.ether_tool.specs.declared.command.Command.{Command}
 use Rattle.ether_tool.specs.declared.outcome.Verdict.{Verdict}
 use Rattle.ether_tool.specs.declared.outcome.Verdict.TheVariants.{AllAccepted, SomeRefused}
@@ -41,9 +39,9 @@ abbrev pub verdict_with : Verdict → Bool → Verdict
 verdict_with AllAccepted accepted = verdict_of accepted
 verdict_with SomeRefused accepted = SomeRefused
 
--- the number of the line behind this many lines: counted from 1, it stays at its greatest value
-abbrev pub number_behind : ℕ → ℕ
-number_behind count = min (count + 1) (2 ^ 64 - 1)
+-- the number of the line after this many lines: counted from 1, it stays at its greatest value
+abbrev pub number_after : ℕ → ℕ
+number_after count = min (count + 1) (2 ^ 64 - 1)
 
 -- The line of this number is the first bad line of the input, and the text answers the lines before it.
 pub record StopsAtLine (command : Command) (input : List ℕ) (number : ℕ) (text : List ℕ) : Type 0 where
@@ -54,10 +52,10 @@ pub record StopsAtLine (command : Command) (input : List ℕ) (number : ℕ) (te
   pub parts : lines input ≡ good ++ bad ∷ later
   pub answered : AreAnswered command good text all_accepted
   pub is_bad : IsBadLine bad
-  pub is_number : number ≡ number_behind (length good)
+  pub is_number : number ≡ number_after (length good)
 
 -- From before to after the reader gave all its bytes, and the writer took the text that answers their lines.
-pub record AnswersInputBy (command : Command) (before after held holds : Option (List ℕ)) (verdict : Verdict) : Type 0 where
+pub record AnswersInput (command : Command) (before after held holds : Option (List ℕ)) (verdict : Verdict) : Type 0 where
   pub input : List ℕ
   pub text : List ℕ
   pub all_accepted : Bool
@@ -73,7 +71,7 @@ IsLeft after bytes = IfSome after (λ known. bytes ≡ known)
 
 -- From before to after the reader gave some of its bytes. The line of this number is the first bad line of all of
 -- them, and the writer took the text that answers the lines before it.
-pub record StopsInputBy (command : Command) (before after held holds : Option (List ℕ)) (number : ℕ) : Type 0 where
+pub record StopsInput (command : Command) (before after held holds : Option (List ℕ)) (number : ℕ) : Type 0 where
   pub taken : List ℕ
   pub left : List ℕ
   pub text : List ℕ
@@ -84,7 +82,7 @@ pub record StopsInputBy (command : Command) (before after held holds : Option (L
 
 -- From before to after the reader gave some of its bytes. In them these lines have ended, whatever follows, and the
 -- writer took the text that answers them.
-pub record BreaksOffBy (command : Command) (before after held holds : Option (List ℕ)) : Type 0 where
+pub record BreaksOff (command : Command) (before after held holds : Option (List ℕ)) : Type 0 where
   pub taken : List ℕ
   pub done : List (List ℕ)
   pub begun : List ℕ
@@ -96,16 +94,12 @@ pub record BreaksOffBy (command : Command) (before after held holds : Option (Li
   pub answered : AreAnswered command done text all_accepted
   pub written : Appends held holds text
 
--- ---- the same in a mode without a limit
-
-abbrev pub AnswersInput : Mode → (before after held holds : Option (List ℕ)) → Verdict → Type 0
-AnswersInput mode = AnswersInputBy (unlimited mode)
-
-abbrev pub StopsInput : Mode → (before after held holds : Option (List ℕ)) → ℕ → Type 0
-StopsInput mode = StopsInputBy (unlimited mode)
-
-abbrev pub BreaksOff : Mode → (before after held holds : Option (List ℕ)) → Type 0
-BreaksOff mode = BreaksOffBy (unlimited mode)
+-- What a run has read and written, by its outcome. Of a fault of the writer nothing is said.
+abbrev pub HasRun : Command → (before after held holds : Option (List ℕ)) → Result Verdict ToolFault → Type 0
+HasRun command before after held holds (Ok verdict) = AnswersInput command before after held holds verdict
+HasRun command before after held holds (Err (BadLine number)) = StopsInput command before after held holds number
+HasRun command before after held holds (Err Input) = BreaksOff command before after held holds
+HasRun command before after held holds (Err Output) = ⊤
 
 -- ---- what is said of each outcome
 

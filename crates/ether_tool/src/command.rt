@@ -1,12 +1,12 @@
-//! What a run is told to do, and the words that tell it.
+//! A command: a mode with its limit, if it has one, and the words that name it.
 ghost use Rattle.std.specs.Prelude.{map, IfOk, OnErr, ℕ};
 ghost use Rattle.std.specs.Vec.Iter.{into_iter_items};
-ghost use Rattle.ether_tool.specs.Command.{NamesCommand, NamesLimit, NamesNoCommand, words_behind};
+ghost use Rattle.ether_tool.specs.Command.{NamesCommand, NamesLimit, NamesNoCommand, words_after};
 
 use crate::mode::{Mode, Usage, named_mode};
 use std::env;
 
-/// How the frames of a run are read.
+/// The mode of a run, and its limit.
 #[derive(Clone, Copy)]
 pub struct Command {
     /// How the frames begin, and how they are read.
@@ -49,8 +49,8 @@ fn limit_of(digits: &str) -> Result<usize, Usage>
 
 /// The mode and the limit that the program's arguments name. The first of them is its own name.
 pub fn command_of_args(mut args: env::Args) -> Result<(Mode, Option<usize>), Usage>
-    ensures ok { IfOk result (NamesCommand (words_behind (into_iter_items args))) }
-    ensures err { OnErr result (NamesNoCommand (words_behind (into_iter_items args))) }
+    ensures ok { IfOk result (NamesCommand (words_after (into_iter_items args))) }
+    ensures err { OnErr result (NamesNoCommand (words_after (into_iter_items args))) }
 {
     let _program = args.next();
     let Some(first) = args.next() else {

@@ -4,7 +4,7 @@ ghost use Rattle.std.specs.Prelude.{◌≡◌, ◌↔◌, IsTrue};
 use crate::command::Command;
 use crate::line_buffer::LineEnd;
 use crate::mode::{Mode, Usage};
-use crate::outcome::{Ending, LastLine, ToolFault, Verdict};
+use crate::outcome::{LastLine, ToolFault, Verdict};
 use std::alloc::AllocError;
 
 pub fn clone_of_verdict(value: &Verdict) -> Result<Verdict, AllocError>
@@ -109,26 +109,8 @@ pub fn copy_of_last_line(value: LastLine) -> (LastLine, LastLine)
     (value, value)
 }
 
-pub fn clone_of_ending(value: &Ending) -> Result<Ending, AllocError>
-    ensures { result ≡ Ok value.now }
-{
-    value.clone()
-}
-
-pub fn copy_of_ending(value: Ending) -> (Ending, Ending)
-    ensures { result ≡ (value, value) }
-{
-    (value, value)
-}
-
 pub fn same_last_line(a: &LastLine, b: &LastLine) -> bool
     ensures { IsTrue result ↔ (a.now ≡ b.now) }
-{
-    *a == *b
-}
-
-pub fn same_ending(a: &Ending, b: &Ending) -> bool
-    ensures { IsTrue result ↔ ((a.now.line ≡ b.now.line) × (a.now.status ≡ b.now.status)) }
 {
     *a == *b
 }

@@ -11,7 +11,7 @@ pub const MAX_LINE_DIGITS: usize = 2 * MAX_FRAME_LEN;
 /// Reads the frame that `line` names to the front of `out`, and returns its length in bytes.
 ///
 /// `line` is given without its line ending, as pairs of hexadecimal digits of either case. `None`
-/// where it has more than 4,096 digits, an odd number of them, or a character that is no digit;
+/// if it has more than 4,096 digits, an odd number of them, or a character that is no digit;
 /// nothing is said of `out` then.
 pub fn frame_of(line: &[u8], out: &mut [u8; MAX_FRAME_LEN]) -> Option<usize>
     ensures within { IfSome result (λ count. count ≤ max_frame_len) }

@@ -1,11 +1,12 @@
 //! The reader of a run, which remembers that it failed.
 ghost use Rattle.std.specs.Io.KnownBytes.{Consumes, IsAtEnd, Keeps};
+ghost use Rattle.ether_tool.specs.InputReader.{HasCause};
 
 use crate::outcome::ToolFault;
 use crate::output_buffer::OutputBuffer;
 use std::io::Read;
 
-/// The reader of a run. No other function of this crate calls it, and after a failure none does.
+/// The reader of a run. During a run nothing else calls it, and after a fault nothing does.
 #[derive(Drop)]
 pub struct InputReader<'a, R> {
     inner: &'a mut R,
@@ -14,13 +15,14 @@ pub struct InputReader<'a, R> {
 }
 
 impl<'a, R: Read> InputReader<'a, R> {
-    ghost use Rattle.std.specs.Prelude.{◌≡◌, ◌+◌, ◌≤◌, ◌<◌, [], length, take, true, false, IfOk, OnOk, IfErr};
+    ghost use Rattle.std.specs.Prelude.{◌≡◌, ◌+◌, ◌-◌, ◌^◌, ◌≤◌, ◌<◌, [], length, take, true, false, IfOk, OnOk, OnErr, IfErr};
 
     /// A reader that has not failed, for up to `u64::MAX` reads.
     pub fn new(reader: &'a mut R) -> Self
         ensures same_reader { result.inner.ghost_name ≡ reader.entry.ghost_name }
         ensures remaining { result.inner.now ≡ reader.old }
         ensures fresh { result.has_failed ≡ false }
+        ensures reads { result.reads_left ≡ 2 ^ 64 - 1 }
     {
         InputReader {
             inner: reader,
@@ -29,10 +31,10 @@ impl<'a, R: Read> InputReader<'a, R> {
         }
     }
 
-    /// Reads some bytes to the front of `chunk`: none where the input is at its end.
+    /// Reads some bytes to the front of `chunk`, and returns their number: 0 at the end of the input.
     ///
-    /// Whoever waits for the answers to what was read so far has them: in `out` no text may wait.
-    /// [`ToolFault::Input`] where the reader failed, or was read `u64::MAX` times.
+    /// No text may wait in `out`, so that whoever reads the output has the lines for all that was read so far.
+    /// Returns [`ToolFault::Input`] if the read fails, if an earlier one failed, or after `u64::MAX` reads.
     pub fn read<W>(
         &mut self,
         chunk: &mut [u8],
@@ -47,6 +49,7 @@ impl<'a, R: Read> InputReader<'a, R> {
         ensures going { OnOk result (self.new.has_failed ≡ false) }
         ensures fault { IfErr result (λ fault. fault ≡ ToolFault.Input) }
         ensures failed { IfErr result (λ fault. self.new.has_failed ≡ true) }
+        ensures cause { OnErr result (HasCause self.old self.new) }
         ensures kept { IfErr result (λ fault. Keeps (R.remaining self.old.inner.now) (R.remaining self.new.inner.now)) }
     {
         if self.has_failed || self.reads_left == 0 {

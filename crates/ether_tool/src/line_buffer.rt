@@ -5,7 +5,7 @@ use arrayvec::ArrayVec;
 /// What ended a line.
 #[derive(Clone, Copy, PartialEq, Eq, Debug)]
 pub enum LineEnd {
-    /// An LF, behind which another line may come.
+    /// An LF, after which another line may come.
     LineFeed,
     /// The end of the input.
     InputEnd,
@@ -63,7 +63,7 @@ impl LineBuffer {
     }
 
     /// Ends the line with its last piece, and begins the next: the length of the frame that the
-    /// line names, which then begins `frame`. `None` where the line is bad.
+    /// line names, which then begins `frame`. `None` if the line is bad.
     ///
     /// A line that is one piece is not copied.
     pub fn end(
@@ -88,7 +88,7 @@ impl LineBuffer {
         len
     }
 
-    /// The length of the frame that the line names, which then begins `frame`. `None` where the
+    /// The length of the frame that the line names, which then begins `frame`. `None` if the
     /// line is bad.
     fn frame(&self, end: LineEnd, frame: &mut [u8; MAX_FRAME_LEN]) -> Option<usize>
         ensures within { IfSome result (λ len. len ≤ max_frame_len) }

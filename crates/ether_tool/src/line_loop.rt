@@ -33,7 +33,7 @@ impl LineLoop {
         }
     }
 
-    /// Answers the line under way, which ends with this piece, and begins the next. `frame` is
+    /// Puts the text for the line under way, which ends with this piece, and begins the next. `frame` is
     /// room for the line's frame.
     fn judge<W: Write>(
         &mut self,
@@ -53,16 +53,16 @@ impl LineLoop {
         let Some(len) = self.line.end(piece, end, frame) else {
             return Err(ToolFault::BadLine(number));
         };
-        let accepted = match put_answer(command, &frame[..len], out) {
-            Ok(accepted) => accepted,
-            Err(fault) => return Err(fault),
-        };
+        let accepted = put_answer(command, &frame[..len], out);
+        if let Err(fault) = out.check() {
+            return Err(fault);
+        }
         self.verdict = self.verdict.with(accepted);
         self.count = number;
         Ok(())
     }
 
-    /// Takes the next bytes of the input, and answers each line that ends in them.
+    /// Takes the next bytes of the input, and puts the text for each line that ends in them.
     pub fn take_chunk<W: Write>(
         &mut self,
         command: Command,
@@ -77,17 +77,17 @@ impl LineLoop {
     {
         let mut frame = [0; MAX_FRAME_LEN];
         let mut rest = chunk;
-        while let Some((piece, behind)) = split_line(rest) {
+        while let Some((piece, after)) = split_line(rest) {
             if let Err(fault) = self.judge(command, piece, LineEnd::LineFeed, &mut frame, out) {
                 return Err(fault);
             }
-            rest = behind;
+            rest = after;
         }
         self.line.extend(rest);
         Ok(())
     }
 
-    /// Answers the last line, where the input ends in one without an LF, and tells the verdict.
+    /// Puts the text for the last line, if the input ends in one without an LF, and returns the verdict.
     pub fn finish<W: Write>(
         mut self,
         command: Command,
@@ -110,12 +110,42 @@ impl LineLoop {
     }
 }
 
-ghost use Rattle.std.specs.Prelude.{IfSome, IfNone};
+ghost use Rattle.std.specs.Prelude.{◌≤◌, length, take, IfSome, IfNone};
 ghost use Rattle.ether_tool.specs.LineLoop.{SplitsAtLineFeed};
 ghost use Rattle.ether_tool.specs.Run.{HasNoLineFeed};
 
-/// The bytes before the first LF, and those behind it. `None` where there is no LF.
+/// The bytes before the first LF, and those after it. `None` if there is no LF.
 fn split_line(bytes: &[u8]) -> Option<(&[u8], &[u8])>
+    ensures some { IfSome result (λ parts. SplitsAtLineFeed bytes.now parts.0.now parts.1.now) }
+    ensures none { IfNone result (HasNoLineFeed bytes.now) }
+{
+    let skipped = blocks_len(bytes);
+    match split_near(&bytes[skipped..]) {
+        Some((piece, after)) => Some((&bytes[..skipped + piece.len()], after)),
+        None => None,
+    }
+}
+
+/// The number of bytes that [`blocks_len`] tests at once.
+const BLOCK_LEN: usize = 32;
+
+/// The length of the whole blocks before the first that has an LF.
+fn blocks_len(bytes: &[u8]) -> usize
+    ensures within { result ≤ length bytes.now }
+    ensures none { HasNoLineFeed (take result bytes.now) }
+{
+    let mut len = 0;
+    while bytes.len() - len >= BLOCK_LEN {
+        if bytes[len..len + BLOCK_LEN].contains(&b'\n') {
+            return len;
+        }
+        len += BLOCK_LEN;
+    }
+    len
+}
+
+/// Does as [`split_line`], byte by byte.
+fn split_near(bytes: &[u8]) -> Option<(&[u8], &[u8])>
     ensures some { IfSome result (λ parts. SplitsAtLineFeed bytes.now parts.0.now parts.1.now) }
     ensures none { IfNone result (HasNoLineFeed bytes.now) }
 {

@@ -1,7 +1,7 @@
 //! The lines that a walk is printed as: one for each unit and one for the ending, or one for what feeding it comes to.
 //!
 //! Each is put into the output piece by piece: through the formatter it would take twice as long.
-ghost use Rattle.std.specs.Prelude.{◌≡◌, ◌++◌, ◌+◌, ◌≤◌, ◌<◌, codes, decimal, length, true, IfErr, OnOk, OnErr};
+ghost use Rattle.std.specs.Prelude.{◌≡◌, ◌++◌, ◌+◌, ◌≤◌, ◌<◌, codes, decimal, length, true};
 ghost use Rattle.etherparse.specs.Ethernet2.{ethernet2_of, fcs_of};
 ghost use Rattle.etherparse.specs.Vlan.{vlan_of};
 ghost use Rattle.etherparse.specs.LinuxSll.{linux_sll_of};
@@ -12,19 +12,16 @@ ghost use Rattle.ether_tool.specs.OutputBuffer.{Takes};
 ghost use Rattle.ether_tool.specs.ViewLines.{error_view_text, ethernet2_view_text, fault_view_text, fcs_text, kind_view_text, len_view_text, linux_sll_view_text, macsec_view_text, rest_view_text, view_text};
 
 use crate::hex_text::{hex_address, hex_fcs, hex_long, hex_type};
-use crate::outcome::ToolFault;
 use crate::output_buffer::OutputBuffer;
-use arrayvec::ArrayString;
 use ether_peel::{PeelError, PeelFault, PeelUnit, RestKind};
 use etherparse::err::{self, LenError};
 use etherparse::{
     ArpPacketSlice, EtherType, Ethernet2Slice, LenSource, LinuxSllProtocolType, LinuxSllSlice,
     MacsecHeaderSlice, MacsecPType, SingleVlanSlice,
 };
-use std::fmt::Write as _;
 use std::io::Write;
 
-/// Puts the line of a unit that starts at a place of the frame. Behind the unit there is left a
+/// Puts the line of a unit that starts at a place of the frame. After the unit there is left a
 /// window of `len` bytes, which is closed or open.
 pub fn put_unit<W: Write>(
     out: &mut OutputBuffer<'_, W>,
@@ -32,88 +29,67 @@ pub fn put_unit<W: Write>(
     len: usize,
     closed: bool,
     unit: &PeelUnit<'_>,
-) -> Result<(), ToolFault>
-    ensures same_writer { out.new.writer.ghost_name ≡ out.old.writer.ghost_name }
-    ensures ok { OnOk result (Takes W.contents out.old (view_text start len closed unit.now ++ codes "\n") out.new) }
-    ensures fault { IfErr result (λ fault. fault ≡ ToolFault.Output) }
-    ensures failed { OnErr result (out.new.has_failed ≡ true) }
+)
+    ensures { Takes W.contents out.old (view_text start len closed unit.now ++ codes "\n") out.new }
 {
     match unit {
-        PeelUnit::Ethernet2(slice) => put_ethernet2(out, start, slice)?,
-        PeelUnit::LinuxSll(slice) => put_linux_sll(out, start, slice)?,
-        PeelUnit::Vlan(slice) => put_vlan(out, start, slice)?,
-        PeelUnit::Macsec(slice) => put_macsec(out, start, &slice.header, len, closed)?,
-        PeelUnit::Arp(slice) => put_arp(out, start, slice)?,
+        PeelUnit::Ethernet2(slice) => put_ethernet2(out, start, slice),
+        PeelUnit::LinuxSll(slice) => put_linux_sll(out, start, slice),
+        PeelUnit::Vlan(slice) => put_vlan(out, start, slice),
+        PeelUnit::Macsec(slice) => put_macsec(out, start, &slice.header, len, closed),
+        PeelUnit::Arp(slice) => put_arp(out, start, slice),
     }
-    out.put(b"\n")
+    out.put(b"\n");
 }
 
 /// Puts the text of an Ethernet II header.
 #[inline(always)]
-fn put_ethernet2<W: Write>(
-    out: &mut OutputBuffer<'_, W>,
-    start: usize,
-    slice: &Ethernet2Slice<'_>,
-) -> Result<(), ToolFault>
-    ensures same_writer { out.new.writer.ghost_name ≡ out.old.writer.ghost_name }
-    ensures ok { OnOk result (Takes W.contents out.old (ethernet2_view_text start (ethernet2_of slice.now.bytes) (fcs_of slice.now)) out.new) }
-    ensures fault { IfErr result (λ fault. fault ≡ ToolFault.Output) }
-    ensures failed { OnErr result (out.new.has_failed ≡ true) }
+fn put_ethernet2<W: Write>(out: &mut OutputBuffer<'_, W>, start: usize, slice: &Ethernet2Slice<'_>)
+    ensures { Takes W.contents out.old (ethernet2_view_text start (ethernet2_of slice.now.bytes) (fcs_of slice.now)) out.new }
 {
     // Bytes that were just written one by one are slow to copy, so the digits come first.
     let destination = hex_address(slice.destination());
     let source = hex_address(slice.source());
     let ether_type = hex_type(slice.ether_type());
-    out.put(b"ethernet2 ")?;
-    put_decimal(out, start)?;
-    out.put(b" ")?;
-    out.put(&destination)?;
-    out.put(b" ")?;
-    out.put(&source)?;
-    out.put(b" ")?;
-    out.put(&ether_type)?;
-    put_fcs(out, slice.fcs())
+    out.put(b"ethernet2 ");
+    put_decimal(out, start);
+    out.put(b" ");
+    out.put(&destination);
+    out.put(b" ");
+    out.put(&source);
+    out.put(b" ");
+    out.put(&ether_type);
+    put_fcs(out, slice.fcs());
 }
 
 /// Puts what a frame check sequence adds to the text of an Ethernet II header.
 #[inline(always)]
-fn put_fcs<W: Write>(out: &mut OutputBuffer<'_, W>, fcs: Option<[u8; 4]>) -> Result<(), ToolFault>
-    ensures same_writer { out.new.writer.ghost_name ≡ out.old.writer.ghost_name }
-    ensures ok { OnOk result (Takes W.contents out.old (fcs_text fcs) out.new) }
-    ensures fault { IfErr result (λ fault. fault ≡ ToolFault.Output) }
-    ensures failed { OnErr result (out.new.has_failed ≡ true) }
+fn put_fcs<W: Write>(out: &mut OutputBuffer<'_, W>, fcs: Option<[u8; 4]>)
+    ensures { Takes W.contents out.old (fcs_text fcs) out.new }
 {
-    let Some(fcs) = fcs else {
-        return Ok(());
-    };
-    out.put(b" fcs ")?;
-    out.put(&hex_fcs(fcs))
+    if let Some(fcs) = fcs {
+        out.put(b" fcs ");
+        out.put(&hex_fcs(fcs));
+    }
 }
 
 /// Puts the text of a header of Linux cooked capture.
-fn put_linux_sll<W: Write>(
-    out: &mut OutputBuffer<'_, W>,
-    start: usize,
-    slice: &LinuxSllSlice<'_>,
-) -> Result<(), ToolFault>
-    ensures same_writer { out.new.writer.ghost_name ≡ out.old.writer.ghost_name }
-    ensures ok { OnOk result (Takes W.contents out.old (linux_sll_text start (linux_sll_of slice.now)) out.new) }
-    ensures fault { IfErr result (λ fault. fault ≡ ToolFault.Output) }
-    ensures failed { OnErr result (out.new.has_failed ≡ true) }
+fn put_linux_sll<W: Write>(out: &mut OutputBuffer<'_, W>, start: usize, slice: &LinuxSllSlice<'_>)
+    ensures { Takes W.contents out.old (linux_sll_text start (linux_sll_of slice.now)) out.new }
 {
     let header = slice.header_slice();
-    put_number(out, b"linux_sll ", start)?;
-    put_number(out, b" packet ", usize::from(packet_type_of(header)))?;
-    put_number(out, b" hw ", usize::from(slice.arp_hardware_type().0))?;
+    put_number(out, b"linux_sll ", start);
+    put_number(out, b" packet ", usize::from(packet_type_of(header)));
+    put_number(out, b" hw ", usize::from(slice.arp_hardware_type().0));
     put_number(
         out,
         b" alen ",
         usize::from(slice.sender_address_valid_length()),
-    )?;
-    out.put(b" addr ")?;
-    out.put(&hex_long(slice.sender_address_full()))?;
-    out.put(b" ")?;
-    out.put(&hex_type(EtherType(protocol_of(header))))
+    );
+    out.put(b" addr ");
+    out.put(&hex_long(slice.sender_address_full()));
+    out.put(b" ");
+    out.put(&hex_type(EtherType(protocol_of(header))));
 }
 
 /// The number of the packet type in the bytes of a header of Linux cooked capture.
@@ -134,72 +110,55 @@ fn protocol_of(header: &[u8]) -> u16
 
 /// Puts the text of a VLAN tag.
 #[inline(always)]
-fn put_vlan<W: Write>(
-    out: &mut OutputBuffer<'_, W>,
-    start: usize,
-    slice: &SingleVlanSlice<'_>,
-) -> Result<(), ToolFault>
-    ensures same_writer { out.new.writer.ghost_name ≡ out.old.writer.ghost_name }
-    ensures ok { OnOk result (Takes W.contents out.old (vlan_text start (vlan_of slice.now)) out.new) }
-    ensures fault { IfErr result (λ fault. fault ≡ ToolFault.Output) }
-    ensures failed { OnErr result (out.new.has_failed ≡ true) }
+fn put_vlan<W: Write>(out: &mut OutputBuffer<'_, W>, start: usize, slice: &SingleVlanSlice<'_>)
+    ensures { Takes W.contents out.old (vlan_text start (vlan_of slice.now)) out.new }
 {
     let ether_type = hex_type(slice.ether_type());
-    out.put(b"vlan ")?;
-    put_decimal(out, start)?;
-    out.put(b" pcp ")?;
-    put_decimal(out, usize::from(slice.priority_code_point().value()))?;
-    out.put(b" dei ")?;
-    put_decimal(out, usize::from(slice.drop_eligible_indicator()))?;
-    out.put(b" vid ")?;
-    put_decimal(out, usize::from(slice.vlan_identifier().value()))?;
-    out.put(b" ")?;
-    out.put(&ether_type)
+    out.put(b"vlan ");
+    put_decimal(out, start);
+    out.put(b" pcp ");
+    put_decimal(out, usize::from(slice.priority_code_point().value()));
+    out.put(b" dei ");
+    put_decimal(out, usize::from(slice.drop_eligible_indicator()));
+    out.put(b" vid ");
+    put_decimal(out, usize::from(slice.vlan_identifier().value()));
+    out.put(b" ");
+    out.put(&ether_type);
 }
 
-/// Puts the text of a MACsec SecTag, and of the window behind it.
+/// Puts the text of a MACsec SecTag, and of the window after it.
 fn put_macsec<W: Write>(
     out: &mut OutputBuffer<'_, W>,
     start: usize,
     tag: &MacsecHeaderSlice<'_>,
     len: usize,
     closed: bool,
-) -> Result<(), ToolFault>
-    ensures same_writer { out.new.writer.ghost_name ≡ out.old.writer.ghost_name }
-    ensures ok { OnOk result (Takes W.contents out.old (macsec_text start (sec_tag_of (tag_bytes tag.now)) len closed) out.new) }
-    ensures fault { IfErr result (λ fault. fault ≡ ToolFault.Output) }
-    ensures failed { OnErr result (out.new.has_failed ≡ true) }
+)
+    ensures { Takes W.contents out.old (macsec_text start (sec_tag_of (tag_bytes tag.now)) len closed) out.new }
 {
-    put_number(out, b"macsec ", start)?;
-    out.put(b" ")?;
-    put_payload_type(out, tag.ptype())?;
-    put_number(out, b" es ", usize::from(tag.endstation_id()))?;
-    put_number(out, b" scb ", usize::from(tag.tci_scb()))?;
-    put_number(out, b" an ", usize::from(tag.an().value()))?;
-    put_number(out, b" sl ", usize::from(tag.short_len().value()))?;
-    put_number(out, b" pn ", tag.packet_nr() as usize)?;
-    out.put(b" sci ")?;
-    put_sci(out, tag.sci())?;
-    put_number(out, b" window ", len)?;
-    out.put(b" ")?;
-    out.put(mark_of(closed).as_bytes())
+    put_number(out, b"macsec ", start);
+    out.put(b" ");
+    put_payload_type(out, tag.ptype());
+    put_number(out, b" es ", usize::from(tag.endstation_id()));
+    put_number(out, b" scb ", usize::from(tag.tci_scb()));
+    put_number(out, b" an ", usize::from(tag.an().value()));
+    put_number(out, b" sl ", usize::from(tag.short_len().value()));
+    put_number(out, b" pn ", tag.packet_nr() as usize);
+    out.put(b" sci ");
+    put_sci(out, tag.sci());
+    put_number(out, b" window ", len);
+    out.put(b" ");
+    out.put(mark_of(closed).as_bytes());
 }
 
 /// Puts the text of the payload type of a SecTag.
-#[tactic(auto, unfolding(crate::specs::Lines::payload_type_text))]
-fn put_payload_type<W: Write>(
-    out: &mut OutputBuffer<'_, W>,
-    ptype: MacsecPType,
-) -> Result<(), ToolFault>
-    ensures same_writer { out.new.writer.ghost_name ≡ out.old.writer.ghost_name }
-    ensures ok { OnOk result (Takes W.contents out.old (payload_type_text (payload_type_view ptype)) out.new) }
-    ensures fault { IfErr result (λ fault. fault ≡ ToolFault.Output) }
-    ensures failed { OnErr result (out.new.has_failed ≡ true) }
+fn put_payload_type<W: Write>(out: &mut OutputBuffer<'_, W>, ptype: MacsecPType)
+    ensures { Takes W.contents out.old (payload_type_text (payload_type_view ptype)) out.new }
 {
     match ptype {
         MacsecPType::Unmodified(ether_type) => {
-            out.put(b"unmodified ")?;
-            out.put(&hex_type(ether_type))
+            out.put(b"unmodified ");
+            out.put(&hex_type(ether_type));
         }
         MacsecPType::Modified => out.put(b"modified"),
         MacsecPType::Encrypted => out.put(b"encrypted"),
@@ -207,12 +166,9 @@ fn put_payload_type<W: Write>(
     }
 }
 
-/// Puts the digits of a secure channel identifier, or a hyphen where there is none.
-fn put_sci<W: Write>(out: &mut OutputBuffer<'_, W>, sci: Option<u64>) -> Result<(), ToolFault>
-    ensures same_writer { out.new.writer.ghost_name ≡ out.old.writer.ghost_name }
-    ensures ok { OnOk result (Takes W.contents out.old (sci_text sci) out.new) }
-    ensures fault { IfErr result (λ fault. fault ≡ ToolFault.Output) }
-    ensures failed { OnErr result (out.new.has_failed ≡ true) }
+/// Puts the digits of a secure channel identifier, or a hyphen if there is none.
+fn put_sci<W: Write>(out: &mut OutputBuffer<'_, W>, sci: Option<u64>)
+    ensures { Takes W.contents out.old (sci_text sci) out.new }
 {
     match sci {
         Some(sci) => out.put(&hex_long(sci.to_be_bytes())),
@@ -221,60 +177,42 @@ fn put_sci<W: Write>(out: &mut OutputBuffer<'_, W>, sci: Option<u64>) -> Result<
 }
 
 /// Puts the text of an ARP packet.
-fn put_arp<W: Write>(
-    out: &mut OutputBuffer<'_, W>,
-    start: usize,
-    slice: &ArpPacketSlice<'_>,
-) -> Result<(), ToolFault>
-    ensures same_writer { out.new.writer.ghost_name ≡ out.old.writer.ghost_name }
-    ensures ok { OnOk result (Takes W.contents out.old (arp_text start (arp_of slice.now)) out.new) }
-    ensures fault { IfErr result (λ fault. fault ≡ ToolFault.Output) }
-    ensures failed { OnErr result (out.new.has_failed ≡ true) }
+fn put_arp<W: Write>(out: &mut OutputBuffer<'_, W>, start: usize, slice: &ArpPacketSlice<'_>)
+    ensures { Takes W.contents out.old (arp_text start (arp_of slice.now)) out.new }
 {
-    put_number(out, b"arp ", start)?;
-    put_number(out, b" hw ", usize::from(slice.hw_addr_type().0))?;
-    out.put(b" proto ")?;
-    out.put(&hex_type(slice.proto_addr_type()))?;
-    put_number(out, b" hlen ", usize::from(slice.hw_addr_size()))?;
-    put_number(out, b" plen ", usize::from(slice.proto_addr_size()))?;
-    put_number(out, b" op ", usize::from(slice.operation().0))
+    put_number(out, b"arp ", start);
+    put_number(out, b" hw ", usize::from(slice.hw_addr_type().0));
+    out.put(b" proto ");
+    out.put(&hex_type(slice.proto_addr_type()));
+    put_number(out, b" hlen ", usize::from(slice.hw_addr_size()));
+    put_number(out, b" plen ", usize::from(slice.proto_addr_size()));
+    put_number(out, b" op ", usize::from(slice.operation().0));
 }
 
 /// Puts the line of what is left of a frame that was accepted: from a start to an end, and what it
 /// is announced as.
-pub fn put_rest<W: Write>(
-    out: &mut OutputBuffer<'_, W>,
-    start: usize,
-    end: usize,
-    kind: RestKind,
-) -> Result<(), ToolFault>
-    ensures same_writer { out.new.writer.ghost_name ≡ out.old.writer.ghost_name }
-    ensures ok { OnOk result (Takes W.contents out.old (rest_view_text start end kind ++ codes "\n") out.new) }
-    ensures fault { IfErr result (λ fault. fault ≡ ToolFault.Output) }
-    ensures failed { OnErr result (out.new.has_failed ≡ true) }
+pub fn put_rest<W: Write>(out: &mut OutputBuffer<'_, W>, start: usize, end: usize, kind: RestKind)
+    ensures { Takes W.contents out.old (rest_view_text start end kind ++ codes "\n") out.new }
 {
-    out.put(b"rest ")?;
-    put_decimal(out, start)?;
-    out.put(b" ")?;
-    put_decimal(out, end)?;
-    put_kind(out, kind)?;
-    out.put(b"\n")
+    out.put(b"rest ");
+    put_decimal(out, start);
+    out.put(b" ");
+    put_decimal(out, end);
+    put_kind(out, kind);
+    out.put(b"\n");
 }
 
 /// Puts a space, and what a window is announced as.
 #[inline(always)]
-fn put_kind<W: Write>(out: &mut OutputBuffer<'_, W>, kind: RestKind) -> Result<(), ToolFault>
-    ensures same_writer { out.new.writer.ghost_name ≡ out.old.writer.ghost_name }
-    ensures ok { OnOk result (Takes W.contents out.old (codes " " ++ kind_view_text kind) out.new) }
-    ensures fault { IfErr result (λ fault. fault ≡ ToolFault.Output) }
-    ensures failed { OnErr result (out.new.has_failed ≡ true) }
+fn put_kind<W: Write>(out: &mut OutputBuffer<'_, W>, kind: RestKind)
+    ensures { Takes W.contents out.old (codes " " ++ kind_view_text kind) out.new }
 {
     match kind {
         RestKind::Start => out.put(b" "),
         RestKind::EtherType(ether_type) => {
             let ether_type = hex_type(ether_type);
-            out.put(b" type ")?;
-            out.put(&ether_type)
+            out.put(b" type ");
+            out.put(&ether_type);
         }
         RestKind::Sll(protocol) => put_protocol(out, protocol),
         RestKind::Sealed => out.put(b" sealed"),
@@ -283,28 +221,21 @@ fn put_kind<W: Write>(out: &mut OutputBuffer<'_, W>, kind: RestKind) -> Result<(
 }
 
 /// Puts a space, and the protocol of a cooked capture that has no ether type.
-#[tactic(auto, unfolding(crate::specs::Lines::protocol_text))]
-fn put_protocol<W: Write>(
-    out: &mut OutputBuffer<'_, W>,
-    protocol: LinuxSllProtocolType,
-) -> Result<(), ToolFault>
-    ensures same_writer { out.new.writer.ghost_name ≡ out.old.writer.ghost_name }
-    ensures ok { OnOk result (Takes W.contents out.old (codes " " ++ protocol_text protocol) out.new) }
-    ensures fault { IfErr result (λ fault. fault ≡ ToolFault.Output) }
-    ensures failed { OnErr result (out.new.has_failed ≡ true) }
+fn put_protocol<W: Write>(out: &mut OutputBuffer<'_, W>, protocol: LinuxSllProtocolType)
+    ensures { Takes W.contents out.old (codes " " ++ protocol_text protocol) out.new }
 {
     match protocol {
         LinuxSllProtocolType::Ignored(number) => {
-            out.put(b" sll ignored ")?;
-            out.put(&hex_type(EtherType(number)))
+            out.put(b" sll ignored ");
+            out.put(&hex_type(EtherType(number)));
         }
         LinuxSllProtocolType::NetlinkProtocolType(number) => {
-            out.put(b" sll netlink ")?;
-            out.put(&hex_type(EtherType(number)))
+            out.put(b" sll netlink ");
+            out.put(&hex_type(EtherType(number)));
         }
         LinuxSllProtocolType::GenericRoutingEncapsulationProtocolType(number) => {
-            out.put(b" sll gre ")?;
-            out.put(&hex_type(EtherType(number)))
+            out.put(b" sll gre ");
+            out.put(&hex_type(EtherType(number)));
         }
         LinuxSllProtocolType::EtherType(_) | LinuxSllProtocolType::LinuxNonstandardEtherType(_) =>
             out.put(b" "),
@@ -312,46 +243,30 @@ fn put_protocol<W: Write>(
 }
 
 /// Puts the line of a walk that is fed: how often it asks for more bytes, and how many it takes.
-pub fn put_counts<W: Write>(
-    out: &mut OutputBuffer<'_, W>,
-    refusals: usize,
-    taken: usize,
-) -> Result<(), ToolFault>
-    ensures same_writer { out.new.writer.ghost_name ≡ out.old.writer.ghost_name }
-    ensures ok { OnOk result (Takes W.contents out.old (feed_text refusals taken ++ codes "\n") out.new) }
-    ensures fault { IfErr result (λ fault. fault ≡ ToolFault.Output) }
-    ensures failed { OnErr result (out.new.has_failed ≡ true) }
+pub fn put_counts<W: Write>(out: &mut OutputBuffer<'_, W>, refusals: usize, taken: usize)
+    ensures { Takes W.contents out.old (feed_text refusals taken ++ codes "\n") out.new }
 {
-    put_number(out, b"feed refusals ", refusals)?;
-    put_number(out, b" taken ", taken)?;
-    out.put(b"\n")
+    put_number(out, b"feed refusals ", refusals);
+    put_number(out, b" taken ", taken);
+    out.put(b"\n");
 }
 
 /// Puts the line of a frame's fault.
-pub fn put_fault<W: Write>(
-    out: &mut OutputBuffer<'_, W>,
-    fault: &PeelFault,
-) -> Result<(), ToolFault>
-    ensures same_writer { out.new.writer.ghost_name ≡ out.old.writer.ghost_name }
-    ensures ok { OnOk result (Takes W.contents out.old (fault_view_text fault.now ++ codes "\n") out.new) }
-    ensures fault { IfErr result (λ fault. fault ≡ ToolFault.Output) }
-    ensures failed { OnErr result (out.new.has_failed ≡ true) }
+pub fn put_fault<W: Write>(out: &mut OutputBuffer<'_, W>, fault: &PeelFault)
+    ensures { Takes W.contents out.old (fault_view_text fault.now ++ codes "\n") out.new }
 {
-    out.put(b"fault ")?;
-    put_decimal(out, fault.offset)?;
-    out.put(b" ")?;
-    out.put(mark_of(fault.closed).as_bytes())?;
-    out.put(b" ")?;
-    put_error(out, &fault.error)?;
-    out.put(b"\n")
+    out.put(b"fault ");
+    put_decimal(out, fault.offset);
+    out.put(b" ");
+    out.put(mark_of(fault.closed).as_bytes());
+    out.put(b" ");
+    put_error(out, &fault.error);
+    out.put(b"\n");
 }
 
 /// Puts the text of what is wrong with a unit.
-fn put_error<W: Write>(out: &mut OutputBuffer<'_, W>, error: &PeelError) -> Result<(), ToolFault>
-    ensures same_writer { out.new.writer.ghost_name ≡ out.old.writer.ghost_name }
-    ensures ok { OnOk result (Takes W.contents out.old (error_view_text error.now) out.new) }
-    ensures fault { IfErr result (λ fault. fault ≡ ToolFault.Output) }
-    ensures failed { OnErr result (out.new.has_failed ≡ true) }
+fn put_error<W: Write>(out: &mut OutputBuffer<'_, W>, error: &PeelError)
+    ensures { Takes W.contents out.old (error_view_text error.now) out.new }
 {
     match error {
         PeelError::Len(error) => put_len_error(out, error),
@@ -361,100 +276,74 @@ fn put_error<W: Write>(out: &mut OutputBuffer<'_, W>, error: &PeelError) -> Resu
 }
 
 /// Puts the text of a length error.
-fn put_len_error<W: Write>(out: &mut OutputBuffer<'_, W>, error: &LenError) -> Result<(), ToolFault>
-    ensures same_writer { out.new.writer.ghost_name ≡ out.old.writer.ghost_name }
-    ensures ok { OnOk result (Takes W.contents out.old (len_view_text error.now) out.new) }
-    ensures fault { IfErr result (λ fault. fault ≡ ToolFault.Output) }
-    ensures failed { OnErr result (out.new.has_failed ≡ true) }
+fn put_len_error<W: Write>(out: &mut OutputBuffer<'_, W>, error: &LenError)
+    ensures { Takes W.contents out.old (len_view_text error.now) out.new }
 {
-    out.put(b"length ")?;
-    put_decimal(out, error.required_len)?;
-    out.put(b" ")?;
-    put_decimal(out, error.len)?;
-    out.put(b" ")?;
-    out.put(source_of(error.len_source).as_bytes())
+    out.put(b"length ");
+    put_decimal(out, error.required_len);
+    out.put(b" ");
+    put_decimal(out, error.len);
+    out.put(b" ");
+    out.put(source_of(error.len_source).as_bytes());
 }
 
 /// Puts the text of what is wrong in a header of Linux cooked capture.
-fn put_linux_sll_error<W: Write>(
-    out: &mut OutputBuffer<'_, W>,
-    error: &err::linux_sll::HeaderError,
-) -> Result<(), ToolFault>
-    ensures same_writer { out.new.writer.ghost_name ≡ out.old.writer.ghost_name }
-    ensures ok { OnOk result (Takes W.contents out.old (linux_sll_view_text error.now) out.new) }
-    ensures fault { IfErr result (λ fault. fault ≡ ToolFault.Output) }
-    ensures failed { OnErr result (out.new.has_failed ≡ true) }
+fn put_linux_sll_error<W: Write>(out: &mut OutputBuffer<'_, W>, error: &err::linux_sll::HeaderError)
+    ensures { Takes W.contents out.old (linux_sll_view_text error.now) out.new }
 {
     match error {
         err::linux_sll::HeaderError::UnsupportedPacketTypeField { packet_type } => {
-            put_number(out, b"content sll_packet_type ", usize::from(*packet_type))
+            put_number(out, b"content sll_packet_type ", usize::from(*packet_type));
         }
         err::linux_sll::HeaderError::UnsupportedArpHardwareId { arp_hardware_type } => {
             put_number(
                 out,
                 b"content sll_hardware_type ",
                 usize::from(arp_hardware_type.0),
-            )
+            );
         }
     }
 }
 
 /// Puts the text of what is wrong in a MACsec SecTag.
-fn put_macsec_error<W: Write>(
-    out: &mut OutputBuffer<'_, W>,
-    error: &err::macsec::HeaderError,
-) -> Result<(), ToolFault>
-    ensures same_writer { out.new.writer.ghost_name ≡ out.old.writer.ghost_name }
-    ensures ok { OnOk result (Takes W.contents out.old (macsec_view_text error.now) out.new) }
-    ensures fault { IfErr result (λ fault. fault ≡ ToolFault.Output) }
-    ensures failed { OnErr result (out.new.has_failed ≡ true) }
+fn put_macsec_error<W: Write>(out: &mut OutputBuffer<'_, W>, error: &err::macsec::HeaderError)
+    ensures { Takes W.contents out.old (macsec_view_text error.now) out.new }
 {
     match error {
         err::macsec::HeaderError::UnexpectedVersion => out.put(b"content macsec_version"),
         err::macsec::HeaderError::InvalidUnmodifiedShortLen => {
-            out.put(b"content macsec_short_len")
+            out.put(b"content macsec_short_len");
         }
     }
 }
 
 /// Puts a word with the spaces around it, and a number in decimal digits.
-fn put_number<W: Write>(
-    out: &mut OutputBuffer<'_, W>,
-    word: &[u8],
-    number: usize,
-) -> Result<(), ToolFault>
+fn put_number<W: Write>(out: &mut OutputBuffer<'_, W>, word: &[u8], number: usize)
     requires { length word.now ≤ 64 }
-    ensures same_writer { out.new.writer.ghost_name ≡ out.old.writer.ghost_name }
-    ensures ok { OnOk result (Takes W.contents out.old (word.now ++ decimal number) out.new) }
-    ensures fault { IfErr result (λ fault. fault ≡ ToolFault.Output) }
-    ensures failed { OnErr result (out.new.has_failed ≡ true) }
+    ensures { Takes W.contents out.old (word.now ++ decimal number) out.new }
 {
-    out.put(word)?;
-    put_decimal(out, number)
+    out.put(word);
+    put_decimal(out, number);
 }
 
 /// Puts a number in decimal digits.
 #[inline(always)]
-fn put_decimal<W: Write>(out: &mut OutputBuffer<'_, W>, number: usize) -> Result<(), ToolFault>
-    ensures same_writer { out.new.writer.ghost_name ≡ out.old.writer.ghost_name }
-    ensures ok { OnOk result (Takes W.contents out.old (decimal number) out.new) }
-    ensures fault { IfErr result (λ fault. fault ≡ ToolFault.Output) }
-    ensures failed { OnErr result (out.new.has_failed ≡ true) }
+fn put_decimal<W: Write>(out: &mut OutputBuffer<'_, W>, number: usize)
+    ensures { Takes W.contents out.old (decimal number) out.new }
 {
     if number < 10 {
-        return out.put(&[digit(number)]);
-    }
-    if number < 100 {
-        return out.put(&[digit(number / 10), digit(number % 10)]);
-    }
-    if number < 1000 {
-        return out.put(&[
+        out.put(&[digit(number)]);
+    } else if number < 100 {
+        out.put(&[digit(number / 10), digit(number % 10)]);
+    } else if number < 1000 {
+        out.put(&[
             digit(number / 100),
             digit(number / 10 % 10),
             digit(number % 10),
         ]);
+    } else {
+        put_long_decimal(out, number);
     }
-    put_long_decimal(out, number)
 }
 
 /// The decimal digit of a number below 10.
@@ -468,17 +357,11 @@ fn digit(number: usize) -> u8
 
 /// Puts a number of many digits.
 #[inline(never)]
-fn put_long_decimal<W: Write>(out: &mut OutputBuffer<'_, W>, number: usize) -> Result<(), ToolFault>
-    ensures same_writer { out.new.writer.ghost_name ≡ out.old.writer.ghost_name }
-    ensures ok { OnOk result (Takes W.contents out.old (decimal number) out.new) }
-    ensures fault { IfErr result (λ fault. fault ≡ ToolFault.Output) }
-    ensures failed { OnErr result (out.new.has_failed ≡ true) }
+fn put_long_decimal<W: Write>(out: &mut OutputBuffer<'_, W>, number: usize)
+    ensures { Takes W.contents out.old (decimal number) out.new }
 {
-    let mut text = ArrayString::<20>::new();
-    if write!(text, "{number}").is_err() {
-        return Err(out.fail());
-    }
-    out.put(text.as_str().as_bytes())
+    let mut digits = itoa::Buffer::new();
+    out.put(digits.format(number).as_bytes());
 }
 
 /// The word for a window's mark.

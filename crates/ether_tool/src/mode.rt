@@ -104,7 +104,7 @@ mod tests {
     }
 
     #[test]
-    fn refuses_other_words_behind_type(rt: HostRuntime) {
+    fn refuses_other_words_after_type(rt: HostRuntime) {
         let others = [
             "", "8", "88", "88E", "88E50", "088E5", "88E5 ", "88Eg", "88G5", "8/E5", "8:E5",
             "0x88", " 88E", "+88E", "-806", "88_5", "88\u{e9}", "eth",

@@ -1,7 +1,7 @@
 //! How a run ends, and the exit status of each ending.
 ghost use Rattle.std.specs.Prelude.{◌≡◌};
 ghost use Rattle.std.specs.Option.{option_map};
-ghost use Rattle.ether_tool.specs.Outcome.{exit_status, last_line_text, last_text, program_status};
+ghost use Rattle.ether_tool.specs.Outcome.{exit_status, last_line_text, last_text, status_of_program};
 
 use crate::mode::Usage;
 use std::fmt;
@@ -10,7 +10,7 @@ use thiserror::Error;
 /// What a run that read all its input found.
 #[derive(Clone, Copy, PartialEq, Eq, Debug)]
 pub enum Verdict {
-    /// Each frame was accepted; so too where there was no frame.
+    /// Each frame was accepted, or there was no frame.
     AllAccepted,
     /// Some frame was refused.
     SomeRefused,
@@ -27,7 +27,7 @@ impl Verdict {
     }
 }
 
-/// Why a run stopped before it had answered all its input.
+/// Why a run stopped before the end of its input.
 #[derive(PartialEq, Eq, Debug, Drop, Error)]
 pub enum ToolFault {
     /// The line of this number names no frame. Lines are counted from 1, and the count stays at
@@ -54,10 +54,10 @@ pub fn status_of(outcome: &Result<Verdict, ToolFault>) -> u8
     }
 }
 
-/// The line that is printed where the arguments are wrong, without its LF.
+/// The line that is printed if the arguments are wrong, without its LF.
 pub const USAGE: &str = "usage: ether_tool eth | fcs | sll | type XXXX | feed [limit N]";
 
-/// A line that the program prints behind all answers.
+/// A line that the program prints after the lines of all frames.
 #[derive(Clone, Copy, PartialEq, Eq, Debug)]
 pub enum LastLine {
     /// The arguments are wrong.
@@ -80,30 +80,31 @@ impl fmt::Display for LastLine {
     }
 }
 
-/// How the program ends.
-#[derive(Clone, Copy, PartialEq, Eq, Debug)]
-pub struct Ending {
-    pub line: Option<LastLine>,
-    pub status: u8,
-}
+/// The outcome of a run, or that the arguments are wrong.
+pub type Outcome = Result<Result<Verdict, ToolFault>, Usage>;
 
-/// The ending of a program, by the outcome of its run, or of wrong arguments.
-pub fn ending_of(outcome: &Result<Result<Verdict, ToolFault>, Usage>) -> Ending
-    ensures line { option_map last_line_text result.line ≡ last_text outcome.now }
-    ensures status { result.status ≡ program_status outcome.now }
+/// The line that the program prints last, if there is one.
+pub fn last_line(outcome: &Outcome) -> Option<LastLine>
+    ensures { option_map last_line_text result ≡ last_text outcome.now }
 {
     match outcome {
-        Ok(outcome) => Ending {
-            line: match outcome {
-                Err(ToolFault::BadLine(number)) => Some(LastLine::BadLine(*number)),
-                _ => None,
-            },
-            status: status_of(outcome),
-        },
-        Err(Usage) => Ending {
-            line: Some(LastLine::Usage),
-            status: 2,
-        },
+        Ok(Err(ToolFault::BadLine(number))) => Some(LastLine::BadLine(*number)),
+        Ok(_) => None,
+        Err(Usage) => Some(LastLine::Usage),
+    }
+}
+
+/// The exit status of the program, by its outcome and whether the last line was printed. It is that of failed output if
+/// there was a last line and it was not printed.
+pub fn program_status(outcome: &Outcome, is_printed: bool) -> u8
+    ensures { result ≡ status_of_program outcome.now is_printed }
+{
+    if !is_printed {
+        return status_of(&Err(ToolFault::Output));
+    }
+    match outcome {
+        Ok(outcome) => status_of(outcome),
+        Err(Usage) => 2,
     }
 }
 
@@ -132,10 +133,10 @@ mod tests {
             (Ok(Err(ToolFault::BadLine(12))), "line 12: bad line", 3),
         ];
         for (outcome, text, status) in endings {
-            let ending = ending_of(&outcome);
-            let line = ending.line.ok_or("a line")?;
+            let line = last_line(&outcome).ok_or("a line")?;
             assert_eq!(rt; format!(in rt.alloc(); "{line}")?.as_str(), text);
-            assert_eq!(rt; ending.status, status);
+            assert_eq!(rt; program_status(&outcome, true), status);
+            assert_eq!(rt; program_status(&outcome, false), 4);
         }
         let silent = [
             (Ok(Verdict::AllAccepted), 0),
@@ -144,7 +145,9 @@ mod tests {
             (Err(ToolFault::Output), 4),
         ];
         for (outcome, status) in silent {
-            assert_eq!(rt; ending_of(&Ok(outcome)), Ending { line: None, status });
+            let outcome = Ok(outcome);
+            assert_eq!(rt; last_line(&outcome), None);
+            assert_eq!(rt; program_status(&outcome, true), status);
         }
         Ok(())
     }

@@ -1,4 +1,4 @@
-//! A writer behind a buffer of fixed size.
+//! The writer of a run, with a buffer of fixed size, which remembers that it failed.
 use crate::outcome::ToolFault;
 use arrayvec::ArrayVec;
 use std::io::Write;
@@ -8,8 +8,8 @@ const ROOM: usize = 65536;
 
 /// Text on its way to a writer, gathered so that many short pieces cost one write.
 ///
-/// What it holds is the writer's contents followed by the text that waits. No other function of
-/// this crate calls the writer, and after a failure none does.
+/// What it holds is the writer's contents followed by the text that waits. During a run nothing else
+/// calls the writer, and after a fault nothing does.
 #[derive(Drop)]
 pub struct OutputBuffer<'a, W> {
     writer: &'a mut W,
@@ -22,7 +22,7 @@ impl<'a, W: Write> OutputBuffer<'a, W> {
     ghost use Rattle.std.specs.Prelude.{◌≡◌, ◌≤◌, [], length, true, false, OnOk, OnErr, IfErr};
     ghost use Rattle.ether_tool.specs.OutputBuffer.{contents_of, Takes, WritesOut};
 
-    /// A buffer before `writer`. No text waits yet.
+    /// An empty buffer for `writer`.
     pub fn new(writer: &'a mut W) -> Self
         ensures same_writer { result.writer.ghost_name ≡ writer.entry.ghost_name }
         ensures contents { result.writer.now ≡ writer.old }
@@ -37,40 +37,45 @@ impl<'a, W: Write> OutputBuffer<'a, W> {
         }
     }
 
-    /// Takes `bytes`, and writes to the writer only where they do not fit beside what waits.
+    /// Takes `bytes`, and writes to the writer only if there is no room for them after the text that waits.
     ///
-    /// After an `Err` nothing is said of how much was written.
+    /// A fault of the writer is remembered, and [`OutputBuffer::check`] returns it. Nothing is said then of
+    /// how much was written.
     #[inline(always)]
-    pub fn put(&mut self, bytes: &[u8]) -> Result<(), ToolFault>
+    pub fn put(&mut self, bytes: &[u8])
         requires { length bytes.now ≤ ROOM }
-        ensures same_writer { self.new.writer.ghost_name ≡ self.old.writer.ghost_name }
-        ensures ok { OnOk result (Takes W.contents self.old bytes.now self.new) }
-        ensures fault { IfErr result (λ fault. fault ≡ ToolFault.Output) }
-        ensures failed { OnErr result (self.new.has_failed ≡ true) }
+        ensures { Takes W.contents self.old bytes.now self.new }
     {
-        if self.waiting.try_extend_from_slice(bytes).is_ok() {
-            return Ok(());
+        if self.waiting.try_extend_from_slice(bytes).is_err() {
+            self.put_slowly(bytes);
         }
-        self.put_slowly(bytes)
     }
 
-    /// Takes `bytes` that do not fit beside what waits.
+    /// Takes `bytes` for which there is no room before the text that waits is written out.
     #[cold]
     #[inline(never)]
-    fn put_slowly(&mut self, bytes: &[u8]) -> Result<(), ToolFault>
+    fn put_slowly(&mut self, bytes: &[u8])
         requires { length bytes.now ≤ ROOM }
-        ensures same_writer { self.new.writer.ghost_name ≡ self.old.writer.ghost_name }
-        ensures ok { OnOk result (Takes W.contents self.old bytes.now self.new) }
-        ensures fault { IfErr result (λ fault. fault ≡ ToolFault.Output) }
-        ensures failed { OnErr result (self.new.has_failed ≡ true) }
+        ensures { Takes W.contents self.old bytes.now self.new }
     {
-        if let Err(fault) = self.write_out() {
-            return Err(fault);
+        if self.write_out().is_err() {
+            return;
         }
-        match self.waiting.try_extend_from_slice(bytes) {
-            Ok(()) => Ok(()),
-            Err(_) => unreachable!(),
+        if self.waiting.try_extend_from_slice(bytes).is_err() {
+            unreachable!();
         }
+    }
+
+    /// [`ToolFault::Output`] if the writer has failed.
+    pub fn check(&self) -> Result<(), ToolFault>
+        ensures ok { OnOk result (self.now.has_failed ≡ false) }
+        ensures fault { IfErr result (λ fault. fault ≡ ToolFault.Output) }
+        ensures failed { OnErr result (self.now.has_failed ≡ true) }
+    {
+        if self.has_failed {
+            return Err(ToolFault::Output);
+        }
+        Ok(())
     }
 
     /// Writes out all that waits.
@@ -114,7 +119,7 @@ impl<'a, W: Write> OutputBuffer<'a, W> {
     }
 
     /// Gives the writer up: what it holds is no longer whole.
-    pub fn fail(&mut self) -> ToolFault
+    fn fail(&mut self) -> ToolFault
         ensures same_writer { self.new.writer.ghost_name ≡ self.old.writer.ghost_name }
         ensures fault { result ≡ ToolFault.Output }
         ensures failed { self.new.has_failed ≡ true }

@@ -1,8 +1,8 @@
-//! The engine: from a reader of lines to a writer of answers.
-ghost use Rattle.std.specs.Prelude.{◌≡◌, true, IfOk, IfErr};
+//! A run: from a reader of lines to a writer of the text for each.
+ghost use Rattle.std.specs.Prelude.{◌≡◌, [], true, IfErr};
 ghost use Rattle.ether_tool.specs.OutputBuffer.{contents_of};
-ghost use Rattle.ether_tool.specs.Command.{limited_to};
-ghost use Rattle.ether_tool.specs.Run.{AnswersInput, AnswersInputBy, BreaksOff, BreaksOffBy, IfSettled, OnBadLine, OnInput, OnStreamFault, StopsInput, StopsInputBy};
+ghost use Rattle.ether_tool.specs.Command.{limited_to, unlimited};
+ghost use Rattle.ether_tool.specs.Run.{HasRun, IfSettled, OnInput, OnStreamFault};
 
 use crate::command::Command;
 use crate::input_reader::InputReader;
@@ -15,13 +15,13 @@ use std::io::{Read, Write};
 /// The room for one read.
 const CHUNK_LEN: usize = 65536;
 
-/// Reads the input to its end, and writes the answer of each line as soon as the line has ended.
+/// Reads the input to its end, and writes the text for each line as soon as the line has ended.
 ///
 /// A line is a frame of up to 2,048 bytes as digits of either case. At the first line that is no
-/// frame the run stops with [`ToolFault::BadLine`]. The answers of the lines before it have been
+/// frame the run stops with [`ToolFault::BadLine`]. The text for the lines before it has been
 /// written and flushed, and nothing is written for the line itself. Any fault of the reader,
-/// an interruption too, is [`ToolFault::Input`], as is a reader that comes to no end: the answers
-/// of the lines that had ended have been written, and are not flushed. Any fault of the writer,
+/// an interruption too, is [`ToolFault::Input`], as is a reader that never ends: the text
+/// for the lines that had ended has been written, and is not flushed. Any fault of the writer,
 /// also at the closing flush, is [`ToolFault::Output`], and nothing is said of how much was
 /// written. After a fault neither is called again. No memory is taken.
 pub fn run<R: Read, W: Write>(
@@ -29,14 +29,8 @@ pub fn run<R: Read, W: Write>(
     reader: &mut R,
     writer: &mut W,
 ) -> Result<Verdict, ToolFault>
-    ensures ok { IfOk result (AnswersInput mode (R.remaining reader.old) (R.remaining reader.new)
-        (W.contents writer.old) (W.contents writer.new)) }
-    ensures bad_line { IfErr result (λ fault. OnBadLine fault
-        (StopsInput mode (R.remaining reader.old) (R.remaining reader.new)
-        (W.contents writer.old) (W.contents writer.new))) }
-    ensures input_fault { IfErr result (λ fault. OnInput fault
-        (BreaksOff mode (R.remaining reader.old) (R.remaining reader.new)
-        (W.contents writer.old) (W.contents writer.new))) }
+    ensures { HasRun (unlimited mode) (R.remaining reader.old) (R.remaining reader.new)
+        (W.contents writer.old) (W.contents writer.new) result }
 {
     run_command(Command { mode, limit: None }, reader, writer)
 }
@@ -48,14 +42,8 @@ pub fn run_limited<R: Read, W: Write>(
     reader: &mut R,
     writer: &mut W,
 ) -> Result<Verdict, ToolFault>
-    ensures ok { IfOk result (AnswersInputBy (limited_to mode limit) (R.remaining reader.old) (R.remaining reader.new)
-        (W.contents writer.old) (W.contents writer.new)) }
-    ensures bad_line { IfErr result (λ fault. OnBadLine fault
-        (StopsInputBy (limited_to mode limit) (R.remaining reader.old) (R.remaining reader.new)
-        (W.contents writer.old) (W.contents writer.new))) }
-    ensures input_fault { IfErr result (λ fault. OnInput fault
-        (BreaksOffBy (limited_to mode limit) (R.remaining reader.old) (R.remaining reader.new)
-        (W.contents writer.old) (W.contents writer.new))) }
+    ensures { HasRun (limited_to mode limit) (R.remaining reader.old) (R.remaining reader.new)
+        (W.contents writer.old) (W.contents writer.new) result }
 {
     let limit = Some(limit);
     run_command(Command { mode, limit }, reader, writer)
@@ -67,21 +55,15 @@ fn run_command<R: Read, W: Write>(
     reader: &mut R,
     writer: &mut W,
 ) -> Result<Verdict, ToolFault>
-    ensures ok { IfOk result (AnswersInputBy command (R.remaining reader.old) (R.remaining reader.new)
-        (W.contents writer.old) (W.contents writer.new)) }
-    ensures bad_line { IfErr result (λ fault. OnBadLine fault
-        (StopsInputBy command (R.remaining reader.old) (R.remaining reader.new)
-        (W.contents writer.old) (W.contents writer.new))) }
-    ensures input_fault { IfErr result (λ fault. OnInput fault
-        (BreaksOffBy command (R.remaining reader.old) (R.remaining reader.new)
-        (W.contents writer.old) (W.contents writer.new))) }
+    ensures { HasRun command (R.remaining reader.old) (R.remaining reader.new)
+        (W.contents writer.old) (W.contents writer.new) result }
 {
     let mut input = InputReader::new(reader);
     let mut out = OutputBuffer::new(writer);
     answer_input(command, &mut input, &mut out)
 }
 
-/// Reads the input to its end, and writes the answers and flushes them. After a fault of the
+/// Reads the input to its end, and writes the text and flushes it. After a fault of the
 /// reader or the writer neither is called again.
 fn answer_input<R: Read, W: Write>(
     command: Command,
@@ -90,14 +72,8 @@ fn answer_input<R: Read, W: Write>(
 ) -> Result<Verdict, ToolFault>
     ensures same_reader { input.new.inner.ghost_name ≡ input.old.inner.ghost_name }
     ensures same_writer { out.new.writer.ghost_name ≡ out.old.writer.ghost_name }
-    ensures ok { IfOk result (AnswersInputBy command (R.remaining input.old.inner.now) (R.remaining input.new.inner.now)
-        (contents_of W.contents out.old) (W.contents out.new.writer.now)) }
-    ensures bad_line { IfErr result (λ fault. OnBadLine fault
-        (StopsInputBy command (R.remaining input.old.inner.now) (R.remaining input.new.inner.now)
-        (contents_of W.contents out.old) (W.contents out.new.writer.now))) }
-    ensures input_fault { IfErr result (λ fault. OnInput fault
-        (BreaksOffBy command (R.remaining input.old.inner.now) (R.remaining input.new.inner.now)
-        (contents_of W.contents out.old) (W.contents out.new.writer.now))) }
+    ensures run { HasRun command (R.remaining input.old.inner.now) (R.remaining input.new.inner.now)
+        (contents_of W.contents out.old) (W.contents out.new.writer.now) result }
     ensures failed { IfErr result (λ fault. OnStreamFault fault (input.new.has_failed ≡ true) (out.new.has_failed ≡ true)) }
     ensures flushed { IfSettled result (out.new.is_flushed ≡ true) }
 {
@@ -118,7 +94,7 @@ fn answer_input<R: Read, W: Write>(
     }
 }
 
-/// Reads the input to its end, and gathers the answers. What is gathered is written out before
+/// Reads the input to its end, and gathers the text. What is gathered is written out before
 /// each read.
 fn read_lines<R: Read, W: Write>(
     command: Command,
@@ -127,14 +103,9 @@ fn read_lines<R: Read, W: Write>(
 ) -> Result<Verdict, ToolFault>
     ensures same_reader { input.new.inner.ghost_name ≡ input.old.inner.ghost_name }
     ensures same_writer { out.new.writer.ghost_name ≡ out.old.writer.ghost_name }
-    ensures ok { IfOk result (AnswersInputBy command (R.remaining input.old.inner.now) (R.remaining input.new.inner.now)
-        (contents_of W.contents out.old) (contents_of W.contents out.new)) }
-    ensures bad_line { IfErr result (λ fault. OnBadLine fault
-        (StopsInputBy command (R.remaining input.old.inner.now) (R.remaining input.new.inner.now)
-        (contents_of W.contents out.old) (contents_of W.contents out.new))) }
-    ensures input_fault { IfErr result (λ fault. OnInput fault
-        (BreaksOffBy command (R.remaining input.old.inner.now) (R.remaining input.new.inner.now)
-        (contents_of W.contents out.old) (W.contents out.new.writer.now))) }
+    ensures run { HasRun command (R.remaining input.old.inner.now) (R.remaining input.new.inner.now)
+        (contents_of W.contents out.old) (contents_of W.contents out.new) result }
+    ensures none_waits { IfErr result (λ fault. OnInput fault (out.new.waiting.items ≡ [])) }
     ensures failed { IfErr result (λ fault. OnStreamFault fault (input.new.has_failed ≡ true) (out.new.has_failed ≡ true)) }
 {
     let mut lines = LineLoop::new();

@@ -1,5 +1,5 @@
-//! The answer to one frame: the lines of its walk, or what feeding it comes to.
-ghost use Rattle.std.specs.Prelude.{◌≡◌, ◌++◌, List, true, false, IfOk, IfErr, OnErr};
+//! The text that answers a frame: the lines of its walk, or those of feeding it.
+ghost use Rattle.std.specs.Prelude.{◌≡◌, ◌++◌, List, false};
 ghost use Rattle.ether_tool.specs.OutputBuffer.{TakesAnswer};
 ghost use Rattle.ether_tool.specs.WalkText.{start_of_mode, Answers, AnswersWalk};
 ghost use Rattle.etherparse.specs.Header.{Header};
@@ -11,23 +11,16 @@ use crate::command::Command;
 use crate::feed_text::put_feed;
 use crate::lines::{put_fault, put_rest, put_unit};
 use crate::mode::Mode;
-use crate::outcome::ToolFault;
 use crate::output_buffer::OutputBuffer;
 use ether_peel::{Peel, Start};
 use std::io::Write;
 
 /// Puts the lines that answer a frame, and returns whether the frame is accepted.
 ///
-/// After an `Err`, which only the writer causes, nothing is said of how much was written.
-pub fn put_answer<W: Write>(
-    command: Command,
-    frame: &[u8],
-    out: &mut OutputBuffer<'_, W>,
-) -> Result<bool, ToolFault>
-    ensures same_writer { out.new.writer.ghost_name ≡ out.old.writer.ghost_name }
-    ensures ok { IfOk result (λ accepted. TakesAnswer W.contents (Answers command frame.now) out.old out.new accepted) }
-    ensures fault { IfErr result (λ fault. fault ≡ ToolFault.Output) }
-    ensures failed { OnErr result (out.new.has_failed ≡ true) }
+/// Inlined into the loop over the lines, it would make the decoding of their digits slower.
+#[inline(never)]
+pub fn put_answer<W: Write>(command: Command, frame: &[u8], out: &mut OutputBuffer<'_, W>) -> bool
+    ensures { TakesAnswer W.contents (Answers command frame.now) out.old out.new result }
 {
     let start = start(command.mode);
     match command.mode {
@@ -37,35 +30,27 @@ pub fn put_answer<W: Write>(
 }
 
 /// Puts the lines of a frame's walk, and returns whether the frame is accepted.
-///
-/// After an `Err`, which only the writer causes, nothing is said of how much was written.
 fn put_walk<W: Write>(
     start: Start,
     limit: Option<usize>,
     frame: &[u8],
     out: &mut OutputBuffer<'_, W>,
-) -> Result<bool, ToolFault>
-    ensures same_writer { out.new.writer.ghost_name ≡ out.old.writer.ghost_name }
-    ensures ok { IfOk result (λ accepted. TakesAnswer W.contents (AnswersWalk (start_with start limit) frame.now) out.old out.new accepted) }
-    ensures fault { IfErr result (λ fault. fault ≡ ToolFault.Output) }
-    ensures failed { OnErr result (out.new.has_failed ≡ true) }
+) -> bool
+    ensures { TakesAnswer W.contents (AnswersWalk (start_with start limit) frame.now) out.old out.new result }
 {
     let mut peel = walker(start, limit, frame);
     loop {
         let offset = peel.offset();
         match peel.next() {
-            Some(Ok(unit)) => {
-                put_unit(out, offset, peel.rest().len(), peel.closed(), &unit)?;
-            }
+            Some(Ok(unit)) => put_unit(out, offset, peel.rest().len(), peel.closed(), &unit),
             Some(Err(fault)) => {
-                put_fault(out, &fault)?;
-                return Ok(false);
+                put_fault(out, &fault);
+                return false;
             }
             None => {
                 let end = offset + peel.rest().len();
-                let kind = peel.kind();
-                put_rest(out, offset, end, kind)?;
-                return Ok(true);
+                put_rest(out, offset, end, peel.kind());
+                return true;
             }
         }
     }

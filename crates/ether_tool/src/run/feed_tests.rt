@@ -85,7 +85,7 @@ fn asks_within_a_closed_window_for_nothing(rt: HostRuntime) -> Result<(), Fail> 
 
 #[test]
 fn asks_once_for_each_of_many_tags(rt: HostRuntime) -> Result<(), Fail> {
-    // 508 tags behind an Ethernet II header, each of which announces one more.
+    // 508 tags after an Ethernet II header, each of which announces one more.
     let mut line = [b'0'; 4096];
     for tag in 0..509 {
         line[24 + 8 * tag] = b'8';

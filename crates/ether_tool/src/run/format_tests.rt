@@ -31,7 +31,7 @@ pub fn answers(
 // ---- worked examples
 
 #[test]
-fn a_tag_behind_ethernet(rt: HostRuntime) -> Result<(), Fail> {
+fn a_tag_after_ethernet(rt: HostRuntime) -> Result<(), Fail> {
     answers(
         &rt,
         &["eth"],
@@ -106,7 +106,7 @@ rest 16 16 type 0x0001\n",
 
 #[test]
 fn a_frame_check_sequence(rt: HostRuntime) -> Result<(), Fail> {
-    // It is no part of the payload, and bytes behind the frame would move it.
+    // It is no part of the payload, and bytes after the frame would move it.
     answers(
         &rt,
         &["fcs"],
@@ -418,7 +418,7 @@ fn a_captured_packet_of_the_loopback_device(rt: HostRuntime) -> Result<(), Fail>
 
 #[test]
 fn integrity_protection(rt: HostRuntime) -> Result<(), Fail> {
-    // The 54-octet frame of IEEE 802.1AE, Annex C. The ICV behind the payload is no part of it.
+    // The 54-octet frame of IEEE 802.1AE, Annex C. The ICV after the payload is no part of it.
     answers(
         &rt,
         &["eth"],
@@ -458,7 +458,7 @@ fault 14 open length 48 36 macsec_short_length\n",
 
 #[test]
 fn a_reply_with_padding(rt: HostRuntime) -> Result<(), Fail> {
-    // The reply to a request that Linux sent, behind a header and filled up to 60 bytes by hand.
+    // The reply to a request that Linux sent, after a header and filled up to 60 bytes by hand.
     answers(
         &rt,
         &["eth"],

@@ -307,7 +307,7 @@ fn answers_many_lines_in_any_reads(rt: HostRuntime) {
 
 #[test]
 fn gathers_more_than_its_room(rt: HostRuntime) {
-    // 508 tags behind an Ethernet II header, each of which announces one more.
+    // 508 tags after an Ethernet II header, each of which announces one more.
     let mut line = [b'0'; 4096];
     for tag in 0..509 {
         line[24 + 8 * tag] = b'8';

@@ -1,18 +1,18 @@
 use Rattle.ether_tool.proofs.DecimalLemmas.{one_digit, two_digits, three_digits}
-use Rattle.ether_tool.proofs.OutputBufferLemmas.{Takes-same, OnOk-then}
+use Rattle.ether_tool.proofs.OutputBufferLemmas.{Takes-same}
 use Rattle.ether_tool.proofs.lines.put_decimal.Goals as goal
 
-pub returns-then-number-lt10-clause-ok : goal.returns-then-number-lt10-clause-ok
-returns-then-number-lt10-clause-ok g c =
+pub returns-then-number-lt10 : goal.returns-then-number-lt10
+returns-then-number-lt10 g c =
     let digits = one_digit c.args.number _ c.if-number-lt10.true c.digit.ensures in
-    OnOk-then c.put.result (λ put. Takes-same digits put) c.put.ensures.ok
+    Takes-same digits c.put.ensures
 
-pub returns-then-number-lt100-clause-ok : goal.returns-then-number-lt100-clause-ok
-returns-then-number-lt100-clause-ok g c =
+pub returns-then-number-lt100 : goal.returns-then-number-lt100
+returns-then-number-lt100 g c =
     let digits = two_digits c.args.number _ _ c.if-number-lt10.false c.if-number-lt100.true c.digit-then-number-lt100.ensures c.digit-then-number-lt100-2.ensures in
-    OnOk-then c.put-then-number-lt100.result (λ put. Takes-same digits put) c.put-then-number-lt100.ensures.ok
+    Takes-same digits c.put-then-number-lt100.ensures
 
-pub returns-then-number-lt1000-clause-ok : goal.returns-then-number-lt1000-clause-ok
-returns-then-number-lt1000-clause-ok g c =
+pub returns-then-number-lt1000 : goal.returns-then-number-lt1000
+returns-then-number-lt1000 g c =
     let digits = three_digits c.args.number _ _ _ c.if-number-lt100.false c.if-number-lt1000.true c.digit-then-number-lt1000.ensures c.digit-then-number-lt1000-2.ensures c.digit-then-number-lt1000-3.ensures in
-    OnOk-then c.put-then-number-lt1000.result (λ put. Takes-same digits put) c.put-then-number-lt1000.ensures.ok
+    Takes-same digits c.put-then-number-lt1000.ensures

@@ -6,18 +6,17 @@ use Rattle.etherparse.specs.NumberText.{hex_number}
 use Rattle.etherparse.proofs.LinuxSllFields.{linux_sll_of_front}
 use Rattle.ether_tool.specs.HexText.{hex_text}
 use Rattle.ether_tool.specs.Lines.{linux_sll_text}
-use Rattle.ether_tool.proofs.OutputBufferLemmas.{Takes-then, Takes-same, OnOk-then}
+use Rattle.ether_tool.proofs.OutputBufferLemmas.{Takes-then, Takes-same}
 use Rattle.ether_tool.proofs.lines.put_linux_sll.Goals as goal
 
-pub returns-clause-ok : goal.returns-clause-ok
+pub returns : goal.returns
 unfolding linux_sll_text
-returns-clause-ok g c =
+returns g c =
     let header = ap linux_sll_of c.header_slice-header.ensures.bytes ∙ linux_sll_of_front c.args.slice.now 16 (omega arith) in
-    let packet = Takes-same (ap (λ (n : ℕ). codes " packet " ++ decimal n) (c.from.ensures ∙ c.packet_type_of.ensures ∙ ap (λ (s : LinuxSllValue). s.packet_type) header)) c.in_ok-put_number-2.ensures.ok in
-    let hardware = Takes-same (ap (λ (n : ℕ). codes " hw " ++ decimal n) (c.from-2.ensures ∙ c.arp_hardware_type.ensures)) c.in_ok-put_number-3.ensures.ok in
-    let len = Takes-same (ap (λ (n : ℕ). codes " alen " ++ decimal n) (c.from-3.ensures ∙ c.sender_address_valid_length.ensures)) c.in_ok-put_number-4.ensures.ok in
-    let address = Takes-same (c.hex_long.ensures ∙ ap hex_text c.sender_address_full.ensures) c.in_ok-put-2.ensures.ok in
-    OnOk-then c.put-4.result (λ last.
-    let protocol = Takes-same (c.hex_type.ensures ∙ ap hex_number (c.protocol_of.ensures ∙ ap (λ (s : LinuxSllValue). s.protocol) header)) last in
-    Takes-then c.in_ok-put_number.ensures.ok (Takes-then packet (Takes-then hardware (Takes-then len
-    (Takes-then c.in_ok-put.ensures.ok (Takes-then address (Takes-then c.in_ok-put-3.ensures.ok protocol))))))) c.put-4.ensures.ok
+    let packet = Takes-same (ap (λ (n : ℕ). codes " packet " ++ decimal n) (c.from.ensures ∙ c.packet_type_of.ensures ∙ ap (λ (s : LinuxSllValue). s.packet_type) header)) c.put_number-2.ensures in
+    let hardware = Takes-same (ap (λ (n : ℕ). codes " hw " ++ decimal n) (c.from-2.ensures ∙ c.arp_hardware_type.ensures)) c.put_number-3.ensures in
+    let len = Takes-same (ap (λ (n : ℕ). codes " alen " ++ decimal n) (c.from-3.ensures ∙ c.sender_address_valid_length.ensures)) c.put_number-4.ensures in
+    let address = Takes-same (c.hex_long.ensures ∙ ap hex_text c.sender_address_full.ensures) c.put-2.ensures in
+    let protocol = Takes-same (c.hex_type.ensures ∙ ap hex_number (c.protocol_of.ensures ∙ ap (λ (s : LinuxSllValue). s.protocol) header)) c.put-4.ensures in
+    Takes-then c.put_number.ensures (Takes-then packet (Takes-then hardware (Takes-then len
+    (Takes-then c.put.ensures (Takes-then address (Takes-then c.put-3.ensures protocol))))))

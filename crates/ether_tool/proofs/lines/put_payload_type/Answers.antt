@@ -1,18 +1,22 @@
 use Rattle.std.proofs.Common.{sym, ap}
 use Rattle.etherparse.specs.Macsec.{payload_type_view}
 use Rattle.ether_tool.specs.Lines.{payload_type_text}
-use Rattle.ether_tool.proofs.OutputBufferLemmas.{Takes-then, Takes-same, OnOk-then}
+use Rattle.ether_tool.proofs.OutputBufferLemmas.{Takes-then, Takes-same}
 use Rattle.ether_tool.proofs.lines.put_payload_type.Goals as goal
 
-pub returns-in_ok-put-in-Unmodified-clause-ok : goal.returns-in_ok-put-in-Unmodified-clause-ok
+pub returns-in-Unmodified : goal.returns-in-Unmodified
 unfolding payload_type_text
-returns-in_ok-put-in-Unmodified-clause-ok g c =
-    OnOk-then c.put-in-Unmodified.result (λ last.
-    Takes-same (ap (λ p. payload_type_text (payload_type_view p)) (sym c.in-Unmodified.is))
-    (Takes-then c.in_ok-put-in-Unmodified.ensures.ok (Takes-same c.hex_type.ensures last))) c.put-in-Unmodified.ensures.ok
+returns-in-Unmodified g c =
+    Takes-same (ap (λ p. payload_type_text (payload_type_view p)) (sym c.in-Unmodified.is)) (Takes-then c.put.ensures (Takes-same c.hex_type.ensures c.put-in-Unmodified.ensures))
 
-pub returns-in-EncryptedUnmodified-clause-ok : goal.returns-in-EncryptedUnmodified-clause-ok
+pub returns-in-Modified : goal.returns-in-Modified
 unfolding payload_type_text
-returns-in-EncryptedUnmodified-clause-ok g c =
-    OnOk-then c.put-in-EncryptedUnmodified.result (λ last.
-    Takes-same (ap (λ p. payload_type_text (payload_type_view p)) (sym c.in-EncryptedUnmodified.is)) last) c.put-in-EncryptedUnmodified.ensures.ok
+returns-in-Modified g c = Takes-same (ap (λ p. payload_type_text (payload_type_view p)) (sym c.in-Modified.is)) c.put-in-Modified.ensures
+
+pub returns-in-Encrypted : goal.returns-in-Encrypted
+unfolding payload_type_text
+returns-in-Encrypted g c = Takes-same (ap (λ p. payload_type_text (payload_type_view p)) (sym c.in-Encrypted.is)) c.put-in-Encrypted.ensures
+
+pub returns-in-EncryptedUnmodified : goal.returns-in-EncryptedUnmodified
+unfolding payload_type_text
+returns-in-EncryptedUnmodified g c = Takes-same (ap (λ p. payload_type_text (payload_type_view p)) (sym c.in-EncryptedUnmodified.is)) c.put-in-EncryptedUnmodified.ensures

@@ -1,27 +1,31 @@
-use Rattle.std.proofs.Common.{List, ℕ, ◌++◌, sym, ap}
+use Rattle.std.proofs.Common.{List, ℕ, ◌++◌, sym, ap, inl, inr}
 use Rattle.std.specs.Prelude.{codes}
 use Rattle.etherparse.specs.Types.LinuxSllProtocolType.{LinuxSllProtocolType}
 use Rattle.ether_tool.specs.Lines.{protocol_text}
-use Rattle.ether_tool.proofs.OutputBufferLemmas.{Takes-then, Takes-same, OnOk-then}
+use Rattle.ether_tool.proofs.OutputBufferLemmas.{Takes-then, Takes-same}
 use Rattle.ether_tool.proofs.lines.put_protocol.Goals as goal
 
 abbrev spaced_text : LinuxSllProtocolType → List ℕ
 spaced_text p = codes " " ++ protocol_text p
 
-pub returns-in_ok-put-in-Ignored-clause-ok : goal.returns-in_ok-put-in-Ignored-clause-ok
+pub returns-in-Ignored : goal.returns-in-Ignored
 unfolding protocol_text
-returns-in_ok-put-in-Ignored-clause-ok g c =
-    OnOk-then c.put-in-Ignored.result (λ last.
-    Takes-same (ap spaced_text (sym c.in-Ignored.is)) (Takes-then c.in_ok-put-in-Ignored.ensures.ok (Takes-same c.hex_type.ensures last))) c.put-in-Ignored.ensures.ok
+returns-in-Ignored g c =
+    Takes-same (ap spaced_text (sym c.in-Ignored.is)) (Takes-then c.put.ensures (Takes-same c.hex_type.ensures c.put-in-Ignored.ensures))
 
-pub returns-in_ok-put-in-NetlinkProtocolType-clause-ok : goal.returns-in_ok-put-in-NetlinkProtocolType-clause-ok
+pub returns-in-NetlinkProtocolType : goal.returns-in-NetlinkProtocolType
 unfolding protocol_text
-returns-in_ok-put-in-NetlinkProtocolType-clause-ok g c =
-    OnOk-then c.put-in-NetlinkProtocolType-2.result (λ last.
-    Takes-same (ap spaced_text (sym c.in-NetlinkProtocolType.is)) (Takes-then c.in_ok-put-in-NetlinkProtocolType.ensures.ok (Takes-same c.hex_type-in-NetlinkProtocolType.ensures last))) c.put-in-NetlinkProtocolType-2.ensures.ok
+returns-in-NetlinkProtocolType g c =
+    Takes-same (ap spaced_text (sym c.in-NetlinkProtocolType.is)) (Takes-then c.put-in-NetlinkProtocolType.ensures (Takes-same c.hex_type-in-NetlinkProtocolType.ensures c.put-in-NetlinkProtocolType-2.ensures))
 
-pub returns-in_ok-put-in-GenericRoutingEncapsulationProtocolType-clause-ok : goal.returns-in_ok-put-in-GenericRoutingEncapsulationProtocolType-clause-ok
+pub returns-in-GenericRoutingEncapsulationProtocolType : goal.returns-in-GenericRoutingEncapsulationProtocolType
 unfolding protocol_text
-returns-in_ok-put-in-GenericRoutingEncapsulationProtocolType-clause-ok g c =
-    OnOk-then c.put-in-GenericRoutingEncapsulationProtocolType-2.result (λ last.
-    Takes-same (ap spaced_text (sym c.in-GenericRoutingEncapsulationProtocolType.is)) (Takes-then c.in_ok-put-in-GenericRoutingEncapsulationProtocolType.ensures.ok (Takes-same c.hex_type-in-GenericRoutingEncapsulationProtocolType.ensures last))) c.put-in-GenericRoutingEncapsulationProtocolType-2.ensures.ok
+returns-in-GenericRoutingEncapsulationProtocolType g c =
+    Takes-same (ap spaced_text (sym c.in-GenericRoutingEncapsulationProtocolType.is)) (Takes-then c.put-in-GenericRoutingEncapsulationProtocolType.ensures (Takes-same c.hex_type-in-GenericRoutingEncapsulationProtocolType.ensures c.put-in-GenericRoutingEncapsulationProtocolType-2.ensures))
+
+pub returns-in-EtherType : goal.returns-in-EtherType
+unfolding protocol_text
+returns-in-EtherType g c = elim c.in-EtherType.is [
+  | inl h ↦ Takes-same (ap spaced_text (sym h.1)) c.put-in-EtherType.ensures
+  | inr h ↦ Takes-same (ap spaced_text (sym h.1)) c.put-in-EtherType.ensures
+]

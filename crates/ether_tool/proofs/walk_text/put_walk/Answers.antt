@@ -14,19 +14,19 @@ loop-unit-preserved g c =
     let s = c.next.new.self in
     let len = ap length c.rest.ensures in
     let same = ap (λ (n : ℕ). view_text n (length c.rest.result.now) c.closed.result u) c.offset-offset.ensures.value ∙ ap (λ (n : ℕ). view_text c.loop-unit.peel.offset n c.closed.result u) len ∙ ap (λ (b : Bool). view_text c.loop-unit.peel.offset (length s.rest) b u) c.closed.ensures in
-    let line = subst (λ (l : List ℕ). Takes contents c.loop-unit.out (l ++ codes "\n") c.put_unit.new.out) same c.in_ok-put_unit-in-Some-Ok.ensures.ok in
-    (c.put_unit.ensures.same_writer ∙ c.loop-unit.invariant.0, walk_unit contents (start_with c.args.start c.args.limit) c.args.frame.now c.loop-unit.peel c.next.new.self c.args.out.now c.loop-unit.out c.put_unit.new.out u (λ i. omega (arith, c.type_inv.frame i)) c.loop-unit.invariant.1 gives line)
+    let line = subst (λ (l : List ℕ). Takes contents c.loop-unit.out (l ++ codes "\n") c.put_unit.new.out) same c.put_unit.ensures in
+    walk_unit contents (start_with c.args.start c.args.limit) c.args.frame.now c.loop-unit.peel c.next.new.self c.args.out.now c.loop-unit.out c.put_unit.new.out u (λ i. omega (arith, c.type_inv.frame i)) c.loop-unit.invariant gives line
 
-pub returns-in-Some-Err-clause-ok : goal.returns-in-Some-Err-clause-ok
-returns-in-Some-Err-clause-ok g c =
+pub returns-in-Some-Err : goal.returns-in-Some-Err
+returns-in-Some-Err g c =
     let gives = rw c.in-Some-Err.field-0-is at c.in-Some-Err.ensures.steps in
-    walk_fault g.W.Write.contents (start_with c.args.start c.args.limit) c.args.frame.now c.loop-unit.peel c.next.new.self c.args.out.now c.loop-unit.out c.put_fault.new.out c.in-Some-Err.fault c.loop-unit.invariant.1 gives c.in_ok-put_fault-in-Some-Err.ensures.ok
+    walk_fault g.W.Write.contents (start_with c.args.start c.args.limit) c.args.frame.now c.loop-unit.peel c.next.new.self c.args.out.now c.loop-unit.out c.put_fault.new.out c.in-Some-Err.fault c.loop-unit.invariant gives c.put_fault.ensures
 
-pub returns-in-None-clause-ok : goal.returns-in-None-clause-ok
-returns-in-None-clause-ok g c =
+pub returns-in-None : goal.returns-in-None
+returns-in-None g c =
     let contents = g.W.Write.contents in
-    let k = c.kind-kind.result in
+    let k = c.kind.result in
     let end = c.offset-offset.result + length c.rest-in-None.result.now in
-    let line = subst (λ (n : ℕ). Takes contents c.loop-unit.out (rest_view_text n end k ++ codes "\n") c.put_rest.new.out) c.offset-offset.ensures.value c.in_ok-put_rest-in-None.ensures.ok in
+    let line = subst (λ (n : ℕ). Takes contents c.loop-unit.out (rest_view_text n end k ++ codes "\n") c.put_rest.new.out) c.offset-offset.ensures.value c.put_rest.ensures in
     let to : end ≡ c.loop-unit.peel.offset + length c.next.new.self.rest = ap (λ (n : ℕ). n + length c.rest-in-None.result.now) c.offset-offset.ensures.value ∙ ap (λ (l : List ℕ). c.loop-unit.peel.offset + length l) c.rest-in-None.ensures in
-    walk_rest contents (start_with c.args.start c.args.limit) c.args.frame.now c.loop-unit.peel c.next.new.self c.args.out.now c.loop-unit.out c.put_rest.new.out end k c.loop-unit.invariant.1 c.in-None.ensures.steps to c.kind-kind.ensures line
+    walk_rest contents (start_with c.args.start c.args.limit) c.args.frame.now c.loop-unit.peel c.next.new.self c.args.out.now c.loop-unit.out c.put_rest.new.out end k c.loop-unit.invariant c.in-None.ensures.steps to c.kind.ensures line

@@ -1,4 +1,3 @@
-use Rattle.std.proofs.Common.{◌≡◌}
 use Rattle.std.specs.Iterator.{size}
 use Rattle.ether_peel.specs.PeelStart.{start_with}
 use Rattle.ether_peel.specs.Peel.{items_left}
@@ -6,7 +5,7 @@ use Rattle.ether_tool.proofs.WalkTextLemmas.{PutsWalk}
 use Rattle.ether_tool.proofs.walk_text.put_walk.Given as goal
 
 abbrev pub invariant-loop-unit : goal.invariant-loop-unit
-invariant-loop-unit g l = (l.out.writer.ghost_name ≡ l.fn.out.writer.ghost_name) × PutsWalk g.W.Write.contents (start_with l.fn.start l.fn.limit) l.frame l.peel l.fn.out l.out
+invariant-loop-unit g l = PutsWalk g.W.Write.contents (start_with l.fn.start l.fn.limit) l.frame l.peel l.fn.out l.out
 
 abbrev pub decreases-loop-unit : goal.decreases-loop-unit
 decreases-loop-unit g l = size (items_left l.peel)

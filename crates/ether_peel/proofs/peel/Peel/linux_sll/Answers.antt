@@ -7,7 +7,7 @@ use Rattle.ether_peel.specs.PeelState.{State, shown_of}
 use Rattle.ether_peel.specs.Expectation.{announced}
 use Rattle.ether_peel.specs.Peel.{Gives}
 use Rattle.ether_peel.specs.declared.peel_unit.PeelUnit.TheVariants as units
-use Rattle.ether_peel.proofs.PeelLemmas.{shown, gives_unit, plain_part, refused_len, refused_linux_sll}
+use Rattle.ether_peel.proofs.PeelLemmas.{shown, after_capture_is, gives_unit, plain_part, refused_len, refused_linux_sll}
 use Rattle.ether_peel.proofs.peel.Peel.linux_sll.Goals as goal
 
 pub fault-requires : goal.fault-requires
@@ -39,7 +39,7 @@ returns-in-Ok-clause-gives c =
       offset = ap (λ n. a.start + n) c.header_len.ensures;
       closed = refl;
       bound = refl;
-      next = c.announced_in-kind.ensures.expected;
+      next = c.announced_in-kind.ensures.expected ∙ after_capture_is (linux_sll_of c.in-Ok.slice).hardware_type (linux_sll_of c.in-Ok.slice).protocol;
       limit = refl;
       over = going;
     }))

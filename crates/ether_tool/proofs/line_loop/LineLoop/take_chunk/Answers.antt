@@ -10,14 +10,14 @@ pub returns-in-Err-clause-bad : goal.returns-in-Err-clause-bad
 returns-in-Err-clause-bad g c =
     let so_far = c.loop-piece.invariant in
     line_fault c.args.command g.W.Write.contents c.in-Err.fault c.args.self.now c.loop-piece.self c.args.out.now c.loop-piece.out c.judge.new.out
-    c.args.chunk.now so_far.0 c.loop-piece.rest.now c.in-Some.piece.now c.in-Some.behind.now
+    c.args.chunk.now so_far.0 c.loop-piece.rest.now c.in-Some.piece.now c.in-Some.after.now
     so_far.2 so_far.3 c.in-Some.ensures.some.in_line c.in-Some.ensures.some.parts c.in-Err.ensures.bad
 
 pub loop-piece-preserved : goal.loop-piece-preserved
 loop-piece-preserved g c =
     let so_far = c.loop-piece.invariant in
     let (more, whole, advances) = line_taken c.args.command g.W.Write.contents c.args.self.now c.loop-piece.self c.judge.new.self c.args.out.now c.loop-piece.out c.judge.new.out
-    c.args.chunk.now so_far.0 c.loop-piece.rest.now c.in-Some.piece.now c.in-Some.behind.now
+    c.args.chunk.now so_far.0 c.loop-piece.rest.now c.in-Some.piece.now c.in-Some.after.now
     so_far.2 so_far.3 c.in-Some.ensures.some.in_line c.in-Some.ensures.some.parts
     c.in_default-judge.ensures.ok in (more, c.judge.ensures.same_writer ∙ so_far.1, whole, advances)
 

@@ -1,0 +1,44 @@
+-- What the program has read and written, and how it ends.
+use Rattle.std.specs.Prelude.{◌≡◌, ℕ, List, [], ◌++◌, codes, Option, Some, None, Result, Ok, Err, IfNone, Bool, true, String}
+use Rattle.std.specs.Io.KnownBytes.{Appends}
+use Rattle.std.specs.Vec.Iter.{into_iter_items}
+use Rattle.std.specs.declared.vec.IntoIter.{IntoIter}
+use Rattle.ether_tool.specs.Command.{NamesCommand, NamesNoCommand, words_after}
+use Rattle.ether_tool.specs.Run.{HasRun}
+use Rattle.ether_tool.specs.Outcome.{last_text, status_of_program}
+use Rattle.ether_tool.specs.declared.mode.Mode.{Mode}
+use Rattle.ether_tool.specs.declared.mode.Usage.{Usage}
+use Rattle.ether_tool.specs.declared.outcome.Verdict.{Verdict}
+use Rattle.ether_tool.specs.declared.outcome.ToolFault.{ToolFault}
+use Rattle.ether_tool.specs.declared.outcome.ToolFault.TheVariants.{Input}
+
+-- the words of the arguments after the program's own name, if they can be read
+abbrev pub words_of : {A E : Type 0} → Result (IntoIter (String A) A) E → Option (List (List ℕ))
+words_of (Ok args) = Some (words_after (into_iter_items args))
+words_of (Err error) = None
+
+-- The words name a command, and it has run. Or they name none, or can't be read, which is a fault of the input: then nothing is read or written.
+abbrev pub HasObeyed : Option (List (List ℕ)) → (before after held holds : Option (List ℕ)) → Result (Result Verdict ToolFault) Usage → Type 0
+HasObeyed (Some words) before after held holds (Ok outcome) =
+    (command : Mode × Option ℕ) × NamesCommand words command × HasRun (record { mode = command.0; limit = command.1 }) before after held holds outcome
+HasObeyed (Some words) before after held holds (Err usage) = NamesNoCommand words × (after ≡ before) × (holds ≡ held)
+HasObeyed None before after held holds outcome = (outcome ≡ Ok (Err Input)) × (after ≡ before) × (holds ≡ held)
+
+-- the last line with its line feed, if there is one
+abbrev pub last_bytes : Option (List ℕ) → List ℕ
+last_bytes None = []
+last_bytes (Some text) = text ++ codes "\n"
+
+-- the last line of the outcome, if there is one, is written, or the writer has failed
+pub record PutsLast (outcome : Result (Result Verdict ToolFault) Usage) (held holds : Option (List ℕ)) (printed : Bool) : Type 0 where
+  pub written : printed ≡ true → Appends held holds (last_bytes (last_text outcome))
+  pub silent : IfNone (last_text outcome) (printed ≡ true)
+
+-- The program has run the command that the words name, has put the last line, and ends with the status of its outcome.
+pub record HasServed (words : Option (List (List ℕ))) (before after held holds : Option (List ℕ)) (status : ℕ) : Type 0 where
+  pub outcome : Result (Result Verdict ToolFault) Usage
+  pub printed : Bool
+  pub between : Option (List ℕ)
+  pub obeyed : HasObeyed words before after held between outcome
+  pub ended : PutsLast outcome between holds printed
+  pub is_status : status ≡ status_of_program outcome printed

@@ -1,0 +1,163 @@
+//! The program, over any arguments, reader and writer.
+ghost use Rattle.ether_tool.specs.Program.{HasObeyed, HasServed, PutsLast, words_of};
+
+use crate::command::command_of_args;
+use crate::outcome::{Outcome, ToolFault, last_line, program_status};
+use crate::run::{run, run_limited};
+use std::io::{Read, Write};
+use std::{env, io};
+
+/// Runs the command that the arguments name, prints the last line if there is one, and returns the exit status.
+///
+/// If the arguments name no command, or can't be read, nothing is read. The latter is a fault of the input.
+pub fn program<R: Read, W: Write>(args: io::Result<env::Args>, reader: &mut R, writer: &mut W) -> u8
+    ensures { HasServed (words_of args) (R.remaining reader.old) (R.remaining reader.new)
+        (W.contents writer.old) (W.contents writer.new) result }
+{
+    let outcome = obey(args, reader, writer);
+    let is_printed = put_last_line(&outcome, writer);
+    program_status(&outcome, is_printed)
+}
+
+/// Runs the command that the arguments name.
+fn obey<R: Read, W: Write>(args: io::Result<env::Args>, reader: &mut R, writer: &mut W) -> Outcome
+    ensures { HasObeyed (words_of args) (R.remaining reader.old) (R.remaining reader.new)
+        (W.contents writer.old) (W.contents writer.new) result }
+{
+    let Ok(args) = args else {
+        return Ok(Err(ToolFault::Input));
+    };
+    match command_of_args(args) {
+        Ok((mode, Some(limit))) => Ok(run_limited(mode, limit, reader, writer)),
+        Ok((mode, None)) => Ok(run(mode, reader, writer)),
+        Err(usage) => Err(usage),
+    }
+}
+
+/// Prints the last line, if there is one, and returns whether the writer took it.
+fn put_last_line<W: Write>(outcome: &Outcome, writer: &mut W) -> bool
+    ensures { PutsLast outcome.now (W.contents writer.old) (W.contents writer.new) result }
+{
+    match last_line(outcome) {
+        Some(line) => writeln!(writer, "{line}").is_ok(),
+        None => true,
+    }
+}
+
+#[cfg(test)]
+mod tests {
+    use super::*;
+    use crate::test_frames::{PLAIN, PLAIN_ANSWER, TAGGED, TAGGED_ANSWER};
+    use arrayvec::ArrayVec;
+    use std::alloc::Global;
+    use std::io::ErrorKind;
+    use std::process::Abort;
+    use std::test::Fail;
+
+    /// The arguments of a program that is called with these words.
+    fn args<R: AllocGlobal>(rt: &R, words: &[&str]) -> Result<env::Args, Fail> {
+        let mut all: Vec<String<Global>, Global> = Vec::new(rt.alloc());
+        all.push(String::from_str(rt.alloc(), "ether_tool")?)?;
+        for word in words {
+            all.push(String::from_str(rt.alloc(), word)?)?;
+        }
+        Ok(all.into_iter())
+    }
+
+    /// Ends with this status after it has written this text.
+    fn ends<R: AllocGlobal + Abort>(
+        rt: &R,
+        words: &[&str],
+        input: &[u8],
+        text: &[u8],
+        status: u8,
+    ) -> Result<(), Fail> {
+        let mut left = input;
+        let mut output = ArrayVec::<u8, 1024>::new();
+        let ended = program(Ok(args(rt, words)?), &mut left, &mut output);
+        assert_eq!(rt; output.as_slice(), text);
+        assert_eq!(rt; ended, status);
+        Ok(())
+    }
+
+    #[test]
+    fn ends_with_0_after_accepted_frames(rt: HostRuntime) -> Result<(), Fail> {
+        ends(&rt, &[], PLAIN, PLAIN_ANSWER, 0)?;
+        ends(&rt, &["eth"], TAGGED, TAGGED_ANSWER, 0)?;
+        ends(&rt, &["fcs"], b"", b"", 0)
+    }
+
+    #[test]
+    fn ends_with_1_after_a_refused_frame(rt: HostRuntime) -> Result<(), Fail> {
+        ends(
+            &rt,
+            &["eth"],
+            b"ffffffffffff3aeeb62ff6d788a80001810000\nffffffffffff0200000000010800\n",
+            b"ethernet2 0 ffffffffffff 3aeeb62ff6d7 0x88A8\n\
+vlan 14 pcp 0 dei 0 vid 1 0x8100\n\
+fault 18 open length 4 1 slice\n\
+ethernet2 0 ffffffffffff 020000000001 0x0800\n\
+rest 14 14 type 0x0800\n",
+            1,
+        )
+    }
+
+    #[test]
+    fn reads_no_more_tags_than_the_limit(rt: HostRuntime) -> Result<(), Fail> {
+        ends(
+            &rt,
+            &["eth", "limit", "1"],
+            b"ffffffffffff3aeeb62ff6d788a80001810000",
+            b"ethernet2 0 ffffffffffff 3aeeb62ff6d7 0x88A8\n\
+vlan 14 pcp 0 dei 0 vid 1 0x8100\n\
+rest 18 19 type 0x8100\n",
+            0,
+        )
+    }
+
+    #[test]
+    fn ends_with_3_after_a_bad_line(rt: HostRuntime) -> Result<(), Fail> {
+        ends(&rt, &["eth"], b"abc", b"line 1: bad line\n", 3)?;
+        ends(
+            &rt,
+            &["type", "8100"],
+            b"b1230800\n0g\nb1230800\n",
+            b"vlan 0 pcp 5 dei 1 vid 291 0x0800\nrest 4 4 type 0x0800\nline 2: bad line\n",
+            3,
+        )
+    }
+
+    #[test]
+    fn ends_with_2_after_wrong_words(rt: HostRuntime) -> Result<(), Fail> {
+        let usage = b"usage: ether_tool eth | fcs | sll | type XXXX | feed [limit N]\n";
+        ends(&rt, &["ether"], PLAIN, usage, 2)?;
+        ends(&rt, &["type"], PLAIN, usage, 2)?;
+        ends(&rt, &["eth", "limit"], PLAIN, usage, 2)?;
+        ends(&rt, &["eth", "limit", "1", "eth"], PLAIN, usage, 2)?;
+        ends(&rt, &["eth", "limit", "1", "eth", "fcs"], PLAIN, usage, 2)
+    }
+
+    #[test]
+    fn ends_with_4_if_the_arguments_cannot_be_read(rt: HostRuntime) {
+        let mut left = PLAIN;
+        let mut output = ArrayVec::<u8, 1024>::new();
+        let unread = Err(io::Error::from(ErrorKind::InvalidData));
+        assert_eq!(rt; program(unread, &mut left, &mut output), 4);
+        assert_eq!(rt; left, PLAIN);
+        assert!(rt; output.is_empty());
+    }
+
+    #[test]
+    fn ends_with_4_if_the_last_line_is_not_printed(rt: HostRuntime) -> Result<(), Fail> {
+        let mut output = ArrayVec::<u8, 16>::new();
+        let ended = program(
+            Ok(args(&rt, &["eth"])?),
+            &mut b"abc".as_slice(),
+            &mut output,
+        );
+        assert_eq!(rt; ended, 4);
+        let ended = program(Ok(args(&rt, &["ether"])?), &mut b"".as_slice(), &mut output);
+        assert_eq!(rt; ended, 4);
+        Ok(())
+    }
+}
