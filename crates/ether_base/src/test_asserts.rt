@@ -5,17 +5,17 @@ use std::process::Abort;
 use std::test::Fail;
 
 /// Fails if `left`, whose expression is `what`, isn't equal to `right`.
-pub fn equal<R: Abort, T: PartialEq + Debug>(rt: &R, left: &T, right: &T, what: &str) {
+pub(crate) fn equal<R: Abort, T: PartialEq + Debug>(rt: &R, left: &T, right: &T, what: &str) {
     assert_eq!(rt; left, right, "{what}");
 }
 
 /// Fails if `left` isn't less than `right`.
-pub fn assert_less<R: Abort, T: PartialOrd + Debug>(rt: &R, left: &T, right: &T) {
+pub(crate) fn assert_less<R: Abort, T: PartialOrd + Debug>(rt: &R, left: &T, right: &T) {
     assert!(rt; left < right, "{left:?} < {right:?}");
 }
 
 /// Fails if `value` isn't displayed as `text`.
-pub fn assert_display<R: Abort + AllocGlobal, T: Display>(
+pub(crate) fn assert_display<R: Abort + AllocGlobal, T: Display>(
     rt: &R,
     value: &T,
     text: &str,
@@ -25,7 +25,7 @@ pub fn assert_display<R: Abort + AllocGlobal, T: Display>(
 }
 
 /// Fails if `value` isn't shown in debug format as `text`.
-pub fn assert_debug<R: Abort + AllocGlobal, T: Debug>(
+pub(crate) fn assert_debug<R: Abort + AllocGlobal, T: Debug>(
     rt: &R,
     value: &T,
     text: &str,

@@ -5,17 +5,17 @@ use std::process::Abort;
 use std::test::Fail;
 
 /// Fails if `left`, whose expression is `what`, isn't equal to `right`.
-pub fn equal<R: Abort, T: PartialEq + Debug>(rt: &R, left: &T, right: &T, what: &str) {
+pub(crate) fn equal<R: Abort, T: PartialEq + Debug>(rt: &R, left: &T, right: &T, what: &str) {
     assert_eq!(rt; left, right, "{what}");
 }
 
 /// Fails if `left`, whose expression is `what`, is equal to `right`.
-pub fn unequal<R: Abort, T: PartialEq + Debug>(rt: &R, left: &T, right: &T, what: &str) {
+pub(crate) fn unequal<R: Abort, T: PartialEq + Debug>(rt: &R, left: &T, right: &T, what: &str) {
     assert_ne!(rt; left, right, "{what}");
 }
 
 /// Fails if `value` isn't shown in debug format as `text`.
-pub fn assert_debug<R: Abort + AllocGlobal, T: Debug>(
+pub(crate) fn assert_debug<R: Abort + AllocGlobal, T: Debug>(
     rt: &R,
     value: &T,
     text: &str,

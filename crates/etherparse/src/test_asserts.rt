@@ -5,22 +5,22 @@ use std::process::Abort;
 use std::test::Fail;
 
 /// Fails if `left`, whose expression is `what`, isn't equal to `right`.
-pub fn equal<R: Abort, T: PartialEq + Debug>(rt: &R, left: &T, right: &T, what: &str) {
+pub(crate) fn equal<R: Abort, T: PartialEq + Debug>(rt: &R, left: &T, right: &T, what: &str) {
     assert_eq!(rt; left, right, "{what}");
 }
 
 /// Fails if `left`, whose expression is `what`, is equal to `right`.
-pub fn unequal<R: Abort, T: PartialEq + Debug>(rt: &R, left: &T, right: &T, what: &str) {
+pub(crate) fn unequal<R: Abort, T: PartialEq + Debug>(rt: &R, left: &T, right: &T, what: &str) {
     assert_ne!(rt; left, right, "{what}");
 }
 
 /// Fails if `left` isn't less than `right`.
-pub fn assert_less<R: Abort, T: PartialOrd + Debug>(rt: &R, left: &T, right: &T) {
+pub(crate) fn assert_less<R: Abort, T: PartialOrd + Debug>(rt: &R, left: &T, right: &T) {
     assert!(rt; left < right, "{left:?} < {right:?}");
 }
 
 /// Fails if `value` isn't displayed as `text`.
-pub fn assert_display<R: Abort + AllocGlobal, T: Display>(
+pub(crate) fn assert_display<R: Abort + AllocGlobal, T: Display>(
     rt: &R,
     value: &T,
     text: &str,
