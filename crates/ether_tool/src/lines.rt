@@ -13,12 +13,14 @@ ghost use Rattle.ether_tool.specs.ViewLines.{error_view_text, ethernet2_view_tex
 
 use crate::hex_text::{hex_address, hex_fcs, hex_long, hex_type};
 use crate::output_buffer::OutputBuffer;
+use arrayvec::ArrayString;
 use ether_peel::{PeelError, PeelFault, PeelUnit, RestKind};
 use etherparse::err::{self, LenError};
 use etherparse::{
     ArpPacketSlice, EtherType, Ethernet2Slice, LenSource, LinuxSllProtocolType, LinuxSllSlice,
     MacsecHeaderSlice, MacsecPType, SingleVlanSlice,
 };
+use std::fmt::Write as _;
 use std::io::Write;
 
 /// Puts the line of a unit that starts at a place of the frame. After the unit there is left a
@@ -360,8 +362,12 @@ fn digit(number: usize) -> u8
 fn put_long_decimal<W: Write>(out: &mut OutputBuffer<'_, W>, number: usize)
     ensures { Takes W.contents out.old (decimal number) out.new }
 {
-    let mut digits = itoa::Buffer::new();
-    out.put(digits.format(number).as_bytes());
+    let mut text = ArrayString::<20>::new();
+    if write!(text, "{number}").is_err() {
+        out.fail();
+        return;
+    }
+    out.put(text.as_str().as_bytes());
 }
 
 /// The word for a window's mark.

@@ -119,7 +119,7 @@ impl<'a, W: Write> OutputBuffer<'a, W> {
     }
 
     /// Gives the writer up: what it holds is no longer whole.
-    fn fail(&mut self) -> ToolFault
+    pub fn fail(&mut self) -> ToolFault
         ensures same_writer { self.new.writer.ghost_name ≡ self.old.writer.ghost_name }
         ensures fault { result ≡ ToolFault.Output }
         ensures failed { self.new.has_failed ≡ true }
