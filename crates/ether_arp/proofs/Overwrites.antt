@@ -3,7 +3,7 @@ use Rattle.std.proofs.Common.{◌≡◌, ℕ, ◌+◌, ◌-◌, ◌≤◌, List,
 use Rattle.std.specs.Prelude.{slice_range}
 use Rattle.std.proofs.lemmas.List.{append_assoc, drop_at, take_at, drop-drop, drop-take, length-append, length-drop, length-take-le}
 use Rattle.std.proofs.lemmas.Slice.{between_from_start, between_to_end}
-use Rattle.ether_base.proofs.SubLists.{length-part, part-append, part_behind, part_of_front, part_join}
+use Rattle.ether_base.proofs.SubLists.{length-part, part-append, part_after_front, part_of_front, part_join}
 
 -- ---- the bytes from a place on to another are others
 
@@ -14,20 +14,20 @@ rest_over : (list part : List ℕ) (at end : ℕ) → at + length part ≡ end �
 rest_over list part at end e le =
     drop_at (take at list ++ part) (drop end list) end (length-append (take at list) part ∙ ap (λ (n : ℕ). n + length part) (length-take-le at list (omega arith)) ∙ e)
 
--- what stands behind them
-pub rest_behind : (list part : List ℕ) (at end k : ℕ) → at + length part ≡ end → end ≤ length list → end ≤ k → drop k (over list at part end) ≡ drop k list
-rest_behind list part at end k e le ek =
+-- what follows them
+pub rest_after : (list part : List ℕ) (at end k : ℕ) → at + length part ≡ end → end ≤ length list → end ≤ k → drop k (over list at part end) ≡ drop k list
+rest_after list part at end k e le ek =
     let split : end + (k - end) ≡ k = omega arith in
     let a = drop-drop (k - end) end (over list at part end) in
     let b = drop-drop (k - end) end list in
     ap (λ (n : ℕ). drop n (over list at part end)) (sym split) ∙ sym a ∙ ap (drop (k - end)) (rest_over list part at end e le) ∙ b ∙ ap (λ (n : ℕ). drop n list) split
 
 pub part_after : (list part : List ℕ) (at end i j : ℕ) → at + length part ≡ end → end ≤ length list → end ≤ i → slice_range (over list at part end) i j ≡ slice_range list i j
-part_after list part at end i j e le ei = ap (take (j - i)) (rest_behind list part at end i e le ei)
+part_after list part at end i j e le ei = ap (take (j - i)) (rest_after list part at end i e le ei)
 
 -- the bytes themselves
 pub part_at : (list part : List ℕ) (at end : ℕ) → at + length part ≡ end → end ≤ length list → slice_range (over list at part end) at end ≡ part
-part_at list part at end e le = part_behind (take at list) part (drop end list) at end (length-take-le at list (omega arith)) e
+part_at list part at end e le = part_after_front (take at list) part (drop end list) at end (length-take-le at list (omega arith)) e
 
 -- what stands before them
 pub part_before : (list part : List ℕ) (at end i j : ℕ) → at ≤ length list → i ≤ j → j ≤ at → slice_range (over list at part end) i j ≡ slice_range list i j
@@ -39,8 +39,8 @@ part_before list part at end i j le ij ja =
 pub length-over : (list part : List ℕ) (at end : ℕ) → at + length part ≡ end → end ≤ length list → length (over list at part end) ≡ length list
 length-over list part at end e le = simp (length-append, length-drop) (omega (arith, length-take-le at list (omega arith)))
 
--- ---- what stands behind each of two addresses is moved
--- m, r: where it stood; n, q: where it goes; b bytes behind the first, k behind the second
+-- ---- what follows each of two addresses is moved
+-- m, r: where it stood; n, q: where it goes; b bytes after the first, k after the second
 
 module _ (list : List ℕ) (m n b r q k : ℕ) where
   -- to the back, the last part first
@@ -62,7 +62,7 @@ module _ (list : List ℕ) (m n b r q k : ℕ) where
       let same : length l2 ≡ length l1 = ap length e2 ∙ length-over l1 last q (q + k) (omega arith) (omega arith) in
       let mid : length (slice_range l2 m (m + b)) ≡ b = length-part l2 m (m + b) (omega arith) ∙ omega arith in
       let all : drop q l2 ≡ last = sym (between_to_end l2 q (q + k) (omega arith)) ∙ ap (λ (l : List ℕ). slice_range l q (q + k)) e2 ∙ part_at l1 last q (q + k) (omega arith) (omega arith) in
-      ap (drop q) e3 ∙ rest_behind l2 (slice_range l2 m (m + b)) n (n + b) q (omega arith) (omega arith) nb ∙ all
+      ap (drop q) e3 ∙ rest_after l2 (slice_range l2 m (m + b)) n (n + b) q (omega arith) (omega arith) nb ∙ all
       ∙ ap (λ (l : List ℕ). slice_range l r (r + k)) e1 ∙ part-append list more r (r + k) (omega arith) (omega arith) ∙ between_to_end list r (r + k) (omega arith)
 
   -- to the front, the first part first
@@ -95,7 +95,7 @@ both_written list l1 l2 first second start middle rest e1 e2 sm mr le =
     let len : length l1 ≡ length list = ap length e1 ∙ length-over list first start (start + length first) (omega arith) (omega arith) in
     let front : take middle l1 ≡ take start list ++ first = ap (take middle) e1 ∙ take_at (take start list ++ first) (drop (start + length first) list) middle (length-append (take start list) first ∙ ap (λ (n : ℕ). n + length first) (length-take-le start list (omega arith)) ∙ sm) in
     let between : slice_range l1 middle rest ≡ slice_range list middle rest = ap (λ (l : List ℕ). slice_range l middle rest) e1 ∙ part_after list first start (start + length first) middle rest (omega arith) (omega arith) (omega arith) in
-    let behind : drop (rest + length second) l1 ≡ drop (rest + length second) list = ap (drop (rest + length second)) e1 ∙ rest_behind list first start (start + length first) (rest + length second) (omega arith) (omega arith) (omega arith) in
+    let following : drop (rest + length second) l1 ≡ drop (rest + length second) list = ap (drop (rest + length second)) e1 ∙ rest_after list first start (start + length first) (rest + length second) (omega arith) (omega arith) (omega arith) in
     let split : take rest l1 ≡ take middle l1 ++ slice_range l1 middle rest = sym (between_from_start l1 rest) ∙ sym (part_join l1 0 middle rest (omega arith) mr) ∙ ap (λ (l : List ℕ). l ++ slice_range l1 middle rest) (between_from_start l1 middle) in
     e2 ∙ ap (λ (l : List ℕ). l ++ second ++ drop (rest + length second) l1) (split ∙ ap (λ (l : List ℕ). l ++ slice_range l1 middle rest) front ∙ ap (λ (l : List ℕ). take start list ++ first ++ l) between)
-    ∙ ap (λ (l : List ℕ). take start list ++ first ++ slice_range list middle rest ++ second ++ l) behind
+    ∙ ap (λ (l : List ℕ). take start list ++ first ++ slice_range list middle rest ++ second ++ l) following

@@ -41,7 +41,7 @@ packed_fits t u o h p list f len ok =
       target_protocol = IsBytes-part (2 * h + p) (2 * h + 2 * p) list ok;
     }
 
--- ---- behind the first eight bytes
+-- ---- after the first eight bytes
 
 joined : (list : List ℕ) (h p : ℕ) → length list ≡ 2 * h + 2 * p → slice_range list 0 h ++ slice_range list h (h + p) ++ slice_range list (h + p) (2 * h + p) ++ slice_range list (2 * h + p) (2 * h + 2 * p) ≡ list
 joined list h p len =
@@ -49,8 +49,8 @@ joined list h p len =
     ∙ ap (λ (l : List ℕ). l ++ slice_range list (2 * h + p) (2 * h + 2 * p)) (part_join list 0 (h + p) (2 * h + p) (omega arith) (omega arith))
     ∙ part_join list 0 (2 * h + p) (2 * h + 2 * p) (omega arith) (omega arith) ∙ part_all list (2 * h + 2 * p) (omega arith)
 
-pub joined_behind : (front list : List ℕ) (h p : ℕ) → length list ≡ 2 * h + 2 * p → front ++ list ≡ front ++ slice_range list 0 h ++ slice_range list h (h + p) ++ slice_range list (h + p) (2 * h + p) ++ slice_range list (2 * h + p) (2 * h + 2 * p)
-joined_behind front list h p len =
+pub joined_after : (front list : List ℕ) (h p : ℕ) → length list ≡ 2 * h + 2 * p → front ++ list ≡ front ++ slice_range list 0 h ++ slice_range list h (h + p) ++ slice_range list (h + p) (2 * h + p) ++ slice_range list (2 * h + p) (2 * h + 2 * p)
+joined_after front list h p len =
     let a = slice_range list 0 h in
     let b = slice_range list h (h + p) in
     let d = slice_range list (h + p) (2 * h + p) in

@@ -32,7 +32,7 @@ meant_accepted bound bytes a m = let w = m.whole in accepts_arp bound bytes (arp
 pub written_accepted : (bound : LenSource) (a : ArpValue) (more : List ℕ) → FitsArp a → Accepts bound (arp_bytes a ++ more) kinds.Arp
 written_accepted bound a more f = meant_accepted bound (arp_bytes a ++ more) a (means-header_bytes (headers.Arp a) more f)
 
--- two numbers of two bytes, two of one and one of two, one behind the other
+-- two numbers of two bytes, two of one and one of two, one after the other
 pub front_written : (f : ArpFront) (bh bp bo : List ℕ) → f.hardware_type < 2 ^ 16 → f.protocol_type < 2 ^ 16 → f.hardware_size < 256 → f.protocol_size < 256 → f.operation < 2 ^ 16
     → bh ≡ f.hardware_type / 256 % 256 ∷ f.hardware_type % 256 ∷ [] → bp ≡ f.protocol_type / 256 % 256 ∷ f.protocol_type % 256 ∷ [] → bo ≡ f.operation / 256 % 256 ∷ f.operation % 256 ∷ []
     → cells 0 2 bh ++ (cells 0 2 bp ++ f.hardware_size ∷ f.protocol_size ∷ cells 0 2 bo) ≡ spelled 8 (arp_front_number f)

@@ -7,7 +7,7 @@ pub record BeginsWithArp (bytes : List ℕ) : Type 0 where
   pub front : 8 ≤ length bytes
   pub whole : arp_len (arp_front_in bytes) ≤ length bytes
 
--- a list is a packet, with nothing behind it
+-- a list is a packet, with nothing after it
 pub record HoldsArp (bytes : List ℕ) : Type 0 where
   pub front : 8 ≤ length bytes
   pub whole : length bytes ≡ arp_len (arp_front_in bytes)

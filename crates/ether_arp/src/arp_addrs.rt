@@ -40,7 +40,7 @@ pub fn replace_both(
     write(addrs, start + len + between, second);
 }
 
-/// Makes the places of the two addresses `len` bytes long, by moving what stands behind each. What they then hold is of no
+/// Makes the places of the two addresses `len` bytes long, by moving what follows each. What they then hold is of no
 /// meaning.
 fn make_room(addrs: &mut ArrayVec<u8, 1020>, start: usize, size: usize, between: usize, len: usize)
     requires there { start + 2 * size + between ≤ length addrs.old.items }

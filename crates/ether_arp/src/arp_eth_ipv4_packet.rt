@@ -98,7 +98,7 @@ impl ArpEthIpv4Packet {
     }
 }
 
-/// Eight bytes and four addresses, one behind the other.
+/// Eight bytes and four addresses, one after the other.
 fn joined(
     front: [u8; 8],
     sender_mac: [u8; 6],

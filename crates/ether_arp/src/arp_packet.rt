@@ -161,7 +161,7 @@ impl ArpPacket {
         }
     }
 
-    /// The packet of addresses that stand one behind the other already.
+    /// The packet of addresses that stand one after the other already.
     pub(crate) fn packed(
         hw_addr_type: ArpHardwareId,
         proto_addr_type: EtherType,
@@ -332,7 +332,7 @@ impl ArpPacket {
     }
 
     /// The bytes of the packet, whose numbers have room in them.
-    #[tactic(auto, using(crate::proofs::Packed::joined_behind))]
+    #[tactic(auto, using(crate::proofs::Packed::joined_after))]
     fn spelled(&self) -> ArrayVec<u8, 1028>
         ensures value { result.items ≡ arp_bytes self.now }
         ensures fits { FitsArp self.now }

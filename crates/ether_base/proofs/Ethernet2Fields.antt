@@ -29,7 +29,7 @@ ethernet2_whole bytes ok len = rw (part_all bytes 14 (omega arith)) at (ethernet
 pub ethernet2_bytes-read : (bytes : List ℕ) (e : Ethernet2Value) → IsBytes bytes → length bytes ≡ 14 → IsEthernet2 bytes e → ethernet2_bytes e ≡ bytes
 ethernet2_bytes-read bytes e ok len is = ap (spelled 14) (sym is.sum) ∙ spelled-is 14 bytes len ok
 
--- two addresses and the two bytes of an ether type, one behind the other, mean the header that has them
+-- two addresses and the two bytes of an ether type, one after the other, mean the header that has them
 pub ethernet2_written : (d s : List ℕ) (t : ℕ) (last : List ℕ) → IsBytes d → IsBytes s → length d ≡ 6 → length s ≡ 6 → t < 2 ^ 16 → last ≡ t / 256 % 256 ∷ t % 256 ∷ []
     → let bytes = cells 0 6 d ++ (cells 0 6 s ++ cells 0 2 last) in
     let e : Ethernet2Value = record { destination = number d; source = number s; ether_type = t } in

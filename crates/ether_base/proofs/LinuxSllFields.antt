@@ -56,7 +56,7 @@ linux_sll_accepted bound bytes ok le packet hardware = accepts_linux_sll bound b
 pub linux_sll_bytes-read : (bytes : List ℕ) (s : LinuxSllValue) → IsBytes bytes → length bytes ≡ 16 → IsLinuxSll bytes s → linux_sll_bytes s ≡ bytes
 linux_sll_bytes-read bytes s ok len is = ap (spelled 16) (sym is.sum) ∙ spelled-is 16 bytes len ok
 
--- three numbers of two bytes, an address and a number of two bytes, one behind the other, mean the header that has them
+-- three numbers of two bytes, an address and a number of two bytes, one after the other, mean the header that has them
 pub linux_sll_written : (p h l : ℕ) (a : List ℕ) (t : ℕ) (bp bh bl bt : List ℕ) → p < 2 ^ 16 → h < 2 ^ 16 → l < 2 ^ 16 → IsBytes a → length a ≡ 8 → t < 2 ^ 16
     → bp ≡ p / 256 % 256 ∷ p % 256 ∷ [] → bh ≡ h / 256 % 256 ∷ h % 256 ∷ [] → bl ≡ l / 256 % 256 ∷ l % 256 ∷ [] → bt ≡ t / 256 % 256 ∷ t % 256 ∷ []
     → let bytes = cells 0 2 bp ++ (cells 0 2 bh ++ (cells 0 2 bl ++ (cells 0 8 a ++ cells 0 2 bt))) in

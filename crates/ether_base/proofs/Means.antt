@@ -56,7 +56,7 @@ begins_part bytes n c le h = record { sum = ap number (part_of_front bytes n 0 2
 pub begins_whole : (bytes : List ℕ) (n : ℕ) (c : SecTagFront) → 2 ≤ n → BeginsSecTag (slice_range bytes 0 n) c → BeginsSecTag bytes c
 begins_whole bytes n c le h = record { sum = ap number (sym (part_of_front bytes n 0 2 (omega arith) le)) ∙ h.sum; fits = h.fits }
 
--- a front and what stands behind it are a value with this front
+-- a front and what follows it are a value with this front
 pub same_front : (bytes : List ℕ) (c : SecTagFront) → FitsSecTagFront c → sec_tag_front_of c.version c.reserved (sec_tag_with c bytes) ≡ c
 same_front bytes c fits =
     let at = 6 + 8 * c.sci_present in

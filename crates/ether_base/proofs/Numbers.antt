@@ -78,7 +78,7 @@ pub IsBytes-six : (a b c d e f : ℕ) → a < 256 → b < 256 → c < 256 → d 
 IsBytes-six a b c d e f ha hb hc hd he hf =
     IsBytes-cons a (b ∷ c ∷ d ∷ e ∷ f ∷ []) ha (IsBytes-cons b (c ∷ d ∷ e ∷ f ∷ []) hb (IsBytes-cons c (d ∷ e ∷ f ∷ []) hc (IsBytes-cons d (e ∷ f ∷ []) hd (IsBytes-cons e (f ∷ []) he (IsBytes-cons f [] hf IsBytes-nil)))))
 
--- two lists, one behind the other
+-- two lists, one after the other
 pub number-append : (a b : List ℕ) → number (a ++ b) ≡ number a * 256 ^ length b + number b
 number-append [] b = omega arith
 number-append (x ∷ a) b =

@@ -11,9 +11,9 @@ use Rattle.ether_base.specs.Arp.{ArpValue, FitsArp, IsArp, arp_front_of, arp_fro
 use Rattle.ether_base.specs.Header.{Header, header_len, header_bytes, Spells, Means, FitsHeader}
 use Rattle.ether_base.specs.Header as headers
 use Rattle.ether_base.proofs.Numbers.{length-spelled, number-spelled}
-use Rattle.ether_base.proofs.SubLists.{part-append, part_all, part_behind}
+use Rattle.ether_base.proofs.SubLists.{part-append, part_all, part_after_front}
 
--- a list of its own and more behind it
+-- a list of its own and more after it
 means_front : (bytes more : List ℕ) (h : Header) → length bytes ≡ header_len h → Spells bytes h → Means (bytes ++ more) h
 means_front bytes more h len spells = record {
   whole = omega (arith, length-append bytes more);
@@ -32,16 +32,16 @@ length-type Modified = refl
 length-type EncryptedUnmodified = refl
 length-type Encrypted = refl
 
--- a number that stands behind some bytes
-number_behind : (front more : List ℕ) (i k n : ℕ) → length front ≡ i → n < 256 ^ k → number (slice_range (front ++ spelled k n ++ more) i (i + k)) ≡ n
-number_behind front more i k n len lt = ap number (part_behind front (spelled k n) more i (i + k) len (omega (arith, length-spelled k n))) ∙ number-spelled k n lt
+-- a number that follows some bytes
+number_after : (front more : List ℕ) (i k n : ℕ) → length front ≡ i → n < 256 ^ k → number (slice_range (front ++ spelled k n ++ more) i (i + k)) ≡ n
+number_after front more i k n len lt = ap number (part_after_front front (spelled k n) more i (i + k) len (omega (arith, length-spelled k n))) ∙ number-spelled k n lt
 
 sci_back : (a : List ℕ) (s : Option ℕ) (more : List ℕ) → length a ≡ 6 → FitsSci s → HasSci (a ++ sci_bytes s ++ more) s
 sci_back a None more len fits = tt
-sci_back a (Some n) more len fits = number_behind a more 6 8 n len fits
+sci_back a (Some n) more len fits = number_after a more 6 8 n len fits
 
 type_back : (a : List ℕ) (from : ℕ) (p : PayloadType) (more : List ℕ) → length a ≡ from → FitsPayloadType p → HasEtherType (a ++ ether_type_bytes p ++ more) from p
-type_back a from (Unmodified n) more len fits = number_behind a more from 2 n len fits
+type_back a from (Unmodified n) more len fits = number_after a more from 2 n len fits
 type_back a from Modified more len fits = tt
 type_back a from EncryptedUnmodified more len fits = tt
 type_back a from Encrypted more len fits = tt
@@ -61,7 +61,7 @@ tag_back t f =
     let b = a ++ spelled 4 t.packet_number in
     let d = b ++ sci_bytes t.sci in
     let ls = length-sci t.sci in
-    let p = number_behind a (sci_bytes t.sci ++ ether_type_bytes t.payload_type) 2 4 t.packet_number refl f.packet_number in
+    let p = number_after a (sci_bytes t.sci ++ ether_type_bytes t.payload_type) 2 4 t.packet_number refl f.packet_number in
     let y = type_back d (6 + 8 * sci_present_of t.sci) t.payload_type [] (omega (arith, length-append b (sci_bytes t.sci))) f.payload_type in
     record {
       version = 0;
@@ -93,11 +93,11 @@ arp_back a f =
     let three = two ∙ append_assoc x a.sender_protocol (a.target_hardware ++ a.target_protocol) in
     record {
       front = record { sum = number-spelled 8 n small; fits = r };
-      sender_hardware = ap (λ (l : List ℕ). slice_range l 8 (8 + length a.sender_hardware)) three ∙ part_behind (spelled 8 n) a.sender_hardware (a.sender_protocol ++ (a.target_hardware ++ a.target_protocol)) 8 (8 + length a.sender_hardware) refl refl;
-      sender_protocol = ap (λ (l : List ℕ). slice_range l (8 + length a.sender_hardware) (8 + length a.sender_hardware + length a.sender_protocol)) two ∙ part_behind x a.sender_protocol (a.target_hardware ++ a.target_protocol) (8 + length a.sender_hardware) (8 + length a.sender_hardware + length a.sender_protocol) lx refl;
-      target_hardware = part_behind y a.target_hardware a.target_protocol (8 + length a.sender_hardware + length a.sender_protocol) (8 + length a.sender_hardware + length a.sender_protocol + length a.sender_hardware) ly (omega arith);
+      sender_hardware = ap (λ (l : List ℕ). slice_range l 8 (8 + length a.sender_hardware)) three ∙ part_after_front (spelled 8 n) a.sender_hardware (a.sender_protocol ++ (a.target_hardware ++ a.target_protocol)) 8 (8 + length a.sender_hardware) refl refl;
+      sender_protocol = ap (λ (l : List ℕ). slice_range l (8 + length a.sender_hardware) (8 + length a.sender_hardware + length a.sender_protocol)) two ∙ part_after_front x a.sender_protocol (a.target_hardware ++ a.target_protocol) (8 + length a.sender_hardware) (8 + length a.sender_hardware + length a.sender_protocol) lx refl;
+      target_hardware = part_after_front y a.target_hardware a.target_protocol (8 + length a.sender_hardware + length a.sender_protocol) (8 + length a.sender_hardware + length a.sender_protocol + length a.sender_hardware) ly (omega arith);
       target_protocol = ap (λ (l : List ℕ). slice_range l (8 + 2 * length a.sender_hardware + length a.sender_protocol) (8 + 2 * length a.sender_hardware + length a.sender_protocol + length a.sender_protocol)) (sym (append-nil (arp_bytes a)))
-          ∙ part_behind z a.target_protocol [] (8 + 2 * length a.sender_hardware + length a.sender_protocol) (8 + 2 * length a.sender_hardware + length a.sender_protocol + length a.sender_protocol) lz (let pr = f.protocol in omega arith);
+          ∙ part_after_front z a.target_protocol [] (8 + 2 * length a.sender_hardware + length a.sender_protocol) (8 + 2 * length a.sender_hardware + length a.sender_protocol + length a.sender_protocol) lz (let pr = f.protocol in omega arith);
     }
 
 length-arp : (a : ArpValue) → FitsArp a → length (arp_bytes a) ≡ arp_len (arp_front_of a)

@@ -74,8 +74,8 @@ pub length-part-is : (list : List ℕ) (i j : ℕ) → length (slice_range list 
 length-part-is list i j = simp (length-take, length-drop) refl
 
 -- a part that stands between two others
-pub part_behind : (front part more : List ℕ) (i j : ℕ) → length front ≡ i → i + length part ≡ j → slice_range (front ++ part ++ more) i j ≡ part
-part_behind front part more i j len long =
+pub part_after_front : (front part more : List ℕ) (i j : ℕ) → length front ≡ i → i + length part ≡ j → slice_range (front ++ part ++ more) i j ≡ part
+part_after_front front part more i j len long =
     let n : j - i ≡ length part = omega arith in
     ap (λ (l : List ℕ). take (j - i) (drop i l)) (append_assoc front part more) ∙ ap (take (j - i)) (drop_at front (part ++ more) i len) ∙ ap (λ (k : ℕ). take k (part ++ more)) n ∙ take_at part more (length part) refl
 

@@ -56,7 +56,7 @@ arp_front_of a = record {
 abbrev pub bytes_at : List ℕ → ℕ → ℕ → List ℕ
 bytes_at bytes at n = slice_range bytes at (at + n)
 
--- The bytes of a packet mean a value: behind the first eight stand the four addresses.
+-- The bytes of a packet mean a value: after the first eight stand the four addresses.
 pub record IsArp (bytes : List ℕ) (a : ArpValue) : Type 0 where
   pub front : BeginsArp bytes (arp_front_of a)
   pub sender_hardware : bytes_at bytes 8 (length a.sender_hardware) ≡ a.sender_hardware

@@ -39,7 +39,7 @@ abbrev pub payload_len : Header → Option ℕ
 payload_len (Macsec t) = known_payload_len (sec_tag_front_of 0 0 t)
 payload_len _ = None
 
--- the bytes behind the payload that are no part of it: a frame check sequence
+-- the bytes after the payload that are no part of it: a frame check sequence
 abbrev pub trailer_len : Header → ℕ
 trailer_len (Ethernet2Fcs e) = 4
 trailer_len _ = 0

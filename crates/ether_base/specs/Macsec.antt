@@ -1,4 +1,4 @@
--- The MACsec SecTag (IEEE 802.1AE, 9.3) from behind its own ether type, with the ether type that follows it where that can be read.
+-- The MACsec SecTag (IEEE 802.1AE, 9.3) without its own ether type, with the ether type that follows it where that can be read.
 use Rattle.std.specs.Prelude.{◌≡◌, ℕ, zero, suc, ◌+◌, ◌*◌, ◌/◌, ◌%◌, ◌^◌, ◌<◌, List, [], ◌++◌, slice_range, Option, Some, None}
 use Rattle.ether_base.specs.Bytes.{number, spelled}
 
@@ -108,7 +108,7 @@ sec_tag_front_of version reserved t = record {
   short_len = t.short_len;
 }
 
--- the SCI stands behind the first six bytes
+-- the SCI follows the first six bytes
 abbrev pub HasSci : List ℕ → Option ℕ → Type 0
 HasSci bytes None = Unit {0}
 HasSci bytes (Some sci) = number (slice_range bytes 6 14) ≡ sci
@@ -147,7 +147,7 @@ sec_tag_front_at n = record {
 abbrev pub sec_tag_front_in : List ℕ → SecTagFront
 sec_tag_front_in bytes = sec_tag_front_at (number (slice_range bytes 0 2))
 
--- the payload type that E and C tell, of a tag with this ether type behind it where one can be read
+-- the payload type that E and C tell, of a tag with this ether type after it where one can be read
 abbrev pub payload_type_for : (encrypted changed ether_type : ℕ) → PayloadType
 payload_type_for zero zero ether_type = Unmodified ether_type
 payload_type_for zero (suc changed) ether_type = Modified
@@ -159,7 +159,7 @@ abbrev pub sci_for : (sci_present sci : ℕ) → Option ℕ
 sci_for zero sci = None
 sci_for (suc present) sci = Some sci
 
--- the value with this front, and what stands in the list behind it
+-- the value with this front, and what stands in the list after it
 abbrev pub sec_tag_with : SecTagFront → List ℕ → SecTagValue
 sec_tag_with front bytes = let at = 6 + 8 * front.sci_present in record {
   payload_type = payload_type_for front.encrypted front.changed (number (slice_range bytes at (at + 2)));

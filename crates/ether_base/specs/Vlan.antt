@@ -1,4 +1,4 @@
--- The VLAN tag behind its own ether type: tag control information (IEEE 802.1Q, 9.6), and the ether type that follows.
+-- The VLAN tag without its own ether type: tag control information (IEEE 802.1Q, 9.6), and the ether type that follows.
 use Rattle.std.specs.Prelude.{◌≡◌, ℕ, ◌+◌, ◌*◌, ◌/◌, ◌%◌, ◌^◌, ◌<◌, List, [], ◌∷◌, slice_range, Bool, nat_eq}
 use Rattle.std.specs.List.{list_any}
 use Rattle.ether_base.specs.Bytes.{number, spelled}

@@ -1,10 +1,10 @@
--- Writing to the front of a slice, whose bytes behind that are lent on.
+-- Writing to the front of a slice, whose bytes after that are lent on.
 use Rattle.std.specs.Prelude.{◌≡◌, ℕ, ◌≤◌, ◌<◌, List, ◌++◌, length, drop, Result, MatchResult}
 use Rattle.std.specs.Borrow.{MutBor, Fml, LendsIfOk, Array, u8}
 use Rattle.ether_base.specs.declared.err.layer.Layer.{Layer}
 use Rattle.ether_base.specs.declared.err.slice_write_space_error.SliceWriteSpaceError.{SliceWriteSpaceError}
 
--- the bytes behind the first `required`, as they were
+-- the bytes after the first `required`, as they were
 pub record IsRest (required : ℕ) (slice : List ℕ) (rest : MutBor (List ℕ)) : Type 0 where
   pub room : required ≤ length slice
   pub same : rest.now ≡ drop required slice
@@ -18,6 +18,6 @@ pub record IsRefusedSpace (required : ℕ) (layer : Layer) (slice : List ℕ) (e
 abbrev pub AnswersRest : ℕ → Layer → List ℕ → Result (MutBor (List ℕ)) SliceWriteSpaceError → Type 0
 AnswersRest required layer slice result = MatchResult result (IsRest required slice) (IsRefusedSpace required layer slice)
 
--- Afterwards the slice holds these bytes, and behind them what was left in the rest; where it was refused, it is as it was.
+-- Afterwards the slice holds these bytes, and after them what was left in the rest; where it was refused, it is as it was.
 abbrev pub LendsRest : List ℕ → MutBor (List ℕ) → Result (MutBor (List ℕ)) SliceWriteSpaceError → Fml
 LendsRest bytes slice result = LendsIfOk (Array u8 0) (Array u8 0) slice result (λ rest. bytes ++ rest) slice.now

@@ -10,7 +10,7 @@ use std::fmt;
 /// An ether type (IEEE 802, 9.2): the 16 bits that name the protocol of what follows a header.
 ///
 /// Any number is one. Ether types begin at 0x0600: smaller values are IEEE 802.3 lengths (802.3, 3.2.6), and are
-/// handed on as they are. `Debug` shows `0x` and four upper-case digits, and behind them the description of a number
+/// handed on as they are. `Debug` shows `0x` and four upper-case digits, and after them the description of a number
 /// that has one, in parentheses.
 ///
 /// ```

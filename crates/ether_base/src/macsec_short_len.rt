@@ -7,7 +7,7 @@ use std::marker::Model;
 
 /// The short length (SL) of a MACsec SecTag (IEEE 802.1AE, 9.7): 6 bits, 0 to 63.
 ///
-/// It counts the bytes behind the SecTag, those of the ether type there among them, and 0 names no length. The
+/// It counts the bytes after the SecTag, those of the ether type there among them, and 0 names no length. The
 /// standard ends at 47; the values from 48 to 63 are accepted, and [`MacsecShortLen::from_len`] makes them too.
 ///
 /// ```

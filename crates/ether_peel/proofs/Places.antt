@@ -35,13 +35,13 @@ pub payload_narrows : (list : List ℕ) (x : Expectation) (w : Window) (h : Head
 payload_narrows list x w h at u = payload_finish_in list w (header_len h) (trailer_len h) (payload_len h) at (unit_fits w.bound (within list w) h u.accepted u.means)
 
 -- a later window begins where the headers before it end, and lies in the first one
-pub record LiesBehind (w : Window) (hs : List Header) (v : Window) : Type 0 where
+pub record LiesAfter (w : Window) (hs : List Header) (v : Window) : Type 0 where
   pub start : v.start ≡ place w.start hs
   pub ordered : v.start ≤ v.finish
   pub inside : v.finish ≤ w.finish
 
-pub leads_after : (list : List ℕ) (x : Expectation) (w : Window) (hs : List Header) (y : Expectation) (v : Window) → IsIn list w → Leads list x w hs y v → LiesBehind w hs v
-leads_after list x w [] y v at l = subst (LiesBehind w []) (sym l.1) (record { start = refl; ordered = at.ordered; inside = omega arith })
+pub leads_after : (list : List ℕ) (x : Expectation) (w : Window) (hs : List Header) (y : Expectation) (v : Window) → IsIn list w → Leads list x w hs y v → LiesAfter w hs v
+leads_after list x w [] y v at l = subst (LiesAfter w []) (sym l.1) (record { start = refl; ordered = at.ordered; inside = omega arith })
 leads_after list x w (h ∷ hs) y v at l =
     let rest = leads_after list (after x h) (payload w h) hs y v (payload_in list x w h at l.0) l.1 in
     let a = rest.inside in
@@ -49,11 +49,11 @@ leads_after list x w (h ∷ hs) y v at l =
     record { start = rest.start; ordered = rest.ordered; inside = omega arith }
 
 -- the last window of a stack
-pub last_after : (list : List ℕ) (x : Expectation) (w : Window) (hs : List Header) (e : Ending) → IsIn list w → Stack list x w hs e → LiesBehind w hs (last_window e)
+pub last_after : (list : List ℕ) (x : Expectation) (w : Window) (hs : List Header) (e : Ending) → IsIn list w → Stack list x w hs e → LiesAfter w hs (last_window e)
 last_after list x w hs e at s = leads_after list x w hs (last_expected e) (last_window e) at (leads list x w hs e s).0
 
 -- each header ends before the last window does
-pub header_before : (w v : Window) (hs : List Header) (h : Header) (later : List Header) → LiesBehind w (hs ++ h ∷ later) v → place w.start hs + header_len h ≤ v.finish
+pub header_before : (w v : Window) (hs : List Header) (h : Header) (later : List Header) → LiesAfter w (hs ++ h ∷ later) v → place w.start hs + header_len h ≤ v.finish
 header_before w v hs h later b =
     let a = place-append w.start hs (h ∷ later) in
     let c = place_least (place w.start hs + header_len h) later in

@@ -24,13 +24,13 @@ pub const CHECKED: [u8; 18] = [
     0xFF, 0xFF, 0xFF, 0xFF, 0xFF, 0xFF, 2, 0, 0, 0, 0, 1, 0x08, 0x00, 0x11, 0x22, 0x33, 0x44,
 ];
 
-/// Behind the ether type of MACsec: a SecTag that names 4 bytes of payload, a VLAN tag with PCP 5, DEI 0 and VID 0xABB in
+/// After the ether type of MACsec: a SecTag that names 4 bytes of payload, a VLAN tag with PCP 5, DEI 0 and VID 0xABB in
 /// these, and 2 bytes after them.
 pub const NAMED: [u8; 14] = [
     0x00, 0x06, 0x00, 0x00, 0x00, 0x01, 0x81, 0x00, 0xAA, 0xBB, 0xCC, 0xDD, 0xEE, 0xEE,
 ];
 
-/// Behind the ether type of MACsec: a SecTag with both reserved bits, an SCI and an encrypted payload of one byte, which its
+/// After the ether type of MACsec: a SecTag with both reserved bits, an SCI and an encrypted payload of one byte, which its
 /// short length does not name.
 pub const SEALED: [u8; 15] = [
     0x2C, 0xC0, 0x00, 0x00, 0x00, 0x01, 0x00, 0x11, 0x22, 0x33, 0x44, 0x55, 0x66, 0x77, 0x99,
@@ -43,7 +43,7 @@ pub const COOKED: [u8; 16] = [0, 0, 0, 1, 0, 0xFF, 2, 0, 0, 0, 0, 1, 0, 0, 0, 1]
 /// A cooked capture of a GRE tunnel.
 pub const COOKED_GRE: [u8; 16] = [0, 0, 0x03, 0x0A, 0, 0, 0, 0, 0, 0, 0, 0, 0, 0, 0x08, 0x00];
 
-/// Behind the ether type of ARP: who has 10.0.0.2, tell 10.0.0.1 at 02:00:00:00:00:01.
+/// After the ether type of ARP: who has 10.0.0.2, tell 10.0.0.1 at 02:00:00:00:00:01.
 pub const ARP_REQUEST: [u8; 28] = [
     0x00, 0x01, 0x08, 0x00, 0x06, 0x04, 0x00, 0x01, 2, 0, 0, 0, 0, 1, 10, 0, 0, 1, 0, 0, 0, 0, 0,
     0, 10, 0, 0, 2,

@@ -80,7 +80,7 @@ mod tests {
     use ether_base::{EtherType, LenSource, LinuxSllProtocolType};
     use std::test::Fail;
 
-    /// To every station, from 02:00:00:00:00:01, with IPv4 and one byte behind the header.
+    /// To every station, from 02:00:00:00:00:01, with IPv4 and one byte after the header.
     const FRAME: [u8; 15] = [
         255, 255, 255, 255, 255, 255, 2, 0, 0, 0, 0, 1, 0x08, 0x00, 0x45,
     ];

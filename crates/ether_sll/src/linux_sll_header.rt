@@ -151,7 +151,7 @@ impl LinuxSllHeader {
     }
 }
 
-/// Three numbers, an address and a number, one behind the other.
+/// Three numbers, an address and a number, one after the other.
 fn joined(
     packet_type: u16,
     hardware: u16,

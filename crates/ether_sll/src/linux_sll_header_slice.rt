@@ -52,7 +52,7 @@ impl<'a> Model for LinuxSllHeaderSlice<'a> {
 }
 
 impl<'a> LinuxSllHeaderSlice<'a> {
-    /// The header at the front of a slice. The bytes behind it are not part of the view.
+    /// The header at the front of a slice. The bytes after it are not part of the view.
     ///
     /// # Errors
     ///
@@ -105,7 +105,7 @@ impl<'a> LinuxSllHeaderSlice<'a> {
         linux_sll_fields::sender_address_valid_length(self.slice)
     }
 
-    /// All 8 bytes of the address field, those behind the sender's address included.
+    /// All 8 bytes of the address field, those after the sender's address included.
     pub fn sender_address_full(&self) -> [u8; 8]
         ensures { result ≡ spelled 8 (linux_sll_of self.now).address }
     {

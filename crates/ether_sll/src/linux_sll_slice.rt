@@ -100,7 +100,7 @@ impl<'a> LinuxSllSlice<'a> {
         linux_sll_fields::sender_address_valid_length(self.slice)
     }
 
-    /// All 8 bytes of the address field, those behind the sender's address included.
+    /// All 8 bytes of the address field, those after the sender's address included.
     pub fn sender_address_full(&self) -> [u8; 8]
         ensures { result ≡ spelled 8 (linux_sll_of self.now).address }
     {

@@ -2,10 +2,10 @@
 //! LINUX_SLL. The fields that the tests expect of the latter are those that tshark prints.
 
 /// To us, on Ethernet, from 02:00:00:00:00:01 by an address length of 255, with the dummy type for 802.3 frames, and one
-/// byte behind the header.
+/// byte after the header.
 pub const PACKET: [u8; 17] = [0, 0, 0, 1, 0, 0xFF, 2, 0, 0, 0, 0, 1, 0, 0, 0, 1, 0xAA];
 
-/// A packet from a GRE tunnel, and one byte behind the header.
+/// A packet from a GRE tunnel, and one byte after the header.
 pub const GRE: [u8; 17] = [
     0, 0, 0x03, 0x0A, 0, 0, 0, 0, 0, 0, 0, 0, 0, 0, 0x08, 0x00, 0x45,
 ];

@@ -26,7 +26,7 @@ payload_type_view Modified = payloads.Modified
 payload_type_view Encrypted = payloads.Encrypted
 payload_type_view EncryptedUnmodified = payloads.EncryptedUnmodified
 
--- the ether type that can be read behind a tag
+-- the ether type that can be read after a tag
 abbrev pub readable_type : PayloadType → Option ℕ
 readable_type (payloads.Unmodified ether_type) = Some ether_type
 readable_type _ = None
@@ -81,7 +81,7 @@ pub record IsRefusedPacket (bytes : List ℕ) (e : HeaderSliceError HeaderError)
 
 -- ---- payloads
 
--- where the payload behind n bytes of tag ends: after the length that is named, or with the whole slice
+-- where the payload after n bytes of tag ends: after the length that is named, or with the whole slice
 abbrev pub payload_end : Option ℕ → ℕ → ℕ → ℕ
 payload_end None n whole = whole
 payload_end (Some p) n whole = n + p
@@ -91,7 +91,7 @@ abbrev pub payload_source : Option ℕ → LenSource
 payload_source None = sources.Slice
 payload_source (Some p) = sources.MacsecShortLength
 
--- the payload behind the tag with this front that a list begins with
+-- the payload after the tag with this front that a list begins with
 abbrev pub payload_in : SecTagFront → List ℕ → List ℕ
 payload_in front bytes = slice_range bytes (sec_tag_len front) (payload_end (known_payload_len front) (sec_tag_len front) (length bytes))
 

@@ -19,7 +19,7 @@ abbrev pub slice_tags : VlanSlice → List VlanValue
 slice_tags (SingleVlan s) = vlan_of s ∷ []
 slice_tags (DoubleVlan s) = vlan_of s.outer ∷ vlan_of s.inner ∷ []
 
--- the ether type behind the last tag
+-- the ether type after the last tag
 abbrev pub next_type : VlanHeader → ℕ
 next_type (Single h) = h.ether_type.0
 next_type (Double h) = h.inner.ether_type.0

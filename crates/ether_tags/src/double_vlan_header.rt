@@ -2,7 +2,7 @@
 use crate::SingleVlanHeader;
 use ether_base::EtherType;
 
-/// Two VLAN tags (QinQ), the inner one right behind the outer one.
+/// Two VLAN tags (QinQ), the inner one right after the outer one.
 ///
 /// Public fields are not checked against each other: the outer tag's ether type may be any, though in a frame it is the
 /// TPID of the inner tag.
@@ -19,7 +19,7 @@ use ether_base::EtherType;
 pub struct DoubleVlanHeader {
     /// The tag that comes first; its ether type is the TPID of the inner tag.
     pub outer: SingleVlanHeader,
-    /// The tag behind it; its ether type names the protocol of what follows both.
+    /// The tag after it; its ether type names the protocol of what follows both.
     pub inner: SingleVlanHeader,
 }
 

@@ -24,7 +24,7 @@ use std::fmt;
 pub struct DoubleVlanSlice<'a> {
     /// The tag that comes first, and its payload.
     pub outer: SingleVlanSlice<'a>,
-    /// The tag behind it, and its payload.
+    /// The tag after it, and its payload.
     pub inner: SingleVlanSlice<'a>,
 }
 
@@ -77,7 +77,7 @@ mod tests {
     use ether_base::{EtherType, LenSource};
     use std::test::Fail;
 
-    /// A view of two tags, the inner one right behind the outer one.
+    /// A view of two tags, the inner one right after the outer one.
     fn two_tags(bytes: &[u8]) -> Result<DoubleVlanSlice<'_>, Fail> {
         let outer = SingleVlanSlice::from_slice(bytes)?;
         let inner = SingleVlanSlice::from_slice(outer.payload_slice())?;

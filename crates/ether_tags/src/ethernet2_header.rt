@@ -138,7 +138,7 @@ impl Ethernet2Header {
     }
 }
 
-/// Two addresses and a number, one behind the other.
+/// Two addresses and a number, one after the other.
 fn joined(destination: &[u8], source: &[u8], ether_type: u16) -> [u8; 14]
     requires destination { length destination.now ≡ 6 }
     requires source { length source.now ≡ 6 }

@@ -49,7 +49,7 @@ impl<'a> Model for Ethernet2HeaderSlice<'a> {
 }
 
 impl<'a> Ethernet2HeaderSlice<'a> {
-    /// The header at the front of a slice. The bytes behind it are not part of the view.
+    /// The header at the front of a slice. The bytes after it are not part of the view.
     ///
     /// # Errors
     ///

@@ -114,7 +114,7 @@ pub fn ptype(bytes: &[u8]) -> MacsecPType
     }
 }
 
-/// Whether E and C are clear, so that the ether type of the user data stands behind the tag.
+/// Whether E and C are clear, so that the ether type of the user data follows the tag.
 pub fn is_unmodified(bytes: &[u8]) -> bool
     requires { 2 ≤ length bytes.now }
     ensures { IsTrue result ↔ (((sec_tag_front_in bytes.now).encrypted ≡ 0) × ((sec_tag_front_in bytes.now).changed ≡ 0)) }
@@ -122,7 +122,7 @@ pub fn is_unmodified(bytes: &[u8]) -> bool
     !encrypted(bytes) && !userdata_changed(bytes)
 }
 
-/// Whether the short length has no room for the ether type that stands behind the tag.
+/// Whether the short length has no room for the ether type that follows the tag.
 pub fn is_too_short(bytes: &[u8]) -> bool
     requires { 2 ≤ length bytes.now }
     ensures { IsTrue result ↔ IsTooShort (sec_tag_front_in bytes.now) }
@@ -130,7 +130,7 @@ pub fn is_too_short(bytes: &[u8]) -> bool
     is_unmodified(bytes) && short_len(bytes).value() == 1
 }
 
-/// The length of the tag in bytes, with the ether type behind it, 6 to 16.
+/// The length of the tag in bytes, with the ether type after it, 6 to 16.
 pub fn header_len(bytes: &[u8]) -> usize
     requires { 2 ≤ length bytes.now }
     ensures { result ≡ sec_tag_len (sec_tag_front_in bytes.now) }
@@ -138,7 +138,7 @@ pub fn header_len(bytes: &[u8]) -> usize
     tag_len(sci_present(bytes), is_unmodified(bytes))
 }
 
-/// The payload's length that the short length names, without the ether type behind the tag.
+/// The payload's length that the short length names, without the ether type after the tag.
 pub fn expected_payload_len(bytes: &[u8]) -> Option<usize>
     requires { 2 ≤ length bytes.now }
     ensures { result ≡ known_payload_len (sec_tag_front_in bytes.now) }
@@ -146,7 +146,7 @@ pub fn expected_payload_len(bytes: &[u8]) -> Option<usize>
     payload_len(short_len(bytes), is_unmodified(bytes))
 }
 
-/// The length of a tag in bytes, by whether there are an SCI and an ether type behind it.
+/// The length of a tag in bytes, by whether there are an SCI and an ether type after it.
 pub fn tag_len(has_sci: bool, is_unmodified: bool) -> usize
     ensures { result ≡ 6 + 8 * bit has_sci + 2 * bit is_unmodified }
 {
@@ -155,7 +155,7 @@ pub fn tag_len(has_sci: bool, is_unmodified: bool) -> usize
     6 + sci + ether_type
 }
 
-/// The length that a short length names, which counts the ether type behind the tag.
+/// The length that a short length names, which counts the ether type after the tag.
 pub fn payload_len(short_len: MacsecShortLen, is_unmodified: bool) -> Option<usize>
     ensures { result ≡ (if is_unmodified then known_len 0 0 short_len else known_len 1 0 short_len) }
 {

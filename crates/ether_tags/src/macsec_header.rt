@@ -19,7 +19,7 @@ use ether_base::{EtherType, MacsecAn, MacsecShortLen};
 /// A MACsec SecTag (IEEE 802.1AE, 9.3), 6 to 16 bytes on the wire.
 ///
 /// The standard counts the MACsec ether type 0x88E5 as the first two bytes of a SecTag. It is the `ether_type` of the
-/// layer before here, and the tag begins behind it. The ether type of the payload counts as the tag's end where it can
+/// layer before here, and the tag begins after it. The ether type of the payload counts as the tag's end where it can
 /// be read, which is where the bits E and C are clear:
 ///
 /// ```text
@@ -73,7 +73,7 @@ pub struct MacsecHeader {
     pub scb: bool,
     /// The association number (AN, 9.6).
     pub an: MacsecAn,
-    /// The short length (SL, 9.7): the number of bytes behind the SCI up to the integrity check value, with the next
+    /// The short length (SL, 9.7): the number of bytes after the SCI up to the integrity check value, with the next
     /// ether type. 0 names no length.
     pub short_len: MacsecShortLen,
     /// The packet number (PN, 9.8).

@@ -41,7 +41,7 @@ impl<'a> MacsecHeaderSlice<'a> {
     ghost use Rattle.ether_base.specs.Macsec.{known_payload_len};
     ghost use Rattle.ether_tags.specs.Macsec.{IsRefusedTag, tag_bytes, payload_type_view, readable_type, sec_tag_view};
 
-    /// The tag at the front of a slice, with the next ether type. The bytes behind it are not part of the view.
+    /// The tag at the front of a slice, with the next ether type. The bytes after it are not part of the view.
     ///
     /// # Errors
     ///

@@ -1,7 +1,7 @@
 //! The payload of a MACsec SecTag.
 use crate::EtherPayloadSlice;
 
-/// A view of the payload behind a MACsec SecTag.
+/// A view of the payload after a MACsec SecTag.
 ///
 /// ```
 /// let encrypted = MacsecSlice::from_slice(&[0x0C, 0x00, 0, 0, 0, 1, 0xAA])?;

@@ -34,7 +34,7 @@ use ether_base::{EtherType, LenSource};
 pub struct MacsecSlice<'a> {
     /// The tag.
     pub header: MacsecHeaderSlice<'a>,
-    /// The payload behind the tag.
+    /// The payload after the tag.
     pub payload: MacsecPayloadSlice<'a>,
 }
 

@@ -19,7 +19,7 @@ use ether_base::{EtherType, VlanId, VlanPcp};
 ///
 /// The standard counts the tag protocol identifier (TPID), such as 0x8100, as the first two bytes of a tag. In a frame
 /// it stands where the layer before has its ether type, so it is that layer's `ether_type` here, and the tag begins
-/// behind it:
+/// after it:
 ///
 /// ```text
 ///     layer before  |      SingleVlanHeader

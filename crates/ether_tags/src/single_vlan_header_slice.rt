@@ -47,7 +47,7 @@ impl<'a> Model for SingleVlanHeaderSlice<'a> {
 }
 
 impl<'a> SingleVlanHeaderSlice<'a> {
-    /// The tag at the front of a slice. The bytes behind it are not part of the view.
+    /// The tag at the front of a slice. The bytes after it are not part of the view.
     ///
     /// # Errors
     ///

@@ -2,15 +2,15 @@
 //! Linux and captured there, and worked examples of IEEE 802.1AE. The fields that the tests expect of the latter two are
 //! those that tshark prints; where a payload ends is counted by hand.
 
-/// A broadcast frame from 02:00:00:00:00:01 with IPv4, and four bytes behind the header.
+/// A broadcast frame from 02:00:00:00:00:01 with IPv4, and four bytes after the header.
 pub const FRAME: [u8; 18] = [
     0xFF, 0xFF, 0xFF, 0xFF, 0xFF, 0xFF, 2, 0, 0, 0, 0, 1, 0x08, 0x00, 0x11, 0x22, 0x33, 0x44,
 ];
 
-/// A VLAN tag with priority 5, drop eligible, VLAN 291 and IPv4 next, and one byte behind it.
+/// A VLAN tag with priority 5, drop eligible, VLAN 291 and IPv4 next, and one byte after it.
 pub const TAG: [u8; 5] = [0xB1, 0x23, 0x08, 0x00, 0x45];
 
-/// VLAN 1 around VLAN 2, IPv4 next, and one byte behind the tags.
+/// VLAN 1 around VLAN 2, IPv4 next, and one byte after the tags.
 pub const TWO_TAGS: [u8; 9] = [0x00, 0x01, 0x81, 0x00, 0x00, 0x02, 0x08, 0x00, 0x45];
 
 /// A SecTag with both reserved bits, an SCI and an encrypted payload of one byte, which its short length does not name.
@@ -18,7 +18,7 @@ pub const SEALED: [u8; 15] = [
     0x2C, 0xC0, 0x00, 0x00, 0x00, 0x01, 0x00, 0x11, 0x22, 0x33, 0x44, 0x55, 0x66, 0x77, 0x99,
 ];
 
-/// A SecTag that names 4 bytes of payload, these, and 2 bytes behind them.
+/// A SecTag that names 4 bytes of payload, these, and 2 bytes after them.
 pub const NAMED: [u8; 14] = [
     0x00, 0x06, 0x00, 0x00, 0x00, 0x01, 0x81, 0x00, 0xAA, 0xBB, 0xCC, 0xDD, 0xEE, 0xEE,
 ];

@@ -69,7 +69,7 @@ mod tests {
     }
 
     #[test]
-    fn the_type_behind_one_tag(rt: HostRuntime) {
+    fn the_type_after_one_tag(rt: HostRuntime) {
         let tag = VlanHeader::Single(SingleVlanHeader::from_bytes(OUTER));
         check_eq!(rt; tag.next_header(), EtherType(0x8100));
     }

@@ -18,11 +18,11 @@ pub enum Layer {
     LinuxSllHeader,
     /// The Ethernet II header.
     Ethernet2Header,
-    /// The payload behind an ether type.
+    /// The payload after an ether type.
     EtherPayload,
-    /// A VLAN tag (IEEE 802.1Q), from behind its own ether type.
+    /// A VLAN tag (IEEE 802.1Q), without its own ether type.
     VlanHeader,
-    /// A MACsec SecTag (IEEE 802.1AE), from behind its own ether type.
+    /// A MACsec SecTag (IEEE 802.1AE), without its own ether type.
     MacsecHeader,
     /// A MACsec SecTag, and the payload whose length its short length names.
     MacsecPacket,

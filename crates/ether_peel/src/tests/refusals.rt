@@ -10,7 +10,7 @@ use etherparse::{ArpHardwareId, LenSource};
 use std::process::Abort;
 use std::test::Fail;
 
-/// Behind `units` units comes this fault, in a window of `rest` that is announced as `kind`.
+/// After `units` units comes this fault, in a window of `rest` that is announced as `kind`.
 fn is_refused(
     rt: &impl Abort,
     start: Start,
@@ -316,7 +316,7 @@ fn what_a_cooked_capture_is_refused_for(rt: HostRuntime) {
     );
 }
 
-/// Behind two units, from byte 22 on in a closed window, stands a third one in these bytes, and 2 bytes after them. It is
+/// After two units, from byte 22 on in a closed window, stands a third one in these bytes, and 2 bytes after them. It is
 /// refused with this fault.
 fn is_refused_in_a_payload<R: Abort + AllocGlobal>(
     rt: &R,

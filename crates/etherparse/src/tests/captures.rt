@@ -10,7 +10,7 @@ use crate::{
 use std::test::Fail;
 
 /// To this host on Ethernet, from 02:00:00:00:00:01 by an address length of 255, with the dummy type for 802.3 frames, and
-/// a byte behind it.
+/// a byte after it.
 const CAPTURE: [u8; 17] = [0, 0, 0, 1, 0, 0xFF, 2, 0, 0, 0, 0, 1, 0, 0, 0, 1, 0xAA];
 
 const HEADER: LinuxSllHeader = LinuxSllHeader {

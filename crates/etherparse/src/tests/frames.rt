@@ -25,12 +25,12 @@ const HEADER: Ethernet2Header = Ethernet2Header {
 /// Two VLAN tags, and a byte of IPv4.
 const TAGS: [u8; 9] = [0x00, 0x01, 0x81, 0x00, 0xB1, 0x23, 0x08, 0x00, 0x45];
 
-/// A SecTag that names four bytes of payload, these, and two bytes behind them.
+/// A SecTag that names four bytes of payload, these, and two bytes after them.
 const READABLE: [u8; 14] = [
     0x00, 0x06, 0x00, 0x00, 0x00, 0x01, 0x81, 0x00, 0xAA, 0xBB, 0xCC, 0xDD, 0xEE, 0xEE,
 ];
 
-/// A SecTag of an encrypted payload, with an SCI and reserved bits, and a byte behind it.
+/// A SecTag of an encrypted payload, with an SCI and reserved bits, and a byte after it.
 const SEALED: [u8; 15] = [
     0x2C, 0xC0, 0x00, 0x00, 0x00, 0x01, 0x00, 0x11, 0x22, 0x33, 0x44, 0x55, 0x66, 0x77, 0x99,
 ];
