@@ -1,5 +1,5 @@
 -- The MACsec SecTag (IEEE 802.1AE, 9.3) without its own ether type, with the ether type that follows it where that can be read.
-use Rattle.std.specs.Prelude.{◌≡◌, ℕ, zero, suc, ◌+◌, ◌*◌, ◌/◌, ◌%◌, ◌^◌, ◌<◌, List, [], ◌++◌, slice_range, Option, Some, None}
+use Rattle.std.specs.Prelude.{◌≡◌, ℕ, zero, suc, ◌+◌, ◌*◌, ◌/◌, ◌%◌, ◌^◌, ◌<◌, ◌-◌, ◌||◌, nat_eq, nat_lt, if◌then◌else◌, List, [], ◌++◌, slice_range, Option, Some, None}
 use Rattle.ether_base.specs.Bytes.{number, spelled}
 
 -- ---- the first two bytes (9.5 tag control information, 9.6 association number, 9.7 short length)
@@ -46,16 +46,13 @@ ether_type_len _ _ = 0
 abbrev pub sec_tag_len : SecTagFront → ℕ
 sec_tag_len t = 6 + 8 * t.sci_present + ether_type_len t.encrypted t.changed
 
--- The payload's length that E, C and SL name, where they do. With E and C 0 SL counts the ether type too.
-abbrev pub known_len : ℕ → ℕ → ℕ → Option ℕ
-known_len zero zero zero = None
-known_len zero zero (suc zero) = None
-known_len zero zero (suc (suc n)) = Some n
-known_len _ _ zero = None
-known_len _ _ (suc n) = Some (suc n)
+-- The payload's length that a short length names, which counts the ether type after the tag: 0 names none, and so does a number
+-- with no room for that ether type.
+abbrev pub known_len : (ether_type short : ℕ) → Option ℕ
+known_len ether_type short = if nat_eq short 0 || nat_lt short ether_type then None else Some (short - ether_type)
 
 abbrev pub known_payload_len : SecTagFront → Option ℕ
-known_payload_len t = known_len t.encrypted t.changed t.short_len
+known_payload_len t = known_len (ether_type_len t.encrypted t.changed) t.short_len
 
 -- ---- a tag as a value
 
@@ -77,17 +74,15 @@ pub record SecTagValue : Type 0 where
 
 -- E
 abbrev pub encrypted_of : PayloadType → ℕ
-encrypted_of (Unmodified ether_type) = 0
-encrypted_of Modified = 0
 encrypted_of EncryptedUnmodified = 1
 encrypted_of Encrypted = 1
+encrypted_of _ = 0
 
 -- C
 abbrev pub changed_of : PayloadType → ℕ
-changed_of (Unmodified ether_type) = 0
 changed_of Modified = 1
-changed_of EncryptedUnmodified = 0
 changed_of Encrypted = 1
+changed_of _ = 0
 
 -- SC
 abbrev pub sci_present_of : Option ℕ → ℕ
@@ -113,7 +108,7 @@ abbrev pub HasSci : List ℕ → Option ℕ → Type 0
 HasSci bytes None = Unit {0}
 HasSci bytes (Some sci) = number (slice_range bytes 6 14) ≡ sci
 
--- the ether type stands at a place
+-- the ether type begins at a place
 abbrev pub HasEtherType : List ℕ → ℕ → PayloadType → Type 0
 HasEtherType bytes at (Unmodified ether_type) = number (slice_range bytes at (at + 2)) ≡ ether_type
 HasEtherType bytes at _ = Unit {0}
@@ -143,7 +138,7 @@ sec_tag_front_at n = record {
   short_len = n % 2 ^ 6;
 }
 
--- the front that stands in a list of at least two bytes
+-- the front in a list of at least two bytes
 abbrev pub sec_tag_front_in : List ℕ → SecTagFront
 sec_tag_front_in bytes = sec_tag_front_at (number (slice_range bytes 0 2))
 
@@ -159,7 +154,7 @@ abbrev pub sci_for : (sci_present sci : ℕ) → Option ℕ
 sci_for zero sci = None
 sci_for (suc present) sci = Some sci
 
--- the value with this front, and what stands in the list after it
+-- the value of a list with this front
 abbrev pub sec_tag_with : SecTagFront → List ℕ → SecTagValue
 sec_tag_with front bytes = let at = 6 + 8 * front.sci_present in record {
   payload_type = payload_type_for front.encrypted front.changed (number (slice_range bytes at (at + 2)));
@@ -171,7 +166,7 @@ sec_tag_with front bytes = let at = 6 + 8 * front.sci_present in record {
   sci = sci_for front.sci_present (number (slice_range bytes 6 14));
 }
 
--- the value that stands in a list of at least as many bytes as its front tells
+-- the value in a list of at least as many bytes as its front tells
 abbrev pub sec_tag_of : List ℕ → SecTagValue
 sec_tag_of bytes = sec_tag_with (sec_tag_front_in bytes) bytes
 

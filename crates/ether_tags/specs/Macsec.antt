@@ -1,5 +1,5 @@
 -- MACsec SecTags as the values that their bytes mean, and their refusals as rows of the table.
-use Rattle.std.specs.Prelude.{◌≡◌, ℕ, ◌+◌, List, length, slice_range, Option, Some, None, nat_lt, ◌&&◌, if◌then◌else◌}
+use Rattle.std.specs.Prelude.{◌≡◌, ℕ, ◌+◌, List, length, slice_range, Option, Some, None, nat_lt, if◌then◌else◌}
 use Rattle.ether_base.specs.declared.len_source.LenSource.{LenSource}
 use Rattle.ether_base.specs.declared.len_source.LenSource.TheVariants as sources
 use Rattle.ether_base.specs.declared.err.macsec.header_error.HeaderError.{HeaderError}
@@ -46,16 +46,7 @@ sec_tag_view h = record {
 -- the short length that names a payload of n bytes: with the ether type's two where that can be read, and 0 above 63
 abbrev pub short_len_for : PayloadType → ℕ → ℕ
 short_len_for (payloads.Unmodified ether_type) n = if nat_lt n 62 then n + 2 else 0
-short_len_for payloads.Modified n = if nat_lt n 64 then n else 0
-short_len_for payloads.EncryptedUnmodified n = if nat_lt n 64 then n else 0
-short_len_for payloads.Encrypted n = if nat_lt n 64 then n else 0
-
--- the payload's length that it names then: n where it has room, but 0 names none where no ether type is counted
-abbrev pub named_len_for : PayloadType → ℕ → Option ℕ
-named_len_for (payloads.Unmodified ether_type) n = if nat_lt n 62 then Some n else None
-named_len_for payloads.Modified n = if nat_lt 0 n && nat_lt n 64 then Some n else None
-named_len_for payloads.EncryptedUnmodified n = if nat_lt 0 n && nat_lt n 64 then Some n else None
-named_len_for payloads.Encrypted n = if nat_lt 0 n && nat_lt n 64 then Some n else None
+short_len_for _ n = if nat_lt n 64 then n else 0
 
 -- the bytes of a view of a tag
 abbrev pub tag_bytes : MacsecHeaderSlice → List ℕ
@@ -98,9 +89,8 @@ payload_in front bytes = slice_range bytes (sec_tag_len front) (payload_end (kno
 -- a payload with its type exactly where E and C are 0
 abbrev pub HoldsTyped : MacsecPayloadSlice → Option ℕ → LenSource → List ℕ → Type 0
 HoldsTyped (kept.Unmodified p) (Some ether_type) source bytes = (p.ether_type.0 ≡ ether_type) × (p.len_source ≡ source) × (p.payload.now ≡ bytes)
-HoldsTyped (kept.Unmodified p) None source bytes = ⊥
-HoldsTyped (kept.Modified p) (Some ether_type) source bytes = ⊥
 HoldsTyped (kept.Modified p) None source bytes = p.now ≡ bytes
+HoldsTyped _ _ source bytes = ⊥
 
 abbrev pub HoldsPayload : MacsecPayloadSlice → SecTagFront → List ℕ → Type 0
 HoldsPayload p front bytes = HoldsTyped p (readable_type (sec_tag_of bytes).payload_type) (payload_source (known_payload_len front)) (payload_in front bytes)

@@ -2,7 +2,7 @@
 //! ES, SC, SCB, E and C, and the association number (2 bits, 9.6). Byte 1 is two reserved bits and the short length (6 bits,
 //! 9.7). The packet number (4 bytes, 9.8) follows, then the SCI (8 bytes, 9.9) where SC is set, and then the ether type of
 //! the user data where E and C are clear.
-ghost use Rattle.std.specs.Prelude.{◌≡◌, ◌↔◌, ◌≤◌, ◌<◌, ◌+◌, ◌*◌, ◌/◌, ◌%◌, ◌^◌, IsTrue, length, slice_range, if◌then◌else◌};
+ghost use Rattle.std.specs.Prelude.{◌≡◌, ◌↔◌, ◌≤◌, ◌<◌, ◌+◌, ◌*◌, ◌/◌, ◌%◌, ◌^◌, IsTrue, length, slice_range};
 ghost use Rattle.ether_base.specs.Bytes.{bit, number};
 ghost use Rattle.ether_base.specs.Macsec.{known_payload_len, sec_tag_front_in, sec_tag_len, sec_tag_of, known_len};
 ghost use Rattle.ether_tags.specs.Macsec.{payload_type_view};
@@ -157,7 +157,7 @@ pub fn tag_len(has_sci: bool, is_unmodified: bool) -> usize
 
 /// The length that a short length names, which counts the ether type after the tag.
 pub fn payload_len(short_len: MacsecShortLen, is_unmodified: bool) -> Option<usize>
-    ensures { result ≡ (if is_unmodified then known_len 0 0 short_len else known_len 1 0 short_len) }
+    ensures { result ≡ known_len (2 * bit is_unmodified) short_len }
 {
     let named = usize::from(short_len.value());
     let ether_type = if is_unmodified { 2 } else { 0 };

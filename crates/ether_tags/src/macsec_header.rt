@@ -1,5 +1,5 @@
 //! A MACsec SecTag as a value.
-ghost use Rattle.std.specs.Prelude.{◌≡◌, ◌≤◌, ◌<◌, ◌+◌, ◌++◌, ℕ, List, length, IfOk, IfErr};
+ghost use Rattle.std.specs.Prelude.{◌≡◌, ◌≤◌, ◌<◌, ◌+◌, ◌++◌, ℕ, List, length, IfOk, IfErr, nat_eq, Some, None, if◌then◌else◌};
 ghost use Rattle.std.specs.Option.{option_map};
 ghost use Rattle.ether_base.specs.declared.len_source.LenSource.TheVariants as sources;
 ghost use Rattle.ether_base.specs.Bytes.{spelled, bit};
@@ -8,7 +8,7 @@ ghost use Rattle.ether_base.specs.Header as headers;
 ghost use Rattle.ether_base.specs.Header.{Means};
 ghost use Rattle.ether_base.specs.Kind as kinds;
 ghost use Rattle.ether_base.specs.Refusal.{AcceptsHeader, InvalidShortLen, IsTooShort, RefusesHeader};
-ghost use Rattle.ether_tags.specs.Macsec.{IsRefusedTag, payload_type_view, readable_type, named_len_for, sec_tag_view, short_len_for};
+ghost use Rattle.ether_tags.specs.Macsec.{IsRefusedTag, payload_type_view, readable_type, sec_tag_view, short_len_for};
 
 use crate::{MacsecHeaderSlice, MacsecPType, macsec_fields};
 use arrayvec::ArrayVec;
@@ -151,7 +151,7 @@ impl MacsecHeader {
     /// 61 bytes of payload are named then. No short length names an encrypted or changed payload of 0 bytes.
     pub fn set_payload_len(&mut self, payload_len: usize)
         ensures short_len { self.new.short_len ≡ short_len_for (payload_type_view self.old.ptype) payload_len }
-        ensures named { known_payload_len (sec_tag_front_of 0 0 (sec_tag_view self.new)) ≡ named_len_for (payload_type_view self.old.ptype) payload_len }
+        ensures named { known_payload_len (sec_tag_front_of 0 0 (sec_tag_view self.new)) ≡ (if nat_eq self.new.short_len 0 then None else Some payload_len) }
         ensures others { self.new ≡ record self.old { short_len = self.new.short_len } }
     {
         self.short_len = match self.ptype {
