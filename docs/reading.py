@@ -10,7 +10,8 @@ import sys
 ROOT = os.path.dirname(os.path.dirname(os.path.abspath(__file__)))
 NAME = r"[^\s(){}\[\],;.λ∀→=|]+"
 
-# The public calls that carry the main theorem and the tool's output, and the impls whose ghost members say what they do.
+# The public calls that carry the main theorem and the tool's output. "ghost" means the ghost members of a file's impls that say what
+# its calls do: of a model that is its value, while its view and its invariant are the representation, which nobody outside sees.
 CALLS = {
     "ether_peel/src/peel.rt": ["new", "with_limit", "rest", "offset", "kind", "closed", "bound", "ghost"],
     "ether_peel/src/peel_fault.rt": ["missing"],
@@ -142,7 +143,7 @@ def contracts(found, path, calls):
             on = made[1] in calls
         elif re.match(r"\s*\{\s*$", line) or re.match(r"\s*(pub\(crate\) )?fn ", line):
             on = False
-        if on or ("ghost" in calls and re.match(r"\s*ghost \w+ = ", line)):
+        if on or ("ghost" in calls and re.match(r"\s*ghost (?!view|invariant)\w+ = ", line)):
             taken.append(line)
     return cited(found, "".join(taken), names, aliases)
 

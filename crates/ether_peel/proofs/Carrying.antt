@@ -16,7 +16,8 @@ use Rattle.etherparse.specs.Refusal.{Refusal, Length, UnsupportedPacketType, Uns
 use Rattle.etherparse.proofs.SubLists.{length-part, part-append, part_of_part, rest_of_part}
 use Rattle.etherparse.proofs.Rows.{row_short}
 use Rattle.etherparse.proofs.Means.{unit_fits}
-use Rattle.ether_peel.specs.Window.{Window, within, IsIn, payload_from, payload}
+use Rattle.ether_peel.specs.Window.{Window, within, IsIn, payload}
+use Rattle.ether_peel.proofs.Windows.{payload_from, payload_from_in}
 use Rattle.ether_peel.specs.Expectation.{Expectation, announced_by, announced, announced_next, next_after, Next, EtherType, Sll, after_payload, after}
 use Rattle.ether_peel.proofs.Limits.{announced_is}
 use Rattle.ether_peel.specs.Stack.{Ending, Accepted, Fault, last_window, last_expected, IsUnit, Stack}
@@ -42,22 +43,6 @@ led list x w [] ks y v e l s = subst (λ (z : Expectation). Stack list z w ks e)
 led list x w (h ∷ hs) ks y v e l s = (l.0, led list (after x h) (payload w h) hs ks y v e l.1 s)
 
 -- ---- windows
-
-payload_from_in : (list : List ℕ) (w : Window) (n trailer : ℕ) (o : Option ℕ) → IsIn list w → n + unwrap_or o 0 + trailer ≤ length (within list w) → IsIn list (payload_from (w.start + n) trailer o w)
-payload_from_in list w n trailer None at fits =
-    let len = length-part list w.start w.finish at.inside in
-    let a = at.ordered in
-    let b = at.inside in
-    record { ordered = omega arith; inside = omega arith }
-payload_from_in list w n trailer (Some p) at fits =
-    let len = length-part list w.start w.finish at.inside in
-    let a = at.ordered in
-    let b = at.inside in
-    record { ordered = omega arith; inside = omega arith }
-
--- a payload lies in the list
-pub payload_in : (list : List ℕ) (x : Expectation) (w : Window) (h : Header) → IsIn list w → IsUnit list x w h → IsIn list (payload w h)
-payload_in list x w h at u = payload_from_in list w (header_len h) (trailer_len h) (payload_len h) at (unit_fits w.bound (within list w) h u.accepted u.means)
 
 -- of bytes that come after the list, those that come after the window's
 abbrev pub beyond : Bool → List ℕ → List ℕ

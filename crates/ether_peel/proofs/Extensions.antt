@@ -7,7 +7,8 @@ use Rattle.etherparse.specs.Header.{Header, header_len, payload_len, trailer_len
 use Rattle.etherparse.specs.Refusal.{Refusal, Length, UnsupportedPacketType, UnsupportedHardwareType, UnexpectedVersion, InvalidShortLen}
 use Rattle.etherparse.proofs.SubLists.{length-part, part_all}
 use Rattle.etherparse.proofs.Means.{unit_fits}
-use Rattle.ether_peel.specs.Window.{Window, within, IsIn, payload_closed, payload_from, payload}
+use Rattle.ether_peel.specs.Window.{Window, within, IsIn, payload}
+use Rattle.ether_peel.proofs.Windows.{payload_closed, payload_from, payload_in, payload_narrows}
 use Rattle.ether_peel.specs.Expectation.{Expectation, EtherType, Sll, Sealed, AfterArp, Start, after, has_fcs, next_has_fcs, Next}
 use Rattle.ether_peel.proofs.Limits.{announced_is}
 use Rattle.ether_peel.specs.Stack.{Ending, Accepted, Fault, last_window, last_expected, Stack, whole, Walk}
@@ -16,8 +17,8 @@ use Rattle.ether_peel.specs.Cuts.{reach}
 use Rattle.ether_peel.specs.Extensions.{ExtensionsKeep}
 use Rattle.ether_peel.proofs.LongerBytes.{longer, IsBelow}
 use Rattle.ether_peel.proofs.StackLemmas.{one_stack}
-use Rattle.ether_peel.proofs.Carrying.{Leads, leads, payload_in, beyond, Carries, NoFcs, NextNoFcs, no_fcs_announced, no_fcs_after, no_trailer, StaysShort, ending_in, CarriedStack, carry_stack, refused_below}
-use Rattle.ether_peel.proofs.Places.{longer_zero, payload_narrows}
+use Rattle.ether_peel.proofs.Carrying.{Leads, leads, beyond, Carries, NoFcs, NextNoFcs, no_fcs_announced, no_fcs_after, no_trailer, StaysShort, ending_in, CarriedStack, carry_stack, refused_below}
+use Rattle.ether_peel.proofs.Places.{longer_zero}
 use Rattle.ether_peel.proofs.WriteBack.{whole_in}
 
 -- ---- the first window

@@ -17,7 +17,8 @@ use Rattle.ether_peel.specs.Summary.{fault_of}
 use Rattle.ether_peel.specs.Feeding.{AreDemands, greatest, caps, last_cap, IsFeed}
 use Rattle.ether_peel.specs.declared.peel_unit.PeelUnit.{PeelUnit}
 use Rattle.ether_peel.specs.declared.peel_fault.PeelFault.{PeelFault}
-use Rattle.ether_peel.proofs.StackLemmas.{header_least, some_stack}
+use Rattle.ether_peel.proofs.StackLemmas.{some_stack}
+use Rattle.ether_peel.proofs.Windows.{header_least}
 use Rattle.ether_peel.proofs.Carrying.{leads, beyond, carried_finish}
 use Rattle.ether_peel.proofs.Extensions.{no_fcs, walk_open_to_end}
 use Rattle.ether_peel.proofs.Cuts.{common}

@@ -1,3 +1,4 @@
+pub mod Windows
 pub mod StackLemmas
 pub mod Bounds
 pub mod PeelLemmas

@@ -10,7 +10,7 @@ use Rattle.ether_peel.specs.Expectation.{Next, Expectation, is_extension, is_spe
 use Rattle.ether_peel.specs.Stack.{Ending, Accepted, Fault, last_window, last_expected, IsUnit, Stack}
 use Rattle.ether_peel.specs.Summary.{fault_of}
 use Rattle.ether_peel.specs.PeelFault.{fault_in}
-use Rattle.ether_peel.proofs.StackLemmas.{shrinks}
+use Rattle.ether_peel.proofs.Windows.{shrinks}
 
 abbrev pub limited : Next → Option ℕ → Expectation
 limited next limit = record { next = next; limit = limit }

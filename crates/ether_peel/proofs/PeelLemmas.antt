@@ -24,7 +24,8 @@ use Rattle.etherparse.specs.Macsec.{IsRefusedPacket}
 use Rattle.etherparse.proofs.SubLists.{length-part, part_of_part}
 use Rattle.etherparse.proofs.Rows.{one_row}
 use Rattle.etherparse.proofs.Means.{one_header, unit_fits}
-use Rattle.ether_peel.specs.Window.{Window, within, IsIn, payload, payload_from}
+use Rattle.ether_peel.specs.Window.{Window, within, IsIn, payload}
+use Rattle.ether_peel.proofs.Windows.{payload_from}
 use Rattle.ether_peel.specs.Expectation.{Expectation, EtherType, Sll, is_extension, announced, after_capture, next_after, lowered, after}
 use Rattle.ether_peel.specs.Stack.{Ending, Accepted, Fault, Stack}
 use Rattle.ether_peel.specs.PeelState.{State, expected_of}

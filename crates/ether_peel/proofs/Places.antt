@@ -1,17 +1,15 @@
 -- Where headers and last windows lie. A stack depends on no bytes but its window's, and moves with it.
 use Rattle.std.proofs.Common.{◌≡◌, ℕ, ◌+◌, ◌-◌, ◌≤◌, List, [], ◌∷◌, ◌++◌, length, refl, sym, ap, subst, ◌∙◌, arith, inl, Bool, true, false}
-use Rattle.std.specs.Prelude.{Option, Some, None, unwrap_or}
 use Rattle.std.proofs.lemmas.List.{append-nil}
-use Rattle.etherparse.specs.Header.{Header, header_len, payload_len, trailer_len}
+use Rattle.etherparse.specs.Header.{Header, header_len}
 use Rattle.etherparse.specs.Refusal.{Refusal, Length, UnsupportedPacketType, UnsupportedHardwareType, UnexpectedVersion, InvalidShortLen}
-use Rattle.etherparse.proofs.SubLists.{length-part}
-use Rattle.etherparse.proofs.Means.{unit_fits}
-use Rattle.ether_peel.specs.Window.{Window, within, IsIn, payload_finish, payload}
+use Rattle.ether_peel.specs.Window.{Window, within, IsIn, payload}
+use Rattle.ether_peel.proofs.Windows.{payload_in, payload_narrows}
 use Rattle.ether_peel.specs.Expectation.{Expectation, after}
-use Rattle.ether_peel.specs.Stack.{Ending, Accepted, Fault, last_window, last_expected, IsUnit, Stack}
+use Rattle.ether_peel.specs.Stack.{Ending, Accepted, Fault, last_window, last_expected, Stack}
 use Rattle.ether_peel.specs.Places.{place, moved, moved_ending, StacksAreLocal}
 use Rattle.ether_peel.proofs.LongerBytes.{longer, IsBelow}
-use Rattle.ether_peel.proofs.Carrying.{Leads, leads, payload_in, beyond, Carries, carried_finish, StaysShort, ending_in, carry_stack, refused_below}
+use Rattle.ether_peel.proofs.Carrying.{Leads, leads, beyond, Carries, carried_finish, StaysShort, ending_in, carry_stack, refused_below}
 
 -- ---- places
 
@@ -22,17 +20,6 @@ place_least at (h ∷ hs) = let k = place_least (at + header_len h) hs in omega 
 pub place-append : (at : ℕ) (hs ks : List Header) → place at (hs ++ ks) ≡ place (place at hs) ks
 place-append at [] ks = refl
 place-append at (h ∷ hs) ks = place-append (at + header_len h) hs ks
-
-payload_finish_in : (list : List ℕ) (w : Window) (n trailer : ℕ) (o : Option ℕ) → IsIn list w → n + unwrap_or o 0 + trailer ≤ length (within list w) → payload_finish (w.start + n) trailer w.finish o ≤ w.finish
-payload_finish_in list w n trailer None at fits = omega arith
-payload_finish_in list w n trailer (Some p) at fits =
-    let len = length-part list w.start w.finish at.inside in
-    let a = at.ordered in
-    omega arith
-
--- a payload ends in its window
-pub payload_narrows : (list : List ℕ) (x : Expectation) (w : Window) (h : Header) → IsIn list w → IsUnit list x w h → (payload w h).finish ≤ w.finish
-payload_narrows list x w h at u = payload_finish_in list w (header_len h) (trailer_len h) (payload_len h) at (unit_fits w.bound (within list w) h u.accepted u.means)
 
 -- a later window begins where the headers before it end, and lies in the first one
 pub record LiesAfter (w : Window) (hs : List Header) (v : Window) : Type 0 where

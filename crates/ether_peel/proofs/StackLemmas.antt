@@ -1,39 +1,17 @@
 -- In every window of every list of bytes there is exactly one stack.
-use Rattle.std.proofs.Common.{◌≡◌, ℕ, zero, suc, ◌+◌, ◌-◌, ◌<◌, ◌≤◌, List, [], ◌∷◌, length, refl, sym, ap, subst, ◌∙◌, arith, inl, inr}
-use Rattle.std.specs.Prelude.{Option, Some, None, unwrap_or}
+use Rattle.std.proofs.Common.{◌≡◌, ℕ, zero, suc, ◌<◌, List, [], ◌∷◌, length, refl, sym, ap, subst, ◌∙◌, arith, inl, inr}
+use Rattle.std.specs.Prelude.{Option, Some, None}
 use Rattle.etherparse.specs.Bytes.{IsBytes}
 use Rattle.etherparse.specs.Kind.{Kind}
-use Rattle.etherparse.specs.Header.{Header, kind_of, header_len, payload_len, trailer_len}
-use Rattle.etherparse.specs.Header as headers
+use Rattle.etherparse.specs.Header.{Header, kind_of}
 use Rattle.etherparse.specs.Refusal.{Refuses, Accepts}
-use Rattle.etherparse.proofs.SubLists.{length-part-is, IsBytes-part}
+use Rattle.etherparse.proofs.SubLists.{IsBytes-part}
 use Rattle.etherparse.proofs.Rows.{decide, one_row}
-use Rattle.etherparse.proofs.Means.{some_header, one_header, unit_fits}
-use Rattle.ether_peel.specs.Window.{Window, within, payload_from, payload}
+use Rattle.etherparse.proofs.Means.{some_header, one_header}
+use Rattle.ether_peel.specs.Window.{Window, within, payload}
+use Rattle.ether_peel.proofs.Windows.{shrinks}
 use Rattle.ether_peel.specs.Expectation.{Expectation, announced, after}
 use Rattle.ether_peel.specs.Stack.{Ending, Accepted, Fault, IsUnit, Stack}
-
-pub header_least : (h : Header) → 4 ≤ header_len h
-header_least (headers.Ethernet2 e) = omega arith
-header_least (headers.Ethernet2Fcs e) = omega arith
-header_least (headers.LinuxSll s) = omega arith
-header_least (headers.Vlan v) = omega arith
-header_least (headers.Macsec t) = omega arith
-header_least (headers.Arp a) = omega arith
-
-shrinks_from : (list : List ℕ) (w : Window) (n trailer : ℕ) (o : Option ℕ) → 4 ≤ n → n + unwrap_or o 0 + trailer ≤ length (within list w) → length (within list (payload_from (w.start + n) trailer o w)) + 4 ≤ length (within list w)
-shrinks_from list w n trailer None least fits =
-    let a = length-part-is list w.start w.finish in
-    let b = length-part-is list (w.start + n) (w.finish - trailer) in
-    omega arith
-shrinks_from list w n trailer (Some p) least fits =
-    let a = length-part-is list w.start w.finish in
-    let b = length-part-is list (w.start + n) (w.start + n + p) in
-    omega arith
-
--- a payload is shorter than its window
-pub shrinks : (list : List ℕ) (x : Expectation) (w : Window) (h : Header) → IsUnit list x w h → length (within list (payload w h)) + 4 ≤ length (within list w)
-shrinks list x w h u = shrinks_from list w (header_len h) (trailer_len h) (payload_len h) (header_least h) (unit_fits w.bound (within list w) h u.accepted u.means)
 
 -- ---- there is one
 

@@ -1,13 +1,13 @@
 -- A SecTag of which the first bytes are there: the first two tell its lengths.
 use Rattle.std.proofs.Common.{◌≡◌, ℕ, zero, suc, ◌+◌, ◌-◌, ◌*◌, ◌<◌, ◌≤◌, List, [], ◌∷◌, length, refl, sym, ap, subst, ◌∙◌, arith}
-use Rattle.std.specs.Prelude.{slice_range, slice_index, Option, Some, None, unwrap_or}
+use Rattle.std.specs.Prelude.{slice_range, slice_index, Option, Some, None, unwrap_or, Bool, true, false, ◌||◌, nat_eq, nat_lt, if◌then◌else◌}
 use Rattle.etherparse.specs.Types.LenSource.{LenSource}
 use Rattle.etherparse.specs.Types.LenSource.TheVariants as sources
 use Rattle.etherparse.specs.Types.Layer.TheVariants as layers
 use Rattle.etherparse.specs.Types.MacsecHeaderError.{HeaderError as MacsecHeaderError}
 use Rattle.etherparse.specs.HeaderSliceError.{HeaderSliceError}
 use Rattle.etherparse.specs.Bytes.{IsBytes, number}
-use Rattle.etherparse.specs.Macsec.{SecTagFront, BeginsSecTag, ether_type_len, sec_tag_len, known_len, known_payload_len, sec_tag_front_at, sec_tag_front_in, IsRefusedTag}
+use Rattle.etherparse.specs.Macsec.{SecTagFront, BeginsSecTag, ether_type_len, sec_tag_len, known_payload_len, sec_tag_front_at, sec_tag_front_in, IsRefusedTag}
 use Rattle.etherparse.specs.Kind.{Kind}
 use Rattle.etherparse.specs.Kind as kinds
 use Rattle.etherparse.specs.Refusal.{Length, Refuses, AcceptsHeader}
@@ -48,20 +48,16 @@ never_refused l e short six refused = row_accepts short.0 l short.1 short.2 shor
 
 -- ---- the packet that they plan
 
-payload_most : (e c s : ℕ) → unwrap_or (known_len e c s) 0 ≤ s
-payload_most zero zero zero = omega arith
-payload_most zero zero (suc zero) = omega arith
-payload_most zero zero (suc (suc n)) = omega arith
-payload_most zero (suc c) zero = omega arith
-payload_most zero (suc c) (suc n) = omega arith
-payload_most (suc e) c zero = omega arith
-payload_most (suc e) c (suc n) = omega arith
+some_most : (none : Bool) (n : ℕ) → unwrap_or (if none then None else Some n) 0 ≤ n
+some_most true n = omega arith
+some_most false n = omega arith
 
 -- a tag and its payload have at most 79 bytes
 pub tag_most : (t : SecTagFront) → t.sci_present < 2 → t.short_len < 64 → sec_tag_len t + unwrap_or (known_payload_len t) 0 ≤ 79
 tag_most t present short =
     let type = type_len_most t.encrypted t.changed in
-    let payload = payload_most t.encrypted t.changed t.short_len in
+    let n = ether_type_len t.encrypted t.changed in
+    let payload = some_most (nat_eq t.short_len 0 || nat_lt t.short_len n) (t.short_len - n) in
     omega arith
 
 no_type_place : (e c s : ℕ) → ((e ≡ 0) × (c ≡ 0) → ⊥) → type_place e c s ≡ None

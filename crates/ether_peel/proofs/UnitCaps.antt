@@ -15,7 +15,8 @@ use Rattle.etherparse.specs.Refusal.{Refusal, Length, UnsupportedPacketType, Uns
 use Rattle.etherparse.specs.Refusal as rows
 use Rattle.etherparse.proofs.SubLists.{length-part}
 use Rattle.etherparse.proofs.Rows.{one_sec_tag_front, one_arp_front}
-use Rattle.ether_peel.specs.Window.{Window, within, payload_closed, payload}
+use Rattle.ether_peel.specs.Window.{Window, within, payload}
+use Rattle.ether_peel.proofs.Windows.{payload_closed}
 use Rattle.ether_peel.specs.Expectation.{Expectation, announced, after, has_fcs}
 use Rattle.ether_peel.specs.Stack.{Ending, Accepted, Fault, Stack, whole, Walk}
 use Rattle.ether_peel.specs.Endings.{OpenRefusal, named_len}

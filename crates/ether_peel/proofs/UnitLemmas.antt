@@ -1,6 +1,6 @@
 -- SecTags with their payloads, and ARP packets, as the window of the payload has them.
 use Rattle.std.proofs.Common.{◌≡◌, ℕ, zero, suc, ◌+◌, ◌*◌, ◌≤◌, List, length, Bool, true, false, refl, sym, ap, subst, ◌∙◌, arith}
-use Rattle.std.specs.Prelude.{slice_range, Option, Some, None, unwrap_or, ◌||◌}
+use Rattle.std.specs.Prelude.{slice_range, Option, Some, None, ◌||◌}
 use Rattle.std.specs.Option.{is_some}
 use Rattle.etherparse.specs.Types.LenSource.{LenSource}
 use Rattle.etherparse.specs.Types.MacsecSlice.{MacsecSlice}
@@ -19,7 +19,7 @@ use Rattle.etherparse.proofs.SubLists.{length-part, length-part-is, part_of_fron
 use Rattle.etherparse.proofs.Means.{same_front, unit_fits}
 use Rattle.etherparse.proofs.MacsecFields.{sec_tag_front_part}
 use Rattle.etherparse.proofs.Reading.{arp_front_of_part, arp_front_back}
-use Rattle.ether_peel.specs.Window.{payload_finish, payload_closed}
+use Rattle.ether_peel.proofs.Windows.{payload_finish, payload_closed, finish_inside}
 use Rattle.ether_peel.specs.Peel.{ShowsMacsec}
 use Rattle.ether_peel.specs.Expectation.{EtherType, after_payload}
 use Rattle.ether_peel.specs.PeelRead.{after_sec_tag, sec_tag_payload}
@@ -135,11 +135,6 @@ tag_read bytes m n part payload len whole =
       expected = after_typed t.payload_type m.payload _ _ type;
       known = ap known_payload_len taken.front ∙ sym taken.known;
     }
-
--- the payload's window lies in the bytes in which its unit fits
-finish_inside : (o : Option ℕ) (n whole : ℕ) → n + unwrap_or o 0 + 0 ≤ whole → (n ≤ payload_finish n 0 whole o) × (payload_finish n 0 whole o ≤ whole)
-finish_inside None n whole fits = (omega arith, omega arith)
-finish_inside (Some p) n whole fits = (omega arith, omega arith)
 
 -- the payload that was read, by its places in the whole frame
 pub tag_payload_part : (frame : List ℕ) (i j : ℕ) (m : MacsecSlice) (n k : ℕ) (t : SecTagValue) → i ≤ j → j ≤ length frame → Accepts sources.Slice (slice_range frame i j) kinds.Macsec → Means (slice_range frame i j) (headers.Macsec t)

@@ -12,7 +12,8 @@ use Rattle.ether_peel.specs.Window.{Window, within, IsIn, payload}
 use Rattle.ether_peel.specs.Expectation.{Expectation, after}
 use Rattle.ether_peel.specs.Stack.{Ending, last_window, last_expected, Stack, whole}
 use Rattle.ether_peel.specs.WriteBack.{cleared_at, cleared, HeadersGoBack}
-use Rattle.ether_peel.proofs.Carrying.{Leads, leads, payload_in}
+use Rattle.ether_peel.proofs.Carrying.{Leads, leads}
+use Rattle.ether_peel.proofs.Windows.{payload_in}
 use Rattle.ether_peel.proofs.Places.{place_least, leads_after}
 use Rattle.ether_peel.proofs.HeaderBytes.{length-means, cleared_bytes, written}
 

@@ -1,5 +1,5 @@
 -- What is expected at a place, and what that announces.
-use Rattle.std.specs.Prelude.{ℕ, zero, ◌-◌, Option, Some, None, Bool, true, false, nat_eq, if◌then◌else◌, ◌&&◌, ◌==◌}
+use Rattle.std.specs.Prelude.{ℕ, zero, ◌-◌, Option, Some, None, Bool, true, false, nat_eq, option_map, if◌then◌else◌, ◌&&◌, ◌==◌}
 use Rattle.etherparse.specs.Types.LinuxSllProtocolType.{LinuxSllProtocolType}
 use Rattle.etherparse.specs.LinuxSllProtocolType.{link_protocol_of}
 use Rattle.etherparse.specs.Macsec.{PayloadType}
@@ -73,11 +73,9 @@ next_after (headers.Arp a) = AfterArp
 
 -- a limit, after a unit that is an extension or is none
 abbrev pub lowered : Bool → Option ℕ → Option ℕ
-lowered false limit = limit
-lowered true None = None
-lowered true (Some n) = Some (n - 1)
+lowered extension limit = if extension then option_map (λ n. n - 1) limit else limit
 
--- what stands after a unit, where x was expected
+-- what is expected after a unit, if x was expected there
 abbrev pub after : Expectation → Header → Expectation
 after x h = record { next = next_after h; limit = lowered (is_extension (kind_of h)) x.limit }
 

@@ -1,9 +1,8 @@
 -- Feeding: a reader takes longer and longer fronts of a list, and asks for no byte that the walk of a front does not name.
-use Rattle.std.specs.Prelude.{◌≡◌, ℕ, ◌+◌, ◌-◌, ◌<◌, ◌≤◌, max, List, [], ◌∷◌, length, take, Option, Some, None, Bool, true, false}
+use Rattle.std.specs.Prelude.{◌≡◌, ℕ, ◌+◌, ◌-◌, ◌<◌, ◌≤◌, max, List, [], ◌∷◌, length, take, Option, Some, None, is_some, Bool, true, false, ◌||◌}
 use Rattle.etherparse.specs.Kind.{Kind}
 use Rattle.etherparse.specs.Kind as kinds
 use Rattle.etherparse.specs.Header.{Header, kind_of, payload_len}
-use Rattle.ether_peel.specs.Window.{payload_closed}
 use Rattle.ether_peel.specs.Expectation.{Expectation, announced, has_fcs}
 use Rattle.ether_peel.specs.Stack.{Ending, last_window, last_expected, Walk}
 use Rattle.ether_peel.specs.Endings.{refusal_of, OpenRefusal, named_len}
@@ -48,7 +47,7 @@ cap false kinds.Macsec = 3
 -- for these units, the first of them read in a window of this mark
 abbrev pub caps : Bool → List Header → ℕ
 caps closed [] = 0
-caps closed (h ∷ hs) = cap closed (kind_of h) + caps (payload_closed closed (payload_len h)) hs
+caps closed (h ∷ hs) = cap closed (kind_of h) + caps (is_some (payload_len h) || closed) hs
 
 -- for the unit that is announced at an ending, which is the refused one; an accepted ending has none
 abbrev pub announced_cap : Bool → Option Kind → ℕ

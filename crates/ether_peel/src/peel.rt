@@ -1,8 +1,7 @@
 //! The walk through a frame.
-ghost use Rattle.std.specs.Prelude.{◌≡◌, ◌+◌, ◌^◌, ◌<◌, List, length, false, true, Some};
+ghost use Rattle.std.specs.Prelude.{◌≡◌, ◌+◌, ◌^◌, ◌<◌, List, length, false, true, Some, is_some, if◌then◌else◌};
 ghost use Rattle.etherparse.specs.Header.{Header};
 ghost use Rattle.etherparse.specs.LinuxSll.{protocol_type_of_header};
-ghost use Rattle.ether_peel.specs.Window.{payload_bound};
 ghost use Rattle.ether_peel.specs.Expectation.{has_fcs, announced_next, announced_by, lowered as lowered_of, permitted as permitted_of};
 ghost use Rattle.ether_peel.specs.PeelState.{shown_of};
 ghost use Rattle.ether_peel.specs.Stack.{Ending, whole, Walk};
@@ -483,7 +482,7 @@ fn announced_after(payload: MacsecPayloadSlice<'_>) -> (EtherType, RestKind)
 /// The bound of the payload of a SecTag, whose length the tag names or not.
 #[inline(always)]
 fn bound_after(known: Option<usize>, bound: LenSource) -> LenSource
-    ensures { result ≡ payload_bound bound known }
+    ensures { result ≡ (if is_some known then LenSource.MacsecShortLength else bound) }
 {
     match known {
         Some(_) => LenSource::MacsecShortLength,

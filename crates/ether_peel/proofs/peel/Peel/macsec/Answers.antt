@@ -7,7 +7,7 @@ use Rattle.etherparse.specs.Header as headers
 use Rattle.ether_peel.specs.PeelState.{State, shown_of}
 use Rattle.ether_peel.specs.Expectation.{announced, announced_next, permitted}
 use Rattle.ether_peel.specs.PeelStart.{next_shown}
-use Rattle.ether_peel.specs.Window.{payload_closed, payload_bound}
+use Rattle.ether_peel.proofs.Windows.{payload_closed, payload_bound}
 use Rattle.ether_peel.specs.Peel.{Gives, ShowsMacsec}
 use Rattle.ether_peel.specs.declared.peel_unit.PeelUnit.TheVariants as units
 use Rattle.ether_peel.proofs.PeelLemmas.{shown, gives_unit, nearer}
