@@ -118,9 +118,11 @@ def cited(found, text, names, aliases, home=None):
         for it in (token, head):
             if home and it in found[home].words:
                 out.add((home, it))
-            elif home and it in found[home].parts:
+                continue
+            if home and it in found[home].parts:
                 out.add((home, found[home].parts[it]))
-            elif it in names:
+            # a field of a record may have the name of an imported word
+            if it in names:
                 out.add(resolve(found, *names[it]))
     return out - {None}
 
