@@ -15,8 +15,8 @@ NAME = r"[^\s(){}\[\],;.λ∀→=|]+"
 CALLS = {
     "ether_peel/src/peel.rt": ["new", "with_limit", "rest", "offset", "kind", "closed", "bound", "ghost"],
     "ether_peel/src/peel_fault.rt": ["missing"],
-    "ether_peel/src/summarize.rt": ["summary", "summary_limited", "snap", "snap_limited"],
-    "ether_peel/src/written_back.rt": ["write_back", "write_back_limited"],
+    "ether_peel/src/summarizing.rt": ["summary", "summary_limited", "snap", "snap_limited"],
+    "ether_peel/src/writing_back.rt": ["write_back", "write_back_limited"],
     "ether_peel/src/feeding.rt": ["feed", "feed_limited"],
     "ether_peel/src/completing.rt": ["completion", "completion_limited"],
     "ether_tool/src/run.rt": ["run", "run_limited"],

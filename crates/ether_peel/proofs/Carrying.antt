@@ -19,7 +19,7 @@ use Rattle.etherparse.proofs.Means.{unit_fits}
 use Rattle.ether_peel.specs.Window.{Window, within, IsIn, payload}
 use Rattle.ether_peel.proofs.Windows.{payload_from, payload_from_in}
 use Rattle.ether_peel.specs.Expectation.{Expectation, announced_by, announced, announced_next, next_after, Next, EtherType, Sll, after_payload, after}
-use Rattle.ether_peel.proofs.Limits.{announced_is}
+use Rattle.ether_peel.proofs.Announced.{announced_is}
 use Rattle.ether_peel.specs.Stack.{Ending, Accepted, Fault, last_window, last_expected, IsUnit, Stack}
 use Rattle.ether_peel.proofs.LongerBytes.{means_longer, accepts_longer, refuses_longer, longer, IsBelow}
 

@@ -10,7 +10,7 @@ use Rattle.etherparse.proofs.Means.{unit_fits}
 use Rattle.ether_peel.specs.Window.{Window, within, IsIn, payload}
 use Rattle.ether_peel.proofs.Windows.{payload_closed, payload_from, payload_in, payload_narrows}
 use Rattle.ether_peel.specs.Expectation.{Expectation, EtherType, Sll, Sealed, AfterArp, Start, after, has_fcs, next_has_fcs, Next}
-use Rattle.ether_peel.proofs.Limits.{announced_is}
+use Rattle.ether_peel.proofs.Announced.{announced_is}
 use Rattle.ether_peel.specs.Stack.{Ending, Accepted, Fault, last_window, last_expected, Stack, whole, Walk}
 use Rattle.ether_peel.specs.Endings.{refusal_of, IsContent, OpenRefusal, named_len, EndsAlike}
 use Rattle.ether_peel.specs.Cuts.{reach}

@@ -5,6 +5,7 @@ pub mod PeelLemmas
 pub mod SameValues
 pub mod UnitLemmas
 pub mod LongerBytes
+pub mod Announced
 pub mod Limits
 pub mod Carrying
 pub mod Places

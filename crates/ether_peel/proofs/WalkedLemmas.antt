@@ -17,7 +17,8 @@ use Rattle.ether_peel.specs.declared.peel_unit.PeelUnit.{PeelUnit}
 use Rattle.ether_peel.specs.declared.peel_fault.PeelFault.{PeelFault}
 use Rattle.ether_peel.specs.declared.walk_summary.Summary.{Summary}
 use Rattle.ether_peel.proofs.StackLemmas.{some_stack, one_stack}
-use Rattle.ether_peel.proofs.Limits.{limited, SameEnd, leave_alone}
+use Rattle.ether_peel.proofs.Announced.{limited}
+use Rattle.ether_peel.proofs.Limits.{SameEnd, leave_alone}
 use Rattle.ether_peel.proofs.Extensions.{extensions_keep}
 
 -- ---- what was next

@@ -3,7 +3,7 @@ ghost use Rattle.std.specs.Prelude.{◌≡◌, ◌<◌, ◌≤◌, length, slice
 ghost use Rattle.ether_peel.specs.PeelStart.{start_of, start_with, limited_start};
 ghost use Rattle.ether_peel.specs.Completion.{CanBeCompleted, Plan as IsPlan, IsShort, fill as fill_of, first_filled, Completes, NothingToComplete};
 
-use crate::summarize::summarized;
+use crate::summarizing::summarized;
 use crate::{PeelError, Start};
 use arrayvec::ArrayVec;
 use etherparse::MacsecHeaderSlice;

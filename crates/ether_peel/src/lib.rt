@@ -15,8 +15,6 @@
 #![tactic(auto)]
 
 mod completing;
-#[cfg(test)]
-mod derived_traits;
 mod feeding;
 pub mod laws;
 mod peel;
@@ -27,14 +25,14 @@ mod peel_unit;
 mod plain;
 mod rest_kind;
 mod start;
-mod summarize;
+mod summarizing;
 #[cfg(test)]
 mod test_frames;
 #[cfg(test)]
 mod tests;
 mod walk_feed;
 mod walk_summary;
-mod written_back;
+mod writing_back;
 
 pub use completing::{completion, completion_limited};
 pub use feeding::{feed, feed_limited};
@@ -44,7 +42,7 @@ pub use peel_fault::PeelFault;
 pub use peel_unit::PeelUnit;
 pub use rest_kind::RestKind;
 pub use start::Start;
-pub use summarize::{snap, snap_limited, summary, summary_limited};
+pub use summarizing::{snap, snap_limited, summary, summary_limited};
 pub use walk_feed::Feed;
 pub use walk_summary::Summary;
-pub use written_back::{write_back, write_back_limited};
+pub use writing_back::{write_back, write_back_limited};

@@ -2,6 +2,7 @@
 mod bounds;
 mod captured;
 mod compared;
+mod derived_traits;
 mod feeding;
 mod limits;
 mod refusals;

@@ -5,7 +5,7 @@ use Rattle.ether_peel.proofs.Limits.{cut_off}
 use Rattle.ether_peel.proofs.WalkedLemmas.{unlimited_summary}
 use Rattle.ether_peel.specs.PeelStart.{start_of}
 use Rattle.std.specs.Prelude.{Some}
-use Rattle.ether_peel.proofs.summarize.summary_limited.Goals as goal
+use Rattle.ether_peel.proofs.summarizing.summary_limited.Goals as goal
 
 pub returns-clause-front : goal.returns-clause-front
 returns-clause-front c hs ks e f s t =

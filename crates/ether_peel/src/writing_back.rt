@@ -5,7 +5,7 @@ ghost use Rattle.ether_peel.specs.Stack.{Ending, last_window, Walk};
 ghost use Rattle.ether_peel.specs.PeelStart.{start_of, start_with, limited_start};
 ghost use Rattle.ether_peel.specs.WriteBack.{unit_bytes, WritesBack, RefusesBack};
 
-use crate::summarize::summarized;
+use crate::summarizing::summarized;
 use crate::{Peel, PeelUnit, Start};
 use etherparse::err::{Layer, SliceWriteSpaceError};
 

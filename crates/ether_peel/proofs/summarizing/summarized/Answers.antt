@@ -5,7 +5,7 @@ use Rattle.ether_peel.specs.PeelStart.{start_with}
 use Rattle.ether_peel.specs.Peel.{items_left}
 use Rattle.ether_peel.specs.Summary.{IsSummary}
 use Rattle.ether_peel.proofs.WalkedLemmas.{walked_start, walked_unit, walked_fault, walked_none}
-use Rattle.ether_peel.proofs.summarize.summarized.Goals as goal
+use Rattle.ether_peel.proofs.summarizing.summarized.Goals as goal
 
 pub loop-units-init : goal.loop-units-init
 loop-units-init c =

@@ -2,8 +2,8 @@ use Rattle.std.proofs.Common.{ℕ, sym, subst, ap, ◌∙◌, arith, rules}
 use Rattle.ether_peel.specs.PeelStart.{start_with}
 use Rattle.ether_peel.specs.PeelState.{State}
 use Rattle.ether_peel.proofs.WriteBackLemmas.{WritesSoFar, NextAt, Stops, writes_first, next_at, writes_next, rest_ends, writes_back, stops}
-use Rattle.ether_peel.proofs.written_back.put_walk.Goals as goal
-use Rattle.ether_peel.proofs.written_back.put_walk.Goals.{In-Some-Ok, After-rest-rest, in_default, in_default-2}
+use Rattle.ether_peel.proofs.writing_back.put_walk.Goals as goal
+use Rattle.ether_peel.proofs.writing_back.put_walk.Goals.{In-Some-Ok, After-rest-rest, in_default, in_default-2}
 
 pub loop-unit-init : goal.loop-unit-init
 loop-unit-init c =

@@ -1,7 +1,7 @@
 use Rattle.std.proofs.Common.{◌≡◌, ap, ◌∙◌, sym, arith}
 use Rattle.ether_peel.specs.Stack.{Ending, last_window}
 use Rattle.ether_peel.specs.declared.walk_summary.Summary.{Summary}
-use Rattle.ether_peel.proofs.written_back.written.Goals as goal
+use Rattle.ether_peel.proofs.writing_back.written.Goals as goal
 
 pub put_walk-requires : goal.put_walk-requires
 put_walk-requires c = λ hs e walk.

@@ -1,7 +1,7 @@
 use Rattle.std.proofs.Common.{arith}
 use Rattle.ether_peel.specs.PeelStart.{start_with}
 use Rattle.ether_peel.proofs.Cuts.{cuts_keep}
-use Rattle.ether_peel.proofs.summarize.snapped.Goals as goal
+use Rattle.ether_peel.proofs.summarizing.snapped.Goals as goal
 
 pub returns : goal.returns
 returns c =

@@ -3,7 +3,7 @@ use Rattle.std.specs.Iterator.{size}
 use Rattle.ether_peel.specs.PeelStart.{start_with}
 use Rattle.ether_peel.specs.Peel.{items_left}
 use Rattle.ether_peel.proofs.WalkedLemmas.{Walked}
-use Rattle.ether_peel.proofs.summarize.summarized.Given as goal
+use Rattle.ether_peel.proofs.summarizing.summarized.Given as goal
 
 abbrev pub invariant-loop-units : goal.invariant-loop-units
 invariant-loop-units l = (l.units + size (items_left l.peel) ≤ length l.fn.bytes / 4 + 1) × Walked (start_with l.fn.start l.fn.limit) l.fn.bytes l.peel l.units
