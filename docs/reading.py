@@ -93,7 +93,7 @@ def resolve(found, source, name, seen=()):
         root = found.get(re.sub(r"\.specs\..*", ".specs.Lib", source))
         short = source.split(".specs.")[-1]
         for passed, names in root.passed_on if root else []:
-            if names is None and passed.split(".specs.")[-1] == short and passed != source:
+            if names is None and passed.split(".")[-1] == short and passed != source:
                 return resolve(found, passed, name, seen)
         return None
     if name in module.words:

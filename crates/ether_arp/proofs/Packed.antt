@@ -5,7 +5,7 @@ use Rattle.std.specs.Str.{bytes_eq}
 use Rattle.std.proofs.lemmas.Bool.Decides.{same_from_decides, Decides-and, Decides-like}
 use Rattle.std.proofs.lemmas.List.{append_assoc, drop-drop}
 use Rattle.std.proofs.lemmas.Slice.Eq.{bytes_eq-Decides}
-use Rattle.ether_base.specs.Arp.{ArpValue, FitsArp, FitsArpFront, arp_front_in, arp_of}
+use Rattle.ether_base.specs.Formats.Arp.{ArpValue, FitsArp, FitsArpFront, arp_front_in, arp_of}
 use Rattle.ether_base.specs.Bytes.{IsBytes}
 use Rattle.ether_base.proofs.SubLists.{length-part, part_all, part_join, IsBytes-part}
 

@@ -4,13 +4,13 @@ use Rattle.std.specs.Prelude.{slice_range, slice_index}
 use Rattle.std.proofs.lemmas.Bool.{cases_lt}
 use Rattle.std.proofs.lemmas.List.{get_or-take}
 use Rattle.ether_base.specs.declared.len_source.LenSource.{LenSource}
-use Rattle.ether_base.specs.Arp.{ArpValue, ArpFront, BeginsArp, FitsArp, IsArp, arp_front_in, arp_front_of, arp_len, arp_of, arp_with, bytes_at}
+use Rattle.ether_base.specs.Formats.Arp.{ArpValue, ArpFront, BeginsArp, FitsArp, IsArp, arp_front_in, arp_front_of, arp_len, arp_of, arp_with, bytes_at}
 use Rattle.ether_base.specs.Bytes.{IsBytes, number}
-use Rattle.ether_base.specs.Header.{Means}
-use Rattle.ether_base.specs.Header as headers
-use Rattle.ether_base.specs.Kind as kinds
-use Rattle.ether_base.specs.Refusal.{Accepts}
-use Rattle.ether_base.specs.Refusal as rows
+use Rattle.ether_base.specs.Formats.Header.{Means}
+use Rattle.ether_base.specs.Formats.Header as headers
+use Rattle.ether_base.specs.Formats.Kind as kinds
+use Rattle.ether_base.specs.Formats.Refusal.{Accepts}
+use Rattle.ether_base.specs.Formats.Refusal as rows
 use Rattle.ether_base.proofs.ArrayElements.{cells-is}
 use Rattle.ether_base.proofs.SubLists.{length-part, part_of_front, IsBytes-part, number-part_below, number-part_join}
 use Rattle.ether_base.proofs.Rows.{accepts_arp}

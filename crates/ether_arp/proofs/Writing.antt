@@ -1,16 +1,16 @@
 -- The bytes of a packet.
 use Rattle.std.proofs.Common.{◌≡◌, ℕ, ◌/◌, ◌%◌, ◌^◌, ◌<◌, List, [], ◌∷◌, ◌++◌, Ok, Err, refl, sym, ap, ◌∙◌, arith}
 use Rattle.std.specs.Prelude.{Result, IfOk, IfErr}
-use Rattle.ether_base.specs.Arp.{ArpValue, ArpFront, FitsArp, arp_bytes, arp_front_number, arp_front_of}
+use Rattle.ether_base.specs.Formats.Arp.{ArpValue, ArpFront, FitsArp, arp_bytes, arp_front_number, arp_front_of}
 use Rattle.ether_base.specs.Bytes.{IsBytes, number, spelled}
 use Rattle.ether_base.specs.declared.err.len_error.LenError.{LenError}
 use Rattle.ether_base.specs.declared.len_source.LenSource.{LenSource}
 use Rattle.ether_base.specs.declared.len_source.LenSource.TheVariants as sources
-use Rattle.ether_base.specs.Header as headers
-use Rattle.ether_base.specs.Header.{Means}
-use Rattle.ether_base.specs.Kind as kinds
-use Rattle.ether_base.specs.Refusal.{Accepts}
-use Rattle.ether_base.specs.RefusedLen.{IsRefusedLen}
+use Rattle.ether_base.specs.Formats.Header as headers
+use Rattle.ether_base.specs.Formats.Header.{Means}
+use Rattle.ether_base.specs.Formats.Kind as kinds
+use Rattle.ether_base.specs.Formats.Refusal.{Accepts}
+use Rattle.ether_base.specs.Formats.RefusedLen.{IsRefusedLen}
 use Rattle.ether_base.proofs.Numbers.{IsBytes-nil, IsBytes-cons, IsBytes-append, IsBytes-spelled, spelled-is}
 use Rattle.ether_base.proofs.ArrayElements.{cells}
 use Rattle.ether_base.proofs.ReadBack.{means-header_bytes}

@@ -1,6 +1,6 @@
 -- Bytes that hold a packet of the Address Resolution Protocol (RFC 826, "Packet format").
 use Rattle.std.specs.Prelude.{◌≡◌, ℕ, ◌≤◌, List, length}
-use Rattle.ether_base.specs.Arp.{arp_front_in, arp_len}
+use Rattle.ether_base.specs.Formats.Arp.{arp_front_in, arp_len}
 
 -- a list begins with the eight bytes of a front and the addresses that it tells
 pub record BeginsWithArp (bytes : List ℕ) : Type 0 where

@@ -1,6 +1,6 @@
 -- Packets of Ethernet and IPv4: hardware type 1 and 6 bytes (RFC 826), protocol type 0x0800 (RFC 894) and 4 bytes.
 use Rattle.std.specs.Prelude.{◌≡◌, ℕ, ◌*◌, ◌+◌, ◌^◌, List, ◌++◌, length, Result, MatchResult}
-use Rattle.ether_base.specs.Arp.{ArpValue}
+use Rattle.ether_base.specs.Formats.Arp.{ArpValue}
 use Rattle.ether_base.specs.Bytes.{spelled}
 use Rattle.ether_base.specs.declared.err.arp.arp_eth_ipv4_from_error.ArpEthIpv4FromError.{ArpEthIpv4FromError}
 use Rattle.ether_base.specs.declared.err.arp.arp_eth_ipv4_from_error.ArpEthIpv4FromError.TheVariants.{NonMatchingHwType, NonMatchingProtocolType, NonMatchingHwAddrSize, NonMatchingProtoAddrSize}

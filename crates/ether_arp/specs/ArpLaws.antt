@@ -5,12 +5,12 @@ use Rattle.ether_base.specs.declared.err.arp.arp_hw_addr_error.ArpHwAddrError.{A
 use Rattle.ether_base.specs.declared.err.arp.arp_proto_addr_error.ArpProtoAddrError.{ArpProtoAddrError}
 use Rattle.ether_base.specs.declared.err.arp.arp_new_error.ArpNewError.{ArpNewError}
 use Rattle.ether_base.specs.declared.err.arp.arp_eth_ipv4_from_error.ArpEthIpv4FromError.{ArpEthIpv4FromError}
-use Rattle.ether_base.specs.Arp.{ArpValue, FitsArp, arp_bytes, arp_of}
+use Rattle.ether_base.specs.Formats.Arp.{ArpValue, FitsArp, arp_bytes, arp_of}
 use Rattle.ether_base.specs.Bytes.{IsBytes}
-use Rattle.ether_base.specs.Header.{Means}
-use Rattle.ether_base.specs.Header as headers
-use Rattle.ether_base.specs.Kind as kinds
-use Rattle.ether_base.specs.Refusal.{Accepts}
+use Rattle.ether_base.specs.Formats.Header.{Means}
+use Rattle.ether_base.specs.Formats.Header as headers
+use Rattle.ether_base.specs.Formats.Kind as kinds
+use Rattle.ether_base.specs.Formats.Refusal.{Accepts}
 use Rattle.ether_arp.specs.ArpAddresses.{RefusesHwAddrs, AcceptsHwAddrs, RefusesProtoAddrs, AcceptsProtoAddrs, RefusesAddrs, AcceptsAddrs}
 use Rattle.ether_arp.specs.ArpEthIpv4.{RefusesEthIpv4, AcceptsEthIpv4}
 

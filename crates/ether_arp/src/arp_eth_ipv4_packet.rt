@@ -2,7 +2,7 @@
 ghost use Rattle.std.specs.Prelude.{◌≡◌, ◌++◌, Ok, Result};
 ghost use Rattle.std.specs.Net.Addr.{ipv4_octets};
 ghost use Rattle.ether_base.specs.declared.err.arp.arp_eth_ipv4_from_error.ArpEthIpv4FromError.{ArpEthIpv4FromError as from_error};
-ghost use Rattle.ether_base.specs.Arp.{arp_bytes};
+ghost use Rattle.ether_base.specs.Formats.Arp.{arp_bytes};
 ghost use Rattle.ether_arp.specs.ArpEthIpv4.{AnswersEthIpv4, eth_ipv4_bytes, eth_ipv4_view};
 
 use crate::{ArpPacket, arp_fields};

@@ -1,10 +1,10 @@
 //! The fields of an ARP packet in the bytes that begin with it (RFC 826, "Packet format"): hardware type, protocol type,
 //! the two sizes and the operation in eight bytes, then the addresses of the sender and those of the target.
 ghost use Rattle.std.specs.Prelude.{◌≡◌, ◌+◌, ◌*◌, ◌≤◌, ◌<◌, length, drop, IfOk, IfErr};
-ghost use Rattle.ether_base.specs.Arp.{ArpFront, FitsArpFront, arp_front_in, arp_front_number, arp_len, arp_of};
+ghost use Rattle.ether_base.specs.Formats.Arp.{ArpFront, FitsArpFront, arp_front_in, arp_front_number, arp_len, arp_of};
 ghost use Rattle.ether_base.specs.Bytes.{spelled};
-ghost use Rattle.ether_base.specs.Kind as kinds;
-ghost use Rattle.ether_base.specs.RefusedLen.{IsRefusedLen};
+ghost use Rattle.ether_base.specs.Formats.Kind as kinds;
+ghost use Rattle.ether_base.specs.Formats.RefusedLen.{IsRefusedLen};
 ghost use Rattle.ether_arp.specs.Arp.{BeginsWithArp, HoldsArp};
 
 use ether_base::big_endian::u16_of;

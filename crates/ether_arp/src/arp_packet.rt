@@ -6,13 +6,13 @@ ghost use Rattle.std.specs.Cmp.Rules.{comparing, hashing};
 ghost use Rattle.std.specs.Cmp.Lexicographic.{pointwise};
 ghost use Rattle.std.specs.Ordering.{on, eq_of_both};
 ghost use Rattle.ether_base.specs.declared.len_source.LenSource.TheVariants as sources;
-ghost use Rattle.ether_base.specs.Arp.{ArpValue, FitsArp, arp_bytes, arp_front_number, arp_front_of, arp_len};
+ghost use Rattle.ether_base.specs.Formats.Arp.{ArpValue, FitsArp, arp_bytes, arp_front_number, arp_front_of, arp_len};
 ghost use Rattle.ether_base.specs.Bytes.{IsBytes, spelled};
-ghost use Rattle.ether_base.specs.Header as headers;
-ghost use Rattle.ether_base.specs.Header.{Means};
-ghost use Rattle.ether_base.specs.Kind as kinds;
-ghost use Rattle.ether_base.specs.Refusal.{Accepts};
-ghost use Rattle.ether_base.specs.RefusedLen.{IsRefusedLen};
+ghost use Rattle.ether_base.specs.Formats.Header as headers;
+ghost use Rattle.ether_base.specs.Formats.Header.{Means};
+ghost use Rattle.ether_base.specs.Formats.Kind as kinds;
+ghost use Rattle.ether_base.specs.Formats.Refusal.{Accepts};
+ghost use Rattle.ether_base.specs.Formats.RefusedLen.{IsRefusedLen};
 ghost use Rattle.ether_arp.specs.ArpAddresses.{AcceptsAddrs, AcceptsHwAddrs, AcceptsProtoAddrs, RefusesAddrs, RefusesHwAddrs, RefusesProtoAddrs};
 ghost use Rattle.ether_arp.specs.ArpEthIpv4.{AnswersEthIpv4};
 
@@ -60,7 +60,7 @@ pub struct ArpPacket {
 
 impl Model for ArpPacket {
     ghost use Rattle.std.specs.Prelude.{◌≡◌, ◌+◌, ◌*◌, length, slice_range};
-    ghost use Rattle.ether_base.specs.Arp.{ArpValue};
+    ghost use Rattle.ether_base.specs.Formats.Arp.{ArpValue};
     ghost use Rattle.ether_base.specs.Bytes.{IsBytes};
 
     ghost Value = { ArpValue };

@@ -3,9 +3,9 @@ use Rattle.std.proofs.Common.{◌≡◌, ℕ, ◌*◌, ◌/◌, ◌%◌, ◌^◌
 use Rattle.std.proofs.lemmas.List.{length-append}
 use Rattle.std.specs.Prelude.{slice_range}
 use Rattle.ether_base.specs.Bytes.{IsBytes, number, spelled}
-use Rattle.ether_base.specs.Ethernet2.{Ethernet2Value, IsEthernet2, ethernet2_bytes, ethernet2_of}
-use Rattle.ether_base.specs.Header.{Means}
-use Rattle.ether_base.specs.Header as headers
+use Rattle.ether_base.specs.Formats.Ethernet2.{Ethernet2Value, IsEthernet2, ethernet2_bytes, ethernet2_of}
+use Rattle.ether_base.specs.Formats.Header.{Means}
+use Rattle.ether_base.specs.Formats.Header as headers
 use Rattle.ether_base.proofs.Numbers.{IsBytes-two, IsBytes-append, number-append, number_below, spelled-is}
 use Rattle.ether_base.proofs.SubLists.{part_all, number-part_below, number-part_join}
 use Rattle.ether_base.proofs.ArrayElements.{cells, cells-all}

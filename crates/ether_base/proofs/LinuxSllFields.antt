@@ -4,11 +4,11 @@ use Rattle.std.proofs.lemmas.List.{length-append}
 use Rattle.std.specs.Prelude.{slice_range}
 use Rattle.ether_base.specs.declared.len_source.LenSource.{LenSource}
 use Rattle.ether_base.specs.Bytes.{IsBytes, number, spelled}
-use Rattle.ether_base.specs.LinuxSll.{LinuxSllValue, IsLinuxSll, BeginsLinuxSll, linux_sll_bytes, linux_sll_of, is_supported}
-use Rattle.ether_base.specs.Header.{Means}
-use Rattle.ether_base.specs.Header as headers
-use Rattle.ether_base.specs.Kind as kinds
-use Rattle.ether_base.specs.Refusal.{Accepts}
+use Rattle.ether_base.specs.Formats.LinuxSll.{LinuxSllValue, IsLinuxSll, BeginsLinuxSll, linux_sll_bytes, linux_sll_of, is_supported}
+use Rattle.ether_base.specs.Formats.Header.{Means}
+use Rattle.ether_base.specs.Formats.Header as headers
+use Rattle.ether_base.specs.Formats.Kind as kinds
+use Rattle.ether_base.specs.Formats.Refusal.{Accepts}
 use Rattle.ether_base.proofs.Numbers.{IsBytes-two, IsBytes-append, number-append, number_below, spelled-is}
 use Rattle.ether_base.proofs.SubLists.{part_all, part_of_front, number-part_below, number-part_join}
 use Rattle.ether_base.proofs.ArrayElements.{cells, cells-all}

@@ -4,12 +4,12 @@ use Rattle.std.specs.Prelude.{slice_range}
 use Rattle.std.proofs.lemmas.List.{length-append}
 use Rattle.ether_base.specs.declared.len_source.LenSource.{LenSource}
 use Rattle.ether_base.specs.Bytes.{IsBytes, number}
-use Rattle.ether_base.specs.Macsec.{SecTagValue, BeginsSecTag, FitsSecTag, sec_tag_bytes, sec_tag_front_of, sec_tag_front_at, sec_tag_front_in, sec_tag_len, sec_tag_of}
-use Rattle.ether_base.specs.Kind as kinds
-use Rattle.ether_base.specs.Header.{Means}
-use Rattle.ether_base.specs.Header as headers
-use Rattle.ether_base.specs.Refusal.{InvalidShortLen, IsTooShort, RefusesHeader, AcceptsHeader}
-use Rattle.ether_base.specs.Refusal as rows
+use Rattle.ether_base.specs.Formats.Macsec.{SecTagValue, BeginsSecTag, FitsSecTag, sec_tag_bytes, sec_tag_front_of, sec_tag_front_at, sec_tag_front_in, sec_tag_len, sec_tag_of}
+use Rattle.ether_base.specs.Formats.Kind as kinds
+use Rattle.ether_base.specs.Formats.Header.{Means}
+use Rattle.ether_base.specs.Formats.Header as headers
+use Rattle.ether_base.specs.Formats.Refusal.{InvalidShortLen, IsTooShort, RefusesHeader, AcceptsHeader}
+use Rattle.ether_base.specs.Formats.Refusal as rows
 use Rattle.ether_base.proofs.Rows.{sec_tag_front_read, accepts_tag}
 use Rattle.ether_base.proofs.SubLists.{length-part, IsBytes-part, part_of_front, part-append}
 use Rattle.ether_base.proofs.Means.{tag_means, means_whole}

@@ -3,17 +3,17 @@ use Rattle.std.proofs.Common.{◌≡◌, ℕ, zero, suc, ◌+◌, ◌*◌, ◌<�
 use Rattle.std.specs.Prelude.{slice_range, Option, Some, None, unwrap_or}
 use Rattle.ether_base.specs.declared.len_source.LenSource.{LenSource}
 use Rattle.ether_base.specs.Bytes.{IsBytes, number}
-use Rattle.ether_base.specs.Macsec.{SecTagFront, BeginsSecTag, sec_tag_len, known_payload_len, PayloadType, Unmodified, Modified, Encrypted, EncryptedUnmodified, SecTagValue, encrypted_of, changed_of, sci_present_of, sec_tag_front_of, ether_type_len, FitsSecTagFront, HasSci, HasEtherType, IsSecTag, payload_type_for, sci_for, sec_tag_with}
-use Rattle.ether_base.specs.Arp.{ArpValue, ArpFront, BeginsArp, arp_front_of, arp_len, bytes_at, IsArp}
-use Rattle.ether_base.specs.Kind.{Kind}
-use Rattle.ether_base.specs.Kind as kinds
-use Rattle.ether_base.specs.Ethernet2.{ethernet2_of}
-use Rattle.ether_base.specs.Vlan.{vlan_of}
-use Rattle.ether_base.specs.LinuxSll.{linux_sll_of}
-use Rattle.ether_base.specs.Header.{Header, kind_of, header_len, Spells, Means, trailer_len, unit_len}
-use Rattle.ether_base.specs.Header as headers
-use Rattle.ether_base.specs.Refusal.{IsTooShort, Accepts}
-use Rattle.ether_base.specs.Refusal as rows
+use Rattle.ether_base.specs.Formats.Macsec.{SecTagFront, BeginsSecTag, sec_tag_len, known_payload_len, PayloadType, Unmodified, Modified, Encrypted, EncryptedUnmodified, SecTagValue, encrypted_of, changed_of, sci_present_of, sec_tag_front_of, ether_type_len, FitsSecTagFront, HasSci, HasEtherType, IsSecTag, payload_type_for, sci_for, sec_tag_with}
+use Rattle.ether_base.specs.Formats.Arp.{ArpValue, ArpFront, BeginsArp, arp_front_of, arp_len, bytes_at, IsArp}
+use Rattle.ether_base.specs.Formats.Kind.{Kind}
+use Rattle.ether_base.specs.Formats.Kind as kinds
+use Rattle.ether_base.specs.Formats.Ethernet2.{ethernet2_of}
+use Rattle.ether_base.specs.Formats.Vlan.{vlan_of}
+use Rattle.ether_base.specs.Formats.LinuxSll.{linux_sll_of}
+use Rattle.ether_base.specs.Formats.Header.{Header, kind_of, header_len, Spells, Means, trailer_len, unit_len}
+use Rattle.ether_base.specs.Formats.Header as headers
+use Rattle.ether_base.specs.Formats.Refusal.{IsTooShort, Accepts}
+use Rattle.ether_base.specs.Formats.Refusal as rows
 use Rattle.ether_base.proofs.Values.{ethernet2_unique, vlan_unique, linux_sll_unique}
 use Rattle.ether_base.proofs.Ethernet2Fields.{ethernet2_means, ethernet2_read}
 use Rattle.ether_base.proofs.VlanFields.{vlan_means}

@@ -4,7 +4,7 @@ use Rattle.std.specs.Prelude.{Option, if◌then◌else◌, ◌==◌}
 use Rattle.std.specs.Option.{option_or, option_copied}
 use Rattle.std.proofs.lemmas.Bool.{cases_lt}
 use Rattle.std.specs.Fmt.{digits, digits_onto, digit_glyph, char_count, padded_integral, format_spec}
-use Rattle.ether_base.specs.NumberText.{description_in, hex_number}
+use Rattle.ether_base.specs.Texts.NumberText.{description_in, hex_number}
 
 -- a table of two parts: the first part is asked first
 pub description_in-append : (first second : List (ℕ × List ℕ)) (number : ℕ)

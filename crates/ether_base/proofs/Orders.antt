@@ -9,11 +9,11 @@ use Rattle.ether_base.specs.declared.len_source.LenSource.{LenSource}
 use Rattle.ether_base.specs.declared.len_source.LenSource.TheVariants as len_sources
 use Rattle.ether_base.specs.declared.linux_sll_protocol_type.LinuxSllProtocolType.{LinuxSllProtocolType}
 use Rattle.ether_base.specs.declared.linux_sll_protocol_type.LinuxSllProtocolType.TheVariants as protocol_types
-use Rattle.ether_base.specs.Layer.{layer_place}
-use Rattle.ether_base.specs.ValueType.{value_type_place}
-use Rattle.ether_base.specs.LenSource.{len_source_place}
-use Rattle.ether_base.specs.LinuxSllProtocolType.{protocol_place, protocol_number}
-use Rattle.ether_base.specs.Orders.{layer_cmp, value_type_cmp, len_source_cmp, protocol_type_cmp}
+use Rattle.ether_base.specs.Enumerations.Layer.{layer_place}
+use Rattle.ether_base.specs.Enumerations.ValueType.{value_type_place}
+use Rattle.ether_base.specs.Enumerations.LenSource.{len_source_place}
+use Rattle.ether_base.specs.Formats.LinuxSllProtocolType.{protocol_place, protocol_number}
+use Rattle.ether_base.specs.Enumerations.Orders.{layer_cmp, value_type_cmp, len_source_cmp, protocol_type_cmp}
 
 pub layers_by_place : (a b : Layer) → layer_cmp a b ≡ on layer_place nat_cmp a b
 layers_by_place layers.LinuxSllHeader = search rules

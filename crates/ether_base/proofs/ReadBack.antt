@@ -3,13 +3,13 @@ use Rattle.std.proofs.Common.{◌≡◌, ℕ, ◌+◌, ◌*◌, ◌^◌, ◌<◌
 use Rattle.std.specs.Prelude.{slice_range, Option, Some, None}
 use Rattle.std.proofs.lemmas.List.{length-append, append_assoc, append-nil}
 use Rattle.ether_base.specs.Bytes.{number, spelled}
-use Rattle.ether_base.specs.Ethernet2.{ethernet2_number}
-use Rattle.ether_base.specs.Vlan.{vlan_number}
-use Rattle.ether_base.specs.LinuxSll.{linux_sll_number}
-use Rattle.ether_base.specs.Macsec.{BeginsSecTag, sec_tag_front_number, PayloadType, Unmodified, Modified, Encrypted, EncryptedUnmodified, SecTagValue, encrypted_of, changed_of, ether_type_len, sci_present_of, sec_tag_front_of, sec_tag_len, HasSci, HasEtherType, IsSecTag, FitsSci, FitsPayloadType, FitsSecTag, sci_bytes, ether_type_bytes, sec_tag_bytes}
-use Rattle.ether_base.specs.Arp.{ArpValue, FitsArp, IsArp, arp_front_of, arp_front_number, arp_len, arp_bytes}
-use Rattle.ether_base.specs.Header.{Header, header_len, header_bytes, Spells, Means, FitsHeader}
-use Rattle.ether_base.specs.Header as headers
+use Rattle.ether_base.specs.Formats.Ethernet2.{ethernet2_number}
+use Rattle.ether_base.specs.Formats.Vlan.{vlan_number}
+use Rattle.ether_base.specs.Formats.LinuxSll.{linux_sll_number}
+use Rattle.ether_base.specs.Formats.Macsec.{BeginsSecTag, sec_tag_front_number, PayloadType, Unmodified, Modified, Encrypted, EncryptedUnmodified, SecTagValue, encrypted_of, changed_of, ether_type_len, sci_present_of, sec_tag_front_of, sec_tag_len, HasSci, HasEtherType, IsSecTag, FitsSci, FitsPayloadType, FitsSecTag, sci_bytes, ether_type_bytes, sec_tag_bytes}
+use Rattle.ether_base.specs.Formats.Arp.{ArpValue, FitsArp, IsArp, arp_front_of, arp_front_number, arp_len, arp_bytes}
+use Rattle.ether_base.specs.Formats.Header.{Header, header_len, header_bytes, Spells, Means, FitsHeader}
+use Rattle.ether_base.specs.Formats.Header as headers
 use Rattle.ether_base.proofs.Numbers.{length-spelled, number-spelled}
 use Rattle.ether_base.proofs.SubLists.{part-append, part_all, part_after_front}
 

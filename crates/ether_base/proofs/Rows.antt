@@ -7,16 +7,16 @@ use Rattle.ether_base.specs.declared.len_source.LenSource.TheVariants as sources
 use Rattle.ether_base.specs.declared.err.layer.Layer.{Layer}
 use Rattle.ether_base.specs.declared.err.layer.Layer.TheVariants as layers
 use Rattle.ether_base.specs.Bytes.{IsBytes, number}
-use Rattle.ether_base.specs.LinuxSll.{LinuxSllValue, BeginsLinuxSll, is_supported}
-use Rattle.ether_base.specs.Macsec.{SecTagFront, BeginsSecTag, sec_tag_len, known_payload_len, sec_tag_front_in}
-use Rattle.ether_base.specs.Arp.{ArpFront, BeginsArp, arp_len}
-use Rattle.ether_base.specs.Kind.{Kind}
-use Rattle.ether_base.specs.Kind as kinds
-use Rattle.ether_base.specs.Refusal.{Refusal, Length, UnsupportedPacketType, UnsupportedHardwareType, UnexpectedVersion, InvalidShortLen, IsTooShort, Refuses, Accepts, IsOfPayload, AcceptsHeader}
+use Rattle.ether_base.specs.Formats.LinuxSll.{LinuxSllValue, BeginsLinuxSll, is_supported}
+use Rattle.ether_base.specs.Formats.Macsec.{SecTagFront, BeginsSecTag, sec_tag_len, known_payload_len, sec_tag_front_in}
+use Rattle.ether_base.specs.Formats.Arp.{ArpFront, BeginsArp, arp_len}
+use Rattle.ether_base.specs.Formats.Kind.{Kind}
+use Rattle.ether_base.specs.Formats.Kind as kinds
+use Rattle.ether_base.specs.Formats.Refusal.{Refusal, Length, UnsupportedPacketType, UnsupportedHardwareType, UnexpectedVersion, InvalidShortLen, IsTooShort, Refuses, Accepts, IsOfPayload, AcceptsHeader}
 use Rattle.ether_base.proofs.Numbers.{number_below}
 use Rattle.ether_base.proofs.Values.{sec_tag_front_unique, sec_tag_front_exists, linux_sll_unique, linux_sll_at, linux_sll_exists, arp_front_unique, arp_front_at, arp_front_exists}
 use Rattle.ether_base.proofs.SubLists.{length-part, IsBytes-part}
-use Rattle.ether_base.specs.Refusal as rows
+use Rattle.ether_base.specs.Formats.Refusal as rows
 
 -- what is not below a number is at least that number
 pub at_least : (a b : ℕ) → (a < b → ⊥) → b ≤ a

@@ -1,10 +1,10 @@
 -- Each number of a format's fields is that of one value, and each number that has room is one.
 use Rattle.std.proofs.Common.{◌≡◌, ℕ, ◌/◌, ◌%◌, ◌^◌, ◌<◌, arith}
-use Rattle.ether_base.specs.Ethernet2.{Ethernet2Value, ethernet2_number, FitsEthernet2}
-use Rattle.ether_base.specs.Vlan.{VlanValue, vlan_number, FitsVlan}
-use Rattle.ether_base.specs.LinuxSll.{LinuxSllValue, linux_sll_number, FitsLinuxSll}
-use Rattle.ether_base.specs.Macsec.{SecTagFront, sec_tag_front_number, FitsSecTagFront, sec_tag_front_at}
-use Rattle.ether_base.specs.Arp.{ArpFront, arp_front_number, FitsArpFront}
+use Rattle.ether_base.specs.Formats.Ethernet2.{Ethernet2Value, ethernet2_number, FitsEthernet2}
+use Rattle.ether_base.specs.Formats.Vlan.{VlanValue, vlan_number, FitsVlan}
+use Rattle.ether_base.specs.Formats.LinuxSll.{LinuxSllValue, linux_sll_number, FitsLinuxSll}
+use Rattle.ether_base.specs.Formats.Macsec.{SecTagFront, sec_tag_front_number, FitsSecTagFront, sec_tag_front_at}
+use Rattle.ether_base.specs.Formats.Arp.{ArpFront, arp_front_number, FitsArpFront}
 
 pub ethernet2_unique : (v w : Ethernet2Value) → FitsEthernet2 v → FitsEthernet2 w → ethernet2_number v ≡ ethernet2_number w → v ≡ w
 ethernet2_unique v w f g e =

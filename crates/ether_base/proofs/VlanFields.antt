@@ -2,9 +2,9 @@
 use Rattle.std.proofs.Common.{◌≡◌, ℕ, ◌≤◌, List, length, sym, ap, ◌∙◌, arith}
 use Rattle.std.specs.Prelude.{slice_range}
 use Rattle.ether_base.specs.Bytes.{IsBytes, spelled}
-use Rattle.ether_base.specs.Vlan.{VlanValue, IsVlan, vlan_bytes, vlan_of}
-use Rattle.ether_base.specs.Header.{Means}
-use Rattle.ether_base.specs.Header as headers
+use Rattle.ether_base.specs.Formats.Vlan.{VlanValue, IsVlan, vlan_bytes, vlan_of}
+use Rattle.ether_base.specs.Formats.Header.{Means}
+use Rattle.ether_base.specs.Formats.Header as headers
 use Rattle.ether_base.proofs.Numbers.{spelled-is}
 use Rattle.ether_base.proofs.SubLists.{part_all, number-part_below, number-part_join}
 

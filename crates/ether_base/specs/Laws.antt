@@ -3,14 +3,14 @@ use Rattle.std.specs.Prelude.{◌≡◌, ◌⊎◌, ℕ, ◌<◌, ◌≤◌, ◌
 use Rattle.ether_base.specs.declared.err.layer.Layer.{Layer}
 use Rattle.ether_base.specs.declared.len_source.LenSource.{LenSource}
 use Rattle.ether_base.specs.Bytes.{IsBytes, number, spelled}
-use Rattle.ether_base.specs.Ethernet2.{ethernet2_of}
-use Rattle.ether_base.specs.Vlan.{vlan_of}
-use Rattle.ether_base.specs.LinuxSll.{linux_sll_of}
-use Rattle.ether_base.specs.Macsec.{sec_tag_front_in, sec_tag_len, sec_tag_of}
-use Rattle.ether_base.specs.Kind.{Kind}
-use Rattle.ether_base.specs.Header.{Header, kind_of, header_len, header_bytes, Means, FitsHeader}
-use Rattle.ether_base.specs.Header as headers
-use Rattle.ether_base.specs.Refusal.{Refusal, Length, Refuses, Accepts}
+use Rattle.ether_base.specs.Formats.Ethernet2.{ethernet2_of}
+use Rattle.ether_base.specs.Formats.Vlan.{vlan_of}
+use Rattle.ether_base.specs.Formats.LinuxSll.{linux_sll_of}
+use Rattle.ether_base.specs.Formats.Macsec.{sec_tag_front_in, sec_tag_len, sec_tag_of}
+use Rattle.ether_base.specs.Formats.Kind.{Kind}
+use Rattle.ether_base.specs.Formats.Header.{Header, kind_of, header_len, header_bytes, Means, FitsHeader}
+use Rattle.ether_base.specs.Formats.Header as headers
+use Rattle.ether_base.specs.Formats.Refusal.{Refusal, Length, Refuses, Accepts}
 
 -- k bytes have one number, and each number below 256 ^ k is that of the k bytes that spell it
 pub record NumbersAreBytes : Type 0 where

@@ -1,8 +1,8 @@
 //! The hardware types of ARP and of Linux cooked capture.
 ghost use Rattle.std.specs.Prelude.{◌≡◌};
 ghost use Rattle.std.specs.Option.{option_copied};
-ghost use Rattle.ether_base.specs.NumberText.{description_in};
-ghost use Rattle.ether_base.specs.ArpHardwareId.{arp_hardware_description, assigned_descriptions, link_descriptions, device_descriptions};
+ghost use Rattle.ether_base.specs.Texts.NumberText.{description_in};
+ghost use Rattle.ether_base.specs.Enumerations.ArpHardwareId.{arp_hardware_description, assigned_descriptions, link_descriptions, device_descriptions};
 
 use crate::number_text::ShownArpHardwareId;
 use std::fmt;
@@ -312,7 +312,7 @@ impl ArpHardwareId {
     }
 
     /// The description of a hardware type that ARP has a number for.
-    #[tactic(auto, unfolding(crate::specs::ArpHardwareId::assigned_descriptions))]
+    #[tactic(auto, unfolding(crate::specs::Enumerations::ArpHardwareId::assigned_descriptions))]
     fn assigned_name(self) -> Option<&'static str>
         ensures { option_copied result ≡ description_in assigned_descriptions self.0 }
     {
@@ -361,7 +361,7 @@ impl ArpHardwareId {
     }
 
     /// The description of a link type that Linux numbers from 256 on.
-    #[tactic(auto, unfolding(crate::specs::ArpHardwareId::link_descriptions))]
+    #[tactic(auto, unfolding(crate::specs::Enumerations::ArpHardwareId::link_descriptions))]
     fn link_name(self) -> Option<&'static str>
         ensures { option_copied result ≡ description_in link_descriptions self.0 }
     {
@@ -387,7 +387,7 @@ impl ArpHardwareId {
     }
 
     /// The description of a device that Linux numbers from 768 on.
-    #[tactic(auto, unfolding(crate::specs::ArpHardwareId::device_descriptions))]
+    #[tactic(auto, unfolding(crate::specs::Enumerations::ArpHardwareId::device_descriptions))]
     fn device_name(self) -> Option<&'static str>
         ensures { option_copied result ≡ description_in device_descriptions self.0 }
     {

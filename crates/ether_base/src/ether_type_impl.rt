@@ -1,7 +1,7 @@
 //! The number that says which protocol follows a header.
 ghost use Rattle.std.specs.Prelude.{◌≡◌};
 ghost use Rattle.std.specs.Option.{option_copied};
-ghost use Rattle.ether_base.specs.EtherType.{ether_type_description};
+ghost use Rattle.ether_base.specs.Enumerations.EtherType.{ether_type_description};
 
 use crate::ether_type;
 use crate::number_text::ShownEtherType;
@@ -51,7 +51,7 @@ impl EtherType {
     pub const VLAN_DOUBLE_TAGGED_FRAME: EtherType = ether_type::VLAN_DOUBLE_TAGGED_FRAME;
 
     /// The description of the ether type, if it is one of the constants.
-    #[tactic(auto, unfolding(crate::specs::EtherType::ether_type_description))]
+    #[tactic(auto, unfolding(crate::specs::Enumerations::EtherType::ether_type_description))]
     pub fn name(&self) -> Option<&'static str>
         ensures { option_copied result ≡ ether_type_description self.now.0 }
     {

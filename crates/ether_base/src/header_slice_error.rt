@@ -1,6 +1,6 @@
 //! Why a header can't be read from a slice, whatever its format.
 ghost use Rattle.std.specs.Prelude.{◌≡◌};
-ghost use Rattle.ether_base.specs.HeaderSliceError.{FitsMoved, moved, header_slice_error_text};
+ghost use Rattle.ether_base.specs.Texts.HeaderSliceError.{FitsMoved, moved, header_slice_error_text};
 
 use crate::err::LenError;
 use std::error::Error;

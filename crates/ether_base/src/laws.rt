@@ -1,7 +1,7 @@
 //! The laws of the wire formats and of the orders. Each is the contract of a function that does nothing: its clause holds
 //! for every list of bytes and for every two values.
 ghost use Rattle.ether_base.specs.Laws.{NumbersAreBytes, RowsAreApart, LengthRowsAreShort, HeadersAreMeant, BytesMeanTheirHeader};
-ghost use Rattle.ether_base.specs.Orders.{OrdersAreByVariants};
+ghost use Rattle.ether_base.specs.Enumerations.Orders.{OrdersAreByVariants};
 
 /// A list of bytes has one number, and each number that has room in k bytes is that of the k bytes that spell it.
 pub fn numbers_are_bytes()

@@ -1,6 +1,6 @@
 //! Where a length comes from.
 ghost use Rattle.std.specs.Prelude.{◌≡◌};
-ghost use Rattle.ether_base.specs.LenSource.{len_source_name};
+ghost use Rattle.ether_base.specs.Enumerations.LenSource.{len_source_name};
 
 /// Where a length was taken from: the slice that was passed in, or a length field of a header.
 ///

@@ -1,7 +1,7 @@
 //! Protocols that Linux numbers below the ether types.
 ghost use Rattle.std.specs.Prelude.{◌≡◌};
 ghost use Rattle.std.specs.Option.{option_copied};
-ghost use Rattle.ether_base.specs.LinuxNonstandardEtherType.{nonstandard_description};
+ghost use Rattle.ether_base.specs.Enumerations.LinuxNonstandardEtherType.{nonstandard_description};
 
 use crate::number_text::HexNumber;
 use std::fmt;
@@ -22,7 +22,7 @@ pub struct LinuxNonstandardEtherType(u16);
 
 impl Model for LinuxNonstandardEtherType {
     ghost use Rattle.std.specs.Prelude.{ℕ, IsTrue};
-    ghost use Rattle.ether_base.specs.LinuxNonstandardEtherType.{is_nonstandard};
+    ghost use Rattle.ether_base.specs.Enumerations.LinuxNonstandardEtherType.{is_nonstandard};
 
     ghost Value = { ℕ };
 
@@ -131,7 +131,7 @@ impl TryFrom<u16> for LinuxNonstandardEtherType {
     type Error = ();
 
     ghost use Rattle.std.specs.Prelude.{MatchResult, true, false};
-    ghost use Rattle.ether_base.specs.LinuxNonstandardEtherType.{is_nonstandard};
+    ghost use Rattle.ether_base.specs.Enumerations.LinuxNonstandardEtherType.{is_nonstandard};
 
     ghost try_from_gives = { λ number r. MatchResult r (λ ether_type. (is_nonstandard number ≡ true) × (ether_type ≡ number)) (λ _. is_nonstandard number ≡ false) };
 
@@ -146,7 +146,7 @@ impl TryFrom<u16> for LinuxNonstandardEtherType {
 
 impl From<LinuxNonstandardEtherType> for u16 {
     ghost use Rattle.std.specs.Prelude.{IsTrue};
-    ghost use Rattle.ether_base.specs.LinuxNonstandardEtherType.{is_nonstandard};
+    ghost use Rattle.ether_base.specs.Enumerations.LinuxNonstandardEtherType.{is_nonstandard};
 
     ghost from_gives = { λ ether_type number. (number ≡ ether_type) × IsTrue (is_nonstandard number) };
 

@@ -1,8 +1,8 @@
 //! How a packet of a cooked capture was sent.
 ghost use Rattle.std.specs.Prelude.{◌≡◌, ◌≤◌, ◌<◌};
 ghost use Rattle.std.specs.Option.{option_copied};
-ghost use Rattle.ether_base.specs.LinuxSllPacketType.{packet_type_descriptions};
-ghost use Rattle.ether_base.specs.NumberText.{description_in};
+ghost use Rattle.ether_base.specs.Enumerations.LinuxSllPacketType.{packet_type_descriptions};
+ghost use Rattle.ether_base.specs.Texts.NumberText.{description_in};
 
 use crate::err::linux_sll::HeaderError;
 use std::fmt;

@@ -1,6 +1,6 @@
 //! The protocol that a packet of a cooked capture carries.
 ghost use Rattle.std.specs.Prelude.{◌≡◌};
-ghost use Rattle.ether_base.specs.LinuxSllProtocolType.{ethernet_protocol_type, protocol_type_of, protocol_number, with_number};
+ghost use Rattle.ether_base.specs.Formats.LinuxSllProtocolType.{ethernet_protocol_type, protocol_type_of, protocol_number, with_number};
 
 use crate::err::linux_sll::HeaderError;
 use crate::{ArpHardwareId, EtherType, LinuxNonstandardEtherType};

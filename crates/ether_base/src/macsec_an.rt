@@ -71,7 +71,7 @@ impl From<MacsecAn> for u8 {
 impl TryFrom<u8> for MacsecAn {
     type Error = ValueTooBigError<u8>;
 
-    ghost use Rattle.ether_base.specs.BoundedField.{TakesUpTo};
+    ghost use Rattle.ether_base.specs.Enumerations.BoundedField.{TakesUpTo};
     ghost use Rattle.ether_base.specs.declared.err.value_type.ValueType.TheVariants as value_type;
 
     ghost try_from_gives = { TakesUpTo 3 value_type.MacsecAn };

@@ -14,7 +14,7 @@ use std::fmt;
 pub struct HexNumber(pub u16);
 
 impl fmt::Display for HexNumber {
-    ghost use Rattle.ether_base.specs.NumberText.{hex_number};
+    ghost use Rattle.ether_base.specs.Texts.NumberText.{hex_number};
 
     ghost output = { λ hex. Some (hex_number hex.0) };
 
@@ -29,7 +29,7 @@ impl fmt::Display for HexNumber {
 pub(crate) struct ShownEtherType(pub EtherType);
 
 impl fmt::Display for ShownEtherType {
-    ghost use Rattle.ether_base.specs.EtherType.{shown_ether_type};
+    ghost use Rattle.ether_base.specs.Enumerations.EtherType.{shown_ether_type};
 
     ghost output = { λ shown. Some (shown_ether_type shown.0.0) };
 
@@ -47,7 +47,7 @@ impl fmt::Display for ShownEtherType {
 pub(crate) struct ShownArpHardwareId(pub ArpHardwareId);
 
 impl fmt::Display for ShownArpHardwareId {
-    ghost use Rattle.ether_base.specs.ArpHardwareId.{shown_arp_hardware_id};
+    ghost use Rattle.ether_base.specs.Enumerations.ArpHardwareId.{shown_arp_hardware_id};
 
     ghost output = { λ shown. Some (shown_arp_hardware_id shown.0.0) };
 

@@ -71,7 +71,7 @@ impl From<VlanId> for u16 {
 impl TryFrom<u16> for VlanId {
     type Error = ValueTooBigError<u16>;
 
-    ghost use Rattle.ether_base.specs.BoundedField.{TakesUpTo};
+    ghost use Rattle.ether_base.specs.Enumerations.BoundedField.{TakesUpTo};
     ghost use Rattle.ether_base.specs.declared.err.value_type.ValueType.TheVariants as value_type;
 
     ghost try_from_gives = { TakesUpTo 4095 value_type.VlanId };

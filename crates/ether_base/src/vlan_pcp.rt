@@ -71,7 +71,7 @@ impl From<VlanPcp> for u8 {
 impl TryFrom<u8> for VlanPcp {
     type Error = ValueTooBigError<u8>;
 
-    ghost use Rattle.ether_base.specs.BoundedField.{TakesUpTo};
+    ghost use Rattle.ether_base.specs.Enumerations.BoundedField.{TakesUpTo};
     ghost use Rattle.ether_base.specs.declared.err.value_type.ValueType.TheVariants as value_type;
 
     ghost try_from_gives = { TakesUpTo 7 value_type.VlanPcp };

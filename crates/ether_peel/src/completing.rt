@@ -1,7 +1,7 @@
 //! The bytes that complete a unit of which a frame has only the first bytes.
 ghost use Rattle.std.specs.Prelude.{◌≡◌, ◌<◌, ◌≤◌, length, slice_index, MatchOption};
-ghost use Rattle.ether_peel.specs.PeelStart.{start_of, start_with, limited_start};
-ghost use Rattle.ether_peel.specs.Completion.{CanBeCompleted, Plan as IsPlan, IsShort, fill as fill_of, first_filled, Completes, NothingToComplete};
+ghost use Rattle.ether_peel.specs.Walker.Start.{start_of, start_with, limited_start};
+ghost use Rattle.ether_peel.specs.Grammar.Completion.{CanBeCompleted, Plan as IsPlan, IsShort, fill as fill_of, first_filled, Completes, NothingToComplete};
 
 use crate::summarizing::summarized;
 use crate::{PeelError, Start};

@@ -1,8 +1,8 @@
 //! A walk that is given a frame by and by, and no byte that it did not ask for.
 ghost use Rattle.std.specs.Prelude.{◌≡◌, ◌+◌, ◌≤◌, length, MatchOption, ℕ};
-ghost use Rattle.ether_peel.specs.PeelStart.{start_of, start_with, limited_start};
-ghost use Rattle.ether_peel.specs.PeelFault.{Names};
-ghost use Rattle.ether_peel.specs.Feeding.{IsFeed};
+ghost use Rattle.ether_peel.specs.Walker.Start.{start_of, start_with, limited_start};
+ghost use Rattle.ether_peel.specs.Walker.Fault.{Names};
+ghost use Rattle.ether_peel.specs.Walker.Feeding.{IsFeed};
 
 use crate::{Feed, Peel, PeelError, PeelFault, Start};
 

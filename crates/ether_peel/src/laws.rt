@@ -1,10 +1,10 @@
 //! The laws of the definitions. Each is the contract of a function that does nothing: what its clause says holds for
 //! every list of bytes.
-ghost use Rattle.ether_peel.specs.Laws.{StacksAreOne};
-ghost use Rattle.ether_peel.specs.Places.{StacksAreLocal};
-ghost use Rattle.ether_peel.specs.WriteBack.{HeadersGoBack};
-ghost use Rattle.ether_peel.specs.Cuts.{CutsKeep};
-ghost use Rattle.ether_peel.specs.Extensions.{ExtensionsKeep};
+ghost use Rattle.ether_peel.specs.Grammar.Laws.{StacksAreOne};
+ghost use Rattle.ether_peel.specs.Grammar.Places.{StacksAreLocal};
+ghost use Rattle.ether_peel.specs.Grammar.Cleared.{HeadersGoBack};
+ghost use Rattle.ether_peel.specs.Grammar.Cuts.{CutsKeep};
+ghost use Rattle.ether_peel.specs.Grammar.Extensions.{ExtensionsKeep};
 
 /// In each window of each list of bytes there is a stack from each expectation, and no second one.
 pub fn stacks_are_one()

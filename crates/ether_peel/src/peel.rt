@@ -2,11 +2,11 @@
 ghost use Rattle.std.specs.Prelude.{◌≡◌, ◌+◌, ◌^◌, ◌<◌, List, length, false, true, Some, is_some, if◌then◌else◌};
 ghost use Rattle.etherparse.specs.Header.{Header};
 ghost use Rattle.etherparse.specs.LinuxSll.{protocol_type_of_header};
-ghost use Rattle.ether_peel.specs.Expectation.{has_fcs, announced_next, announced_by, lowered as lowered_of, permitted as permitted_of};
-ghost use Rattle.ether_peel.specs.PeelState.{shown_of};
-ghost use Rattle.ether_peel.specs.Stack.{Ending, whole, Walk};
-ghost use Rattle.ether_peel.specs.PeelStart.{start_of, start_with, limited_start, kind_shown, next_shown};
-ghost use Rattle.ether_peel.specs.PeelRead.{after_protocol, after_sec_tag, named_error, sec_tag_payload};
+ghost use Rattle.ether_peel.specs.Grammar.Expectation.{has_fcs, announced_next, announced_by, lowered as lowered_of, permitted as permitted_of};
+ghost use Rattle.ether_peel.specs.Walker.State.{shown_of};
+ghost use Rattle.ether_peel.specs.Grammar.Stack.{Ending, whole, Walk};
+ghost use Rattle.ether_peel.specs.Walker.Start.{start_of, start_with, limited_start, kind_shown, next_shown};
+ghost use Rattle.ether_peel.specs.Walker.Reading.{after_protocol, after_sec_tag, named_error, sec_tag_payload};
 
 use crate::{PeelError, PeelFault, PeelUnit, RestKind, Start};
 use etherparse::err::LenError;
@@ -66,7 +66,7 @@ pub struct Peel<'a> {
 
 impl<'a> Model for Peel<'a> {
     ghost use Rattle.std.specs.Prelude.{◌≤◌, length, slice_range};
-    ghost use Rattle.ether_peel.specs.PeelState.{State, expected_of, Announces, IsShown};
+    ghost use Rattle.ether_peel.specs.Walker.State.{State, expected_of, Announces, IsShown};
 
     ghost Value = { State };
 
@@ -76,7 +76,7 @@ impl<'a> Model for Peel<'a> {
 }
 
 impl<'a> Peel<'a> {
-    ghost use Rattle.ether_peel.specs.Peel.{Faces};
+    ghost use Rattle.ether_peel.specs.Walker.Next.{Faces};
 
     /// A walk that has read nothing yet.
     #[inline(always)]
@@ -190,7 +190,7 @@ impl<'a> Peel<'a> {
 impl<'a> Iterator for Peel<'a> {
     type Item = Result<PeelUnit<'a>, PeelFault>;
 
-    ghost use Rattle.ether_peel.specs.Peel.{Gives, items_left};
+    ghost use Rattle.ether_peel.specs.Walker.Next.{Gives, items_left};
 
     ghost next_gives = { Gives };
 
@@ -223,9 +223,9 @@ impl<'a> Peel<'a> {
     ghost use Rattle.std.specs.Prelude.{◌≤◌, IfSome, slice_range};
     ghost use Rattle.std.specs.Iterator.{size};
     ghost use Rattle.etherparse.specs.Kind as kinds;
-    ghost use Rattle.ether_peel.specs.Expectation.{announced};
-    ghost use Rattle.ether_peel.specs.Peel.{Gives, items_left};
-    ghost use Rattle.ether_peel.specs.PeelRead.{IsRefusedBy};
+    ghost use Rattle.ether_peel.specs.Grammar.Expectation.{announced};
+    ghost use Rattle.ether_peel.specs.Walker.Next.{Gives, items_left};
+    ghost use Rattle.ether_peel.specs.Walker.Reading.{IsRefusedBy};
 
     /// Goes on after the fault, in a longer front of the frame.
     #[inline(always)]

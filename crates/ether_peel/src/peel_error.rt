@@ -1,6 +1,6 @@
 //! Why a unit is refused.
 ghost use Rattle.std.specs.Prelude.{Some};
-ghost use Rattle.ether_peel.specs.Texts.{peel_error_text};
+ghost use Rattle.ether_peel.specs.Walker.Texts.{peel_error_text};
 
 use etherparse::err::{self, LenError};
 use std::error::Error;

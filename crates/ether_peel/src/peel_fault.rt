@@ -1,7 +1,7 @@
 //! A unit that is refused, and where.
 ghost use Rattle.std.specs.Prelude.{ℕ, Some, MatchOption};
-ghost use Rattle.ether_peel.specs.PeelFault.{Misses};
-ghost use Rattle.ether_peel.specs.Texts.{peel_fault_text};
+ghost use Rattle.ether_peel.specs.Walker.Fault.{Misses};
+ghost use Rattle.ether_peel.specs.Walker.Texts.{peel_fault_text};
 
 use crate::PeelError;
 use std::error::Error;

@@ -1,8 +1,8 @@
 //! The whole walk through a frame in one call.
 ghost use Rattle.std.specs.Prelude.{◌≡◌, ◌+◌, ◌/◌, ◌<◌, ◌≤◌, length};
-ghost use Rattle.ether_peel.specs.PeelStart.{start_of, start_with, limited_start, kind_shown};
-ghost use Rattle.ether_peel.specs.Summary.{IsSummary, IsCutSummary};
-ghost use Rattle.ether_peel.specs.Limits.{IsFrontOfUnlimited};
+ghost use Rattle.ether_peel.specs.Walker.Start.{start_of, start_with, limited_start, kind_shown};
+ghost use Rattle.ether_peel.specs.Walker.Summary.{IsSummary, IsCutSummary};
+ghost use Rattle.ether_peel.specs.Walker.Limits.{IsFrontOfUnlimited};
 
 use crate::{Peel, PeelFault, Start, Summary};
 

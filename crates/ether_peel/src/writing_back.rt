@@ -1,9 +1,9 @@
 //! Headers written back before the rest.
 ghost use Rattle.std.specs.Prelude.{◌≡◌, ◌+◌, ◌≤◌, List, ◌++◌, length, take, drop, IfOk, IfErr};
 ghost use Rattle.etherparse.specs.Header.{Header};
-ghost use Rattle.ether_peel.specs.Stack.{Ending, last_window, Walk};
-ghost use Rattle.ether_peel.specs.PeelStart.{start_of, start_with, limited_start};
-ghost use Rattle.ether_peel.specs.WriteBack.{unit_bytes, WritesBack, RefusesBack};
+ghost use Rattle.ether_peel.specs.Grammar.Stack.{Ending, last_window, Walk};
+ghost use Rattle.ether_peel.specs.Walker.Start.{start_of, start_with, limited_start};
+ghost use Rattle.ether_peel.specs.Walker.WriteBack.{unit_bytes, WritesBack, RefusesBack};
 
 use crate::summarizing::summarized;
 use crate::{Peel, PeelUnit, Start};

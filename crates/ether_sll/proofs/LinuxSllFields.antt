@@ -7,11 +7,11 @@ use Rattle.ether_base.specs.declared.err.linux_sll.header_error.HeaderError.{Hea
 use Rattle.ether_base.specs.declared.err.linux_sll.header_error.HeaderError.TheVariants.{UnsupportedPacketTypeField, UnsupportedArpHardwareId}
 use Rattle.ether_base.specs.declared.len_source.LenSource.TheVariants as sources
 use Rattle.ether_base.specs.declared.linux_sll_protocol_type.LinuxSllProtocolType.{LinuxSllProtocolType}
-use Rattle.ether_base.specs.Kind as kinds
-use Rattle.ether_base.specs.LinuxSll.{LinuxSllValue, IsLinuxSll, linux_sll_of, is_supported}
-use Rattle.ether_base.specs.LinuxSllProtocolType.{protocol_of, protocol_type_of, protocol_number}
-use Rattle.ether_base.specs.Refusal.{UnsupportedPacketType, UnsupportedHardwareType, Refuses, Accepts}
-use Rattle.ether_base.specs.Refusal as rows
+use Rattle.ether_base.specs.Formats.Kind as kinds
+use Rattle.ether_base.specs.Formats.LinuxSll.{LinuxSllValue, IsLinuxSll, linux_sll_of, is_supported}
+use Rattle.ether_base.specs.Formats.LinuxSllProtocolType.{protocol_of, protocol_type_of, protocol_number}
+use Rattle.ether_base.specs.Formats.Refusal.{UnsupportedPacketType, UnsupportedHardwareType, Refuses, Accepts}
+use Rattle.ether_base.specs.Formats.Refusal as rows
 use Rattle.ether_base.proofs.LinuxSllFields.{linux_sll_begins, linux_sll_whole, linux_sll_accepted}
 use Rattle.ether_base.proofs.Values.{linux_sll_unique}
 use Rattle.ether_sll.specs.declared.linux_sll_header.LinuxSllHeader.{LinuxSllHeader}

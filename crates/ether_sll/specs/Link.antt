@@ -5,8 +5,8 @@ use Rattle.ether_base.specs.declared.len_source.LenSource.{LenSource}
 use Rattle.ether_base.specs.declared.len_source.LenSource.TheVariants as sources
 use Rattle.ether_base.specs.declared.linux_sll_protocol_type.LinuxSllProtocolType.{LinuxSllProtocolType}
 use Rattle.ether_base.specs.declared.linux_sll_protocol_type.LinuxSllProtocolType.TheVariants as protocols
-use Rattle.ether_base.specs.Ethernet2.{Ethernet2Value, ethernet2_of}
-use Rattle.ether_base.specs.LinuxSll.{LinuxSllValue, linux_sll_of}
+use Rattle.ether_base.specs.Formats.Ethernet2.{Ethernet2Value, ethernet2_of}
+use Rattle.ether_base.specs.Formats.LinuxSll.{LinuxSllValue, linux_sll_of}
 use Rattle.ether_tags.specs.declared.ethernet2_header.Ethernet2Header.{Ethernet2Header}
 use Rattle.ether_tags.specs.contracts.ethernet2_header.Ethernet2Header.{the_row as ethernet2_row}
 use Rattle.ether_tags.specs.Ethernet2.{payload_of, ethernet2_view}

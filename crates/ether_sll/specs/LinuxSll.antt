@@ -2,17 +2,17 @@
 -- numbers of their header.
 use Rattle.std.specs.Prelude.{ℕ, List, ◌≡◌, ◌+◌, ◌≤◌, length, slice_range, min, true, Result, MatchResult}
 use Rattle.ether_base.specs.Bytes.{number}
-use Rattle.ether_base.specs.LinuxSll.{LinuxSllValue, IsLinuxSll, linux_sll_of, is_supported}
-use Rattle.ether_base.specs.LinuxSllProtocolType.{protocol_number, protocol_of}
+use Rattle.ether_base.specs.Formats.LinuxSll.{LinuxSllValue, IsLinuxSll, linux_sll_of, is_supported}
+use Rattle.ether_base.specs.Formats.LinuxSllProtocolType.{protocol_number, protocol_of}
 use Rattle.ether_sll.specs.declared.linux_sll_header.LinuxSllHeader.{LinuxSllHeader}
 use Rattle.ether_base.specs.declared.len_source.LenSource.TheVariants as sources
 use Rattle.ether_base.specs.declared.err.linux_sll.header_error.HeaderError.{HeaderError}
 use Rattle.ether_base.specs.declared.err.linux_sll.header_error.HeaderError.TheVariants.{UnsupportedPacketTypeField, UnsupportedArpHardwareId}
 use Rattle.ether_base.specs.declared.header_slice_error.HeaderSliceError.{HeaderSliceError}
 use Rattle.ether_base.specs.declared.header_slice_error.HeaderSliceError.TheVariants.{Len, Content}
-use Rattle.ether_base.specs.Kind as kinds
-use Rattle.ether_base.specs.Refusal.{UnsupportedPacketType, UnsupportedHardwareType, Refuses, Accepts}
-use Rattle.ether_base.specs.RefusedLen.{IsRefusedLen}
+use Rattle.ether_base.specs.Formats.Kind as kinds
+use Rattle.ether_base.specs.Formats.Refusal.{UnsupportedPacketType, UnsupportedHardwareType, Refuses, Accepts}
+use Rattle.ether_base.specs.Formats.RefusedLen.{IsRefusedLen}
 use Rattle.ether_base.specs.declared.linux_sll_protocol_type.LinuxSllProtocolType.{LinuxSllProtocolType}
 
 -- the address as the number of its bytes, the protocol type as its number

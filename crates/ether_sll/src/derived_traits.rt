@@ -2,10 +2,10 @@
 //! lent header, at each type of this crate. These functions are proved and never run.
 ghost use Rattle.std.specs.Prelude.{◌≡◌, ◌↔◌, ◌++◌, IsTrue, MatchOption, Ok, Some};
 ghost use Rattle.std.specs.Hash as fed;
-ghost use Rattle.ether_base.specs.Hashes.{hashed, protocol_type_fed};
+ghost use Rattle.ether_base.specs.Enumerations.Hashes.{hashed, protocol_type_fed};
 ghost use Rattle.std.specs.Ordering.{nat_cmp, on, then_cmp};
 ghost use Rattle.std.specs.Cmp.Lexicographic.{slice_cmp};
-ghost use Rattle.ether_base.specs.LinuxSllProtocolType.{protocol_number, protocol_place, protocol_type_of};
+ghost use Rattle.ether_base.specs.Formats.LinuxSllProtocolType.{protocol_number, protocol_place, protocol_type_of};
 ghost use Rattle.ether_sll.specs.Link.{ethernet2_header, linux_sll_header, SameLink};
 
 use crate::{

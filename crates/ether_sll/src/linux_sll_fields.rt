@@ -2,7 +2,7 @@
 //! type, length of the sender's address (2 bytes each), sender's address (8 bytes) and protocol (2 bytes), in this order.
 ghost use Rattle.std.specs.Prelude.{◌≡◌, ◌+◌, ◌≤◌, length, slice_range, IfOk, IfErr};
 ghost use Rattle.ether_base.specs.Bytes.{IsBytes, spelled};
-ghost use Rattle.ether_base.specs.LinuxSll.{linux_sll_of};
+ghost use Rattle.ether_base.specs.Formats.LinuxSll.{linux_sll_of};
 ghost use Rattle.ether_sll.specs.LinuxSll.{HoldsLinuxSll, protocol_type_of_header, valid_address, IsRefusedContent, IsRefusedSll, linux_sll_view};
 
 use crate::LinuxSllHeader;

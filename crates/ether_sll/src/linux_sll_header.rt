@@ -4,12 +4,12 @@ ghost use Rattle.std.specs.Borrow.{sem};
 ghost use Rattle.ether_base.specs.declared.err.linux_sll.header_error.HeaderError.{HeaderError as header_error};
 ghost use Rattle.ether_base.specs.declared.len_source.LenSource.TheVariants as sources;
 ghost use Rattle.ether_base.specs.Bytes.{number};
-ghost use Rattle.ether_base.specs.Header as headers;
-ghost use Rattle.ether_base.specs.Header.{Means};
-ghost use Rattle.ether_base.specs.Kind as kinds;
-ghost use Rattle.ether_base.specs.LinuxSll.{LinuxSllValue, IsLinuxSll, linux_sll_bytes};
-ghost use Rattle.ether_base.specs.LinuxSllProtocolType.{protocol_type_of, protocol_number};
-ghost use Rattle.ether_base.specs.Refusal.{Accepts};
+ghost use Rattle.ether_base.specs.Formats.Header as headers;
+ghost use Rattle.ether_base.specs.Formats.Header.{Means};
+ghost use Rattle.ether_base.specs.Formats.Kind as kinds;
+ghost use Rattle.ether_base.specs.Formats.LinuxSll.{LinuxSllValue, IsLinuxSll, linux_sll_bytes};
+ghost use Rattle.ether_base.specs.Formats.LinuxSllProtocolType.{protocol_type_of, protocol_number};
+ghost use Rattle.ether_base.specs.Formats.Refusal.{Accepts};
 ghost use Rattle.ether_base.specs.WriteFront.{AnswersRest, LendsRest};
 ghost use Rattle.ether_sll.specs.LinuxSll.{AnswersHeader, protocol_type_of_header, IsRefusedSll, linux_sll_view};
 

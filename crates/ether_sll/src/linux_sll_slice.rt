@@ -5,11 +5,11 @@ ghost use Rattle.std.specs.Cmp.Rules.{comparing};
 ghost use Rattle.std.specs.Cmp.Lexicographic.{pointwise};
 ghost use Rattle.ether_base.specs.declared.len_source.LenSource.TheVariants as sources;
 ghost use Rattle.ether_base.specs.Bytes.{spelled};
-ghost use Rattle.ether_base.specs.LinuxSll.{linux_sll_of};
-ghost use Rattle.ether_base.specs.Header as headers;
-ghost use Rattle.ether_base.specs.Header.{Means};
-ghost use Rattle.ether_base.specs.Kind as kinds;
-ghost use Rattle.ether_base.specs.Refusal.{Accepts};
+ghost use Rattle.ether_base.specs.Formats.LinuxSll.{linux_sll_of};
+ghost use Rattle.ether_base.specs.Formats.Header as headers;
+ghost use Rattle.ether_base.specs.Formats.Header.{Means};
+ghost use Rattle.ether_base.specs.Formats.Kind as kinds;
+ghost use Rattle.ether_base.specs.Formats.Refusal.{Accepts};
 ghost use Rattle.ether_sll.specs.LinuxSll.{protocol_type_of_header, valid_address, IsRefusedSll, linux_sll_view};
 
 use crate::{LinuxSllHeader, LinuxSllPayloadSlice, linux_sll_fields};

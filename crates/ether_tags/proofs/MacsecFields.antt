@@ -5,10 +5,10 @@ use Rattle.ether_base.specs.declared.len_source.LenSource.{LenSource}
 use Rattle.ether_base.specs.declared.len_source.LenSource.TheVariants as sources
 use Rattle.ether_base.specs.declared.err.layer.Layer.TheVariants as layers
 use Rattle.ether_base.specs.Bytes.{IsBytes, number}
-use Rattle.ether_base.specs.Macsec.{sec_tag_front_in, sec_tag_len, known_payload_len}
-use Rattle.ether_base.specs.Kind as kinds
-use Rattle.ether_base.specs.Refusal.{Length, Refuses, Accepts, AcceptsHeader}
-use Rattle.ether_base.specs.Refusal as rows
+use Rattle.ether_base.specs.Formats.Macsec.{sec_tag_front_in, sec_tag_len, known_payload_len}
+use Rattle.ether_base.specs.Formats.Kind as kinds
+use Rattle.ether_base.specs.Formats.Refusal.{Length, Refuses, Accepts, AcceptsHeader}
+use Rattle.ether_base.specs.Formats.Refusal as rows
 use Rattle.ether_base.proofs.Rows.{sec_tag_front_read, accepts_packet, accepted_version}
 use Rattle.ether_base.proofs.ArrayElements.{number-two}
 use Rattle.ether_base.proofs.MacsecFields.{sec_tag_front_part}

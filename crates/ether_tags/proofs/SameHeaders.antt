@@ -1,8 +1,8 @@
 -- Headers that are the same value of the wire format are the same.
 use Rattle.std.proofs.Common.{◌≡◌, Bool, true, false, refl, ap}
 use Rattle.ether_base.specs.Bytes.{bit}
-use Rattle.ether_base.specs.Vlan.{VlanValue}
-use Rattle.ether_base.specs.Macsec.{SecTagValue}
+use Rattle.ether_base.specs.Formats.Vlan.{VlanValue}
+use Rattle.ether_base.specs.Formats.Macsec.{SecTagValue}
 use Rattle.ether_tags.specs.Vlan.{vlan_view}
 use Rattle.ether_tags.specs.Macsec.{payload_type_view, sec_tag_view}
 use Rattle.ether_tags.specs.declared.single_vlan_header.SingleVlanHeader.{SingleVlanHeader}

@@ -1,7 +1,7 @@
 -- Ethernet II headers as values of the wire format, and what callers see of a view of a frame.
 use Rattle.std.specs.Prelude.{ℕ, ◌-◌, List, length, slice_range, Bool, if◌then◌else◌, Option, Some, None}
 use Rattle.ether_base.specs.Bytes.{number}
-use Rattle.ether_base.specs.Ethernet2.{Ethernet2Value}
+use Rattle.ether_base.specs.Formats.Ethernet2.{Ethernet2Value}
 use Rattle.ether_tags.specs.declared.ethernet2_header.Ethernet2Header.{Ethernet2Header}
 
 -- the addresses are the numbers of their bytes

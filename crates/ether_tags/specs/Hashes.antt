@@ -3,7 +3,7 @@
 use Rattle.std.specs.Prelude.{◌++◌}
 use Rattle.std.specs.Hash as fed
 use Rattle.std.specs.Hash.{HashWrites}
-use Rattle.ether_base.specs.Hashes.{len_source_fed, variant}
+use Rattle.ether_base.specs.Enumerations.Hashes.{len_source_fed, variant}
 use Rattle.ether_tags.specs.declared.ether_payload_slice.EtherPayloadSlice.{EtherPayloadSlice}
 use Rattle.ether_tags.specs.declared.macsec_p_type.MacsecPType.{MacsecPType}
 use Rattle.ether_tags.specs.declared.macsec_p_type.MacsecPType.TheVariants.{Unmodified, Modified, Encrypted, EncryptedUnmodified}

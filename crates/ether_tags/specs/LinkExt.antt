@@ -1,10 +1,10 @@
 -- Link extensions by cases: a VLAN tag or a MACsec SecTag.
 use Rattle.std.specs.Prelude.{◌≡◌, ℕ, length, slice_range, Option, Some, None}
 use Rattle.ether_base.specs.declared.len_source.LenSource.TheVariants as sources
-use Rattle.ether_base.specs.Vlan.{vlan_of}
-use Rattle.ether_base.specs.Macsec.{sec_tag_of}
-use Rattle.ether_base.specs.Header.{Header, header_len}
-use Rattle.ether_base.specs.Header as headers
+use Rattle.ether_base.specs.Formats.Vlan.{vlan_of}
+use Rattle.ether_base.specs.Formats.Macsec.{sec_tag_of}
+use Rattle.ether_base.specs.Formats.Header.{Header, header_len}
+use Rattle.ether_base.specs.Formats.Header as headers
 use Rattle.ether_tags.specs.Vlan.{vlan_view}
 use Rattle.ether_tags.specs.Macsec.{sec_tag_view, tag_bytes, readable_payload, SameTagged}
 use Rattle.ether_tags.specs.declared.ether_payload_slice.EtherPayloadSlice.{EtherPayloadSlice}

@@ -6,10 +6,10 @@ use Rattle.ether_base.specs.declared.err.macsec.header_error.HeaderError.{Header
 use Rattle.ether_base.specs.declared.err.macsec.header_error.HeaderError.TheVariants as contents
 use Rattle.ether_base.specs.declared.header_slice_error.HeaderSliceError.{HeaderSliceError}
 use Rattle.ether_base.specs.declared.header_slice_error.HeaderSliceError.TheVariants.{Len, Content}
-use Rattle.ether_base.specs.Macsec.{PayloadType, SecTagFront, SecTagValue, known_payload_len, sec_tag_len, sec_tag_of}
-use Rattle.ether_base.specs.Macsec as payloads
-use Rattle.ether_base.specs.Kind as kinds
-use Rattle.ether_base.specs.Refusal.{Refusal, Length, UnexpectedVersion, InvalidShortLen, Refuses, RefusesHeader}
+use Rattle.ether_base.specs.Formats.Macsec.{PayloadType, SecTagFront, SecTagValue, known_payload_len, sec_tag_len, sec_tag_of}
+use Rattle.ether_base.specs.Formats.Macsec as payloads
+use Rattle.ether_base.specs.Formats.Kind as kinds
+use Rattle.ether_base.specs.Formats.Refusal.{Refusal, Length, UnexpectedVersion, InvalidShortLen, Refuses, RefusesHeader}
 use Rattle.ether_tags.specs.declared.macsec_p_type.MacsecPType.{MacsecPType}
 use Rattle.ether_tags.specs.declared.macsec_p_type.MacsecPType.TheVariants.{Unmodified, Modified, Encrypted, EncryptedUnmodified}
 use Rattle.ether_base.specs.Bytes.{bit}

@@ -1,6 +1,6 @@
 -- VLAN tags as values of the wire format, one or two, from the outermost on.
 use Rattle.std.specs.Prelude.{ℕ, List, [], ◌∷◌}
-use Rattle.ether_base.specs.Vlan.{VlanValue, vlan_of}
+use Rattle.ether_base.specs.Formats.Vlan.{VlanValue, vlan_of}
 use Rattle.ether_base.specs.Bytes.{bit}
 use Rattle.ether_tags.specs.declared.single_vlan_header.SingleVlanHeader.{SingleVlanHeader}
 use Rattle.ether_tags.specs.declared.vlan_header.VlanHeader.{VlanHeader}

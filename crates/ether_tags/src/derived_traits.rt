@@ -1,15 +1,15 @@
 //! What callers learn of the derived traits and of the constants, at each type of this crate. These functions are
 //! proved and never run.
 ghost use Rattle.std.specs.Prelude.{◌≡◌, ◌↔◌, IsTrue, Some, map};
-ghost use Rattle.ether_base.specs.Hashes.{hashed};
+ghost use Rattle.ether_base.specs.Enumerations.Hashes.{hashed};
 ghost use Rattle.ether_tags.specs.Hashes.{ether_payload_slice_fed, macsec_p_type_fed};
 ghost use Rattle.std.specs.Ordering.{nat_cmp, on, then_cmp};
 ghost use Rattle.std.specs.Cmp.Lexicographic.{slice_cmp};
-ghost use Rattle.ether_base.specs.LenSource.{len_source_place};
+ghost use Rattle.ether_base.specs.Enumerations.LenSource.{len_source_place};
 ghost use Rattle.ether_tags.specs.Macsec.{SamePayload, SameTagged, tag_bytes};
 ghost use Rattle.ether_tags.specs.LinkExt.{SameExt};
 ghost use Rattle.ether_tags.specs.Ethernet2.{ethernet2_view};
-ghost use Rattle.ether_base.specs.Vlan.{vlan_ether_types};
+ghost use Rattle.ether_base.specs.Formats.Vlan.{vlan_ether_types};
 ghost use Rattle.ether_tags.specs.Vlan.{vlan_view};
 
 use crate::{

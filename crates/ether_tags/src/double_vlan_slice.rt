@@ -1,7 +1,7 @@
 //! A view of two VLAN tags and their payload.
 ghost use Rattle.std.specs.Prelude.{◌≡◌, length, slice_range};
 ghost use Rattle.ether_base.specs.declared.len_source.LenSource.TheVariants as sources;
-ghost use Rattle.ether_base.specs.Vlan.{vlan_of};
+ghost use Rattle.ether_base.specs.Formats.Vlan.{vlan_of};
 ghost use Rattle.ether_tags.specs.Vlan.{vlan_view};
 
 use crate::{DoubleVlanHeader, EtherPayloadSlice, SingleVlanSlice};

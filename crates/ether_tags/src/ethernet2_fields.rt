@@ -3,7 +3,7 @@
 ghost use Rattle.std.specs.Prelude.{◌≡◌, ◌==◌, ◌+◌, ◌≤◌, ◌<◌, length, slice_range};
 ghost use Rattle.std.specs.Cmp.Lexicographic.{pointwise};
 ghost use Rattle.ether_base.specs.Bytes.{IsBytes, spelled};
-ghost use Rattle.ether_base.specs.Ethernet2.{ethernet2_of};
+ghost use Rattle.ether_base.specs.Formats.Ethernet2.{ethernet2_of};
 ghost use Rattle.ether_tags.specs.Ethernet2.{ethernet2_header_of, ethernet2_view};
 
 use crate::Ethernet2Header;

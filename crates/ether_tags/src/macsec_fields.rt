@@ -4,9 +4,9 @@
 //! the user data where E and C are clear.
 ghost use Rattle.std.specs.Prelude.{◌≡◌, ◌↔◌, ◌≤◌, ◌<◌, ◌+◌, ◌*◌, ◌/◌, ◌%◌, ◌^◌, IsTrue, length, slice_range};
 ghost use Rattle.ether_base.specs.Bytes.{bit, number};
-ghost use Rattle.ether_base.specs.Macsec.{known_payload_len, sec_tag_front_in, sec_tag_len, sec_tag_of, known_len};
+ghost use Rattle.ether_base.specs.Formats.Macsec.{known_payload_len, sec_tag_front_in, sec_tag_len, sec_tag_of, known_len};
 ghost use Rattle.ether_tags.specs.Macsec.{payload_type_view};
-ghost use Rattle.ether_base.specs.Refusal.{IsTooShort};
+ghost use Rattle.ether_base.specs.Formats.Refusal.{IsTooShort};
 
 use crate::MacsecPType;
 use ether_base::big_endian::{u16_of, u32_of, u64_of};

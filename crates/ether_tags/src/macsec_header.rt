@@ -3,11 +3,11 @@ ghost use Rattle.std.specs.Prelude.{◌≡◌, ◌≤◌, ◌<◌, ◌+◌, ◌+
 ghost use Rattle.std.specs.Option.{option_map};
 ghost use Rattle.ether_base.specs.declared.len_source.LenSource.TheVariants as sources;
 ghost use Rattle.ether_base.specs.Bytes.{spelled, bit};
-ghost use Rattle.ether_base.specs.Macsec.{FitsSecTag, FitsSecTagFront, encrypted_of, changed_of, known_payload_len, sec_tag_bytes, sec_tag_front_number, sec_tag_front_of, sec_tag_len};
-ghost use Rattle.ether_base.specs.Header as headers;
-ghost use Rattle.ether_base.specs.Header.{Means};
-ghost use Rattle.ether_base.specs.Kind as kinds;
-ghost use Rattle.ether_base.specs.Refusal.{AcceptsHeader, InvalidShortLen, IsTooShort, RefusesHeader};
+ghost use Rattle.ether_base.specs.Formats.Macsec.{FitsSecTag, FitsSecTagFront, encrypted_of, changed_of, known_payload_len, sec_tag_bytes, sec_tag_front_number, sec_tag_front_of, sec_tag_len};
+ghost use Rattle.ether_base.specs.Formats.Header as headers;
+ghost use Rattle.ether_base.specs.Formats.Header.{Means};
+ghost use Rattle.ether_base.specs.Formats.Kind as kinds;
+ghost use Rattle.ether_base.specs.Formats.Refusal.{AcceptsHeader, InvalidShortLen, IsTooShort, RefusesHeader};
 ghost use Rattle.ether_tags.specs.Macsec.{IsRefusedTag, payload_type_view, readable_type, sec_tag_view, short_len_for};
 
 use crate::{MacsecHeaderSlice, MacsecPType, macsec_fields};

@@ -2,11 +2,11 @@
 ghost use Rattle.std.specs.Prelude.{◌≡◌, ◌≤◌, length, IfOk, IfErr, slice_range};
 ghost use Rattle.ether_base.specs.declared.header_slice_error.HeaderSliceError.TheVariants.{Len};
 ghost use Rattle.ether_base.specs.declared.len_source.LenSource.TheVariants as sources;
-ghost use Rattle.ether_base.specs.Macsec.{sec_tag_front_in, sec_tag_len, sec_tag_of};
-ghost use Rattle.ether_base.specs.Header as headers;
-ghost use Rattle.ether_base.specs.Header.{Means};
-ghost use Rattle.ether_base.specs.Kind as kinds;
-ghost use Rattle.ether_base.specs.Refusal.{AcceptsHeader, IsTooShort};
+ghost use Rattle.ether_base.specs.Formats.Macsec.{sec_tag_front_in, sec_tag_len, sec_tag_of};
+ghost use Rattle.ether_base.specs.Formats.Header as headers;
+ghost use Rattle.ether_base.specs.Formats.Header.{Means};
+ghost use Rattle.ether_base.specs.Formats.Kind as kinds;
+ghost use Rattle.ether_base.specs.Formats.Refusal.{AcceptsHeader, IsTooShort};
 ghost use Rattle.ether_base.specs.Bytes.{bit};
 
 use crate::{MacsecHeader, MacsecPType, macsec_fields};
@@ -38,7 +38,7 @@ pub struct MacsecHeaderSlice<'a> {
 impl<'a> MacsecHeaderSlice<'a> {
     ghost use Rattle.std.specs.Prelude.{slice_index, ◌↔◌, IsTrue};
     ghost use Rattle.std.specs.Option.{option_map};
-    ghost use Rattle.ether_base.specs.Macsec.{known_payload_len};
+    ghost use Rattle.ether_base.specs.Formats.Macsec.{known_payload_len};
     ghost use Rattle.ether_tags.specs.Macsec.{IsRefusedTag, tag_bytes, payload_type_view, readable_type, sec_tag_view};
 
     /// The tag at the front of a slice, with the next ether type. The bytes after it are not part of the view.

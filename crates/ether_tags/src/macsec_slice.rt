@@ -3,11 +3,11 @@ ghost use Rattle.std.specs.Prelude.{◌≡◌, ◌≤◌, ◌<◌, IfOk, IfErr, 
 ghost use Rattle.std.specs.Option.{option_map};
 ghost use Rattle.ether_base.specs.declared.header_slice_error.HeaderSliceError.TheVariants.{Len};
 ghost use Rattle.ether_base.specs.declared.len_source.LenSource.TheVariants as sources;
-ghost use Rattle.ether_base.specs.Macsec.{known_payload_len, sec_tag_front_in, sec_tag_len, sec_tag_of};
-ghost use Rattle.ether_base.specs.Header as headers;
-ghost use Rattle.ether_base.specs.Header.{Means};
-ghost use Rattle.ether_base.specs.Kind as kinds;
-ghost use Rattle.ether_base.specs.Refusal.{Accepts};
+ghost use Rattle.ether_base.specs.Formats.Macsec.{known_payload_len, sec_tag_front_in, sec_tag_len, sec_tag_of};
+ghost use Rattle.ether_base.specs.Formats.Header as headers;
+ghost use Rattle.ether_base.specs.Formats.Header.{Means};
+ghost use Rattle.ether_base.specs.Formats.Kind as kinds;
+ghost use Rattle.ether_base.specs.Formats.Refusal.{Accepts};
 ghost use Rattle.ether_tags.specs.Macsec.{HoldsPayload, HoldsTyped, IsRefusedPacket, payload_end, payload_source, readable_payload, readable_type, tag_bytes};
 
 use crate::{EtherPayloadSlice, MacsecHeaderSlice, MacsecPayloadSlice, macsec_fields};

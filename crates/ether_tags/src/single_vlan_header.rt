@@ -1,12 +1,12 @@
 //! A VLAN tag as a value.
 ghost use Rattle.std.specs.Prelude.{ℕ, List, ◌++◌, ◌≡◌, length, slice_range, IfOk, IfErr};
 ghost use Rattle.ether_base.specs.declared.len_source.LenSource.TheVariants as sources;
-ghost use Rattle.ether_base.specs.Header as headers;
-ghost use Rattle.ether_base.specs.Header.{Means};
-ghost use Rattle.ether_base.specs.Kind as kinds;
-ghost use Rattle.ether_base.specs.Refusal.{Accepts};
-ghost use Rattle.ether_base.specs.RefusedLen.{IsRefusedLen};
-ghost use Rattle.ether_base.specs.Vlan.{VlanValue, IsVlan, vlan_bytes};
+ghost use Rattle.ether_base.specs.Formats.Header as headers;
+ghost use Rattle.ether_base.specs.Formats.Header.{Means};
+ghost use Rattle.ether_base.specs.Formats.Kind as kinds;
+ghost use Rattle.ether_base.specs.Formats.Refusal.{Accepts};
+ghost use Rattle.ether_base.specs.Formats.RefusedLen.{IsRefusedLen};
+ghost use Rattle.ether_base.specs.Formats.Vlan.{VlanValue, IsVlan, vlan_bytes};
 ghost use Rattle.ether_tags.specs.Vlan.{vlan_view};
 
 use crate::SingleVlanHeaderSlice;

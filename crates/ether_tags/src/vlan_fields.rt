@@ -2,7 +2,7 @@
 //! priority code point, 1 bit drop eligible indicator and 12 bits VLAN identifier, and the ether type of what follows.
 ghost use Rattle.std.specs.Prelude.{◌≡◌, ◌/◌, ◌%◌, ◌^◌, ◌+◌, ◌*◌, ◌<◌, ◌≤◌, length, slice_range};
 ghost use Rattle.ether_base.specs.Bytes.{IsBytes, bit, number};
-ghost use Rattle.ether_base.specs.Vlan.{vlan_of};
+ghost use Rattle.ether_base.specs.Formats.Vlan.{vlan_of};
 ghost use Rattle.ether_tags.specs.Vlan.{vlan_view};
 
 use crate::SingleVlanHeader;

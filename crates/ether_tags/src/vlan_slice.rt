@@ -22,7 +22,7 @@ pub enum VlanSlice<'a> {
 impl<'a> VlanSlice<'a> {
     ghost use Rattle.std.specs.Prelude.{◌≡◌, length, slice_range};
     ghost use Rattle.ether_base.specs.declared.len_source.LenSource.TheVariants as sources;
-    ghost use Rattle.ether_base.specs.Vlan.{vlan_of};
+    ghost use Rattle.ether_base.specs.Formats.Vlan.{vlan_of};
     ghost use Rattle.ether_tags.specs.Vlan.{header_tags, slice_tags, innermost};
 
     /// The tags as a value.

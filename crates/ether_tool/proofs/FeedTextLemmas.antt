@@ -2,10 +2,10 @@
 use Rattle.std.proofs.Common.{◌≡◌, ℕ, List, [], ◌++◌, take, Bool, true, false, refl, sym, ap, subst, ◌∙◌, append-nil}
 use Rattle.std.specs.Prelude.{Option, Some, None, codes}
 use Rattle.std.proofs.lemmas.Option.{same_Some}
-use Rattle.ether_peel.specs.Expectation.{Expectation}
-use Rattle.ether_peel.specs.Stack.{Ending, Accepted, Fault, Walk}
-use Rattle.ether_peel.specs.Summary.{fault_of}
-use Rattle.ether_peel.specs.Feeding.{IsFeed}
+use Rattle.ether_peel.specs.Grammar.Expectation.{Expectation}
+use Rattle.ether_peel.specs.Grammar.Stack.{Ending, Accepted, Fault, Walk}
+use Rattle.ether_peel.specs.Walker.Summary.{fault_of}
+use Rattle.ether_peel.specs.Walker.Feeding.{IsFeed}
 use Rattle.ether_peel.specs.declared.peel_fault.PeelFault.{PeelFault}
 use Rattle.ether_peel.specs.declared.walk_feed.Feed.{Feed}
 use Rattle.ether_tool.specs.Lines.{feed_text, fault_line, is_accepted}

@@ -12,15 +12,15 @@ use Rattle.etherparse.specs.Header as headers
 use Rattle.etherparse.specs.Refusal.{Refusal, Length, UnsupportedPacketType, UnsupportedHardwareType, UnexpectedVersion, InvalidShortLen, Accepts}
 use Rattle.etherparse.specs.Refusal as rows
 use Rattle.etherparse.proofs.SubLists.{length-part, part_of_part, IsBytes-part}
-use Rattle.ether_peel.specs.Window.{Window, within, IsIn, payload}
-use Rattle.ether_peel.specs.Expectation.{Next, Expectation, Start, EtherType, Sll, Sealed, AfterArp}
-use Rattle.ether_peel.specs.Stack.{Ending, IsUnit, whole, Walk}
-use Rattle.ether_peel.specs.PeelState.{State}
-use Rattle.ether_peel.specs.PeelStart.{next_shown, kind_shown}
-use Rattle.ether_peel.specs.PeelFault.{fault_in}
-use Rattle.ether_peel.specs.Peel.{Faces, ShowsUnit, Gives}
-use Rattle.ether_peel.proofs.ViewValues.{ethernet2_shown, linux_sll_shown, vlan_shown, macsec_shown, arp_shown}
-use Rattle.ether_peel.proofs.WalkedLemmas.{unit_next, fault_next, none_next}
+use Rattle.ether_peel.specs.Grammar.Window.{Window, within, IsIn, payload}
+use Rattle.ether_peel.specs.Grammar.Expectation.{Next, Expectation, Start, EtherType, Sll, Sealed, AfterArp}
+use Rattle.ether_peel.specs.Grammar.Stack.{Ending, IsUnit, whole, Walk}
+use Rattle.ether_peel.specs.Walker.State.{State}
+use Rattle.ether_peel.specs.Walker.Start.{next_shown, kind_shown}
+use Rattle.ether_peel.specs.Walker.Fault.{fault_in}
+use Rattle.ether_peel.specs.Walker.Next.{Faces, ShowsUnit, Gives}
+use Rattle.ether_peel.proofs.Walker.ViewValues.{ethernet2_shown, linux_sll_shown, vlan_shown, macsec_shown, arp_shown}
+use Rattle.ether_peel.proofs.Walker.Summarizing.{unit_next, fault_next, none_next}
 use Rattle.ether_peel.specs.declared.peel_unit.PeelUnit.{PeelUnit}
 use Rattle.ether_peel.specs.declared.peel_fault.PeelFault.{PeelFault}
 use Rattle.ether_peel.specs.declared.rest_kind.RestKind.{RestKind}

@@ -17,9 +17,9 @@ use Rattle.etherparse.specs.Header as headers
 use Rattle.etherparse.specs.Refusal.{Refusal, Length, UnsupportedPacketType, UnsupportedHardwareType, UnexpectedVersion, InvalidShortLen}
 use Rattle.etherparse.specs.NumberText.{hex_number}
 use Rattle.ether_tool.specs.HexText.{hex_text}
-use Rattle.ether_peel.specs.Window.{Window, payload}
-use Rattle.ether_peel.specs.Expectation.{Next, Expectation, Start, EtherType, Sll, Sealed, AfterArp}
-use Rattle.ether_peel.specs.Stack.{Ending, Accepted, Fault}
+use Rattle.ether_peel.specs.Grammar.Window.{Window, payload}
+use Rattle.ether_peel.specs.Grammar.Expectation.{Next, Expectation, Start, EtherType, Sll, Sealed, AfterArp}
+use Rattle.ether_peel.specs.Grammar.Stack.{Ending, Accepted, Fault}
 
 -- ---- words
 

@@ -2,9 +2,9 @@
 use Rattle.std.specs.Prelude.{◌≡◌, ℕ, List, ◌++◌, length, take, codes, Bool}
 use Rattle.etherparse.specs.Kind as kinds
 use Rattle.etherparse.specs.Header.{Header}
-use Rattle.ether_peel.specs.Expectation.{Next, Expectation, Start, EtherType}
-use Rattle.ether_peel.specs.Stack.{Ending, whole, Walk}
-use Rattle.ether_peel.specs.Feeding.{AreDemands, greatest}
+use Rattle.ether_peel.specs.Grammar.Expectation.{Next, Expectation, Start, EtherType}
+use Rattle.ether_peel.specs.Grammar.Stack.{Ending, whole, Walk}
+use Rattle.ether_peel.specs.Grammar.Demands.{AreDemands, greatest}
 use Rattle.ether_tool.specs.Lines.{frame_text, feed_text, fault_line, is_accepted}
 use Rattle.ether_tool.specs.declared.command.Command.{Command}
 use Rattle.ether_tool.specs.declared.mode.Mode.{Mode}

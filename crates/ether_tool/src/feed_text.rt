@@ -1,8 +1,8 @@
 //! The answer to one frame that a walk is fed.
 ghost use Rattle.ether_tool.specs.OutputBuffer.{TakesAnswer};
 ghost use Rattle.ether_tool.specs.WalkText.{AnswersFeed};
-ghost use Rattle.ether_peel.specs.Feeding.{IsFeed};
-ghost use Rattle.ether_peel.specs.PeelStart.{start_with};
+ghost use Rattle.ether_peel.specs.Walker.Feeding.{IsFeed};
+ghost use Rattle.ether_peel.specs.Walker.Start.{start_with};
 
 use crate::lines::{put_counts, put_fault};
 use crate::output_buffer::OutputBuffer;

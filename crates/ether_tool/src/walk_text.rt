@@ -3,9 +3,9 @@ ghost use Rattle.std.specs.Prelude.{◌≡◌, ◌++◌, List, false};
 ghost use Rattle.ether_tool.specs.OutputBuffer.{TakesAnswer};
 ghost use Rattle.ether_tool.specs.WalkText.{start_of_mode, Answers, AnswersWalk};
 ghost use Rattle.etherparse.specs.Header.{Header};
-ghost use Rattle.ether_peel.specs.Stack.{Ending, Walk, whole};
-ghost use Rattle.ether_peel.specs.Peel.{Faces};
-ghost use Rattle.ether_peel.specs.PeelStart.{next_of, start_with};
+ghost use Rattle.ether_peel.specs.Grammar.Stack.{Ending, Walk, whole};
+ghost use Rattle.ether_peel.specs.Walker.Next.{Faces};
+ghost use Rattle.ether_peel.specs.Walker.Start.{next_of, start_with};
 
 use crate::command::Command;
 use crate::feed_text::put_feed;

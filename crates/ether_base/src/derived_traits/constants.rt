@@ -1,9 +1,9 @@
 //! What the constants stand for: row by row the numbers of their tables, and the ends of the ranges.
 ghost use Rattle.std.specs.Prelude.{◌≡◌, map, [], ◌∷◌};
-ghost use Rattle.ether_base.specs.ArpHardwareId.{assigned_descriptions, device_descriptions, link_descriptions};
-ghost use Rattle.ether_base.specs.EtherType.{ether_type_descriptions};
-ghost use Rattle.ether_base.specs.LinuxNonstandardEtherType.{nonstandard_descriptions};
-ghost use Rattle.ether_base.specs.LinuxSllPacketType.{packet_type_descriptions};
+ghost use Rattle.ether_base.specs.Enumerations.ArpHardwareId.{assigned_descriptions, device_descriptions, link_descriptions};
+ghost use Rattle.ether_base.specs.Enumerations.EtherType.{ether_type_descriptions};
+ghost use Rattle.ether_base.specs.Enumerations.LinuxNonstandardEtherType.{nonstandard_descriptions};
+ghost use Rattle.ether_base.specs.Enumerations.LinuxSllPacketType.{packet_type_descriptions};
 
 use crate::{
     ArpHardwareId, ArpOperation, EtherType, LinuxNonstandardEtherType, LinuxSllPacketType,
@@ -40,7 +40,7 @@ pub fn ether_types_by_module() -> [EtherType; 8]
     ]
 }
 
-#[tactic(auto, unfolding(crate::specs::ArpHardwareId::assigned_descriptions))]
+#[tactic(auto, unfolding(crate::specs::Enumerations::ArpHardwareId::assigned_descriptions))]
 pub fn assigned_hardware_types() -> [ArpHardwareId; 39]
     ensures { map (λ hardware. hardware.0) result ≡ map (λ row. row.0) assigned_descriptions }
 {
@@ -87,7 +87,7 @@ pub fn assigned_hardware_types() -> [ArpHardwareId; 39]
     ]
 }
 
-#[tactic(auto, unfolding(crate::specs::ArpHardwareId::link_descriptions))]
+#[tactic(auto, unfolding(crate::specs::Enumerations::ArpHardwareId::link_descriptions))]
 pub fn link_hardware_types() -> [ArpHardwareId; 16]
     ensures { map (λ hardware. hardware.0) result ≡ map (λ row. row.0) link_descriptions }
 {
@@ -111,7 +111,7 @@ pub fn link_hardware_types() -> [ArpHardwareId; 16]
     ]
 }
 
-#[tactic(auto, unfolding(crate::specs::ArpHardwareId::device_descriptions))]
+#[tactic(auto, unfolding(crate::specs::Enumerations::ArpHardwareId::device_descriptions))]
 pub fn device_hardware_types() -> [ArpHardwareId; 35]
     ensures { map (λ hardware. hardware.0) result ≡ map (λ row. row.0) device_descriptions }
 {

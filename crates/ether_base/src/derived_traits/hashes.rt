@@ -2,7 +2,7 @@
 //! enumeration the place of the variant, and then the fields in their order.
 ghost use Rattle.std.specs.Prelude.{◌≡◌, IsTrue};
 ghost use Rattle.std.specs.Hash as fed;
-ghost use Rattle.ether_base.specs.Hashes.{arp_eth_ipv4_from_error_fed, arp_new_error_fed, hashed, header_slice_error_fed, hw_addr_error_fed, layer_fed, len_error_fed, len_source_fed, linux_sll_header_error_fed, macsec_header_error_fed, proto_addr_error_fed, protocol_type_fed, slice_write_space_error_fed, value_too_big_error_fed, value_type_fed};
+ghost use Rattle.ether_base.specs.Enumerations.Hashes.{arp_eth_ipv4_from_error_fed, arp_new_error_fed, hashed, header_slice_error_fed, hw_addr_error_fed, layer_fed, len_error_fed, len_source_fed, linux_sll_header_error_fed, macsec_header_error_fed, proto_addr_error_fed, protocol_type_fed, slice_write_space_error_fed, value_too_big_error_fed, value_type_fed};
 
 use crate::err::arp::{ArpEthIpv4FromError, ArpHwAddrError, ArpNewError, ArpProtoAddrError};
 use crate::err::{

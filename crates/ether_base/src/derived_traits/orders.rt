@@ -1,10 +1,10 @@
 //! The derived orders: of numbers by the number, of enumerations by the variants in their order, and then by what they hold.
 ghost use Rattle.std.specs.Prelude.{◌≡◌};
 ghost use Rattle.std.specs.Ordering.{nat_cmp, on, then_cmp};
-ghost use Rattle.ether_base.specs.LenSource.{len_source_place};
-ghost use Rattle.ether_base.specs.Layer.{layer_place};
-ghost use Rattle.ether_base.specs.ValueType.{value_type_place};
-ghost use Rattle.ether_base.specs.LinuxSllProtocolType.{protocol_place, protocol_number};
+ghost use Rattle.ether_base.specs.Enumerations.LenSource.{len_source_place};
+ghost use Rattle.ether_base.specs.Enumerations.Layer.{layer_place};
+ghost use Rattle.ether_base.specs.Enumerations.ValueType.{value_type_place};
+ghost use Rattle.ether_base.specs.Formats.LinuxSllProtocolType.{protocol_place, protocol_number};
 
 use crate::err::{Layer, ValueType};
 use crate::{

@@ -9,7 +9,7 @@ struct ShownRefusal(ValueTooBigError<u16>);
 impl fmt::Display for ShownRefusal {
     ghost use Rattle.std.specs.Prelude.{Some, codes, ◌++◌};
     ghost use Rattle.std.specs.Fmt.{decimal};
-    ghost use Rattle.ether_base.specs.ValueType.{value_type_name};
+    ghost use Rattle.ether_base.specs.Enumerations.ValueType.{value_type_name};
 
     ghost output = { λ shown. Some (codes "Error '" ++ (decimal shown.0.actual ++ (codes "' is too big to be a '" ++ (value_type_name shown.0.value_type ++ (codes "' (maximum allowed value is '" ++ (decimal shown.0.max_allowed ++ codes "')")))))) };
 
@@ -24,8 +24,8 @@ struct ShownLinuxSllError(linux_sll::HeaderSliceError);
 
 impl fmt::Display for ShownLinuxSllError {
     ghost use Rattle.std.specs.Prelude.{Some};
-    ghost use Rattle.ether_base.specs.HeaderSliceError.{header_slice_error_text};
-    ghost use Rattle.ether_base.specs.LinuxSllErrors.{header_error_text};
+    ghost use Rattle.ether_base.specs.Texts.HeaderSliceError.{header_slice_error_text};
+    ghost use Rattle.ether_base.specs.Texts.LinuxSllErrors.{header_error_text};
 
     ghost output = { λ shown. header_slice_error_text (λ contents. Some (header_error_text contents)) shown.0 };
 
@@ -40,8 +40,8 @@ struct ShownMacsecError(macsec::HeaderSliceError);
 
 impl fmt::Display for ShownMacsecError {
     ghost use Rattle.std.specs.Prelude.{Some};
-    ghost use Rattle.ether_base.specs.HeaderSliceError.{header_slice_error_text};
-    ghost use Rattle.ether_base.specs.MacsecErrors.{header_error_text};
+    ghost use Rattle.ether_base.specs.Texts.HeaderSliceError.{header_slice_error_text};
+    ghost use Rattle.ether_base.specs.Texts.MacsecErrors.{header_error_text};
 
     ghost output = { λ shown. header_slice_error_text (λ contents. Some (header_error_text contents)) shown.0 };
 

@@ -1,6 +1,6 @@
 //! The layer that an error is about.
 ghost use Rattle.std.specs.Prelude.{◌≡◌, Some};
-ghost use Rattle.ether_base.specs.Layer.{layer_title, layer_name};
+ghost use Rattle.ether_base.specs.Enumerations.Layer.{layer_title, layer_name};
 
 use std::fmt;
 

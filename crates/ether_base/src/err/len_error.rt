@@ -1,6 +1,6 @@
 //! Too few bytes, or too many.
 ghost use Rattle.std.specs.Prelude.{◌≡◌, ◌+◌, ◌<◌, ◌^◌, Some};
-ghost use Rattle.ether_base.specs.LengthErrors.{len_error_text, layer_start_text};
+ghost use Rattle.ether_base.specs.Texts.LengthErrors.{len_error_text, layer_start_text};
 
 use crate::LenSource;
 use crate::err::Layer;

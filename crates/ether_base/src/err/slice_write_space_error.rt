@@ -1,6 +1,6 @@
 //! Too little space for a layer to be written.
 ghost use Rattle.std.specs.Prelude.{Some};
-ghost use Rattle.ether_base.specs.LengthErrors.{slice_write_space_error_text, write_start_text};
+ghost use Rattle.ether_base.specs.Texts.LengthErrors.{slice_write_space_error_text, write_start_text};
 
 use crate::err::Layer;
 use std::error::Error;

@@ -1,5 +1,5 @@
 //! A value that exceeds its field's maximum.
-ghost use Rattle.ether_base.specs.LengthErrors.{value_too_big_error_text};
+ghost use Rattle.ether_base.specs.Texts.LengthErrors.{value_too_big_error_text};
 
 use crate::err::ValueType;
 use std::error::Error;

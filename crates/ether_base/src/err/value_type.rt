@@ -1,6 +1,6 @@
 //! The field that a value was too big for.
 ghost use Rattle.std.specs.Prelude.{Some};
-ghost use Rattle.ether_base.specs.ValueType.{value_type_name};
+ghost use Rattle.ether_base.specs.Enumerations.ValueType.{value_type_name};
 
 use std::fmt;
 

@@ -1,6 +1,6 @@
 //! What callers learn of the derived traits, at each type of this crate. These functions are proved and never run.
 ghost use Rattle.std.specs.Prelude.{◌≡◌, ◌↔◌, IsTrue, Ok};
-ghost use Rattle.ether_peel.specs.SameUnit.{SameUnit};
+ghost use Rattle.ether_peel.specs.Walker.SameUnit.{SameUnit};
 
 use crate::{Feed, PeelError, PeelFault, PeelUnit, RestKind, Start, Summary};
 use std::alloc::AllocError;

@@ -1,5 +1,5 @@
 use Rattle.std.proofs.Common.{arith}
-use Rattle.ether_base.specs.Arp.{ArpFront}
+use Rattle.ether_base.specs.Formats.Arp.{ArpFront}
 use Rattle.ether_arp.proofs.Writing.{front_written}
 use Rattle.ether_arp.proofs.arp_fields.front_bytes.Goals as goal
 

@@ -1,11 +1,11 @@
 use Rattle.std.proofs.Common.{ℕ, length, refl, sym, subst, arith}
-use Rattle.ether_base.specs.Arp.{arp_front_in}
+use Rattle.ether_base.specs.Formats.Arp.{arp_front_in}
 use Rattle.ether_base.specs.declared.err.layer.Layer.TheVariants as layers
 use Rattle.ether_base.specs.declared.len_source.LenSource.TheVariants as sources
-use Rattle.ether_base.specs.Kind as kinds
-use Rattle.ether_base.specs.Refusal.{Length, Refuses}
-use Rattle.ether_base.specs.Refusal as rows
-use Rattle.ether_base.specs.RefusedLen.{IsRefusedLen}
+use Rattle.ether_base.specs.Formats.Kind as kinds
+use Rattle.ether_base.specs.Formats.Refusal.{Length, Refuses}
+use Rattle.ether_base.specs.Formats.Refusal as rows
+use Rattle.ether_base.specs.Formats.RefusedLen.{IsRefusedLen}
 use Rattle.ether_arp.proofs.Reading.{arp_begins_read}
 use Rattle.ether_arp.proofs.arp_fields.require_packet.Goals as goal
 

@@ -1,6 +1,6 @@
 //! ARP packets that are not of Ethernet and IPv4.
 ghost use Rattle.std.specs.Prelude.{Some};
-ghost use Rattle.ether_base.specs.ArpErrors.{arp_eth_ipv4_from_error_text};
+ghost use Rattle.ether_base.specs.Texts.ArpErrors.{arp_eth_ipv4_from_error_text};
 
 use crate::number_text::{ShownArpHardwareId, ShownEtherType};
 use crate::{ArpHardwareId, EtherType};

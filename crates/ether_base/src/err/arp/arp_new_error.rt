@@ -1,6 +1,6 @@
 //! Addresses from which no ARP packet can be made.
 ghost use Rattle.std.specs.Prelude.{Some};
-ghost use Rattle.ether_base.specs.ArpErrors.{arp_new_error_text};
+ghost use Rattle.ether_base.specs.Texts.ArpErrors.{arp_new_error_text};
 
 use crate::err::arp::{ArpHwAddrError, ArpProtoAddrError};
 use std::error::Error;

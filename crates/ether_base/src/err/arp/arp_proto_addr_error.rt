@@ -1,6 +1,6 @@
 //! Protocol addresses that do not fit into an ARP packet.
 ghost use Rattle.std.specs.Prelude.{Some};
-ghost use Rattle.ether_base.specs.ArpErrors.{arp_proto_addr_error_text};
+ghost use Rattle.ether_base.specs.Texts.ArpErrors.{arp_proto_addr_error_text};
 
 use std::error::Error;
 use std::fmt;

@@ -1,6 +1,6 @@
 //! Field values of Linux cooked capture v1 that are not supported.
 ghost use Rattle.std.specs.Prelude.{Some};
-ghost use Rattle.ether_base.specs.LinuxSllErrors.{header_error_text};
+ghost use Rattle.ether_base.specs.Texts.LinuxSllErrors.{header_error_text};
 
 use crate::ArpHardwareId;
 use crate::number_text::ShownArpHardwareId;

@@ -1,6 +1,6 @@
 //! Field values of a MACsec SecTag that are not allowed.
 ghost use Rattle.std.specs.Prelude.{Some};
-ghost use Rattle.ether_base.specs.MacsecErrors.{header_error_text};
+ghost use Rattle.ether_base.specs.Texts.MacsecErrors.{header_error_text};
 
 use std::error::Error;
 use std::fmt;

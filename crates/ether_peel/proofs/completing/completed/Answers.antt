@@ -1,8 +1,8 @@
 use Rattle.std.proofs.Common.{rules, length, sym, subst, arith}
 use Rattle.std.specs.Prelude.{slice_range}
-use Rattle.ether_peel.specs.PeelStart.{start_with}
-use Rattle.ether_peel.specs.Completion.{Completes}
-use Rattle.ether_peel.proofs.ShownRefusal.{Found, found, nothing, Filled, filled}
+use Rattle.ether_peel.specs.Walker.Start.{start_with}
+use Rattle.ether_peel.specs.Grammar.Completion.{Completes}
+use Rattle.ether_peel.proofs.Walker.ShownRefusal.{Found, found, nothing, Filled, filled}
 use Rattle.ether_peel.proofs.completing.completed.Goals as goal
 use Rattle.ether_peel.proofs.completing.completed.Goals.{In-Len, In_ok-plan}
 

@@ -1,6 +1,6 @@
 use Rattle.std.proofs.Common.{rules, ◌≡◌, ◌-◌, ℕ, List, [], ◌∷◌, ◌++◌, length, take, replicate, ap, ◌∙◌, arith}
 use Rattle.std.proofs.lemmas.List.{take-replicate}
-use Rattle.ether_peel.specs.Completion.{first_filled}
+use Rattle.ether_peel.specs.Grammar.Completion.{first_filled}
 use Rattle.ether_peel.proofs.completing.fill.Goals as goal
 
 pub returns : goal.returns

@@ -2,8 +2,8 @@ use Rattle.std.proofs.Common.{◌≡◌, ◌+◌, ◌*◌, ◌<◌, ◌≤◌, �
 use Rattle.std.specs.Prelude.{Option, Some, None, MatchOption, slice_index}
 use Rattle.etherparse.specs.Types.Layer.{Layer}
 use Rattle.etherparse.specs.Types.Layer.TheVariants as layers
-use Rattle.ether_peel.specs.Completion.{CanBeCompleted, Plan as IsPlan, IsShort}
-use Rattle.ether_peel.specs.Completion as plans
+use Rattle.ether_peel.specs.Grammar.Completion.{CanBeCompleted, Plan as IsPlan, IsShort}
+use Rattle.ether_peel.specs.Grammar.Completion as plans
 use Rattle.ether_peel.specs.declared.completing.Plan.{Plan}
 use Rattle.ether_peel.proofs.completing.planned.Goals as goal
 

@@ -1,7 +1,7 @@
 use Rattle.std.proofs.Common.{◌≡◌, ◌+◌, ◌≤◌, ℕ, true, false, sym, ap, ◌∙◌, arith}
 use Rattle.std.specs.Prelude.{Option, unwrap_or}
 use Rattle.etherparse.specs.Macsec.{sec_tag_front_in, sec_tag_len, known_payload_len, tag_bytes}
-use Rattle.ether_peel.proofs.TagFront.{never_refused, tag_most, plan_typed, plan_sealed}
+use Rattle.ether_peel.proofs.Walker.TagFront.{never_refused, tag_most, plan_typed, plan_sealed}
 use Rattle.ether_peel.proofs.completing.planned_tag.Goals as goal
 
 pub returns-in_default-from_slice : goal.returns-in_default-from_slice

@@ -1,6 +1,6 @@
 use Rattle.std.proofs.Common.{arith}
-use Rattle.ether_peel.specs.PeelStart.{start_with}
-use Rattle.ether_peel.proofs.FeedingLemmas.{FeedsUnit, FeedsFault, FeedsMore, offset_inside, feeds_unit, feeds_fault, feeds_more, feed_of_fault, feed_of_none}
+use Rattle.ether_peel.specs.Walker.Start.{start_with}
+use Rattle.ether_peel.proofs.Walker.Feeding.{FeedsUnit, FeedsFault, FeedsMore, offset_inside, feeds_unit, feeds_fault, feeds_more, feed_of_fault, feed_of_none}
 use Rattle.ether_peel.proofs.feeding.fed.Goals as goal
 use Rattle.ether_peel.proofs.feeding.fed.Goals.{In-Some-Ok, In-Some-Err, After-go_on}
 

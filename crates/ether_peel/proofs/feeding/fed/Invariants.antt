@@ -1,6 +1,6 @@
 use Rattle.std.proofs.Common.{◌+◌, ◌-◌, length}
-use Rattle.ether_peel.specs.PeelStart.{start_with}
-use Rattle.ether_peel.proofs.FeedingLemmas.{Feeds}
+use Rattle.ether_peel.specs.Walker.Start.{start_with}
+use Rattle.ether_peel.proofs.Walker.Feeding.{Feeds}
 use Rattle.ether_peel.proofs.feeding.fed.Given as goal
 
 abbrev pub invariant-loop-fault : goal.invariant-loop-fault

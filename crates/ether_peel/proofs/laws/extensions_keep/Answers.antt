@@ -1,4 +1,4 @@
-use Rattle.ether_peel.proofs.Extensions.{extensions_keep}
+use Rattle.ether_peel.proofs.Grammar.Extensions.{extensions_keep}
 use Rattle.ether_peel.proofs.laws.extensions_keep.Goals as goal
 
 pub returns : goal.returns

@@ -1,4 +1,4 @@
-use Rattle.ether_peel.proofs.WriteBack.{headers_go_back}
+use Rattle.ether_peel.proofs.Grammar.Cleared.{headers_go_back}
 use Rattle.ether_peel.proofs.laws.headers_go_back.Goals as goal
 
 pub returns : goal.returns

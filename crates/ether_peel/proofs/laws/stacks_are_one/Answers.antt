@@ -1,4 +1,4 @@
-use Rattle.ether_peel.proofs.StackLemmas.{some_stack, one_stack}
+use Rattle.ether_peel.proofs.Grammar.Stacks.{some_stack, one_stack}
 use Rattle.ether_peel.proofs.laws.stacks_are_one.Goals as goal
 
 pub returns : goal.returns

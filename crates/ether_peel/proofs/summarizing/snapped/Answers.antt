@@ -1,6 +1,6 @@
 use Rattle.std.proofs.Common.{arith}
-use Rattle.ether_peel.specs.PeelStart.{start_with}
-use Rattle.ether_peel.proofs.Cuts.{cuts_keep}
+use Rattle.ether_peel.specs.Walker.Start.{start_with}
+use Rattle.ether_peel.proofs.Grammar.Cuts.{cuts_keep}
 use Rattle.ether_peel.proofs.summarizing.snapped.Goals as goal
 
 pub returns : goal.returns

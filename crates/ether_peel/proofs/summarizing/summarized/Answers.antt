@@ -1,10 +1,10 @@
 use Rattle.std.proofs.Common.{◌≡◌, ◌+◌, ◌/◌, length, sym, ap, subst, arith, rules}
 use Rattle.std.specs.Iterator.{size}
-use Rattle.ether_peel.specs.PeelState.{State}
-use Rattle.ether_peel.specs.PeelStart.{start_with}
-use Rattle.ether_peel.specs.Peel.{items_left}
-use Rattle.ether_peel.specs.Summary.{IsSummary}
-use Rattle.ether_peel.proofs.WalkedLemmas.{walked_start, walked_unit, walked_fault, walked_none}
+use Rattle.ether_peel.specs.Walker.State.{State}
+use Rattle.ether_peel.specs.Walker.Start.{start_with}
+use Rattle.ether_peel.specs.Walker.Next.{items_left}
+use Rattle.ether_peel.specs.Walker.Summary.{IsSummary}
+use Rattle.ether_peel.proofs.Walker.Summarizing.{walked_start, walked_unit, walked_fault, walked_none}
 use Rattle.ether_peel.proofs.summarizing.summarized.Goals as goal
 
 pub loop-units-init : goal.loop-units-init

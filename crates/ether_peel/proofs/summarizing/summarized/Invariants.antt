@@ -1,8 +1,8 @@
 use Rattle.std.proofs.Common.{◌+◌, ◌/◌, ◌≤◌, length}
 use Rattle.std.specs.Iterator.{size}
-use Rattle.ether_peel.specs.PeelStart.{start_with}
-use Rattle.ether_peel.specs.Peel.{items_left}
-use Rattle.ether_peel.proofs.WalkedLemmas.{Walked}
+use Rattle.ether_peel.specs.Walker.Start.{start_with}
+use Rattle.ether_peel.specs.Walker.Next.{items_left}
+use Rattle.ether_peel.proofs.Walker.Summarizing.{Walked}
 use Rattle.ether_peel.proofs.summarizing.summarized.Given as goal
 
 abbrev pub invariant-loop-units : goal.invariant-loop-units

@@ -1,9 +1,9 @@
 use Rattle.std.proofs.Common.{arith}
-use Rattle.ether_peel.specs.PeelStart.{next_of}
-use Rattle.ether_peel.specs.Stack.{whole}
-use Rattle.ether_peel.proofs.Limits.{cut_off}
-use Rattle.ether_peel.proofs.WalkedLemmas.{unlimited_summary}
-use Rattle.ether_peel.specs.PeelStart.{start_of}
+use Rattle.ether_peel.specs.Walker.Start.{next_of}
+use Rattle.ether_peel.specs.Grammar.Stack.{whole}
+use Rattle.ether_peel.proofs.Walker.Limits.{cut_off}
+use Rattle.ether_peel.proofs.Walker.Summarizing.{unlimited_summary}
+use Rattle.ether_peel.specs.Walker.Start.{start_of}
 use Rattle.std.specs.Prelude.{Some}
 use Rattle.ether_peel.proofs.summarizing.summary_limited.Goals as goal
 

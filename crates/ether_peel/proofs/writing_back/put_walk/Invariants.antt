@@ -1,5 +1,5 @@
-use Rattle.ether_peel.specs.PeelStart.{start_with}
-use Rattle.ether_peel.proofs.WriteBackLemmas.{WritesSoFar}
+use Rattle.ether_peel.specs.Walker.Start.{start_with}
+use Rattle.ether_peel.proofs.Walker.WritingBack.{WritesSoFar}
 use Rattle.ether_peel.proofs.writing_back.put_walk.Given as goal
 
 abbrev pub invariant-loop-unit : goal.invariant-loop-unit

@@ -1,5 +1,5 @@
 use Rattle.std.proofs.Common.{◌≡◌, ap, ◌∙◌, sym, arith}
-use Rattle.ether_peel.specs.Stack.{Ending, last_window}
+use Rattle.ether_peel.specs.Grammar.Stack.{Ending, last_window}
 use Rattle.ether_peel.specs.declared.walk_summary.Summary.{Summary}
 use Rattle.ether_peel.proofs.writing_back.written.Goals as goal
 

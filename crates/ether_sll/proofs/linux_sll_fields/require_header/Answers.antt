@@ -1,5 +1,5 @@
 use Rattle.std.proofs.Common.{refl}
-use Rattle.ether_base.specs.Refusal as rows
+use Rattle.ether_base.specs.Formats.Refusal as rows
 use Rattle.ether_sll.proofs.linux_sll_fields.require_header.Goals as goal
 
 pub returns-then-slice-lt-LEN-clause-refused : goal.returns-then-slice-lt-LEN-clause-refused

@@ -1,4 +1,4 @@
-use Rattle.ether_peel.specs.PeelStart.{start_with}
+use Rattle.ether_peel.specs.Walker.Start.{start_with}
 use Rattle.ether_tool.proofs.FeedTextLemmas.{fed_fault, fed_whole}
 use Rattle.ether_tool.proofs.feed_text.put_feed.Goals as goal
 

@@ -1,6 +1,6 @@
 use Rattle.std.proofs.Common.{◌≡◌, ℕ, ◌+◌, List, ◌++◌, length, Bool, ap, subst, ◌∙◌, arith}
 use Rattle.std.specs.Prelude.{codes}
-use Rattle.ether_peel.specs.PeelStart.{start_with}
+use Rattle.ether_peel.specs.Walker.Start.{start_with}
 use Rattle.ether_tool.specs.OutputBuffer.{Takes}
 use Rattle.ether_tool.specs.ViewLines.{view_text, rest_view_text}
 use Rattle.ether_tool.proofs.WalkTextLemmas.{walk_unit, walk_fault, walk_rest}

@@ -1,6 +1,6 @@
 use Rattle.std.specs.Iterator.{size}
-use Rattle.ether_peel.specs.PeelStart.{start_with}
-use Rattle.ether_peel.specs.Peel.{items_left}
+use Rattle.ether_peel.specs.Walker.Start.{start_with}
+use Rattle.ether_peel.specs.Walker.Next.{items_left}
 use Rattle.ether_tool.proofs.WalkTextLemmas.{PutsWalk}
 use Rattle.ether_tool.proofs.walk_text.put_walk.Given as goal
 

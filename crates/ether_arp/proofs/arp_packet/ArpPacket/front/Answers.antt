@@ -1,5 +1,5 @@
 use Rattle.std.proofs.Common.{subst}
-use Rattle.ether_base.specs.Arp.{FitsArp}
+use Rattle.ether_base.specs.Formats.Arp.{FitsArp}
 use Rattle.ether_arp.proofs.Packed.{packed_fits}
 use Rattle.ether_arp.proofs.arp_packet.ArpPacket.front.Goals as goal
 

@@ -1,6 +1,6 @@
 use Rattle.std.proofs.Common.{◌&&◌, Bool, ◌∙◌}
 use Rattle.std.specs.Str.{bytes_eq}
-use Rattle.ether_base.specs.Arp.{ArpValue}
+use Rattle.ether_base.specs.Formats.Arp.{ArpValue}
 use Rattle.ether_arp.proofs.Packed.{same_addrs}
 use Rattle.ether_arp.proofs.arp_packet.ArpPacket.has_same_addrs.Goals as goal
 

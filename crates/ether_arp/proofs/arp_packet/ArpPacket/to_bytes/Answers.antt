@@ -1,9 +1,9 @@
 use Rattle.std.proofs.Common.{ℕ, List, ◌++◌, length, ap, sym, subst, ◌∙◌}
 use Rattle.ether_base.specs.declared.len_source.LenSource.TheVariants as sources
-use Rattle.ether_base.specs.Header as headers
-use Rattle.ether_base.specs.Header.{Means}
-use Rattle.ether_base.specs.Kind as kinds
-use Rattle.ether_base.specs.Refusal.{Accepts}
+use Rattle.ether_base.specs.Formats.Header as headers
+use Rattle.ether_base.specs.Formats.Header.{Means}
+use Rattle.ether_base.specs.Formats.Kind as kinds
+use Rattle.ether_base.specs.Formats.Refusal.{Accepts}
 use Rattle.ether_base.proofs.ReadBack.{length-header_bytes, means-header_bytes}
 use Rattle.ether_arp.proofs.Writing.{written_accepted}
 use Rattle.ether_arp.proofs.arp_packet.ArpPacket.to_bytes.Goals as goal

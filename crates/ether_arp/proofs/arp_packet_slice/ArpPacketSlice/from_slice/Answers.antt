@@ -1,8 +1,8 @@
 use Rattle.std.proofs.Common.{◌≡◌, ℕ, ◌-◌, take, subst, arith}
 use Rattle.ether_base.specs.declared.len_source.LenSource.TheVariants as sources
-use Rattle.ether_base.specs.Arp.{arp_of}
-use Rattle.ether_base.specs.Header as headers
-use Rattle.ether_base.specs.Header.{Means}
+use Rattle.ether_base.specs.Formats.Arp.{arp_of}
+use Rattle.ether_base.specs.Formats.Header as headers
+use Rattle.ether_base.specs.Formats.Header.{Means}
 use Rattle.ether_arp.proofs.Reading.{arp_accepted, means_part}
 use Rattle.ether_arp.proofs.arp_packet_slice.ArpPacketSlice.from_slice.Goals as goal
 

@@ -1,5 +1,5 @@
 use Rattle.std.proofs.Common.{ap, ◌∙◌}
-use Rattle.ether_base.specs.Arp.{arp_of}
+use Rattle.ether_base.specs.Formats.Arp.{arp_of}
 use Rattle.ether_arp.proofs.Packed.{packed_of}
 use Rattle.ether_arp.proofs.arp_packet_slice.ArpPacketSlice.to_packet.Goals as goal
 

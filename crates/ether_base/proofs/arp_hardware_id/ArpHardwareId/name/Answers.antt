@@ -1,5 +1,5 @@
 use Rattle.std.proofs.Common.{◌++◌}
-use Rattle.ether_base.specs.ArpHardwareId.{arp_hardware_description, assigned_descriptions, link_descriptions}
+use Rattle.ether_base.specs.Enumerations.ArpHardwareId.{arp_hardware_description, assigned_descriptions, link_descriptions}
 use Rattle.ether_base.proofs.NumberText.{description_in-append, option_copied-or}
 use Rattle.ether_base.proofs.arp_hardware_id.ArpHardwareId.name.Goals as goal
 

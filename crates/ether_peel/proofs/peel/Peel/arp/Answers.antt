@@ -4,12 +4,12 @@ use Rattle.etherparse.specs.Arp.{arp_of, arp_len, arp_front_in}
 use Rattle.etherparse.specs.Header.{header_len}
 use Rattle.etherparse.specs.Header as headers
 use Rattle.etherparse.specs.Kind as kinds
-use Rattle.ether_peel.specs.PeelState.{State}
-use Rattle.ether_peel.specs.Expectation.{AfterArp, announced}
-use Rattle.ether_peel.specs.Peel.{Gives}
+use Rattle.ether_peel.specs.Walker.State.{State}
+use Rattle.ether_peel.specs.Grammar.Expectation.{AfterArp, announced}
+use Rattle.ether_peel.specs.Walker.Next.{Gives}
 use Rattle.ether_peel.specs.declared.peel_unit.PeelUnit.TheVariants as units
-use Rattle.ether_peel.proofs.PeelLemmas.{shown, gives_unit, plain_part, refused_len}
-use Rattle.ether_peel.proofs.UnitLemmas.{packet_taken}
+use Rattle.ether_peel.proofs.Walker.Steps.{shown, gives_unit, plain_part, refused_len}
+use Rattle.ether_peel.proofs.Walker.Units.{packet_taken}
 use Rattle.ether_peel.proofs.peel.Peel.arp.Goals as goal
 
 pub fault-requires : goal.fault-requires

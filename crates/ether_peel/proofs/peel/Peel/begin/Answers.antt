@@ -1,9 +1,9 @@
 use Rattle.std.proofs.Common.{◌≡◌, refl, sym, subst, arith, rules}
-use Rattle.ether_peel.specs.Expectation.{Expectation}
-use Rattle.ether_peel.specs.Stack.{whole, Stack}
-use Rattle.ether_peel.specs.PeelStart.{start_with}
-use Rattle.ether_peel.specs.PeelState.{expected_of}
-use Rattle.ether_peel.proofs.StackLemmas.{some_stack}
+use Rattle.ether_peel.specs.Grammar.Expectation.{Expectation}
+use Rattle.ether_peel.specs.Grammar.Stack.{whole, Stack}
+use Rattle.ether_peel.specs.Walker.Start.{start_with}
+use Rattle.ether_peel.specs.Walker.State.{expected_of}
+use Rattle.ether_peel.proofs.Grammar.Stacks.{some_stack}
 use Rattle.ether_peel.proofs.peel.Peel.begin.Goals as goal
 
 pub returns-clause-walk : goal.returns-clause-walk

@@ -3,11 +3,11 @@ use Rattle.std.specs.Prelude.{slice_range, Some, Ok}
 use Rattle.etherparse.specs.Ethernet2.{ethernet2_of}
 use Rattle.etherparse.specs.Header as headers
 use Rattle.etherparse.specs.Kind as kinds
-use Rattle.ether_peel.specs.PeelState.{State}
-use Rattle.ether_peel.specs.Expectation.{EtherType, announced}
-use Rattle.ether_peel.specs.Peel.{Gives}
+use Rattle.ether_peel.specs.Walker.State.{State}
+use Rattle.ether_peel.specs.Grammar.Expectation.{EtherType, announced}
+use Rattle.ether_peel.specs.Walker.Next.{Gives}
 use Rattle.ether_peel.specs.declared.peel_unit.PeelUnit.TheVariants as units
-use Rattle.ether_peel.proofs.PeelLemmas.{shown, gives_unit, plain_part, refused_len}
+use Rattle.ether_peel.proofs.Walker.Steps.{shown, gives_unit, plain_part, refused_len}
 use Rattle.ether_peel.proofs.peel.Peel.ethernet2.Goals as goal
 
 pub fault-requires : goal.fault-requires

@@ -6,11 +6,11 @@ use Rattle.etherparse.specs.Kind as kinds
 use Rattle.etherparse.specs.Types.LenSource.TheVariants as sources
 use Rattle.etherparse.proofs.SubLists.{length-part}
 use Rattle.etherparse.proofs.Means.{unit_fits}
-use Rattle.ether_peel.specs.PeelState.{State}
-use Rattle.ether_peel.specs.Expectation.{EtherType, announced}
-use Rattle.ether_peel.specs.Peel.{Gives}
+use Rattle.ether_peel.specs.Walker.State.{State}
+use Rattle.ether_peel.specs.Grammar.Expectation.{EtherType, announced}
+use Rattle.ether_peel.specs.Walker.Next.{Gives}
 use Rattle.ether_peel.specs.declared.peel_unit.PeelUnit.TheVariants as units
-use Rattle.ether_peel.proofs.PeelLemmas.{shown, gives_unit, moved_part, refused_len}
+use Rattle.ether_peel.proofs.Walker.Steps.{shown, gives_unit, moved_part, refused_len}
 use Rattle.ether_peel.proofs.peel.Peel.ethernet2_fcs.Goals as goal
 
 pub fault-requires : goal.fault-requires

@@ -1,10 +1,10 @@
 use Rattle.std.proofs.Common.{sym, subst}
 use Rattle.std.specs.Prelude.{Some, Err}
-use Rattle.ether_peel.specs.PeelState.{State}
-use Rattle.ether_peel.specs.Peel.{Gives}
-use Rattle.ether_peel.specs.PeelRead.{IsRefusedBy}
+use Rattle.ether_peel.specs.Walker.State.{State}
+use Rattle.ether_peel.specs.Walker.Next.{Gives}
+use Rattle.ether_peel.specs.Walker.Reading.{IsRefusedBy}
 use Rattle.ether_peel.specs.declared.peel_error.PeelError.{PeelError}
-use Rattle.ether_peel.proofs.PeelLemmas.{shown, gives_fault, fault_at, ended}
+use Rattle.ether_peel.proofs.Walker.Steps.{shown, gives_fault, fault_at, ended}
 use Rattle.ether_peel.proofs.peel.Peel.fault.Goals as goal
 
 pub returns-clause-gives : goal.returns-clause-gives

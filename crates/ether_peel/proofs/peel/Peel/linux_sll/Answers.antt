@@ -3,11 +3,11 @@ use Rattle.std.specs.Prelude.{slice_range, Some, Ok}
 use Rattle.etherparse.specs.LinuxSll.{linux_sll_of, IsRefusedSll}
 use Rattle.etherparse.specs.Header as headers
 use Rattle.etherparse.specs.Kind as kinds
-use Rattle.ether_peel.specs.PeelState.{State, shown_of}
-use Rattle.ether_peel.specs.Expectation.{announced}
-use Rattle.ether_peel.specs.Peel.{Gives}
+use Rattle.ether_peel.specs.Walker.State.{State, shown_of}
+use Rattle.ether_peel.specs.Grammar.Expectation.{announced}
+use Rattle.ether_peel.specs.Walker.Next.{Gives}
 use Rattle.ether_peel.specs.declared.peel_unit.PeelUnit.TheVariants as units
-use Rattle.ether_peel.proofs.PeelLemmas.{shown, after_capture_is, gives_unit, plain_part, refused_len, refused_linux_sll}
+use Rattle.ether_peel.proofs.Walker.Steps.{shown, after_capture_is, gives_unit, plain_part, refused_len, refused_linux_sll}
 use Rattle.ether_peel.proofs.peel.Peel.linux_sll.Goals as goal
 
 pub fault-requires : goal.fault-requires

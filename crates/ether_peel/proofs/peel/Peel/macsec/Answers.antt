@@ -4,14 +4,14 @@ use Rattle.etherparse.specs.Types.MacsecSlice.{MacsecSlice}
 use Rattle.etherparse.proofs.SubLists.{length-part}
 use Rattle.etherparse.specs.Macsec.{sec_tag_of, tag_bytes}
 use Rattle.etherparse.specs.Header as headers
-use Rattle.ether_peel.specs.PeelState.{State, shown_of}
-use Rattle.ether_peel.specs.Expectation.{announced, announced_next, permitted}
-use Rattle.ether_peel.specs.PeelStart.{next_shown}
-use Rattle.ether_peel.proofs.Windows.{payload_closed, payload_bound}
-use Rattle.ether_peel.specs.Peel.{Gives, ShowsMacsec}
+use Rattle.ether_peel.specs.Walker.State.{State, shown_of}
+use Rattle.ether_peel.specs.Grammar.Expectation.{announced, announced_next, permitted}
+use Rattle.ether_peel.specs.Walker.Start.{next_shown}
+use Rattle.ether_peel.proofs.Grammar.Windows.{payload_closed, payload_bound}
+use Rattle.ether_peel.specs.Walker.Next.{Gives, ShowsMacsec}
 use Rattle.ether_peel.specs.declared.peel_unit.PeelUnit.TheVariants as units
-use Rattle.ether_peel.proofs.PeelLemmas.{shown, gives_unit, nearer}
-use Rattle.ether_peel.proofs.UnitLemmas.{tag_read, tag_payload_part, marked}
+use Rattle.ether_peel.proofs.Walker.Steps.{shown, gives_unit, nearer}
+use Rattle.ether_peel.proofs.Walker.Units.{tag_read, tag_payload_part, marked}
 use Rattle.ether_peel.proofs.peel.Peel.macsec.Goals as goal
 
 pub invariant_of-self : goal.invariant_of-self

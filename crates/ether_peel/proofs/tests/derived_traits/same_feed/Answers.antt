@@ -1,5 +1,5 @@
 use Rattle.std.proofs.lemmas.Bool.Decides.{Decides-at}
-use Rattle.ether_peel.proofs.SameValues.{feeds_Decides}
+use Rattle.ether_peel.proofs.Walker.SameValues.{feeds_Decides}
 use Rattle.ether_peel.proofs.tests.derived_traits.same_feed.Goals as goal
 
 pub returns : goal.returns

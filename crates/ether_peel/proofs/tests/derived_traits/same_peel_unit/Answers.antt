@@ -1,5 +1,5 @@
 use Rattle.std.proofs.lemmas.Bool.Decides.{Decides-at}
-use Rattle.ether_peel.proofs.SameValues.{units_Decides}
+use Rattle.ether_peel.proofs.Walker.SameValues.{units_Decides}
 use Rattle.ether_peel.proofs.tests.derived_traits.same_peel_unit.Goals as goal
 
 pub returns : goal.returns

@@ -1,5 +1,5 @@
 use Rattle.std.proofs.Common.{◌≡◌, length, sym, subst, rules}
-use Rattle.ether_base.specs.LinuxSll.{IsLinuxSll}
+use Rattle.ether_base.specs.Formats.LinuxSll.{IsLinuxSll}
 use Rattle.ether_base.proofs.LinuxSllFields.{linux_sll_whole, linux_sll_bytes-read}
 use Rattle.ether_sll.proofs.LinuxSllFields.{holds_accepts}
 use Rattle.ether_sll.proofs.linux_sll_header.LinuxSllHeader.from_bytes.Goals as goal

@@ -1,6 +1,6 @@
 use Rattle.std.proofs.Common.{ap, ◌∙◌, arith}
-use Rattle.ether_base.specs.LinuxSll.{LinuxSllValue}
-use Rattle.ether_base.specs.LinuxSllProtocolType.{protocol_of}
+use Rattle.ether_base.specs.Formats.LinuxSll.{LinuxSllValue}
+use Rattle.ether_base.specs.Formats.LinuxSllProtocolType.{protocol_of}
 use Rattle.ether_base.proofs.LinuxSllFields.{linux_sll_of_front}
 use Rattle.ether_sll.specs.LinuxSll.{protocol_type_of_header}
 use Rattle.ether_sll.proofs.linux_sll_header.LinuxSllHeader.from_slice.Goals as goal

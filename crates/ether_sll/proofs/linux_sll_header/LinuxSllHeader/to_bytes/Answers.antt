@@ -1,6 +1,6 @@
 use Rattle.std.proofs.Common.{◌≤◌, ℕ, length, sym, ap, subst, ◌∙◌}
 use Rattle.ether_base.specs.Bytes.{IsBytes, number}
-use Rattle.ether_base.specs.LinuxSll.{LinuxSllValue, IsLinuxSll}
+use Rattle.ether_base.specs.Formats.LinuxSll.{LinuxSllValue, IsLinuxSll}
 use Rattle.ether_base.proofs.Numbers.{IsBytes-spelled, length-spelled}
 use Rattle.ether_sll.proofs.LinuxSllFields.{read_back}
 use Rattle.ether_sll.proofs.linux_sll_header.LinuxSllHeader.to_bytes.Goals as goal

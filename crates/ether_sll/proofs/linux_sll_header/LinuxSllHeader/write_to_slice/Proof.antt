@@ -1,6 +1,6 @@
 -- The walk of `write_to_slice` at any header, at this one.
 use Rattle.std.proofs.Common.{[], refl}
-use Rattle.ether_base.specs.LinuxSll.{linux_sll_bytes}
+use Rattle.ether_base.specs.Formats.LinuxSll.{linux_sll_bytes}
 use Rattle.ether_base.specs.declared.err.layer.Layer.TheVariants as layers
 use Rattle.ether_base.proofs.WriteToSlice.{meets}
 use Rattle.ether_base.proofs.write_front.rest_from.Met.{met as rest-met}

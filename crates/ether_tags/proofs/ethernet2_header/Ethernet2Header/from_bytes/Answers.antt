@@ -1,5 +1,5 @@
 use Rattle.std.proofs.Common.{◌≡◌, length, sym, subst, rules}
-use Rattle.ether_base.specs.Ethernet2.{IsEthernet2}
+use Rattle.ether_base.specs.Formats.Ethernet2.{IsEthernet2}
 use Rattle.ether_base.proofs.Ethernet2Fields.{ethernet2_whole, ethernet2_bytes-read}
 use Rattle.ether_tags.proofs.ethernet2_header.Ethernet2Header.from_bytes.Goals as goal
 

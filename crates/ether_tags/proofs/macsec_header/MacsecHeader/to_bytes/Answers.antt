@@ -1,9 +1,9 @@
 use Rattle.std.proofs.Common.{◌++◌, List, ℕ, sym, subst}
 use Rattle.ether_base.specs.declared.len_source.LenSource.TheVariants as sources
-use Rattle.ether_base.specs.Header as headers
-use Rattle.ether_base.specs.Header.{Means}
-use Rattle.ether_base.specs.Kind as kinds
-use Rattle.ether_base.specs.Refusal.{AcceptsHeader, InvalidShortLen, RefusesHeader}
+use Rattle.ether_base.specs.Formats.Header as headers
+use Rattle.ether_base.specs.Formats.Header.{Means}
+use Rattle.ether_base.specs.Formats.Kind as kinds
+use Rattle.ether_base.specs.Formats.Refusal.{AcceptsHeader, InvalidShortLen, RefusesHeader}
 use Rattle.ether_base.proofs.Means.{tag_unique}
 use Rattle.ether_tags.proofs.SameHeaders.{macsec_headers_same}
 use Rattle.ether_base.proofs.ReadBack.{means-header_bytes}

@@ -4,9 +4,9 @@ use Rattle.std.proofs.lemmas.List.{length-take}
 use Rattle.ether_base.specs.Bytes.{IsBytes}
 use Rattle.ether_base.specs.declared.len_source.LenSource.TheVariants as sources
 use Rattle.ether_base.specs.declared.err.layer.Layer.TheVariants as layers
-use Rattle.ether_base.specs.Macsec.{SecTagFront, sec_tag_front_in, sec_tag_len}
-use Rattle.ether_base.specs.Refusal.{Length, UnexpectedVersion, InvalidShortLen, IsTooShort}
-use Rattle.ether_base.specs.Refusal as rows
+use Rattle.ether_base.specs.Formats.Macsec.{SecTagFront, sec_tag_front_in, sec_tag_len}
+use Rattle.ether_base.specs.Formats.Refusal.{Length, UnexpectedVersion, InvalidShortLen, IsTooShort}
+use Rattle.ether_base.specs.Formats.Refusal as rows
 use Rattle.ether_base.proofs.Rows.{sec_tag_front_read, accepts_tag}
 use Rattle.ether_base.proofs.MacsecFields.{sec_tag_front_taken, sec_tag_taken}
 use Rattle.ether_tags.specs.Macsec.{IsRefusedTag}

@@ -3,8 +3,8 @@ use Rattle.std.specs.Prelude.{slice_range, Option}
 use Rattle.ether_base.specs.declared.len_source.LenSource.TheVariants as sources
 use Rattle.ether_base.specs.declared.err.layer.Layer.TheVariants as layers
 use Rattle.ether_base.specs.Bytes.{IsBytes}
-use Rattle.ether_base.specs.Macsec.{SecTagValue, known_payload_len, sec_tag_front_in, sec_tag_len, sec_tag_of}
-use Rattle.ether_base.specs.Refusal.{Length}
+use Rattle.ether_base.specs.Formats.Macsec.{SecTagValue, known_payload_len, sec_tag_front_in, sec_tag_len, sec_tag_of}
+use Rattle.ether_base.specs.Formats.Refusal.{Length}
 use Rattle.ether_base.proofs.Means.{tag_unique}
 use Rattle.ether_base.proofs.MacsecFields.{sec_tag_means}
 use Rattle.ether_tags.specs.Macsec.{IsRefusedPacket, tag_bytes, payload_end, payload_source, readable_type}

@@ -1,5 +1,5 @@
 use Rattle.std.proofs.Common.{◌≡◌, length, sym, subst, rules}
-use Rattle.ether_base.specs.Vlan.{IsVlan}
+use Rattle.ether_base.specs.Formats.Vlan.{IsVlan}
 use Rattle.ether_base.proofs.VlanFields.{vlan_whole, vlan_bytes-read}
 use Rattle.ether_tags.proofs.single_vlan_header.SingleVlanHeader.from_bytes.Goals as goal
 

@@ -1,10 +1,10 @@
 use Rattle.std.proofs.Common.{◌≡◌, ℕ, List, ◌++◌, ◌<◌, refl, sym, ap, subst, ◌∙◌, arith}
 use Rattle.std.proofs.lemmas.List.{length-append}
 use Rattle.std.proofs.lemmas.Grind.{common_steps}
-use Rattle.ether_base.specs.Vlan.{FitsVlan, IsVlan, vlan_bytes, vlan_number}
+use Rattle.ether_base.specs.Formats.Vlan.{FitsVlan, IsVlan, vlan_bytes, vlan_number}
 use Rattle.ether_base.specs.declared.len_source.LenSource.TheVariants as sources
-use Rattle.ether_base.specs.Header as headers
-use Rattle.ether_base.specs.Header.{Means}
+use Rattle.ether_base.specs.Formats.Header as headers
+use Rattle.ether_base.specs.Formats.Header.{Means}
 use Rattle.ether_base.proofs.Means.{one_header}
 use Rattle.ether_base.proofs.ReadBack.{means-header_bytes, spells-header_bytes}
 use Rattle.ether_base.proofs.Rows.{accepts_vlan}

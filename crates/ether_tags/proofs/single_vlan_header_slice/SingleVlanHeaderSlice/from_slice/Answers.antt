@@ -1,8 +1,8 @@
 use Rattle.std.proofs.Common.{refl, arith, sym, subst}
 use Rattle.std.specs.Prelude.{slice_range}
-use Rattle.ether_base.specs.Kind as kinds
-use Rattle.ether_base.specs.Refusal as rows
-use Rattle.ether_base.specs.RefusedLen.{IsRefusedLen}
+use Rattle.ether_base.specs.Formats.Kind as kinds
+use Rattle.ether_base.specs.Formats.Refusal as rows
+use Rattle.ether_base.specs.Formats.RefusedLen.{IsRefusedLen}
 use Rattle.ether_base.proofs.SubLists.{IsBytes-part, length-part}
 use Rattle.ether_base.proofs.VlanFields.{vlan_whole}
 use Rattle.ether_tags.proofs.single_vlan_header_slice.SingleVlanHeaderSlice.from_slice.Goals as goal

@@ -1,7 +1,7 @@
 use Rattle.std.proofs.Common.{refl, arith, sym, subst}
-use Rattle.ether_base.specs.Kind as kinds
-use Rattle.ether_base.specs.Refusal as rows
-use Rattle.ether_base.specs.RefusedLen.{IsRefusedLen}
+use Rattle.ether_base.specs.Formats.Kind as kinds
+use Rattle.ether_base.specs.Formats.Refusal as rows
+use Rattle.ether_base.specs.Formats.RefusedLen.{IsRefusedLen}
 use Rattle.ether_base.proofs.VlanFields.{vlan_means}
 use Rattle.ether_tags.proofs.single_vlan_slice.SingleVlanSlice.from_slice.Goals as goal
 

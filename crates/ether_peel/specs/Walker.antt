@@ -1,0 +1,12 @@
+-- What a walker shows and gives, and what the calls that walk a list return, in the order in which it is to be read.
+pub mod State
+pub mod Start
+pub mod Reading
+pub mod Fault
+pub mod Next
+pub mod Summary
+pub mod WriteBack
+pub mod Limits
+pub mod Feeding
+pub mod SameUnit
+pub mod Texts

@@ -1,0 +1,59 @@
+-- A walker: what it shows at each moment, and what it gives, by the stack of the window that is left to read.
+use Rattle.std.specs.Prelude.{◌≡◌, ℕ, ◌+◌, ◌/◌, List, [], ◌∷◌, length, slice_range, Option, Some, None, Result, Ok, Err, true, false, if◌then◌else◌}
+use Rattle.std.specs.Iterator.{Count, at_most}
+use Rattle.etherparse.specs.Types.MacsecSlice.{MacsecSlice}
+use Rattle.etherparse.specs.Header.{Header, header_len, payload_len}
+use Rattle.etherparse.specs.Header as headers
+use Rattle.etherparse.specs.Macsec.{SecTagValue, readable_type, tag_bytes, payload_source, HoldsTyped}
+use Rattle.ether_peel.specs.Grammar.Window.{Window, within, IsIn, payload}
+use Rattle.ether_peel.specs.Grammar.Expectation.{after}
+use Rattle.ether_peel.specs.Grammar.Stack.{Ending, Accepted, Fault, Stack}
+use Rattle.ether_peel.specs.Walker.State.{State}
+use Rattle.ether_peel.specs.Walker.Fault.{fault_in}
+use Rattle.ether_peel.specs.declared.peel_unit.PeelUnit.{PeelUnit}
+use Rattle.ether_peel.specs.declared.peel_unit.PeelUnit.TheVariants as units
+use Rattle.ether_peel.specs.declared.peel_fault.PeelFault.{PeelFault}
+
+-- The walker stands before these headers and this ending: what it shows is this window of the list, and they are the
+-- stack there.
+pub record Faces (list : List ℕ) (w : Window) (s : State) (hs : List Header) (e : Ending) : Type 0 where
+  pub inside : IsIn list w
+  pub rest : s.rest ≡ within list w
+  pub offset : s.offset ≡ w.start
+  pub closed : s.closed ≡ w.closed
+  pub bound : s.bound ≡ w.bound
+  pub stack : Stack list s.expected w hs e
+
+-- a view of a SecTag has the tag's bytes, and the bytes of the payload's window with their type, where it can be read, and
+-- what named their number
+pub record ShowsMacsec (bytes rest : List ℕ) (t : SecTagValue) (m : MacsecSlice) : Type 0 where
+  pub header : tag_bytes m.header ≡ slice_range bytes 0 (header_len (headers.Macsec t))
+  pub payload : HoldsTyped m.payload (readable_type t.payload_type) (payload_source (payload_len (headers.Macsec t))) rest
+
+-- A view of a unit, of the bytes of the window in which it was read and those of the payload's window: it holds all of the
+-- former, but a SecTag's holds tag and payload, and an ARP packet's the packet.
+abbrev pub ShowsUnit : (bytes rest : List ℕ) → Header → PeelUnit → Type 0
+ShowsUnit bytes rest (headers.Ethernet2 e) u = u ≡ units.Ethernet2 (record { bytes = bytes; has_fcs = false })
+ShowsUnit bytes rest (headers.Ethernet2Fcs e) u = u ≡ units.Ethernet2 (record { bytes = bytes; has_fcs = true })
+ShowsUnit bytes rest (headers.LinuxSll s) u = u ≡ units.LinuxSll bytes
+ShowsUnit bytes rest (headers.Vlan v) u = u ≡ units.Vlan bytes
+ShowsUnit bytes rest (headers.Macsec t) u = (m : MacsecSlice) × (u ≡ units.Macsec m) × ShowsMacsec bytes rest t m
+ShowsUnit bytes rest (headers.Arp a) u = u ≡ units.Arp (slice_range bytes 0 (header_len (headers.Arp a)))
+
+-- What comes next where these headers and this ending are faced: nothing, and nothing changes; the fault, after which
+-- nothing comes; the first header's unit, after which what it announces is expected, and the others are faced in the
+-- window of its payload.
+abbrev pub GivesNext : List ℕ → Window → List Header → Ending → State → Option (Result PeelUnit PeelFault) → State → Type 0
+GivesNext list w [] (Accepted v y) s r t = (r ≡ None) × (t ≡ s)
+GivesNext list w [] (Fault v y q) s r t = (r ≡ Some (Err (fault_in w q))) × (t ≡ record s { over = true })
+GivesNext list w (h ∷ hs) e s r t =
+    (u : PeelUnit) × (r ≡ Some (Ok u)) × ShowsUnit s.rest t.rest h u × (t.over ≡ false) × (t.expected ≡ after s.expected h) × Faces list (payload w h) t hs e
+
+-- a call of next
+pub record Gives (s : State) (r : Option (Result PeelUnit PeelFault)) (t : State) : Type 0 where
+  pub over : s.over ≡ true → (r ≡ None) × (t ≡ s)
+  pub next : s.over ≡ false → (list : List ℕ) (w : Window) (hs : List Header) (e : Ending) → Faces list w s hs e → GivesNext list w hs e s r t
+
+-- of k bytes at most k / 4 units and a fault are still to come, and nothing after the fault
+abbrev pub items_left : State → Count
+items_left s = at_most (if s.over then 0 else length s.rest / 4 + 1)
