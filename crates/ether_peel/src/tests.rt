@@ -61,7 +61,7 @@ fn cut_short(
     }
 }
 
-/// A fault at `offset` for what stands in the bytes.
+/// A fault at `offset` for the content of the bytes.
 fn content(offset: usize, closed: bool, error: PeelError) -> PeelFault {
     PeelFault {
         offset,

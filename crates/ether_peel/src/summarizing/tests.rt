@@ -155,18 +155,24 @@ fn cuts_of_a_vlan_tag_in_a_closed_macsec_window(rt: HostRuntime) {
     }
 }
 
-#[test]
-fn cuts_of_an_arp_request_with_padding(rt: HostRuntime) {
-    let short = snap(Start::Ethernet2, &PADDED_ARP, 21);
-    let fixed = len_error(8, 7, Layer::Arp, 14);
-    assert_eq!(rt; (short.units, short.fault), (1, open(fixed)));
-    let addresses = LenError {
+/// A cut in an ARP packet of `required_len` bytes that begins at `at`, of which `len` are left.
+fn cut_arp(required_len: usize, len: usize, at: usize) -> Option<PeelFault> {
+    if len < 8 {
+        return open(len_error(8, len, Layer::Arp, at));
+    }
+    open(LenError {
         len_source: LenSource::ArpAddrLengths,
-        ..len_error(28, 27, Layer::Arp, 14)
-    };
-    let cut = snap(Start::Ethernet2, &PADDED_ARP, 41);
-    assert_eq!(rt; (cut.units, cut.fault), (1, open(addresses)));
-    for n in [42, 50] {
+        ..len_error(required_len, len, Layer::Arp, at)
+    })
+}
+
+#[test]
+fn every_cut_of_an_arp_request_with_padding(rt: HostRuntime) {
+    for n in 14..42 {
+        let cut = snap(Start::Ethernet2, &PADDED_ARP, n);
+        assert_eq!(rt; (cut.units, cut.fault), (1, cut_arp(28, n - 14, 14)), "{n}");
+    }
+    for n in 42..=60 {
         let whole = Summary {
             units: 2,
             rest_start: 42,
@@ -175,6 +181,27 @@ fn cuts_of_an_arp_request_with_padding(rt: HostRuntime) {
             fault: None,
         };
         assert_eq!(rt; snap(Start::Ethernet2, &PADDED_ARP, n), whole);
+    }
+}
+
+#[test]
+fn every_cut_of_the_greatest_arp_packet(rt: HostRuntime) {
+    let mut list = [0; 1030];
+    list[..8].copy_from_slice(&[0x00, 0x01, 0x08, 0x00, 0xFF, 0xFF, 0x00, 0x01]);
+    let arp = Start::EtherType(EtherType::ARP);
+    for n in 0..1028 {
+        let cut = snap(arp, &list, n);
+        assert_eq!(rt; (cut.units, cut.fault), (0, cut_arp(1028, n, 0)), "{n}");
+    }
+    for n in 1028..=1030 {
+        let whole = Summary {
+            units: 1,
+            rest_start: 1028,
+            rest_end: n,
+            kind: RestKind::AfterArp,
+            fault: None,
+        };
+        assert_eq!(rt; snap(arp, &list, n), whole);
     }
 }
 
@@ -200,6 +227,18 @@ fn closed_windows_in_one_another(rt: HostRuntime) {
     assert_eq!(rt; summary(MACSEC, &NESTED), whole);
 }
 
+/// The walk gives so many units, and then this fault.
+fn gives_fault(rt: &impl Abort, bytes: &[u8], units: usize, fault: &PeelFault) {
+    let mut peel = Peel::new(MACSEC, bytes);
+    for _ in 0..units {
+        assert!(rt; matches!(peel.next(), Some(Ok(_))), "{bytes:?}");
+    }
+    let Some(Err(found)) = peel.next() else {
+        panic!(rt; "{bytes:?} is not refused");
+    };
+    assert_eq!(rt; &found, fault);
+}
+
 /// The nested tags with another byte at a place are refused, alone and with bytes after them, by the same fault.
 fn refuses_nested(rt: &impl Abort, place: usize, byte: u8, units: usize, fault: &PeelFault) {
     let mut bytes = [0xFF; 1032];
@@ -214,6 +253,7 @@ fn refuses_nested(rt: &impl Abort, place: usize, byte: u8, units: usize, fault: 
             (units, Some(fault)),
             "{len} bytes"
         );
+        gives_fault(rt, &bytes[..len], units, fault);
     }
     assert_eq!(rt; fault.missing(), None);
 }

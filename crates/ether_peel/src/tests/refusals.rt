@@ -4,13 +4,13 @@ use super::{
     vlan, with_type,
 };
 use crate::test_frames::{ADDRESSES, COOKED, COOKED_GRE, NAMED, SECOND_TAG_CUT, TAGGED};
-use crate::{Peel, PeelError, PeelFault, RestKind, Start};
+use crate::{Peel, PeelError, PeelFault, RestKind, Start, summary};
 use etherparse::err::{self, Layer};
 use etherparse::{ArpHardwareId, LenSource};
 use std::process::Abort;
 use std::test::Fail;
 
-/// After `units` units comes this fault, in a window of `rest` that is announced as `kind`.
+/// After `units` units comes this fault, in a window of `rest` that is announced as `kind`, by the walker and by `summary`.
 fn is_refused(
     rt: &impl Abort,
     start: Start,
@@ -20,6 +20,18 @@ fn is_refused(
     rest: &[u8],
     kind: &RestKind,
 ) {
+    let found = summary(start, bytes);
+    assert_eq!(rt; found.fault.as_ref(), Some(&fault), "{bytes:?}");
+    assert_eq!(rt;
+        (
+            found.units,
+            found.rest_start,
+            bytes.get(found.rest_start..found.rest_end),
+            found.kind
+        ),
+        (units, fault.offset, Some(rest), *kind),
+        "{bytes:?}"
+    );
     let mut peel = Peel::new(start, bytes);
     for _ in 0..units {
         assert!(rt; matches!(peel.next(), Some(Ok(_))), "{bytes:?}");
@@ -316,7 +328,7 @@ fn what_a_cooked_capture_is_refused_for(rt: HostRuntime) {
     );
 }
 
-/// After two units, from byte 22 on in a closed window, stands a third one in these bytes, and 2 bytes after them. It is
+/// After two units, from byte 22 on in a closed window, these bytes begin a third one, and 2 bytes follow them. It is
 /// refused with this fault.
 fn is_refused_in_a_payload<R: Abort + AllocGlobal>(
     rt: &R,
