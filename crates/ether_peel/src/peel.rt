@@ -1,10 +1,8 @@
 //! The walk through a frame.
 ghost use Rattle.std.specs.Prelude.{◌≡◌, ◌+◌, ◌^◌, ◌<◌, List, length, false, true, Some, is_some, if◌then◌else◌};
-ghost use Rattle.etherparse.specs.Header.{Header};
 ghost use Rattle.etherparse.specs.LinuxSll.{protocol_type_of_header};
-ghost use Rattle.ether_peel.specs.Grammar.Expectation.{has_fcs, announced_next, announced_by, lowered as lowered_of, permitted as permitted_of};
+ghost use Rattle.ether_peel.specs.Grammar.Expectation.{announced_next, announced_by, lowered as lowered_of, permitted as permitted_of};
 ghost use Rattle.ether_peel.specs.Walker.State.{shown_of};
-ghost use Rattle.ether_peel.specs.Grammar.Stack.{Ending, whole, Walk};
 ghost use Rattle.ether_peel.specs.Walker.Start.{start_of, start_with, limited_start, kind_shown, next_shown};
 ghost use Rattle.ether_peel.specs.Walker.Reading.{after_protocol, after_sec_tag, named_error, sec_tag_payload};
 
@@ -15,6 +13,9 @@ use etherparse::{
     MacsecPayloadSlice, MacsecSlice, SingleVlanSlice, err,
 };
 use std::marker::Model;
+
+/// An ether type that announces nothing.
+const UNANNOUNCED: EtherType = EtherType(0);
 
 /// The header that a walk begins with, until it was read.
 #[derive(Clone, Copy, Debug)]
@@ -76,13 +77,13 @@ impl<'a> Model for Peel<'a> {
 }
 
 impl<'a> Peel<'a> {
-    ghost use Rattle.ether_peel.specs.Walker.Next.{Faces};
+    ghost use Rattle.ether_peel.specs.Walker.Next.{begun, FacesWalk};
 
     /// A walk that has read nothing yet.
     #[inline(always)]
     pub fn new(start: Start, bytes: &'a [u8]) -> Peel<'a>
-        ensures state { result ≡ record { rest = bytes.now; offset = 0; closed = has_fcs (start_of start); bound = LenSource.Slice; expected = start_of start; over = false } }
-        ensures walk { (hs : List Header) × (e : Ending) × Walk (start_of start) bytes.now hs e × Faces bytes.now (whole (start_of start) bytes.now) result hs e }
+        ensures state { result ≡ begun (start_of start) bytes.now }
+        ensures walk { FacesWalk (start_of start) bytes.now result }
     {
         Peel::begin(start, bytes, None)
     }
@@ -107,8 +108,8 @@ impl<'a> Peel<'a> {
     /// ```
     #[inline(always)]
     pub fn with_limit(start: Start, bytes: &'a [u8], limit: usize) -> Peel<'a>
-        ensures state { result ≡ record { rest = bytes.now; offset = 0; closed = has_fcs (limited_start start limit); bound = LenSource.Slice; expected = limited_start start limit; over = false } }
-        ensures walk { (hs : List Header) × (e : Ending) × Walk (limited_start start limit) bytes.now hs e × Faces bytes.now (whole (limited_start start limit) bytes.now) result hs e }
+        ensures state { result ≡ begun (limited_start start limit) bytes.now }
+        ensures walk { FacesWalk (limited_start start limit) bytes.now result }
     {
         Peel::begin(start, bytes, Some(limit))
     }
@@ -116,13 +117,13 @@ impl<'a> Peel<'a> {
     /// A walk that has read nothing yet, with a limit or without.
     #[inline(always)]
     pub(crate) fn begin(start: Start, bytes: &'a [u8], limit: Option<usize>) -> Peel<'a>
-        ensures state { result ≡ record { rest = bytes.now; offset = 0; closed = has_fcs (start_with start limit); bound = LenSource.Slice; expected = start_with start limit; over = false } }
-        ensures walk { (hs : List Header) × (e : Ending) × Walk (start_with start limit) bytes.now hs e × Faces bytes.now (whole (start_with start limit) bytes.now) result hs e }
+        ensures state { result ≡ begun (start_with start limit) bytes.now }
+        ensures walk { FacesWalk (start_with start limit) bytes.now result }
     {
         let (first, announced, kind) = match start {
-            Start::Ethernet2 => (First::Ethernet2, EtherType(0), RestKind::Start),
-            Start::Ethernet2Fcs => (First::Ethernet2Fcs, EtherType(0), RestKind::Start),
-            Start::LinuxSll => (First::LinuxSll, EtherType(0), RestKind::Start),
+            Start::Ethernet2 => (First::Ethernet2, UNANNOUNCED, RestKind::Start),
+            Start::Ethernet2Fcs => (First::Ethernet2Fcs, UNANNOUNCED, RestKind::Start),
+            Start::LinuxSll => (First::LinuxSll, UNANNOUNCED, RestKind::Start),
             Start::EtherType(ether_type) => {
                 let announced = permitted(limit, ether_type);
                 (First::Read, announced, RestKind::EtherType(ether_type))
@@ -393,7 +394,7 @@ impl<'a> Peel<'a> {
             Ok(slice) => {
                 self.start += slice.slice().len();
                 self.first = First::Read;
-                self.announced = EtherType(0);
+                self.announced = UNANNOUNCED;
                 self.kind = RestKind::AfterArp;
                 Some(Ok(PeelUnit::Arp(slice)))
             }
@@ -425,7 +426,7 @@ fn permitted(limit: Option<usize>, ether_type: EtherType) -> EtherType
             | EtherType::PROVIDER_BRIDGING
             | EtherType::VLAN_DOUBLE_TAGGED_FRAME
             | EtherType::MACSEC,
-        ) => EtherType(0),
+        ) => UNANNOUNCED,
         _ => ether_type,
     }
 }
@@ -459,7 +460,7 @@ fn announced_in(packet: &LinuxSllSlice<'_>) -> (EtherType, RestKind)
             let ether_type = EtherType(u16::from(protocol_type));
             (ether_type, RestKind::EtherType(ether_type))
         }
-        _ => (EtherType(0), RestKind::Sll(protocol_type)),
+        _ => (UNANNOUNCED, RestKind::Sll(protocol_type)),
     }
 }
 
@@ -475,7 +476,7 @@ fn announced_after(payload: MacsecPayloadSlice<'_>) -> (EtherType, RestKind)
             payload.ether_type,
             RestKind::EtherType(payload.ether_type),
         ),
-        MacsecPayloadSlice::Modified(_) => (EtherType(0), RestKind::Sealed),
+        MacsecPayloadSlice::Modified(_) => (UNANNOUNCED, RestKind::Sealed),
     }
 }
 

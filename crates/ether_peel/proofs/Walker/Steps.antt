@@ -25,8 +25,8 @@ use Rattle.etherparse.proofs.SubLists.{length-part, part_of_part}
 use Rattle.etherparse.proofs.Rows.{one_row}
 use Rattle.etherparse.proofs.Means.{one_header, unit_fits}
 use Rattle.ether_peel.specs.Grammar.Window.{Window, within, IsIn, payload}
-use Rattle.ether_peel.proofs.Grammar.Windows.{payload_from}
-use Rattle.ether_peel.specs.Grammar.Expectation.{Expectation, EtherType, Sll, is_extension, announced, after_capture, next_after, lowered, after}
+use Rattle.ether_peel.proofs.Grammar.Windows.{payload_from, payload_finish, payload_closed, payload_bound}
+use Rattle.ether_peel.specs.Grammar.Expectation.{Expectation, Next, EtherType, Sll, is_extension, announced, after_capture, next_after, lowered, after}
 use Rattle.ether_peel.specs.Grammar.Stack.{Ending, Accepted, Fault, Stack}
 use Rattle.ether_peel.specs.Walker.State.{State, expected_of}
 use Rattle.ether_peel.specs.Walker.Fault.{error_at, fault_in}
@@ -291,6 +291,50 @@ gives_unit s t u r = record {
   over = λ over. absurd (not_over s.over r.going over);
   next = λ going list w hs e f. next_unit list w s t u hs e r f;
 }
+
+-- a header that names no length was read at the start of these bytes, n bytes long
+pub record IsReadPlain (bytes : List ℕ) (x : Expectation) (n : ℕ) (u : PeelUnit) (next : Next) (limit : Option ℕ) : Type 0 where
+  pub header : Header
+  pub no_len : payload_len header ≡ None
+  pub no_trailer : trailer_len header ≡ 0
+  pub announced : announced x ≡ Some (kind_of header)
+  pub accepted : Accepts sources.Slice bytes (kind_of header)
+  pub means : Means bytes header
+  pub shows : (rest : List ℕ) → ShowsUnit bytes rest header u
+  pub len : n ≡ header_len header
+  pub next_is : next ≡ next_after header
+  pub limit_is : limit ≡ lowered (is_extension (kind_of header)) x.limit
+
+-- the walk goes on after it, in the same window
+abbrev pub after_plain : Inside → ℕ → Next → Option ℕ → State
+after_plain a n next limit = record { rest = slice_range a.frame.now (a.start + n) a.end; offset = a.start + n; closed = a.is_closed; bound = a.bound; expected = record { next = next; limit = limit }; over = a.is_over }
+
+pub gives_plain : (a : Inside) (s : State) (n : ℕ) (u : PeelUnit) (next : Next) (limit : Option ℕ) → shown a ≡ s → s.over ≡ false → a.start ≤ a.end → a.end ≤ length a.frame.now
+    → IsReadPlain (slice_range a.frame.now a.start a.end) s.expected n u next limit → Gives s (Some (Ok u)) (after_plain a n next limit)
+gives_plain a s n u next limit is going ordered inside r =
+    let bytes = slice_range a.frame.now a.start a.end in
+    let h = r.header in
+    let over = ap (λ (z : State). z.over) is ∙ going in
+    let rest = slice_range a.frame.now (a.start + n) a.end in
+    let part = plain_part a.frame.now a.start a.end (header_len h) n a.is_closed ordered inside r.means.whole r.len in
+    let own : within bytes (own_payload (shown a) h) ≡ slice_range bytes (header_len h) (length bytes - 0) =
+    ap (λ (o : Option ℕ). slice_range bytes (header_len h) (payload_finish (header_len h) (trailer_len h) (length bytes) o)) r.no_len
+    ∙ ap (λ (k : ℕ). slice_range bytes (header_len h) (length bytes - k)) r.no_trailer in
+    subst (λ (z : State). Gives z (Some (Ok u)) (after_plain a n next limit)) is (gives_unit (shown a) (after_plain a n next limit) u (record {
+      going = over;
+      header = h;
+      announced = ap (λ (z : State). announced z.expected) is ∙ r.announced;
+      accepted = r.accepted;
+      means = r.means;
+      shows = r.shows rest;
+      rest = part ∙ sym own;
+      offset = ap (λ (k : ℕ). a.start + k) r.len;
+      closed = ap (payload_closed a.is_closed) (sym r.no_len);
+      bound = ap (payload_bound a.bound) (sym r.no_len);
+      next = r.next_is;
+      limit = r.limit_is ∙ ap (λ (z : State). lowered (is_extension (kind_of h)) z.expected.limit) (sym is);
+      over = over;
+    }))
 
 fewer : (over after : Bool) (n k : ℕ) → over ≡ false → k + 4 ≤ n → (if after then 0 else k / 4 + 1) < (if over then 0 else n / 4 + 1)
 fewer false true n k going le = omega arith

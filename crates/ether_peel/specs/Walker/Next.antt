@@ -1,21 +1,21 @@
 -- A walker: what it shows at each moment, and what it gives, by the stack of the window that is left to read.
 use Rattle.std.specs.Prelude.{◌≡◌, ℕ, ◌+◌, ◌/◌, List, [], ◌∷◌, length, slice_range, Option, Some, None, Result, Ok, Err, true, false, if◌then◌else◌}
 use Rattle.std.specs.Iterator.{Count, at_most}
+use Rattle.etherparse.specs.Types.LenSource.TheVariants as sources
 use Rattle.etherparse.specs.Types.MacsecSlice.{MacsecSlice}
 use Rattle.etherparse.specs.Header.{Header, header_len, payload_len}
 use Rattle.etherparse.specs.Header as headers
 use Rattle.etherparse.specs.Macsec.{SecTagValue, readable_type, tag_bytes, payload_source, HoldsTyped}
 use Rattle.ether_peel.specs.Grammar.Window.{Window, within, IsIn, payload}
-use Rattle.ether_peel.specs.Grammar.Expectation.{after}
-use Rattle.ether_peel.specs.Grammar.Stack.{Ending, Accepted, Fault, Stack}
+use Rattle.ether_peel.specs.Grammar.Expectation.{Expectation, after, has_fcs}
+use Rattle.ether_peel.specs.Grammar.Stack.{Ending, Accepted, Fault, Stack, whole, Walk}
 use Rattle.ether_peel.specs.Walker.State.{State}
 use Rattle.ether_peel.specs.Walker.Fault.{fault_in}
 use Rattle.ether_peel.specs.declared.peel_unit.PeelUnit.{PeelUnit}
 use Rattle.ether_peel.specs.declared.peel_unit.PeelUnit.TheVariants as units
 use Rattle.ether_peel.specs.declared.peel_fault.PeelFault.{PeelFault}
 
--- The walker stands before these headers and this ending: what it shows is this window of the list, and they are the
--- stack there.
+-- The walker faces these headers and this ending: what it shows is this window of the list, and they are the stack there.
 pub record Faces (list : List ℕ) (w : Window) (s : State) (hs : List Header) (e : Ending) : Type 0 where
   pub inside : IsIn list w
   pub rest : s.rest ≡ within list w
@@ -23,6 +23,17 @@ pub record Faces (list : List ℕ) (w : Window) (s : State) (hs : List Header) (
   pub closed : s.closed ≡ w.closed
   pub bound : s.bound ≡ w.bound
   pub stack : Stack list s.expected w hs e
+
+-- a walker that has read nothing of a list yet
+abbrev pub begun : Expectation → List ℕ → State
+begun x list = record { rest = list; offset = 0; closed = has_fcs x; bound = sources.Slice; expected = x; over = false }
+
+-- the walker faces the walk of a list
+pub record FacesWalk (x : Expectation) (list : List ℕ) (s : State) : Type 0 where
+  pub headers : List Header
+  pub ending : Ending
+  pub walk : Walk x list headers ending
+  pub faces : Faces list (whole x list) s headers ending
 
 -- a view of a SecTag has the tag's bytes, and the bytes of the payload's window with their type, where it can be read, and
 -- what named their number

@@ -13,7 +13,7 @@ loop-units-init c =
     let walk = c.begin-peel.ensures.walk in
     let going = ap (λ (s : State). s.over) c.begin-peel.ensures.state in
     let left : size (items_left c.begin-peel.result) ≡ length list / 4 + 1 = ap (λ (s : State). size (items_left s)) c.begin-peel.ensures.state in
-    (omega arith, walked_start (start_with c.args.start c.args.limit) list c.begin-peel.result walk.0 walk.1 walk.2 walk.3 going)
+    (omega arith, walked_start (start_with c.args.start c.args.limit) list c.begin-peel.result walk.headers walk.ending walk.walk walk.faces going)
 
 pub overflow_add-units : goal.overflow_add-units
 overflow_add-units c = let few = c.loop-units.invariant.0 in omega arith

@@ -8,7 +8,7 @@ use Rattle.ether_peel.proofs.writing_back.put_walk.Goals.{In-Some-Ok, After-rest
 pub loop-unit-init : goal.loop-unit-init
 loop-unit-init c =
     let w = c.begin-peel.ensures.walk in
-    writes_first (start_with c.args.start c.args.limit) c.args.bytes.now c.begin-peel.result c.args.target.now w.0 w.1 w.2 w.3 (ap (λ (k : State). k.over) c.begin-peel.ensures.state)
+    writes_first (start_with c.args.start c.args.limit) c.args.bytes.now c.begin-peel.result c.args.target.now w.headers w.ending w.walk w.faces (ap (λ (k : State). k.over) c.begin-peel.ensures.state)
 
 -- the unit that is given
 next : (c : In-Some-Ok) → NextAt (start_with c.args.start c.args.limit) c.args.bytes.now c.loop-unit.peel c.next.new.self c.in-Some-Ok.unit c.loop-unit.at c.args.target.now c.loop-unit.target c.loop-unit.invariant.stands

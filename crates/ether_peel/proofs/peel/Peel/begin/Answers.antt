@@ -12,16 +12,16 @@ returns-clause-walk c =
     let x = start_with c.args.start c.args.limit in
     let is : expected_of c.match-start.first.0 c.match-start.first.2 ≡ x.next = search rules in
     let expected : record { next = expected_of c.match-start.first.0 c.match-start.first.2; limit = c.args.limit } ≡ x = λ i. record { next = is i; limit = c.args.limit } in
-    let s = some_stack list x (whole x list) (λ i. omega (arith, c.type_inv.bytes i)) in (
-      s.0,
-      s.1,
-      s.2,
-      record {
+    let s = some_stack list x (whole x list) (λ i. omega (arith, c.type_inv.bytes i)) in record {
+      headers = s.0;
+      ending = s.1;
+      walk = s.2;
+      faces = record {
         inside = record { ordered = omega arith; inside = omega arith };
         rest = refl;
         offset = refl;
         closed = search rules;
         bound = search rules;
         stack = subst (λ (y : Expectation). Stack list y (whole x list) s.0 s.1) (sym expected) s.2;
-      },
-    )
+      };
+    }

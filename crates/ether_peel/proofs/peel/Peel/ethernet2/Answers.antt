@@ -1,13 +1,12 @@
-use Rattle.std.proofs.Common.{◌≡◌, ◌+◌, false, refl, ap, subst, ◌∙◌}
-use Rattle.std.specs.Prelude.{slice_range, Some, Ok}
+use Rattle.std.proofs.Common.{refl, ap, ◌∙◌}
+use Rattle.std.specs.Prelude.{slice_range}
 use Rattle.etherparse.specs.Ethernet2.{ethernet2_of}
 use Rattle.etherparse.specs.Header as headers
 use Rattle.etherparse.specs.Kind as kinds
 use Rattle.ether_peel.specs.Walker.State.{State}
-use Rattle.ether_peel.specs.Grammar.Expectation.{EtherType, announced}
-use Rattle.ether_peel.specs.Walker.Next.{Gives}
+use Rattle.ether_peel.specs.Grammar.Expectation.{EtherType}
 use Rattle.ether_peel.specs.declared.peel_unit.PeelUnit.TheVariants as units
-use Rattle.ether_peel.proofs.Walker.Steps.{shown, gives_unit, plain_part, refused_len}
+use Rattle.ether_peel.proofs.Walker.Steps.{gives_plain, refused_len}
 use Rattle.ether_peel.proofs.peel.Peel.ethernet2.Goals as goal
 
 pub fault-requires : goal.fault-requires
@@ -15,24 +14,15 @@ fault-requires c = refused_len c.args.self.now kinds.Ethernet2 (slice_range c.se
 
 pub returns-in-Ok-clause-gives : goal.returns-in-Ok-clause-gives
 returns-in-Ok-clause-gives c =
-    let a = c.self.inside in
-    let bytes = slice_range a.frame.now a.start a.end in
-    let u = units.Ethernet2 c.in-Ok.slice in
-    let t : State = record { rest = slice_range a.frame.now (a.start + c.header_len.result) a.end; offset = a.start + c.header_len.result; closed = a.is_closed; bound = a.bound; expected = record { next = EtherType c.ether_type-ether_type.result.0; limit = a.limit }; over = a.is_over } in
-    let going : a.is_over ≡ false = ap (λ (s : State). s.over) c.self.view_is ∙ c.requires.going in
-    let is = c.in-Ok.ensures.frame in
-    subst (λ (s : State). Gives s (Some (Ok u)) t) c.self.view_is (gives_unit (shown a) t u (record {
-      going = going;
-      header = headers.Ethernet2 (ethernet2_of bytes);
-      announced = ap (λ (s : State). announced s.expected) c.self.view_is ∙ c.requires.announced;
+    gives_plain c.self.inside c.args.self.now c.header_len.result (units.Ethernet2 c.in-Ok.slice) (EtherType c.ether_type-ether_type.result.0) c.self.inside.limit c.self.view_is c.requires.going c.self.invariant.0 c.self.invariant.1 (record {
+      header = headers.Ethernet2 (ethernet2_of (slice_range c.self.inside.frame.now c.self.inside.start c.self.inside.end));
+      no_len = refl;
+      no_trailer = refl;
+      announced = c.requires.announced;
       accepted = c.in-Ok.ensures.accepted;
       means = c.in-Ok.ensures.value;
-      shows = ap units.Ethernet2 is;
-      rest = plain_part a.frame.now a.start a.end 14 c.header_len.result a.is_closed c.self.invariant.0 c.self.invariant.1 c.in-Ok.ensures.value.whole c.header_len.ensures;
-      offset = ap (λ n. a.start + n) c.header_len.ensures;
-      closed = refl;
-      bound = refl;
-      next = ap EtherType (c.ether_type-ether_type.ensures ∙ ap (λ f. (ethernet2_of f.bytes).ether_type) is);
-      limit = refl;
-      over = going;
-    }))
+      shows = λ rest. ap units.Ethernet2 c.in-Ok.ensures.frame;
+      len = c.header_len.ensures;
+      next_is = ap EtherType (c.ether_type-ether_type.ensures ∙ ap (λ f. (ethernet2_of f.bytes).ether_type) c.in-Ok.ensures.frame);
+      limit_is = ap (λ (s : State). s.expected.limit) c.self.view_is;
+    })
