@@ -1,5 +1,5 @@
 -- Lists of bytes, and the numbers that they spell: the first byte is the most significant one, as on the wire.
-use Rattle.std.specs.Prelude.{ℕ, zero, suc, ◌+◌, ◌*◌, ◌/◌, ◌%◌, ◌^◌, ◌<◌, List, [], ◌∷◌, length, slice_index, Bool, true, false}
+use Rattle.std.specs.Prelude.{ℕ, zero, suc, ◌+◌, ◌*◌, ◌/◌, ◌%◌, ◌^◌, ◌<◌, List, [], ◌∷◌, ◌++◌, length, take, drop, slice_index, Bool, true, false}
 
 -- each element is from 0 to 255
 abbrev pub IsBytes : List ℕ → Type 0
@@ -19,3 +19,7 @@ spelled (suc k) n = n / 256 ^ k % 256 ∷ spelled k n
 abbrev pub bit : Bool → ℕ
 bit false = 0
 bit true = 1
+
+-- a list with these bytes from a place on, in place of as many of its own
+abbrev pub overwritten : List ℕ → ℕ → List ℕ → List ℕ
+overwritten list at bytes = take at list ++ bytes ++ drop (at + length bytes) list

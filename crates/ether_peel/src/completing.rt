@@ -25,11 +25,11 @@ const ZEROS: [u8; 1027] = [0; 1027];
 /// - is refused for its contents,
 /// - is refused in a closed window, as is each frame with a frame check sequence, so that more bytes would not help,
 /// - ends in a header of Linux cooked capture,
-/// - ends in a SecTag and has fewer than six bytes of it, which do not tell how long it is,
+/// - ends in a SecTag and has fewer than six bytes of it, so that its length is unknown,
 /// - ends in the payload of a SecTag that it has whole.
 ///
 /// The bytes are returned by value. There are at most 1,028, of an ARP packet with the longest addresses, and as many are
-/// kept free: the result takes 1,028 bytes of stack beside its length, where it is made and where it is moved to.
+/// kept free: the result takes 1,028 bytes of stack and its length, in the callee and in the caller.
 ///
 /// ```
 /// let frame = [
@@ -117,7 +117,7 @@ fn planned_tag(begun: &[u8]) -> Option<Plan>
     let [first, second, _, _, _, _, ..] = *begun else {
         return None;
     };
-    // the first two bytes tell the lengths
+    // the lengths depend on the first two bytes
     let front = [first, second, 0, 0, 0, 0, 0, 0, 0, 0, 0, 0, 0, 0, 0, 0];
     let Ok(tag) = MacsecHeaderSlice::from_slice(&front) else {
         return None; // not reached: it would be refused in the frame, too, and not for its length
@@ -156,7 +156,7 @@ fn fill(begun: &[u8], plan: &Plan) -> ArrayVec<u8, 1028>
     fill
 }
 
-/// The first byte of a fill: 0, or 1 where a 0 would end an ether type that announces a VLAN tag.
+/// The first byte of a fill: 0, or 1 if a 0 would end an ether type that announces a VLAN tag.
 fn first_byte(begun: &[u8], ether_type_at: Option<usize>) -> u8
     ensures { result ≡ first_filled begun.now ether_type_at }
 {

@@ -1,4 +1,4 @@
-//! A walk that is given a frame by and by, and no byte that it did not ask for.
+//! A walk that receives a frame piece by piece, and no byte that it did not ask for.
 ghost use Rattle.std.specs.Prelude.{◌≡◌, ◌+◌, ◌≤◌, length, MatchOption, ℕ};
 ghost use Rattle.ether_peel.specs.Walker.Start.{start_of, start_with, limited_start};
 ghost use Rattle.ether_peel.specs.Walker.Fault.{Names};

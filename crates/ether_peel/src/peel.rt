@@ -197,7 +197,7 @@ impl<'a> Iterator for Peel<'a> {
 
     ghost remaining = { items_left };
 
-    /// The next unit, the fault that ends the walk, or `None` where nothing is left to read or the fault was given.
+    /// The next unit, the fault that ends the walk, or `None` if nothing is left to read or the fault was returned.
     #[inline(always)]
     fn next(&mut self) -> Option<Result<PeelUnit<'a>, PeelFault>> {
         if self.is_over {
@@ -414,7 +414,7 @@ fn lowered(limit: Option<usize>) -> Option<usize>
     }
 }
 
-/// The ether type, or one that announces nothing in place of an extension where none may be read any more.
+/// The ether type, or one that announces nothing if it announces an extension and none may be read any more.
 #[inline(always)]
 fn permitted(limit: Option<usize>, ether_type: EtherType) -> EtherType
     ensures { permitted_of limit (announced_by ether_type.0) ≡ announced_by result.0 }

@@ -71,7 +71,7 @@ pub struct PlainWindow {
     pub bound: LenSource,
 }
 
-/// What stands at a place: a header of the start, a protocol by an ether type or by another number of a cooked capture,
+/// What is expected at a place: a header of the start, a protocol by an ether type or by another number of a cooked capture,
 /// or a payload that is not read.
 #[derive(Clone, Copy, PartialEq, Eq, Debug)]
 pub enum PlainExpected {
@@ -117,7 +117,7 @@ pub struct PlainWalk<'a> {
     pub ending: PlainEnding,
 }
 
-/// What stands at the start of some bytes: a header, a unit that is refused, or nothing to read.
+/// What some bytes begin with: a header, a unit that is refused, or nothing to read.
 #[derive(Clone, Copy)]
 enum PlainStep<'a> {
     Header(PlainHeader<'a>),
@@ -125,8 +125,8 @@ enum PlainStep<'a> {
     Nothing,
 }
 
-/// The walk of a frame that begins with `start`, of no more VLAN tags and SecTags than a limit. Where memory runs out there
-/// is no answer, and no other error comes.
+/// The walk of a frame that begins with `start`, of no more VLAN tags and SecTags than a limit. If memory runs out there
+/// is no result; there is no other error.
 pub fn walk<'a>(
     alloc: Global,
     start: Start,
@@ -208,7 +208,7 @@ fn expected_at(start: Start) -> PlainExpected {
     }
 }
 
-/// What stands after a header.
+/// What is expected after a header.
 fn expected_after(header: PlainHeader<'_>) -> PlainExpected {
     match header {
         PlainHeader::Ethernet2 { ether_type, .. }
@@ -285,7 +285,7 @@ fn header_len(header: PlainHeader<'_>) -> usize {
     }
 }
 
-/// The payload's length that the bits E and C and the short length name, where they do: with both bits 0 the short length
+/// The payload's length that the bits E and C and the short length name, if they do: with both bits 0 the short length
 /// counts the ether type too.
 fn known_len(encrypted: u16, changed: u16, short_len: u16) -> Option<usize>
     ensures { IfSome result (λ len. len ≤ short_len) }

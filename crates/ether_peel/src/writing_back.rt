@@ -1,5 +1,6 @@
 //! Headers written back before the rest.
-ghost use Rattle.std.specs.Prelude.{◌≡◌, ◌+◌, ◌≤◌, List, ◌++◌, length, take, drop, IfOk, IfErr};
+ghost use Rattle.std.specs.Prelude.{◌≡◌, ◌+◌, ◌≤◌, List, length, IfOk, IfErr};
+ghost use Rattle.etherparse.specs.Bytes.{overwritten};
 ghost use Rattle.etherparse.specs.Header.{Header};
 ghost use Rattle.ether_peel.specs.Grammar.Stack.{Ending, last_window, Walk};
 ghost use Rattle.ether_peel.specs.Walker.Start.{start_of, start_with, limited_start};
@@ -13,12 +14,12 @@ use etherparse::err::{Layer, SliceWriteSpaceError};
 /// that is left. Returns where that window ends, in bytes from the start of the frame.
 ///
 /// The target then begins with the bytes of the frame up to there, but the two reserved bits of each MACsec SecTag are 0.
-/// Its further bytes stay as they were. What stands after the window, as a frame check sequence does, is not written.
+/// Its further bytes stay unchanged. What follows the window, such as a frame check sequence, is not written.
 /// After a fault the window is the one in which it came.
 ///
 /// # Errors
 ///
-/// The target ends before the window does, and stays as it was: `required_len` is where the window ends, `len` the
+/// The target is too short, and stays unchanged: `required_len` is where the window ends, `len` the
 /// target's length, `layer` is [`Layer::EtherPayload`] and `layer_start_offset` is 0.
 ///
 /// ```
@@ -100,45 +101,45 @@ fn written(
             layer_start_offset: 0,
         });
     }
-    Ok(put_walk(start, bytes, target, limit))
+    Ok(write_walk(start, bytes, target, limit))
 }
 
 /// Writes the headers of a walk and then its last window to the front of a target, and returns where that ends.
-fn put_walk(start: Start, bytes: &[u8], target: &mut [u8], limit: Option<usize>) -> usize
+fn write_walk(start: Start, bytes: &[u8], target: &mut [u8], limit: Option<usize>) -> usize
     requires { (hs : List Header) (e : Ending) → Walk (start_with start limit) bytes.now hs e → (last_window e).finish ≤ length target.old }
     ensures { WritesBack (start_with start limit) bytes.now result target.old target.new }
 {
     let mut peel = Peel::begin(start, bytes, limit);
     let mut at = 0;
     while let Some(Ok(unit)) = peel.next() {
-        put_header(target, at, &unit);
+        write_header(target, at, &unit);
         at = peel.offset();
     }
     let rest = peel.rest();
-    put_at(target, at, rest);
+    write_at(target, at, rest);
     at + rest.len()
 }
 
 /// Writes the bytes of a unit's header.
-fn put_header(target: &mut [u8], at: usize, unit: &PeelUnit<'_>)
+fn write_header(target: &mut [u8], at: usize, unit: &PeelUnit<'_>)
     requires { at + length (unit_bytes unit.now) ≤ length target.old }
-    ensures { target.new ≡ take at target.old ++ unit_bytes unit.now ++ drop (at + length (unit_bytes unit.now)) target.old }
+    ensures { target.new ≡ overwritten target.old at (unit_bytes unit.now) }
 {
     match unit {
-        PeelUnit::Ethernet2(slice) => put_at(target, at, &slice.to_header().to_bytes()),
-        PeelUnit::LinuxSll(slice) => put_at(target, at, &slice.to_header().to_bytes()),
-        PeelUnit::Vlan(slice) => put_at(target, at, &slice.to_header().to_bytes()),
+        PeelUnit::Ethernet2(slice) => write_at(target, at, &slice.to_header().to_bytes()),
+        PeelUnit::LinuxSll(slice) => write_at(target, at, &slice.to_header().to_bytes()),
+        PeelUnit::Vlan(slice) => write_at(target, at, &slice.to_header().to_bytes()),
         PeelUnit::Macsec(slice) => {
-            put_at(target, at, slice.header.to_header().to_bytes().as_slice())
+            write_at(target, at, slice.header.to_header().to_bytes().as_slice())
         }
-        PeelUnit::Arp(slice) => put_at(target, at, slice.slice()),
+        PeelUnit::Arp(slice) => write_at(target, at, slice.slice()),
     }
 }
 
 /// Replaces the bytes of a target from a place on.
-fn put_at(target: &mut [u8], at: usize, bytes: &[u8])
+fn write_at(target: &mut [u8], at: usize, bytes: &[u8])
     requires { at + length bytes.now ≤ length target.old }
-    ensures { target.new ≡ take at target.old ++ bytes.now ++ drop (at + length bytes.now) target.old }
+    ensures { target.new ≡ overwritten target.old at bytes.now }
 {
     target[at..at + bytes.len()].copy_from_slice(bytes);
 }

@@ -23,7 +23,7 @@ unspent : (b : Bool) (k : Kind) → cond (b && false) None (Some k) ≡ Some k
 unspent true k = refl
 unspent false k = refl
 
--- where an extension may still be read, all is announced
+-- if an extension may still be read, all is announced
 permitted_all : (limit : Option ℕ) (o : Option Kind) → is_spent limit ≡ false → permitted limit o ≡ o
 permitted_all limit None left = refl
 permitted_all limit (Some k) left = ap (λ (b : Bool). cond (is_extension k && b) None (Some k)) left ∙ unspent (is_extension k) k

@@ -162,7 +162,7 @@ given_is : (q : Refusal) (required len : ℕ) (source : LenSource) (layer : Laye
 unfolding given
 given_is q required len source layer e = ap given e
 
--- where the required length of an open window is there, the rest of the walk was given more
+-- if the required length of an open window is there, the rest of the walk has more bytes
 more_given : (list : List ℕ) (bound source : LenSource) (bytes more : List ℕ) (kind : Kind) (required len : ℕ) (layer : Layer) (y : Expectation) (last : Window) (rest : List Header) (f : Ending)
     → announced y ≡ Some kind → Refuses bound bytes kind (Length required len source layer) → within list last ≡ bytes ++ more → last.bound ≡ bound → last.closed ≡ false → required ≤ length (bytes ++ more) → Stack list y last rest f → of_layer len layer < caps false rest + given_last f
 unfolding given_last given_in

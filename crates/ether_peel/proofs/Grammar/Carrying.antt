@@ -1,4 +1,4 @@
--- A stack carried from a window of one list to a window of another that holds the same bytes or, where it is open, more after them.
+-- A stack carried from a window of one list to a window of another that has the same bytes or, if it is open, more after them.
 use Rattle.std.proofs.Common.{◌≡◌, ℕ, ◌+◌, ◌-◌, ◌≤◌, List, [], ◌∷◌, ◌++◌, length, drop, refl, sym, ap, subst, ◌∙◌, arith, inl, inr, ◌⊎◌, Bool, true, false, cond}
 use Rattle.std.specs.Prelude.{slice_range, Option, Some, None, unwrap_or, nat_eq, ◌==◌, if◌then◌else◌}
 use Rattle.std.proofs.lemmas.List.{append-nil, length-append, drop-append-le}
@@ -216,7 +216,7 @@ carry list other more x w v (h ∷ hs) y u c keeps l =
     let s = rest.start in
     record { last = rest.last; leads = (one.0, rest.leads); carries = rest.carries; start = omega arith }
 
--- the required length, if a length is refused, does not come to be there
+-- the required length, if a length is refused, is still not there
 abbrev pub StaysShort : List ℕ → List ℕ → Ending → Type 0
 StaysShort list more (Accepted v y) = Unit {0}
 StaysShort list more (Fault v y r) = IsBelow (length (within list v) + length (beyond v.closed more)) r

@@ -67,7 +67,7 @@ cleared_at_after list at (headers.Macsec t) j = ap (take (j - (at + header_len (
 
 -- ---- all headers
 
--- the bytes of headers are as many as stand between the first window's start and the later one's
+-- there are as many bytes of headers as between the first window's start and the later one's
 pub length-headers : (list : List ℕ) (x : Expectation) (w : Window) (hs : List Header) (y : Expectation) (v : Window) → IsBytes list → Leads list x w hs y v → w.start + length (flat_map header_bytes hs) ≡ v.start
 length-headers list x w [] y v ok l = let e : v.start ≡ w.start = ap (λ (u : Window). u.start) l.1 in omega arith
 length-headers list x w (h ∷ hs) y v ok l =

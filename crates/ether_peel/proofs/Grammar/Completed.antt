@@ -106,7 +106,7 @@ record IsLast (bound : LenSource) (bytes : List ℕ) (kind : Kind) : Type 0 wher
   pub means : Means bytes unit
   pub announces : announced_next (next_after unit) ≡ None
 
--- where the ether type of a tag, if it has one, announces nothing, the tag doesn't
+-- if the ether type of a tag announces nothing, or it has none, the tag announces nothing
 tag_announces : (e c n : ℕ) → (e ≡ 0 → c ≡ 0 → announced_by n ≡ None) → announced_next (after_payload (payload_type_for e c n)) ≡ None
 tag_announces zero zero n k = k refl refl
 tag_announces zero (suc c) n k = refl

@@ -88,7 +88,7 @@ open_of : (closed : Bool) (more : List ℕ) → 0 < length (beyond closed more) 
 open_of true more lt = absurd (omega arith)
 open_of false more lt = refl
 
--- that is refused for a length which comes to be there in the whole
+-- that is refused for a length which is there in the whole
 wants : (start : Expectation) (cut more : List ℕ) (hs ks : List Header) (v : Window) (y : Expectation) (required len : ℕ) (source : LenSource) (layer : Layer) (rest : List Header) (last u : Window) (z : Expectation) → has_fcs start ≡ false
     → Walk start cut ks (Fault v y (Length required len source layer)) → Carries cut (cut ++ more) more v last → hs ≡ ks ++ rest → Stack (cut ++ more) y last rest (Accepted u z) → required ≤ length (within cut v) + length (beyond v.closed more)
     → EndsInUnit (length cut) hs ks (Fault v y (Length required len source layer))

@@ -113,7 +113,7 @@ is_demand start list n hs e o ok h s above inside =
       names = omega arith;
     }
 
--- there is none where its walk names no length
+-- there is none if its walk names no length
 pub none_above : (start : Expectation) (list : List ℕ) (n : ℕ) (hs : List Header) (e : Ending) → has_fcs start ≡ false → Walk start (take n list) hs e → (OpenRefusal e → ⊥) → (k : ℕ) → n < k → IsDemand start list k → ⊥
 none_above start list n hs (Accepted v y) h s quiet k lt d =
     let keeps = front_keeps start list n (k - 1) hs d.headers (Accepted v y) d.ending h (omega arith) s d.walk in

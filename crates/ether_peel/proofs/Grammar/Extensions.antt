@@ -54,7 +54,7 @@ carry_walk start list more hs e h s short = carry_stack list (list ++ more) more
 
 -- ---- the last window
 
--- it ends with the list where it is open; no unit reaches past the first one
+-- it ends with the list if it is open; no unit reaches past the first one
 pub record OpenToEnd (list : List ℕ) (w : Window) (hs : List Header) (y : Expectation) (v : Window) : Type 0 where
   pub is_in : IsIn list v
   pub ends : v.closed ≡ false → v.finish ≡ length list
@@ -128,7 +128,7 @@ below_content n InvalidShortLen c = tt
 
 -- ---- extensions
 
--- the walk of an extension ends alike, where the required length does not come to be there
+-- the walk of an extension ends alike, if the required length is still not there
 pub kept : (start : Expectation) (list more : List ℕ) (hs ks : List Header) (e f : Ending) → has_fcs start ≡ false → Walk start list hs e → Walk start (list ++ more) ks f → StaysShort list more e
     → EndsAlike hs e ks f × (u : Window) × (ending_in more u e ≡ f)
 kept start list more hs ks e f h s t short =
@@ -192,6 +192,6 @@ no_fcs_from : (start : Expectation) (list : List ℕ) (hs : List Header) (e : En
 no_fcs_from start list hs e true h s o = absurd (fcs_is_closed start list hs e h s o)
 no_fcs_from start list hs e false h s o = h
 
--- where there is one, no frame check sequence is expected
+-- if there is one, no frame check sequence is expected
 pub no_fcs : (start : Expectation) (list : List ℕ) (hs : List Header) (e : Ending) → Walk start list hs e → OpenRefusal e → has_fcs start ≡ false
 no_fcs start list hs e s o = no_fcs_from start list hs e (has_fcs start) refl s o

@@ -1,4 +1,4 @@
--- What stands in a list of bytes, and in one that has more bytes after it.
+-- What a list of bytes begins with, and a list that has more bytes after them.
 use Rattle.std.proofs.Common.{◌≡◌, ℕ, ◌+◌, ◌<◌, ◌≤◌, List, ◌++◌, length, sym, ap, subst, ◌∙◌, arith, inl, inr}
 use Rattle.std.specs.Prelude.{Some, None}
 use Rattle.std.proofs.lemmas.Bool.{cases_lt}
@@ -86,7 +86,7 @@ accepts_longer bound bytes more kinds.Arp ok r (rows.arp lt) = ok _ (rows.arp (o
 accepts_longer bound bytes more kinds.Arp ok r (rows.arp_addresses a le b lt) =
     elim (cases_lt (length bytes) 8) [ inl few ↦ ok _ (rows.arp few) | inr k ↦ ok _ (rows.arp_addresses a k (arp_shorter bytes more a k b) (omega (arith, length-append bytes more))) ]
 
--- the refusal where there are n bytes more
+-- the refusal if there are n bytes more
 abbrev pub longer : ℕ → Refusal → Refusal
 longer n (Length required len source layer) = Length required (len + n) source layer
 longer n (UnsupportedPacketType p) = UnsupportedPacketType p
@@ -94,7 +94,7 @@ longer n (UnsupportedHardwareType h) = UnsupportedHardwareType h
 longer n UnexpectedVersion = UnexpectedVersion
 longer n InvalidShortLen = InvalidShortLen
 
--- k bytes are fewer than are required, where a length is
+-- k bytes are fewer than are required, if a length is required
 abbrev pub IsBelow : ℕ → Refusal → Type 0
 IsBelow k (Length required len source layer) = k < required
 IsBelow k (UnsupportedPacketType p) = Unit {0}

@@ -1,4 +1,4 @@
--- Windows: a payload's window by the place where it begins, and where it lies in its own window and in the list.
+-- Windows: a payload's window by the place where it begins, and its place in the window around it and in the list.
 use Rattle.std.proofs.Common.{ℕ, ◌+◌, ◌-◌, ◌≤◌, List, length, arith, Bool, ◌||◌}
 use Rattle.std.specs.Prelude.{Option, Some, None, unwrap_or, option_map, is_some, if◌then◌else◌}
 use Rattle.etherparse.specs.Types.LenSource.{LenSource}

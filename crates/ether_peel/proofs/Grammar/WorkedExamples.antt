@@ -63,7 +63,7 @@ padded_reach = refl
 padded_cleared : cleared padded 0 (headers.Macsec (tag 6) ∷ headers.Vlan inner ∷ []) ≡ 0x00 ∷ 0x06 ∷ 0 ∷ 0 ∷ 0 ∷ 1 ∷ 0x81 ∷ 0x00 ∷ 0xAA ∷ 0xBB ∷ 0xCC ∷ 0xDD ∷ 0xEE ∷ 0xEE ∷ []
 padded_cleared = refl
 
--- ---- with a short length of 4 the tag in it lacks two bytes, whatever stands after the window
+-- ---- with a short length of 4 the tag in it lacks two bytes, whatever follows the window
 
 abbrev short : List ℕ
 short = 0x00 ∷ 0x04 ∷ 0 ∷ 0 ∷ 0 ∷ 1 ∷ 0x81 ∷ 0x00 ∷ 0xAA ∷ 0xBB ∷ 0xCC ∷ 0xDD ∷ []

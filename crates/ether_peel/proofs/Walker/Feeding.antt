@@ -1,4 +1,4 @@
--- A walk that is given a list by and by: where it stands, and what it asked for so far.
+-- A walk that receives a list piece by piece: its place, and what it asked for so far.
 use Rattle.std.proofs.Common.{◌≡◌, ℕ, ◌+◌, ◌<◌, ◌≤◌, max, Bool, List, [], ◌∷◌, ◌++◌, length, take, drop, false, refl, sym, ap, subst, ◌∙◌, arith, inl, inr}
 use Rattle.std.specs.Prelude.{slice_range, Option, Some, None, Ok, Err}
 use Rattle.std.proofs.lemmas.List.{length-append, length-take, append_assoc, append-nil}
@@ -139,7 +139,7 @@ fed_all start list n count hs e fault ok fed ask is =
           (fed.counted ∙ ap length none, fed.last ∙ ap greatest none);
     }
 
--- ---- where the walk stands
+-- ---- the place of the walk
 
 -- after so many demands, in the front that was taken: before the rest of its stack
 pub record Feeds (start : Expectation) (list : List ℕ) (s : State) (taken count : ℕ) : Type 0 where
@@ -187,7 +187,7 @@ feeds_unit start list s t taken count u a gives =
     let le = a.fed.inside in
     record { feeds = feeds; later = omega arith; inside = omega arith }
 
--- the fault was given, where the walk goes on in the front that it names
+-- the fault was returned; the walk goes on in the front that it names
 pub record FeedsFault (start : Expectation) (list : List ℕ) (s t : State) (taken count : ℕ) (f : PeelFault) : Type 0 where
   pub headers : List Header
   pub window : Window

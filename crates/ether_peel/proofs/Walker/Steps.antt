@@ -131,7 +131,7 @@ gives_fault s error r = record {
   next = λ going list w hs e f. next_fault list w s hs e error r f;
 }
 
--- a length error, moved to where the unit starts
+-- a length error, moved to the start of the unit
 pub refused_len : (s : State) (kind : Kind) (bytes : List ℕ) (offset : ℕ) (e moved : LenError) → s.over ≡ false → announced s.expected ≡ Some kind → bytes ≡ s.rest → offset ≡ s.offset → IsRefusedLen bytes kind e
     → moved ≡ record e { layer_start_offset = e.layer_start_offset + offset } → IsRefusedBy s (errors.Len moved)
 refused_len s kind bytes offset e moved going some rest at refused is =

@@ -23,7 +23,7 @@ use Rattle.ether_peel.proofs.Grammar.Extensions.{extensions_keep}
 
 -- ---- what was next
 
--- a unit, after which t stands
+-- a unit, after which the walker is t
 pub record UnitNext (list : List ℕ) (w : Window) (left : List Header) (e : Ending) (s t : State) (u : PeelUnit) : Type 0 where
   pub header : Header
   pub later : List Header

@@ -46,7 +46,7 @@ unit_bytes-shown bound bytes rest (headers.Arp a) u ok accepted m shows =
 
 -- ---- a walk that has come so far
 
-pub record Stands (x : Expectation) (list : List ℕ) (s : State) : Type 0 where
+pub record UnderWay (x : Expectation) (list : List ℕ) (s : State) : Type 0 where
   pub done : List Header
   pub left : List Header
   pub ending : Ending
@@ -55,18 +55,18 @@ pub record Stands (x : Expectation) (list : List ℕ) (s : State) : Type 0 where
   pub faces : Faces list window s left ending
   pub going : s.over ≡ false
 
-pub stands_first : (x : Expectation) (list : List ℕ) (s : State) (hs : List Header) (e : Ending) → Walk x list hs e → Faces list (whole x list) s hs e → s.over ≡ false → Stands x list s
-stands_first x list s hs e walk faces going = record { done = []; left = hs; ending = e; window = whole x list; walk = walk; faces = faces; going = going }
+pub under_way_first : (x : Expectation) (list : List ℕ) (s : State) (hs : List Header) (e : Ending) → Walk x list hs e → Faces list (whole x list) s hs e → s.over ≡ false → UnderWay x list s
+under_way_first x list s hs e walk faces going = record { done = []; left = hs; ending = e; window = whole x list; walk = walk; faces = faces; going = going }
 
 -- a unit is given: the first of the headers that are left
-abbrev pub Passes : (x : Expectation) (list : List ℕ) (s t : State) (u : PeelUnit) → Stands x list s → Type 0
+abbrev pub Passes : (x : Expectation) (list : List ℕ) (s t : State) (u : PeelUnit) → UnderWay x list s → Type 0
 Passes x list s t u a = UnitNext list a.window a.left a.ending s t u
 
-pub passes : (x : Expectation) (list : List ℕ) (s t : State) (u : PeelUnit) (a : Stands x list s) → Gives s (Some (Ok u)) t → Passes x list s t u a
+pub passes : (x : Expectation) (list : List ℕ) (s t : State) (u : PeelUnit) (a : UnderWay x list s) → Gives s (Some (Ok u)) t → Passes x list s t u a
 passes x list s t u a gives = unit_next list a.window a.left a.ending s t u (gives.next a.going list a.window a.left a.ending a.faces)
 
-pub stands_next : (x : Expectation) (list : List ℕ) (s t : State) (u : PeelUnit) (a : Stands x list s) → Passes x list s t u a → Stands x list t
-stands_next x list s t u a p =
+pub under_way_next : (x : Expectation) (list : List ℕ) (s t : State) (u : PeelUnit) (a : UnderWay x list s) → Passes x list s t u a → UnderWay x list t
+under_way_next x list s t u a p =
     let same : a.done ++ a.left ≡ (a.done ++ p.header ∷ []) ++ p.later = ap (λ (l : List Header). a.done ++ l) p.parts ∙ sym (append_assoc a.done (p.header ∷ []) p.later) in
     record {
       done = a.done ++ p.header ∷ [];
@@ -79,7 +79,7 @@ stands_next x list s t u a p =
     }
 
 -- no unit is given: none is left, and the walker shows the last window
-pub record Stops (x : Expectation) (list : List ℕ) (s t : State) (a : Stands x list s) : Type 0 where
+pub record Stops (x : Expectation) (list : List ℕ) (s t : State) (a : UnderWay x list s) : Type 0 where
   pub walk : Walk x list a.done a.ending
   pub window : a.window ≡ last_window a.ending
   pub inside : IsIn list (last_window a.ending)
@@ -95,7 +95,7 @@ none_next list w [] (Accepted v y) s t r none f g = (refl, sym f.stack.0, ap (λ
 none_next list w [] (Fault v y q) s t r none f g = (refl, sym f.stack.0, ap (λ (k : State). k.rest) g.1, ap (λ (k : State). k.offset) g.1)
 none_next list w (h ∷ hs) e s t r none f g = absurd (none g.0 g.1)
 
-pub stops : (x : Expectation) (list : List ℕ) (s t : State) (r : Option (Result PeelUnit PeelFault)) (a : Stands x list s) → NoUnit r → Gives s r t → Stops x list s t a
+pub stops : (x : Expectation) (list : List ℕ) (s t : State) (r : Option (Result PeelUnit PeelFault)) (a : UnderWay x list s) → NoUnit r → Gives s r t → Stops x list s t a
 stops x list s t r a none gives =
     let n = none_next list a.window a.left a.ending s t r none a.faces (gives.next a.going list a.window a.left a.ending a.faces) in
     let w = n.1 in
@@ -114,7 +114,7 @@ pub no_fault : (f : PeelFault) → NoUnit (Some (Err f))
 no_fault f u e = cc
 
 -- where the last window ends
-pub stop_finish : (x : Expectation) (list : List ℕ) (s t : State) (a : Stands x list s) → Stops x list s t a → t.offset + length t.rest ≡ (last_window a.ending).finish
+pub stop_finish : (x : Expectation) (list : List ℕ) (s t : State) (a : UnderWay x list s) → Stops x list s t a → t.offset + length t.rest ≡ (last_window a.ending).finish
 stop_finish x list s t a p =
     let v = last_window a.ending in
     let at = p.offset in
@@ -137,17 +137,17 @@ replaced front old bytes new from at len same is =
     is ∙ (λ i. (first i ++ bytes) ++ last i)
 
 pub record WritesSoFar (x : Expectation) (list : List ℕ) (s : State) (at : ℕ) (old new : List ℕ) : Type 0 where
-  pub stands : Stands x list s
-  pub place : at ≡ stands.window.start
-  pub len : length (flat_map header_bytes stands.done) ≡ stands.window.start
-  pub bytes : new ≡ flat_map header_bytes stands.done ++ drop stands.window.start old
+  pub under_way : UnderWay x list s
+  pub place : at ≡ under_way.window.start
+  pub len : length (flat_map header_bytes under_way.done) ≡ under_way.window.start
+  pub bytes : new ≡ flat_map header_bytes under_way.done ++ drop under_way.window.start old
 
 pub writes_first : (x : Expectation) (list : List ℕ) (s : State) (old : List ℕ) (hs : List Header) (e : Ending) → Walk x list hs e → Faces list (whole x list) s hs e → s.over ≡ false → WritesSoFar x list s 0 old old
-unfolding stands_first
-writes_first x list s old hs e walk faces going = record { stands = stands_first x list s hs e walk faces going; place = refl; len = refl; bytes = refl }
+unfolding under_way_first
+writes_first x list s old hs e walk faces going = record { under_way = under_way_first x list s hs e walk faces going; place = refl; len = refl; bytes = refl }
 
 -- the place of the next header, and its bytes
-pub record NextAt (x : Expectation) (list : List ℕ) (s t : State) (u : PeelUnit) (at : ℕ) (old mid : List ℕ) (a : Stands x list s) : Type 0 where
+pub record NextAt (x : Expectation) (list : List ℕ) (s t : State) (u : PeelUnit) (at : ℕ) (old mid : List ℕ) (a : UnderWay x list s) : Type 0 where
   pub passes : Passes x list s t u a
   pub bytes : unit_bytes u ≡ header_bytes passes.header
   pub len : length (unit_bytes u) ≡ header_len passes.header
@@ -158,9 +158,9 @@ abbrev pub Fits : (x : Expectation) (list old : List ℕ) → Type 0
 Fits x list old = (hs : List Header) (e : Ending) → Walk x list hs e → (last_window e).finish ≤ length old
 
 pub next_at : (x : Expectation) (list : List ℕ) (s t : State) (u : PeelUnit) (at : ℕ) (old mid : List ℕ) → IsBytes list → Fits x list old → length mid ≡ length old → (a : WritesSoFar x list s at old mid) → Gives s (Some (Ok u)) t
-    → NextAt x list s t u at old mid a.stands
+    → NextAt x list s t u at old mid a.under_way
 next_at x list s t u at old mid ok fits same a gives =
-    let b = a.stands in
+    let b = a.under_way in
     let w = b.window in
     let p = passes x list s t u b gives in
     let faces = subst (λ (l : List Header). Faces list w s l b.ending) p.parts b.faces in
@@ -174,11 +174,11 @@ next_at x list s t u at old mid ok fits same a gives =
     let from = a.place in
     record { passes = p; bytes = bytes; len = len; room = omega arith }
 
-pub writes_next : (x : Expectation) (list : List ℕ) (s t : State) (u : PeelUnit) (at : ℕ) (old mid new : List ℕ) (a : WritesSoFar x list s at old mid) → NextAt x list s t u at old mid a.stands
+pub writes_next : (x : Expectation) (list : List ℕ) (s t : State) (u : PeelUnit) (at : ℕ) (old mid new : List ℕ) (a : WritesSoFar x list s at old mid) → NextAt x list s t u at old mid a.under_way
     → new ≡ take at mid ++ unit_bytes u ++ drop (at + length (unit_bytes u)) mid → WritesSoFar x list t t.offset old new
-unfolding stands_next
+unfolding under_way_next
 writes_next x list s t u at old mid new a n is =
-    let b = a.stands in
+    let b = a.under_way in
     let h = n.passes.header in
     let front = flat_map header_bytes b.done in
     let len = n.len in
@@ -188,24 +188,24 @@ writes_next x list s t u at old mid new a n is =
     is ∙ ap (λ (l : List ℕ). take at l ++ unit_bytes u ++ drop (at + length (unit_bytes u)) l) a.bytes in
     let all = replaced front old (unit_bytes u) new b.window.start at so_far a.place put in
     record {
-      stands = stands_next x list s t u b n.passes;
+      under_way = under_way_next x list s t u b n.passes;
       place = n.passes.faces.offset;
       len = ap length more ∙ length-append front (header_bytes h) ∙ ap (λ (k : ℕ). k + length (header_bytes h)) so_far ∙ ap (λ (k : ℕ). b.window.start + k) (sym (ap length n.bytes) ∙ len);
       bytes = all ∙ (λ i. (front ++ n.bytes i) ++ drop (b.window.start + len i) old) ∙ ap (λ (l : List ℕ). l ++ drop (b.window.start + header_len h) old) (sym more);
     }
 
 -- where the last window's bytes end
-pub rest_ends : (x : Expectation) (list : List ℕ) (s t : State) (at : ℕ) (old mid rest : List ℕ) (a : WritesSoFar x list s at old mid) → Stops x list s t a.stands → rest ≡ t.rest → at + length rest ≡ (last_window a.stands.ending).finish
+pub rest_ends : (x : Expectation) (list : List ℕ) (s t : State) (at : ℕ) (old mid rest : List ℕ) (a : WritesSoFar x list s at old mid) → Stops x list s t a.under_way → rest ≡ t.rest → at + length rest ≡ (last_window a.under_way.ending).finish
 rest_ends x list s t at old mid rest a p shows =
-    let b = a.stands in
+    let b = a.under_way in
     let place : at ≡ t.offset = a.place ∙ ap (λ (w : Window). w.start) p.window ∙ sym p.offset in
     (λ i. place i + length (shows i)) ∙ stop_finish x list s t b p
 
 -- the target holds the last window after all headers
-pub writes_back : (x : Expectation) (list : List ℕ) (s t : State) (at : ℕ) (old mid rest new : List ℕ) → IsBytes list → Fits x list old → (a : WritesSoFar x list s at old mid) → Stops x list s t a.stands → rest ≡ t.rest
+pub writes_back : (x : Expectation) (list : List ℕ) (s t : State) (at : ℕ) (old mid rest new : List ℕ) → IsBytes list → Fits x list old → (a : WritesSoFar x list s at old mid) → Stops x list s t a.under_way → rest ≡ t.rest
     → new ≡ take at mid ++ rest ++ drop (at + length rest) mid → WritesBack x list (at + length rest) old new
 writes_back x list s t at old mid rest new ok fits a p shows is =
-    let b = a.stands in
+    let b = a.under_way in
     let v = last_window b.ending in
     let w = b.window in
     let front = flat_map header_bytes b.done in

@@ -13,7 +13,7 @@ abbrev pub cleared_at : List ℕ → ℕ → Header → List ℕ
 cleared_at list at (headers.Macsec t) = slice_set list (at + 1) (slice_index list (at + 1) % 64)
 cleared_at list at _ = list
 
--- the list in which that is done for each of these headers, which stand one after the other from a place on
+-- the list in which that is done for each of these headers, which follow one another from a place on
 abbrev pub cleared : List ℕ → ℕ → List Header → List ℕ
 cleared list at [] = list
 cleared list at (h ∷ hs) = cleared_at (cleared list (at + header_len h) hs) at h

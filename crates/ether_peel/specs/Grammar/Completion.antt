@@ -58,7 +58,7 @@ first_filled begun (Some place) = if nat_eq (length begun) (place + 1) && begins
 abbrev pub fill : List ℕ → ℕ → Option ℕ → List ℕ
 fill begun total place = first_filled begun place ∷ replicate (total - length begun - 1) 0
 
--- ---- what they come to
+-- ---- what they complete
 
 -- these bytes complete a list
 pub record Completes (start : Expectation) (list bytes : List ℕ) : Type 0 where

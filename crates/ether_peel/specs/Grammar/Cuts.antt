@@ -7,7 +7,7 @@ use Rattle.ether_peel.specs.Grammar.Stack.{Ending, last_window, Walk}
 use Rattle.ether_peel.specs.Grammar.Places.{place}
 use Rattle.ether_peel.specs.Grammar.Endings.{refusal_of, OpenRefusal, named_len, EndsAlike}
 
--- the greatest end of a unit, where the first of them begins at a place; 0 without units
+-- the greatest end of a unit, if the first of them begins at a place; 0 without units
 abbrev pub reach : ℕ → List Header → ℕ
 reach at [] = 0
 reach at (h ∷ hs) = max (at + unit_len h) (reach (at + header_len h) hs)

@@ -11,7 +11,7 @@ abbrev pub refusal_of : Ending → Option Refusal
 refusal_of (Accepted v y) = None
 refusal_of (Fault v y r) = Some r
 
--- refused for what stands in the bytes, not for their number
+-- refused for the content of the bytes, not for their number
 abbrev pub IsContent : Refusal → Type 0
 IsContent (Length required len source layer) = ⊥
 IsContent _ = Unit {0}

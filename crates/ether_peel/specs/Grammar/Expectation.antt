@@ -47,7 +47,7 @@ announced_next (Start kind) = Some kind
 announced_next (EtherType t) = announced_by t
 announced_next _ = None
 
--- an extension is not announced where none may be read any more
+-- an extension is not announced if none may be read any more
 abbrev pub permitted : Option ℕ → Option Kind → Option Kind
 permitted limit None = None
 permitted limit (Some kind) = if is_extension kind && is_spent limit then None else Some kind

@@ -13,7 +13,7 @@ pub record KeepsExtension (hs : List Header) (e : Ending) (n added : ℕ) (ks : 
   pub accepted : refusal_of e ≡ None → EndsAlike hs e ks f × (refusal_of f ≡ None)
   -- what is refused for content or in a closed window is refused so for ever
   pub settled : (r : Refusal) → refusal_of e ≡ Some r → IsContent r ⊎ ((last_window e).closed ≡ true) → EndsAlike hs e ks f × (refusal_of f ≡ Some r)
-  -- an open refusal stands until its named length is there, and counts the added bytes
+  -- an open refusal stays until its named length is there, and counts the added bytes
   pub waiting : (o : OpenRefusal e) → n < named_len e o → EndsAlike hs e ks f × (refusal_of f ≡ Some (Length o.required (o.len + added) o.source o.layer))
 
 -- it is so for each extension of a list with headers hs and ending e

@@ -20,7 +20,7 @@ abbrev pub moved_ending : (old new : ℕ) → Ending → Ending
 moved_ending old new (Accepted v y) = Accepted (moved old new v) y
 moved_ending old new (Fault v y r) = Fault (moved old new v) y r
 
--- A stack depends on no bytes but its window's, and moves with it: where two windows, of two lists or of one, hold the same bytes
+-- A stack depends on no bytes but its window's, and moves with it: if two windows, of two lists or of one, have the same bytes
 -- and have the same mark and bound, a stack of the one is a stack of the other.
 abbrev pub StacksAreLocal : Type 0
 StacksAreLocal =

@@ -1,4 +1,4 @@
--- Units one in another: what stands in a window of a list, from what is expected there.
+-- Units one in another: the headers of a window of a list, by what is expected there.
 use Rattle.std.specs.Prelude.{◌≡◌, ℕ, List, [], ◌∷◌, length, Some, None}
 use Rattle.etherparse.specs.Types.LenSource.TheVariants as sources
 use Rattle.etherparse.specs.Kind.{Kind}
@@ -28,8 +28,8 @@ pub record IsUnit (list : List ℕ) (x : Expectation) (w : Window) (h : Header) 
   pub accepted : Accepts w.bound (within list w) (kind_of h)
   pub means : Means (within list w) h
 
--- From an expectation and a window on there stand these headers in the list, each in the payload of the one before it,
--- and then this ending: nothing is announced; a row of the table holds; a unit, and a stack of what stands after it.
+-- From an expectation and a window on the list has these headers, each in the payload of the one before it,
+-- and then this ending: nothing is announced; a row of the table holds; a unit, and a stack in its payload.
 abbrev pub Stack : List ℕ → Expectation → Window → List Header → Ending → Type 0
 Stack list x w [] (Accepted v y) = (v ≡ w) × (y ≡ x) × (announced x ≡ None)
 Stack list x w [] (Fault v y r) = (v ≡ w) × (y ≡ x) × (kind : Kind) × (announced x ≡ Some kind) × Refuses w.bound (within list w) kind r
@@ -37,7 +37,7 @@ Stack list x w (h ∷ hs) e = IsUnit list x w h × Stack list (after x h) (paylo
 
 -- ---- walks
 
--- the whole list, which bounds itself: open, but closed where a frame check sequence is expected, which further bytes would move
+-- the whole list, which bounds itself: open, but closed if a frame check sequence is expected, which further bytes would move
 abbrev pub whole : Expectation → List ℕ → Window
 whole start list = record { start = 0; finish = length list; closed = has_fcs start; bound = sources.Slice }
 

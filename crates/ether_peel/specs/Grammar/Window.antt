@@ -4,7 +4,7 @@ use Rattle.etherparse.specs.Types.LenSource.{LenSource}
 use Rattle.etherparse.specs.Types.LenSource.TheVariants as sources
 use Rattle.etherparse.specs.Header.{Header, header_len, payload_len, trailer_len}
 
--- From a start up to an end, which is not in it. Further bytes after the list belong to it only where it is open. Its bound is what
+-- From a start up to an end, which is not in it. Further bytes after the list belong to it only if it is open. Its bound is what
 -- named its end: the list itself, or the short length of a SecTag around it.
 pub record Window : Type 0 where
   pub start : ℕ

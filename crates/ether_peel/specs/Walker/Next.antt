@@ -35,7 +35,7 @@ pub record FacesWalk (x : Expectation) (list : List ℕ) (s : State) : Type 0 wh
   pub walk : Walk x list headers ending
   pub faces : Faces list (whole x list) s headers ending
 
--- a view of a SecTag has the tag's bytes, and the bytes of the payload's window with their type, where it can be read, and
+-- a view of a SecTag has the tag's bytes, and the bytes of the payload's window with their type, if it can be read, and
 -- what named their number
 pub record ShowsMacsec (bytes rest : List ℕ) (t : SecTagValue) (m : MacsecSlice) : Type 0 where
   pub header : tag_bytes m.header ≡ slice_range bytes 0 (header_len (headers.Macsec t))
@@ -51,19 +51,19 @@ ShowsUnit bytes rest (headers.Vlan v) u = u ≡ units.Vlan bytes
 ShowsUnit bytes rest (headers.Macsec t) u = (m : MacsecSlice) × (u ≡ units.Macsec m) × ShowsMacsec bytes rest t m
 ShowsUnit bytes rest (headers.Arp a) u = u ≡ units.Arp (slice_range bytes 0 (header_len (headers.Arp a)))
 
--- What comes next where these headers and this ending are faced: nothing, and nothing changes; the fault, after which
+-- What comes next if these headers and this ending are faced: nothing, and nothing changes; the fault, after which
 -- nothing comes; the first header's unit, after which what it announces is expected, and the others are faced in the
 -- window of its payload.
 abbrev pub GivesNext : List ℕ → Window → List Header → Ending → State → Option (Result PeelUnit PeelFault) → State → Type 0
-GivesNext list w [] (Accepted v y) s r t = (r ≡ None) × (t ≡ s)
-GivesNext list w [] (Fault v y q) s r t = (r ≡ Some (Err (fault_in w q))) × (t ≡ record s { over = true })
-GivesNext list w (h ∷ hs) e s r t =
-    (u : PeelUnit) × (r ≡ Some (Ok u)) × ShowsUnit s.rest t.rest h u × (t.over ≡ false) × (t.expected ≡ after s.expected h) × Faces list (payload w h) t hs e
+GivesNext list w [] (Accepted v y) s result t = (result ≡ None) × (t ≡ s)
+GivesNext list w [] (Fault v y r) s result t = (result ≡ Some (Err (fault_in w r))) × (t ≡ record s { over = true })
+GivesNext list w (h ∷ hs) e s result t =
+    (u : PeelUnit) × (result ≡ Some (Ok u)) × ShowsUnit s.rest t.rest h u × (t.over ≡ false) × (t.expected ≡ after s.expected h) × Faces list (payload w h) t hs e
 
 -- a call of next
-pub record Gives (s : State) (r : Option (Result PeelUnit PeelFault)) (t : State) : Type 0 where
-  pub over : s.over ≡ true → (r ≡ None) × (t ≡ s)
-  pub next : s.over ≡ false → (list : List ℕ) (w : Window) (hs : List Header) (e : Ending) → Faces list w s hs e → GivesNext list w hs e s r t
+pub record Gives (s : State) (result : Option (Result PeelUnit PeelFault)) (t : State) : Type 0 where
+  pub over : s.over ≡ true → (result ≡ None) × (t ≡ s)
+  pub next : s.over ≡ false → (list : List ℕ) (w : Window) (hs : List Header) (e : Ending) → Faces list w s hs e → GivesNext list w hs e s result t
 
 -- of k bytes at most k / 4 units and a fault are still to come, and nothing after the fault
 abbrev pub items_left : State → Count

@@ -1,4 +1,4 @@
--- What a whole walk comes to.
+-- The result of a whole walk.
 use Rattle.std.specs.Prelude.{◌≡◌, ℕ, List, length, take, Option, Some, None, false}
 use Rattle.etherparse.specs.Header.{Header}
 use Rattle.ether_peel.specs.Grammar.Expectation.{Expectation, has_fcs}

@@ -1,11 +1,11 @@
-//! What stands at the start of some bytes.
+//! What some bytes begin with.
 ghost use Rattle.std.specs.Prelude.{◌+◌, ◌≤◌, length};
 
 use super::{PlainExpected, PlainHeader, PlainRefusal, PlainStep, known_len};
 use etherparse::LenSource;
 use etherparse::err::Layer;
 
-/// What stands there, by what is expected.
+/// What they begin with, by what is expected.
 pub fn step(bytes: &[u8], expected: PlainExpected) -> PlainStep<'_> {
     match expected {
         PlainExpected::Ethernet2 => ethernet2(bytes),

@@ -248,7 +248,7 @@ fn last_item<'a>(ending: PlainEnding) -> Option<Result<PeelUnit<'a>, PeelFault>>
     Some(Err(fault))
 }
 
-/// The walker's fault where the plain walk ends with one.
+/// The walker's fault if the plain walk ends with one.
 fn fault_of(ending: PlainEnding) -> Option<PeelFault> {
     let offset = ending.window.start;
     let error = match ending.refusal? {

@@ -1,4 +1,4 @@
-//! What a walk asks for that is given a frame by and by.
+//! What a walk that receives a frame piece by piece asks for.
 use super::{content, cut_short, with_type};
 use crate::test_frames::{CHECKED, NAMED, NESTED, PADDED_ARP, SECOND_TAG_CUT};
 use crate::{Feed, PeelError, PeelFault, Start, feed};

@@ -1,4 +1,4 @@
-//! Faults with all their fields, and what is left where they come.
+//! Faults with all their fields, and what is left then.
 use super::{
     broadcast, content, cut_short, ends, ether_type, gives, is_left, joined, readable, refuses,
     vlan, with_type,
@@ -313,7 +313,7 @@ fn what_a_cooked_capture_is_refused_for(rt: HostRuntime) {
         &RestKind::Start,
     );
 
-    // where both fields are wrong, the packet type is named
+    // if both fields are wrong, the packet type is named
     list[0] = 0x01;
     let both = err::linux_sll::HeaderError::UnsupportedPacketTypeField { packet_type: 256 };
     fault = content(0, false, PeelError::LinuxSll(both));

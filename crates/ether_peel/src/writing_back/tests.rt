@@ -6,7 +6,7 @@ use std::test::Fail;
 /// What a target holds before.
 const OLD: u8 = 0x55;
 
-/// A SecTag with a reserved bit set, which names four bytes of payload: a VLAN tag. Two bytes stand after it.
+/// A SecTag with a reserved bit set, which names four bytes of payload: a VLAN tag. Two bytes follow it.
 const TAG_IN_A_CLOSED_WINDOW: [u8; 14] = [
     0x00, 0x46, 0x00, 0x00, 0x00, 0x01, 0x81, 0x00, 0xAA, 0xBB, 0xCC, 0xDD, 0xEE, 0xEE,
 ];
