@@ -221,11 +221,10 @@ impl<'a> Iterator for Peel<'a> {
 
 /// The steps of a walk that is not over, one for each kind of unit that can be announced.
 impl<'a> Peel<'a> {
-    ghost use Rattle.std.specs.Prelude.{◌≤◌, IfSome, slice_range};
-    ghost use Rattle.std.specs.Iterator.{size};
+    ghost use Rattle.std.specs.Prelude.{◌≤◌, slice_range};
     ghost use Rattle.etherparse.specs.Kind as kinds;
     ghost use Rattle.ether_peel.specs.Grammar.Expectation.{announced};
-    ghost use Rattle.ether_peel.specs.Walker.Next.{Gives, items_left};
+    ghost use Rattle.ether_peel.specs.Walker.Next.{Gives, IsNearer};
     ghost use Rattle.ether_peel.specs.Walker.Reading.{IsRefusedBy};
 
     /// Goes on after the fault, in a longer front of the frame.
@@ -244,7 +243,7 @@ impl<'a> Peel<'a> {
     fn fault(&mut self, error: PeelError) -> Option<Result<PeelUnit<'a>, PeelFault>>
         requires { IsRefusedBy self.old error }
         ensures gives { Gives self.old result self.new }
-        ensures nearer { IfSome result (λ _. size (items_left self.new) < size (items_left self.old)) }
+        ensures nearer { IsNearer self.old result self.new }
     {
         self.is_over = true;
         Some(Err(PeelFault {
@@ -260,7 +259,7 @@ impl<'a> Peel<'a> {
         requires going { self.old.over ≡ false }
         requires announced { announced self.old.expected ≡ Some kinds.Ethernet2 }
         ensures gives { Gives self.old result self.new }
-        ensures nearer { IfSome result (λ _. size (items_left self.new) < size (items_left self.old)) }
+        ensures nearer { IsNearer self.old result self.new }
     {
         let bytes = &self.frame[self.start..self.end];
         match Ethernet2Slice::from_slice_without_fcs(bytes) {
@@ -282,7 +281,7 @@ impl<'a> Peel<'a> {
         requires going { self.old.over ≡ false }
         requires announced { announced self.old.expected ≡ Some kinds.Ethernet2Fcs }
         ensures gives { Gives self.old result self.new }
-        ensures nearer { IfSome result (λ _. size (items_left self.new) < size (items_left self.old)) }
+        ensures nearer { IsNearer self.old result self.new }
     {
         let bytes = &self.frame[self.start..self.end];
         match Ethernet2Slice::from_slice_with_crc32_fcs(bytes) {
@@ -305,7 +304,7 @@ impl<'a> Peel<'a> {
         requires going { self.old.over ≡ false }
         requires announced { announced self.old.expected ≡ Some kinds.LinuxSll }
         ensures gives { Gives self.old result self.new }
-        ensures nearer { IfSome result (λ _. size (items_left self.new) < size (items_left self.old)) }
+        ensures nearer { IsNearer self.old result self.new }
     {
         let bytes = &self.frame[self.start..self.end];
         match LinuxSllSlice::from_slice(bytes) {
@@ -332,7 +331,7 @@ impl<'a> Peel<'a> {
         requires going { self.old.over ≡ false }
         requires announced { announced self.old.expected ≡ Some kinds.Vlan }
         ensures gives { Gives self.old result self.new }
-        ensures nearer { IfSome result (λ _. size (items_left self.new) < size (items_left self.old)) }
+        ensures nearer { IsNearer self.old result self.new }
     {
         let bytes = &self.frame[self.start..self.end];
         match SingleVlanSlice::from_slice(bytes) {
@@ -355,7 +354,7 @@ impl<'a> Peel<'a> {
         requires going { self.old.over ≡ false }
         requires announced { announced self.old.expected ≡ Some kinds.Macsec }
         ensures gives { Gives self.old result self.new }
-        ensures nearer { IfSome result (λ _. size (items_left self.new) < size (items_left self.old)) }
+        ensures nearer { IsNearer self.old result self.new }
     {
         let bytes = &self.frame[self.start..self.end];
         match MacsecSlice::from_slice(bytes) {
@@ -387,7 +386,7 @@ impl<'a> Peel<'a> {
         requires going { self.old.over ≡ false }
         requires announced { announced self.old.expected ≡ Some kinds.Arp }
         ensures gives { Gives self.old result self.new }
-        ensures nearer { IfSome result (λ _. size (items_left self.new) < size (items_left self.old)) }
+        ensures nearer { IsNearer self.old result self.new }
     {
         let bytes = &self.frame[self.start..self.end];
         match ArpPacketSlice::from_slice(bytes) {

@@ -1,6 +1,6 @@
 -- A walker: what it shows at each moment, and what it gives, by the stack of the window that is left to read.
-use Rattle.std.specs.Prelude.{◌≡◌, ℕ, ◌+◌, ◌/◌, List, [], ◌∷◌, length, slice_range, Option, Some, None, Result, Ok, Err, true, false, if◌then◌else◌}
-use Rattle.std.specs.Iterator.{Count, at_most}
+use Rattle.std.specs.Prelude.{◌≡◌, ℕ, ◌+◌, ◌/◌, ◌<◌, List, [], ◌∷◌, length, slice_range, Option, Some, None, IfSome, Result, Ok, Err, true, false, if◌then◌else◌}
+use Rattle.std.specs.Iterator.{Count, at_most, size}
 use Rattle.etherparse.specs.Types.LenSource.TheVariants as sources
 use Rattle.etherparse.specs.Types.MacsecSlice.{MacsecSlice}
 use Rattle.etherparse.specs.Header.{Header, header_len, payload_len}
@@ -68,3 +68,7 @@ pub record Gives (s : State) (result : Option (Result PeelUnit PeelFault)) (t : 
 -- of k bytes at most k / 4 units and a fault are still to come, and nothing after the fault
 abbrev pub items_left : State → Count
 items_left s = at_most (if s.over then 0 else length s.rest / 4 + 1)
+
+-- a call that returns something leaves fewer of them
+abbrev pub IsNearer : State → Option (Result PeelUnit PeelFault) → State → Type 0
+IsNearer s result t = IfSome result (λ _. size (items_left t) < size (items_left s))
