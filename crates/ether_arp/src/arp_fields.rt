@@ -1,8 +1,8 @@
 //! The fields of an ARP packet in the bytes that begin with it (RFC 826, "Packet format"): hardware type, protocol type,
 //! the two sizes and the operation in eight bytes, then the addresses of the sender and those of the target.
-ghost use Rattle.std.specs.Prelude.{◌≡◌, ◌+◌, ◌*◌, ◌≤◌, ◌<◌, length, drop, IfOk, IfErr};
+ghost use Rattle.std.specs.Prelude.{◌≡◌, ◌+◌, ◌*◌, ◌≤◌, ◌<◌, length, slice_range, drop, IfOk, IfErr};
 ghost use Rattle.ether_base.specs.Arp.{ArpFront, FitsArpFront, arp_front_in, arp_front_number, arp_len, arp_of};
-ghost use Rattle.ether_base.specs.Bytes.{spelled};
+ghost use Rattle.ether_base.specs.Bytes.{number, spelled};
 ghost use Rattle.ether_base.specs.Kind as kinds;
 ghost use Rattle.ether_base.specs.RefusedLen.{IsRefusedLen};
 ghost use Rattle.ether_arp.specs.Arp.{BeginsWithArp, HoldsArp};
@@ -10,6 +10,22 @@ ghost use Rattle.ether_arp.specs.Arp.{BeginsWithArp, HoldsArp};
 use ether_base::big_endian::u16_of;
 use ether_base::err::{Layer, LenError};
 use ether_base::{ArpHardwareId, ArpOperation, EtherType, LenSource};
+use std::ops::Range;
+
+/// The hardware type.
+const HARDWARE_TYPE: Range<usize> = 0..2;
+
+/// The protocol type.
+const PROTOCOL_TYPE: Range<usize> = 2..4;
+
+/// The byte with the size of a hardware address.
+const HARDWARE_SIZE: usize = 4;
+
+/// The byte with the size of a protocol address.
+const PROTOCOL_SIZE: usize = 5;
+
+/// The operation.
+const OPERATION: Range<usize> = 6..8;
 
 /// The length of what stands before the addresses.
 const FRONT_LEN: usize = 8;
@@ -42,7 +58,7 @@ pub fn hw_addr_type(packet: &[u8]) -> ArpHardwareId
     requires { 8 ≤ length packet.now }
     ensures { result.0 ≡ (arp_front_in packet.now).hardware_type }
 {
-    ArpHardwareId(u16_of([packet[0], packet[1]]))
+    ArpHardwareId(u16_at(packet, HARDWARE_TYPE))
 }
 
 /// The protocol type.
@@ -50,7 +66,7 @@ pub fn proto_addr_type(packet: &[u8]) -> EtherType
     requires { 8 ≤ length packet.now }
     ensures { result.0 ≡ (arp_front_in packet.now).protocol_type }
 {
-    EtherType(u16_of([packet[2], packet[3]]))
+    EtherType(u16_at(packet, PROTOCOL_TYPE))
 }
 
 /// The size of a hardware address.
@@ -58,7 +74,7 @@ pub fn hw_addr_size(packet: &[u8]) -> u8
     requires { 8 ≤ length packet.now }
     ensures { result ≡ (arp_front_in packet.now).hardware_size }
 {
-    packet[4]
+    packet[HARDWARE_SIZE]
 }
 
 /// The size of a protocol address.
@@ -66,7 +82,7 @@ pub fn proto_addr_size(packet: &[u8]) -> u8
     requires { 8 ≤ length packet.now }
     ensures { result ≡ (arp_front_in packet.now).protocol_size }
 {
-    packet[5]
+    packet[PROTOCOL_SIZE]
 }
 
 /// The operation.
@@ -74,7 +90,7 @@ pub fn operation(packet: &[u8]) -> ArpOperation
     requires { 8 ≤ length packet.now }
     ensures { result.0 ≡ (arp_front_in packet.now).operation }
 {
-    ArpOperation(u16_of([packet[6], packet[7]]))
+    ArpOperation(u16_at(packet, OPERATION))
 }
 
 /// The sender's hardware address.
@@ -156,6 +172,16 @@ pub fn front_bytes(
         o[0],
         o[1],
     ]
+}
+
+/// The number in a field of two bytes.
+fn u16_at(packet: &[u8], field: Range<usize>) -> u16
+    requires width { field.end ≡ field.start + 2 }
+    requires within { field.end ≤ length packet.now }
+    ensures { result ≡ number (slice_range packet.now field.start field.end) }
+{
+    let at = field.start;
+    u16_of([packet[at], packet[at + 1]])
 }
 
 /// The error of a slice that is too short for a packet.

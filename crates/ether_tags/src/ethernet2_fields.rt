@@ -7,19 +7,26 @@ ghost use Rattle.ether_base.specs.Ethernet2.{ethernet2_of};
 ghost use Rattle.ether_tags.specs.Ethernet2.{ethernet2_header_of, ethernet2_view};
 
 use crate::Ethernet2Header;
-use ether_base::big_endian::u16_of;
+use crate::number_at::u16_at;
 use ether_base::err::{Layer, LenError};
 use ether_base::{EtherType, LenSource};
+use std::ops::Range;
 
-/// Where the source address starts.
-const SOURCE: usize = 6;
+/// The destination address.
+const DESTINATION: Range<usize> = 0..6;
+
+/// The source address.
+const SOURCE: Range<usize> = 6..12;
+
+/// The type.
+const ETHER_TYPE: Range<usize> = 12..14;
 
 /// The destination MAC address (IEEE 802.3, 3.2.4).
 pub fn destination(bytes: &[u8]) -> [u8; 6]
     requires { 14 ≤ length bytes.now }
     ensures { result ≡ spelled 6 (ethernet2_of bytes.now).destination }
 {
-    address_at(bytes, 0)
+    address_at(bytes, DESTINATION)
 }
 
 /// The source MAC address (IEEE 802.3, 3.2.5).
@@ -35,7 +42,7 @@ pub fn ether_type(bytes: &[u8]) -> EtherType
     requires { 14 ≤ length bytes.now }
     ensures { result.0 ≡ (ethernet2_of bytes.now).ether_type }
 {
-    EtherType(u16_of([bytes[12], bytes[13]]))
+    EtherType(u16_at(bytes, ETHER_TYPE))
 }
 
 /// All fields.
@@ -47,7 +54,7 @@ pub fn header(bytes: &[u8]) -> Ethernet2Header
 {
     Ethernet2Header {
         source: address_at(bytes, SOURCE),
-        destination: address_at(bytes, 0),
+        destination: address_at(bytes, DESTINATION),
         ether_type: ether_type(bytes),
     }
 }
@@ -78,11 +85,13 @@ pub fn too_short(required_len: usize, len: usize) -> LenError
 }
 
 /// Six bytes in their order on the wire.
-fn address_at(bytes: &[u8], at: usize) -> [u8; 6]
-    requires { at + 6 ≤ length bytes.now }
-    ensures value { result ≡ slice_range bytes.now at (at + 6) }
+fn address_at(bytes: &[u8], field: Range<usize>) -> [u8; 6]
+    requires width { field.end ≡ field.start + 6 }
+    requires within { field.end ≤ length bytes.now }
+    ensures value { result ≡ slice_range bytes.now field.start field.end }
     ensures bytes { IsBytes result }
 {
+    let at = field.start;
     [
         bytes[at],
         bytes[at + 1],

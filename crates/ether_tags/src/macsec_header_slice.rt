@@ -91,7 +91,7 @@ impl<'a> MacsecHeaderSlice<'a> {
     pub fn tci_an_raw(&self) -> u8
         ensures { result ≡ slice_index (tag_bytes self.now) 0 }
     {
-        self.slice[0]
+        macsec_fields::tci_an(self.slice)
     }
 
     /// The end station bit (ES, 9.5): the SCI is made of the frame's source address, and is left out.

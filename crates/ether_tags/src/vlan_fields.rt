@@ -6,9 +6,16 @@ ghost use Rattle.ether_base.specs.Vlan.{vlan_of};
 ghost use Rattle.ether_tags.specs.Vlan.{vlan_view};
 
 use crate::SingleVlanHeader;
-use ether_base::big_endian::u16_of;
+use crate::number_at::u16_at;
 use ether_base::err::{Layer, LenError};
 use ether_base::{EtherType, LenSource, VlanId, VlanPcp};
+use std::ops::Range;
+
+/// The tag control information.
+const TCI: Range<usize> = 0..2;
+
+/// The ether type of what follows.
+const ETHER_TYPE: Range<usize> = 2..4;
 
 /// The priority code point.
 pub fn priority_code_point(bytes: &[u8]) -> VlanPcp
@@ -39,7 +46,7 @@ pub fn ether_type(bytes: &[u8]) -> EtherType
     requires { 4 ≤ length bytes.now }
     ensures { result.0 ≡ (vlan_of bytes.now).ether_type }
 {
-    EtherType(u16_of([bytes[2], bytes[3]]))
+    EtherType(u16_at(bytes, ETHER_TYPE))
 }
 
 /// All fields. The tag control information is read once: read three times, it is taken apart byte by byte.
@@ -120,5 +127,5 @@ fn tag_control(bytes: &[u8]) -> u16
     requires { 2 ≤ length bytes.now }
     ensures { result ≡ number (slice_range bytes.now 0 2) }
 {
-    u16_of([bytes[0], bytes[1]])
+    u16_at(bytes, TCI)
 }
