@@ -4,6 +4,7 @@
 mod arp_addrs;
 mod arp_eth_ipv4_packet;
 mod arp_fields;
+mod arp_front;
 mod arp_packet;
 mod arp_packet_slice;
 #[cfg(test)]

@@ -19,6 +19,7 @@ mod linux_sll_protocol_type;
 mod macsec_an;
 mod macsec_short_len;
 pub mod number_text;
+pub mod slice_len;
 #[cfg(test)]
 mod test_asserts;
 mod vlan_id;

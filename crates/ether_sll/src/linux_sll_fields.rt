@@ -7,8 +7,9 @@ ghost use Rattle.ether_sll.specs.LinuxSll.{HoldsLinuxSll, protocol_type_of_heade
 
 use crate::LinuxSllHeader;
 use ether_base::big_endian::u16_of;
+use ether_base::err::Layer;
 use ether_base::err::linux_sll::{HeaderError, HeaderSliceError};
-use ether_base::err::{Layer, LenError};
+use ether_base::slice_len::too_short;
 use ether_base::{ArpHardwareId, LenSource, LinuxSllPacketType, LinuxSllProtocolType};
 use std::ops::Range;
 
@@ -33,13 +34,12 @@ pub fn require_header(slice: &[u8]) -> Result<(), HeaderSliceError>
     ensures refused { IfErr result (IsRefusedSll slice.now) }
 {
     if slice.len() < LinuxSllHeader::LEN {
-        return Err(HeaderSliceError::Len(LenError {
-            required_len: LinuxSllHeader::LEN,
-            len: slice.len(),
-            len_source: LenSource::Slice,
-            layer: Layer::LinuxSllHeader,
-            layer_start_offset: 0,
-        }));
+        return Err(HeaderSliceError::Len(too_short(
+            LinuxSllHeader::LEN,
+            slice.len(),
+            LenSource::Slice,
+            Layer::LinuxSllHeader,
+        )));
     }
     match require_content(slice) {
         Ok(()) => Ok(()),

@@ -8,8 +8,7 @@ ghost use Rattle.ether_tags.specs.Ethernet2.{ethernet2_header_of, ethernet2_view
 
 use crate::Ethernet2Header;
 use crate::number_at::u16_at;
-use ether_base::err::{Layer, LenError};
-use ether_base::{EtherType, LenSource};
+use ether_base::EtherType;
 use std::ops::Range;
 
 /// The destination address.
@@ -69,19 +68,6 @@ pub fn are_same(a: &[u8], b: &[u8]) -> bool
         == [b[0], b[1], b[2], b[3], b[4], b[5], b[6], b[7]]
         && [a[8], a[9], a[10], a[11]] == [b[8], b[9], b[10], b[11]]
         && [a[12], a[13]] == [b[12], b[13]]
-}
-
-/// The error of `len` bytes where a frame takes `required_len`.
-pub fn too_short(required_len: usize, len: usize) -> LenError
-    ensures { result ≡ record { required_len = required_len; len = len; len_source = LenSource.Slice; layer = Layer.Ethernet2Header; layer_start_offset = 0 } }
-{
-    LenError {
-        required_len,
-        len,
-        len_source: LenSource::Slice,
-        layer: Layer::Ethernet2Header,
-        layer_start_offset: 0,
-    }
 }
 
 /// Six bytes in their order on the wire.

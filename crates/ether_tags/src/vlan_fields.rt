@@ -7,8 +7,7 @@ ghost use Rattle.ether_tags.specs.Vlan.{vlan_view};
 
 use crate::SingleVlanHeader;
 use crate::number_at::u16_at;
-use ether_base::err::{Layer, LenError};
-use ether_base::{EtherType, LenSource, VlanId, VlanPcp};
+use ether_base::{EtherType, VlanId, VlanPcp};
 use std::ops::Range;
 
 /// The tag control information.
@@ -70,19 +69,6 @@ pub fn tag(bytes: &[u8]) -> [u8; 4]
     ensures { result ≡ bytes.now }
 {
     [bytes[0], bytes[1], bytes[2], bytes[3]]
-}
-
-/// The error of `len` bytes, which are fewer than the 4 of a tag.
-pub fn too_short(len: usize) -> LenError
-    ensures { result ≡ record { required_len = 4; len = len; len_source = LenSource.Slice; layer = Layer.VlanHeader; layer_start_offset = 0 } }
-{
-    LenError {
-        required_len: SingleVlanHeader::LEN,
-        len,
-        len_source: LenSource::Slice,
-        layer: Layer::VlanHeader,
-        layer_start_offset: 0,
-    }
 }
 
 /// The tag control information of three fields.
