@@ -13,10 +13,10 @@ use ether_base::slice_len::too_short;
 use ether_base::{ArpHardwareId, ArpOperation, EtherType, LenSource};
 use std::ops::Range;
 
-/// The hardware type.
+/// The bytes of the hardware type.
 const HARDWARE_TYPE: Range<usize> = 0..2;
 
-/// The protocol type.
+/// The bytes of the protocol type.
 const PROTOCOL_TYPE: Range<usize> = 2..4;
 
 /// The byte with the size of a hardware address.
@@ -25,7 +25,7 @@ const HARDWARE_SIZE: usize = 4;
 /// The byte with the size of a protocol address.
 const PROTOCOL_SIZE: usize = 5;
 
-/// The operation.
+/// The bytes of the operation.
 const OPERATION: Range<usize> = 6..8;
 
 /// The length of what stands before the addresses.

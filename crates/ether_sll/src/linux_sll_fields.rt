@@ -13,19 +13,19 @@ use ether_base::slice_len::too_short;
 use ether_base::{ArpHardwareId, LenSource, LinuxSllPacketType, LinuxSllProtocolType};
 use std::ops::Range;
 
-/// The packet type.
+/// The bytes of the packet type.
 const PACKET_TYPE: Range<usize> = 0..2;
 
-/// The ARPHRD_ type.
+/// The bytes of the ARPHRD_ type.
 const HARDWARE_TYPE: Range<usize> = 2..4;
 
-/// The length of the sender's address.
+/// The bytes of the length of the sender's address.
 const ADDRESS_LENGTH: Range<usize> = 4..6;
 
-/// The sender's address.
+/// The bytes of the sender's address.
 const ADDRESS: Range<usize> = 6..14;
 
-/// The protocol.
+/// The bytes of the protocol.
 const PROTOCOL: Range<usize> = 14..16;
 
 /// Tests that a slice begins with a header whose contents are supported.

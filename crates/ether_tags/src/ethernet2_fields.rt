@@ -11,13 +11,13 @@ use crate::number_at::u16_at;
 use ether_base::EtherType;
 use std::ops::Range;
 
-/// The destination address.
+/// The bytes of the destination address.
 const DESTINATION: Range<usize> = 0..6;
 
-/// The source address.
+/// The bytes of the source address.
 const SOURCE: Range<usize> = 6..12;
 
-/// The type.
+/// The bytes of the type.
 const ETHER_TYPE: Range<usize> = 12..14;
 
 /// The destination MAC address (IEEE 802.3, 3.2.4).

@@ -19,10 +19,10 @@ const TCI_AN: usize = 0;
 /// The byte with the short length.
 const SHORT_LENGTH: usize = 1;
 
-/// The packet number.
+/// The bytes of the packet number.
 const PACKET_NUMBER: Range<usize> = 2..6;
 
-/// The SCI, where the tag has one.
+/// The bytes of the SCI, where the tag has one.
 const SCI: Range<usize> = 6..14;
 
 /// The bit of the version in the first byte.

@@ -10,10 +10,10 @@ use crate::number_at::u16_at;
 use ether_base::{EtherType, VlanId, VlanPcp};
 use std::ops::Range;
 
-/// The tag control information.
+/// The bytes of the tag control information.
 const TCI: Range<usize> = 0..2;
 
-/// The ether type of what follows.
+/// The bytes of the ether type of what follows.
 const ETHER_TYPE: Range<usize> = 2..4;
 
 /// The priority code point.
