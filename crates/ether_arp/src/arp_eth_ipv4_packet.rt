@@ -5,7 +5,7 @@ ghost use Rattle.ether_base.specs.declared.err.arp.arp_eth_ipv4_from_error.ArpEt
 ghost use Rattle.ether_base.specs.Formats.Arp.{arp_bytes};
 ghost use Rattle.ether_arp.specs.ArpEthIpv4.{AnswersEthIpv4, eth_ipv4_bytes, eth_ipv4_view};
 
-use crate::{ArpPacket, arp_fields};
+use crate::{ArpPacket, arp_front};
 use ether_base::err::arp::ArpEthIpv4FromError;
 use ether_base::{ArpHardwareId, ArpOperation, EtherType};
 use std::net::Ipv4Addr;
@@ -64,7 +64,7 @@ impl ArpEthIpv4Packet {
     pub fn to_bytes(&self) -> [u8; 28]
         ensures { result ≡ eth_ipv4_bytes self.now }
     {
-        let front = arp_fields::front_bytes(
+        let front = arp_front::front_bytes(
             ArpHardwareId::ETHERNET.0,
             EtherType::IPV4.0,
             6,

@@ -1,36 +1,59 @@
 //! The fields of an ARP packet in the bytes that begin with it (RFC 826, "Packet format"): hardware type, protocol type,
 //! the two sizes and the operation in eight bytes, then the addresses of the sender and those of the target.
-ghost use Rattle.std.specs.Prelude.{◌≡◌, ◌+◌, ◌*◌, ◌≤◌, ◌<◌, length, drop, IfOk, IfErr};
-ghost use Rattle.ether_base.specs.Formats.Arp.{ArpFront, FitsArpFront, arp_front_in, arp_front_number, arp_len, arp_of};
-ghost use Rattle.ether_base.specs.Bytes.{spelled};
+ghost use Rattle.std.specs.Prelude.{◌≡◌, ◌+◌, ◌*◌, ◌≤◌, ◌<◌, length, slice_range, drop, IfOk, IfErr};
+ghost use Rattle.ether_base.specs.Formats.Arp.{arp_front_in, arp_len, arp_of};
+ghost use Rattle.ether_base.specs.Bytes.{number};
 ghost use Rattle.ether_base.specs.Formats.Kind as kinds;
 ghost use Rattle.ether_base.specs.Formats.RefusedLen.{IsRefusedLen};
 ghost use Rattle.ether_arp.specs.Arp.{BeginsWithArp, HoldsArp};
 
 use ether_base::big_endian::u16_of;
 use ether_base::err::{Layer, LenError};
+use ether_base::slice_len::too_short;
 use ether_base::{ArpHardwareId, ArpOperation, EtherType, LenSource};
+use std::ops::Range;
+
+/// The bytes of the hardware type.
+const HARDWARE_TYPE: Range<usize> = 0..2;
+
+/// The bytes of the protocol type.
+const PROTOCOL_TYPE: Range<usize> = 2..4;
+
+/// The byte with the size of a hardware address.
+const HARDWARE_SIZE: usize = 4;
+
+/// The byte with the size of a protocol address.
+const PROTOCOL_SIZE: usize = 5;
+
+/// The bytes of the operation.
+const OPERATION: Range<usize> = 6..8;
 
 /// The length of what stands before the addresses.
 const FRONT_LEN: usize = 8;
 
-/// Tests that a slice begins with a packet.
-pub fn require_packet(slice: &[u8]) -> Result<(), LenError>
-    ensures holds { IfOk result (λ _. BeginsWithArp slice.now) }
+/// The bytes of the packet that a slice begins with.
+pub fn packet(slice: &[u8]) -> Result<&[u8], LenError>
+    ensures bytes { IfOk result (λ packet. packet.now ≡ slice_range slice.now 0 (arp_len (arp_front_in slice.now))) }
+    ensures begins { IfOk result (λ _. BeginsWithArp slice.now) }
     ensures refused { IfErr result (IsRefusedLen slice.now kinds.Arp) }
 {
     if slice.len() < FRONT_LEN {
-        return Err(cut_short(FRONT_LEN, slice.len(), LenSource::Slice));
+        return Err(too_short(FRONT_LEN, slice.len(), LenSource::Slice, Layer::Arp));
     }
     let required_len = packet_len(slice);
     if slice.len() < required_len {
-        return Err(cut_short(required_len, slice.len(), LenSource::ArpAddrLengths));
+        return Err(too_short(
+            required_len,
+            slice.len(),
+            LenSource::ArpAddrLengths,
+            Layer::Arp,
+        ));
     }
-    Ok(())
+    Ok(&slice[..required_len])
 }
 
 /// The length of the packet that the sizes tell.
-pub fn packet_len(packet: &[u8]) -> usize
+fn packet_len(packet: &[u8]) -> usize
     requires { 8 ≤ length packet.now }
     ensures { result ≡ arp_len (arp_front_in packet.now) }
 {
@@ -42,7 +65,7 @@ pub fn hw_addr_type(packet: &[u8]) -> ArpHardwareId
     requires { 8 ≤ length packet.now }
     ensures { result.0 ≡ (arp_front_in packet.now).hardware_type }
 {
-    ArpHardwareId(u16_of([packet[0], packet[1]]))
+    ArpHardwareId(u16_at(packet, HARDWARE_TYPE))
 }
 
 /// The protocol type.
@@ -50,7 +73,7 @@ pub fn proto_addr_type(packet: &[u8]) -> EtherType
     requires { 8 ≤ length packet.now }
     ensures { result.0 ≡ (arp_front_in packet.now).protocol_type }
 {
-    EtherType(u16_of([packet[2], packet[3]]))
+    EtherType(u16_at(packet, PROTOCOL_TYPE))
 }
 
 /// The size of a hardware address.
@@ -58,7 +81,7 @@ pub fn hw_addr_size(packet: &[u8]) -> u8
     requires { 8 ≤ length packet.now }
     ensures { result ≡ (arp_front_in packet.now).hardware_size }
 {
-    packet[4]
+    packet[HARDWARE_SIZE]
 }
 
 /// The size of a protocol address.
@@ -66,7 +89,7 @@ pub fn proto_addr_size(packet: &[u8]) -> u8
     requires { 8 ≤ length packet.now }
     ensures { result ≡ (arp_front_in packet.now).protocol_size }
 {
-    packet[5]
+    packet[PROTOCOL_SIZE]
 }
 
 /// The operation.
@@ -74,7 +97,7 @@ pub fn operation(packet: &[u8]) -> ArpOperation
     requires { 8 ≤ length packet.now }
     ensures { result.0 ≡ (arp_front_in packet.now).operation }
 {
-    ArpOperation(u16_of([packet[6], packet[7]]))
+    ArpOperation(u16_at(packet, OPERATION))
 }
 
 /// The sender's hardware address.
@@ -132,41 +155,12 @@ pub fn addrs(packet: &[u8]) -> &[u8]
     &packet[FRONT_LEN..]
 }
 
-/// The bytes before the addresses.
-pub fn front_bytes(
-    hw_addr_type: u16,
-    proto_addr_type: u16,
-    hw_addr_size: u8,
-    proto_addr_size: u8,
-    operation: u16,
-) -> [u8; 8]
-    ensures { let front : ArpFront = record { hardware_type = hw_addr_type; protocol_type = proto_addr_type; hardware_size = hw_addr_size; protocol_size = proto_addr_size; operation = operation } in
-        (result ≡ spelled 8 (arp_front_number front)) × FitsArpFront front }
+/// The number in a field of two bytes.
+fn u16_at(packet: &[u8], field: Range<usize>) -> u16
+    requires width { field.end ≡ field.start + 2 }
+    requires within { field.end ≤ length packet.now }
+    ensures { result ≡ number (slice_range packet.now field.start field.end) }
 {
-    let h = hw_addr_type.to_be_bytes();
-    let p = proto_addr_type.to_be_bytes();
-    let o = operation.to_be_bytes();
-    [
-        h[0],
-        h[1],
-        p[0],
-        p[1],
-        hw_addr_size,
-        proto_addr_size,
-        o[0],
-        o[1],
-    ]
-}
-
-/// The error of a slice that is too short for a packet.
-fn cut_short(required_len: usize, len: usize, len_source: LenSource) -> LenError
-    ensures { result ≡ record { required_len = required_len; len = len; len_source = len_source; layer = Layer.Arp; layer_start_offset = 0 } }
-{
-    LenError {
-        required_len,
-        len,
-        len_source,
-        layer: Layer::Arp,
-        layer_start_offset: 0,
-    }
+    let at = field.start;
+    u16_of([packet[at], packet[at + 1]])
 }

@@ -16,7 +16,7 @@ ghost use Rattle.ether_base.specs.Formats.RefusedLen.{IsRefusedLen};
 ghost use Rattle.ether_arp.specs.ArpAddresses.{AcceptsAddrs, AcceptsHwAddrs, AcceptsProtoAddrs, RefusesAddrs, RefusesHwAddrs, RefusesProtoAddrs};
 ghost use Rattle.ether_arp.specs.ArpEthIpv4.{AnswersEthIpv4};
 
-use crate::{ArpEthIpv4Packet, ArpPacketSlice, arp_addrs, arp_fields};
+use crate::{ArpEthIpv4Packet, ArpPacketSlice, arp_addrs, arp_front};
 use arrayvec::ArrayVec;
 use ether_base::err::LenError;
 use ether_base::err::arp::{ArpEthIpv4FromError, ArpHwAddrError, ArpNewError, ArpProtoAddrError};
@@ -348,7 +348,7 @@ impl ArpPacket {
         ensures value { result ≡ spelled 8 (arp_front_number (arp_front_of self.now)) }
         ensures fits { FitsArp self.now }
     {
-        arp_fields::front_bytes(
+        arp_front::front_bytes(
             self.hw_addr_type.0,
             self.proto_addr_type.0,
             self.hw_addr_size,

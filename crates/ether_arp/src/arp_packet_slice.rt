@@ -53,9 +53,8 @@ impl<'a> ArpPacketSlice<'a> {
         ensures value { IfOk result (λ p. Means slice.now (headers.Arp (arp_of p))) }
         ensures refused { IfErr result (IsRefusedLen slice.now kinds.Arp) }
     {
-        arp_fields::require_packet(slice)?;
         Ok(ArpPacketSlice {
-            slice: &slice[..arp_fields::packet_len(slice)],
+            slice: arp_fields::packet(slice)?,
         })
     }
 

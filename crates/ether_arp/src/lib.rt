@@ -4,13 +4,14 @@
 mod arp_addrs;
 mod arp_eth_ipv4_packet;
 mod arp_fields;
+mod arp_front;
 mod arp_packet;
 mod arp_packet_slice;
-#[cfg(test)]
-mod derived_traits;
 pub mod laws;
 #[cfg(test)]
 mod test_asserts;
+#[cfg(test)]
+mod tests;
 
 pub use arp_eth_ipv4_packet::ArpEthIpv4Packet;
 pub use arp_packet::ArpPacket;

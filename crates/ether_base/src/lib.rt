@@ -5,8 +5,6 @@
 mod arp_hardware_id;
 mod arp_operation;
 pub mod big_endian;
-#[cfg(test)]
-mod derived_traits;
 pub mod err;
 pub mod ether_type;
 mod ether_type_impl;
@@ -19,8 +17,11 @@ mod linux_sll_protocol_type;
 mod macsec_an;
 mod macsec_short_len;
 pub mod number_text;
+pub mod slice_len;
 #[cfg(test)]
 mod test_asserts;
+#[cfg(test)]
+mod tests;
 mod vlan_id;
 mod vlan_pcp;
 pub mod write_front;

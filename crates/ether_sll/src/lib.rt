@@ -1,8 +1,6 @@
 //! Linux cooked capture v1 (LINKTYPE_LINUX_SLL), and link headers and packets of either kind: Ethernet II or cooked capture.
 #![tactic(auto)]
 
-#[cfg(test)]
-mod derived_traits;
 mod link_header;
 mod link_slice;
 mod linux_sll_fields;
@@ -14,6 +12,8 @@ mod linux_sll_slice;
 mod test_asserts;
 #[cfg(test)]
 mod test_frames;
+#[cfg(test)]
+mod tests;
 
 pub use link_header::LinkHeader;
 pub use link_slice::LinkSlice;

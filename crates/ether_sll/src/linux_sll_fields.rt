@@ -1,18 +1,32 @@
 //! The fields of a header of Linux cooked capture v1 (LINKTYPE_LINUX_SLL) in bytes that begin with one: packet type, ARPHRD_
 //! type, length of the sender's address (2 bytes each), sender's address (8 bytes) and protocol (2 bytes), in this order.
 ghost use Rattle.std.specs.Prelude.{◌≡◌, ◌+◌, ◌≤◌, length, slice_range, IfOk, IfErr};
-ghost use Rattle.ether_base.specs.Bytes.{IsBytes, spelled};
+ghost use Rattle.ether_base.specs.Bytes.{IsBytes, number, spelled};
 ghost use Rattle.ether_base.specs.Formats.LinuxSll.{linux_sll_of};
 ghost use Rattle.ether_sll.specs.LinuxSll.{HoldsLinuxSll, protocol_type_of_header, valid_address, IsRefusedContent, IsRefusedSll, linux_sll_view};
 
 use crate::LinuxSllHeader;
 use ether_base::big_endian::u16_of;
+use ether_base::err::Layer;
 use ether_base::err::linux_sll::{HeaderError, HeaderSliceError};
-use ether_base::err::{Layer, LenError};
+use ether_base::slice_len::too_short;
 use ether_base::{ArpHardwareId, LenSource, LinuxSllPacketType, LinuxSllProtocolType};
+use std::ops::Range;
 
-/// Where the sender's address starts.
-const ADDRESS: usize = 6;
+/// The bytes of the packet type.
+const PACKET_TYPE: Range<usize> = 0..2;
+
+/// The bytes of the ARPHRD_ type.
+const HARDWARE_TYPE: Range<usize> = 2..4;
+
+/// The bytes of the length of the sender's address.
+const ADDRESS_LENGTH: Range<usize> = 4..6;
+
+/// The bytes of the sender's address.
+const ADDRESS: Range<usize> = 6..14;
+
+/// The bytes of the protocol.
+const PROTOCOL: Range<usize> = 14..16;
 
 /// Tests that a slice begins with a header whose contents are supported.
 pub fn require_header(slice: &[u8]) -> Result<(), HeaderSliceError>
@@ -20,13 +34,12 @@ pub fn require_header(slice: &[u8]) -> Result<(), HeaderSliceError>
     ensures refused { IfErr result (IsRefusedSll slice.now) }
 {
     if slice.len() < LinuxSllHeader::LEN {
-        return Err(HeaderSliceError::Len(LenError {
-            required_len: LinuxSllHeader::LEN,
-            len: slice.len(),
-            len_source: LenSource::Slice,
-            layer: Layer::LinuxSllHeader,
-            layer_start_offset: 0,
-        }));
+        return Err(HeaderSliceError::Len(too_short(
+            LinuxSllHeader::LEN,
+            slice.len(),
+            LenSource::Slice,
+            Layer::LinuxSllHeader,
+        )));
     }
     match require_content(slice) {
         Ok(()) => Ok(()),
@@ -62,7 +75,7 @@ pub fn arp_hardware_type(bytes: &[u8]) -> ArpHardwareId
     requires { 16 ≤ length bytes.now }
     ensures { result.0 ≡ (linux_sll_of bytes.now).hardware_type }
 {
-    ArpHardwareId(u16_of([bytes[2], bytes[3]]))
+    ArpHardwareId(u16_at(bytes, HARDWARE_TYPE))
 }
 
 /// The length of the sender's address in bytes, which may be more than there is room for.
@@ -70,7 +83,7 @@ pub fn sender_address_valid_length(bytes: &[u8]) -> u16
     requires { 16 ≤ length bytes.now }
     ensures { result ≡ (linux_sll_of bytes.now).address_len }
 {
-    u16_of([bytes[4], bytes[5]])
+    u16_at(bytes, ADDRESS_LENGTH)
 }
 
 /// The 8 bytes of the sender's address, used or not.
@@ -88,7 +101,7 @@ pub fn sender_address(bytes: &[u8]) -> &[u8]
 {
     let valid = sender_address_valid_length(bytes);
     let len = if valid < 8 { usize::from(valid) } else { 8 };
-    &bytes[ADDRESS..ADDRESS + len]
+    &bytes[ADDRESS.start..ADDRESS.start + len]
 }
 
 /// The protocol type, in the variant that the hardware type gives it.
@@ -125,7 +138,7 @@ fn packet_number(bytes: &[u8]) -> u16
     requires { 16 ≤ length bytes.now }
     ensures { result ≡ (linux_sll_of bytes.now).packet_type }
 {
-    u16_of([bytes[0], bytes[1]])
+    u16_at(bytes, PACKET_TYPE)
 }
 
 /// The protocol type as a number.
@@ -133,7 +146,7 @@ fn protocol_number(bytes: &[u8]) -> u16
     requires { 16 ≤ length bytes.now }
     ensures { result ≡ (linux_sll_of bytes.now).protocol }
 {
-    u16_of([bytes[14], bytes[15]])
+    u16_at(bytes, PROTOCOL)
 }
 
 /// The 8 bytes of the sender's address in their order on the wire.
@@ -142,6 +155,25 @@ fn address(bytes: &[u8]) -> [u8; 8]
     ensures value { result ≡ slice_range bytes.now 6 14 }
     ensures bytes { IsBytes result }
 {
-    let b = bytes;
-    [b[6], b[7], b[8], b[9], b[10], b[11], b[12], b[13]]
+    let (b, at) = (bytes, ADDRESS.start);
+    [
+        b[at],
+        b[at + 1],
+        b[at + 2],
+        b[at + 3],
+        b[at + 4],
+        b[at + 5],
+        b[at + 6],
+        b[at + 7],
+    ]
+}
+
+/// The number in a field of two bytes.
+fn u16_at(bytes: &[u8], field: Range<usize>) -> u16
+    requires width { field.end ≡ field.start + 2 }
+    requires within { field.end ≤ length bytes.now }
+    ensures { result ≡ number (slice_range bytes.now field.start field.end) }
+{
+    let at = field.start;
+    u16_of([bytes[at], bytes[at + 1]])
 }

@@ -7,19 +7,25 @@ ghost use Rattle.ether_base.specs.Formats.Ethernet2.{ethernet2_of};
 ghost use Rattle.ether_tags.specs.Ethernet2.{ethernet2_header_of, ethernet2_view};
 
 use crate::Ethernet2Header;
-use ether_base::big_endian::u16_of;
-use ether_base::err::{Layer, LenError};
-use ether_base::{EtherType, LenSource};
+use crate::number_at::u16_at;
+use ether_base::EtherType;
+use std::ops::Range;
 
-/// Where the source address starts.
-const SOURCE: usize = 6;
+/// The bytes of the destination address.
+const DESTINATION: Range<usize> = 0..6;
+
+/// The bytes of the source address.
+const SOURCE: Range<usize> = 6..12;
+
+/// The bytes of the type.
+const ETHER_TYPE: Range<usize> = 12..14;
 
 /// The destination MAC address (IEEE 802.3, 3.2.4).
 pub fn destination(bytes: &[u8]) -> [u8; 6]
     requires { 14 ≤ length bytes.now }
     ensures { result ≡ spelled 6 (ethernet2_of bytes.now).destination }
 {
-    address_at(bytes, 0)
+    address_at(bytes, DESTINATION)
 }
 
 /// The source MAC address (IEEE 802.3, 3.2.5).
@@ -35,7 +41,7 @@ pub fn ether_type(bytes: &[u8]) -> EtherType
     requires { 14 ≤ length bytes.now }
     ensures { result.0 ≡ (ethernet2_of bytes.now).ether_type }
 {
-    EtherType(u16_of([bytes[12], bytes[13]]))
+    EtherType(u16_at(bytes, ETHER_TYPE))
 }
 
 /// All fields.
@@ -47,7 +53,7 @@ pub fn header(bytes: &[u8]) -> Ethernet2Header
 {
     Ethernet2Header {
         source: address_at(bytes, SOURCE),
-        destination: address_at(bytes, 0),
+        destination: address_at(bytes, DESTINATION),
         ether_type: ether_type(bytes),
     }
 }
@@ -64,25 +70,14 @@ pub fn are_same(a: &[u8], b: &[u8]) -> bool
         && [a[12], a[13]] == [b[12], b[13]]
 }
 
-/// The error of `len` bytes where a frame takes `required_len`.
-pub fn too_short(required_len: usize, len: usize) -> LenError
-    ensures { result ≡ record { required_len = required_len; len = len; len_source = LenSource.Slice; layer = Layer.Ethernet2Header; layer_start_offset = 0 } }
-{
-    LenError {
-        required_len,
-        len,
-        len_source: LenSource::Slice,
-        layer: Layer::Ethernet2Header,
-        layer_start_offset: 0,
-    }
-}
-
 /// Six bytes in their order on the wire.
-fn address_at(bytes: &[u8], at: usize) -> [u8; 6]
-    requires { at + 6 ≤ length bytes.now }
-    ensures value { result ≡ slice_range bytes.now at (at + 6) }
+fn address_at(bytes: &[u8], field: Range<usize>) -> [u8; 6]
+    requires width { field.end ≡ field.start + 6 }
+    requires within { field.end ≤ length bytes.now }
+    ensures value { result ≡ slice_range bytes.now field.start field.end }
     ensures bytes { IsBytes result }
 {
+    let at = field.start;
     [
         bytes[at],
         bytes[at + 1],

@@ -14,8 +14,9 @@ ghost use Rattle.ether_base.specs.Formats.RefusedLen.{IsRefusedLen};
 ghost use Rattle.ether_tags.specs.Ethernet2.{ethernet2_header_of, ethernet2_view};
 
 use crate::{Ethernet2Header, ethernet2_fields};
-use ether_base::EtherType;
-use ether_base::err::LenError;
+use ether_base::err::{Layer, LenError};
+use ether_base::slice_len::too_short;
+use ether_base::{EtherType, LenSource};
 use std::alloc::AllocError;
 use std::marker::Model;
 
@@ -54,7 +55,7 @@ impl<'a> Ethernet2HeaderSlice<'a> {
     /// # Errors
     ///
     /// The slice has fewer than 14 bytes: `required_len` is 14, `len` the slice's length, `len_source` is
-    /// `LenSource::Slice`, `layer` is `Layer::Ethernet2Header` and `layer_start_offset` is 0.
+    /// [`LenSource::Slice`], `layer` is [`Layer::Ethernet2Header`] and `layer_start_offset` is 0.
     pub fn from_slice(slice: &'a [u8]) -> Result<Ethernet2HeaderSlice<'a>, LenError>
         ensures bytes { IfOk result (λ h. h ≡ slice_range slice.now 0 14) }
         ensures accepted { IfOk result (λ h. Accepts sources.Slice slice.now kinds.Ethernet2) }
@@ -62,7 +63,12 @@ impl<'a> Ethernet2HeaderSlice<'a> {
         ensures refused { IfErr result (IsRefusedLen slice.now kinds.Ethernet2) }
     {
         if slice.len() < Ethernet2Header::LEN {
-            return Err(ethernet2_fields::too_short(Ethernet2Header::LEN, slice.len()));
+            return Err(too_short(
+                Ethernet2Header::LEN,
+                slice.len(),
+                LenSource::Slice,
+                Layer::Ethernet2Header,
+            ));
         }
         Ok(Ethernet2HeaderSlice {
             slice: &slice[..Ethernet2Header::LEN],
@@ -137,8 +143,6 @@ mod tests {
     use super::*;
     use crate::test_asserts::{assert_debug, check_eq, check_ne};
     use crate::test_frames::FRAME;
-    use ether_base::LenSource;
-    use ether_base::err::Layer;
     use std::test::Fail;
 
     #[test]

@@ -15,7 +15,8 @@ ghost use Rattle.ether_base.specs.Formats.RefusedLen.{IsRefusedLen};
 ghost use Rattle.ether_tags.specs.Ethernet2.{fcs_len, fcs_of, payload_of, ethernet2_header_of, ethernet2_view};
 
 use crate::{EtherPayloadSlice, Ethernet2Header, ethernet2_fields};
-use ether_base::err::LenError;
+use ether_base::err::{Layer, LenError};
+use ether_base::slice_len::too_short;
 use ether_base::{EtherType, LenSource};
 use std::alloc::AllocError;
 use std::fmt;
@@ -60,7 +61,7 @@ impl<'a> Ethernet2Slice<'a> {
     /// # Errors
     ///
     /// The slice has fewer than 14 bytes: `required_len` is 14, `len` the slice's length, `len_source` is
-    /// [`LenSource::Slice`], `layer` is `Layer::Ethernet2Header` and `layer_start_offset` is 0.
+    /// [`LenSource::Slice`], `layer` is [`Layer::Ethernet2Header`] and `layer_start_offset` is 0.
     pub fn from_slice_without_fcs(slice: &'a [u8]) -> Result<Ethernet2Slice<'a>, LenError>
         ensures frame { IfOk result (λ f. f ≡ record { bytes = slice.now; has_fcs = false }) }
         ensures accepted { IfOk result (λ f. Accepts sources.Slice slice.now kinds.Ethernet2) }
@@ -68,7 +69,12 @@ impl<'a> Ethernet2Slice<'a> {
         ensures refused { IfErr result (IsRefusedLen slice.now kinds.Ethernet2) }
     {
         if slice.len() < Ethernet2Header::LEN {
-            return Err(ethernet2_fields::too_short(Ethernet2Header::LEN, slice.len()));
+            return Err(too_short(
+                Ethernet2Header::LEN,
+                slice.len(),
+                LenSource::Slice,
+                Layer::Ethernet2Header,
+            ));
         }
         Ok(Ethernet2Slice { fcs_len: 0, slice })
     }
@@ -78,7 +84,7 @@ impl<'a> Ethernet2Slice<'a> {
     /// # Errors
     ///
     /// The slice has fewer than 18 bytes, those of a header and the sequence: `required_len` is 18, `len` the slice's
-    /// length, `len_source` is [`LenSource::Slice`], `layer` is `Layer::Ethernet2Header` and `layer_start_offset` is 0.
+    /// length, `len_source` is [`LenSource::Slice`], `layer` is [`Layer::Ethernet2Header`] and `layer_start_offset` is 0.
     pub fn from_slice_with_crc32_fcs(slice: &'a [u8]) -> Result<Ethernet2Slice<'a>, LenError>
         ensures frame { IfOk result (λ f. f ≡ record { bytes = slice.now; has_fcs = true }) }
         ensures accepted { IfOk result (λ f. Accepts sources.Slice slice.now kinds.Ethernet2Fcs) }
@@ -86,7 +92,12 @@ impl<'a> Ethernet2Slice<'a> {
         ensures refused { IfErr result (IsRefusedLen slice.now kinds.Ethernet2Fcs) }
     {
         if slice.len() < Ethernet2Header::LEN + FCS_LEN {
-            return Err(ethernet2_fields::too_short(Ethernet2Header::LEN + FCS_LEN, slice.len()));
+            return Err(too_short(
+                Ethernet2Header::LEN + FCS_LEN,
+                slice.len(),
+                LenSource::Slice,
+                Layer::Ethernet2Header,
+            ));
         }
         Ok(Ethernet2Slice {
             fcs_len: FCS_LEN,
@@ -220,7 +231,6 @@ mod tests {
     use super::*;
     use crate::test_asserts::{assert_debug, check_eq, check_ne};
     use crate::test_frames::{FRAME, SPANNING_TREE};
-    use ether_base::err::Layer;
     use std::test::Fail;
 
     #[test]
@@ -319,7 +329,7 @@ mod tests {
     }
 
     /// The error of a slice that is too short for a header, or for a header and a check sequence.
-    fn too_short(required_len: usize, len: usize) -> LenError {
+    fn cut_short(required_len: usize, len: usize) -> LenError {
         LenError {
             required_len,
             len,
@@ -334,11 +344,11 @@ mod tests {
         let frame = FRAME;
         check_eq!(rt;
             Ethernet2Slice::from_slice_without_fcs(&frame[..13]).err(),
-            Some(too_short(14, 13))
+            Some(cut_short(14, 13))
         );
         check_eq!(rt;
             Ethernet2Slice::from_slice_with_crc32_fcs(&frame[..17]).err(),
-            Some(too_short(18, 17))
+            Some(cut_short(18, 17))
         );
     }
 }

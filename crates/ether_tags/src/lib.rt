@@ -1,8 +1,6 @@
 //! Ethernet II frames, VLAN tags and MACsec SecTags: headers as values, and views that borrow the bytes of a packet.
 #![tactic(auto)]
 
-#[cfg(test)]
-mod derived_traits;
 mod double_vlan_header;
 mod double_vlan_slice;
 mod ether_payload_slice;
@@ -18,6 +16,7 @@ mod macsec_header_slice;
 mod macsec_p_type;
 mod macsec_payload_slice;
 mod macsec_slice;
+mod number_at;
 mod single_vlan_header;
 mod single_vlan_header_slice;
 mod single_vlan_slice;
@@ -25,6 +24,8 @@ mod single_vlan_slice;
 mod test_asserts;
 #[cfg(test)]
 mod test_frames;
+#[cfg(test)]
+mod tests;
 mod vlan_fields;
 mod vlan_header;
 mod vlan_slice;

@@ -2,22 +2,61 @@
 //! ES, SC, SCB, E and C, and the association number (2 bits, 9.6). Byte 1 is two reserved bits and the short length (6 bits,
 //! 9.7). The packet number (4 bytes, 9.8) follows, then the SCI (8 bytes, 9.9) where SC is set, and then the ether type of
 //! the user data where E and C are clear.
-ghost use Rattle.std.specs.Prelude.{◌≡◌, ◌↔◌, ◌≤◌, ◌<◌, ◌+◌, ◌*◌, ◌/◌, ◌%◌, ◌^◌, IsTrue, length, slice_range};
+ghost use Rattle.std.specs.Prelude.{◌≡◌, ◌↔◌, ◌≤◌, ◌<◌, ◌+◌, ◌*◌, ◌/◌, ◌%◌, ◌^◌, IsTrue, length, slice_index, slice_range, if◌then◌else◌};
 ghost use Rattle.ether_base.specs.Bytes.{bit, number};
 ghost use Rattle.ether_base.specs.Formats.Macsec.{known_payload_len, sec_tag_front_in, sec_tag_len, sec_tag_of, known_len};
 ghost use Rattle.ether_tags.specs.Macsec.{payload_type_view};
 ghost use Rattle.ether_base.specs.Formats.Refusal.{IsTooShort};
 
-use crate::MacsecPType;
-use ether_base::big_endian::{u16_of, u32_of, u64_of};
+use crate::number_at::{u16_at, u32_at, u64_at};
+use crate::{MacsecHeader, MacsecPType};
 use ether_base::{EtherType, MacsecAn, MacsecShortLen};
+use std::ops::Range;
+
+/// The byte with the TCI and the association number.
+const TCI_AN: usize = 0;
+
+/// The byte with the short length.
+const SHORT_LENGTH: usize = 1;
+
+/// The bytes of the packet number.
+const PACKET_NUMBER: Range<usize> = 2..6;
+
+/// The bytes of the SCI, where the tag has one.
+const SCI: Range<usize> = 6..14;
+
+/// The bit of the version in the first byte.
+const V: u32 = 7;
+
+/// The bit of the end station.
+const ES: u32 = 6;
+
+/// The bit that says whether there is an SCI.
+const SC: u32 = 5;
+
+/// The bit of the single copy broadcast.
+const SCB: u32 = 4;
+
+/// The bit of encryption.
+const E: u32 = 3;
+
+/// The bit of changed text.
+const C: u32 = 2;
+
+/// The first byte, with the TCI and the association number.
+pub fn tci_an(bytes: &[u8]) -> u8
+    requires { 2 ≤ length bytes.now }
+    ensures { result ≡ slice_index bytes.now 0 }
+{
+    bytes[TCI_AN]
+}
 
 /// Whether the version bit V is set.
 pub fn has_version_one(bytes: &[u8]) -> bool
     requires { 2 ≤ length bytes.now }
     ensures { bit result ≡ (sec_tag_front_in bytes.now).version }
 {
-    is_set(bytes, 7)
+    is_set(bytes, V)
 }
 
 /// Whether the end station bit ES is set.
@@ -25,7 +64,7 @@ pub fn endstation_id(bytes: &[u8]) -> bool
     requires { 2 ≤ length bytes.now }
     ensures { bit result ≡ (sec_tag_front_in bytes.now).end_station }
 {
-    is_set(bytes, 6)
+    is_set(bytes, ES)
 }
 
 /// Whether the bit SC is set: an SCI stands in the tag.
@@ -33,7 +72,7 @@ pub fn sci_present(bytes: &[u8]) -> bool
     requires { 2 ≤ length bytes.now }
     ensures { bit result ≡ (sec_tag_front_in bytes.now).sci_present }
 {
-    is_set(bytes, 5)
+    is_set(bytes, SC)
 }
 
 /// Whether the single copy broadcast bit SCB is set.
@@ -41,7 +80,7 @@ pub fn tci_scb(bytes: &[u8]) -> bool
     requires { 2 ≤ length bytes.now }
     ensures { bit result ≡ (sec_tag_front_in bytes.now).single_copy_broadcast }
 {
-    is_set(bytes, 4)
+    is_set(bytes, SCB)
 }
 
 /// Whether the bit E is set: the user data is encrypted.
@@ -49,7 +88,7 @@ pub fn encrypted(bytes: &[u8]) -> bool
     requires { 2 ≤ length bytes.now }
     ensures { bit result ≡ (sec_tag_front_in bytes.now).encrypted }
 {
-    is_set(bytes, 3)
+    is_set(bytes, E)
 }
 
 /// Whether the bit C is set: the user data is changed.
@@ -57,7 +96,7 @@ pub fn userdata_changed(bytes: &[u8]) -> bool
     requires { 2 ≤ length bytes.now }
     ensures { bit result ≡ (sec_tag_front_in bytes.now).changed }
 {
-    is_set(bytes, 2)
+    is_set(bytes, C)
 }
 
 /// The association number AN.
@@ -65,7 +104,7 @@ pub fn association_number(bytes: &[u8]) -> MacsecAn
     requires { 2 ≤ length bytes.now }
     ensures { result ≡ (sec_tag_front_in bytes.now).association_number }
 {
-    MacsecAn::try_new(bytes[0] & 0x03).unwrap()
+    MacsecAn::try_new(bytes[TCI_AN] & 0x03).unwrap()
 }
 
 /// The short length SL.
@@ -73,7 +112,7 @@ pub fn short_len(bytes: &[u8]) -> MacsecShortLen
     requires { 2 ≤ length bytes.now }
     ensures { result ≡ (sec_tag_front_in bytes.now).short_len }
 {
-    MacsecShortLen::try_from_u8(bytes[1] & 0x3f).unwrap()
+    MacsecShortLen::try_from_u8(bytes[SHORT_LENGTH] & 0x3f).unwrap()
 }
 
 /// The packet number PN.
@@ -81,7 +120,7 @@ pub fn packet_nr(bytes: &[u8]) -> u32
     requires { 6 ≤ length bytes.now }
     ensures { result ≡ (sec_tag_of bytes.now).packet_number }
 {
-    u32_of([bytes[2], bytes[3], bytes[4], bytes[5]])
+    u32_at(bytes, PACKET_NUMBER)
 }
 
 /// The secure channel identifier SCI, where SC is set.
@@ -90,8 +129,7 @@ pub fn sci(bytes: &[u8]) -> Option<u64>
     ensures { result ≡ (sec_tag_of bytes.now).sci }
 {
     if sci_present(bytes) {
-        let b = bytes;
-        Some(u64_of([b[6], b[7], b[8], b[9], b[10], b[11], b[12], b[13]]))
+        Some(u64_at(bytes, SCI))
     } else {
         None
     }
@@ -106,7 +144,7 @@ pub fn ptype(bytes: &[u8]) -> MacsecPType
     match (encrypted(bytes), userdata_changed(bytes)) {
         (false, false) => {
             let at = bytes.len() - 2;
-            MacsecPType::Unmodified(EtherType(u16_of([bytes[at], bytes[at + 1]])))
+            MacsecPType::Unmodified(EtherType(u16_at(bytes, at..at + 2)))
         }
         (false, true) => MacsecPType::Modified,
         (true, false) => MacsecPType::EncryptedUnmodified,
@@ -152,7 +190,7 @@ pub fn tag_len(has_sci: bool, is_unmodified: bool) -> usize
 {
     let sci = if has_sci { 8 } else { 0 };
     let ether_type = if is_unmodified { 2 } else { 0 };
-    6 + sci + ether_type
+    MacsecHeader::MIN_LEN + sci + ether_type
 }
 
 /// The length that a short length names, which counts the ether type after the tag.
@@ -174,7 +212,7 @@ fn is_set(bytes: &[u8], power: u32) -> bool
     requires power { power < 8 }
     ensures { bit result ≡ number (slice_range bytes.now 0 2) / 2 ^ (8 + power) % 2 }
 {
-    bit_of(bytes[0], power)
+    bit_of(bytes[TCI_AN], power)
 }
 
 /// Whether bit `power` is set.

@@ -1,6 +1,5 @@
 //! A view of a MACsec SecTag.
 ghost use Rattle.std.specs.Prelude.{◌≡◌, ◌≤◌, length, IfOk, IfErr, slice_range};
-ghost use Rattle.ether_base.specs.declared.header_slice_error.HeaderSliceError.TheVariants.{Len};
 ghost use Rattle.ether_base.specs.declared.len_source.LenSource.TheVariants as sources;
 ghost use Rattle.ether_base.specs.Formats.Macsec.{sec_tag_front_in, sec_tag_len, sec_tag_of};
 ghost use Rattle.ether_base.specs.Formats.Header as headers;
@@ -10,8 +9,9 @@ ghost use Rattle.ether_base.specs.Formats.Refusal.{AcceptsHeader, IsTooShort};
 ghost use Rattle.ether_base.specs.Bytes.{bit};
 
 use crate::{MacsecHeader, MacsecPType, macsec_fields};
+use ether_base::err::Layer;
 use ether_base::err::macsec::{HeaderError, HeaderSliceError};
-use ether_base::err::{Layer, LenError};
+use ether_base::slice_len::too_short;
 use ether_base::{EtherType, LenSource, MacsecAn, MacsecShortLen};
 
 /// A view of a MACsec SecTag, which borrows its 6 to 16 bytes from a packet ([`MacsecHeader`] has a picture of them).
@@ -63,7 +63,12 @@ impl<'a> MacsecHeaderSlice<'a> {
         ensures refused { IfErr result (IsRefusedTag slice.now) }
     {
         if slice.len() < MacsecHeader::MIN_LEN {
-            return Err(cut_short(MacsecHeader::MIN_LEN, slice.len()));
+            return Err(HeaderSliceError::Len(too_short(
+                MacsecHeader::MIN_LEN,
+                slice.len(),
+                LenSource::Slice,
+                Layer::MacsecHeader,
+            )));
         }
         if macsec_fields::has_version_one(slice) {
             return Err(HeaderSliceError::Content(HeaderError::UnexpectedVersion));
@@ -73,7 +78,12 @@ impl<'a> MacsecHeaderSlice<'a> {
         }
         let len = macsec_fields::header_len(slice);
         if slice.len() < len {
-            return Err(cut_short(len, slice.len()));
+            return Err(HeaderSliceError::Len(too_short(
+                len,
+                slice.len(),
+                LenSource::Slice,
+                Layer::MacsecHeader,
+            )));
         }
         Ok(MacsecHeaderSlice {
             slice: &slice[..len],
@@ -91,7 +101,7 @@ impl<'a> MacsecHeaderSlice<'a> {
     pub fn tci_an_raw(&self) -> u8
         ensures { result ≡ slice_index (tag_bytes self.now) 0 }
     {
-        self.slice[0]
+        macsec_fields::tci_an(self.slice)
     }
 
     /// The end station bit (ES, 9.5): the SCI is made of the frame's source address, and is left out.
@@ -212,19 +222,6 @@ impl<'a> MacsecHeaderSlice<'a> {
             sci: self.sci(),
         }
     }
-}
-
-/// The error of a slice that has too few bytes for a tag.
-fn cut_short(required_len: usize, len: usize) -> HeaderSliceError
-    ensures { result ≡ Len (record { required_len = required_len; len = len; len_source = LenSource.Slice; layer = Layer.MacsecHeader; layer_start_offset = 0 }) }
-{
-    HeaderSliceError::Len(LenError {
-        required_len,
-        len,
-        len_source: LenSource::Slice,
-        layer: Layer::MacsecHeader,
-        layer_start_offset: 0,
-    })
 }
 
 #[cfg(test)]

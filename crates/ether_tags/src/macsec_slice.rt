@@ -11,8 +11,9 @@ ghost use Rattle.ether_base.specs.Formats.Refusal.{Accepts};
 ghost use Rattle.ether_tags.specs.Macsec.{HoldsPayload, HoldsTyped, IsRefusedPacket, payload_end, payload_source, readable_payload, readable_type, tag_bytes};
 
 use crate::{EtherPayloadSlice, MacsecHeaderSlice, MacsecPayloadSlice, macsec_fields};
+use ether_base::err::Layer;
 use ether_base::err::macsec::HeaderSliceError;
-use ether_base::err::{Layer, LenError};
+use ether_base::slice_len::too_short;
 use ether_base::{EtherType, LenSource};
 
 /// A view of a MACsec SecTag and its payload.
@@ -58,12 +59,8 @@ impl<'a> MacsecSlice<'a> {
     {
         let header = MacsecHeaderSlice::from_slice(slice)?;
         let start = header.header_len();
-        let end = end_within(&header, slice.len())?;
-        let payload = payload_of(
-            header.next_ether_type(),
-            source_of(&header),
-            &slice[start..end],
-        );
+        let (end, len_source) = end_within(&header, slice.len())?;
+        let payload = payload_of(header.next_ether_type(), len_source, &slice[start..end]);
         Ok(MacsecSlice { header, payload })
     }
 
@@ -85,46 +82,33 @@ impl<'a> MacsecSlice<'a> {
     }
 }
 
-/// The error of a slice that has too few bytes for a tag and the payload that it names.
-fn cut_short(required_len: usize, len: usize) -> HeaderSliceError
-    ensures { result ≡ Len (record { required_len = required_len; len = len; len_source = LenSource.MacsecShortLength; layer = Layer.MacsecPacket; layer_start_offset = 0 }) }
-{
-    HeaderSliceError::Len(LenError {
-        required_len,
-        len,
-        len_source: LenSource::MacsecShortLength,
-        layer: Layer::MacsecPacket,
-        layer_start_offset: 0,
-    })
-}
-
-/// Where the payload after a tag ends: after the length that the tag gives, otherwise with the slice. An error if the slice
-/// ends before. The short length counts the ether type, so the end needs neither E nor C.
-fn end_within(header: &MacsecHeaderSlice<'_>, slice_len: usize) -> Result<usize, HeaderSliceError>
-    ensures end { IfOk result (λ end. end ≡ payload_end (known_payload_len (sec_tag_front_in (tag_bytes header.now))) (sec_tag_len (sec_tag_front_in (tag_bytes header.now))) slice_len) }
-    ensures within { IfOk result (λ end. end ≤ slice_len) }
+/// Where the payload after a tag ends, and what gives its length: it ends after the length that the tag names, otherwise
+/// with the slice. An error if the slice ends before. The short length counts the ether type, so the end needs neither E
+/// nor C.
+fn end_within(
+    header: &MacsecHeaderSlice<'_>,
+    slice_len: usize,
+) -> Result<(usize, LenSource), HeaderSliceError>
+    ensures end { IfOk result (λ payload. payload.0 ≡ payload_end (known_payload_len (sec_tag_front_in (tag_bytes header.now))) (sec_tag_len (sec_tag_front_in (tag_bytes header.now))) slice_len) }
+    ensures source { IfOk result (λ payload. payload.1 ≡ payload_source (known_payload_len (sec_tag_front_in (tag_bytes header.now)))) }
+    ensures within { IfOk result (λ payload. payload.0 ≤ slice_len) }
     ensures refused { IfErr result (λ e. e ≡ Len (record { required_len = payload_end (known_payload_len (sec_tag_front_in (tag_bytes header.now))) (sec_tag_len (sec_tag_front_in (tag_bytes header.now))) slice_len; len = slice_len; len_source = LenSource.MacsecShortLength; layer = Layer.MacsecPacket; layer_start_offset = 0 })) }
     ensures cut { IfErr result (λ _. slice_len < payload_end (known_payload_len (sec_tag_front_in (tag_bytes header.now))) (sec_tag_len (sec_tag_front_in (tag_bytes header.now))) slice_len) }
 {
     let named = usize::from(header.short_len().value());
     if named == 0 {
-        return Ok(slice_len);
+        return Ok((slice_len, LenSource::Slice));
     }
     let end = macsec_fields::tag_len(header.sci_present(), false) + named;
     if slice_len < end {
-        return Err(cut_short(end, slice_len));
+        return Err(HeaderSliceError::Len(too_short(
+            end,
+            slice_len,
+            LenSource::MacsecShortLength,
+            Layer::MacsecPacket,
+        )));
     }
-    Ok(end)
-}
-
-/// What gives the length of the payload after a tag.
-fn source_of(header: &MacsecHeaderSlice<'_>) -> LenSource
-    ensures { result ≡ payload_source (known_payload_len (sec_tag_front_in (tag_bytes header.now))) }
-{
-    match header.short_len().value() {
-        0 => LenSource::Slice,
-        _ => LenSource::MacsecShortLength,
-    }
+    Ok((end, LenSource::MacsecShortLength))
 }
 
 /// A payload with its type where that can be read.
@@ -150,6 +134,7 @@ mod tests {
     use super::*;
     use crate::test_asserts::{assert_debug, check_eq, check_ne};
     use crate::test_frames::{CONFIDENTIALITY, INTEGRITY, NAMED, SEALED};
+    use ether_base::err::LenError;
     use ether_base::err::macsec::HeaderError;
     use std::test::Fail;
 

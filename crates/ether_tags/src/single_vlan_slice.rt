@@ -14,7 +14,8 @@ ghost use Rattle.ether_base.specs.Bytes.{bit};
 ghost use Rattle.ether_tags.specs.Vlan.{vlan_view};
 
 use crate::{EtherPayloadSlice, SingleVlanHeader, vlan_fields};
-use ether_base::err::LenError;
+use ether_base::err::{Layer, LenError};
+use ether_base::slice_len::too_short;
 use ether_base::{EtherType, LenSource, VlanId, VlanPcp};
 use std::alloc::AllocError;
 use std::fmt;
@@ -52,7 +53,7 @@ impl<'a> SingleVlanSlice<'a> {
     /// # Errors
     ///
     /// The slice has fewer than 4 bytes: `required_len` is 4, `len` the slice's length, `len_source` is
-    /// [`LenSource::Slice`], `layer` is `Layer::VlanHeader` and `layer_start_offset` is 0.
+    /// [`LenSource::Slice`], `layer` is [`Layer::VlanHeader`] and `layer_start_offset` is 0.
     pub fn from_slice(slice: &'a [u8]) -> Result<SingleVlanSlice<'a>, LenError>
         ensures bytes { IfOk result (λ v. v ≡ slice.now) }
         ensures accepted { IfOk result (λ v. Accepts sources.Slice slice.now kinds.Vlan) }
@@ -60,7 +61,12 @@ impl<'a> SingleVlanSlice<'a> {
         ensures refused { IfErr result (IsRefusedLen slice.now kinds.Vlan) }
     {
         if slice.len() < SingleVlanHeader::LEN {
-            return Err(vlan_fields::too_short(slice.len()));
+            return Err(too_short(
+                SingleVlanHeader::LEN,
+                slice.len(),
+                LenSource::Slice,
+                Layer::VlanHeader,
+            ));
         }
         Ok(SingleVlanSlice { slice })
     }
@@ -183,7 +189,6 @@ mod tests {
     use super::*;
     use crate::test_asserts::{assert_debug, check_eq, check_ne};
     use crate::test_frames::{TAG, TAGGED_ARP_REQUEST};
-    use ether_base::err::Layer;
     use std::test::Fail;
 
     #[test]

@@ -6,9 +6,15 @@ ghost use Rattle.ether_base.specs.Formats.Vlan.{vlan_of};
 ghost use Rattle.ether_tags.specs.Vlan.{vlan_view};
 
 use crate::SingleVlanHeader;
-use ether_base::big_endian::u16_of;
-use ether_base::err::{Layer, LenError};
-use ether_base::{EtherType, LenSource, VlanId, VlanPcp};
+use crate::number_at::u16_at;
+use ether_base::{EtherType, VlanId, VlanPcp};
+use std::ops::Range;
+
+/// The bytes of the tag control information.
+const TCI: Range<usize> = 0..2;
+
+/// The bytes of the ether type of what follows.
+const ETHER_TYPE: Range<usize> = 2..4;
 
 /// The priority code point.
 pub fn priority_code_point(bytes: &[u8]) -> VlanPcp
@@ -39,7 +45,7 @@ pub fn ether_type(bytes: &[u8]) -> EtherType
     requires { 4 ≤ length bytes.now }
     ensures { result.0 ≡ (vlan_of bytes.now).ether_type }
 {
-    EtherType(u16_of([bytes[2], bytes[3]]))
+    EtherType(u16_at(bytes, ETHER_TYPE))
 }
 
 /// All fields. The tag control information is read once: read three times, it is taken apart byte by byte.
@@ -63,19 +69,6 @@ pub fn tag(bytes: &[u8]) -> [u8; 4]
     ensures { result ≡ bytes.now }
 {
     [bytes[0], bytes[1], bytes[2], bytes[3]]
-}
-
-/// The error of `len` bytes, which are fewer than the 4 of a tag.
-pub fn too_short(len: usize) -> LenError
-    ensures { result ≡ record { required_len = 4; len = len; len_source = LenSource.Slice; layer = Layer.VlanHeader; layer_start_offset = 0 } }
-{
-    LenError {
-        required_len: SingleVlanHeader::LEN,
-        len,
-        len_source: LenSource::Slice,
-        layer: Layer::VlanHeader,
-        layer_start_offset: 0,
-    }
 }
 
 /// The tag control information of three fields.
@@ -120,5 +113,5 @@ fn tag_control(bytes: &[u8]) -> u16
     requires { 2 ≤ length bytes.now }
     ensures { result ≡ number (slice_range bytes.now 0 2) }
 {
-    u16_of([bytes[0], bytes[1]])
+    u16_at(bytes, TCI)
 }

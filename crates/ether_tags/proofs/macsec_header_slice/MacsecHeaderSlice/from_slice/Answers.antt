@@ -4,6 +4,8 @@ use Rattle.std.proofs.lemmas.List.{length-take}
 use Rattle.ether_base.specs.Bytes.{IsBytes}
 use Rattle.ether_base.specs.declared.len_source.LenSource.TheVariants as sources
 use Rattle.ether_base.specs.declared.err.layer.Layer.TheVariants as layers
+use Rattle.ether_base.specs.declared.err.len_error.LenError.{LenError}
+use Rattle.ether_base.specs.declared.header_slice_error.HeaderSliceError.TheVariants.{Len}
 use Rattle.ether_base.specs.Formats.Macsec.{SecTagFront, sec_tag_front_in, sec_tag_len}
 use Rattle.ether_base.specs.Formats.Refusal.{Length, UnexpectedVersion, InvalidShortLen, IsTooShort}
 use Rattle.ether_base.specs.Formats.Refusal as rows
@@ -15,7 +17,7 @@ use Rattle.ether_tags.proofs.macsec_header_slice.MacsecHeaderSlice.from_slice.Go
 pub returns-then-slice-lt-MIN_LEN-clause-refused : goal.returns-then-slice-lt-MIN_LEN-clause-refused
 returns-then-slice-lt-MIN_LEN-clause-refused c =
     let bytes = c.args.slice.now in
-    subst (IsRefusedTag bytes) (sym c.cut_short.ensures) (record {
+    subst (λ (e : LenError). IsRefusedTag bytes (Len e)) (sym c.too_short.ensures) (record {
       refusal = Length 6 (length bytes) sources.Slice layers.MacsecHeader;
       row = record { row = rows.macsec c.if-slice-lt-MIN_LEN.true; of_header = λ e. absurd cc };
       is = (refl, refl);
@@ -57,7 +59,7 @@ returns-then-slice-len-clause-refused c =
     let not_short = long (sec_tag_front_in bytes) c.is_too_short.result c.is_too_short.ensures.1 c.if-is_too_short.false in
     let len : c.header_len-len.result ≡ sec_tag_len front = c.header_len-len.ensures in
     let lt = c.if-slice-len.true in
-    subst (IsRefusedTag bytes) (sym c.cut_short-then-slice-len.ensures) (record {
+    subst (λ (e : LenError). IsRefusedTag bytes (Len e)) (sym c.too_short-then-slice-len.ensures) (record {
       refusal = Length (sec_tag_len front) (length bytes) sources.Slice layers.MacsecHeader;
       row = record { row = rows.macsec_header front c.if-slice-lt-MIN_LEN.false (sec_tag_front_read bytes ok c.if-slice-lt-MIN_LEN.false) (omega arith) not_short (omega arith); of_header = λ e. absurd cc };
       is = (ap (λ (k : ℕ). Length k (length bytes) sources.Slice layers.MacsecHeader) (sym len), refl);

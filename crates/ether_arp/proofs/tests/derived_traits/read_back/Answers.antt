@@ -3,7 +3,7 @@ use Rattle.std.proofs.lemmas.List.{append-nil}
 use Rattle.ether_base.specs.Formats.Header as headers
 use Rattle.ether_base.specs.Formats.Header.{Means}
 use Rattle.ether_arp.proofs.Writing.{read_is}
-use Rattle.ether_arp.proofs.derived_traits.read_back.Goals as goal
+use Rattle.ether_arp.proofs.tests.derived_traits.read_back.Goals as goal
 
 pub returns : goal.returns
 returns c =

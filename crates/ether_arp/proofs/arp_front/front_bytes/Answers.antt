@@ -1,7 +1,7 @@
 use Rattle.std.proofs.Common.{arith}
 use Rattle.ether_base.specs.Formats.Arp.{ArpFront}
 use Rattle.ether_arp.proofs.Writing.{front_written}
-use Rattle.ether_arp.proofs.arp_fields.front_bytes.Goals as goal
+use Rattle.ether_arp.proofs.arp_front.front_bytes.Goals as goal
 
 pub returns : goal.returns
 returns c =

@@ -1,0 +1,2 @@
+//! What callers learn of the types of this crate.
+mod derived_traits;
