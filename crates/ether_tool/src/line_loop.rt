@@ -1,10 +1,10 @@
 //! How far a run has come.
 use crate::command::Command;
-use crate::frame::MAX_FRAME_LEN;
 use crate::line_buffer::{LineBuffer, LineEnd};
 use crate::outcome::{ToolFault, Verdict};
 use crate::output_buffer::OutputBuffer;
-use crate::walk_text::put_answer;
+use crate::parse_frame::MAX_FRAME_LEN;
+use crate::write_walk::write_answer;
 use std::io::Write;
 
 /// The line under way, and what the lines before it gave.
@@ -33,7 +33,7 @@ impl LineLoop {
         }
     }
 
-    /// Puts the text for the line under way, which ends with this piece, and begins the next. `frame` is
+    /// Writes the text for the line under way, which ends with this piece, and begins the next. `frame` is
     /// room for the line's frame.
     fn judge<W: Write>(
         &mut self,
@@ -53,7 +53,7 @@ impl LineLoop {
         let Some(len) = self.line.end(piece, end, frame) else {
             return Err(ToolFault::BadLine(number));
         };
-        let accepted = put_answer(command, &frame[..len], out);
+        let accepted = write_answer(command, &frame[..len], out);
         if let Err(fault) = out.check() {
             return Err(fault);
         }
@@ -62,7 +62,7 @@ impl LineLoop {
         Ok(())
     }
 
-    /// Takes the next bytes of the input, and puts the text for each line that ends in them.
+    /// Takes the next bytes of the input, and writes the text for each line that ends in them.
     pub fn take_chunk<W: Write>(
         &mut self,
         command: Command,
@@ -87,7 +87,7 @@ impl LineLoop {
         Ok(())
     }
 
-    /// Puts the text for the last line, if the input ends in one without an LF, and returns the verdict.
+    /// Writes the text for the last line, if the input ends in one without an LF, and returns the verdict.
     pub fn finish<W: Write>(
         mut self,
         command: Command,

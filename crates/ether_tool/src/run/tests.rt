@@ -1,7 +1,7 @@
 //! What no contract of `run` says, and examples of what they say.
 use super::*;
-use crate::frame::MAX_FRAME_LEN;
 use crate::outcome::Verdict::{AllAccepted, SomeRefused};
+use crate::parse_frame::MAX_FRAME_LEN;
 use crate::test_frames::{
     CAPTURED, CAPTURED_ANSWER, EMPTY_ANSWER, PLAIN, PLAIN_ANSWER, TAGGED, TAGGED_ANSWER,
 };
