@@ -54,9 +54,7 @@ impl LineLoop {
             return Err(ToolFault::BadLine(number));
         };
         let accepted = write_answer(command, &frame[..len], out);
-        if let Err(fault) = out.check() {
-            return Err(fault);
-        }
+        out.check()?;
         self.verdict = self.verdict.with(accepted);
         self.count = number;
         Ok(())
@@ -78,9 +76,7 @@ impl LineLoop {
         let mut frame = [0; MAX_FRAME_LEN];
         let mut rest = chunk;
         while let Some((piece, after)) = split_line(rest) {
-            if let Err(fault) = self.judge(command, piece, LineEnd::LineFeed, &mut frame, out) {
-                return Err(fault);
-            }
+            self.judge(command, piece, LineEnd::LineFeed, &mut frame, out)?;
             rest = after;
         }
         self.line.extend(rest);
@@ -99,12 +95,9 @@ impl LineLoop {
             (StopsWithin command W.contents self out.old [] [] out.new)) }
         ensures failed { IfErr result (λ fault. OnStreamFault fault ⊥ (out.new.has_failed ≡ true)) }
     {
-        if self.line.is_empty() {
-            return Ok(self.verdict);
-        }
-        let mut frame = [0; MAX_FRAME_LEN];
-        if let Err(fault) = self.judge(command, &[], LineEnd::InputEnd, &mut frame, out) {
-            return Err(fault);
+        if !self.line.is_empty() {
+            let mut frame = [0; MAX_FRAME_LEN];
+            self.judge(command, &[], LineEnd::InputEnd, &mut frame, out)?;
         }
         Ok(self.verdict)
     }

@@ -106,9 +106,7 @@ impl<'a, W: Write> OutputBuffer<'a, W> {
         ensures fault { IfErr result (λ fault. fault ≡ ToolFault.Output) }
         ensures failed { OnErr result (self.new.has_failed ≡ true) }
     {
-        if let Err(fault) = self.write_out() {
-            return Err(fault);
-        }
+        self.write_out()?;
         match self.writer.flush() {
             Ok(()) => {
                 self.is_flushed = true;
