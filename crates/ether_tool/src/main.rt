@@ -5,8 +5,6 @@
 #![tactic(auto)]
 
 pub mod command;
-#[cfg(test)]
-mod derived_traits;
 mod input_reader;
 pub mod laws;
 mod line_buffer;
@@ -19,6 +17,8 @@ pub mod program;
 pub mod run;
 #[cfg(test)]
 mod test_frames;
+#[cfg(test)]
+mod tests;
 mod write_feed;
 mod write_hex;
 mod write_lines;
