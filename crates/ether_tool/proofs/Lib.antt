@@ -1,12 +1,12 @@
 pub mod DecimalLemmas
-pub mod HexTextLemmas
+pub mod WriteHexLemmas
 pub mod KnownBytesLemmas
 pub mod OutputBufferLemmas
 pub mod ViewLinesLemmas
-pub mod WalkTextLemmas
-pub mod FeedTextLemmas
-pub mod LinesLemmas
-pub mod FrameLemmas
+pub mod WriteWalkLemmas
+pub mod WriteFeedLemmas
+pub mod InputLinesLemmas
+pub mod ParseFrameLemmas
 pub mod LineLoopLemmas
 pub mod RunLemmas
 pub mod ModeLemmas

@@ -16,7 +16,7 @@ use Rattle.ether_tool.specs.declared.output_buffer.OutputBuffer.{OutputBuffer}
 use Rattle.ether_tool.specs.declared.line_buffer.LineEnd.TheVariants.{LineFeed, InputEnd}
 use Rattle.ether_tool.specs.declared.line_loop.LineLoop.{LineLoop}
 use Rattle.ether_tool.proofs.KnownBytesLemmas.{Appends-none, Appends-then, Appends-written_out}
-use Rattle.ether_tool.proofs.LinesLemmas.{lines-line, lines-last, lines-nothing, HasNoLineFeed-nil, HasNoLineFeed-append}
+use Rattle.ether_tool.proofs.InputLinesLemmas.{lines-line, lines-last, lines-nothing, HasNoLineFeed-nil, HasNoLineFeed-append}
 
 -- what is said of a bad line, from another fact
 pub OnBadLine-map : (fault : ToolFault) (P Q : ℕ → Type 0) → ((number : ℕ) → P number → Q number) → OnBadLine fault P → OnBadLine fault Q

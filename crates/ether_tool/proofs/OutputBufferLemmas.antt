@@ -1,4 +1,4 @@
--- Text that a buffer takes in parts, and numbers that are put together before it takes them.
+-- Text that a buffer takes in parts, and numbers that are written to a text of their own first.
 use Rattle.std.proofs.Common.{◌≡◌, ℕ, List, [], ◌∷◌, ◌++◌, Option, refl, sym, ap, ◌∙◌, subst, append_assoc, append-nil}
 use Rattle.std.specs.Prelude.{Result, Ok, Err, OnOk, false}
 use Rattle.std.specs.Result.{is_err}
@@ -33,7 +33,7 @@ text-parts old new (part ∷ parts) calls =
     let (mid, first, rest) = calls in
     text-parts mid new parts rest ∙ ap (λ (l : List ℕ). l ++ concat parts) first ∙ append_assoc old.bytes part (concat parts)
 
--- what `write!` put into a text that was empty
+-- what `write!` wrote to a text that was empty
 pub text-written : (old new : ArrayString) (text : List ℕ) → old.bytes ≡ [] → WritesInCalls Adds old text new → new.bytes ≡ text
 text-written old new text empty calls = text-parts old new calls.parts calls.calls ∙ ap (λ (l : List ℕ). l ++ concat calls.parts) empty ∙ calls.whole
 

@@ -32,10 +32,6 @@ pub HasRun-same : (command : Command) (r : Result Verdict ToolFault) (before aft
     → before ≡ before' → after ≡ after' → held ≡ held' → holds ≡ holds' → HasRun command before after held holds r → HasRun command before' after' held' holds' r
 HasRun-same command r before after held holds before' after' held' holds' e f g h = subst (λ (t : Type 0). t) (λ i. HasRun command (e i) (f i) (g i) (h i) r)
 
--- of a fault of the writer nothing is said
-pub HasRun-output : (command : Command) (before after held holds : Option (List ℕ)) (fault : ToolFault) → fault ≡ Output → HasRun command before after held holds (Err fault)
-HasRun-output command before after held holds fault is = subst (λ (f : ToolFault). HasRun command before after held holds (Err f)) (sym is) tt
-
 module _ {W : Type 0} (command : Command) (contents : W → Option (List ℕ)) (before mid after held : Option (List ℕ)) where
   -- the last read gave nothing, and the last line is answered or bad
   pub finished : (r : Result Verdict ToolFault) (input nothing : List ℕ) (at : LineLoop) (old from to : OutputBuffer W)

@@ -9,7 +9,7 @@ use Rattle.ether_tool.specs.HexText.{hex_text}
 use Rattle.ether_tool.specs.Lines.{ethernet2_text, ethernet2_fcs_text}
 use Rattle.ether_tool.specs.ViewLines.{ethernet2_view_text, fcs_text}
 
--- the pieces that are put, one after the other
+-- the pieces that are written, one after the other
 abbrev pub ethernet2_pieces : ℕ → Ethernet2Value → List ℕ → List ℕ
 ethernet2_pieces start e last =
     codes "ethernet2 " ++ (decimal start ++ (codes " " ++ (hex_text (spelled 6 e.destination) ++ (codes " " ++ (hex_text (spelled 6 e.source) ++ (codes " " ++ last))))))

@@ -30,15 +30,15 @@ last_bytes None = []
 last_bytes (Some text) = text ++ codes "\n"
 
 -- the last line of the outcome, if there is one, is written, or the writer has failed
-pub record PutsLast (outcome : Result (Result Verdict ToolFault) Usage) (held holds : Option (List ℕ)) (printed : Bool) : Type 0 where
+pub record PrintsLast (outcome : Result (Result Verdict ToolFault) Usage) (held holds : Option (List ℕ)) (printed : Bool) : Type 0 where
   pub written : printed ≡ true → Appends held holds (last_bytes (last_text outcome))
   pub silent : IfNone (last_text outcome) (printed ≡ true)
 
--- The program has run the command that the words name, has put the last line, and ends with the status of its outcome.
+-- The program has run the command that the words name, has printed the last line, and ends with the status of its outcome.
 pub record HasServed (words : Option (List (List ℕ))) (before after held holds : Option (List ℕ)) (status : ℕ) : Type 0 where
   pub outcome : Result (Result Verdict ToolFault) Usage
   pub printed : Bool
   pub between : Option (List ℕ)
   pub obeyed : HasObeyed words before after held between outcome
-  pub ended : PutsLast outcome between holds printed
+  pub ended : PrintsLast outcome between holds printed
   pub is_status : status ≡ status_of_program outcome printed

@@ -1,5 +1,5 @@
 //! The line under way.
-use crate::frame::{MAX_FRAME_LEN, MAX_LINE_DIGITS, frame_of};
+use crate::parse_frame::{MAX_FRAME_LEN, MAX_LINE_DIGITS, frame_of};
 use arrayvec::ArrayVec;
 
 /// What ended a line.

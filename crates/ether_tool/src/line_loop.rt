@@ -1,10 +1,10 @@
 //! How far a run has come.
 use crate::command::Command;
-use crate::frame::MAX_FRAME_LEN;
 use crate::line_buffer::{LineBuffer, LineEnd};
 use crate::outcome::{ToolFault, Verdict};
 use crate::output_buffer::OutputBuffer;
-use crate::walk_text::put_answer;
+use crate::parse_frame::MAX_FRAME_LEN;
+use crate::write_walk::write_answer;
 use std::io::Write;
 
 /// The line under way, and what the lines before it gave.
@@ -33,7 +33,7 @@ impl LineLoop {
         }
     }
 
-    /// Puts the text for the line under way, which ends with this piece, and begins the next. `frame` is
+    /// Writes the text for the line under way, which ends with this piece, and begins the next. `frame` is
     /// room for the line's frame.
     fn judge<W: Write>(
         &mut self,
@@ -53,16 +53,14 @@ impl LineLoop {
         let Some(len) = self.line.end(piece, end, frame) else {
             return Err(ToolFault::BadLine(number));
         };
-        let accepted = put_answer(command, &frame[..len], out);
-        if let Err(fault) = out.check() {
-            return Err(fault);
-        }
+        let accepted = write_answer(command, &frame[..len], out);
+        out.check()?;
         self.verdict = self.verdict.with(accepted);
         self.count = number;
         Ok(())
     }
 
-    /// Takes the next bytes of the input, and puts the text for each line that ends in them.
+    /// Takes the next bytes of the input, and writes the text for each line that ends in them.
     pub fn take_chunk<W: Write>(
         &mut self,
         command: Command,
@@ -78,16 +76,14 @@ impl LineLoop {
         let mut frame = [0; MAX_FRAME_LEN];
         let mut rest = chunk;
         while let Some((piece, after)) = split_line(rest) {
-            if let Err(fault) = self.judge(command, piece, LineEnd::LineFeed, &mut frame, out) {
-                return Err(fault);
-            }
+            self.judge(command, piece, LineEnd::LineFeed, &mut frame, out)?;
             rest = after;
         }
         self.line.extend(rest);
         Ok(())
     }
 
-    /// Puts the text for the last line, if the input ends in one without an LF, and returns the verdict.
+    /// Writes the text for the last line, if the input ends in one without an LF, and returns the verdict.
     pub fn finish<W: Write>(
         mut self,
         command: Command,
@@ -99,12 +95,9 @@ impl LineLoop {
             (StopsWithin command W.contents self out.old [] [] out.new)) }
         ensures failed { IfErr result (λ fault. OnStreamFault fault ⊥ (out.new.has_failed ≡ true)) }
     {
-        if self.line.is_empty() {
-            return Ok(self.verdict);
-        }
-        let mut frame = [0; MAX_FRAME_LEN];
-        if let Err(fault) = self.judge(command, &[], LineEnd::InputEnd, &mut frame, out) {
-            return Err(fault);
+        if !self.line.is_empty() {
+            let mut frame = [0; MAX_FRAME_LEN];
+            self.judge(command, &[], LineEnd::InputEnd, &mut frame, out)?;
         }
         Ok(self.verdict)
     }

@@ -5,24 +5,24 @@
 #![tactic(auto)]
 
 pub mod command;
-#[cfg(test)]
-mod derived_traits;
-mod feed_text;
-pub mod frame;
-mod hex_text;
 mod input_reader;
 pub mod laws;
 mod line_buffer;
 mod line_loop;
-mod lines;
 pub mod mode;
 pub mod outcome;
 mod output_buffer;
+pub mod parse_frame;
 pub mod program;
 pub mod run;
 #[cfg(test)]
 mod test_frames;
-mod walk_text;
+#[cfg(test)]
+mod tests;
+mod write_feed;
+mod write_hex;
+mod write_lines;
+mod write_walk;
 
 use std::process::ExitCode;
 use std::{env, io};

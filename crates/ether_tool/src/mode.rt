@@ -68,11 +68,19 @@ mod tests {
         assert_eq!(rt; named_mode(&["fcs"]), Ok(Mode::Fcs));
         assert_eq!(rt; named_mode(&["sll"]), Ok(Mode::Sll));
         assert_eq!(rt; named_mode(&["feed"]), Ok(Mode::Feed));
+    }
+
+    #[test]
+    fn refuses_other_words(rt: HostRuntime) {
         for word in [
             "Eth", "et", "eth ", "", "FCS", "fc", "sll1", "type", "Feed", "fee", "feeds", "88E5",
         ] {
             assert_eq!(rt; named_mode(&[word]), Err(Usage), "{word}");
         }
+    }
+
+    #[test]
+    fn refuses_other_pairs_of_words(rt: HostRuntime) {
         for words in [
             ["eth", "eth"],
             ["fcs", "88E5"],
@@ -104,7 +112,7 @@ mod tests {
     }
 
     #[test]
-    fn refuses_other_words_after_type(rt: HostRuntime) {
+    fn refuses_other_digits(rt: HostRuntime) {
         let others = [
             "", "8", "88", "88E", "88E50", "088E5", "88E5 ", "88Eg", "88G5", "8/E5", "8:E5",
             "0x88", " 88E", "+88E", "-806", "88_5", "88\u{e9}", "eth",
@@ -112,6 +120,10 @@ mod tests {
         for digits in others {
             assert_eq!(rt; named_mode(&["type", digits]), Err(Usage), "{digits}");
         }
+    }
+
+    #[test]
+    fn refuses_digits_without_type(rt: HostRuntime) {
         for word in ["Type", "types", "", "eth"] {
             assert_eq!(rt; named_mode(&[word, "88E5"]), Err(Usage), "{word}");
         }

@@ -138,6 +138,11 @@ mod tests {
             assert_eq!(rt; program_status(&outcome, true), status);
             assert_eq!(rt; program_status(&outcome, false), 4);
         }
+        Ok(())
+    }
+
+    #[test]
+    fn ends_with_a_status_alone(rt: HostRuntime) {
         let silent = [
             (Ok(Verdict::AllAccepted), 0),
             (Ok(Verdict::SomeRefused), 1),
@@ -149,7 +154,6 @@ mod tests {
             assert_eq!(rt; last_line(&outcome), None);
             assert_eq!(rt; program_status(&outcome, true), status);
         }
-        Ok(())
     }
 
     #[test]

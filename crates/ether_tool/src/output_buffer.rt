@@ -37,24 +37,24 @@ impl<'a, W: Write> OutputBuffer<'a, W> {
         }
     }
 
-    /// Takes `bytes`, and writes to the writer only if there is no room for them after the text that waits.
+    /// Appends `bytes`, and writes to the writer only if there is no room for them after the text that waits.
     ///
     /// A fault of the writer is remembered, and [`OutputBuffer::check`] returns it. Nothing is said then of
     /// how much was written.
     #[inline(always)]
-    pub fn put(&mut self, bytes: &[u8])
+    pub fn append(&mut self, bytes: &[u8])
         requires { length bytes.now ≤ ROOM }
         ensures { Takes W.contents self.old bytes.now self.new }
     {
         if self.waiting.try_extend_from_slice(bytes).is_err() {
-            self.put_slowly(bytes);
+            self.append_slowly(bytes);
         }
     }
 
-    /// Takes `bytes` for which there is no room before the text that waits is written out.
+    /// Appends `bytes` for which there is no room before the text that waits is written out.
     #[cold]
     #[inline(never)]
-    fn put_slowly(&mut self, bytes: &[u8])
+    fn append_slowly(&mut self, bytes: &[u8])
         requires { length bytes.now ≤ ROOM }
         ensures { Takes W.contents self.old bytes.now self.new }
     {
@@ -106,9 +106,7 @@ impl<'a, W: Write> OutputBuffer<'a, W> {
         ensures fault { IfErr result (λ fault. fault ≡ ToolFault.Output) }
         ensures failed { OnErr result (self.new.has_failed ≡ true) }
     {
-        if let Err(fault) = self.write_out() {
-            return Err(fault);
-        }
+        self.write_out()?;
         match self.writer.flush() {
             Ok(()) => {
                 self.is_flushed = true;

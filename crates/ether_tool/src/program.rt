@@ -1,5 +1,5 @@
 //! The program, over any arguments, reader and writer.
-ghost use Rattle.ether_tool.specs.Program.{HasObeyed, HasServed, PutsLast, words_of};
+ghost use Rattle.ether_tool.specs.Program.{HasObeyed, HasServed, PrintsLast, words_of};
 
 use crate::command::command_of_args;
 use crate::outcome::{Outcome, ToolFault, last_line, program_status};
@@ -15,7 +15,7 @@ pub fn program<R: Read, W: Write>(args: io::Result<env::Args>, reader: &mut R, w
         (W.contents writer.old) (W.contents writer.new) result }
 {
     let outcome = obey(args, reader, writer);
-    let is_printed = put_last_line(&outcome, writer);
+    let is_printed = print_last_line(&outcome, writer);
     program_status(&outcome, is_printed)
 }
 
@@ -35,8 +35,8 @@ fn obey<R: Read, W: Write>(args: io::Result<env::Args>, reader: &mut R, writer: 
 }
 
 /// Prints the last line, if there is one, and returns whether the writer took it.
-fn put_last_line<W: Write>(outcome: &Outcome, writer: &mut W) -> bool
-    ensures { PutsLast outcome.now (W.contents writer.old) (W.contents writer.new) result }
+fn print_last_line<W: Write>(outcome: &Outcome, writer: &mut W) -> bool
+    ensures { PrintsLast outcome.now (W.contents writer.old) (W.contents writer.new) result }
 {
     match last_line(outcome) {
         Some(line) => writeln!(writer, "{line}").is_ok(),

@@ -77,21 +77,11 @@ fn answer_input<R: Read, W: Write>(
     ensures failed { IfErr result (λ fault. OnStreamFault fault (input.new.has_failed ≡ true) (out.new.has_failed ≡ true)) }
     ensures flushed { IfSettled result (out.new.is_flushed ≡ true) }
 {
-    match read_lines(command, input, out) {
-        Ok(verdict) => {
-            if let Err(fault) = out.flush() {
-                return Err(fault);
-            }
-            Ok(verdict)
-        }
-        Err(ToolFault::BadLine(number)) => {
-            if let Err(fault) = out.flush() {
-                return Err(fault);
-            }
-            Err(ToolFault::BadLine(number))
-        }
-        Err(fault) => Err(fault),
+    let outcome = read_lines(command, input, out);
+    if let Ok(_) | Err(ToolFault::BadLine(_)) = outcome {
+        out.flush()?;
     }
+    outcome
 }
 
 /// Reads the input to its end, and gathers the text. What is gathered is written out before
@@ -111,19 +101,12 @@ fn read_lines<R: Read, W: Write>(
     let mut lines = LineLoop::new();
     let mut chunk = [0; CHUNK_LEN];
     loop {
-        if let Err(fault) = out.write_out() {
-            return Err(fault);
-        }
-        let count = match input.read(&mut chunk, out) {
-            Ok(count) => count,
-            Err(fault) => return Err(fault),
-        };
+        out.write_out()?;
+        let count = input.read(&mut chunk, out)?;
         if count == 0 {
             return lines.finish(command, out);
         }
-        if let Err(fault) = lines.take_chunk(command, &chunk[..count], out) {
-            return Err(fault);
-        }
+        lines.take_chunk(command, &chunk[..count], out)?;
     }
 }
 

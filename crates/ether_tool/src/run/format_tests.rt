@@ -323,7 +323,11 @@ rest 16 16 sll ignored 0x0004\n",
         0,
         b"linux_sll 0 packet 3 hw 770 alen 0 addr 0000000000000000 0xABCD\n\
 rest 16 16 sll ignored 0xABCD\n",
-    )?;
+    )
+}
+
+#[test]
+fn an_ether_type_of_a_cooked_capture(rt: HostRuntime) -> Result<(), Fail> {
     answers(
         &rt,
         &["sll"],
@@ -499,12 +503,8 @@ rest 42 64 after_arp\n",
 
 // ---- frames cut short
 
-#[test]
-fn each_cut_of_a_tagged_frame(rt: HostRuntime) -> Result<(), Fail> {
-    answers(
-        &rt,
-        &["eth"],
-        b"\n\
+/// The cuts of a tagged frame, from the empty one to the whole.
+const CUTS: &[u8] = b"\n\
 ff\n\
 ffff\n\
 ffffff\n\
@@ -522,9 +522,10 @@ ffffffffffff0200000000018100\n\
 ffffffffffff0200000000018100b1\n\
 ffffffffffff0200000000018100b123\n\
 ffffffffffff0200000000018100b12308\n\
-ffffffffffff0200000000018100b1230800\n",
-        1,
-        b"fault 0 open length 14 0 slice\n\
+ffffffffffff0200000000018100b1230800\n";
+
+/// The lines of each cut.
+const CUTS_ANSWER: &[u8] = b"fault 0 open length 14 0 slice\n\
 fault 0 open length 14 1 slice\n\
 fault 0 open length 14 2 slice\n\
 fault 0 open length 14 3 slice\n\
@@ -548,8 +549,11 @@ ethernet2 0 ffffffffffff 020000000001 0x8100\n\
 fault 14 open length 4 3 slice\n\
 ethernet2 0 ffffffffffff 020000000001 0x8100\n\
 vlan 14 pcp 5 dei 1 vid 291 0x0800\n\
-rest 18 18 type 0x0800\n",
-    )
+rest 18 18 type 0x0800\n";
+
+#[test]
+fn each_cut_of_a_tagged_frame(rt: HostRuntime) -> Result<(), Fail> {
+    answers(&rt, &["eth"], CUTS, 1, CUTS_ANSWER)
 }
 
 #[test]

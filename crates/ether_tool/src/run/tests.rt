@@ -1,7 +1,7 @@
 //! What no contract of `run` says, and examples of what they say.
 use super::*;
-use crate::frame::MAX_FRAME_LEN;
 use crate::outcome::Verdict::{AllAccepted, SomeRefused};
+use crate::parse_frame::MAX_FRAME_LEN;
 use crate::test_frames::{
     CAPTURED, CAPTURED_ANSWER, EMPTY_ANSWER, PLAIN, PLAIN_ANSWER, TAGGED, TAGGED_ANSWER,
 };
@@ -235,12 +235,17 @@ fn stops_at_a_bad_line(rt: HostRuntime) {
         ),
     ];
     for (input, number, text) in examples {
-        for step in [1, 5, 4096] {
-            let mut sink = Sink::new(0);
-            let outcome = run(Mode::Eth, &mut Source::new(input, step, 0), &mut sink);
-            assert_eq!(rt; outcome, Err(ToolFault::BadLine(number)));
-            assert_eq!(rt; sink.taken.as_slice(), text);
-        }
+        stops_at(&rt, input, number, text);
+    }
+}
+
+/// Stops at the bad line of this number, after the text for the lines before it, in chunks of any size.
+fn stops_at(rt: &impl Abort, input: &[u8], number: u64, text: &[u8]) {
+    for step in [1, 5, 4096] {
+        let mut sink = Sink::new(0);
+        let outcome = run(Mode::Eth, &mut Source::new(input, step, 0), &mut sink);
+        assert_eq!(rt; outcome, Err(ToolFault::BadLine(number)));
+        assert_eq!(rt; sink.taken.as_slice(), text);
     }
 }
 
@@ -363,9 +368,9 @@ fn tells_a_fault_of_the_reader(rt: HostRuntime) {
 #[test]
 fn tells_a_fault_of_the_reader_in_each_mode(rt: HostRuntime) {
     for (mode, line) in LINES_OF_MODES {
-        for step in [1, 4, usize::MAX] {
-            reader_faults(&rt, mode, line, step);
-        }
+        reader_faults(&rt, mode, line, 1);
+        reader_faults(&rt, mode, line, 4);
+        reader_faults(&rt, mode, line, usize::MAX);
     }
 }
 

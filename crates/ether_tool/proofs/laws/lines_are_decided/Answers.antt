@@ -1,4 +1,4 @@
-use Rattle.ether_tool.proofs.FrameLemmas.{frame_decided, frame_or_bad, one_frame}
+use Rattle.ether_tool.proofs.ParseFrameLemmas.{frame_decided, frame_or_bad, one_frame}
 use Rattle.ether_tool.proofs.laws.lines_are_decided.Goals as goal
 
 pub returns : goal.returns

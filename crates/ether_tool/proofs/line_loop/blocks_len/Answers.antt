@@ -1,6 +1,6 @@
 use Rattle.std.proofs.Common.{◌≡◌, ◌==◌, ◌+◌, ◌-◌, ℕ, false, sym, ap, ◌∙◌, take, drop, arith}
 use Rattle.std.specs.List.{list_any}
-use Rattle.ether_tool.proofs.LinesLemmas.{HasNoLineFeed-nil, block_skipped}
+use Rattle.ether_tool.proofs.InputLinesLemmas.{HasNoLineFeed-nil, block_skipped}
 use Rattle.ether_tool.proofs.line_loop.blocks_len.Goals as goal
 
 pub loop-len-init : goal.loop-len-init

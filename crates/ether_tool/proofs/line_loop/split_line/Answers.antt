@@ -1,4 +1,4 @@
-use Rattle.ether_tool.proofs.LinesLemmas.{HasNoLineFeed-skipped, SplitsAtLineFeed-skipped}
+use Rattle.ether_tool.proofs.InputLinesLemmas.{HasNoLineFeed-skipped, SplitsAtLineFeed-skipped}
 use Rattle.ether_tool.proofs.line_loop.split_line.Goals as goal
 
 pub returns-in-Some-clause-some : goal.returns-in-Some-clause-some

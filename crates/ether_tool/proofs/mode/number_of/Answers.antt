@@ -1,6 +1,6 @@
 use Rattle.std.proofs.Common.{◌≡◌, ◌/◌, List, ℕ, length, ap, subst, arith}
 use Rattle.ether_tool.specs.Frame.{IsFrame, IsBadLine}
-use Rattle.ether_tool.proofs.FrameLemmas.{frame_in_place, bad_in_place}
+use Rattle.ether_tool.proofs.ParseFrameLemmas.{frame_in_place, bad_in_place}
 use Rattle.ether_tool.proofs.ModeLemmas.{type_named, type_not_named}
 use Rattle.ether_tool.proofs.mode.number_of.Goals as goal
 

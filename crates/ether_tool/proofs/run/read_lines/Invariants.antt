@@ -4,8 +4,8 @@ use Rattle.ether_tool.specs.OutputBuffer.{contents_of}
 use Rattle.ether_tool.specs.LineLoop.{Reached}
 use Rattle.ether_tool.proofs.run.read_lines.Given as goal
 
-abbrev pub invariant-loop-fault : goal.invariant-loop-fault
-invariant-loop-fault g l =
+abbrev pub invariant-loop-input : goal.invariant-loop-input
+invariant-loop-input g l =
     (taken : List ℕ) × record {
       same_reader : l.input.inner.ghost_name ≡ l.fn.input.inner.ghost_name;
       same_writer : l.out.writer.ghost_name ≡ l.fn.out.writer.ghost_name;
@@ -13,5 +13,5 @@ invariant-loop-fault g l =
       reached : Reached l.command g.W.Write.contents (contents_of g.W.Write.contents l.fn.out) taken l.lines l.out;
     }
 
-abbrev pub decreases-loop-fault : goal.decreases-loop-fault
-decreases-loop-fault g l = l.input.reads_left
+abbrev pub decreases-loop-input : goal.decreases-loop-input
+decreases-loop-input g l = l.input.reads_left

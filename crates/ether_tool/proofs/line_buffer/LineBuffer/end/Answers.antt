@@ -1,8 +1,8 @@
 use Rattle.std.proofs.Common.{◌≡◌, ℕ, List, [], ◌++◌, take, ap, sym, ◌∙◌, subst, IfNone, IfSome}
 use Rattle.ether_tool.specs.Frame.{IsBadLine, IsFrame}
 use Rattle.ether_tool.specs.LineBuffer.{KeepsLine, without_end}
-use Rattle.ether_tool.proofs.FrameLemmas.{none_is}
-use Rattle.ether_tool.proofs.LinesLemmas.{no_byte}
+use Rattle.ether_tool.proofs.ParseFrameLemmas.{none_is}
+use Rattle.ether_tool.proofs.InputLinesLemmas.{no_byte}
 use Rattle.ether_tool.proofs.line_buffer.LineBuffer.end.Goals as goal
 
 pub returns-then-is_empty : goal.returns-then-is_empty

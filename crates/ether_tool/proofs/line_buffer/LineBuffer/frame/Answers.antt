@@ -1,7 +1,7 @@
 use Rattle.std.proofs.Common.{ℕ, List, ap, ◌∙◌, subst, IfNone}
 use Rattle.ether_tool.specs.Frame.{IsBadLine}
 use Rattle.ether_tool.specs.LineBuffer.{without_end}
-use Rattle.ether_tool.proofs.FrameLemmas.{none_is}
+use Rattle.ether_tool.proofs.ParseFrameLemmas.{none_is}
 use Rattle.ether_tool.proofs.line_buffer.LineBuffer.frame.Goals as goal
 
 pub returns-clause-bad : goal.returns-clause-bad
