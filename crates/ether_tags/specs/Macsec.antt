@@ -2,11 +2,12 @@
 use Rattle.std.specs.Prelude.{◌≡◌, ℕ, ◌+◌, List, length, slice_range, Option, Some, None, nat_lt, if◌then◌else◌}
 use Rattle.ether_base.specs.declared.len_source.LenSource.{LenSource}
 use Rattle.ether_base.specs.declared.len_source.LenSource.TheVariants as sources
+use Rattle.ether_base.specs.declared.err.layer.Layer.TheVariants as layers
 use Rattle.ether_base.specs.declared.err.macsec.header_error.HeaderError.{HeaderError}
 use Rattle.ether_base.specs.declared.err.macsec.header_error.HeaderError.TheVariants as contents
 use Rattle.ether_base.specs.declared.header_slice_error.HeaderSliceError.{HeaderSliceError}
 use Rattle.ether_base.specs.declared.header_slice_error.HeaderSliceError.TheVariants.{Len, Content}
-use Rattle.ether_base.specs.Formats.Macsec.{PayloadType, SecTagFront, SecTagValue, known_payload_len, sec_tag_len, sec_tag_of}
+use Rattle.ether_base.specs.Formats.Macsec.{PayloadType, SecTagFront, SecTagValue, known_payload_len, sec_tag_len, sec_tag_front_in, sec_tag_of}
 use Rattle.ether_base.specs.Formats.Macsec as payloads
 use Rattle.ether_base.specs.Formats.Kind as kinds
 use Rattle.ether_base.specs.Formats.Refusal.{Refusal, Length, UnexpectedVersion, InvalidShortLen, Refuses, RefusesHeader}
@@ -48,9 +49,20 @@ abbrev pub short_len_for : PayloadType → ℕ → ℕ
 short_len_for (payloads.Unmodified ether_type) n = if nat_lt n 62 then n + 2 else 0
 short_len_for _ n = if nat_lt n 64 then n else 0
 
--- the bytes of a view of a tag
+-- the bytes of a view of a tag, and its front
 abbrev pub tag_bytes : MacsecHeaderSlice → List ℕ
 tag_bytes h = h.slice.now
+
+abbrev pub tag_front : MacsecHeaderSlice → SecTagFront
+tag_front h = sec_tag_front_in (tag_bytes h)
+
+-- the tag that a list begins with
+abbrev pub tag_in : List ℕ → List ℕ
+tag_in bytes = slice_range bytes 0 (sec_tag_len (sec_tag_front_in bytes))
+
+-- E and C are 0, so that an ether type follows the tag
+abbrev pub IsUnmodified : SecTagFront → Type 0
+IsUnmodified front = (front.encrypted ≡ 0) × (front.changed ≡ 0)
 
 -- the answer of a row as an error, which counts from the slice's start
 abbrev pub IsRow : HeaderSliceError HeaderError → Refusal → Type 0
@@ -77,6 +89,15 @@ abbrev pub payload_end : Option ℕ → ℕ → ℕ → ℕ
 payload_end None n whole = whole
 payload_end (Some p) n whole = n + p
 
+-- the same, by the front of the tag
+abbrev pub payload_end_after : SecTagFront → ℕ → ℕ
+payload_end_after front whole = payload_end (known_payload_len front) (sec_tag_len front) whole
+
+-- a slice is too short for a tag and the payload whose length it names
+abbrev pub cut_payload : (required len : ℕ) → HeaderSliceError HeaderError
+cut_payload required len =
+    Len (record { required_len = required; len = len; len_source = sources.MacsecShortLength; layer = layers.MacsecPacket; layer_start_offset = 0 })
+
 -- what named the payload's length
 abbrev pub payload_source : Option ℕ → LenSource
 payload_source None = sources.Slice
@@ -84,7 +105,7 @@ payload_source (Some p) = sources.MacsecShortLength
 
 -- the payload after the tag with this front that a list begins with
 abbrev pub payload_in : SecTagFront → List ℕ → List ℕ
-payload_in front bytes = slice_range bytes (sec_tag_len front) (payload_end (known_payload_len front) (sec_tag_len front) (length bytes))
+payload_in front bytes = slice_range bytes (sec_tag_len front) (payload_end_after front (length bytes))
 
 -- a payload with its type exactly where E and C are 0
 abbrev pub HoldsTyped : MacsecPayloadSlice → Option ℕ → LenSource → List ℕ → Type 0

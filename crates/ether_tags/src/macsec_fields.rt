@@ -2,10 +2,10 @@
 //! ES, SC, SCB, E and C, and the association number (2 bits, 9.6). Byte 1 is two reserved bits and the short length (6 bits,
 //! 9.7). The packet number (4 bytes, 9.8) follows, then the SCI (8 bytes, 9.9) where SC is set, and then the ether type of
 //! the user data where E and C are clear.
-ghost use Rattle.std.specs.Prelude.{◌≡◌, ◌↔◌, ◌≤◌, ◌<◌, ◌+◌, ◌*◌, ◌/◌, ◌%◌, ◌^◌, IsTrue, length, slice_index, slice_range, if◌then◌else◌};
+ghost use Rattle.std.specs.Prelude.{◌≡◌, ◌↔◌, ◌≤◌, ◌<◌, ◌+◌, ◌*◌, ◌/◌, ◌%◌, ◌^◌, IsTrue, length, slice_index, slice_range};
 ghost use Rattle.ether_base.specs.Bytes.{bit, number};
 ghost use Rattle.ether_base.specs.Formats.Macsec.{known_payload_len, sec_tag_front_in, sec_tag_len, sec_tag_of, known_len};
-ghost use Rattle.ether_tags.specs.Macsec.{payload_type_view};
+ghost use Rattle.ether_tags.specs.Macsec.{IsUnmodified, payload_type_view};
 ghost use Rattle.ether_base.specs.Formats.Refusal.{IsTooShort};
 
 use crate::number_at::{u16_at, u32_at, u64_at};
@@ -155,7 +155,7 @@ pub fn ptype(bytes: &[u8]) -> MacsecPType
 /// Whether E and C are clear, so that the ether type of the user data follows the tag.
 pub fn is_unmodified(bytes: &[u8]) -> bool
     requires { 2 ≤ length bytes.now }
-    ensures { IsTrue result ↔ (((sec_tag_front_in bytes.now).encrypted ≡ 0) × ((sec_tag_front_in bytes.now).changed ≡ 0)) }
+    ensures { IsTrue result ↔ IsUnmodified (sec_tag_front_in bytes.now) }
 {
     !encrypted(bytes) && !userdata_changed(bytes)
 }

@@ -1,5 +1,5 @@
 //! A view of a MACsec SecTag.
-ghost use Rattle.std.specs.Prelude.{◌≡◌, ◌≤◌, length, IfOk, IfErr, slice_range};
+ghost use Rattle.std.specs.Prelude.{◌≡◌, ◌≤◌, length, IfOk, IfErr};
 ghost use Rattle.ether_base.specs.declared.len_source.LenSource.TheVariants as sources;
 ghost use Rattle.ether_base.specs.Formats.Macsec.{sec_tag_front_in, sec_tag_len, sec_tag_of};
 ghost use Rattle.ether_base.specs.Formats.Header as headers;
@@ -39,7 +39,7 @@ impl<'a> MacsecHeaderSlice<'a> {
     ghost use Rattle.std.specs.Prelude.{slice_index, ◌↔◌, IsTrue};
     ghost use Rattle.std.specs.Option.{option_map};
     ghost use Rattle.ether_base.specs.Formats.Macsec.{known_payload_len};
-    ghost use Rattle.ether_tags.specs.Macsec.{IsRefusedTag, tag_bytes, payload_type_view, readable_type, sec_tag_view};
+    ghost use Rattle.ether_tags.specs.Macsec.{IsRefusedTag, IsUnmodified, tag_bytes, tag_front, tag_in, payload_type_view, readable_type, sec_tag_view};
 
     /// The tag at the front of a slice, with the next ether type. The bytes after it are not part of the view.
     ///
@@ -56,7 +56,7 @@ impl<'a> MacsecHeaderSlice<'a> {
     /// In both length errors `len` is the slice's length, `len_source` is [`LenSource::Slice`], `layer` is
     /// [`Layer::MacsecHeader`] and `layer_start_offset` is 0.
     pub fn from_slice(slice: &'a [u8]) -> Result<MacsecHeaderSlice<'a>, HeaderSliceError>
-        ensures bytes { IfOk result (λ h. tag_bytes h ≡ slice_range slice.now 0 (sec_tag_len (sec_tag_front_in slice.now))) }
+        ensures bytes { IfOk result (λ h. tag_bytes h ≡ tag_in slice.now) }
         ensures whole { IfOk result (λ h. sec_tag_len (sec_tag_front_in slice.now) ≤ length slice.now) }
         ensures accepted { IfOk result (λ h. AcceptsHeader sources.Slice slice.now kinds.Macsec) }
         ensures value { IfOk result (λ h. Means slice.now (headers.Macsec (sec_tag_of (tag_bytes h)))) }
@@ -120,14 +120,14 @@ impl<'a> MacsecHeaderSlice<'a> {
 
     /// Whether the payload is encrypted: bit E (9.5).
     pub fn encrypted(&self) -> bool
-        ensures { bit result ≡ (sec_tag_front_in (tag_bytes self.now)).encrypted }
+        ensures { bit result ≡ (tag_front self.now).encrypted }
     {
         macsec_fields::encrypted(self.slice)
     }
 
     /// Whether the payload is changed: bit C (9.5).
     pub fn userdata_changed(&self) -> bool
-        ensures { bit result ≡ (sec_tag_front_in (tag_bytes self.now)).changed }
+        ensures { bit result ≡ (tag_front self.now).changed }
     {
         macsec_fields::userdata_changed(self.slice)
     }
@@ -135,7 +135,7 @@ impl<'a> MacsecHeaderSlice<'a> {
     /// Whether the payload is neither encrypted nor changed: the bits E and C are clear, and a next ether type is part of
     /// the tag.
     pub fn is_unmodified(&self) -> bool
-        ensures { IsTrue result ↔ (((sec_tag_front_in (tag_bytes self.now)).encrypted ≡ 0) × ((sec_tag_front_in (tag_bytes self.now)).changed ≡ 0)) }
+        ensures { IsTrue result ↔ IsUnmodified (tag_front self.now) }
     {
         macsec_fields::is_unmodified(self.slice)
     }
@@ -170,7 +170,7 @@ impl<'a> MacsecHeaderSlice<'a> {
 
     /// Whether the tag has an SCI: bit SC (9.5).
     pub fn sci_present(&self) -> bool
-        ensures { bit result ≡ (sec_tag_front_in (tag_bytes self.now)).sci_present }
+        ensures { bit result ≡ (tag_front self.now).sci_present }
     {
         macsec_fields::sci_present(self.slice)
     }
@@ -194,7 +194,7 @@ impl<'a> MacsecHeaderSlice<'a> {
 
     /// The length of the tag in bytes, with the next ether type, 6 to 16.
     pub fn header_len(&self) -> usize
-        ensures tag { result ≡ sec_tag_len (sec_tag_front_in (tag_bytes self.now)) }
+        ensures tag { result ≡ sec_tag_len (tag_front self.now) }
         ensures slice { result ≡ length (tag_bytes self.now) }
     {
         self.slice.len()
@@ -203,7 +203,7 @@ impl<'a> MacsecHeaderSlice<'a> {
     /// The length of the payload in bytes that the short length names, without the next ether type. `None` if the short
     /// length is 0, so that the payload and the integrity check value reach to the end of the frame.
     pub fn expected_payload_len(&self) -> Option<usize>
-        ensures { result ≡ known_payload_len (sec_tag_front_in (tag_bytes self.now)) }
+        ensures { result ≡ known_payload_len (tag_front self.now) }
     {
         macsec_fields::expected_payload_len(self.slice)
     }

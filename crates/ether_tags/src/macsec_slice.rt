@@ -1,14 +1,14 @@
 //! A view of a MACsec SecTag and its payload.
-ghost use Rattle.std.specs.Prelude.{◌≡◌, ◌≤◌, ◌<◌, IfOk, IfErr, slice_range};
+ghost use Rattle.std.specs.Prelude.{◌≡◌, ◌≤◌, ◌<◌, IfOk, IfErr};
 ghost use Rattle.std.specs.Option.{option_map};
 ghost use Rattle.ether_base.specs.declared.header_slice_error.HeaderSliceError.TheVariants.{Len};
 ghost use Rattle.ether_base.specs.declared.len_source.LenSource.TheVariants as sources;
-ghost use Rattle.ether_base.specs.Formats.Macsec.{known_payload_len, sec_tag_front_in, sec_tag_len, sec_tag_of};
+ghost use Rattle.ether_base.specs.Formats.Macsec.{known_payload_len, sec_tag_front_in, sec_tag_of};
 ghost use Rattle.ether_base.specs.Formats.Header as headers;
 ghost use Rattle.ether_base.specs.Formats.Header.{Means};
 ghost use Rattle.ether_base.specs.Formats.Kind as kinds;
 ghost use Rattle.ether_base.specs.Formats.Refusal.{Accepts};
-ghost use Rattle.ether_tags.specs.Macsec.{HoldsPayload, HoldsTyped, IsRefusedPacket, payload_end, payload_source, readable_payload, readable_type, tag_bytes};
+ghost use Rattle.ether_tags.specs.Macsec.{HoldsPayload, HoldsTyped, IsRefusedPacket, cut_payload, payload_end_after, payload_source, readable_payload, readable_type, tag_bytes, tag_front, tag_in};
 
 use crate::{EtherPayloadSlice, MacsecHeaderSlice, MacsecPayloadSlice, macsec_fields};
 use ether_base::err::Layer;
@@ -51,7 +51,7 @@ impl<'a> MacsecSlice<'a> {
     /// does that the short length names: `required_len` is the length of tag and payload, `len` the slice's length,
     /// `len_source` is [`LenSource::MacsecShortLength`], `layer` is [`Layer::MacsecPacket`] and `layer_start_offset` is 0.
     pub fn from_slice(slice: &'a [u8]) -> Result<MacsecSlice<'a>, HeaderSliceError>
-        ensures header { IfOk result (λ m. tag_bytes m.header ≡ slice_range slice.now 0 (sec_tag_len (sec_tag_front_in slice.now))) }
+        ensures header { IfOk result (λ m. tag_bytes m.header ≡ tag_in slice.now) }
         ensures payload { IfOk result (λ m. HoldsPayload m.payload (sec_tag_front_in slice.now) slice.now) }
         ensures accepted { IfOk result (λ m. Accepts sources.Slice slice.now kinds.Macsec) }
         ensures value { IfOk result (λ m. Means slice.now (headers.Macsec (sec_tag_of (tag_bytes m.header)))) }
@@ -89,11 +89,11 @@ fn end_within(
     header: &MacsecHeaderSlice<'_>,
     slice_len: usize,
 ) -> Result<(usize, LenSource), HeaderSliceError>
-    ensures end { IfOk result (λ payload. payload.0 ≡ payload_end (known_payload_len (sec_tag_front_in (tag_bytes header.now))) (sec_tag_len (sec_tag_front_in (tag_bytes header.now))) slice_len) }
-    ensures source { IfOk result (λ payload. payload.1 ≡ payload_source (known_payload_len (sec_tag_front_in (tag_bytes header.now)))) }
+    ensures end { IfOk result (λ payload. payload.0 ≡ payload_end_after (tag_front header.now) slice_len) }
+    ensures source { IfOk result (λ payload. payload.1 ≡ payload_source (known_payload_len (tag_front header.now))) }
     ensures within { IfOk result (λ payload. payload.0 ≤ slice_len) }
-    ensures refused { IfErr result (λ e. e ≡ Len (record { required_len = payload_end (known_payload_len (sec_tag_front_in (tag_bytes header.now))) (sec_tag_len (sec_tag_front_in (tag_bytes header.now))) slice_len; len = slice_len; len_source = LenSource.MacsecShortLength; layer = Layer.MacsecPacket; layer_start_offset = 0 })) }
-    ensures cut { IfErr result (λ _. slice_len < payload_end (known_payload_len (sec_tag_front_in (tag_bytes header.now))) (sec_tag_len (sec_tag_front_in (tag_bytes header.now))) slice_len) }
+    ensures refused { IfErr result (λ e. e ≡ cut_payload (payload_end_after (tag_front header.now) slice_len) slice_len) }
+    ensures cut { IfErr result (λ _. slice_len < payload_end_after (tag_front header.now) slice_len) }
 {
     let named = usize::from(header.short_len().value());
     if named == 0 {
