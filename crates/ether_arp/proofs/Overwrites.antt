@@ -29,7 +29,7 @@ part_after list part at end i j e le ei = ap (take (j - i)) (rest_after list par
 pub part_at : (list part : List ℕ) (at end : ℕ) → at + length part ≡ end → end ≤ length list → slice_range (over list at part end) at end ≡ part
 part_at list part at end e le = part_after_front (take at list) part (drop end list) at end (length-take-le at list (omega arith)) e
 
--- what stands before them
+-- what is before them
 pub part_before : (list part : List ℕ) (at end i j : ℕ) → at ≤ length list → i ≤ j → j ≤ at → slice_range (over list at part end) i j ≡ slice_range list i j
 part_before list part at end i j le ij ja =
     let front : length (take at list) ≡ at = length-take-le at list le in
@@ -40,7 +40,7 @@ pub length-over : (list part : List ℕ) (at end : ℕ) → at + length part ≡
 length-over list part at end e le = simp (length-append, length-drop) (omega (arith, length-take-le at list (omega arith)))
 
 -- ---- what follows each of two addresses is moved
--- m, r: where it stood; n, q: where it goes; b bytes after the first, k after the second
+-- m, r: where it was; n, q: where it goes; b bytes after the first, k after the second
 
 module _ (list : List ℕ) (m n b r q k : ℕ) where
   -- to the back, the last part first

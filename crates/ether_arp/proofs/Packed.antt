@@ -79,7 +79,7 @@ packed_of bytes list t u o h p e et eu eo eh ep =
 
 -- ---- equality
 
--- two lists of one length of hardware addresses are the same where the addresses are
+-- two lists of one length of hardware addresses are the same if the addresses are
 pub same_addrs : (l m : List ℕ) (h k p q : ℕ) → length l ≡ 2 * h + 2 * p → length m ≡ 2 * k + 2 * q → h ≡ k
     → bytes_eq l m ≡ (bytes_eq (slice_range l 0 h) (slice_range m 0 k) && (bytes_eq (slice_range l h (h + p)) (slice_range m k (k + q)) && (bytes_eq (slice_range l (h + p) (2 * h + p)) (slice_range m (k + q) (2 * k + q)) && bytes_eq (slice_range l (2 * h + p) (2 * h + 2 * p)) (slice_range m (2 * k + q) (2 * k + 2 * q)))))
 same_addrs l m h k p q ll lm e =

@@ -18,7 +18,7 @@ use Rattle.ether_arp.specs.ArpAddresses as rows
 use Rattle.ether_arp.specs.ArpEthIpv4.{RefusesEthIpv4, AcceptsEthIpv4}
 use Rattle.ether_arp.specs.ArpEthIpv4 as readings
 
--- ---- where no row holds
+-- ---- no row holds
 
 pub accepts_hw : (s t : ℕ) → s ≡ t → s ≤ 255 → AcceptsHwAddrs s t
 accepts_hw s t e le d (rows.hw_unequal n) = n e

@@ -54,7 +54,7 @@ front_written f bh bp bo lt lu lh lp lo is_h is_p is_o =
     let n : number list ≡ arp_front_number f = omega arith in
     same ∙ sym (spelled-is 8 list refl ok) ∙ ap (spelled 8) n
 
--- what reading these bytes answers is the packet
+-- reading these bytes returns the packet
 pub read_is : (bytes : List ℕ) (a : ArpValue) (r : Result ArpValue LenError) → Means bytes (headers.Arp a) → IfOk r (λ p. Means bytes (headers.Arp p)) → IfErr r (IsRefusedLen bytes kinds.Arp) → r ≡ Ok a
 read_is bytes a (Ok p) m ok err = let e = one_header bytes (headers.Arp p) (headers.Arp a) refl ok m in let same : p ≡ a = cc in ap Ok same
 read_is bytes a (Err e) m ok err = absurd (meant_accepted sources.Slice bytes a m _ err.row)

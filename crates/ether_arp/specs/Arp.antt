@@ -2,7 +2,7 @@
 use Rattle.std.specs.Prelude.{◌≡◌, ℕ, ◌≤◌, List, length}
 use Rattle.ether_base.specs.Formats.Arp.{arp_front_in, arp_len}
 
--- a list begins with the eight bytes of a front and the addresses that it tells
+-- a list begins with the eight bytes of a front and its addresses
 pub record BeginsWithArp (bytes : List ℕ) : Type 0 where
   pub front : 8 ≤ length bytes
   pub whole : arp_len (arp_front_in bytes) ≤ length bytes

@@ -42,6 +42,6 @@ pub record ReadsEthIpv4 (a : ArpValue) (p : ArpEthIpv4Packet) : Type 0 where
   pub accepted : AcceptsEthIpv4 a
   pub value : a ≡ eth_ipv4_view p
 
--- what reading a value answers
+-- what reading a value returns
 abbrev pub AnswersEthIpv4 : ArpValue → Result ArpEthIpv4Packet ArpEthIpv4FromError → Type 0
 AnswersEthIpv4 a result = MatchResult result (ReadsEthIpv4 a) (RefusesEthIpv4 a)

@@ -25,7 +25,7 @@ pub record ArpRowsAreApart : Type 0 where
   pub one_eth_ipv4 : (a : ArpValue) (d e : ArpEthIpv4FromError) → RefusesEthIpv4 a d → RefusesEthIpv4 a e → d ≡ e
   pub decided_eth_ipv4 : (a : ArpValue) → ((e : ArpEthIpv4FromError) × RefusesEthIpv4 a e) ⊎ AcceptsEthIpv4 a
 
--- accepted bytes mean the packet that their parts tell, and the bytes of a packet that fits are bytes
+-- accepted bytes mean the packet of their parts, and the bytes of a packet that fits are bytes
 pub record ArpPacketsAreMeant : Type 0 where
   pub read : (bound : LenSource) (bytes : List ℕ) → IsBytes bytes → Accepts bound bytes kinds.Arp → Means bytes (headers.Arp (arp_of bytes))
   pub fits : (bytes : List ℕ) → IsBytes bytes → (a : ArpValue) → Means bytes (headers.Arp a) → FitsArp a

@@ -16,8 +16,8 @@ pub fn put<const N: usize>(bytes: &mut ArrayVec<u8, N>, part: &[u8])
     bytes.try_extend_from_slice(part).unwrap();
 }
 
-/// Puts the sender's and the target's address of one kind in the place of those that are there, which have `size` bytes
-/// each. The sender's begins at `start`, and `between` bytes stand between the two.
+/// Replaces the sender's and the target's address of one kind, which have `size` bytes each. The sender's begins at
+/// `start`, and `between` bytes are between the two.
 pub fn replace_both(
     addrs: &mut ArrayVec<u8, 1020>,
     start: usize,

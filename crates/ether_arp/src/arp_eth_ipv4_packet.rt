@@ -28,7 +28,7 @@ use std::net::Ipv4Addr;
 /// ```
 #[derive(Clone, Copy, PartialEq, Eq, Hash, Debug)]
 pub struct ArpEthIpv4Packet {
-    /// What the packet asks or answers.
+    /// The operation: a request, a reply or another.
     pub operation: ArpOperation,
     /// The MAC address of the sender.
     pub sender_mac: [u8; 6],
@@ -60,7 +60,7 @@ impl ArpEthIpv4Packet {
         Ipv4Addr::new(a, b, c, d)
     }
 
-    /// The packet as it stands on the wire, numbers in network byte order.
+    /// The packet as it is on the wire, numbers in network byte order.
     pub fn to_bytes(&self) -> [u8; 28]
         ensures { result ≡ eth_ipv4_bytes self.now }
     {

@@ -28,7 +28,7 @@ const PROTOCOL_SIZE: usize = 5;
 /// The bytes of the operation.
 const OPERATION: Range<usize> = 6..8;
 
-/// The length of what stands before the addresses.
+/// The length of the part before the addresses.
 const FRONT_LEN: usize = 8;
 
 /// The bytes of the packet that a slice begins with.
@@ -52,7 +52,7 @@ pub fn packet(slice: &[u8]) -> Result<&[u8], LenError>
     Ok(&slice[..required_len])
 }
 
-/// The length of the packet that the sizes tell.
+/// The length of the packet by its sizes.
 fn packet_len(packet: &[u8]) -> usize
     requires { 8 ≤ length packet.now }
     ensures { result ≡ arp_len (arp_front_in packet.now) }
@@ -146,7 +146,7 @@ pub fn target_protocol_addr(packet: &[u8]) -> &[u8]
     &packet[start..start + protocol]
 }
 
-/// The four addresses, where nothing follows them.
+/// The four addresses, if nothing follows them.
 pub fn addrs(packet: &[u8]) -> &[u8]
     requires { HoldsArp packet.now }
     ensures addrs { result.now ≡ drop 8 packet.now }

@@ -1,4 +1,4 @@
-//! What stands before the addresses of an ARP packet, as it is written (RFC 826, "Packet format").
+//! The part of an ARP packet before its addresses, as it is written (RFC 826, "Packet format").
 ghost use Rattle.std.specs.Prelude.{◌≡◌};
 ghost use Rattle.ether_base.specs.Formats.Arp.{ArpFront, FitsArpFront, arp_front_number};
 ghost use Rattle.ether_base.specs.Bytes.{spelled};

@@ -50,11 +50,11 @@ pub struct ArpPacket {
     pub hw_addr_type: ArpHardwareId,
     /// The protocol that the protocol addresses belong to, as an ether type.
     pub proto_addr_type: EtherType,
-    /// What the packet asks or answers.
+    /// The operation: a request, a reply or another.
     pub operation: ArpOperation,
     hw_addr_size: u8,
     protocol_addr_size: u8,
-    /// The addresses as they stand on the wire: the sender's, hardware before protocol, then the target's.
+    /// The addresses as they are on the wire: the sender's, hardware before protocol, then the target's.
     addrs: ArrayVec<u8, 1020>,
 }
 
@@ -161,7 +161,7 @@ impl ArpPacket {
         }
     }
 
-    /// The packet of addresses that stand one after the other already.
+    /// The packet of addresses that already follow one another.
     pub(crate) fn packed(
         hw_addr_type: ArpHardwareId,
         proto_addr_type: EtherType,
@@ -318,7 +318,7 @@ impl ArpPacket {
         8 + 2 * usize::from(self.hw_addr_size()) + 2 * usize::from(self.protocol_addr_size())
     }
 
-    /// The packet as it stands on the wire, numbers in network byte order: [`ArpPacket::packet_len`] bytes.
+    /// The packet as it is on the wire, numbers in network byte order: [`ArpPacket::packet_len`] bytes.
     ///
     /// Read again, whatever follows them, they are this packet.
     pub fn to_bytes(&self) -> ArrayVec<u8, 1028>

@@ -20,7 +20,7 @@ use std::marker::Model;
 /// An ARP packet in the bytes of a frame (RFC 826): 8 to 1028 bytes, without what follows it, as the padding of a short
 /// frame.
 ///
-/// Two views are equal where their bytes are. A request that fills up a short frame of Ethernet:
+/// Two views are equal if their bytes are. A request in a short Ethernet frame that is filled up:
 ///
 /// ```
 /// let packet = ArpPacketSlice::from_slice(&payload)?; // 28 bytes of the packet and 18 of padding
@@ -46,7 +46,7 @@ impl<'a> Model for ArpPacketSlice<'a> {
 
 impl<'a> ArpPacketSlice<'a> {
     /// The packet that a slice begins with. Refused are fewer than 8 bytes, and fewer bytes than the sizes of the
-    /// addresses tell. What follows the packet is no part of the view.
+    /// addresses say. What follows the packet is no part of the view.
     pub fn from_slice(slice: &'a [u8]) -> Result<ArpPacketSlice<'a>, LenError>
         ensures bytes { IfOk result (λ p. p ≡ slice_range slice.now 0 (arp_len (arp_front_in slice.now))) }
         ensures accepted { IfOk result (λ p. Accepts sources.Slice slice.now kinds.Arp) }
@@ -98,7 +98,7 @@ impl<'a> ArpPacketSlice<'a> {
         arp_fields::proto_addr_size(self.slice)
     }
 
-    /// What the packet asks or answers.
+    /// The operation: a request, a reply or another.
     pub fn operation(&self) -> ArpOperation
         ensures { result.0 ≡ (arp_of self.now).operation }
     {

@@ -8,7 +8,7 @@ pub fn rows_are_apart()
     ensures { ArpRowsAreApart }
 {}
 
-/// Bytes that are accepted mean the packet that their parts tell, what bytes mean fits into a packet, and a packet that
+/// Bytes that are accepted mean the packet of their parts, what bytes mean fits into a packet, and a packet that
 /// fits is written as bytes.
 pub fn packets_are_meant()
     ensures { ArpPacketsAreMeant }

@@ -27,7 +27,7 @@ sec_tag_front_taken bytes n le =
     let same : n - 0 ≡ n = omega arith in
     ap (λ (k : ℕ). sec_tag_front_in (take k bytes)) (sym same) ∙ sec_tag_front_part bytes n le
 
--- as many bytes as the front tells mean the value that the list means
+-- as many bytes as the front's length mean the value that the list means
 pub sec_tag_taken : (bytes : List ℕ) (n : ℕ) → IsBytes bytes → 6 ≤ length bytes → n ≡ sec_tag_len (sec_tag_front_in bytes) → n ≤ length bytes → Means bytes (headers.Macsec (sec_tag_of (take n bytes)))
 sec_tag_taken bytes n ok six e le =
     let same : n - 0 ≡ n = omega arith in
@@ -46,7 +46,7 @@ sec_tag_bytes_begin t more f =
     let len = length-header_bytes (headers.Macsec t) f in
     record { sum = ap number (part-append (sec_tag_bytes t) more 0 2 (omega arith) (omega arith)) ∙ begins.sum; fits = begins.fits }
 
--- they are accepted, whatever follows them, but where the short length has no room for the ether type
+-- they are accepted, whatever follows them, unless the short length has no room for the ether type
 pub sec_tag_bytes_accepted : (bound : LenSource) (t : SecTagValue) (more : List ℕ) → FitsSecTag t → (IsTooShort (sec_tag_front_of 0 0 t) → ⊥) → AcceptsHeader bound (sec_tag_bytes t ++ more) kinds.Macsec
 sec_tag_bytes_accepted bound t more f long =
     let len = length-header_bytes (headers.Macsec t) f in

@@ -60,7 +60,7 @@ some_arp_front bytes h le =
     let e = arp_front_exists n (below_part bytes 8 h (omega arith)) in
     (arp_front_at n, record { sum = e.0; fits = e.1 })
 
--- ---- where no row holds
+-- ---- no row holds
 
 pub sec_tag_len_least : (t : SecTagFront) → 6 ≤ sec_tag_len t
 sec_tag_len_least t = omega arith
@@ -107,7 +107,7 @@ accepts_packet bound bytes t header begins fits r (rows.macsec_packet u p b v s 
     let l = ap sec_tag_len e in
     omega arith
 
--- where the version is not refused, it is 0
+-- a version that is not refused is 0
 pub version_zero : (bound : LenSource) (bytes : List ℕ) (t : SecTagFront) → 6 ≤ length bytes → BeginsSecTag bytes t → (Refuses bound bytes kinds.Macsec UnexpectedVersion → ⊥) → t.version ≡ 0
 version_zero bound bytes t six begins never =
     let none = at_least 0 t.version (λ v. never (rows.macsec_version t six begins (omega (arith, begins.fits.version)))) in omega arith

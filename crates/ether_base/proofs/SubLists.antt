@@ -73,7 +73,7 @@ part_join list i j k ij jk =
 pub length-part-is : (list : List ℕ) (i j : ℕ) → length (slice_range list i j) ≡ min (j - i) (length list - i)
 length-part-is list i j = simp (length-take, length-drop) refl
 
--- a part that stands between two others
+-- a part between two others
 pub part_after_front : (front part more : List ℕ) (i j : ℕ) → length front ≡ i → i + length part ≡ j → slice_range (front ++ part ++ more) i j ≡ part
 part_after_front front part more i j len long =
     let n : j - i ≡ length part = omega arith in

@@ -1,4 +1,4 @@
--- A slice whose front was written where it has room: what a call on it then answers of its rest, and what it lends.
+-- A slice whose front was written if it has room: what a call on it then returns of its rest, and what it lends.
 use Rattle.std.proofs.Common.{◌≡◌, ℕ, ◌≤◌, ◌<◌, inl, inr, List, [], ◌∷◌, ◌++◌, length, refl, ap, ◌∙◌, arith, length-append, length-drop, MutBor, Ok, Err}
 use Rattle.std.specs.Prelude.{take, drop, MatchResult, Result}
 use Rattle.std.specs.Borrow.{Array, u8}

@@ -33,7 +33,7 @@ LengthRowsAreShort =
     → (n ≡ length bytes) × (n < required)
 
 -- Accepted bytes mean a header, and a list means at most one of a kind. Of fourteen bytes, of four, of sixteen, and of as many as
--- the front of a SecTag tells it is the one whose fields stand in their places.
+-- the front of a SecTag says it is the one whose fields are in their places.
 pub record HeadersAreMeant : Type 0 where
   pub some : (bound : LenSource) (bytes : List ℕ) (kind : Kind) → IsBytes bytes → Accepts bound bytes kind → (h : Header) × (kind_of h ≡ kind) × Means bytes h
   pub one : (bytes : List ℕ) (h k : Header) → kind_of h ≡ kind_of k → Means bytes h → Means bytes k → h ≡ k

@@ -14,10 +14,10 @@ pub record IsRefusedSpace (required : ℕ) (layer : Layer) (slice : List ℕ) (e
   pub short : length slice < required
   pub error : e ≡ record { required_len = required; len = length slice; layer = layer; layer_start_offset = 0 }
 
--- the rest where the slice has room for `required` bytes of a layer, else the refusal
+-- the rest if the slice has room for `required` bytes of a layer, else the refusal
 abbrev pub AnswersRest : ℕ → Layer → List ℕ → Result (MutBor (List ℕ)) SliceWriteSpaceError → Type 0
 AnswersRest required layer slice result = MatchResult result (IsRest required slice) (IsRefusedSpace required layer slice)
 
--- Afterwards the slice holds these bytes, and after them what was left in the rest; where it was refused, it is as it was.
+-- Afterwards the slice holds these bytes, and after them what was left in the rest; if it was refused, it is unchanged.
 abbrev pub LendsRest : List ℕ → MutBor (List ℕ) → Result (MutBor (List ℕ)) SliceWriteSpaceError → Fml
 LendsRest bytes slice result = LendsIfOk (Array u8 0) (Array u8 0) slice result (λ rest. bytes ++ rest) slice.now

@@ -1,4 +1,4 @@
-//! What an ARP packet asks or answers.
+//! The operation of an ARP packet.
 
 /// The operation of an ARP packet (RFC 826): 16 bits, of which the values for request and reply are constants.
 ///

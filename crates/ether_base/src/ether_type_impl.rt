@@ -10,7 +10,7 @@ use std::fmt;
 /// An ether type (IEEE 802, 9.2): the 16 bits that name the protocol of what follows a header.
 ///
 /// Any number is one. Ether types begin at 0x0600: smaller values are IEEE 802.3 lengths (802.3, 3.2.6), and are
-/// handed on as they are. `Debug` shows `0x` and four upper-case digits, and after them the description of a number
+/// passed through unchanged. `Debug` shows `0x` and four upper-case digits, and after them the description of a number
 /// that has one, in parentheses.
 ///
 /// ```
@@ -24,7 +24,7 @@ use std::fmt;
 #[derive(Clone, Copy, PartialEq, Eq, PartialOrd, Ord, Hash, Default)]
 pub struct EtherType(pub u16);
 
-/// The constants also stand in the module [`crate::ether_type`].
+/// The constants are also in the module [`crate::ether_type`].
 impl EtherType {
     /// Internet Protocol version 4 (RFC 894).
     pub const IPV4: EtherType = ether_type::IPV4;

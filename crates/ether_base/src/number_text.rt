@@ -24,7 +24,7 @@ impl fmt::Display for HexNumber {
     }
 }
 
-/// An ether type, shown with its description where it has one.
+/// An ether type, shown with its description if it has one.
 #[derive(Clone, Copy)]
 pub(crate) struct ShownEtherType(pub EtherType);
 
@@ -42,7 +42,7 @@ impl fmt::Display for ShownEtherType {
     }
 }
 
-/// A hardware type, shown with its description where it has one.
+/// A hardware type, shown with its description if it has one.
 #[derive(Clone, Copy)]
 pub(crate) struct ShownArpHardwareId(pub ArpHardwareId);
 

@@ -17,7 +17,7 @@ pub fn put<'a, const N: usize>(bytes: [u8; N], slice: &'a mut [u8]) -> &'a mut [
     slice
 }
 
-/// The part of a slice after its first `required_len` bytes, refused where the slice is shorter.
+/// The part of a slice after its first `required_len` bytes, refused if the slice is shorter.
 pub fn rest_from(
     slice: &mut [u8],
     required_len: usize,

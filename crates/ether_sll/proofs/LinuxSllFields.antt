@@ -25,7 +25,7 @@ refused_packet_type bytes n e ok le is above same =
     subst (λ (k : ℕ). Refuses sources.Slice bytes kinds.LinuxSll (UnsupportedPacketType k)) (sym is) (rows.linux_sll_packet_type (linux_sll_of bytes) le (linux_sll_begins bytes ok le) (subst (λ (k : ℕ). 7 < k) is above)) in
     subst (IsRefusedContent bytes) (sym same) row
 
--- the answer of an unsupported hardware type, and of a supported one
+-- the row of an unsupported hardware type, and none of a supported one
 pub unsupported : (b : Bool) (p : LinuxSllProtocolType) (hardware : ArpHardwareId) (e : HeaderError) → Err e ≡ (if b then Ok p else Err (UnsupportedArpHardwareId hardware)) → (b ≡ false) × (e ≡ UnsupportedArpHardwareId hardware)
 unsupported true p hardware e h = absurd cc
 unsupported false p hardware e h = (refl, cc)

@@ -19,7 +19,7 @@ use Rattle.ether_sll.specs.declared.link_slice.LinkSlice.{LinkSlice}
 use Rattle.ether_sll.specs.declared.link_slice.LinkSlice.TheVariants as link_slices
 use Rattle.ether_sll.specs.LinuxSll.{protocol_type_of_header, linux_sll_view}
 
--- the ether type that a protocol type tells: its own, or a number that Linux has in the same place
+-- the ether type in a protocol type: its own, or a number that Linux has in the same place
 abbrev pub told_ether_type : LinuxSllProtocolType → Option ℕ
 told_ether_type (protocols.Ignored number) = None
 told_ether_type (protocols.NetlinkProtocolType number) = None
@@ -41,7 +41,7 @@ abbrev pub link_header_len : LinkHeader → ℕ
 link_header_len (link_headers.LinuxSll h) = 16
 link_header_len (link_headers.Ethernet2 h) = 14
 
--- what is written through the header stands in the link's header; where there is none of the kind, that stays
+-- what is written through the header is in the link's header; if there is none of the kind, that is unchanged
 abbrev pub LendsEthernet2 : MutBor LinkHeader → Option (MutBor Ethernet2Header) → Fml
 LendsEthernet2 s r = LendsIf link_row ethernet2_row s r link_headers.Ethernet2 s.now
 

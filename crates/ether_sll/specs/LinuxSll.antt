@@ -58,6 +58,6 @@ pub record HoldsHeader (bytes : List ℕ) (h : LinuxSllHeader) : Type 0 where
   pub address : h.sender_address ≡ slice_range bytes 6 14
   pub protocol : h.protocol_type ≡ protocol_type_of_header bytes
 
--- what reading sixteen bytes answers: the header that they hold, or the row that refuses them
+-- what reading sixteen bytes returns: the header that they hold, or the row that refuses them
 abbrev pub AnswersHeader : List ℕ → Result LinuxSllHeader HeaderError → Type 0
 AnswersHeader bytes result = MatchResult result (HoldsHeader bytes) (IsRefusedContent bytes)

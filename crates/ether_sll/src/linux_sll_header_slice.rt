@@ -21,7 +21,7 @@ use std::marker::Model;
 /// A view of a header of Linux cooked capture v1 (LINKTYPE_LINUX_SLL), which borrows its 16 bytes from a packet
 /// ([`LinuxSllHeader`] has a picture of them). Packet type and hardware type are supported.
 ///
-/// Two views are equal if their bytes are, wherever these stand.
+/// Two views are equal if their bytes are, wherever these are.
 ///
 /// ```
 /// let bytes = [0, 4, 0, 1, 0, 6, 2, 0, 0, 0, 0, 1, 0, 0, 0x08, 0x00, 0x45];

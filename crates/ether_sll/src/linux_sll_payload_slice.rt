@@ -58,7 +58,7 @@ impl<'a> From<EtherPayloadSlice<'a>> for LinuxSllPayloadSlice<'a> {
 }
 
 /// The payload with the number of its protocol type as ether type, if it is an ether type or one of the numbers that
-/// Linux keeps beside them. Its `len_source` is [`LenSource::Slice`]. Netlink, GRE and ignored protocols are refused.
+/// Linux keeps with them. Its `len_source` is [`LenSource::Slice`]. Netlink, GRE and ignored protocols are refused.
 impl<'a> TryFrom<LinuxSllPayloadSlice<'a>> for EtherPayloadSlice<'a> {
     type Error = ();
 

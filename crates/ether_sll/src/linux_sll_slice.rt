@@ -22,7 +22,7 @@ use std::marker::Model;
 /// A view of a packet of Linux cooked capture v1 (LINKTYPE_LINUX_SLL): a header ([`LinuxSllHeader`] has a picture of it)
 /// and its payload. Packet type and hardware type are supported.
 ///
-/// Two views are equal if their bytes are, wherever these stand.
+/// Two views are equal if their bytes are, wherever these are.
 ///
 /// ```
 /// let bytes = [0, 4, 0, 1, 0, 6, 2, 0, 0, 0, 0, 1, 0, 0, 0x08, 0x00, 0x45];

@@ -8,7 +8,7 @@ use Rattle.ether_tags.specs.declared.ethernet2_header.Ethernet2Header.{Ethernet2
 abbrev pub ethernet2_view : Ethernet2Header → Ethernet2Value
 ethernet2_view h = record { destination = number h.destination; source = number h.source; ether_type = h.ether_type.0 }
 
--- the header whose fields stand in a list of at least fourteen bytes
+-- the header in a list of at least fourteen bytes
 abbrev pub ethernet2_header_of : List ℕ → Ethernet2Header
 ethernet2_header_of bytes = record { source = slice_range bytes 6 12; destination = slice_range bytes 0 6; ether_type = record { 0 = number (slice_range bytes 12 14) } }
 

@@ -44,7 +44,7 @@ sec_tag_view h = record {
   sci = h.sci;
 }
 
--- the short length that names a payload of n bytes: with the ether type's two where that can be read, and 0 above 63
+-- the short length that names a payload of n bytes: with the ether type's two if that can be read, and 0 above 63
 abbrev pub short_len_for : PayloadType → ℕ → ℕ
 short_len_for (payloads.Unmodified ether_type) n = if nat_lt n 62 then n + 2 else 0
 short_len_for _ n = if nat_lt n 64 then n else 0
@@ -64,7 +64,7 @@ tag_in bytes = slice_range bytes 0 (sec_tag_len (sec_tag_front_in bytes))
 abbrev pub IsUnmodified : SecTagFront → Type 0
 IsUnmodified front = (front.encrypted ≡ 0) × (front.changed ≡ 0)
 
--- the answer of a row as an error, which counts from the slice's start
+-- a row as an error, which counts from the slice's start
 abbrev pub IsRow : HeaderSliceError HeaderError → Refusal → Type 0
 IsRow (Len e) r = (r ≡ Length e.required_len e.len e.len_source e.layer) × (e.layer_start_offset ≡ 0)
 IsRow (Content contents.UnexpectedVersion) r = r ≡ UnexpectedVersion
@@ -107,7 +107,7 @@ payload_source (Some p) = sources.MacsecShortLength
 abbrev pub payload_in : SecTagFront → List ℕ → List ℕ
 payload_in front bytes = slice_range bytes (sec_tag_len front) (payload_end_after front (length bytes))
 
--- a payload with its type exactly where E and C are 0
+-- a payload with its type exactly if E and C are 0
 abbrev pub HoldsTyped : MacsecPayloadSlice → Option ℕ → LenSource → List ℕ → Type 0
 HoldsTyped (kept.Unmodified p) (Some ether_type) source bytes = (p.ether_type.0 ≡ ether_type) × (p.len_source ≡ source) × (p.payload.now ≡ bytes)
 HoldsTyped (kept.Modified p) None source bytes = p.now ≡ bytes
@@ -116,7 +116,7 @@ HoldsTyped _ _ source bytes = ⊥
 abbrev pub HoldsPayload : MacsecPayloadSlice → SecTagFront → List ℕ → Type 0
 HoldsPayload p front bytes = HoldsTyped p (readable_type (sec_tag_of bytes).payload_type) (payload_source (known_payload_len front)) (payload_in front bytes)
 
--- the payload with its type, where it is neither encrypted nor changed
+-- the payload with its type, if it is neither encrypted nor changed
 abbrev pub readable_payload : MacsecPayloadSlice → Option EtherPayloadSlice
 readable_payload (kept.Unmodified p) = Some p
 readable_payload (kept.Modified p) = None

@@ -36,7 +36,7 @@ pub fn source(bytes: &[u8]) -> [u8; 6]
     address_at(bytes, SOURCE)
 }
 
-/// The ether type (IEEE 802.3, 3.2.6), a length where it is below 0x0600.
+/// The ether type (IEEE 802.3, 3.2.6), a length if it is below 0x0600.
 pub fn ether_type(bytes: &[u8]) -> EtherType
     requires { 14 ≤ length bytes.now }
     ensures { result.0 ≡ (ethernet2_of bytes.now).ether_type }

@@ -26,7 +26,7 @@ use ether_base::{EtherType, write_front};
 /// ```
 ///
 /// Where a frame carries a length in the place of the type, which is below 0x0600 (802.3, 3.2.6), `ether_type` is that
-/// length: it is handed on as it stands.
+/// length: it is passed through unchanged.
 ///
 /// ```
 /// let header = Ethernet2Header {

@@ -22,7 +22,7 @@ use std::marker::Model;
 
 /// A view of an Ethernet II header, which borrows its 14 bytes from a packet.
 ///
-/// Two views are equal if their bytes are, wherever these stand.
+/// Two views are equal if their bytes are, wherever these are.
 ///
 /// ```
 /// let bytes = [

@@ -1,7 +1,7 @@
 //! The fields of a MACsec SecTag in bytes that begin with one (IEEE 802.1AE, 9.3). Byte 0 is the TCI (9.5) with the bits V,
 //! ES, SC, SCB, E and C, and the association number (2 bits, 9.6). Byte 1 is two reserved bits and the short length (6 bits,
-//! 9.7). The packet number (4 bytes, 9.8) follows, then the SCI (8 bytes, 9.9) where SC is set, and then the ether type of
-//! the user data where E and C are clear.
+//! 9.7). The packet number (4 bytes, 9.8) follows, then the SCI (8 bytes, 9.9) if SC is set, and then the ether type of
+//! the user data if E and C are clear.
 ghost use Rattle.std.specs.Prelude.{◌≡◌, ◌↔◌, ◌≤◌, ◌<◌, ◌+◌, ◌*◌, ◌/◌, ◌%◌, ◌^◌, IsTrue, length, slice_index, slice_range};
 ghost use Rattle.ether_base.specs.Bytes.{bit, number};
 ghost use Rattle.ether_base.specs.Formats.Macsec.{known_payload_len, sec_tag_front_in, sec_tag_len, sec_tag_of, known_len};
@@ -22,7 +22,7 @@ const SHORT_LENGTH: usize = 1;
 /// The bytes of the packet number.
 const PACKET_NUMBER: Range<usize> = 2..6;
 
-/// The bytes of the SCI, where the tag has one.
+/// The bytes of the SCI, if the tag has one.
 const SCI: Range<usize> = 6..14;
 
 /// The bit of the version in the first byte.
@@ -67,7 +67,7 @@ pub fn endstation_id(bytes: &[u8]) -> bool
     is_set(bytes, ES)
 }
 
-/// Whether the bit SC is set: an SCI stands in the tag.
+/// Whether the bit SC is set: the tag has an SCI.
 pub fn sci_present(bytes: &[u8]) -> bool
     requires { 2 ≤ length bytes.now }
     ensures { bit result ≡ (sec_tag_front_in bytes.now).sci_present }
@@ -123,7 +123,7 @@ pub fn packet_nr(bytes: &[u8]) -> u32
     u32_at(bytes, PACKET_NUMBER)
 }
 
-/// The secure channel identifier SCI, where SC is set.
+/// The secure channel identifier SCI, if SC is set.
 pub fn sci(bytes: &[u8]) -> Option<u64>
     requires { sec_tag_len (sec_tag_front_in bytes.now) ≤ length bytes.now }
     ensures { result ≡ (sec_tag_of bytes.now).sci }
@@ -135,8 +135,8 @@ pub fn sci(bytes: &[u8]) -> Option<u64>
     }
 }
 
-/// Whether the user data is encrypted and changed, and its ether type where neither is. The bytes are those of the tag
-/// alone, so an ether type stands at their end.
+/// Whether the user data is encrypted and changed, and its ether type if neither is. The bytes are those of the tag
+/// alone, so an ether type is at their end.
 pub fn ptype(bytes: &[u8]) -> MacsecPType
     requires { length bytes.now ≡ sec_tag_len (sec_tag_front_in bytes.now) }
     ensures { payload_type_view result ≡ (sec_tag_of bytes.now).payload_type }

@@ -19,8 +19,8 @@ use ether_base::{EtherType, MacsecAn, MacsecShortLen};
 /// A MACsec SecTag (IEEE 802.1AE, 9.3), 6 to 16 bytes on the wire.
 ///
 /// The standard counts the MACsec ether type 0x88E5 as the first two bytes of a SecTag. It is the `ether_type` of the
-/// layer before here, and the tag begins after it. The ether type of the payload counts as the tag's end where it can
-/// be read, which is where the bits E and C are clear:
+/// layer before here, and the tag begins after it. The ether type of the payload counts as the tag's end if it can
+/// be read, which is so if the bits E and C are clear:
 ///
 /// ```text
 /// byte 0        1              2                6                     6 or 14

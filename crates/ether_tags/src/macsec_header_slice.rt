@@ -16,7 +16,7 @@ use ether_base::{EtherType, LenSource, MacsecAn, MacsecShortLen};
 
 /// A view of a MACsec SecTag, which borrows its 6 to 16 bytes from a packet ([`MacsecHeader`] has a picture of them).
 ///
-/// Two views are equal if their bytes are, wherever these stand.
+/// Two views are equal if their bytes are, wherever these are.
 ///
 /// ```
 /// let bytes = [0x53, 0x2A, 0x01, 0x02, 0x03, 0x04, 0x08, 0x00, 0x45];

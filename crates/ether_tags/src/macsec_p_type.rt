@@ -12,7 +12,7 @@ use ether_base::EtherType;
 /// ```
 #[derive(Clone, Copy, PartialEq, Eq, Hash, Debug)]
 pub enum MacsecPType {
-    /// E and C are clear: the payload is as it was before MACsec, and its ether type stands at the end of the tag.
+    /// E and C are clear: the payload is as it was before MACsec, and its ether type is at the end of the tag.
     Unmodified(EtherType),
     /// Only C is set: changed, though not encrypted.
     Modified,

@@ -111,7 +111,7 @@ fn end_within(
     Ok((end, LenSource::MacsecShortLength))
 }
 
-/// A payload with its type where that can be read.
+/// A payload with its type if that can be read.
 fn payload_of<'a>(
     ether_type: Option<EtherType>,
     len_source: LenSource,

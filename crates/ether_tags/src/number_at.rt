@@ -1,4 +1,4 @@
-//! The number that stands at a place of a slice.
+//! The number at a place of a slice.
 ghost use Rattle.std.specs.Prelude.{◌≡◌, ◌+◌, ◌≤◌, length, slice_range};
 ghost use Rattle.ether_base.specs.Bytes.{number};
 

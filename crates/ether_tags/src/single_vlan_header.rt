@@ -18,7 +18,7 @@ use ether_base::{EtherType, VlanId, VlanPcp};
 /// A VLAN tag (IEEE 802.1Q, 9.4): the tag control information (TCI) and the *next* ether type, 4 bytes on the wire.
 ///
 /// The standard counts the tag protocol identifier (TPID), such as 0x8100, as the first two bytes of a tag. In a frame
-/// it stands where the layer before has its ether type, so it is that layer's `ether_type` here, and the tag begins
+/// it is at the place of the ether type of the layer before, so it is that layer's `ether_type` here, and the tag begins
 /// after it:
 ///
 /// ```text
@@ -34,7 +34,7 @@ use ether_base::{EtherType, VlanId, VlanPcp};
 ///                     +---------+-----+--------------+
 /// ```
 ///
-/// A next ether type below 0x0600 is the length of IEEE 802.3 data, and is handed on as it stands.
+/// A next ether type below 0x0600 is the length of IEEE 802.3 data, and is passed through unchanged.
 ///
 /// ```
 /// let mut tag = SingleVlanHeader::from_bytes([0xB1, 0x23, 0x08, 0x00]);

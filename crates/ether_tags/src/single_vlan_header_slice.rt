@@ -23,7 +23,7 @@ use std::marker::Model;
 /// A view of a VLAN tag, which borrows the 4 bytes of its TCI and the next ether type from a packet
 /// ([`SingleVlanHeader`] has a picture of them).
 ///
-/// Two views are equal if their bytes are, wherever these stand.
+/// Two views are equal if their bytes are, wherever these are.
 ///
 /// ```
 /// let tag = SingleVlanHeaderSlice::from_slice(&[0xB1, 0x23, 0x08, 0x00, 0x45])?;

@@ -24,7 +24,7 @@ use std::marker::Model;
 /// A view of a VLAN tag and its payload, which borrows the bytes from the tag's TCI on
 /// ([`SingleVlanHeader`] has a picture of them).
 ///
-/// Two views are equal if their bytes are, wherever these stand.
+/// Two views are equal if their bytes are, wherever these are.
 ///
 /// ```
 /// let tag = SingleVlanSlice::from_slice(&[0xB1, 0x23, 0x08, 0x00, 0x45])?;

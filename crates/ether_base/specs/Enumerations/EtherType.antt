@@ -22,6 +22,6 @@ abbrev pub shown : List ℕ → Option (List ℕ) → List ℕ
 shown digits None = digits
 shown digits (Some description) = described digits description
 
--- an ether type as it is shown: its hexadecimal digits, with the description where there is one
+-- an ether type as it is shown: its hexadecimal digits, with the description if there is one
 abbrev pub shown_ether_type : ℕ → List ℕ
 shown_ether_type number = shown (hex_number number) (ether_type_description number)

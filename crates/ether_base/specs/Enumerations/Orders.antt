@@ -15,7 +15,7 @@ use Rattle.ether_base.specs.Enumerations.ValueType.{value_type_place}
 use Rattle.ether_base.specs.Enumerations.LenSource.{len_source_place}
 use Rattle.ether_base.specs.Formats.LinuxSllProtocolType.{protocol_place, protocol_number}
 
--- what `cmp` answers of two values
+-- what `cmp` returns of two values
 abbrev pub layer_cmp : Layer → Layer → Ordering
 layer_cmp = (layer.ghosts).cmp
 

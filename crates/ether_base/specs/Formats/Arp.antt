@@ -56,7 +56,7 @@ arp_front_of a = record {
 abbrev pub bytes_at : List ℕ → ℕ → ℕ → List ℕ
 bytes_at bytes at n = slice_range bytes at (at + n)
 
--- The bytes of a packet mean a value: after the first eight stand the four addresses.
+-- The bytes of a packet mean a value: after the first eight come the four addresses.
 pub record IsArp (bytes : List ℕ) (a : ArpValue) : Type 0 where
   pub front : BeginsArp bytes (arp_front_of a)
   pub sender_hardware : bytes_at bytes 8 (length a.sender_hardware) ≡ a.sender_hardware
@@ -64,7 +64,7 @@ pub record IsArp (bytes : List ℕ) (a : ArpValue) : Type 0 where
   pub target_hardware : bytes_at bytes (8 + length a.sender_hardware + length a.sender_protocol) (length a.sender_hardware) ≡ a.target_hardware
   pub target_protocol : bytes_at bytes (8 + 2 * length a.sender_hardware + length a.sender_protocol) (length a.sender_protocol) ≡ a.target_protocol
 
--- the addresses are bytes, and those of a kind are of one length, which a byte can tell
+-- the addresses are bytes, and those of a kind are of one length, which fits a byte
 pub record FitsArp (a : ArpValue) : Type 0 where
   pub front : FitsArpFront (arp_front_of a)
   pub hardware : length a.target_hardware ≡ length a.sender_hardware
@@ -78,9 +78,9 @@ pub record FitsArp (a : ArpValue) : Type 0 where
 abbrev pub arp_bytes : ArpValue → List ℕ
 arp_bytes a = spelled 8 (arp_front_number (arp_front_of a)) ++ a.sender_hardware ++ a.sender_protocol ++ a.target_hardware ++ a.target_protocol
 
--- ---- what stands in a list
+-- ---- reading
 
--- the front that stands in a list of at least eight bytes
+-- the front in a list of at least eight bytes
 abbrev pub arp_front_in : List ℕ → ArpFront
 arp_front_in bytes = record {
   hardware_type = number (slice_range bytes 0 2);
@@ -102,6 +102,6 @@ arp_with front bytes = record {
   target_protocol = bytes_at bytes (8 + 2 * front.hardware_size + front.protocol_size) front.protocol_size;
 }
 
--- the packet that stands in a list of at least as many bytes as its front tells
+-- the packet in a list that is at least as long as its front says
 abbrev pub arp_of : List ℕ → ArpValue
 arp_of bytes = arp_with (arp_front_in bytes) bytes

@@ -25,7 +25,7 @@ pub record IsEthernet2 (bytes : List ℕ) (e : Ethernet2Value) : Type 0 where
 abbrev pub ethernet2_bytes : Ethernet2Value → List ℕ
 ethernet2_bytes e = spelled 14 (ethernet2_number e)
 
--- the value that stands in a list of at least fourteen bytes
+-- the value in a list of at least fourteen bytes
 abbrev pub ethernet2_of : List ℕ → Ethernet2Value
 ethernet2_of bytes = record {
   destination = number (slice_range bytes 0 6);

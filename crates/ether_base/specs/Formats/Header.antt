@@ -34,7 +34,7 @@ header_len (Vlan v) = 4
 header_len (Macsec t) = sec_tag_len (sec_tag_front_of 0 0 t)
 header_len (Arp a) = arp_len (arp_front_of a)
 
--- the payload's length, where the header names it
+-- the payload's length, if the header names it
 abbrev pub payload_len : Header → Option ℕ
 payload_len (Macsec t) = known_payload_len (sec_tag_front_of 0 0 t)
 payload_len _ = None
@@ -44,7 +44,7 @@ abbrev pub trailer_len : Header → ℕ
 trailer_len (Ethernet2Fcs e) = 4
 trailer_len _ = 0
 
--- the bytes of a unit: its header's, and with them its payload's where the header names their number
+-- the bytes of a unit: its header's, and with them its payload's if the header names their number
 abbrev pub unit_len : Header → ℕ
 unit_len h = header_len h + unwrap_or (payload_len h) 0
 

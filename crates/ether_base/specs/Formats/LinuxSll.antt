@@ -33,7 +33,7 @@ BeginsLinuxSll bytes s = IsLinuxSll (slice_range bytes 0 16) s
 abbrev pub linux_sll_bytes : LinuxSllValue → List ℕ
 linux_sll_bytes s = spelled 16 (linux_sll_number s)
 
--- the value that stands in a list of at least sixteen bytes
+-- the value in a list of at least sixteen bytes
 abbrev pub linux_sll_of : List ℕ → LinuxSllValue
 linux_sll_of bytes = record {
   packet_type = number (slice_range bytes 0 2);

@@ -1,4 +1,4 @@
--- The MACsec SecTag (IEEE 802.1AE, 9.3) without its own ether type, with the ether type that follows it where that can be read.
+-- The MACsec SecTag (IEEE 802.1AE, 9.3) without its own ether type, with the ether type that follows it if that can be read.
 use Rattle.std.specs.Prelude.{◌≡◌, ℕ, zero, suc, ◌+◌, ◌*◌, ◌/◌, ◌%◌, ◌^◌, ◌<◌, ◌-◌, ◌||◌, nat_eq, nat_lt, if◌then◌else◌, List, [], ◌++◌, slice_range, Option, Some, None}
 use Rattle.ether_base.specs.Bytes.{number, spelled}
 
@@ -37,7 +37,7 @@ pub record BeginsSecTag (bytes : List ℕ) (t : SecTagFront) : Type 0 where
 
 -- ---- lengths
 
--- the bytes of the ether type, which can be read exactly where E and C are 0
+-- the bytes of the ether type, which can be read exactly if E and C are 0
 abbrev pub ether_type_len : ℕ → ℕ → ℕ
 ether_type_len zero zero = 2
 ether_type_len _ _ = 0
@@ -142,14 +142,14 @@ sec_tag_front_at n = record {
 abbrev pub sec_tag_front_in : List ℕ → SecTagFront
 sec_tag_front_in bytes = sec_tag_front_at (number (slice_range bytes 0 2))
 
--- the payload type that E and C tell, of a tag with this ether type after it where one can be read
+-- the payload type by E and C, of a tag with this ether type after it if one can be read
 abbrev pub payload_type_for : (encrypted changed ether_type : ℕ) → PayloadType
 payload_type_for zero zero ether_type = Unmodified ether_type
 payload_type_for zero (suc changed) ether_type = Modified
 payload_type_for (suc encrypted) zero ether_type = EncryptedUnmodified
 payload_type_for (suc encrypted) (suc changed) ether_type = Encrypted
 
--- the SCI where SC is 1
+-- the SCI if SC is 1
 abbrev pub sci_for : (sci_present sci : ℕ) → Option ℕ
 sci_for zero sci = None
 sci_for (suc present) sci = Some sci
@@ -166,7 +166,7 @@ sec_tag_with front bytes = let at = 6 + 8 * front.sci_present in record {
   sci = sci_for front.sci_present (number (slice_range bytes 6 14));
 }
 
--- the value in a list of at least as many bytes as its front tells
+-- the value in a list that is at least as long as its front says
 abbrev pub sec_tag_of : List ℕ → SecTagValue
 sec_tag_of bytes = sec_tag_with (sec_tag_front_in bytes) bytes
 

@@ -1,4 +1,4 @@
--- The table of refusals: what stands in the bytes where a unit of a kind is refused, and the answer.
+-- The table of refusals: the bytes for which a unit of a kind is refused, and the error.
 use Rattle.std.specs.Prelude.{◌≡◌, ℕ, ◌+◌, ◌<◌, ◌≤◌, List, length, Some, false}
 use Rattle.ether_base.specs.declared.len_source.LenSource.{LenSource}
 use Rattle.ether_base.specs.declared.len_source.LenSource.TheVariants as sources

@@ -38,7 +38,7 @@ pub record IsVlan (bytes : List ℕ) (v : VlanValue) : Type 0 where
 abbrev pub vlan_bytes : VlanValue → List ℕ
 vlan_bytes v = spelled 4 (vlan_number v)
 
--- the value that stands in a list of at least four bytes
+-- the value in a list of at least four bytes
 abbrev pub vlan_of : List ℕ → VlanValue
 vlan_of bytes = let control = number (slice_range bytes 0 2) in record {
   pcp = control / 2 ^ 13;

@@ -23,7 +23,7 @@ use std::fmt;
 /// ```
 #[derive(Clone, PartialEq, Eq, Hash, Debug, Drop)]
 pub struct LenError {
-    /// The length that is required; where `len` is no smaller, the greatest length that is allowed.
+    /// The length that is required; if `len` is no smaller, the greatest length that is allowed.
     pub required_len: usize,
     /// The length that is available, from the start of the layer.
     pub len: usize,

@@ -1,4 +1,4 @@
-//! What the constants stand for: row by row the numbers of their tables, and the ends of the ranges.
+//! The values of the constants: row by row the numbers of their tables, and the ends of the ranges.
 ghost use Rattle.std.specs.Prelude.{◌≡◌, map, [], ◌∷◌};
 ghost use Rattle.ether_base.specs.Enumerations.ArpHardwareId.{assigned_descriptions, device_descriptions, link_descriptions};
 ghost use Rattle.ether_base.specs.Enumerations.EtherType.{ether_type_descriptions};
