@@ -59,8 +59,12 @@ impl<'a> MacsecSlice<'a> {
     {
         let header = MacsecHeaderSlice::from_slice(slice)?;
         let start = header.header_len();
-        let (end, len_source) = end_within(&header, slice.len())?;
-        let payload = payload_of(header.next_ether_type(), len_source, &slice[start..end]);
+        let end = end_within(&header, slice.len())?;
+        let payload = payload_of(
+            header.next_ether_type(),
+            source_of(&header),
+            &slice[start..end],
+        );
         Ok(MacsecSlice { header, payload })
     }
 
@@ -82,22 +86,17 @@ impl<'a> MacsecSlice<'a> {
     }
 }
 
-/// Where the payload after a tag ends, and what gives its length: it ends after the length that the tag names, otherwise
-/// with the slice. An error if the slice ends before. The short length counts the ether type, so the end needs neither E
-/// nor C.
-fn end_within(
-    header: &MacsecHeaderSlice<'_>,
-    slice_len: usize,
-) -> Result<(usize, LenSource), HeaderSliceError>
-    ensures end { IfOk result (λ payload. payload.0 ≡ payload_end_after (tag_front header.now) slice_len) }
-    ensures source { IfOk result (λ payload. payload.1 ≡ payload_source (known_payload_len (tag_front header.now))) }
-    ensures within { IfOk result (λ payload. payload.0 ≤ slice_len) }
+/// Where the payload after a tag ends: after the length that the tag gives, otherwise with the slice. An error if the slice
+/// ends before. The short length counts the ether type, so the end needs neither E nor C.
+fn end_within(header: &MacsecHeaderSlice<'_>, slice_len: usize) -> Result<usize, HeaderSliceError>
+    ensures end { IfOk result (λ end. end ≡ payload_end_after (tag_front header.now) slice_len) }
+    ensures within { IfOk result (λ end. end ≤ slice_len) }
     ensures refused { IfErr result (λ e. e ≡ cut_payload (payload_end_after (tag_front header.now) slice_len) slice_len) }
     ensures cut { IfErr result (λ _. slice_len < payload_end_after (tag_front header.now) slice_len) }
 {
     let named = usize::from(header.short_len().value());
     if named == 0 {
-        return Ok((slice_len, LenSource::Slice));
+        return Ok(slice_len);
     }
     let end = macsec_fields::tag_len(header.sci_present(), false) + named;
     if slice_len < end {
@@ -108,7 +107,17 @@ fn end_within(
             Layer::MacsecPacket,
         )));
     }
-    Ok((end, LenSource::MacsecShortLength))
+    Ok(end)
+}
+
+/// What gives the length of the payload after a tag.
+fn source_of(header: &MacsecHeaderSlice<'_>) -> LenSource
+    ensures { result ≡ payload_source (known_payload_len (tag_front header.now)) }
+{
+    match header.short_len().value() {
+        0 => LenSource::Slice,
+        _ => LenSource::MacsecShortLength,
+    }
 }
 
 /// A payload with its type if that can be read.

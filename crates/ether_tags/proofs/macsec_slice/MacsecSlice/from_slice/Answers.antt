@@ -52,6 +52,6 @@ returns-clause-payload c =
     let finish = p.finish_is ∙ ap (λ (o : Option ℕ). payload_end o (sec_tag_len (sec_tag_front_in bytes)) (length bytes)) p.known_is in
     let tag : sec_tag_of (tag_bytes c.in_ok-header.header) ≡ sec_tag_of bytes = tag_unique bytes (sec_tag_of (tag_bytes c.in_ok-header.header)) (sec_tag_of bytes) h.value (sec_tag_means bytes ok (omega (arith, h.whole)) h.whole) in
     let type = c.next_ether_type.ensures ∙ ap (λ (t : SecTagValue). readable_type t.payload_type) tag in
-    let source = c.in_ok-end.ensures.source ∙ ap payload_source p.known_is in
+    let source = c.source_of.ensures ∙ ap payload_source p.known_is in
     let window = ap (λ (n : ℕ). slice_range bytes n c.in_ok-end.end) (c.header_len-start.ensures.tag ∙ p.start_is) ∙ ap (slice_range bytes (sec_tag_len (sec_tag_front_in bytes))) finish in
     holds_same c.payload_of-payload.result _ _ _ _ _ _ type source window c.payload_of-payload.ensures
