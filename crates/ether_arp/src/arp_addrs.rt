@@ -1,6 +1,6 @@
 //! The four addresses of a packet in one list, in the order of the wire.
 ghost use Rattle.std.specs.Prelude.{◌≡◌, ◌+◌, ◌*◌, ◌≤◌, ◌++◌, length, take, drop, slice_range};
-ghost use Rattle.ether_base.specs.Bytes.{IsBytes};
+ghost use Rattle.ether_base.specs.Bytes.{IsBytes, overwritten};
 
 use arrayvec::ArrayVec;
 
@@ -8,7 +8,7 @@ use arrayvec::ArrayVec;
 const ROOM: [u8; 510] = [0; 510];
 
 /// Appends bytes.
-pub fn put<const N: usize>(bytes: &mut ArrayVec<u8, N>, part: &[u8])
+pub fn append<const N: usize>(bytes: &mut ArrayVec<u8, N>, part: &[u8])
     requires { length bytes.old.items + length part.now ≤ N }
     ensures items { bytes.new.items ≡ bytes.old.items ++ part.now }
     ensures len { length bytes.new.items ≡ length bytes.old.items + length part.now }
@@ -56,7 +56,7 @@ fn make_room(addrs: &mut ArrayVec<u8, 1020>, start: usize, size: usize, between:
     let (rest, new_rest) = (middle + between + size, new_middle + between + len);
     let rest_len = end - rest;
     if len > size {
-        put(addrs, &ROOM[..2 * (len - size)]);
+        append(addrs, &ROOM[..2 * (len - size)]);
         shift(addrs, rest, rest_len, new_rest);
         shift(addrs, middle, between, new_middle);
     } else if len < size {
@@ -78,7 +78,7 @@ fn shift(addrs: &mut ArrayVec<u8, 1020>, from: usize, len: usize, to: usize)
 /// Writes over the bytes from a place on.
 fn write(addrs: &mut ArrayVec<u8, 1020>, at: usize, part: &[u8])
     requires { at + length part.now ≤ length addrs.old.items }
-    ensures { addrs.new.items ≡ take at addrs.old.items ++ part.now ++ drop (at + length part.now) addrs.old.items }
+    ensures { addrs.new.items ≡ overwritten addrs.old.items at part.now }
 {
     addrs.as_mut_slice()[at..at + part.len()].copy_from_slice(part);
 }

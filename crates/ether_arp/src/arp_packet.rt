@@ -147,10 +147,10 @@ impl ArpPacket {
         ensures { result ≡ record { hardware_type = hw_addr_type.0; protocol_type = proto_addr_type.0; operation = operation.0; sender_hardware = sender_hw_addr.now; sender_protocol = sender_protocol_addr.now; target_hardware = target_hw_addr.now; target_protocol = target_protocol_addr.now } }
     {
         let mut addrs = ArrayVec::new();
-        arp_addrs::put(&mut addrs, sender_hw_addr);
-        arp_addrs::put(&mut addrs, sender_protocol_addr);
-        arp_addrs::put(&mut addrs, target_hw_addr);
-        arp_addrs::put(&mut addrs, target_protocol_addr);
+        arp_addrs::append(&mut addrs, sender_hw_addr);
+        arp_addrs::append(&mut addrs, sender_protocol_addr);
+        arp_addrs::append(&mut addrs, target_hw_addr);
+        arp_addrs::append(&mut addrs, target_protocol_addr);
         ArpPacket {
             hw_addr_type,
             proto_addr_type,
@@ -174,7 +174,7 @@ impl ArpPacket {
         ensures { result ≡ record { hardware_type = hw_addr_type.0; protocol_type = proto_addr_type.0; operation = operation.0; sender_hardware = slice_range addrs.now 0 hw_addr_size; sender_protocol = slice_range addrs.now hw_addr_size (hw_addr_size + protocol_addr_size); target_hardware = slice_range addrs.now (hw_addr_size + protocol_addr_size) (2 * hw_addr_size + protocol_addr_size); target_protocol = slice_range addrs.now (2 * hw_addr_size + protocol_addr_size) (2 * hw_addr_size + 2 * protocol_addr_size) } }
     {
         let mut list = ArrayVec::new();
-        arp_addrs::put(&mut list, addrs);
+        arp_addrs::append(&mut list, addrs);
         ArpPacket {
             hw_addr_type,
             proto_addr_type,
@@ -338,8 +338,8 @@ impl ArpPacket {
         ensures fits { FitsArp self.now }
     {
         let mut bytes = ArrayVec::new();
-        arp_addrs::put(&mut bytes, &self.front());
-        arp_addrs::put(&mut bytes, self.addrs.as_slice());
+        arp_addrs::append(&mut bytes, &self.front());
+        arp_addrs::append(&mut bytes, self.addrs.as_slice());
         bytes
     }
 

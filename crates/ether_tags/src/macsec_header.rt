@@ -182,13 +182,13 @@ impl MacsecHeader {
         ensures fits { FitsSecTag (sec_tag_view self.now) }
     {
         let mut bytes = ArrayVec::new();
-        put(&mut bytes, bytes_of_u16(self.front()));
-        put(&mut bytes, bytes_of_u32(self.packet_nr));
+        append(&mut bytes, bytes_of_u16(self.front()));
+        append(&mut bytes, bytes_of_u32(self.packet_nr));
         if let Some(sci) = self.sci {
-            put(&mut bytes, bytes_of_u64(sci));
+            append(&mut bytes, bytes_of_u64(sci));
         }
         if let Some(ether_type) = self.next_ether_type() {
-            put(&mut bytes, bytes_of_u16(ether_type.0));
+            append(&mut bytes, bytes_of_u16(ether_type.0));
         }
         bytes
     }
@@ -209,7 +209,7 @@ impl MacsecHeader {
 }
 
 /// Appends the bytes of a number.
-fn put<const N: usize>(tag: &mut ArrayVec<u8, 16>, number: [u8; N])
+fn append<const N: usize>(tag: &mut ArrayVec<u8, 16>, number: [u8; N])
     requires { length tag.old.items + N ≤ 16 }
     ensures items { tag.new.items ≡ tag.old.items ++ number.entry }
     ensures len { length tag.new.items ≡ length tag.old.items + N }

@@ -6,7 +6,7 @@ pub Appends-none : (known : Option (List ℕ)) → Appends known known []
 Appends-none None = tt
 Appends-none (Some xs) = sym (append-nil xs)
 
--- where no text waits
+-- if no text waits
 pub append_known_nil : (known : Option (List ℕ)) → append_known known [] ≡ known
 append_known_nil None = refl
 append_known_nil (Some xs) = ap Some (append-nil xs)

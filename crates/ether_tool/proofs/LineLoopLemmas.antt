@@ -132,7 +132,7 @@ module _ {W : Type 0} (command : Command) (contents : W → Option (List ℕ)) w
         written = so_far.written;
       }
 
-  -- the last piece of a line and its LF, where the line is answered
+  -- the last piece of a line and its LF, if the line is answered
   pub Advances-line : (old new : LineLoop) (from to : OutputBuffer W) (piece : List ℕ) → HasNoLineFeed piece
       → ((line : List ℕ) → KeepsLine old.line line → JudgesLine command contents (without_end LineFeed (line ++ piece)) old from new to)
       → Advances command contents old from (piece ++ 10 ∷ []) new to
@@ -162,7 +162,7 @@ module _ {W : Type 0} (command : Command) (contents : W → Option (List ℕ)) w
             written = Appends-then held (contents_of contents from) (contents_of contents to) so_far.text judged.text so_far.written judged.written;
           }
 
-  -- the last piece of a line and its LF, where the line is bad
+  -- the last piece of a line and its LF, if the line is bad
   pub StopsWithin-line : (old : LineLoop) (from to : OutputBuffer W) (number : ℕ) (piece after later : List ℕ) → HasNoLineFeed piece
       → RefusesLine piece LineFeed old from to number → StopsWithin command contents old from (piece ++ 10 ∷ after) later to number
   StopsWithin-line old from to number piece after later none refuses = record { stops = stop }
@@ -197,7 +197,7 @@ module _ {W : Type 0} (command : Command) (contents : W → Option (List ℕ)) w
         (second.stops held (input ++ xs) (first.reached held input so_far));
   }
 
-  -- the end of the input, where no line is under way
+  -- the end of the input, if no line is under way
   pub Finishes-nothing : (at : LineLoop) (out : OutputBuffer W) → ((line : List ℕ) → KeepsLine at.line line → (length line == 0) ≡ true)
       → Finishes command contents at out out at.verdict
   Finishes-nothing at out empty = record { answered = all }
@@ -224,7 +224,7 @@ module _ {W : Type 0} (command : Command) (contents : W → Option (List ℕ)) w
       ∙ ap (λ (l : List ℕ). so_far.done ++ lines l) (append-nil so_far.line)
       ∙ ap (λ (ls : List (List ℕ)). so_far.done ++ ls) (lines-last so_far.line so_far.in_line some)
 
-  -- the end of the input, where it ends a line that is answered
+  -- the end of the input, if it ends a line that is answered
   pub Finishes-line : (old new : LineLoop) (from to : OutputBuffer W) → ((line : List ℕ) → KeepsLine old.line line → (length line == 0) ≡ false)
       → ((line : List ℕ) → KeepsLine old.line line → JudgesLine command contents (without_end InputEnd (line ++ [])) old from new to)
       → Finishes command contents old from to new.verdict
@@ -243,7 +243,7 @@ module _ {W : Type 0} (command : Command) (contents : W → Option (List ℕ)) w
             judged.is_verdict ∙ ap (λ (v : Verdict). verdict_with v judged.accepted) so_far.is_verdict ∙ verdict_with-verdict_of so_far.all_accepted judged.accepted,
           )
 
-  -- the end of the input, where it ends a bad line
+  -- the end of the input, if it ends a bad line
   pub StopsWithin-end : (old : LineLoop) (from to : OutputBuffer W) (number : ℕ) → ((line : List ℕ) → KeepsLine old.line line → (length line == 0) ≡ false)
       → RefusesLine [] InputEnd old from to number → StopsWithin command contents old from [] [] to number
   StopsWithin-end old from to number some refuses = record { stops = stop }

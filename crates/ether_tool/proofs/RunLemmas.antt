@@ -14,7 +14,7 @@ use Rattle.ether_tool.specs.declared.line_loop.LineLoop.{LineLoop}
 use Rattle.ether_tool.proofs.KnownBytesLemmas.{Consumes-then, Consumes-kept}
 use Rattle.ether_tool.proofs.LineLoopLemmas.{Reached-written_out}
 
--- what a reader has left, or nothing where that is unknown
+-- what a reader has left, or nothing if that is unknown
 IsLeft-left_of : (after : Option (List ℕ)) → IsLeft after (unwrap_or after [])
 IsLeft-left_of None = tt
 IsLeft-left_of (Some bytes) = refl

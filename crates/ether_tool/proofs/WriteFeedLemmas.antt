@@ -29,7 +29,7 @@ no_line (Accepted w x) is = (refl, refl)
 no_line (Fault w x r) is = absurd (cc)
 
 module _ {W : Type 0} (contents : W → Option (List ℕ)) (x : Expectation) (frame : List ℕ) where
-  -- what is written of a feed answers its frame
+  -- what is written of a feed is the text for its frame
   answered : (feed : Feed) (old new : OutputBuffer W) (accepted : Bool) (last : List ℕ) → (is : IsFeed x frame feed) → (last ≡ fault_line is.ending) × (accepted ≡ is_accepted is.ending)
       → Takes contents old ((feed_text feed.refusals feed.taken ++ codes "\n") ++ last) new → TakesAnswer contents (AnswersFeed x frame) old new accepted
   answered feed old new accepted last is ending taken = record {

@@ -31,7 +31,7 @@ use Rattle.ether_tool.specs.OutputBuffer.{Takes, TakesAnswer}
 use Rattle.ether_tool.specs.declared.output_buffer.OutputBuffer.{OutputBuffer}
 use Rattle.ether_tool.proofs.OutputBufferLemmas.{Takes-none, Takes-then}
 
--- ---- what a walker gives has the text of what stands there
+-- ---- what a walker gives has the text of what it faces
 
 -- the last four bytes of a window
 fcs_shown : (list : List ℕ) (w : Window) → IsIn list w → Accepts w.bound (within list w) kinds.Ethernet2Fcs

@@ -11,7 +11,7 @@ pub record KeepsLine (buffer : LineBuffer) (line : List ℕ) : Type 0 where
   pub short : buffer.is_long ≡ false → buffer.bytes.items ≡ line
   pub long : buffer.is_long ≡ true → max_line_digits + 1 < length line
 
--- a line without its end: where an LF ended it, one CR at its end is no part of it
+-- a line without its end: if an LF ended it, one CR at its end is no part of it
 abbrev pub without_end : LineEnd → List ℕ → List ℕ
 without_end LineFeed line = strip_carriage_return line
 without_end InputEnd line = line

@@ -78,7 +78,7 @@ unfoldable pub arp_text : ℕ → ArpValue → List ℕ
 arp_text start a =
     spaced (codes "arp" ∷ decimal start ∷ codes "hw" ∷ decimal a.hardware_type ∷ codes "proto" ∷ hex_number a.protocol_type ∷ codes "hlen" ∷ decimal (length a.sender_hardware) ∷ codes "plen" ∷ decimal (length a.sender_protocol) ∷ codes "op" ∷ decimal a.operation ∷ [])
 
--- a unit of the list, with the window in which it stands
+-- a unit of the list, with its window
 unfoldable pub unit_text : List ℕ → Window → Header → List ℕ
 unit_text list w (headers.Ethernet2 e) = ethernet2_text w.start e
 unit_text list w (headers.Ethernet2Fcs e) = ethernet2_fcs_text w.start e (slice_range list (w.finish - 4) w.finish)
@@ -132,7 +132,7 @@ fault_line (Fault w x r) = fault_text w r ++ codes "\n"
 
 -- ---- a frame
 
--- the lines of the units that stand one in another from a window on, and the line of the ending
+-- the lines of the units from a window on, each in the payload of the one before it, and the line of the ending
 unfoldable pub frame_text : List ℕ → Window → List Header → Ending → List ℕ
 frame_text list w [] e = ending_text e ++ codes "\n"
 frame_text list w (h ∷ hs) e = (unit_text list w h ++ codes "\n") ++ frame_text list (payload w h) hs e

@@ -3,7 +3,7 @@ use Rattle.std.specs.Prelude.{◌≡◌, ℕ, List, [], Option, Bool, false}
 use Rattle.std.specs.Io.KnownBytes.{Appends, append_known}
 use Rattle.ether_tool.specs.declared.output_buffer.OutputBuffer.{OutputBuffer}
 
--- the writer's contents, where they are known, followed by the text that waits
+-- the writer's contents, if they are known, followed by the text that waits
 abbrev pub contents_of : {W : Type 0} → (W → Option (List ℕ)) → OutputBuffer W → Option (List ℕ)
 contents_of contents g = append_known (contents g.writer.now) g.waiting.items
 
@@ -19,7 +19,7 @@ pub record WritesOut {W : Type 0} (contents : W → Option (List ℕ)) (old new 
   pub written : Appends (contents old.writer.now) (contents new.writer.now) old.waiting.items
   pub none_waits : new.waiting.items ≡ []
 
--- takes a text that answers a frame
+-- takes the text for a frame
 pub record TakesAnswer {W : Type 0} (contents : W → Option (List ℕ)) (IsAnswer : (text : List ℕ) → (accepted : Bool) → Type 0) (old new : OutputBuffer W) (accepted : Bool) : Type 0 where
   pub text : List ℕ
   pub answers : IsAnswer text accepted

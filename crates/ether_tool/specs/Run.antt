@@ -11,13 +11,13 @@ use Rattle.ether_tool.specs.declared.outcome.Verdict.TheVariants.{AllAccepted, S
 use Rattle.ether_tool.specs.declared.outcome.ToolFault.{ToolFault}
 use Rattle.ether_tool.specs.declared.outcome.ToolFault.TheVariants.{BadLine, Input, Output}
 
--- the line names a frame, and the text answers it
+-- the line names a frame, and this is the text for it
 pub record IsLineAnswered (command : Command) (line text : List ℕ) (accepted : Bool) : Type 0 where
   pub frame : List ℕ
   pub named : IsFrame line frame
   pub answered : Answers command frame text accepted
 
--- the text answers the lines in order, and all says that each of their frames is accepted
+-- this is the text for the lines in order, and all says that each of their frames is accepted
 abbrev pub AreAnswered : Command → List (List ℕ) → List ℕ → Bool → Type 0
 AreAnswered command [] text all = (text ≡ []) × (all ≡ true)
 AreAnswered command (line ∷ others) text all =
@@ -43,7 +43,7 @@ verdict_with SomeRefused accepted = SomeRefused
 abbrev pub number_after : ℕ → ℕ
 number_after count = min (count + 1) (2 ^ 64 - 1)
 
--- The line of this number is the first bad line of the input, and the text answers the lines before it.
+-- The line of this number is the first bad line of the input, and this is the text for the lines before it.
 pub record StopsAtLine (command : Command) (input : List ℕ) (number : ℕ) (text : List ℕ) : Type 0 where
   pub good : List (List ℕ)
   pub bad : List ℕ
@@ -54,7 +54,7 @@ pub record StopsAtLine (command : Command) (input : List ℕ) (number : ℕ) (te
   pub is_bad : IsBadLine bad
   pub is_number : number ≡ number_after (length good)
 
--- From before to after the reader gave all its bytes, and the writer took the text that answers their lines.
+-- From before to after the reader gave all its bytes, and the writer took the text for their lines.
 pub record AnswersInput (command : Command) (before after held holds : Option (List ℕ)) (verdict : Verdict) : Type 0 where
   pub input : List ℕ
   pub text : List ℕ
@@ -65,12 +65,12 @@ pub record AnswersInput (command : Command) (before after held holds : Option (L
   pub is_verdict : verdict ≡ verdict_of all_accepted
   pub written : Appends held holds text
 
--- these are the bytes that a reader has left, where they are known
+-- these are the bytes that a reader has left, if they are known
 abbrev pub IsLeft : Option (List ℕ) → List ℕ → Type 0
 IsLeft after bytes = IfSome after (λ known. bytes ≡ known)
 
 -- From before to after the reader gave some of its bytes. The line of this number is the first bad line of all of
--- them, and the writer took the text that answers the lines before it.
+-- them, and the writer took the text for the lines before it.
 pub record StopsInput (command : Command) (before after held holds : Option (List ℕ)) (number : ℕ) : Type 0 where
   pub taken : List ℕ
   pub left : List ℕ
@@ -81,7 +81,7 @@ pub record StopsInput (command : Command) (before after held holds : Option (Lis
   pub written : Appends held holds text
 
 -- From before to after the reader gave some of its bytes. In them these lines have ended, whatever follows, and the
--- writer took the text that answers them.
+-- writer took the text for them.
 pub record BreaksOff (command : Command) (before after held holds : Option (List ℕ)) : Type 0 where
   pub taken : List ℕ
   pub done : List (List ℕ)
@@ -121,7 +121,7 @@ OnStreamFault (BadLine number) P Q = ⊤
 OnStreamFault Input P Q = P
 OnStreamFault Output P Q = Q
 
--- where all lines are answered, or one is bad
+-- if all lines are answered, or one is bad
 abbrev pub IfSettled : Result Verdict ToolFault → Type 0 → Type 0
 IfSettled (Ok verdict) P = P
 IfSettled (Err fault) P = OnBadLine fault (λ number. P)

@@ -24,7 +24,7 @@ use Rattle.ether_tool.specs.Lines.{spaced, mark_text, source_text, ethernet2_tex
 
 -- ---- a unit
 
--- a header of Ethernet II, with the frame check sequence where there is one
+-- a header of Ethernet II, with the frame check sequence if there is one
 abbrev pub ethernet2_view_text : ℕ → Ethernet2Value → Option (List ℕ) → List ℕ
 ethernet2_view_text start e None = ethernet2_text start e
 ethernet2_view_text start e (Some fcs) = ethernet2_fcs_text start e fcs

@@ -1,4 +1,4 @@
--- The text that answers a frame.
+-- The text for a frame.
 use Rattle.std.specs.Prelude.{◌≡◌, ℕ, List, ◌++◌, length, take, codes, Bool}
 use Rattle.etherparse.specs.Kind as kinds
 use Rattle.etherparse.specs.Header.{Header}
@@ -41,11 +41,11 @@ pub record AnswersFeed (start : Expectation) (frame text : List ℕ) (accepted :
   pub lines : text ≡ (feed_text (length demands) (greatest demands) ++ codes "\n") ++ fault_line ending
   pub verdict : accepted ≡ is_accepted ending
 
--- what answers a frame in a mode, from what it begins with
+-- the text for a frame in a mode, from what it begins with
 abbrev pub AnswersFrom : Mode → Expectation → (frame text : List ℕ) → (accepted : Bool) → Type 0
 AnswersFrom modes.Feed start frame text accepted = AnswersFeed start frame text accepted
 AnswersFrom mode start frame text accepted = AnswersWalk start frame text accepted
 
--- what answers a frame by a command
+-- the text for a frame by a command
 abbrev pub Answers : Command → (frame text : List ℕ) → (accepted : Bool) → Type 0
 Answers command = AnswersFrom command.mode (start_of_command command)

@@ -107,7 +107,7 @@ impl LineBuffer {
 ghost use Rattle.std.specs.Prelude.{◌≡◌};
 ghost use Rattle.ether_tool.specs.LineBuffer.{without_end as line_without_end};
 
-/// The line without the one CR that may stand before the LF that ended it.
+/// The line without the one CR that may precede the LF that ended it.
 fn without_end(line: &[u8], end: LineEnd) -> &[u8]
     ensures { result.now ≡ line_without_end end line.now }
 {

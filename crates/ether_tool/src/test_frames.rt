@@ -11,20 +11,20 @@ pub const CAPTURED_IN_A_VLAN: [u8; 64] = [
     0xe5, 0xd1, 0x50, 0x10, 0x01, 0x00, 0x5a, 0x74, 0x00, 0x00, 0x00, 0x00, 0x00, 0x00, 0x00, 0x00,
 ];
 
-/// The line of a frame without tags, and its answer.
+/// The line of a frame without tags, and its output.
 pub const PLAIN: &[u8] = b"ffffffffffff0200000000010800";
 
 pub const PLAIN_ANSWER: &[u8] =
     b"ethernet2 0 ffffffffffff 020000000001 0x0800\nrest 14 14 type 0x0800\n";
 
-/// The line of a frame with one tag, and its answer.
+/// The line of a frame with one tag, and its output.
 pub const TAGGED: &[u8] = b"ffffffffffff0200000000018100b1230800";
 
 pub const TAGGED_ANSWER: &[u8] = b"ethernet2 0 ffffffffffff 020000000001 0x8100\n\
 vlan 14 pcp 5 dei 1 vid 291 0x0800\n\
 rest 18 18 type 0x0800\n";
 
-/// The line of the captured segment, and its answer.
+/// The line of the captured segment, and its output.
 pub const CAPTURED: &[u8] = b"0010dbff100000152c9dcc00810001f708004500\
 0028298d40007d0683a0ac1bca8e451694e2d40a0050dfab9cc6cd1ee5d1501001005a740000000000000000";
 
@@ -32,19 +32,19 @@ pub const CAPTURED_ANSWER: &[u8] = b"ethernet2 0 0010dbff1000 00152c9dcc00 0x810
 vlan 14 pcp 0 dei 0 vid 503 0x0800\n\
 rest 18 64 type 0x0800\n";
 
-/// The line of a frame with a SecTag, whose payload ends two bytes before the frame, and its answer when the walk is fed.
+/// The line of a frame with a SecTag, whose payload ends two bytes before the frame, and its output when the walk is fed.
 pub const SEC_TAGGED: &[u8] = b"ffffffffffff02000000000188e50006000000018100aabbccddeeee";
 
 pub const SEC_TAGGED_FED: &[u8] = b"feed refusals 4 taken 26\n";
 
-/// The line of an ARP request with the padding of Ethernet, and its answer when the walk is fed.
+/// The line of an ARP request with the padding of Ethernet, and its output when the walk is fed.
 pub const PADDED_REQUEST: &[u8] = b"ffffffffffff0200000000010806\
 00010800060400010200000000010a0000010000000000000a000002000000000000000000000000000000000000";
 
 pub const PADDED_REQUEST_FED: &[u8] = b"feed refusals 3 taken 42\n";
 
-/// The answer to an empty line.
+/// The output for an empty line.
 pub const EMPTY_ANSWER: &[u8] = b"fault 0 open length 14 0 slice\n";
 
-/// The answer to an empty line when the walk is fed.
+/// The output for an empty line when the walk is fed.
 pub const EMPTY_FED: &[u8] = b"feed refusals 0 taken 0\nfault 0 open length 14 0 slice\n";

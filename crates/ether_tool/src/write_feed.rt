@@ -1,4 +1,4 @@
-//! Writes the answer to a frame that a walk is fed.
+//! Writes the text for a frame that a walk is fed.
 ghost use Rattle.ether_tool.specs.OutputBuffer.{TakesAnswer};
 ghost use Rattle.ether_tool.specs.WalkText.{AnswersFeed};
 ghost use Rattle.ether_peel.specs.Walker.Feeding.{IsFeed};

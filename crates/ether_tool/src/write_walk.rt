@@ -1,4 +1,4 @@
-//! Writes the text that answers a frame: the lines of its walk, or those of feeding it.
+//! Writes the text for a frame: the lines of its walk, or those of feeding it.
 ghost use Rattle.std.specs.Prelude.{◌≡◌, ◌++◌, List, false};
 ghost use Rattle.ether_tool.specs.OutputBuffer.{TakesAnswer};
 ghost use Rattle.ether_tool.specs.WalkText.{start_of_mode, Answers, AnswersWalk};
@@ -15,7 +15,7 @@ use crate::write_lines::{write_fault, write_rest, write_unit};
 use ether_peel::{Peel, Start};
 use std::io::Write;
 
-/// Writes the lines that answer a frame, and returns whether the frame is accepted.
+/// Writes the lines for a frame, and returns whether the frame is accepted.
 ///
 /// Inlined into the loop over the lines, it would make the decoding of their digits slower.
 #[inline(never)]

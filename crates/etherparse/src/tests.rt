@@ -1,8 +1,8 @@
 //! Every public path once, as a user of the library writes it.
 mod arp;
-mod captures;
 mod errors;
 mod frames;
+mod linux_sll;
 mod numbers;
 
 ghost use Rattle.std.specs.Prelude.{◌≡◌};

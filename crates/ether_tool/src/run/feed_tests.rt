@@ -1,4 +1,4 @@
-//! Lines in the mode in which the walk is fed, and their answers.
+//! Lines in the mode in which the walk is fed, and their output.
 //!
 //! What is expected was counted by hand: the lengths that a reader of a stream has to ask for, header by header.
 use super::format_tests::answers;

@@ -1,4 +1,4 @@
-//! Frames of all formats, each as a line, and the lines that answer it.
+//! Frames of all formats, each as a line, and their output.
 //!
 //! What is expected was not taken from the tool: a separate script unpacked the fields in the order of the standards, and
 //! printed them. The captured frames are those of the libraries' tests; tshark shows the same fields of them.

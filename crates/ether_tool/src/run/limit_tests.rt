@@ -1,6 +1,6 @@
-//! Lines by commands with a limit on VLAN tags and SecTags, and their answers.
+//! Lines by commands with a limit on VLAN tags and SecTags, and their output.
 //!
-//! What is expected is the start of the answer without a limit, up to the last tag that is read, and the rest counted by hand.
+//! What is expected is the start of the output without a limit, up to the last tag that is read, and the rest counted by hand.
 use super::format_tests::answers;
 use super::*;
 use crate::test_frames::{PADDED_REQUEST, SEC_TAGGED};

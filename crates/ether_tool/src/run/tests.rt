@@ -118,7 +118,7 @@ impl Write for Sink {
     }
 }
 
-/// Counts how often it is given the same bytes, whole and nothing beside them.
+/// Counts how often it is given the same bytes, whole and nothing else.
 #[derive(Drop)]
 struct Counter<'a> {
     wanted: &'a [u8],
@@ -156,7 +156,7 @@ fault 0 open length 14 0 slice\n\
 ethernet2 0 ffffffffffff 020000000001 0x0800\n\
 rest 14 15 type 0x0800\n";
 
-/// Runs over memory, with no allocator in reach, and tells the outcome and what was written.
+/// Runs over memory, with no allocator in reach, and returns the outcome and what was written.
 fn over_memory(mut input: &[u8]) -> (Result<Verdict, ToolFault>, ArrayVec<u8, 32768>) {
     let mut output = ArrayVec::new();
     let outcome = run(Mode::Eth, &mut input, &mut output);
