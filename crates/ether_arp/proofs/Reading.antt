@@ -1,8 +1,7 @@
 -- The packet that bytes hold, read from their parts.
-use Rattle.std.proofs.Common.{◌≡◌, ℕ, ◌+◌, ◌-◌, ◌*◌, ◌<◌, ◌≤◌, List, length, take, sym, ap, subst, ◌∙◌, arith, inl, inr}
+use Rattle.std.proofs.Common.{◌≡◌, ℕ, ◌+◌, ◌*◌, ◌≤◌, List, length, sym, ap, subst, ◌∙◌, arith, inl, inr}
 use Rattle.std.specs.Prelude.{slice_range, slice_index}
 use Rattle.std.proofs.lemmas.Bool.{cases_lt}
-use Rattle.std.proofs.lemmas.List.{get_or-take}
 use Rattle.ether_base.specs.declared.len_source.LenSource.{LenSource}
 use Rattle.ether_base.specs.Formats.Arp.{ArpValue, ArpFront, BeginsArp, FitsArp, IsArp, arp_front_in, arp_front_of, arp_len, arp_of, arp_with, bytes_at}
 use Rattle.ether_base.specs.Bytes.{IsBytes, number}
@@ -12,7 +11,7 @@ use Rattle.ether_base.specs.Formats.Kind as kinds
 use Rattle.ether_base.specs.Formats.Refusal.{Accepts}
 use Rattle.ether_base.specs.Formats.Refusal as rows
 use Rattle.ether_base.proofs.ArrayElements.{cells-is}
-use Rattle.ether_base.proofs.SubLists.{length-part, part_of_front, IsBytes-part, number-part_below, number-part_join}
+use Rattle.ether_base.proofs.SubLists.{index_of_front, length-part, part_of_front, IsBytes-part, number-part_below, number-part_join}
 use Rattle.ether_base.proofs.Rows.{accepts_arp}
 use Rattle.ether_arp.specs.Arp.{BeginsWithArp, HoldsArp}
 
@@ -35,9 +34,6 @@ arp_begins_read bytes ok le =
     record { sum = omega arith; fits = record { hardware_type = t; protocol_type = u; hardware_size = ok 4; protocol_size = ok 5; operation = o } }
 
 -- what follows them changes nothing
-index_of_front : (bytes : List ℕ) (n i : ℕ) → i < n → slice_index (slice_range bytes 0 n) i ≡ slice_index bytes i
-index_of_front bytes n i lt = let e : n - 0 ≡ n = omega arith in ap (λ (k : ℕ). slice_index (take k bytes) i) e ∙ get_or-take n bytes i 0 lt
-
 pub arp_front_of_part : (bytes : List ℕ) (n : ℕ) → 8 ≤ n → arp_front_in (slice_range bytes 0 n) ≡ arp_front_in bytes
 arp_front_of_part bytes n le =
     let t = ap number (part_of_front bytes n 0 2 (omega arith) (omega arith)) in

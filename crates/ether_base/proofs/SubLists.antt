@@ -1,6 +1,6 @@
 -- Parts of lists of bytes, and their numbers.
 use Rattle.std.proofs.Common.{◌≡◌, ℕ, ◌+◌, ◌-◌, ◌*◌, ◌^◌, ◌<◌, ◌≤◌, List, ◌++◌, length, take, drop, min, refl, sym, ap, subst, ◌∙◌, arith, inl, inr}
-use Rattle.std.specs.Prelude.{slice_range}
+use Rattle.std.specs.Prelude.{slice_range, slice_index}
 use Rattle.std.proofs.lemmas.Bool.{cases_lt}
 use Rattle.std.proofs.lemmas.List.{append_assoc, drop_at, take_at, length-take, length-drop, take-append-le, drop-append-le, drop-drop, drop-take, take-take, get_or-drop, get_or-take, get_or_past, take_all, take-append-drop}
 use Rattle.ether_base.specs.Bytes.{IsBytes, number}
@@ -94,3 +94,7 @@ pub number-part_join : (bytes : List ℕ) (i j k : ℕ) → i ≤ j → j ≤ k 
 number-part_join bytes i j k ij jk le =
     ap number (sym (part_join bytes i j k ij jk)) ∙ number-append (slice_range bytes i j) (slice_range bytes j k)
     ∙ ap (λ (n : ℕ). number (slice_range bytes i j) * 256 ^ n + number (slice_range bytes j k)) (length-part bytes j k le)
+
+-- an element of a list's front is the list's
+pub index_of_front : (list : List ℕ) (n i : ℕ) → i < n → slice_index (slice_range list 0 n) i ≡ slice_index list i
+index_of_front list n i lt = let e : n - 0 ≡ n = omega arith in ap (λ (k : ℕ). slice_index (take k list) i) e ∙ get_or-take n list i 0 lt

@@ -1,5 +1,6 @@
 -- How far a run has come, one piece of the input after another.
 use Rattle.std.proofs.Common.{◌≡◌, ℕ, ◌==◌, List, [], ◌∷◌, ◌++◌, length, Bool, true, false, ◌&&◌, Option, refl, sym, ap, ◌∙◌, subst, arith, append_assoc, append-nil}
+use Rattle.std.proofs.Math.Bool.{and_assoc}
 use Rattle.std.proofs.lemmas.List.{length-append}
 use Rattle.std.specs.Str.Lines.{lines, strip_carriage_return}
 use Rattle.std.specs.Io.KnownBytes.{Appends}
@@ -27,10 +28,6 @@ OnBadLine-map Output P Q more h = tt
 and_true : (b : Bool) → (true && b) ≡ (b && true)
 and_true true = refl
 and_true false = refl
-
-and_assoc : (a b c : Bool) → ((a && b) && c) ≡ (a && (b && c))
-and_assoc true b c = refl
-and_assoc false b c = refl
 
 -- one answered line more
 pub AreAnswered-push : (command : Command) (done : List (List ℕ)) (text : List ℕ) (all : Bool) (line more : List ℕ) (accepted : Bool)
