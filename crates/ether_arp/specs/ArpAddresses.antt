@@ -1,5 +1,5 @@
 -- The addresses that a packet can't hold: it has one size for both of a kind, which is a byte (RFC 826, "Packet format").
-use Rattle.std.specs.Prelude.{◌≡◌, ℕ, ◌<◌, ◌≤◌}
+use Rattle.std.specs.Prelude.{◌≡◌, ℕ, ◌<◌, ◌≤◌, Result, MatchResult}
 use Rattle.ether_base.specs.declared.err.arp.arp_hw_addr_error.ArpHwAddrError.{ArpHwAddrError}
 use Rattle.ether_base.specs.declared.err.arp.arp_hw_addr_error.ArpHwAddrError.TheVariants as hw
 use Rattle.ether_base.specs.declared.err.arp.arp_proto_addr_error.ArpProtoAddrError.{ArpProtoAddrError}
@@ -37,3 +37,14 @@ AcceptsProtoAddrs sender target = (e : ArpProtoAddrError) → RefusesProtoAddrs 
 
 abbrev pub AcceptsAddrs : ℕ → ℕ → ℕ → ℕ → Type 0
 AcceptsAddrs sender_hw sender_proto target_hw target_proto = (e : ArpNewError) → RefusesAddrs sender_hw sender_proto target_hw target_proto e → ⊥
+
+-- what two addresses of a kind, or all four, are answered by: a refusal exactly if a row holds, and that row
+abbrev pub AnswersHwAddrs : {A : Type 0} → (sender target : ℕ) → Result A ArpHwAddrError → Type 0
+AnswersHwAddrs sender target result = MatchResult result (λ _. AcceptsHwAddrs sender target) (RefusesHwAddrs sender target)
+
+abbrev pub AnswersProtoAddrs : {A : Type 0} → (sender target : ℕ) → Result A ArpProtoAddrError → Type 0
+AnswersProtoAddrs sender target result = MatchResult result (λ _. AcceptsProtoAddrs sender target) (RefusesProtoAddrs sender target)
+
+abbrev pub AnswersAddrs : {A : Type 0} → (sender_hw sender_proto target_hw target_proto : ℕ) → Result A ArpNewError → Type 0
+AnswersAddrs sender_hw sender_proto target_hw target_proto result =
+    MatchResult result (λ _. AcceptsAddrs sender_hw sender_proto target_hw target_proto) (RefusesAddrs sender_hw sender_proto target_hw target_proto)

@@ -31,7 +31,9 @@ pub fn replace_both(
     requires room { length addrs.old.items + 2 * length first.now ≤ 1020 + 2 * size }
     requires at_most { length first.now ≤ 255 }
     requires bytes { IsBytes addrs.old.items }
-    ensures items { addrs.new.items ≡ take start addrs.old.items ++ first.now ++ slice_range addrs.old.items (start + size) (start + size + between) ++ second.now ++ drop (start + 2 * size + between) addrs.old.items }
+    ensures items { addrs.new.items ≡ take start addrs.old.items ++ first.now
+        ++ slice_range addrs.old.items (start + size) (start + size + between) ++ second.now
+        ++ drop (start + 2 * size + between) addrs.old.items }
     ensures bytes { IsBytes addrs.new.items }
 {
     let len = first.len();
@@ -48,8 +50,10 @@ fn make_room(addrs: &mut ArrayVec<u8, 1020>, start: usize, size: usize, between:
     requires at_most { len ≤ 255 }
     ensures len { length addrs.new.items + 2 * size ≡ length addrs.old.items + 2 * len }
     ensures front { take start addrs.new.items ≡ take start addrs.old.items }
-    ensures middle { slice_range addrs.new.items (start + len) (start + len + between) ≡ slice_range addrs.old.items (start + size) (start + size + between) }
-    ensures rest { drop (start + 2 * len + between) addrs.new.items ≡ drop (start + 2 * size + between) addrs.old.items }
+    ensures middle { slice_range addrs.new.items (start + len) (start + len + between)
+        ≡ slice_range addrs.old.items (start + size) (start + size + between) }
+    ensures rest { drop (start + 2 * len + between) addrs.new.items
+        ≡ drop (start + 2 * size + between) addrs.old.items }
 {
     let end = addrs.len();
     let (middle, new_middle) = (start + size, start + len);
@@ -70,7 +74,9 @@ fn make_room(addrs: &mut ArrayVec<u8, 1020>, start: usize, size: usize, between:
 fn shift(addrs: &mut ArrayVec<u8, 1020>, from: usize, len: usize, to: usize)
     requires source { from + len ≤ length addrs.old.items }
     requires target { to + len ≤ length addrs.old.items }
-    ensures { addrs.new.items ≡ take to addrs.old.items ++ slice_range addrs.old.items from (from + len) ++ drop (to + len) addrs.old.items }
+    ensures { addrs.new.items ≡ take to addrs.old.items
+        ++ slice_range addrs.old.items from (from + len)
+        ++ drop (to + len) addrs.old.items }
 {
     addrs.as_mut_slice().copy_within(from..from + len, to);
 }

@@ -84,7 +84,8 @@ impl ArpEthIpv4Packet {
     pub fn to_arp_packet(&self) -> ArpPacket
         ensures value { result ≡ eth_ipv4_view self.now }
         ensures bytes { arp_bytes result ≡ eth_ipv4_bytes self.now }
-        ensures reads_back { (r : Result ArpEthIpv4Packet from_error) → AnswersEthIpv4 result r → r ≡ Ok self.now }
+        ensures reads_back { (r : Result ArpEthIpv4Packet from_error)
+            → AnswersEthIpv4 result r → r ≡ Ok self.now }
     {
         ArpPacket::holding(
             ArpHardwareId::ETHERNET,

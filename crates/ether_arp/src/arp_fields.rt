@@ -33,7 +33,8 @@ const FRONT_LEN: usize = 8;
 
 /// The bytes of the packet that a slice begins with.
 pub fn packet(slice: &[u8]) -> Result<&[u8], LenError>
-    ensures bytes { IfOk result (λ packet. packet.now ≡ slice_range slice.now 0 (arp_len (arp_front_in slice.now))) }
+    ensures bytes { IfOk result
+        (λ packet. packet.now ≡ slice_range slice.now 0 (arp_len (arp_front_in slice.now))) }
     ensures begins { IfOk result (λ _. BeginsWithArp slice.now) }
     ensures refused { IfErr result (IsRefusedLen slice.now kinds.Arp) }
 {
@@ -150,7 +151,9 @@ pub fn target_protocol_addr(packet: &[u8]) -> &[u8]
 pub fn addrs(packet: &[u8]) -> &[u8]
     requires { HoldsArp packet.now }
     ensures addrs { result.now ≡ drop 8 packet.now }
-    ensures len { length result.now ≡ 2 * (arp_front_in packet.now).hardware_size + 2 * (arp_front_in packet.now).protocol_size }
+    ensures len { length result.now
+        ≡ 2 * (arp_front_in packet.now).hardware_size
+        + 2 * (arp_front_in packet.now).protocol_size }
 {
     &packet[FRONT_LEN..]
 }

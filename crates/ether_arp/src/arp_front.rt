@@ -11,7 +11,13 @@ pub fn front_bytes(
     proto_addr_size: u8,
     operation: u16,
 ) -> [u8; 8]
-    ensures { let front : ArpFront = record { hardware_type = hw_addr_type; protocol_type = proto_addr_type; hardware_size = hw_addr_size; protocol_size = proto_addr_size; operation = operation } in
+    ensures { let front : ArpFront = record {
+      hardware_type = hw_addr_type;
+      protocol_type = proto_addr_type;
+      hardware_size = hw_addr_size;
+      protocol_size = proto_addr_size;
+      operation = operation;
+    } in
         (result ≡ spelled 8 (arp_front_number front)) × FitsArpFront front }
 {
     let h = hw_addr_type.to_be_bytes();

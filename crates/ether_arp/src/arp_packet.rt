@@ -1,6 +1,6 @@
 //! ARP packets as values.
 ghost use Rattle.std.specs.Hash as fed;
-ghost use Rattle.std.specs.Prelude.{⊤, ℕ, List, ◌≡◌, ◌+◌, ◌*◌, ◌≤◌, ◌<◌, ◌++◌, ◌==◌, length, slice_range, IfOk, IfErr, OnOk, OnErr, MatchResult};
+ghost use Rattle.std.specs.Prelude.{⊤, ℕ, List, ◌≡◌, ◌+◌, ◌*◌, ◌≤◌, ◌<◌, ◌++◌, ◌==◌, length, slice_range, IfOk, IfErr, OnOk, OnErr};
 ghost use Rattle.std.proofs.Common.{rules};
 ghost use Rattle.std.specs.Cmp.Rules.{comparing, hashing};
 ghost use Rattle.std.specs.Cmp.Lexicographic.{pointwise};
@@ -13,7 +13,7 @@ ghost use Rattle.ether_base.specs.Formats.Header.{Means};
 ghost use Rattle.ether_base.specs.Formats.Kind as kinds;
 ghost use Rattle.ether_base.specs.Formats.Refusal.{Accepts};
 ghost use Rattle.ether_base.specs.Formats.RefusedLen.{IsRefusedLen};
-ghost use Rattle.ether_arp.specs.ArpAddresses.{AcceptsAddrs, AcceptsHwAddrs, AcceptsProtoAddrs, RefusesAddrs, RefusesHwAddrs, RefusesProtoAddrs};
+ghost use Rattle.ether_arp.specs.ArpAddresses.{AnswersAddrs, AnswersHwAddrs, AnswersProtoAddrs};
 ghost use Rattle.ether_arp.specs.ArpEthIpv4.{AnswersEthIpv4};
 
 use crate::{ArpEthIpv4Packet, ArpPacketSlice, arp_addrs, arp_front};
@@ -96,8 +96,17 @@ impl ArpPacket {
         target_hw_addr: &[u8],
         target_protocol_addr: &[u8],
     ) -> Result<ArpPacket, ArpNewError>
-        ensures answers { MatchResult result (λ _. AcceptsAddrs (length sender_hw_addr.now) (length sender_protocol_addr.now) (length target_hw_addr.now) (length target_protocol_addr.now)) (RefusesAddrs (length sender_hw_addr.now) (length sender_protocol_addr.now) (length target_hw_addr.now) (length target_protocol_addr.now)) }
-        ensures holds { IfOk result (λ p. p ≡ record { hardware_type = hw_addr_type.0; protocol_type = proto_addr_type.0; operation = operation.0; sender_hardware = sender_hw_addr.now; sender_protocol = sender_protocol_addr.now; target_hardware = target_hw_addr.now; target_protocol = target_protocol_addr.now }) }
+        ensures answers { AnswersAddrs (length sender_hw_addr.now) (length sender_protocol_addr.now)
+            (length target_hw_addr.now) (length target_protocol_addr.now) result }
+        ensures holds { IfOk result (λ p. p ≡ record {
+          hardware_type = hw_addr_type.0;
+          protocol_type = proto_addr_type.0;
+          operation = operation.0;
+          sender_hardware = sender_hw_addr.now;
+          sender_protocol = sender_protocol_addr.now;
+          target_hardware = target_hw_addr.now;
+          target_protocol = target_protocol_addr.now;
+        }) }
     {
         if sender_hw_addr.len() != target_hw_addr.len() {
             return Err(ArpNewError::HwAddr(ArpHwAddrError::LenNonMatching(
@@ -144,7 +153,15 @@ impl ArpPacket {
         requires protocol { length target_protocol_addr.now ≡ length sender_protocol_addr.now }
         requires hardware_size { length sender_hw_addr.now ≤ 255 }
         requires protocol_size { length sender_protocol_addr.now ≤ 255 }
-        ensures { result ≡ record { hardware_type = hw_addr_type.0; protocol_type = proto_addr_type.0; operation = operation.0; sender_hardware = sender_hw_addr.now; sender_protocol = sender_protocol_addr.now; target_hardware = target_hw_addr.now; target_protocol = target_protocol_addr.now } }
+        ensures { result ≡ record {
+          hardware_type = hw_addr_type.0;
+          protocol_type = proto_addr_type.0;
+          operation = operation.0;
+          sender_hardware = sender_hw_addr.now;
+          sender_protocol = sender_protocol_addr.now;
+          target_hardware = target_hw_addr.now;
+          target_protocol = target_protocol_addr.now;
+        } }
     {
         let mut addrs = ArrayVec::new();
         arp_addrs::append(&mut addrs, sender_hw_addr);
@@ -171,7 +188,15 @@ impl ArpPacket {
         addrs: &[u8],
     ) -> ArpPacket
         requires { length addrs.now ≡ 2 * hw_addr_size + 2 * protocol_addr_size }
-        ensures { result ≡ record { hardware_type = hw_addr_type.0; protocol_type = proto_addr_type.0; operation = operation.0; sender_hardware = slice_range addrs.now 0 hw_addr_size; sender_protocol = slice_range addrs.now hw_addr_size (hw_addr_size + protocol_addr_size); target_hardware = slice_range addrs.now (hw_addr_size + protocol_addr_size) (2 * hw_addr_size + protocol_addr_size); target_protocol = slice_range addrs.now (2 * hw_addr_size + protocol_addr_size) (2 * hw_addr_size + 2 * protocol_addr_size) } }
+        ensures { let h = hw_addr_size in let p = protocol_addr_size in result ≡ record {
+          hardware_type = hw_addr_type.0;
+          protocol_type = proto_addr_type.0;
+          operation = operation.0;
+          sender_hardware = slice_range addrs.now 0 h;
+          sender_protocol = slice_range addrs.now h (h + p);
+          target_hardware = slice_range addrs.now (h + p) (2 * h + p);
+          target_protocol = slice_range addrs.now (2 * h + p) (2 * h + 2 * p);
+        } }
     {
         let mut list = ArrayVec::new();
         arp_addrs::append(&mut list, addrs);
@@ -252,8 +277,12 @@ impl ArpPacket {
         sender_hw_addr: &[u8],
         target_hw_addr: &[u8],
     ) -> Result<(), ArpHwAddrError>
-        ensures answers { MatchResult result (λ _. AcceptsHwAddrs (length sender_hw_addr.now) (length target_hw_addr.now)) (RefusesHwAddrs (length sender_hw_addr.now) (length target_hw_addr.now)) }
-        ensures set { OnOk result (self.new ≡ record self.old { sender_hardware = sender_hw_addr.now; target_hardware = target_hw_addr.now }) }
+        ensures answers { AnswersHwAddrs (length sender_hw_addr.now)
+            (length target_hw_addr.now) result }
+        ensures set { OnOk result (self.new ≡ record self.old {
+          sender_hardware = sender_hw_addr.now;
+          target_hardware = target_hw_addr.now;
+        }) }
         ensures unchanged { OnErr result (self.new ≡ self.old) }
     {
         let len = sender_hw_addr.len();
@@ -286,8 +315,12 @@ impl ArpPacket {
         sender_protocol_addr: &[u8],
         target_protocol_addr: &[u8],
     ) -> Result<(), ArpProtoAddrError>
-        ensures answers { MatchResult result (λ _. AcceptsProtoAddrs (length sender_protocol_addr.now) (length target_protocol_addr.now)) (RefusesProtoAddrs (length sender_protocol_addr.now) (length target_protocol_addr.now)) }
-        ensures set { OnOk result (self.new ≡ record self.old { sender_protocol = sender_protocol_addr.now; target_protocol = target_protocol_addr.now }) }
+        ensures answers { AnswersProtoAddrs (length sender_protocol_addr.now)
+            (length target_protocol_addr.now) result }
+        ensures set { OnOk result (self.new ≡ record self.old {
+          sender_protocol = sender_protocol_addr.now;
+          target_protocol = target_protocol_addr.now;
+        }) }
         ensures unchanged { OnErr result (self.new ≡ self.old) }
     {
         let len = sender_protocol_addr.len();
@@ -325,7 +358,8 @@ impl ArpPacket {
         ensures value { result.items ≡ arp_bytes self.now }
         ensures len { length result.items ≡ arp_len (arp_front_of self.now) }
         ensures fits { FitsArp self.now }
-        ensures accepted { (more : List ℕ) → Accepts sources.Slice (result.items ++ more) kinds.Arp }
+        ensures accepted { (more : List ℕ)
+            → Accepts sources.Slice (result.items ++ more) kinds.Arp }
         ensures read { (more : List ℕ) → Means (result.items ++ more) (headers.Arp self.now) }
     {
         self.spelled()
@@ -360,7 +394,10 @@ impl ArpPacket {
     /// Whether another packet has the same four addresses. Equal lists are of one length, so that the sizes of the hardware
     /// addresses decide those of the protocol addresses.
     fn has_same_addrs(&self, other: &ArpPacket) -> bool
-        ensures { result ≡ eq_of_both (on (λ a. a.sender_hardware) (pointwise ◌==◌)) (eq_of_both (on (λ a. a.sender_protocol) (pointwise ◌==◌)) (eq_of_both (on (λ a. a.target_hardware) (pointwise ◌==◌)) (on (λ a. a.target_protocol) (pointwise ◌==◌)))) self.now other.now }
+        ensures { result ≡ eq_of_both (on (λ a. a.sender_hardware) (pointwise ◌==◌))
+            (eq_of_both (on (λ a. a.sender_protocol) (pointwise ◌==◌))
+            (eq_of_both (on (λ a. a.target_hardware) (pointwise ◌==◌))
+            (on (λ a. a.target_protocol) (pointwise ◌==◌)))) self.now other.now }
     {
         self.hw_addr_size == other.hw_addr_size && self.addrs == other.addrs
     }

@@ -48,7 +48,8 @@ impl<'a> ArpPacketSlice<'a> {
     /// The packet that a slice begins with. Refused are fewer than 8 bytes, and fewer bytes than the sizes of the
     /// addresses say. What follows the packet is no part of the view.
     pub fn from_slice(slice: &'a [u8]) -> Result<ArpPacketSlice<'a>, LenError>
-        ensures bytes { IfOk result (λ p. p ≡ slice_range slice.now 0 (arp_len (arp_front_in slice.now))) }
+        ensures bytes { IfOk result
+            (λ p. p ≡ slice_range slice.now 0 (arp_len (arp_front_in slice.now))) }
         ensures accepted { IfOk result (λ p. Accepts sources.Slice slice.now kinds.Arp) }
         ensures value { IfOk result (λ p. Means slice.now (headers.Arp (arp_of p))) }
         ensures refused { IfErr result (IsRefusedLen slice.now kinds.Arp) }

@@ -1,5 +1,6 @@
 //! The association number of a MACsec SecTag.
 ghost use Rattle.std.specs.Prelude.{◌≡◌, ◌≤◌, ◌↔◌, IfOk, IfErr, IsOk};
+ghost use Rattle.ether_base.specs.Enumerations.BoundedField.{too_big};
 
 use crate::err::{ValueTooBigError, ValueType};
 use std::fmt;
@@ -38,7 +39,7 @@ impl MacsecAn {
     pub fn try_new(value: u8) -> Result<MacsecAn, ValueTooBigError<u8>>
         ensures variant { IsOk result ↔ (value ≤ 3) }
         ensures ok { IfOk result (λ an. an ≡ value) }
-        ensures err { IfErr result (λ e. e ≡ record { actual = value; max_allowed = 3; value_type = ValueType.MacsecAn }) }
+        ensures err { IfErr result (λ e. e ≡ too_big value 3 ValueType.MacsecAn) }
     {
         if value <= MacsecAn::MAX_U8 {
             Ok(MacsecAn(value))

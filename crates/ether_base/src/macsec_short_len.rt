@@ -1,5 +1,6 @@
 //! The short length of a MACsec SecTag.
 ghost use Rattle.std.specs.Prelude.{◌≡◌, ◌≤◌, ◌<◌, ◌↔◌, IfOk, IfErr, IsOk};
+ghost use Rattle.ether_base.specs.Enumerations.BoundedField.{too_big};
 
 use crate::err::{ValueTooBigError, ValueType};
 use std::fmt;
@@ -44,7 +45,7 @@ impl MacsecShortLen {
     pub fn try_from_u8(value: u8) -> Result<MacsecShortLen, ValueTooBigError<u8>>
         ensures variant { IsOk result ↔ (value ≤ 63) }
         ensures ok { IfOk result (λ short_len. short_len ≡ value) }
-        ensures err { IfErr result (λ e. e ≡ record { actual = value; max_allowed = 63; value_type = ValueType.MacsecShortLen }) }
+        ensures err { IfErr result (λ e. e ≡ too_big value 63 ValueType.MacsecShortLen) }
     {
         if value <= MacsecShortLen::MAX_U8 {
             Ok(MacsecShortLen(value))

@@ -1,5 +1,6 @@
 //! The identifier of a VLAN.
 ghost use Rattle.std.specs.Prelude.{◌≡◌, ◌≤◌, ◌↔◌, IfOk, IfErr, IsOk};
+ghost use Rattle.ether_base.specs.Enumerations.BoundedField.{too_big};
 
 use crate::err::{ValueTooBigError, ValueType};
 use std::fmt;
@@ -38,7 +39,7 @@ impl VlanId {
     pub fn try_new(value: u16) -> Result<VlanId, ValueTooBigError<u16>>
         ensures variant { IsOk result ↔ (value ≤ 4095) }
         ensures ok { IfOk result (λ id. id ≡ value) }
-        ensures err { IfErr result (λ e. e ≡ record { actual = value; max_allowed = 4095; value_type = ValueType.VlanId }) }
+        ensures err { IfErr result (λ e. e ≡ too_big value 4095 ValueType.VlanId) }
     {
         if value <= VlanId::MAX_U16 {
             Ok(VlanId(value))

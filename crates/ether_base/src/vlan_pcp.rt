@@ -1,5 +1,6 @@
 //! The priority of a VLAN tag.
 ghost use Rattle.std.specs.Prelude.{◌≡◌, ◌≤◌, ◌↔◌, IfOk, IfErr, IsOk};
+ghost use Rattle.ether_base.specs.Enumerations.BoundedField.{too_big};
 
 use crate::err::{ValueTooBigError, ValueType};
 use std::fmt;
@@ -38,7 +39,7 @@ impl VlanPcp {
     pub fn try_new(value: u8) -> Result<VlanPcp, ValueTooBigError<u8>>
         ensures variant { IsOk result ↔ (value ≤ 7) }
         ensures ok { IfOk result (λ pcp. pcp ≡ value) }
-        ensures err { IfErr result (λ e. e ≡ record { actual = value; max_allowed = 7; value_type = ValueType.VlanPcp }) }
+        ensures err { IfErr result (λ e. e ≡ too_big value 7 ValueType.VlanPcp) }
     {
         if value <= VlanPcp::MAX_U8 {
             Ok(VlanPcp(value))

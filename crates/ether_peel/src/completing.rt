@@ -40,7 +40,8 @@ const ZEROS: [u8; 1027] = [0; 1027];
 /// assert_eq!(rt; fill.as_ref().map(|fill| fill.as_slice()), Some(&[0; 8][..]));
 /// ```
 pub fn completion(start: Start, bytes: &[u8]) -> Option<ArrayVec<u8, 1028>>
-    ensures { MatchOption result (NothingToComplete (start_of start) bytes.now) (λ fill. Completes (start_of start) bytes.now fill.items) }
+    ensures { MatchOption result (NothingToComplete (start_of start) bytes.now)
+        (λ fill. Completes (start_of start) bytes.now fill.items) }
 {
     completed(start, bytes, None)
 }
@@ -60,7 +61,8 @@ pub fn completion(start: Start, bytes: &[u8]) -> Option<ArrayVec<u8, 1028>>
 /// assert!(rt; completion_limited(Start::Ethernet2, &frame, 0).is_none());
 /// ```
 pub fn completion_limited(start: Start, bytes: &[u8], limit: usize) -> Option<ArrayVec<u8, 1028>>
-    ensures { MatchOption result (NothingToComplete (limited_start start limit) bytes.now) (λ fill. Completes (limited_start start limit) bytes.now fill.items) }
+    ensures { MatchOption result (NothingToComplete (limited_start start limit) bytes.now)
+        (λ fill. Completes (limited_start start limit) bytes.now fill.items) }
 {
     completed(start, bytes, Some(limit))
 }
@@ -68,7 +70,8 @@ pub fn completion_limited(start: Start, bytes: &[u8], limit: usize) -> Option<Ar
 /// The completion by a walk with a limit on extensions or without.
 #[inline(always)]
 fn completed(start: Start, bytes: &[u8], limit: Option<usize>) -> Option<ArrayVec<u8, 1028>>
-    ensures { MatchOption result (NothingToComplete (start_with start limit) bytes.now) (λ fill. Completes (start_with start limit) bytes.now fill.items) }
+    ensures { MatchOption result (NothingToComplete (start_with start limit) bytes.now)
+        (λ fill. Completes (start_with start limit) bytes.now fill.items) }
 {
     let fault = summarized(start, bytes, limit).fault?;
     if fault.closed {
@@ -94,7 +97,9 @@ struct Plan {
 /// The unit of a layer that begins with these bytes. `None` if it cannot be completed.
 fn planned(layer: Layer, begun: &[u8]) -> Option<Plan>
     requires { IsShort begun.now layer }
-    ensures { MatchOption result (CanBeCompleted layer (length begun.now) → ⊥) (λ plan. CanBeCompleted layer (length begun.now) × IsPlan begun.now layer plan.total plan.ether_type_at) }
+    ensures { MatchOption result (CanBeCompleted layer (length begun.now) → ⊥)
+        (λ plan. CanBeCompleted layer (length begun.now)
+        × IsPlan begun.now layer plan.total plan.ether_type_at) }
 {
     let (total, ether_type_at) = match layer {
         Layer::Ethernet2Header => (14, Some(12)),
@@ -112,7 +117,9 @@ fn planned(layer: Layer, begun: &[u8]) -> Option<Plan>
 /// The SecTag that begins with these bytes, with the payload whose length it names. `None` for fewer than six bytes.
 fn planned_tag(begun: &[u8]) -> Option<Plan>
     requires { IsShort begun.now Layer.MacsecHeader }
-    ensures { MatchOption result (length begun.now < 6) (λ plan. (6 ≤ length begun.now) × IsPlan begun.now Layer.MacsecHeader plan.total plan.ether_type_at) }
+    ensures { MatchOption result (length begun.now < 6)
+        (λ plan. (6 ≤ length begun.now)
+        × IsPlan begun.now Layer.MacsecHeader plan.total plan.ether_type_at) }
 {
     let [first, second, _, _, _, _, ..] = *begun else {
         return None;

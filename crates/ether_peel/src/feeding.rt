@@ -1,5 +1,5 @@
 //! A walk that receives a frame piece by piece, and no byte that it did not ask for.
-ghost use Rattle.std.specs.Prelude.{◌≡◌, ◌+◌, ◌≤◌, length, MatchOption, ℕ};
+ghost use Rattle.std.specs.Prelude.{◌+◌, ◌≤◌, length, MatchOption, ℕ};
 ghost use Rattle.ether_peel.specs.Walker.Start.{start_of, start_with, limited_start};
 ghost use Rattle.ether_peel.specs.Walker.Fault.{Names};
 ghost use Rattle.ether_peel.specs.Walker.Feeding.{IsFeed};
@@ -95,7 +95,8 @@ fn fed(start: Start, bytes: &[u8], limit: Option<usize>) -> Feed
 #[inline(always)]
 fn asked_of(fault: &PeelFault, len: usize) -> Option<usize>
     requires { fault.now.offset ≤ len }
-    ensures { MatchOption result ((m : ℕ) → Names fault.now m → m ≤ len → ⊥) (λ m. Names fault.now m × (m ≤ len)) }
+    ensures { MatchOption result ((m : ℕ) → Names fault.now m → m ≤ len → ⊥)
+        (λ m. Names fault.now m × (m ≤ len)) }
 {
     match &fault.error {
         PeelError::Len(error) if !fault.closed && error.required_len <= len - fault.offset => {

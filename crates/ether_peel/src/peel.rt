@@ -1,5 +1,5 @@
 //! The walk through a frame.
-ghost use Rattle.std.specs.Prelude.{◌≡◌, ◌+◌, ◌^◌, ◌<◌, List, length, false, true, Some, is_some, if◌then◌else◌};
+ghost use Rattle.std.specs.Prelude.{◌≡◌, ◌+◌, ◌^◌, ◌<◌, length, false, true, Some, is_some, if◌then◌else◌};
 ghost use Rattle.etherparse.specs.LinuxSll.{protocol_type_of_header};
 ghost use Rattle.ether_peel.specs.Grammar.Expectation.{announced_next, announced_by, lowered as lowered_of, permitted as permitted_of};
 ghost use Rattle.ether_peel.specs.Walker.State.{shown_of};
@@ -231,7 +231,10 @@ impl<'a> Peel<'a> {
     #[inline(always)]
     pub(crate) fn go_on(&mut self, bytes: &'a [u8])
         requires { self.old.offset ≤ length bytes.now }
-        ensures { self.new ≡ record self.old { rest = slice_range bytes.now self.old.offset (length bytes.now); over = false } }
+        ensures { self.new ≡ record self.old {
+          rest = slice_range bytes.now self.old.offset (length bytes.now);
+          over = false;
+        } }
     {
         self.frame = bytes;
         self.end = bytes.len();
@@ -450,7 +453,8 @@ fn bounded(error: PeelError, bound: LenSource) -> PeelError
 #[inline(always)]
 fn announced_in(packet: &LinuxSllSlice<'_>) -> (EtherType, RestKind)
     ensures expected { shown_of result.1 ≡ after_protocol (protocol_type_of_header packet.now) }
-    ensures announced { announced_next (after_protocol (protocol_type_of_header packet.now)) ≡ announced_by result.0.0 }
+    ensures announced { announced_next (after_protocol (protocol_type_of_header packet.now))
+        ≡ announced_by result.0.0 }
     ensures shown { result.1 ≡ next_shown (after_protocol (protocol_type_of_header packet.now)) }
 {
     let protocol_type = packet.protocol_type();

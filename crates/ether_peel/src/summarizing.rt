@@ -1,7 +1,7 @@
 //! The whole walk through a frame in one call.
 ghost use Rattle.std.specs.Prelude.{◌≡◌, ◌+◌, ◌/◌, ◌<◌, ◌≤◌, length};
-ghost use Rattle.ether_peel.specs.Walker.Start.{start_of, start_with, limited_start, kind_shown};
-ghost use Rattle.ether_peel.specs.Walker.Summary.{IsSummary, IsCutSummary};
+ghost use Rattle.ether_peel.specs.Walker.Start.{start_of, start_with, limited_start};
+ghost use Rattle.ether_peel.specs.Walker.Summary.{IsSummary, IsCutSummary, summary_at};
 ghost use Rattle.ether_peel.specs.Walker.Limits.{IsFrontOfUnlimited};
 
 use crate::{Peel, PeelFault, Start, Summary};
@@ -122,7 +122,7 @@ fn snapped(start: Start, bytes: &[u8], n: usize, limit: Option<usize>) -> Summar
 /// The summary of a walk at its end.
 #[inline(always)]
 fn ended(peel: &Peel<'_>, units: usize, fault: Option<PeelFault>) -> Summary
-    ensures { result ≡ record { units = units; rest_start = peel.now.offset; rest_end = peel.now.offset + length peel.now.rest; kind = kind_shown peel.now.expected; fault = fault } }
+    ensures { result ≡ summary_at peel.now units fault }
 {
     let rest_start = peel.offset();
     Summary {

@@ -1,10 +1,8 @@
 //! Headers written back before the rest.
-ghost use Rattle.std.specs.Prelude.{◌≡◌, ◌+◌, ◌≤◌, List, length, IfOk, IfErr};
+ghost use Rattle.std.specs.Prelude.{◌≡◌, ◌+◌, ◌≤◌, length, IfOk, IfErr};
 ghost use Rattle.etherparse.specs.Bytes.{overwritten};
-ghost use Rattle.etherparse.specs.Header.{Header};
-ghost use Rattle.ether_peel.specs.Grammar.Stack.{Ending, last_window, Walk};
 ghost use Rattle.ether_peel.specs.Walker.Start.{start_of, start_with, limited_start};
-ghost use Rattle.ether_peel.specs.Walker.WriteBack.{unit_bytes, WritesBack, RefusesBack};
+ghost use Rattle.ether_peel.specs.Walker.WriteBack.{unit_bytes, WritesBack, RefusesBack, HasRoom};
 
 use crate::summarizing::summarized;
 use crate::{Peel, PeelUnit, Start};
@@ -41,7 +39,8 @@ pub fn write_back(
     bytes: &[u8],
     target: &mut [u8],
 ) -> Result<usize, SliceWriteSpaceError>
-    ensures ok { IfOk result (λ end. WritesBack (start_of start) bytes.now end target.old target.new) }
+    ensures ok { IfOk result
+        (λ end. WritesBack (start_of start) bytes.now end target.old target.new) }
     ensures refused { IfErr result (RefusesBack (start_of start) bytes.now target.old) }
     ensures kept { IfErr result (λ _. target.new ≡ target.old) }
 {
@@ -72,7 +71,8 @@ pub fn write_back_limited(
     target: &mut [u8],
     limit: usize,
 ) -> Result<usize, SliceWriteSpaceError>
-    ensures ok { IfOk result (λ end. WritesBack (limited_start start limit) bytes.now end target.old target.new) }
+    ensures ok { IfOk result
+        (λ end. WritesBack (limited_start start limit) bytes.now end target.old target.new) }
     ensures refused { IfErr result (RefusesBack (limited_start start limit) bytes.now target.old) }
     ensures kept { IfErr result (λ _. target.new ≡ target.old) }
 {
@@ -87,7 +87,8 @@ fn written(
     target: &mut [u8],
     limit: Option<usize>,
 ) -> Result<usize, SliceWriteSpaceError>
-    ensures ok { IfOk result (λ end. WritesBack (start_with start limit) bytes.now end target.old target.new) }
+    ensures ok { IfOk result
+        (λ end. WritesBack (start_with start limit) bytes.now end target.old target.new) }
     ensures refused { IfErr result (RefusesBack (start_with start limit) bytes.now target.old) }
     ensures kept { IfErr result (λ _. target.new ≡ target.old) }
 {
@@ -106,7 +107,7 @@ fn written(
 
 /// Writes the headers of a walk and then its last window to the front of a target, and returns where that ends.
 fn write_walk(start: Start, bytes: &[u8], target: &mut [u8], limit: Option<usize>) -> usize
-    requires { (hs : List Header) (e : Ending) → Walk (start_with start limit) bytes.now hs e → (last_window e).finish ≤ length target.old }
+    requires { HasRoom (start_with start limit) bytes.now target.old }
     ensures { WritesBack (start_with start limit) bytes.now result target.old target.new }
 {
     let mut peel = Peel::begin(start, bytes, limit);

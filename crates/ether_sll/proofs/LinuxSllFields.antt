@@ -15,7 +15,7 @@ use Rattle.ether_base.specs.Formats.Refusal as rows
 use Rattle.ether_base.proofs.LinuxSllFields.{linux_sll_begins, linux_sll_whole, linux_sll_accepted}
 use Rattle.ether_base.proofs.Values.{linux_sll_unique}
 use Rattle.ether_sll.specs.declared.linux_sll_header.LinuxSllHeader.{LinuxSllHeader}
-use Rattle.ether_sll.specs.LinuxSll.{HoldsLinuxSll, HoldsHeader, AnswersHeader, IsRefusedContent, linux_sll_view}
+use Rattle.ether_sll.specs.LinuxSll.{HoldsLinuxSll, HoldsHeader, AnswersHeader, IsRefusedContent, linux_sll_view, HasOwnType}
 
 -- ---- the tests
 
@@ -68,14 +68,14 @@ module _ (bytes : List ℕ) (h : LinuxSllHeader) (ok : IsBytes bytes) (len : len
   protocol_same : protocol_of (linux_sll_of bytes).hardware_type (linux_sll_of bytes).protocol ≡ protocol_of h.arp_hrd_type.0 (protocol_number h.protocol_type)
   protocol_same = ap (λ (s : LinuxSllValue). protocol_of s.hardware_type s.protocol) same
 
-  tells : (k : LinuxSllHeader) → HoldsHeader bytes k → k ≡ h → protocol_type_of h.arp_hrd_type (protocol_number h.protocol_type) ≡ Ok h.protocol_type
+  tells : (k : LinuxSllHeader) → HoldsHeader bytes k → k ≡ h → HasOwnType h
   tells k holds e =
       let s = accepts_hardware bytes (is_supported (linux_sll_of bytes).hardware_type) ok (omega arith) packet_of refl holds.accepted in
       let t : is_supported h.arp_hrd_type.0 ≡ true = subst (λ (v : LinuxSllValue). is_supported v.hardware_type ≡ true) same s in
       let p : protocol_of h.arp_hrd_type.0 (protocol_number h.protocol_type) ≡ h.protocol_type = sym protocol_same ∙ sym holds.protocol ∙ ap (λ (x : LinuxSllHeader). x.protocol_type) e in
       ap (λ (b : Bool). if b then Ok (protocol_of h.arp_hrd_type.0 (protocol_number h.protocol_type)) else Err (UnsupportedArpHardwareId h.arp_hrd_type)) t ∙ ap Ok p
 
-  is_told : (k : LinuxSllHeader) → HoldsHeader bytes k → protocol_type_of h.arp_hrd_type (protocol_number h.protocol_type) ≡ Ok h.protocol_type → k ≡ h
+  is_told : (k : LinuxSllHeader) → HoldsHeader bytes k → HasOwnType h → k ≡ h
   is_told k holds e =
       let v : linux_sll_view k ≡ linux_sll_view h = linux_sll_unique (linux_sll_view k) (linux_sll_view h) holds.value.fits is.fits (sym holds.value.sum ∙ is.sum) in
       let a : k.sender_address ≡ h.sender_address = holds.address ∙ address in
@@ -89,12 +89,12 @@ module _ (bytes : List ℕ) (h : LinuxSllHeader) (ok : IsBytes bytes) (len : len
         protocol_type = p i;
       }
 
-  never_refused : (e : HeaderError) → IsRefusedContent bytes e → protocol_type_of h.arp_hrd_type (protocol_number h.protocol_type) ≡ Ok h.protocol_type → ⊥
+  never_refused : (e : HeaderError) → IsRefusedContent bytes e → HasOwnType h → ⊥
   never_refused e row told =
       let u = supported (is_supported h.arp_hrd_type.0) (protocol_of h.arp_hrd_type.0 (protocol_number h.protocol_type)) h.protocol_type (UnsupportedArpHardwareId h.arp_hrd_type) told in
       let t : is_supported (linux_sll_of bytes).hardware_type ≡ true = subst (λ (v : LinuxSllValue). is_supported v.hardware_type ≡ true) (sym same) u.0 in
       refused_not_accepted bytes e row (linux_sll_accepted sources.Slice bytes ok (omega arith) packet_of t)
 
-  pub read_back : (r : Result LinuxSllHeader HeaderError) → AnswersHeader bytes r → ((r ≡ Ok h) ↔ (protocol_type_of h.arp_hrd_type (protocol_number h.protocol_type) ≡ Ok h.protocol_type))
+  pub read_back : (r : Result LinuxSllHeader HeaderError) → AnswersHeader bytes r → ((r ≡ Ok h) ↔ (HasOwnType h))
   read_back (Ok k) holds = ((λ e. tells k holds cc), (λ p. ap Ok (is_told k holds p)))
   read_back (Err e) row = ((λ f. absurd cc), (λ p. absurd (never_refused e row p)))

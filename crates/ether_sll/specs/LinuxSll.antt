@@ -1,9 +1,9 @@
 -- Headers of cooked capture as values of the wire format, their refusals as rows of the table, and what bytes say beyond the
 -- numbers of their header.
-use Rattle.std.specs.Prelude.{ℕ, List, ◌≡◌, ◌+◌, ◌≤◌, length, slice_range, min, true, Result, MatchResult}
+use Rattle.std.specs.Prelude.{ℕ, List, ◌≡◌, ◌+◌, ◌≤◌, length, slice_range, min, true, Result, Ok, MatchResult}
 use Rattle.ether_base.specs.Bytes.{number}
 use Rattle.ether_base.specs.Formats.LinuxSll.{LinuxSllValue, IsLinuxSll, linux_sll_of, is_supported}
-use Rattle.ether_base.specs.Formats.LinuxSllProtocolType.{protocol_number, protocol_of}
+use Rattle.ether_base.specs.Formats.LinuxSllProtocolType.{protocol_number, protocol_of, protocol_type_of}
 use Rattle.ether_sll.specs.declared.linux_sll_header.LinuxSllHeader.{LinuxSllHeader}
 use Rattle.ether_base.specs.declared.len_source.LenSource.TheVariants as sources
 use Rattle.ether_base.specs.declared.err.linux_sll.header_error.HeaderError.{HeaderError}
@@ -15,15 +15,20 @@ use Rattle.ether_base.specs.Formats.Refusal.{UnsupportedPacketType, UnsupportedH
 use Rattle.ether_base.specs.Formats.RefusedLen.{IsRefusedLen}
 use Rattle.ether_base.specs.declared.linux_sll_protocol_type.LinuxSllProtocolType.{LinuxSllProtocolType}
 
--- the address as the number of its bytes, the protocol type as its number
-abbrev pub linux_sll_view : LinuxSllHeader → LinuxSllValue
-linux_sll_view h = record {
-  packet_type = h.packet_type;
-  hardware_type = h.arp_hrd_type.0;
-  address_len = h.sender_address_valid_length;
-  address = number h.sender_address;
-  protocol = protocol_number h.protocol_type;
+-- the address as the number of its bytes
+abbrev pub linux_sll_value : (packet_type hardware_type address_len : ℕ) (address : List ℕ) (protocol : ℕ) → LinuxSllValue
+linux_sll_value packet_type hardware_type address_len address protocol = record {
+  packet_type = packet_type;
+  hardware_type = hardware_type;
+  address_len = address_len;
+  address = number address;
+  protocol = protocol;
 }
+
+-- the protocol type as its number
+abbrev pub linux_sll_view : LinuxSllHeader → LinuxSllValue
+linux_sll_view h =
+    linux_sll_value h.packet_type h.arp_hrd_type.0 h.sender_address_valid_length h.sender_address (protocol_number h.protocol_type)
 
 -- ---- refusals
 
@@ -50,6 +55,10 @@ protocol_type_of_header bytes = protocol_of (linux_sll_of bytes).hardware_type (
 -- of the eight bytes of the address those that the header counts as valid, and no more than there are
 abbrev pub valid_address : List ℕ → List ℕ
 valid_address bytes = slice_range bytes 6 (6 + min (linux_sll_of bytes).address_len 8)
+
+-- the protocol type is the one that the hardware type makes of its number
+abbrev pub HasOwnType : LinuxSllHeader → Type 0
+HasOwnType h = protocol_type_of h.arp_hrd_type (protocol_number h.protocol_type) ≡ Ok h.protocol_type
 
 -- sixteen bytes hold a header
 pub record HoldsHeader (bytes : List ℕ) (h : LinuxSllHeader) : Type 0 where

@@ -43,7 +43,9 @@ impl<'a> LinkSlice<'a> {
 
     /// The payload and its ether type; `None` if its protocol type of cooked capture has none, as of netlink or GRE.
     pub fn ether_payload(&self) -> Option<EtherPayloadSlice<'a>>
-        ensures { MatchOption result (told_ether_type (link_protocol self.now) ≡ None) (λ p. (told_ether_type (link_protocol self.now) ≡ Some p.ether_type.0) × (p.len_source ≡ link_source self.now) × (p.payload.now ≡ link_payload self.now)) }
+        ensures { MatchOption result (told_ether_type (link_protocol self.now) ≡ None)
+            (λ p. (told_ether_type (link_protocol self.now) ≡ Some p.ether_type.0)
+            × (p.len_source ≡ link_source self.now) × (p.payload.now ≡ link_payload self.now)) }
     {
         match self {
             LinkSlice::Ethernet2(slice) => Some(slice.payload()),

@@ -7,11 +7,10 @@ ghost use Rattle.ether_base.specs.Bytes.{number};
 ghost use Rattle.ether_base.specs.Formats.Header as headers;
 ghost use Rattle.ether_base.specs.Formats.Header.{Means};
 ghost use Rattle.ether_base.specs.Formats.Kind as kinds;
-ghost use Rattle.ether_base.specs.Formats.LinuxSll.{LinuxSllValue, IsLinuxSll, linux_sll_bytes};
-ghost use Rattle.ether_base.specs.Formats.LinuxSllProtocolType.{protocol_type_of, protocol_number};
+ghost use Rattle.ether_base.specs.Formats.LinuxSll.{IsLinuxSll, linux_sll_bytes};
 ghost use Rattle.ether_base.specs.Formats.Refusal.{Accepts};
 ghost use Rattle.ether_base.specs.WriteFront.{AnswersRest, LendsRest};
-ghost use Rattle.ether_sll.specs.LinuxSll.{AnswersHeader, protocol_type_of_header, IsRefusedSll, linux_sll_view};
+ghost use Rattle.ether_sll.specs.LinuxSll.{AnswersHeader, protocol_type_of_header, IsRefusedSll, linux_sll_view, linux_sll_value, HasOwnType};
 
 use crate::{LinuxSllHeaderSlice, linux_sll_fields};
 use ether_base::err::linux_sll::{HeaderError, HeaderSliceError};
@@ -75,9 +74,12 @@ impl LinuxSllHeader {
     ///   known for the hardware type, which the error names.
     pub fn from_slice(slice: &[u8]) -> Result<(LinuxSllHeader, &[u8]), HeaderSliceError>
         ensures accepted { IfOk result (λ answer. Accepts sources.Slice slice.now kinds.LinuxSll) }
-        ensures value { IfOk result (λ answer. Means slice.now (headers.LinuxSll (linux_sll_view answer.0))) }
-        ensures protocol { IfOk result (λ answer. answer.0.protocol_type ≡ protocol_type_of_header slice.now) }
-        ensures rest { IfOk result (λ answer. answer.1.now ≡ slice_range slice.now 16 (length slice.now)) }
+        ensures value { IfOk result
+            (λ answer. Means slice.now (headers.LinuxSll (linux_sll_view answer.0))) }
+        ensures protocol { IfOk result
+            (λ answer. answer.0.protocol_type ≡ protocol_type_of_header slice.now) }
+        ensures rest { IfOk result
+            (λ answer. answer.1.now ≡ slice_range slice.now 16 (length slice.now)) }
         ensures refused { IfErr result (IsRefusedSll slice.now) }
     {
         let header = LinuxSllHeaderSlice::from_slice(slice)?.to_header();
@@ -112,7 +114,8 @@ impl LinuxSllHeader {
     /// the variant.
     pub fn to_bytes(&self) -> [u8; 16]
         ensures value { result ≡ linux_sll_bytes (linux_sll_view self.now) }
-        ensures read_back { (r : Result LinuxSllHeader header_error) → AnswersHeader result r → ((r ≡ Ok self.now) ↔ (protocol_type_of self.now.arp_hrd_type (protocol_number self.now.protocol_type) ≡ Ok self.now.protocol_type)) }
+        ensures read_back { (r : Result LinuxSllHeader header_error) → AnswersHeader result r
+            → ((r ≡ Ok self.now) ↔ HasOwnType self.now) }
     {
         joined(
             u16::from(self.packet_type),
@@ -133,7 +136,8 @@ impl LinuxSllHeader {
         &self,
         slice: &'a mut [u8],
     ) -> Result<&'a mut [u8], SliceWriteSpaceError>
-        ensures* writes_back { sem 𝓛 (LendsRest (linux_sll_bytes (linux_sll_view self.now)) slice.entry result) }
+        ensures* writes_back { sem 𝓛
+            (LendsRest (linux_sll_bytes (linux_sll_view self.now)) slice.entry result) }
         ensures answers { AnswersRest 16 Layer.LinuxSllHeader slice.old result }
     {
         let whole = self.put(slice);
@@ -143,7 +147,8 @@ impl LinuxSllHeader {
     /// Writes the header to the front of a slice that has room for it, and hands the whole slice back.
     fn put<'a>(&self, slice: &'a mut [u8]) -> &'a mut [u8]
         ensures same_reference { result.ghost_name ≡ slice.entry.ghost_name }
-        ensures wrote { 16 ≤ length slice.old → result.now ≡ linux_sll_bytes (linux_sll_view self.now) ++ drop 16 slice.old }
+        ensures wrote { 16 ≤ length slice.old
+            → result.now ≡ linux_sll_bytes (linux_sll_view self.now) ++ drop 16 slice.old }
         ensures kept { length slice.old < 16 → result.now ≡ slice.old }
         ensures width { length (linux_sll_bytes (linux_sll_view self.now)) ≡ 16 }
     {
@@ -160,8 +165,10 @@ fn joined(
     protocol: u16,
 ) -> [u8; 16]
     requires { length address.now ≡ 8 }
-    ensures value { IsLinuxSll result (record { packet_type = packet_type; hardware_type = hardware; address_len = address_len; address = number address.now; protocol = protocol }) }
-    ensures bytes { result ≡ linux_sll_bytes (record { packet_type = packet_type; hardware_type = hardware; address_len = address_len; address = number address.now; protocol = protocol }) }
+    ensures value { IsLinuxSll result
+        (linux_sll_value packet_type hardware address_len address.now protocol) }
+    ensures bytes { result
+        ≡ linux_sll_bytes (linux_sll_value packet_type hardware address_len address.now protocol) }
     ensures address { slice_range result 6 14 ≡ address.now }
 {
     let p = packet_type.to_be_bytes();

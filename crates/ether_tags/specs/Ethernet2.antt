@@ -5,8 +5,12 @@ use Rattle.ether_base.specs.Formats.Ethernet2.{Ethernet2Value}
 use Rattle.ether_tags.specs.declared.ethernet2_header.Ethernet2Header.{Ethernet2Header}
 
 -- the addresses are the numbers of their bytes
+abbrev pub ethernet2_value : (destination source : List ℕ) (ether_type : ℕ) → Ethernet2Value
+ethernet2_value destination source ether_type =
+    record { destination = number destination; source = number source; ether_type = ether_type }
+
 abbrev pub ethernet2_view : Ethernet2Header → Ethernet2Value
-ethernet2_view h = record { destination = number h.destination; source = number h.source; ether_type = h.ether_type.0 }
+ethernet2_view h = ethernet2_value h.destination h.source h.ether_type.0
 
 -- the header in a list of at least fourteen bytes
 abbrev pub ethernet2_header_of : List ℕ → Ethernet2Header

@@ -1,5 +1,5 @@
 -- MACsec SecTags as the values that their bytes mean, and their refusals as rows of the table.
-use Rattle.std.specs.Prelude.{◌≡◌, ℕ, ◌+◌, List, length, slice_range, Option, Some, None, nat_lt, if◌then◌else◌}
+use Rattle.std.specs.Prelude.{◌≡◌, ℕ, ◌+◌, List, length, slice_range, Option, Some, None, option_map, nat_lt, if◌then◌else◌}
 use Rattle.ether_base.specs.declared.len_source.LenSource.{LenSource}
 use Rattle.ether_base.specs.declared.len_source.LenSource.TheVariants as sources
 use Rattle.ether_base.specs.declared.err.layer.Layer.TheVariants as layers
@@ -7,7 +7,8 @@ use Rattle.ether_base.specs.declared.err.macsec.header_error.HeaderError.{Header
 use Rattle.ether_base.specs.declared.err.macsec.header_error.HeaderError.TheVariants as contents
 use Rattle.ether_base.specs.declared.header_slice_error.HeaderSliceError.{HeaderSliceError}
 use Rattle.ether_base.specs.declared.header_slice_error.HeaderSliceError.TheVariants.{Len, Content}
-use Rattle.ether_base.specs.Formats.Macsec.{PayloadType, SecTagFront, SecTagValue, known_payload_len, sec_tag_len, sec_tag_front_in, sec_tag_of}
+use Rattle.ether_base.specs.Formats.Macsec.{PayloadType, SecTagFront, SecTagValue, known_payload_len, sec_tag_len, sec_tag_front_in, sec_tag_front_of, sec_tag_of}
+use Rattle.ether_base.specs.declared.ether_type_impl.EtherType.{EtherType}
 use Rattle.ether_base.specs.Formats.Macsec as payloads
 use Rattle.ether_base.specs.Formats.Kind as kinds
 use Rattle.ether_base.specs.Formats.Refusal.{Refusal, Length, UnexpectedVersion, InvalidShortLen, Refuses, RefusesHeader}
@@ -43,6 +44,14 @@ sec_tag_view h = record {
   packet_number = h.packet_nr;
   sci = h.sci;
 }
+
+-- the front of its bytes, version and reserved bit 0
+abbrev pub header_front : MacsecHeader → SecTagFront
+header_front h = sec_tag_front_of 0 0 (sec_tag_view h)
+
+-- the number of an ether type, if there is one
+abbrev pub number_of : Option EtherType → Option ℕ
+number_of = option_map (λ ether_type. ether_type.0)
 
 -- the short length that names a payload of n bytes: with the ether type's two if that can be read, and 0 above 63
 abbrev pub short_len_for : PayloadType → ℕ → ℕ

@@ -10,7 +10,7 @@ ghost use Rattle.ether_base.specs.Formats.Kind as kinds;
 ghost use Rattle.ether_base.specs.Formats.Refusal.{Accepts};
 ghost use Rattle.ether_base.specs.Formats.RefusedLen.{IsRefusedLen};
 ghost use Rattle.ether_base.specs.WriteFront.{AnswersRest, LendsRest};
-ghost use Rattle.ether_tags.specs.Ethernet2.{ethernet2_header_of, ethernet2_view};
+ghost use Rattle.ether_tags.specs.Ethernet2.{ethernet2_header_of, ethernet2_view, ethernet2_value};
 
 use crate::{Ethernet2HeaderSlice, ethernet2_fields};
 use ether_base::err::{Layer, LenError, SliceWriteSpaceError};
@@ -64,8 +64,10 @@ impl Ethernet2Header {
     pub fn from_slice(slice: &[u8]) -> Result<(Ethernet2Header, &[u8]), LenError>
         ensures accepted { IfOk result (λ answer. Accepts sources.Slice slice.now kinds.Ethernet2) }
         ensures fields { IfOk result (λ answer. answer.0 ≡ ethernet2_header_of slice.now) }
-        ensures value { IfOk result (λ answer. Means slice.now (headers.Ethernet2 (ethernet2_view answer.0))) }
-        ensures rest { IfOk result (λ answer. answer.1.now ≡ slice_range slice.now 14 (length slice.now)) }
+        ensures value { IfOk result
+            (λ answer. Means slice.now (headers.Ethernet2 (ethernet2_view answer.0))) }
+        ensures rest { IfOk result
+            (λ answer. answer.1.now ≡ slice_range slice.now 14 (length slice.now)) }
         ensures refused { IfErr result (IsRefusedLen slice.now kinds.Ethernet2) }
     {
         let header = Ethernet2HeaderSlice::from_slice(slice)?.to_header();
@@ -76,8 +78,10 @@ impl Ethernet2Header {
     pub fn read_from_slice(slice: &[u8]) -> Result<(Ethernet2Header, &[u8]), LenError>
         ensures accepted { IfOk result (λ answer. Accepts sources.Slice slice.now kinds.Ethernet2) }
         ensures fields { IfOk result (λ answer. answer.0 ≡ ethernet2_header_of slice.now) }
-        ensures value { IfOk result (λ answer. Means slice.now (headers.Ethernet2 (ethernet2_view answer.0))) }
-        ensures rest { IfOk result (λ answer. answer.1.now ≡ slice_range slice.now 14 (length slice.now)) }
+        ensures value { IfOk result
+            (λ answer. Means slice.now (headers.Ethernet2 (ethernet2_view answer.0))) }
+        ensures rest { IfOk result
+            (λ answer. answer.1.now ≡ slice_range slice.now 14 (length slice.now)) }
         ensures refused { IfErr result (IsRefusedLen slice.now kinds.Ethernet2) }
     {
         Ethernet2Header::from_slice(slice)
@@ -102,8 +106,10 @@ impl Ethernet2Header {
     /// The bytes of the header on the wire.
     pub fn to_bytes(&self) -> [u8; 14]
         ensures value { result ≡ ethernet2_bytes (ethernet2_view self.now) }
-        ensures inverse { (e : Ethernet2Value) → IsEthernet2 result e → e ≡ ethernet2_view self.now }
-        ensures accepted { (more : List ℕ) → Accepts sources.Slice (result ++ more) kinds.Ethernet2 }
+        ensures inverse { (e : Ethernet2Value)
+            → IsEthernet2 result e → e ≡ ethernet2_view self.now }
+        ensures accepted { (more : List ℕ)
+            → Accepts sources.Slice (result ++ more) kinds.Ethernet2 }
         ensures read_back { (more : List ℕ) → ethernet2_header_of (result ++ more) ≡ self.now }
         ensures same { ethernet2_header_of result ≡ self.now }
     {
@@ -120,7 +126,8 @@ impl Ethernet2Header {
         &self,
         slice: &'a mut [u8],
     ) -> Result<&'a mut [u8], SliceWriteSpaceError>
-        ensures* writes_back { sem 𝓛 (LendsRest (ethernet2_bytes (ethernet2_view self.now)) slice.entry result) }
+        ensures* writes_back { sem 𝓛
+            (LendsRest (ethernet2_bytes (ethernet2_view self.now)) slice.entry result) }
         ensures answers { AnswersRest 14 Layer.Ethernet2Header slice.old result }
     {
         let whole = self.put(slice);
@@ -130,7 +137,8 @@ impl Ethernet2Header {
     /// Writes the header to the front of a slice that has room for it, and hands the whole slice back.
     fn put<'a>(&self, slice: &'a mut [u8]) -> &'a mut [u8]
         ensures same_reference { result.ghost_name ≡ slice.entry.ghost_name }
-        ensures wrote { 14 ≤ length slice.old → result.now ≡ ethernet2_bytes (ethernet2_view self.now) ++ drop 14 slice.old }
+        ensures wrote { 14 ≤ length slice.old
+            → result.now ≡ ethernet2_bytes (ethernet2_view self.now) ++ drop 14 slice.old }
         ensures kept { length slice.old < 14 → result.now ≡ slice.old }
         ensures width { length (ethernet2_bytes (ethernet2_view self.now)) ≡ 14 }
     {
@@ -145,8 +153,9 @@ fn joined(destination: &[u8], source: &[u8], ether_type: u16) -> [u8; 14]
     ensures destination { slice_range result 0 6 ≡ destination.now }
     ensures source { slice_range result 6 12 ≡ source.now }
     ensures ether_type { number (slice_range result 12 14) ≡ ether_type }
-    ensures value { IsEthernet2 result (record { destination = number destination.now; source = number source.now; ether_type = ether_type }) }
-    ensures bytes { result ≡ ethernet2_bytes (record { destination = number destination.now; source = number source.now; ether_type = ether_type }) }
+    ensures value { IsEthernet2 result (ethernet2_value destination.now source.now ether_type) }
+    ensures bytes { result
+        ≡ ethernet2_bytes (ethernet2_value destination.now source.now ether_type) }
 {
     let d = destination;
     let s = source;

@@ -1,5 +1,5 @@
 //! A view of an Ethernet II frame.
-ghost use Rattle.std.specs.Prelude.{⊤, ◌≡◌, ◌↔◌, ◌≤◌, ◌<◌, length, true, false, IfOk, IfErr, ◌==◌, ◌-◌, slice_range};
+ghost use Rattle.std.specs.Prelude.{⊤, ◌≡◌, ◌≤◌, ◌<◌, length, true, false, IfOk, IfErr, ◌==◌, ◌-◌, slice_range};
 ghost use Rattle.std.proofs.Common.{rules};
 ghost use Rattle.std.specs.Cmp.Rules.{comparing};
 ghost use Rattle.std.specs.Cmp.Lexicographic.{pointwise};
@@ -45,7 +45,7 @@ pub struct Ethernet2Slice<'a> {
 }
 
 impl<'a> Model for Ethernet2Slice<'a> {
-    ghost use Rattle.std.specs.Prelude.{◌+◌, ◌≤◌, ◌≡◌, ◌⊎◌, ◌==◌, length, ℕ};
+    ghost use Rattle.std.specs.Prelude.{◌+◌, ◌≤◌, ◌≡◌, ◌⊎◌, ◌==◌, length};
     ghost use Rattle.ether_tags.specs.Ethernet2.{Frame};
 
     ghost Value = { Frame };
@@ -65,7 +65,8 @@ impl<'a> Ethernet2Slice<'a> {
     pub fn from_slice_without_fcs(slice: &'a [u8]) -> Result<Ethernet2Slice<'a>, LenError>
         ensures frame { IfOk result (λ f. f ≡ record { bytes = slice.now; has_fcs = false }) }
         ensures accepted { IfOk result (λ f. Accepts sources.Slice slice.now kinds.Ethernet2) }
-        ensures value { IfOk result (λ f. Means slice.now (headers.Ethernet2 (ethernet2_of slice.now))) }
+        ensures value { IfOk result
+            (λ f. Means slice.now (headers.Ethernet2 (ethernet2_of slice.now))) }
         ensures refused { IfErr result (IsRefusedLen slice.now kinds.Ethernet2) }
     {
         if slice.len() < Ethernet2Header::LEN {
@@ -88,7 +89,8 @@ impl<'a> Ethernet2Slice<'a> {
     pub fn from_slice_with_crc32_fcs(slice: &'a [u8]) -> Result<Ethernet2Slice<'a>, LenError>
         ensures frame { IfOk result (λ f. f ≡ record { bytes = slice.now; has_fcs = true }) }
         ensures accepted { IfOk result (λ f. Accepts sources.Slice slice.now kinds.Ethernet2Fcs) }
-        ensures value { IfOk result (λ f. Means slice.now (headers.Ethernet2Fcs (ethernet2_of slice.now))) }
+        ensures value { IfOk result
+            (λ f. Means slice.now (headers.Ethernet2Fcs (ethernet2_of slice.now))) }
         ensures refused { IfErr result (IsRefusedLen slice.now kinds.Ethernet2Fcs) }
     {
         if slice.len() < Ethernet2Header::LEN + FCS_LEN {

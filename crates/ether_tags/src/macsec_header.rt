@@ -1,14 +1,13 @@
 //! A MACsec SecTag as a value.
 ghost use Rattle.std.specs.Prelude.{◌≡◌, ◌≤◌, ◌<◌, ◌+◌, ◌++◌, ℕ, List, length, IfOk, IfErr, nat_eq, Some, None, if◌then◌else◌};
-ghost use Rattle.std.specs.Option.{option_map};
 ghost use Rattle.ether_base.specs.declared.len_source.LenSource.TheVariants as sources;
 ghost use Rattle.ether_base.specs.Bytes.{spelled, bit};
-ghost use Rattle.ether_base.specs.Formats.Macsec.{FitsSecTag, FitsSecTagFront, encrypted_of, changed_of, known_payload_len, sec_tag_bytes, sec_tag_front_number, sec_tag_front_of, sec_tag_len};
+ghost use Rattle.ether_base.specs.Formats.Macsec.{FitsSecTag, FitsSecTagFront, encrypted_of, changed_of, known_payload_len, sec_tag_bytes, sec_tag_front_number, sec_tag_len};
 ghost use Rattle.ether_base.specs.Formats.Header as headers;
 ghost use Rattle.ether_base.specs.Formats.Header.{Means};
 ghost use Rattle.ether_base.specs.Formats.Kind as kinds;
 ghost use Rattle.ether_base.specs.Formats.Refusal.{AcceptsHeader, InvalidShortLen, IsTooShort, RefusesHeader};
-ghost use Rattle.ether_tags.specs.Macsec.{IsRefusedTag, payload_type_view, readable_type, sec_tag_view, short_len_for};
+ghost use Rattle.ether_tags.specs.Macsec.{IsRefusedTag, payload_type_view, readable_type, sec_tag_view, short_len_for, header_front, number_of};
 
 use crate::{MacsecHeaderSlice, MacsecPType, macsec_fields};
 use arrayvec::ArrayVec;
@@ -121,7 +120,7 @@ impl MacsecHeader {
 
     /// The ether type of the payload; `None` if the payload is encrypted or changed.
     pub fn next_ether_type(&self) -> Option<EtherType>
-        ensures { option_map (λ ether_type. ether_type.0) result ≡ readable_type (payload_type_view self.now.ptype) }
+        ensures { number_of result ≡ readable_type (payload_type_view self.now.ptype) }
     {
         match self.ptype {
             MacsecPType::Unmodified(ether_type) => Some(ether_type),
@@ -132,7 +131,7 @@ impl MacsecHeader {
     /// The length of the tag in bytes, with the next ether type: [`MacsecHeader::MIN_LEN`] to
     /// [`MacsecHeader::MAX_LEN`].
     pub fn header_len(&self) -> usize
-        ensures { result ≡ sec_tag_len (sec_tag_front_of 0 0 (sec_tag_view self.now)) }
+        ensures { result ≡ sec_tag_len (header_front self.now) }
     {
         macsec_fields::tag_len(self.sci.is_some(), self.next_ether_type().is_some())
     }
@@ -140,7 +139,7 @@ impl MacsecHeader {
     /// The length of the payload in bytes that the short length names, without the next ether type. `None` if the short
     /// length is 0, which names none, or 1 though it counts the 2 bytes of a next ether type.
     pub fn expected_payload_len(&self) -> Option<usize>
-        ensures { result ≡ known_payload_len (sec_tag_front_of 0 0 (sec_tag_view self.now)) }
+        ensures { result ≡ known_payload_len (header_front self.now) }
     {
         macsec_fields::payload_len(self.short_len, self.next_ether_type().is_some())
     }
@@ -150,8 +149,10 @@ impl MacsecHeader {
     /// There is room for 63 bytes, which is more than the 47 of IEEE 802.1AE. A next ether type takes 2 of them, so up to
     /// 61 bytes of payload are named then. No short length names an encrypted or changed payload of 0 bytes.
     pub fn set_payload_len(&mut self, payload_len: usize)
-        ensures short_len { self.new.short_len ≡ short_len_for (payload_type_view self.old.ptype) payload_len }
-        ensures named { known_payload_len (sec_tag_front_of 0 0 (sec_tag_view self.new)) ≡ (if nat_eq self.new.short_len 0 then None else Some payload_len) }
+        ensures short_len { self.new.short_len
+            ≡ short_len_for (payload_type_view self.old.ptype) payload_len }
+        ensures named { known_payload_len (header_front self.new)
+            ≡ (if nat_eq self.new.short_len 0 then None else Some payload_len) }
         ensures others { self.new ≡ record self.old { short_len = self.new.short_len } }
     {
         self.short_len = match self.ptype {
@@ -168,10 +169,14 @@ impl MacsecHeader {
     /// They are read back as this tag, but for a short length of 1 with a next ether type, which is refused when read.
     pub fn to_bytes(&self) -> ArrayVec<u8, 16>
         ensures value { result.items ≡ sec_tag_bytes (sec_tag_view self.now) }
-        ensures read { (more : List ℕ) → Means (result.items ++ more) (headers.Macsec (sec_tag_view self.now)) }
-        ensures read_back { (more : List ℕ) (h : MacsecHeader) → Means (result.items ++ more) (headers.Macsec (sec_tag_view h)) → h ≡ self.now }
-        ensures accepted { (more : List ℕ) → (IsTooShort (sec_tag_front_of 0 0 (sec_tag_view self.now)) → ⊥) → AcceptsHeader sources.Slice (result.items ++ more) kinds.Macsec }
-        ensures refused { (more : List ℕ) → IsTooShort (sec_tag_front_of 0 0 (sec_tag_view self.now)) → RefusesHeader sources.Slice (result.items ++ more) kinds.Macsec InvalidShortLen }
+        ensures read { (more : List ℕ)
+            → Means (result.items ++ more) (headers.Macsec (sec_tag_view self.now)) }
+        ensures read_back { (more : List ℕ) (h : MacsecHeader)
+            → Means (result.items ++ more) (headers.Macsec (sec_tag_view h)) → h ≡ self.now }
+        ensures accepted { (more : List ℕ) → (IsTooShort (header_front self.now) → ⊥)
+            → AcceptsHeader sources.Slice (result.items ++ more) kinds.Macsec }
+        ensures refused { (more : List ℕ) → IsTooShort (header_front self.now)
+            → RefusesHeader sources.Slice (result.items ++ more) kinds.Macsec InvalidShortLen }
     {
         self.spelled()
     }
@@ -195,8 +200,8 @@ impl MacsecHeader {
 
     /// The first two bytes as one number, version and reserved bits 0.
     fn front(&self) -> u16
-        ensures value { result ≡ sec_tag_front_number (sec_tag_front_of 0 0 (sec_tag_view self.now)) }
-        ensures fits { FitsSecTagFront (sec_tag_front_of 0 0 (sec_tag_view self.now)) }
+        ensures value { result ≡ sec_tag_front_number (header_front self.now) }
+        ensures fits { FitsSecTagFront (header_front self.now) }
     {
         0x4000 * u16::from(self.endstation_id)
             + 0x2000 * u16::from(self.sci.is_some())

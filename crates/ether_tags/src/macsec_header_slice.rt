@@ -37,9 +37,8 @@ pub struct MacsecHeaderSlice<'a> {
 
 impl<'a> MacsecHeaderSlice<'a> {
     ghost use Rattle.std.specs.Prelude.{slice_index, ◌↔◌, IsTrue};
-    ghost use Rattle.std.specs.Option.{option_map};
     ghost use Rattle.ether_base.specs.Formats.Macsec.{known_payload_len};
-    ghost use Rattle.ether_tags.specs.Macsec.{IsRefusedTag, IsUnmodified, tag_bytes, tag_front, tag_in, payload_type_view, readable_type, sec_tag_view};
+    ghost use Rattle.ether_tags.specs.Macsec.{IsRefusedTag, IsUnmodified, tag_bytes, tag_front, tag_in, payload_type_view, readable_type, sec_tag_view, number_of};
 
     /// The tag at the front of a slice, with the next ether type. The bytes after it are not part of the view.
     ///
@@ -57,9 +56,11 @@ impl<'a> MacsecHeaderSlice<'a> {
     /// [`Layer::MacsecHeader`] and `layer_start_offset` is 0.
     pub fn from_slice(slice: &'a [u8]) -> Result<MacsecHeaderSlice<'a>, HeaderSliceError>
         ensures bytes { IfOk result (λ h. tag_bytes h ≡ tag_in slice.now) }
-        ensures whole { IfOk result (λ h. sec_tag_len (sec_tag_front_in slice.now) ≤ length slice.now) }
+        ensures whole { IfOk result
+            (λ h. sec_tag_len (sec_tag_front_in slice.now) ≤ length slice.now) }
         ensures accepted { IfOk result (λ h. AcceptsHeader sources.Slice slice.now kinds.Macsec) }
-        ensures value { IfOk result (λ h. Means slice.now (headers.Macsec (sec_tag_of (tag_bytes h)))) }
+        ensures value { IfOk result
+            (λ h. Means slice.now (headers.Macsec (sec_tag_of (tag_bytes h)))) }
         ensures refused { IfErr result (IsRefusedTag slice.now) }
     {
         if slice.len() < MacsecHeader::MIN_LEN {
@@ -184,7 +185,7 @@ impl<'a> MacsecHeaderSlice<'a> {
 
     /// The ether type of the payload; `None` if the payload is encrypted or changed.
     pub fn next_ether_type(&self) -> Option<EtherType>
-        ensures { option_map (λ ether_type. ether_type.0) result ≡ readable_type (sec_tag_of (tag_bytes self.now)).payload_type }
+        ensures { number_of result ≡ readable_type (sec_tag_of (tag_bytes self.now)).payload_type }
     {
         match self.ptype() {
             MacsecPType::Unmodified(ether_type) => Some(ether_type),

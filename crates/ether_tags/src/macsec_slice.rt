@@ -1,6 +1,5 @@
 //! A view of a MACsec SecTag and its payload.
 ghost use Rattle.std.specs.Prelude.{◌≡◌, ◌≤◌, ◌<◌, IfOk, IfErr};
-ghost use Rattle.std.specs.Option.{option_map};
 ghost use Rattle.ether_base.specs.declared.header_slice_error.HeaderSliceError.TheVariants.{Len};
 ghost use Rattle.ether_base.specs.declared.len_source.LenSource.TheVariants as sources;
 ghost use Rattle.ether_base.specs.Formats.Macsec.{known_payload_len, sec_tag_front_in, sec_tag_of};
@@ -8,7 +7,7 @@ ghost use Rattle.ether_base.specs.Formats.Header as headers;
 ghost use Rattle.ether_base.specs.Formats.Header.{Means};
 ghost use Rattle.ether_base.specs.Formats.Kind as kinds;
 ghost use Rattle.ether_base.specs.Formats.Refusal.{Accepts};
-ghost use Rattle.ether_tags.specs.Macsec.{HoldsPayload, HoldsTyped, IsRefusedPacket, cut_payload, payload_end_after, payload_source, readable_payload, readable_type, tag_bytes, tag_front, tag_in};
+ghost use Rattle.ether_tags.specs.Macsec.{HoldsPayload, HoldsTyped, IsRefusedPacket, cut_payload, payload_end_after, payload_source, readable_payload, readable_type, tag_bytes, tag_front, tag_in, number_of};
 
 use crate::{EtherPayloadSlice, MacsecHeaderSlice, MacsecPayloadSlice, macsec_fields};
 use ether_base::err::Layer;
@@ -52,9 +51,11 @@ impl<'a> MacsecSlice<'a> {
     /// `len_source` is [`LenSource::MacsecShortLength`], `layer` is [`Layer::MacsecPacket`] and `layer_start_offset` is 0.
     pub fn from_slice(slice: &'a [u8]) -> Result<MacsecSlice<'a>, HeaderSliceError>
         ensures header { IfOk result (λ m. tag_bytes m.header ≡ tag_in slice.now) }
-        ensures payload { IfOk result (λ m. HoldsPayload m.payload (sec_tag_front_in slice.now) slice.now) }
+        ensures payload { IfOk result
+            (λ m. HoldsPayload m.payload (sec_tag_front_in slice.now) slice.now) }
         ensures accepted { IfOk result (λ m. Accepts sources.Slice slice.now kinds.Macsec) }
-        ensures value { IfOk result (λ m. Means slice.now (headers.Macsec (sec_tag_of (tag_bytes m.header)))) }
+        ensures value { IfOk result
+            (λ m. Means slice.now (headers.Macsec (sec_tag_of (tag_bytes m.header)))) }
         ensures refused { IfErr result (IsRefusedPacket slice.now) }
     {
         let header = MacsecHeaderSlice::from_slice(slice)?;
@@ -80,7 +81,8 @@ impl<'a> MacsecSlice<'a> {
 
     /// The ether type of the payload; `None` if the payload is encrypted or changed.
     pub fn next_ether_type(&self) -> Option<EtherType>
-        ensures { option_map (λ ether_type. ether_type.0) result ≡ readable_type (sec_tag_of (tag_bytes self.now.header)).payload_type }
+        ensures { number_of result
+            ≡ readable_type (sec_tag_of (tag_bytes self.now.header)).payload_type }
     {
         self.header.next_ether_type()
     }
@@ -91,8 +93,10 @@ impl<'a> MacsecSlice<'a> {
 fn end_within(header: &MacsecHeaderSlice<'_>, slice_len: usize) -> Result<usize, HeaderSliceError>
     ensures end { IfOk result (λ end. end ≡ payload_end_after (tag_front header.now) slice_len) }
     ensures within { IfOk result (λ end. end ≤ slice_len) }
-    ensures refused { IfErr result (λ e. e ≡ cut_payload (payload_end_after (tag_front header.now) slice_len) slice_len) }
-    ensures cut { IfErr result (λ _. slice_len < payload_end_after (tag_front header.now) slice_len) }
+    ensures refused { IfErr result
+        (λ e. e ≡ cut_payload (payload_end_after (tag_front header.now) slice_len) slice_len) }
+    ensures cut { IfErr result
+        (λ _. slice_len < payload_end_after (tag_front header.now) slice_len) }
 {
     let named = usize::from(header.short_len().value());
     if named == 0 {
@@ -126,7 +130,7 @@ fn payload_of<'a>(
     len_source: LenSource,
     payload: &'a [u8],
 ) -> MacsecPayloadSlice<'a>
-    ensures { HoldsTyped result (option_map (λ ether_type. ether_type.0) ether_type) len_source payload.entry.now }
+    ensures { HoldsTyped result (number_of ether_type) len_source payload.entry.now }
 {
     match ether_type {
         Some(ether_type) => MacsecPayloadSlice::Unmodified(EtherPayloadSlice {

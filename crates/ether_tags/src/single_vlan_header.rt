@@ -73,8 +73,10 @@ impl SingleVlanHeader {
     /// `LenSource::Slice`, `layer` is `Layer::VlanHeader` and `layer_start_offset` is 0.
     pub fn from_slice(slice: &[u8]) -> Result<(SingleVlanHeader, &[u8]), LenError>
         ensures accepted { IfOk result (λ answer. Accepts sources.Slice slice.now kinds.Vlan) }
-        ensures value { IfOk result (λ answer. Means slice.now (headers.Vlan (vlan_view answer.0))) }
-        ensures rest { IfOk result (λ answer. answer.1.now ≡ slice_range slice.now 4 (length slice.now)) }
+        ensures value { IfOk result
+            (λ answer. Means slice.now (headers.Vlan (vlan_view answer.0))) }
+        ensures rest { IfOk result
+            (λ answer. answer.1.now ≡ slice_range slice.now 4 (length slice.now)) }
         ensures refused { IfErr result (IsRefusedLen slice.now kinds.Vlan) }
     {
         let header = SingleVlanHeaderSlice::from_slice(slice)?.to_header();
@@ -84,8 +86,10 @@ impl SingleVlanHeader {
     /// The same as [`SingleVlanHeader::from_slice`], under its older name.
     pub fn read_from_slice(slice: &[u8]) -> Result<(SingleVlanHeader, &[u8]), LenError>
         ensures accepted { IfOk result (λ answer. Accepts sources.Slice slice.now kinds.Vlan) }
-        ensures value { IfOk result (λ answer. Means slice.now (headers.Vlan (vlan_view answer.0))) }
-        ensures rest { IfOk result (λ answer. answer.1.now ≡ slice_range slice.now 4 (length slice.now)) }
+        ensures value { IfOk result
+            (λ answer. Means slice.now (headers.Vlan (vlan_view answer.0))) }
+        ensures rest { IfOk result
+            (λ answer. answer.1.now ≡ slice_range slice.now 4 (length slice.now)) }
         ensures refused { IfErr result (IsRefusedLen slice.now kinds.Vlan) }
     {
         SingleVlanHeader::from_slice(slice)
@@ -111,7 +115,8 @@ impl SingleVlanHeader {
         ensures value { result ≡ vlan_bytes (vlan_view self.now) }
         ensures inverse { (v : VlanValue) → IsVlan result v → v ≡ vlan_view self.now }
         ensures accepted { (more : List ℕ) → Accepts sources.Slice (result ++ more) kinds.Vlan }
-        ensures read_back { (more : List ℕ) (h : SingleVlanHeader) → Means (result ++ more) (headers.Vlan (vlan_view h)) → h ≡ self.now }
+        ensures read_back { (more : List ℕ) (h : SingleVlanHeader)
+            → Means (result ++ more) (headers.Vlan (vlan_view h)) → h ≡ self.now }
         ensures same { (h : SingleVlanHeader) → IsVlan result (vlan_view h) → h ≡ self.now }
     {
         let control = tag_control_of(self.pcp, self.drop_eligible_indicator, self.vlan_id);

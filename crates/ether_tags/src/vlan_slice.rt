@@ -39,7 +39,8 @@ impl<'a> VlanSlice<'a> {
     pub fn payload(&self) -> EtherPayloadSlice<'a>
         ensures ether_type { result.ether_type.0 ≡ (vlan_of (innermost self.now)).ether_type }
         ensures len_source { result.len_source ≡ sources.Slice }
-        ensures bytes { result.payload.now ≡ slice_range (innermost self.now) 4 (length (innermost self.now)) }
+        ensures bytes { result.payload.now
+            ≡ slice_range (innermost self.now) 4 (length (innermost self.now)) }
     {
         match self {
             VlanSlice::SingleVlan(slice) => slice.payload(),

@@ -43,14 +43,18 @@ impl<'a, R: Read> InputReader<'a, R> {
         requires { _out.now.waiting.items ≡ [] }
         ensures same_reader { self.new.inner.ghost_name ≡ self.old.inner.ghost_name }
         ensures bound { IfOk result (λ count. count ≤ length chunk.new) }
-        ensures read { IfOk result (λ count. Consumes (R.remaining self.old.inner.now) (R.remaining self.new.inner.now) (take count chunk.new)) }
-        ensures end { IfOk result (λ count. count ≡ 0 → 0 < length chunk.new → IsAtEnd (R.remaining self.new.inner.now)) }
+        ensures read { IfOk result
+            (λ count. Consumes (R.remaining self.old.inner.now) (R.remaining self.new.inner.now)
+            (take count chunk.new)) }
+        ensures end { IfOk result
+            (λ count. count ≡ 0 → 0 < length chunk.new → IsAtEnd (R.remaining self.new.inner.now)) }
         ensures left { OnOk result (self.new.reads_left + 1 ≡ self.old.reads_left) }
         ensures going { OnOk result (self.new.has_failed ≡ false) }
         ensures fault { IfErr result (λ fault. fault ≡ ToolFault.Input) }
         ensures failed { IfErr result (λ fault. self.new.has_failed ≡ true) }
         ensures cause { OnErr result (HasCause self.old self.new) }
-        ensures kept { IfErr result (λ fault. Keeps (R.remaining self.old.inner.now) (R.remaining self.new.inner.now)) }
+        ensures kept { IfErr result
+            (λ fault. Keeps (R.remaining self.old.inner.now) (R.remaining self.new.inner.now)) }
     {
         if self.has_failed || self.reads_left == 0 {
             self.has_failed = true;

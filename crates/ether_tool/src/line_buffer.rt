@@ -55,7 +55,8 @@ impl LineBuffer {
 
     /// Takes a further piece of the line.
     pub fn extend(&mut self, piece: &[u8])
-        ensures { (line : List ℕ) → KeepsLine self.old line → KeepsLine self.new (line ++ piece.now) }
+        ensures { (line : List ℕ) → KeepsLine self.old line
+            → KeepsLine self.new (line ++ piece.now) }
     {
         if self.bytes.try_extend_from_slice(piece).is_err() {
             self.is_long = true;

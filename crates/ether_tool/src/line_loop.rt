@@ -17,7 +17,6 @@ pub struct LineLoop {
 
 impl LineLoop {
     ghost use Rattle.std.specs.Prelude.{◌≡◌, ◌++◌, ℕ, List, [], Option, IfOk, IfErr, OnOk, true};
-    ghost use Rattle.ether_tool.specs.OutputBuffer.{contents_of};
     ghost use Rattle.ether_tool.specs.Run.{OnBadLine, OnStreamFault};
     ghost use Rattle.ether_tool.specs.LineBuffer.{KeepsLine, without_end};
     ghost use Rattle.ether_tool.specs.LineLoop.{Advances, Finishes, IsStart, JudgesLine, RefusesLine, StopsWithin};
@@ -46,7 +45,8 @@ impl LineLoop {
         ensures same_writer { out.new.writer.ghost_name ≡ out.old.writer.ghost_name }
         ensures ok { OnOk result ((line : List ℕ) → KeepsLine self.old.line line
             → JudgesLine command W.contents (without_end end (line ++ piece.now)) self.old out.old self.new out.new) }
-        ensures bad { IfErr result (λ fault. OnBadLine fault (RefusesLine piece.now end self.old out.old out.new)) }
+        ensures bad { IfErr result
+            (λ fault. OnBadLine fault (RefusesLine piece.now end self.old out.old out.new)) }
         ensures failed { IfErr result (λ fault. OnStreamFault fault ⊥ (out.new.has_failed ≡ true)) }
     {
         let number = self.count.saturating_add(1);
@@ -68,7 +68,8 @@ impl LineLoop {
         out: &mut OutputBuffer<'_, W>,
     ) -> Result<(), ToolFault>
         ensures same_writer { out.new.writer.ghost_name ≡ out.old.writer.ghost_name }
-        ensures ok { OnOk result (Advances command W.contents self.old out.old chunk.now self.new out.new) }
+        ensures ok { OnOk result (Advances command W.contents
+            self.old out.old chunk.now self.new out.new) }
         ensures bad { IfErr result (λ fault. OnBadLine fault (λ number. (later : List ℕ)
             → StopsWithin command W.contents self.old out.old chunk.now later out.new number)) }
         ensures failed { IfErr result (λ fault. OnStreamFault fault ⊥ (out.new.has_failed ≡ true)) }

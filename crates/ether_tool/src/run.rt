@@ -74,7 +74,8 @@ fn answer_input<R: Read, W: Write>(
     ensures same_writer { out.new.writer.ghost_name ≡ out.old.writer.ghost_name }
     ensures run { HasRun command (R.remaining input.old.inner.now) (R.remaining input.new.inner.now)
         (contents_of W.contents out.old) (W.contents out.new.writer.now) result }
-    ensures failed { IfErr result (λ fault. OnStreamFault fault (input.new.has_failed ≡ true) (out.new.has_failed ≡ true)) }
+    ensures failed { IfErr result
+        (λ fault. OnStreamFault fault (input.new.has_failed ≡ true) (out.new.has_failed ≡ true)) }
     ensures flushed { IfSettled result (out.new.is_flushed ≡ true) }
 {
     let outcome = read_lines(command, input, out);
@@ -96,7 +97,8 @@ fn read_lines<R: Read, W: Write>(
     ensures run { HasRun command (R.remaining input.old.inner.now) (R.remaining input.new.inner.now)
         (contents_of W.contents out.old) (contents_of W.contents out.new) result }
     ensures none_waits { IfErr result (λ fault. OnInput fault (out.new.waiting.items ≡ [])) }
-    ensures failed { IfErr result (λ fault. OnStreamFault fault (input.new.has_failed ≡ true) (out.new.has_failed ≡ true)) }
+    ensures failed { IfErr result
+        (λ fault. OnStreamFault fault (input.new.has_failed ≡ true) (out.new.has_failed ≡ true)) }
 {
     let mut lines = LineLoop::new();
     let mut chunk = [0; CHUNK_LEN];

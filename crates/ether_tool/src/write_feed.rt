@@ -17,7 +17,8 @@ pub fn write_feed<W: Write>(
     frame: &[u8],
     out: &mut OutputBuffer<'_, W>,
 ) -> bool
-    ensures { TakesAnswer W.contents (AnswersFeed (start_with start limit) frame.now) out.old out.new result }
+    ensures { TakesAnswer W.contents (AnswersFeed (start_with start limit) frame.now)
+        out.old out.new result }
 {
     let outcome = fed(start, limit, frame);
     write_counts(out, outcome.refusals, outcome.taken);

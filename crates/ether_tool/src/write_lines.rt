@@ -1,7 +1,7 @@
 //! Writes the lines of a walk: one for each unit and one for the ending, or one for the two counts of feeding it.
 //!
 //! Each is appended to the output piece by piece: through the formatter it would take twice as long.
-ghost use Rattle.std.specs.Prelude.{◌≡◌, ◌++◌, ◌+◌, ◌≤◌, ◌<◌, codes, decimal, length, true};
+ghost use Rattle.std.specs.Prelude.{◌≡◌, ◌++◌, ◌+◌, ◌≤◌, ◌<◌, codes, decimal, length};
 ghost use Rattle.etherparse.specs.Ethernet2.{ethernet2_of, fcs_of};
 ghost use Rattle.etherparse.specs.Vlan.{vlan_of};
 ghost use Rattle.etherparse.specs.LinuxSll.{linux_sll_of};
@@ -51,7 +51,8 @@ fn write_ethernet2<W: Write>(
     start: usize,
     slice: &Ethernet2Slice<'_>,
 )
-    ensures { Takes W.contents out.old (ethernet2_view_text start (ethernet2_of slice.now.bytes) (fcs_of slice.now)) out.new }
+    ensures { Takes W.contents out.old
+        (ethernet2_view_text start (ethernet2_of slice.now.bytes) (fcs_of slice.now)) out.new }
 {
     // Bytes that were just written one by one are slow to copy, so the digits come first.
     let destination = hex_address(slice.destination());
@@ -140,7 +141,8 @@ fn write_macsec<W: Write>(
     len: usize,
     closed: bool,
 )
-    ensures { Takes W.contents out.old (macsec_text start (sec_tag_of (tag_bytes tag.now)) len closed) out.new }
+    ensures { Takes W.contents out.old
+        (macsec_text start (sec_tag_of (tag_bytes tag.now)) len closed) out.new }
 {
     write_number(out, b"macsec ", start);
     out.append(b" ");

@@ -1,5 +1,5 @@
 //! Writes the text for a frame: the lines of its walk, or those of feeding it.
-ghost use Rattle.std.specs.Prelude.{◌≡◌, ◌++◌, List, false};
+ghost use Rattle.std.specs.Prelude.{◌≡◌, List, false};
 ghost use Rattle.ether_tool.specs.OutputBuffer.{TakesAnswer};
 ghost use Rattle.ether_tool.specs.WalkText.{start_of_mode, Answers, AnswersWalk};
 ghost use Rattle.etherparse.specs.Header.{Header};
@@ -36,7 +36,8 @@ fn write_walk<W: Write>(
     frame: &[u8],
     out: &mut OutputBuffer<'_, W>,
 ) -> bool
-    ensures { TakesAnswer W.contents (AnswersWalk (start_with start limit) frame.now) out.old out.new result }
+    ensures { TakesAnswer W.contents (AnswersWalk (start_with start limit) frame.now)
+        out.old out.new result }
 {
     let mut peel = walker(start, limit, frame);
     loop {
@@ -59,7 +60,8 @@ fn write_walk<W: Write>(
 /// The walk of a frame, with a limit on VLAN tags and SecTags or without.
 fn walker(start: Start, limit: Option<usize>, frame: &[u8]) -> Peel<'_>
     ensures going { result.over ≡ false }
-    ensures walk { (headers : List Header) × (ending : Ending) × Walk (start_with start limit) frame.now headers ending
+    ensures walk { (headers : List Header) × (ending : Ending)
+        × Walk (start_with start limit) frame.now headers ending
         × Faces frame.now (whole (start_with start limit) frame.now) result headers ending }
 {
     match limit {

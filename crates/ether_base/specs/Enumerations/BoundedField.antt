@@ -3,9 +3,13 @@ use Rattle.std.specs.Prelude.{ℕ, ◌≡◌, ◌≤◌, ◌<◌, Result, MatchR
 use Rattle.ether_base.specs.declared.err.value_too_big_error.ValueTooBigError.{ValueTooBigError}
 use Rattle.ether_base.specs.declared.err.value_type.ValueType.{ValueType}
 
+-- the refusal of a number that is above a field's greatest
+abbrev pub too_big : (number greatest : ℕ) → ValueType → ValueTooBigError ℕ
+too_big number greatest value_type = record { actual = number; max_allowed = greatest; value_type = value_type }
+
 -- a field for the numbers up to a greatest one takes such a number, and refuses any other by name
 abbrev pub TakesUpTo : ℕ → ValueType → ℕ → Result ℕ (ValueTooBigError ℕ) → Type 0
 TakesUpTo greatest value_type number result =
     MatchResult result
     (λ field. (number ≤ greatest) × (field ≡ number))
-    (λ error. (greatest < number) × (error ≡ record { actual = number; max_allowed = greatest; value_type = value_type }))
+    (λ error. (greatest < number) × (error ≡ too_big number greatest value_type))

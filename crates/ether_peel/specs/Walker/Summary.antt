@@ -1,11 +1,12 @@
 -- The result of a whole walk.
-use Rattle.std.specs.Prelude.{◌≡◌, ℕ, List, length, take, Option, Some, None, false}
+use Rattle.std.specs.Prelude.{◌≡◌, ℕ, ◌+◌, List, length, take, Option, Some, None, false}
 use Rattle.etherparse.specs.Header.{Header}
 use Rattle.ether_peel.specs.Grammar.Expectation.{Expectation, has_fcs}
 use Rattle.ether_peel.specs.Grammar.Stack.{Ending, Accepted, Fault, last_window, last_expected, Walk}
 use Rattle.ether_peel.specs.Grammar.Cuts.{KeepsCut}
 use Rattle.ether_peel.specs.Grammar.Extensions.{KeepsExtensions}
 use Rattle.ether_peel.specs.Walker.Start.{kind_shown}
+use Rattle.ether_peel.specs.Walker.State.{State}
 use Rattle.ether_peel.specs.Walker.Fault.{fault_in}
 use Rattle.ether_peel.specs.declared.peel_fault.PeelFault.{PeelFault}
 use Rattle.ether_peel.specs.declared.walk_summary.Summary.{Summary}
@@ -22,6 +23,16 @@ summary_of hs e = record {
   rest_end = (last_window e).finish;
   kind = kind_shown (last_expected e);
   fault = fault_of e;
+}
+
+-- the summary of a walker that shows this, after so many units, with its fault
+abbrev pub summary_at : State → ℕ → Option PeelFault → Summary
+summary_at s units fault = record {
+  units = units;
+  rest_start = s.offset;
+  rest_end = s.offset + length s.rest;
+  kind = kind_shown s.expected;
+  fault = fault;
 }
 
 -- A list has a walk and no second one, and this is its summary. Without a frame check sequence, every extension of the list keeps

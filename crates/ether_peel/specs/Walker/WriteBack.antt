@@ -26,6 +26,10 @@ pub record WritesBack (start : Expectation) (list : List ℕ) (end : ℕ) (old n
   pub bytes : new ≡ flat_map header_bytes found ++ within list (last_window ending) ++ drop end old
   pub front : new ≡ take end (cleared list 0 found) ++ drop end old
 
+-- a target has room for the headers of a walk and for its last window
+abbrev pub HasRoom : Expectation → List ℕ → List ℕ → Type 0
+HasRoom start list target = (hs : List Header) (e : Ending) → Walk start list hs e → (last_window e).finish ≤ length target
+
 -- the refusal of a target that is too short for them
 pub record RefusesBack (start : Expectation) (list target : List ℕ) (error : SliceWriteSpaceError) : Type 0 where
   pub found : List Header

@@ -5,8 +5,9 @@ ghost use Rattle.std.specs.Hash as fed;
 ghost use Rattle.ether_base.specs.Enumerations.Hashes.{hashed, protocol_type_fed};
 ghost use Rattle.std.specs.Ordering.{nat_cmp, on, then_cmp};
 ghost use Rattle.std.specs.Cmp.Lexicographic.{slice_cmp};
-ghost use Rattle.ether_base.specs.Formats.LinuxSllProtocolType.{protocol_number, protocol_place, protocol_type_of};
+ghost use Rattle.ether_base.specs.Formats.LinuxSllProtocolType.{protocol_number, protocol_place};
 ghost use Rattle.ether_sll.specs.Link.{ethernet2_header, linux_sll_header, SameLink};
+ghost use Rattle.ether_sll.specs.LinuxSll.{HasOwnType};
 
 use crate::{
     LinkHeader, LinkSlice, LinuxSllHeader, LinuxSllHeaderSlice, LinuxSllPayloadSlice, LinuxSllSlice,
@@ -88,7 +89,8 @@ pub fn same_linux_sll_payload_slice(
     a: &LinuxSllPayloadSlice<'_>,
     b: &LinuxSllPayloadSlice<'_>,
 ) -> bool
-    ensures { IsTrue result ↔ ((a.now.protocol_type ≡ b.now.protocol_type) × (a.now.payload.now ≡ b.now.payload.now)) }
+    ensures { IsTrue result
+        ↔ ((a.now.protocol_type ≡ b.now.protocol_type) × (a.now.payload.now ≡ b.now.payload.now)) }
 {
     *a == *b
 }
@@ -97,7 +99,10 @@ pub fn order_of_linux_sll_payload_slices(
     a: &LinuxSllPayloadSlice<'_>,
     b: &LinuxSllPayloadSlice<'_>,
 ) -> Ordering
-    ensures { result ≡ then_cmp (then_cmp (on (λ p. protocol_place p.protocol_type) nat_cmp) (on (λ p. protocol_number p.protocol_type) nat_cmp)) (on (λ p. p.payload.now) (slice_cmp nat_cmp)) a.now b.now }
+    ensures { result ≡ then_cmp
+        (then_cmp (on (λ p. protocol_place p.protocol_type) nat_cmp)
+        (on (λ p. protocol_number p.protocol_type) nat_cmp))
+        (on (λ p. p.payload.now) (slice_cmp nat_cmp)) a.now b.now }
 {
     a.cmp(b)
 }
@@ -112,13 +117,17 @@ pub fn partial_order_of_linux_sll_payload_slices(
     a: &LinuxSllPayloadSlice<'_>,
     b: &LinuxSllPayloadSlice<'_>,
 ) -> Option<Ordering>
-    ensures { result ≡ Some (then_cmp (then_cmp (on (λ p. protocol_place p.protocol_type) nat_cmp) (on (λ p. protocol_number p.protocol_type) nat_cmp)) (on (λ p. p.payload.now) (slice_cmp nat_cmp)) a.now b.now) }
+    ensures { result ≡ Some
+        (then_cmp (then_cmp (on (λ p. protocol_place p.protocol_type) nat_cmp)
+        (on (λ p. protocol_number p.protocol_type) nat_cmp))
+        (on (λ p. p.payload.now) (slice_cmp nat_cmp)) a.now b.now) }
 {
     partial_order_of(a, b)
 }
 
 pub fn hash_of_linux_sll_payload_slice(value: &LinuxSllPayloadSlice<'_>) -> u64
-    ensures { result ≡ hashed (protocol_type_fed value.now.protocol_type ++ fed.slice fed.u8 value.now.payload.now) }
+    ensures { result ≡ hashed (protocol_type_fed value.now.protocol_type
+        ++ fed.slice fed.u8 value.now.payload.now) }
 {
     let mut state = DefaultHasher::new();
     value.hash(&mut state);
@@ -132,13 +141,14 @@ pub fn len() -> usize
 }
 
 pub fn read_back(header: LinuxSllHeader) -> Result<LinuxSllHeader, HeaderError>
-    ensures { (result ≡ Ok header) ↔ (protocol_type_of header.arp_hrd_type (protocol_number header.protocol_type) ≡ Ok header.protocol_type) }
+    ensures { (result ≡ Ok header) ↔ HasOwnType header }
 {
     LinuxSllHeader::from_bytes(header.to_bytes())
 }
 
 pub fn set_ether_type(link: &mut LinkHeader, ether_type: EtherType)
-    ensures { MatchOption (ethernet2_header link.old) (link.new ≡ link.old) (λ h. link.new ≡ LinkHeader.Ethernet2 (record h { ether_type = ether_type })) }
+    ensures { MatchOption (ethernet2_header link.old) (link.new ≡ link.old)
+        (λ h. link.new ≡ LinkHeader.Ethernet2 (record h { ether_type = ether_type })) }
 {
     if let Some(header) = link.mut_ethernet2() {
         header.ether_type = ether_type;
@@ -146,7 +156,8 @@ pub fn set_ether_type(link: &mut LinkHeader, ether_type: EtherType)
 }
 
 pub fn replace_ethernet2(link: &mut LinkHeader, header: Ethernet2Header)
-    ensures { MatchOption (ethernet2_header link.old) (link.new ≡ link.old) (λ _. link.new ≡ LinkHeader.Ethernet2 header) }
+    ensures { MatchOption (ethernet2_header link.old) (link.new ≡ link.old)
+        (λ _. link.new ≡ LinkHeader.Ethernet2 header) }
 {
     if let Some(lent) = link.mut_ethernet2() {
         *lent = header;
@@ -154,7 +165,8 @@ pub fn replace_ethernet2(link: &mut LinkHeader, header: Ethernet2Header)
 }
 
 pub fn replace_linux_sll(link: &mut LinkHeader, header: LinuxSllHeader)
-    ensures { MatchOption (linux_sll_header link.old) (link.new ≡ link.old) (λ _. link.new ≡ LinkHeader.LinuxSll header) }
+    ensures { MatchOption (linux_sll_header link.old) (link.new ≡ link.old)
+        (λ _. link.new ≡ LinkHeader.LinuxSll header) }
 {
     if let Some(lent) = link.mut_linux_sll() {
         *lent = header;

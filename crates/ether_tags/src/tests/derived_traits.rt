@@ -214,7 +214,9 @@ pub fn same_vlan_slice(a: &VlanSlice<'_>, b: &VlanSlice<'_>) -> bool
 }
 
 pub fn same_ether_payload_slice(a: &EtherPayloadSlice<'_>, b: &EtherPayloadSlice<'_>) -> bool
-    ensures { IsTrue result ↔ ((a.now.ether_type ≡ b.now.ether_type) × (a.now.len_source ≡ b.now.len_source) × (a.now.payload.now ≡ b.now.payload.now)) }
+    ensures { IsTrue result
+        ↔ ((a.now.ether_type ≡ b.now.ether_type) × (a.now.len_source ≡ b.now.len_source)
+        × (a.now.payload.now ≡ b.now.payload.now)) }
 {
     *a == *b
 }
@@ -241,7 +243,9 @@ pub fn order_of_ether_payload_slices(
     a: &EtherPayloadSlice<'_>,
     b: &EtherPayloadSlice<'_>,
 ) -> Ordering
-    ensures { result ≡ then_cmp (on (λ p. p.ether_type.0) nat_cmp) (then_cmp (on (λ p. len_source_place p.len_source) nat_cmp) (on (λ p. p.payload.now) (slice_cmp nat_cmp))) a.now b.now }
+    ensures { result ≡ then_cmp (on (λ p. p.ether_type.0) nat_cmp)
+        (then_cmp (on (λ p. len_source_place p.len_source) nat_cmp)
+        (on (λ p. p.payload.now) (slice_cmp nat_cmp))) a.now b.now }
 {
     a.cmp(b)
 }
@@ -256,7 +260,10 @@ pub fn partial_order_of_ether_payload_slices(
     a: &EtherPayloadSlice<'_>,
     b: &EtherPayloadSlice<'_>,
 ) -> Option<Ordering>
-    ensures { result ≡ Some (then_cmp (on (λ p. p.ether_type.0) nat_cmp) (then_cmp (on (λ p. len_source_place p.len_source) nat_cmp) (on (λ p. p.payload.now) (slice_cmp nat_cmp))) a.now b.now) }
+    ensures { result ≡ Some
+        (then_cmp (on (λ p. p.ether_type.0) nat_cmp)
+        (then_cmp (on (λ p. len_source_place p.len_source) nat_cmp)
+        (on (λ p. p.payload.now) (slice_cmp nat_cmp))) a.now b.now) }
 {
     partial_order_of(a, b)
 }
@@ -274,7 +281,8 @@ pub fn default_single_vlan_header() -> SingleVlanHeader
 }
 
 pub fn default_double_vlan_header() -> DoubleVlanHeader
-    ensures outer { vlan_view result.outer ≡ record { pcp = 0; dei = 0; vid = 0; ether_type = 0x8100 } }
+    ensures outer { vlan_view result.outer
+        ≡ record { pcp = 0; dei = 0; vid = 0; ether_type = 0x8100 } }
     ensures inner { vlan_view result.inner ≡ record { pcp = 0; dei = 0; vid = 0; ether_type = 0 } }
 {
     DoubleVlanHeader::default()
