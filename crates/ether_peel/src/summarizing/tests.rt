@@ -1,10 +1,12 @@
 //! Cuts and extensions of worked examples, by `summary`, `snap` and `missing`.
 use super::*;
-use crate::test_frames::{NAMED, NESTED, PADDED_ARP};
+use crate::test_frames::{
+    CHECKED, COOKED, COOKED_GRE, NAMED, NESTED, PACKET, PADDED_ARP, SEALED, TAGGED,
+};
 use crate::{PeelError, PeelUnit, RestKind};
 use etherparse::err::macsec::HeaderError;
 use etherparse::err::{Layer, LenError};
-use etherparse::{EtherType, LenSource};
+use etherparse::{EtherType, LenSource, LinuxSllProtocolType};
 use std::process::Abort;
 
 /// A start, and a list of bytes.
@@ -99,6 +101,78 @@ fn the_example(rt: HostRuntime) {
         (found.kind, found.fault),
         (RestKind::EtherType(EtherType::IPV4), None)
     );
+}
+
+/// A frame that is accepted: the number of its units, where the rest starts and ends, and its kind.
+type AcceptedRow = (Start, &'static [u8], usize, usize, usize, RestKind);
+
+#[test]
+fn accepted_frames(rt: HostRuntime) {
+    let ipv4 = EtherType::IPV4;
+    let gre = LinuxSllProtocolType::GenericRoutingEncapsulationProtocolType(0x0800);
+    let rows: [AcceptedRow; 9] = [
+        (
+            Start::EtherType(ipv4),
+            &[],
+            0,
+            0,
+            0,
+            RestKind::EtherType(ipv4),
+        ),
+        (
+            Start::Ethernet2,
+            &PACKET,
+            1,
+            14,
+            15,
+            RestKind::EtherType(ipv4),
+        ),
+        (
+            Start::Ethernet2,
+            &TAGGED,
+            2,
+            18,
+            18,
+            RestKind::EtherType(ipv4),
+        ),
+        (Start::Ethernet2, &PADDED_ARP, 2, 42, 60, RestKind::AfterArp),
+        (
+            Start::Ethernet2Fcs,
+            &CHECKED,
+            1,
+            14,
+            14,
+            RestKind::EtherType(ipv4),
+        ),
+        (
+            MACSEC,
+            &NAMED,
+            2,
+            12,
+            12,
+            RestKind::EtherType(EtherType(0xCCDD)),
+        ),
+        (MACSEC, &SEALED, 1, 14, 15, RestKind::Sealed),
+        (
+            Start::LinuxSll,
+            &COOKED,
+            1,
+            16,
+            16,
+            RestKind::EtherType(EtherType(1)),
+        ),
+        (Start::LinuxSll, &COOKED_GRE, 1, 16, 16, RestKind::Sll(gre)),
+    ];
+    for (start, list, units, rest_start, rest_end, kind) in rows {
+        let accepted = Summary {
+            units,
+            rest_start,
+            rest_end,
+            kind,
+            fault: None,
+        };
+        assert_eq!(rt; summary(start, list), accepted);
+    }
 }
 
 #[test]
