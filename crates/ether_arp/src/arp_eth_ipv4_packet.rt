@@ -1,8 +1,9 @@
 //! ARP packets of Ethernet and IPv4 as values.
-ghost use Rattle.std.specs.Prelude.{◌≡◌, ◌++◌, Ok, Result};
+ghost use Rattle.std.specs.Prelude.{◌≡◌, ◌++◌, Ok, Result, length};
+ghost use Rattle.ether_base.specs.Bytes.{IsBytes};
 ghost use Rattle.std.specs.Net.Addr.{ipv4_octets};
 ghost use Rattle.ether_base.specs.declared.err.arp.arp_eth_ipv4_from_error.ArpEthIpv4FromError.{ArpEthIpv4FromError as from_error};
-ghost use Rattle.ether_base.specs.Formats.Arp.{arp_bytes};
+ghost use Rattle.ether_base.specs.Formats.Arp.{arp_bytes, FitsArp};
 ghost use Rattle.ether_arp.specs.ArpEthIpv4.{AnswersEthIpv4, eth_ipv4_bytes, eth_ipv4_view};
 
 use crate::{ArpPacket, arp_front};
@@ -62,7 +63,10 @@ impl ArpEthIpv4Packet {
 
     /// The packet as it is on the wire, numbers in network byte order.
     pub fn to_bytes(&self) -> [u8; 28]
-        ensures { result ≡ eth_ipv4_bytes self.now }
+        ensures value { result ≡ eth_ipv4_bytes self.now }
+        ensures packet { result ≡ arp_bytes (eth_ipv4_view self.now) }
+        ensures len { length result ≡ 28 }
+        ensures fits { FitsArp (eth_ipv4_view self.now) }
     {
         let front = arp_front::front_bytes(
             ArpHardwareId::ETHERNET.0,
@@ -107,7 +111,9 @@ fn joined(
     target_mac: [u8; 6],
     target_ipv4: [u8; 4],
 ) -> [u8; 28]
-    ensures { result ≡ front ++ sender_mac ++ sender_ipv4 ++ target_mac ++ target_ipv4 }
+    ensures value { result ≡ front ++ sender_mac ++ sender_ipv4 ++ target_mac ++ target_ipv4 }
+    ensures sender { IsBytes sender_mac × IsBytes sender_ipv4 }
+    ensures target { IsBytes target_mac × IsBytes target_ipv4 }
 {
     let (f, s, i, t, j) = (front, sender_mac, sender_ipv4, target_mac, target_ipv4);
     [

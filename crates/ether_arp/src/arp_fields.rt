@@ -37,6 +37,7 @@ pub fn packet(slice: &[u8]) -> Result<&[u8], LenError>
         (λ packet. packet.now ≡ slice_range slice.now 0 (arp_len (arp_front_in slice.now))) }
     ensures begins { IfOk result (λ _. BeginsWithArp slice.now) }
     ensures refused { IfErr result (IsRefusedLen slice.now kinds.Arp) }
+    ensures short { IfErr result (λ e. length slice.now < e.required_len) }
 {
     if slice.len() < FRONT_LEN {
         return Err(too_short(FRONT_LEN, slice.len(), LenSource::Slice, Layer::Arp));

@@ -215,6 +215,7 @@ impl ArpPacket {
         ensures accepted { IfOk result (λ p. Accepts sources.Slice slice.now kinds.Arp) }
         ensures value { IfOk result (λ p. Means slice.now (headers.Arp p)) }
         ensures refused { IfErr result (IsRefusedLen slice.now kinds.Arp) }
+        ensures short { IfErr result (λ e. length slice.now < e.required_len) }
     {
         Ok(ArpPacketSlice::from_slice(slice)?.to_packet())
     }

@@ -1,5 +1,5 @@
 //! A view of an ARP packet.
-ghost use Rattle.std.specs.Prelude.{⊤, ◌≡◌, length, slice_range, IfOk, IfErr, ◌==◌};
+ghost use Rattle.std.specs.Prelude.{⊤, ◌≡◌, length, slice_range, IfOk, IfErr, ◌==◌, ◌<◌};
 ghost use Rattle.std.proofs.Common.{rules};
 ghost use Rattle.std.specs.Cmp.Rules.{comparing};
 ghost use Rattle.std.specs.Cmp.Lexicographic.{pointwise};
@@ -53,6 +53,7 @@ impl<'a> ArpPacketSlice<'a> {
         ensures accepted { IfOk result (λ p. Accepts sources.Slice slice.now kinds.Arp) }
         ensures value { IfOk result (λ p. Means slice.now (headers.Arp (arp_of p))) }
         ensures refused { IfErr result (IsRefusedLen slice.now kinds.Arp) }
+        ensures short { IfErr result (λ e. length slice.now < e.required_len) }
     {
         Ok(ArpPacketSlice {
             slice: arp_fields::packet(slice)?,

@@ -1,9 +1,10 @@
 //! The fields of a header of Linux cooked capture v1 (LINKTYPE_LINUX_SLL) in bytes that begin with one: packet type, ARPHRD_
 //! type, length of the sender's address (2 bytes each), sender's address (8 bytes) and protocol (2 bytes), in this order.
-ghost use Rattle.std.specs.Prelude.{◌≡◌, ◌+◌, ◌≤◌, length, slice_range, IfOk, IfErr};
+ghost use Rattle.std.specs.Prelude.{◌≡◌, ◌+◌, ◌≤◌, length, slice_range, IfOk, IfErr, ◌<◌};
 ghost use Rattle.ether_base.specs.Bytes.{IsBytes, number, spelled};
 ghost use Rattle.ether_base.specs.Formats.LinuxSll.{linux_sll_of};
 ghost use Rattle.ether_sll.specs.LinuxSll.{HoldsLinuxSll, protocol_type_of_header, valid_address, IsRefusedContent, IsRefusedSll, linux_sll_view};
+ghost use Rattle.ether_base.specs.Formats.RefusedLen.{OnLen};
 
 use crate::LinuxSllHeader;
 use ether_base::big_endian::u16_of;
@@ -32,6 +33,7 @@ const PROTOCOL: Range<usize> = 14..16;
 pub fn require_header(slice: &[u8]) -> Result<(), HeaderSliceError>
     ensures holds { IfOk result (λ _. HoldsLinuxSll slice.now) }
     ensures refused { IfErr result (IsRefusedSll slice.now) }
+    ensures short { IfErr result (λ e. OnLen e (λ _. length slice.now < 16)) }
 {
     if slice.len() < LinuxSllHeader::LEN {
         return Err(HeaderSliceError::Len(too_short(

@@ -7,10 +7,11 @@ ghost use Rattle.ether_base.specs.Bytes.{number};
 ghost use Rattle.ether_base.specs.Formats.Header as headers;
 ghost use Rattle.ether_base.specs.Formats.Header.{Means};
 ghost use Rattle.ether_base.specs.Formats.Kind as kinds;
-ghost use Rattle.ether_base.specs.Formats.LinuxSll.{IsLinuxSll, linux_sll_bytes};
+ghost use Rattle.ether_base.specs.Formats.LinuxSll.{IsLinuxSll, linux_sll_bytes, FitsLinuxSll};
 ghost use Rattle.ether_base.specs.Formats.Refusal.{Accepts};
 ghost use Rattle.ether_base.specs.WriteFront.{AnswersRest, LendsRest};
 ghost use Rattle.ether_sll.specs.LinuxSll.{AnswersHeader, protocol_type_of_header, IsRefusedSll, linux_sll_view, linux_sll_value, HasOwnType};
+ghost use Rattle.ether_base.specs.Formats.RefusedLen.{OnLen};
 
 use crate::{LinuxSllHeaderSlice, linux_sll_fields};
 use ether_base::err::linux_sll::{HeaderError, HeaderSliceError};
@@ -81,6 +82,7 @@ impl LinuxSllHeader {
         ensures rest { IfOk result
             (λ answer. answer.1.now ≡ slice_range slice.now 16 (length slice.now)) }
         ensures refused { IfErr result (IsRefusedSll slice.now) }
+        ensures short { IfErr result (λ e. OnLen e (λ _. length slice.now < 16)) }
     {
         let header = LinuxSllHeaderSlice::from_slice(slice)?.to_header();
         Ok((header, &slice[LinuxSllHeader::LEN..]))
@@ -114,6 +116,8 @@ impl LinuxSllHeader {
     /// the variant.
     pub fn to_bytes(&self) -> [u8; 16]
         ensures value { result ≡ linux_sll_bytes (linux_sll_view self.now) }
+        ensures len { length result ≡ 16 }
+        ensures fits { FitsLinuxSll (linux_sll_view self.now) }
         ensures read_back { (r : Result LinuxSllHeader header_error) → AnswersHeader result r
             → ((r ≡ Ok self.now) ↔ HasOwnType self.now) }
     {

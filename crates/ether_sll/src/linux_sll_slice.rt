@@ -1,5 +1,5 @@
 //! A view of a packet of Linux cooked capture.
-ghost use Rattle.std.specs.Prelude.{⊤, ◌≡◌, ◌≤◌, length, IfOk, IfErr, ◌==◌, slice_range};
+ghost use Rattle.std.specs.Prelude.{⊤, ◌≡◌, ◌≤◌, length, IfOk, IfErr, ◌==◌, slice_range, ◌<◌};
 ghost use Rattle.std.proofs.Common.{rules};
 ghost use Rattle.std.specs.Cmp.Rules.{comparing};
 ghost use Rattle.std.specs.Cmp.Lexicographic.{pointwise};
@@ -11,6 +11,7 @@ ghost use Rattle.ether_base.specs.Formats.Header.{Means};
 ghost use Rattle.ether_base.specs.Formats.Kind as kinds;
 ghost use Rattle.ether_base.specs.Formats.Refusal.{Accepts};
 ghost use Rattle.ether_sll.specs.LinuxSll.{protocol_type_of_header, valid_address, IsRefusedSll, linux_sll_view};
+ghost use Rattle.ether_base.specs.Formats.RefusedLen.{OnLen};
 
 use crate::{LinuxSllHeader, LinuxSllPayloadSlice, linux_sll_fields};
 use ether_base::err::linux_sll::HeaderSliceError;
@@ -66,6 +67,7 @@ impl<'a> LinuxSllSlice<'a> {
         ensures accepted { IfOk result (λ p. Accepts sources.Slice slice.now kinds.LinuxSll) }
         ensures value { IfOk result (λ p. Means slice.now (headers.LinuxSll (linux_sll_of p))) }
         ensures refused { IfErr result (IsRefusedSll slice.now) }
+        ensures short { IfErr result (λ e. OnLen e (λ _. length slice.now < 16)) }
     {
         linux_sll_fields::require_header(slice)?;
         Ok(LinuxSllSlice { slice })

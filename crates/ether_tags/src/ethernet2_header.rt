@@ -1,9 +1,9 @@
 //! The Ethernet II header as a value.
-ghost use Rattle.std.specs.Prelude.{ℕ, List, ◌≡◌, ◌≤◌, ◌<◌, ◌++◌, length, drop, slice_range, IfOk, IfErr};
+ghost use Rattle.std.specs.Prelude.{ℕ, List, ◌≡◌, ◌≤◌, ◌<◌, ◌++◌, length, drop, slice_range, IfOk, IfErr, OnErr};
 ghost use Rattle.std.specs.Borrow.{sem};
 ghost use Rattle.ether_base.specs.declared.len_source.LenSource.TheVariants as sources;
 ghost use Rattle.ether_base.specs.Bytes.{number};
-ghost use Rattle.ether_base.specs.Formats.Ethernet2.{Ethernet2Value, IsEthernet2, ethernet2_bytes};
+ghost use Rattle.ether_base.specs.Formats.Ethernet2.{Ethernet2Value, IsEthernet2, ethernet2_bytes, FitsEthernet2};
 ghost use Rattle.ether_base.specs.Formats.Header as headers;
 ghost use Rattle.ether_base.specs.Formats.Header.{Means};
 ghost use Rattle.ether_base.specs.Formats.Kind as kinds;
@@ -69,6 +69,7 @@ impl Ethernet2Header {
         ensures rest { IfOk result
             (λ answer. answer.1.now ≡ slice_range slice.now 14 (length slice.now)) }
         ensures refused { IfErr result (IsRefusedLen slice.now kinds.Ethernet2) }
+        ensures short { OnErr result (length slice.now < 14) }
     {
         let header = Ethernet2HeaderSlice::from_slice(slice)?.to_header();
         Ok((header, &slice[Ethernet2Header::LEN..]))
@@ -83,6 +84,7 @@ impl Ethernet2Header {
         ensures rest { IfOk result
             (λ answer. answer.1.now ≡ slice_range slice.now 14 (length slice.now)) }
         ensures refused { IfErr result (IsRefusedLen slice.now kinds.Ethernet2) }
+        ensures short { OnErr result (length slice.now < 14) }
     {
         Ethernet2Header::from_slice(slice)
     }
@@ -106,6 +108,8 @@ impl Ethernet2Header {
     /// The bytes of the header on the wire.
     pub fn to_bytes(&self) -> [u8; 14]
         ensures value { result ≡ ethernet2_bytes (ethernet2_view self.now) }
+        ensures len { length result ≡ 14 }
+        ensures fits { FitsEthernet2 (ethernet2_view self.now) }
         ensures inverse { (e : Ethernet2Value)
             → IsEthernet2 result e → e ≡ ethernet2_view self.now }
         ensures accepted { (more : List ℕ)

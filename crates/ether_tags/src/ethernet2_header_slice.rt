@@ -1,5 +1,5 @@
 //! A view of an Ethernet II header.
-ghost use Rattle.std.specs.Prelude.{⊤, ◌≡◌, ◌≤◌, length, IfOk, IfErr, ◌==◌, slice_range};
+ghost use Rattle.std.specs.Prelude.{⊤, ◌≡◌, ◌≤◌, length, IfOk, IfErr, ◌==◌, slice_range, OnErr, ◌<◌};
 ghost use Rattle.std.proofs.Common.{rules};
 ghost use Rattle.std.specs.Cmp.Rules.{comparing};
 ghost use Rattle.std.specs.Cmp.Lexicographic.{pointwise};
@@ -61,6 +61,7 @@ impl<'a> Ethernet2HeaderSlice<'a> {
         ensures accepted { IfOk result (λ h. Accepts sources.Slice slice.now kinds.Ethernet2) }
         ensures value { IfOk result (λ h. Means slice.now (headers.Ethernet2 (ethernet2_of h))) }
         ensures refused { IfErr result (IsRefusedLen slice.now kinds.Ethernet2) }
+        ensures short { OnErr result (length slice.now < 14) }
     {
         if slice.len() < Ethernet2Header::LEN {
             return Err(too_short(

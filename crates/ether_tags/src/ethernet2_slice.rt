@@ -1,5 +1,5 @@
 //! A view of an Ethernet II frame.
-ghost use Rattle.std.specs.Prelude.{⊤, ◌≡◌, ◌≤◌, ◌<◌, length, true, false, IfOk, IfErr, ◌==◌, ◌-◌, slice_range};
+ghost use Rattle.std.specs.Prelude.{⊤, ◌≡◌, ◌≤◌, ◌<◌, length, true, false, IfOk, IfErr, ◌==◌, ◌-◌, slice_range, OnErr, drop};
 ghost use Rattle.std.proofs.Common.{rules};
 ghost use Rattle.std.specs.Cmp.Rules.{comparing};
 ghost use Rattle.std.specs.Cmp.Lexicographic.{pointwise};
@@ -64,10 +64,12 @@ impl<'a> Ethernet2Slice<'a> {
     /// [`LenSource::Slice`], `layer` is [`Layer::Ethernet2Header`] and `layer_start_offset` is 0.
     pub fn from_slice_without_fcs(slice: &'a [u8]) -> Result<Ethernet2Slice<'a>, LenError>
         ensures frame { IfOk result (λ f. f ≡ record { bytes = slice.now; has_fcs = false }) }
+        ensures payload { IfOk result (λ f. payload_of f ≡ drop 14 slice.now) }
         ensures accepted { IfOk result (λ f. Accepts sources.Slice slice.now kinds.Ethernet2) }
         ensures value { IfOk result
             (λ f. Means slice.now (headers.Ethernet2 (ethernet2_of slice.now))) }
         ensures refused { IfErr result (IsRefusedLen slice.now kinds.Ethernet2) }
+        ensures short { OnErr result (length slice.now < 14) }
     {
         if slice.len() < Ethernet2Header::LEN {
             return Err(too_short(
@@ -92,6 +94,7 @@ impl<'a> Ethernet2Slice<'a> {
         ensures value { IfOk result
             (λ f. Means slice.now (headers.Ethernet2Fcs (ethernet2_of slice.now))) }
         ensures refused { IfErr result (IsRefusedLen slice.now kinds.Ethernet2Fcs) }
+        ensures short { OnErr result (length slice.now < 18) }
     {
         if slice.len() < Ethernet2Header::LEN + FCS_LEN {
             return Err(too_short(

@@ -8,6 +8,7 @@ ghost use Rattle.ether_base.specs.Formats.Header.{Means};
 ghost use Rattle.ether_base.specs.Formats.Kind as kinds;
 ghost use Rattle.ether_base.specs.Formats.Refusal.{AcceptsHeader, InvalidShortLen, IsTooShort, RefusesHeader};
 ghost use Rattle.ether_tags.specs.Macsec.{IsRefusedTag, payload_type_view, readable_type, sec_tag_view, short_len_for, header_front, number_of};
+ghost use Rattle.ether_base.specs.Formats.RefusedLen.{OnLen};
 
 use crate::{MacsecHeaderSlice, MacsecPType, macsec_fields};
 use arrayvec::ArrayVec;
@@ -97,6 +98,7 @@ impl MacsecHeader {
         ensures accepted { IfOk result (λ h. AcceptsHeader sources.Slice slice.now kinds.Macsec) }
         ensures value { IfOk result (λ h. Means slice.now (headers.Macsec (sec_tag_view h))) }
         ensures refused { IfErr result (IsRefusedTag slice.now) }
+        ensures short { IfErr result (λ e. OnLen e (λ n. length slice.now < n.required_len)) }
     {
         Ok(MacsecHeaderSlice::from_slice(slice)?.to_header())
     }
@@ -169,6 +171,8 @@ impl MacsecHeader {
     /// They are read back as this tag, but for a short length of 1 with a next ether type, which is refused when read.
     pub fn to_bytes(&self) -> ArrayVec<u8, 16>
         ensures value { result.items ≡ sec_tag_bytes (sec_tag_view self.now) }
+        ensures len { length result.items ≡ sec_tag_len (header_front self.now) }
+        ensures fits { FitsSecTag (sec_tag_view self.now) }
         ensures read { (more : List ℕ)
             → Means (result.items ++ more) (headers.Macsec (sec_tag_view self.now)) }
         ensures read_back { (more : List ℕ) (h : MacsecHeader)

@@ -1,5 +1,5 @@
 //! A view of a MACsec SecTag.
-ghost use Rattle.std.specs.Prelude.{◌≡◌, ◌≤◌, length, IfOk, IfErr};
+ghost use Rattle.std.specs.Prelude.{◌≡◌, ◌≤◌, length, IfOk, IfErr, ◌<◌};
 ghost use Rattle.ether_base.specs.declared.len_source.LenSource.TheVariants as sources;
 ghost use Rattle.ether_base.specs.Formats.Macsec.{sec_tag_front_in, sec_tag_len, sec_tag_of};
 ghost use Rattle.ether_base.specs.Formats.Header as headers;
@@ -7,6 +7,7 @@ ghost use Rattle.ether_base.specs.Formats.Header.{Means};
 ghost use Rattle.ether_base.specs.Formats.Kind as kinds;
 ghost use Rattle.ether_base.specs.Formats.Refusal.{AcceptsHeader, IsTooShort};
 ghost use Rattle.ether_base.specs.Bytes.{bit};
+ghost use Rattle.ether_base.specs.Formats.RefusedLen.{OnLen};
 
 use crate::{MacsecHeader, MacsecPType, macsec_fields};
 use ether_base::err::Layer;
@@ -62,6 +63,7 @@ impl<'a> MacsecHeaderSlice<'a> {
         ensures value { IfOk result
             (λ h. Means slice.now (headers.Macsec (sec_tag_of (tag_bytes h)))) }
         ensures refused { IfErr result (IsRefusedTag slice.now) }
+        ensures short { IfErr result (λ e. OnLen e (λ n. length slice.now < n.required_len)) }
     {
         if slice.len() < MacsecHeader::MIN_LEN {
             return Err(HeaderSliceError::Len(too_short(

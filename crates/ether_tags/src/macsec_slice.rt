@@ -1,5 +1,5 @@
 //! A view of a MACsec SecTag and its payload.
-ghost use Rattle.std.specs.Prelude.{◌≡◌, ◌≤◌, ◌<◌, IfOk, IfErr};
+ghost use Rattle.std.specs.Prelude.{◌≡◌, ◌≤◌, ◌<◌, IfOk, IfErr, length};
 ghost use Rattle.ether_base.specs.declared.header_slice_error.HeaderSliceError.TheVariants.{Len};
 ghost use Rattle.ether_base.specs.declared.len_source.LenSource.TheVariants as sources;
 ghost use Rattle.ether_base.specs.Formats.Macsec.{known_payload_len, sec_tag_front_in, sec_tag_of};
@@ -8,6 +8,7 @@ ghost use Rattle.ether_base.specs.Formats.Header.{Means};
 ghost use Rattle.ether_base.specs.Formats.Kind as kinds;
 ghost use Rattle.ether_base.specs.Formats.Refusal.{Accepts};
 ghost use Rattle.ether_tags.specs.Macsec.{HoldsPayload, HoldsTyped, IsRefusedPacket, cut_payload, payload_end_after, payload_source, readable_payload, readable_type, tag_bytes, tag_front, tag_in, number_of};
+ghost use Rattle.ether_base.specs.Formats.RefusedLen.{OnLen};
 
 use crate::{EtherPayloadSlice, MacsecHeaderSlice, MacsecPayloadSlice, macsec_fields};
 use ether_base::err::Layer;
@@ -57,6 +58,7 @@ impl<'a> MacsecSlice<'a> {
         ensures value { IfOk result
             (λ m. Means slice.now (headers.Macsec (sec_tag_of (tag_bytes m.header)))) }
         ensures refused { IfErr result (IsRefusedPacket slice.now) }
+        ensures short { IfErr result (λ e. OnLen e (λ n. length slice.now < n.required_len)) }
     {
         let header = MacsecHeaderSlice::from_slice(slice)?;
         let start = header.header_len();

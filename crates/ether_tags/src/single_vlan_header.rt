@@ -1,12 +1,12 @@
 //! A VLAN tag as a value.
-ghost use Rattle.std.specs.Prelude.{ℕ, List, ◌++◌, ◌≡◌, length, slice_range, IfOk, IfErr};
+ghost use Rattle.std.specs.Prelude.{ℕ, List, ◌++◌, ◌≡◌, length, slice_range, IfOk, IfErr, OnErr, ◌<◌};
 ghost use Rattle.ether_base.specs.declared.len_source.LenSource.TheVariants as sources;
 ghost use Rattle.ether_base.specs.Formats.Header as headers;
 ghost use Rattle.ether_base.specs.Formats.Header.{Means};
 ghost use Rattle.ether_base.specs.Formats.Kind as kinds;
 ghost use Rattle.ether_base.specs.Formats.Refusal.{Accepts};
 ghost use Rattle.ether_base.specs.Formats.RefusedLen.{IsRefusedLen};
-ghost use Rattle.ether_base.specs.Formats.Vlan.{VlanValue, IsVlan, vlan_bytes};
+ghost use Rattle.ether_base.specs.Formats.Vlan.{VlanValue, IsVlan, vlan_bytes, FitsVlan};
 ghost use Rattle.ether_tags.specs.Vlan.{vlan_view};
 
 use crate::SingleVlanHeaderSlice;
@@ -78,6 +78,7 @@ impl SingleVlanHeader {
         ensures rest { IfOk result
             (λ answer. answer.1.now ≡ slice_range slice.now 4 (length slice.now)) }
         ensures refused { IfErr result (IsRefusedLen slice.now kinds.Vlan) }
+        ensures short { OnErr result (length slice.now < 4) }
     {
         let header = SingleVlanHeaderSlice::from_slice(slice)?.to_header();
         Ok((header, &slice[SingleVlanHeader::LEN..]))
@@ -91,6 +92,7 @@ impl SingleVlanHeader {
         ensures rest { IfOk result
             (λ answer. answer.1.now ≡ slice_range slice.now 4 (length slice.now)) }
         ensures refused { IfErr result (IsRefusedLen slice.now kinds.Vlan) }
+        ensures short { OnErr result (length slice.now < 4) }
     {
         SingleVlanHeader::from_slice(slice)
     }
@@ -113,6 +115,8 @@ impl SingleVlanHeader {
     /// The bytes of the tag on the wire.
     pub fn to_bytes(&self) -> [u8; 4]
         ensures value { result ≡ vlan_bytes (vlan_view self.now) }
+        ensures len { length result ≡ 4 }
+        ensures fits { FitsVlan (vlan_view self.now) }
         ensures inverse { (v : VlanValue) → IsVlan result v → v ≡ vlan_view self.now }
         ensures accepted { (more : List ℕ) → Accepts sources.Slice (result ++ more) kinds.Vlan }
         ensures read_back { (more : List ℕ) (h : SingleVlanHeader)

@@ -1,5 +1,5 @@
 //! A view of a VLAN tag and its payload.
-ghost use Rattle.std.specs.Prelude.{⊤, ◌≡◌, ◌↔◌, ◌≤◌, ◌<◌, length, IfOk, IfErr, ◌==◌, slice_range};
+ghost use Rattle.std.specs.Prelude.{⊤, ◌≡◌, ◌↔◌, ◌≤◌, ◌<◌, length, IfOk, IfErr, ◌==◌, slice_range, OnErr};
 ghost use Rattle.std.proofs.Common.{rules};
 ghost use Rattle.std.specs.Cmp.Rules.{comparing};
 ghost use Rattle.std.specs.Cmp.Lexicographic.{pointwise};
@@ -59,6 +59,7 @@ impl<'a> SingleVlanSlice<'a> {
         ensures accepted { IfOk result (λ v. Accepts sources.Slice slice.now kinds.Vlan) }
         ensures value { IfOk result (λ v. Means slice.now (headers.Vlan (vlan_of slice.now))) }
         ensures refused { IfErr result (IsRefusedLen slice.now kinds.Vlan) }
+        ensures short { OnErr result (length slice.now < 4) }
     {
         if slice.len() < SingleVlanHeader::LEN {
             return Err(too_short(

@@ -1,5 +1,7 @@
 -- A length error as the row of the table that holds.
 use Rattle.std.specs.Prelude.{◌≡◌, ℕ, List}
+use Rattle.ether_base.specs.declared.header_slice_error.HeaderSliceError.{HeaderSliceError}
+use Rattle.ether_base.specs.declared.header_slice_error.HeaderSliceError.TheVariants.{Len, Content}
 use Rattle.ether_base.specs.declared.len_source.LenSource.TheVariants as sources
 use Rattle.ether_base.specs.declared.err.len_error.LenError.{LenError}
 use Rattle.ether_base.specs.Formats.Kind.{Kind}
@@ -9,3 +11,8 @@ use Rattle.ether_base.specs.Formats.Refusal.{Length, Refuses}
 pub record IsRefusedLen (bytes : List ℕ) (kind : Kind) (e : LenError) : Type 0 where
   pub row : Refuses sources.Slice bytes kind (Length e.required_len e.len e.len_source e.layer)
   pub start : e.layer_start_offset ≡ 0
+
+-- something holds of a length error; of any other nothing is said
+abbrev pub OnLen : {C : Type 0} → HeaderSliceError C → (LenError → Type 0) → Type 0
+OnLen (Len e) holds = holds e
+OnLen (Content c) holds = Unit {0}

@@ -2,8 +2,8 @@ use Rattle.std.proofs.Common.{◌≡◌, ℕ, List, ◌++◌, length, ap, ◌∙
 use Rattle.ether_base.proofs.ArrayElements.{cells, cells-all}
 use Rattle.ether_arp.proofs.arp_eth_ipv4_packet.joined.Goals as goal
 
-pub returns : goal.returns
-returns c =
+pub returns-clause-value : goal.returns-clause-value
+returns-clause-value c =
     let f = c.args.front in
     let s = c.args.sender_mac in
     let i = c.args.sender_ipv4 in

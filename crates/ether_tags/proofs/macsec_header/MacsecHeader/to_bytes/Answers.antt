@@ -1,4 +1,4 @@
-use Rattle.std.proofs.Common.{◌++◌, List, ℕ, sym, subst}
+use Rattle.std.proofs.Common.{◌++◌, ◌∙◌, List, ℕ, length, sym, ap, subst}
 use Rattle.ether_base.specs.declared.len_source.LenSource.TheVariants as sources
 use Rattle.ether_base.specs.Formats.Header as headers
 use Rattle.ether_base.specs.Formats.Header.{Means}
@@ -6,10 +6,14 @@ use Rattle.ether_base.specs.Formats.Kind as kinds
 use Rattle.ether_base.specs.Formats.Refusal.{AcceptsHeader, InvalidShortLen, RefusesHeader}
 use Rattle.ether_base.proofs.Means.{tag_unique}
 use Rattle.ether_tags.proofs.SameHeaders.{macsec_headers_same}
-use Rattle.ether_base.proofs.ReadBack.{means-header_bytes}
+use Rattle.ether_base.proofs.ReadBack.{length-header_bytes, means-header_bytes}
 use Rattle.ether_base.proofs.MacsecFields.{sec_tag_bytes_accepted, sec_tag_bytes_refused}
 use Rattle.ether_tags.specs.Macsec.{sec_tag_view}
 use Rattle.ether_tags.proofs.macsec_header.MacsecHeader.to_bytes.Goals as goal
+
+pub returns-clause-len : goal.returns-clause-len
+returns-clause-len c =
+    ap (λ (l : List ℕ). length l) c.spelled.ensures.value ∙ length-header_bytes (headers.Macsec (sec_tag_view c.args.self.now)) c.spelled.ensures.fits
 
 pub returns-clause-read : goal.returns-clause-read
 returns-clause-read c more =
