@@ -19,14 +19,6 @@ use Rattle.ether_sll.specs.declared.link_slice.LinkSlice.{LinkSlice}
 use Rattle.ether_sll.specs.declared.link_slice.LinkSlice.TheVariants as link_slices
 use Rattle.ether_sll.specs.LinuxSll.{protocol_type_of_header, linux_sll_view}
 
--- the ether type in a protocol type: its own, or a number that Linux has in the same place
-abbrev pub told_ether_type : LinuxSllProtocolType → Option ℕ
-told_ether_type (protocols.Ignored number) = None
-told_ether_type (protocols.NetlinkProtocolType number) = None
-told_ether_type (protocols.GenericRoutingEncapsulationProtocolType number) = None
-told_ether_type (protocols.EtherType ether_type) = Some ether_type.0
-told_ether_type (protocols.LinuxNonstandardEtherType number) = Some number
-
 -- ---- headers
 
 abbrev pub ethernet2_header : LinkHeader → Option Ethernet2Header

@@ -6,7 +6,6 @@ mod link_slice;
 mod linux_sll_fields;
 mod linux_sll_header;
 mod linux_sll_header_slice;
-mod linux_sll_payload_slice;
 mod linux_sll_slice;
 #[cfg(test)]
 mod test_asserts;
@@ -19,5 +18,4 @@ pub use link_header::LinkHeader;
 pub use link_slice::LinkSlice;
 pub use linux_sll_header::LinuxSllHeader;
 pub use linux_sll_header_slice::LinuxSllHeaderSlice;
-pub use linux_sll_payload_slice::LinuxSllPayloadSlice;
 pub use linux_sll_slice::LinuxSllSlice;

@@ -1,9 +1,10 @@
 //! A view of a link's packet of either kind, or of its payload alone.
 ghost use Rattle.std.specs.Prelude.{◌≡◌, MatchOption, Some, None};
-ghost use Rattle.ether_sll.specs.Link.{link_value, header_value, link_protocol, link_source, link_payload, told_ether_type};
+ghost use Rattle.ether_sll.specs.Link.{link_value, header_value, link_protocol, link_source, link_payload};
+ghost use Rattle.ether_base.specs.Formats.LinuxSllProtocolType.{told_ether_type};
 
-use crate::{LinkHeader, LinuxSllPayloadSlice, LinuxSllSlice};
-use ether_tags::{EtherPayloadSlice, Ethernet2Slice};
+use crate::{LinkHeader, LinuxSllSlice};
+use ether_tags::{EtherPayloadSlice, Ethernet2Slice, LinuxSllPayloadSlice};
 
 /// A view of a link's packet, of Ethernet II or Linux cooked capture v1, or of a payload without its header.
 ///

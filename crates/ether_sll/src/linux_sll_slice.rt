@@ -13,9 +13,10 @@ ghost use Rattle.ether_base.specs.Formats.Refusal.{Accepts};
 ghost use Rattle.ether_sll.specs.LinuxSll.{protocol_type_of_header, valid_address, IsRefusedSll, linux_sll_view};
 ghost use Rattle.ether_base.specs.Formats.RefusedLen.{OnLen};
 
-use crate::{LinuxSllHeader, LinuxSllPayloadSlice, linux_sll_fields};
+use crate::{LinuxSllHeader, linux_sll_fields};
 use ether_base::err::linux_sll::HeaderSliceError;
 use ether_base::{ArpHardwareId, LinuxSllPacketType, LinuxSllProtocolType};
+use ether_tags::LinuxSllPayloadSlice;
 use std::alloc::AllocError;
 use std::fmt;
 use std::marker::Model;

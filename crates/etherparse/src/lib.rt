@@ -31,14 +31,12 @@ pub use ether_arp::{ArpEthIpv4Packet, ArpPacket, ArpPacketSlice};
 pub use ether_base::{
     ArpHardwareId, ArpOperation, EtherType, LenSource, LinuxNonstandardEtherType,
     LinuxSllPacketType, LinuxSllProtocolType, MacsecAn, MacsecShortLen, VlanId, VlanPcp, err,
-    ether_type,
+    ether_type, write_front,
 };
-pub use ether_sll::{
-    LinkHeader, LinkSlice, LinuxSllHeader, LinuxSllHeaderSlice, LinuxSllPayloadSlice, LinuxSllSlice,
-};
+pub use ether_sll::{LinkHeader, LinkSlice, LinuxSllHeader, LinuxSllHeaderSlice, LinuxSllSlice};
 pub use ether_tags::{
     DoubleVlanHeader, DoubleVlanSlice, EtherPayloadSlice, Ethernet2Header, Ethernet2HeaderSlice,
-    Ethernet2Slice, LinkExtHeader, LinkExtSlice, MacsecHeader, MacsecHeaderSlice, MacsecPType,
-    MacsecPayloadSlice, MacsecSlice, SingleVlanHeader, SingleVlanHeaderSlice, SingleVlanSlice,
-    VlanHeader, VlanSlice,
+    Ethernet2Slice, LinkExtHeader, LinkExtSlice, LinuxSllPayloadSlice, MacsecHeader,
+    MacsecHeaderSlice, MacsecPType, MacsecPayloadSlice, MacsecSlice, SingleVlanHeader,
+    SingleVlanHeaderSlice, SingleVlanSlice, VlanHeader, VlanSlice,
 };

@@ -1,5 +1,5 @@
 -- What the protocol number of a cooked capture means, by the hardware type of its link.
-use Rattle.std.specs.Prelude.{ℕ, Result, Ok, Err, ◌==◌, if◌then◌else◌}
+use Rattle.std.specs.Prelude.{ℕ, Option, Some, None, Result, Ok, Err, ◌==◌, if◌then◌else◌}
 use Rattle.ether_base.specs.declared.arp_hardware_id.ArpHardwareId.{ArpHardwareId}
 use Rattle.ether_base.specs.declared.err.linux_sll.header_error.HeaderError.{HeaderError}
 use Rattle.ether_base.specs.declared.err.linux_sll.header_error.HeaderError.TheVariants.{UnsupportedArpHardwareId}
@@ -50,3 +50,11 @@ with_number (NetlinkProtocolType old) number = NetlinkProtocolType number
 with_number (GenericRoutingEncapsulationProtocolType old) number = GenericRoutingEncapsulationProtocolType number
 with_number (EtherType old) number = ethernet_protocol_type number
 with_number (LinuxNonstandardEtherType old) number = ethernet_protocol_type number
+
+-- the ether type in a protocol type: its own, or a number that Linux has in the same place
+abbrev pub told_ether_type : LinuxSllProtocolType → Option ℕ
+told_ether_type (Ignored number) = None
+told_ether_type (NetlinkProtocolType number) = None
+told_ether_type (GenericRoutingEncapsulationProtocolType number) = None
+told_ether_type (EtherType ether_type) = Some ether_type.0
+told_ether_type (LinuxNonstandardEtherType number) = Some number

@@ -1,7 +1,9 @@
 //! What callers learn of the derived traits and of the constants, at each type of this crate. These functions are
 //! proved and never run.
-ghost use Rattle.std.specs.Prelude.{◌≡◌, ◌↔◌, IsTrue, Some, map};
-ghost use Rattle.ether_base.specs.Enumerations.Hashes.{hashed};
+ghost use Rattle.std.specs.Prelude.{◌≡◌, ◌↔◌, ◌++◌, IsTrue, Some, map};
+ghost use Rattle.std.specs.Hash as fed;
+ghost use Rattle.ether_base.specs.Enumerations.Hashes.{hashed, protocol_type_fed};
+ghost use Rattle.ether_base.specs.Formats.LinuxSllProtocolType.{protocol_number, protocol_place};
 ghost use Rattle.ether_tags.specs.Hashes.{ether_payload_slice_fed, macsec_p_type_fed};
 ghost use Rattle.std.specs.Ordering.{nat_cmp, on, then_cmp};
 ghost use Rattle.std.specs.Cmp.Lexicographic.{slice_cmp};
@@ -14,9 +16,9 @@ ghost use Rattle.ether_tags.specs.Vlan.{vlan_view};
 
 use crate::{
     DoubleVlanHeader, DoubleVlanSlice, EtherPayloadSlice, Ethernet2Header, Ethernet2HeaderSlice,
-    Ethernet2Slice, LinkExtHeader, LinkExtSlice, MacsecHeader, MacsecHeaderSlice, MacsecPType,
-    MacsecPayloadSlice, MacsecSlice, SingleVlanHeader, SingleVlanHeaderSlice, SingleVlanSlice,
-    VlanHeader, VlanSlice,
+    Ethernet2Slice, LinkExtHeader, LinkExtSlice, LinuxSllPayloadSlice, MacsecHeader,
+    MacsecHeaderSlice, MacsecPType, MacsecPayloadSlice, MacsecSlice, SingleVlanHeader,
+    SingleVlanHeaderSlice, SingleVlanSlice, VlanHeader, VlanSlice,
 };
 use ether_base::EtherType;
 use std::alloc::AllocError;
@@ -361,4 +363,55 @@ pub fn read_back_single_vlan_header(header: SingleVlanHeader) -> SingleVlanHeade
     ensures { result ≡ header }
 {
     SingleVlanHeader::from_bytes(header.to_bytes())
+}
+
+pub fn clone_of_linux_sll_payload_slice<'a>(
+    value: &LinuxSllPayloadSlice<'a>,
+) -> Result<LinuxSllPayloadSlice<'a>, AllocError>
+    ensures { result ≡ Ok value.now }
+{
+    value.clone()
+}
+
+pub fn same_linux_sll_payload_slice(
+    a: &LinuxSllPayloadSlice<'_>,
+    b: &LinuxSllPayloadSlice<'_>,
+) -> bool
+    ensures { IsTrue result
+        ↔ ((a.now.protocol_type ≡ b.now.protocol_type) × (a.now.payload.now ≡ b.now.payload.now)) }
+{
+    *a == *b
+}
+
+pub fn order_of_linux_sll_payload_slices(
+    a: &LinuxSllPayloadSlice<'_>,
+    b: &LinuxSllPayloadSlice<'_>,
+) -> Ordering
+    ensures { result ≡ then_cmp
+        (then_cmp (on (λ p. protocol_place p.protocol_type) nat_cmp)
+        (on (λ p. protocol_number p.protocol_type) nat_cmp))
+        (on (λ p. p.payload.now) (slice_cmp nat_cmp)) a.now b.now }
+{
+    a.cmp(b)
+}
+
+pub fn partial_order_of_linux_sll_payload_slices(
+    a: &LinuxSllPayloadSlice<'_>,
+    b: &LinuxSllPayloadSlice<'_>,
+) -> Option<Ordering>
+    ensures { result ≡ Some
+        (then_cmp (then_cmp (on (λ p. protocol_place p.protocol_type) nat_cmp)
+        (on (λ p. protocol_number p.protocol_type) nat_cmp))
+        (on (λ p. p.payload.now) (slice_cmp nat_cmp)) a.now b.now) }
+{
+    partial_order_of(a, b)
+}
+
+pub fn hash_of_linux_sll_payload_slice(value: &LinuxSllPayloadSlice<'_>) -> u64
+    ensures { result ≡ hashed (protocol_type_fed value.now.protocol_type
+        ++ fed.slice fed.u8 value.now.payload.now) }
+{
+    let mut state = DefaultHasher::new();
+    value.hash(&mut state);
+    state.finish()
 }

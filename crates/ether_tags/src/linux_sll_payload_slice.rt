@@ -1,8 +1,8 @@
 //! A payload that a protocol type of cooked capture names.
 ghost use Rattle.std.specs.Prelude.{⊤, ◌≡◌};
 
+use crate::EtherPayloadSlice;
 use ether_base::{EtherType, LenSource, LinuxSllProtocolType};
-use ether_tags::EtherPayloadSlice;
 use std::alloc::AllocError;
 
 /// The payload of a packet of Linux cooked capture v1, and the protocol type that names its protocol.
@@ -64,7 +64,7 @@ impl<'a> TryFrom<LinuxSllPayloadSlice<'a>> for EtherPayloadSlice<'a> {
 
     ghost use Rattle.std.specs.Prelude.{MatchResult, Some, None};
     ghost use Rattle.ether_base.specs.declared.len_source.LenSource.TheVariants as sources;
-    ghost use Rattle.ether_sll.specs.Link.{told_ether_type};
+    ghost use Rattle.ether_base.specs.Formats.LinuxSllProtocolType.{told_ether_type};
 
     ghost try_from_gives = { λ sll r. MatchResult r (λ ether. (told_ether_type sll.protocol_type ≡ Some ether.ether_type.0) × (ether.len_source ≡ sources.Slice) × (ether.payload.now ≡ sll.payload.now)) (λ _. told_ether_type sll.protocol_type ≡ None) };
 
