@@ -1,0 +1,3 @@
+pub mod Views
+pub mod Packet
+pub mod Adding
