@@ -6,13 +6,22 @@ use Rattle.etherparse.specs.Header.{Header, kind_of, header_len}
 use Rattle.ether_peel.specs.Grammar.Window.{Window, within, payload}
 use Rattle.ether_peel.specs.Grammar.Expectation.{Expectation, is_extension}
 use Rattle.ether_peel.specs.Grammar.Stack.{Ending, last_window, last_expected, whole, Walk}
-use Rattle.ether_peel.specs.Walker.Start.{kind_shown}
+use Rattle.ether_peel.specs.Walker.Start.{limited_start, kind_shown}
 use Rattle.ether_peel.specs.Walker.Next.{ShowsUnit}
 use Rattle.ether_peel.specs.Walker.Summary.{fault_of}
 use Rattle.ether_peel.specs.declared.peel_unit.PeelUnit.{PeelUnit}
+use Rattle.ether_peel.specs.declared.start.Start.{Start}
 use Rattle.ether_packet.specs.declared.packet_ext.PacketExt.{PacketExt}
 use Rattle.ether_packet.specs.declared.packet_slice.PacketSlice.{PacketSlice}
 use Rattle.ether_packet.specs.Views.{packet_units, packet_headers}
+
+-- a packet has at most three extensions
+abbrev pub link_exts_cap : ℕ
+link_exts_cap = 3
+
+-- and is read by the walk with that limit
+abbrev pub packet_start : Start → Expectation
+packet_start start = limited_start start link_exts_cap
 
 -- these units are the views of these headers in a window, each in the payload of the one before it
 abbrev pub AreViews : List ℕ → Window → List Header → List PeelUnit → Type 0

@@ -1,15 +1,20 @@
 //! The headers of a packet as views.
-ghost use Rattle.std.specs.Prelude.{◌≡◌, ◌<◌, [], ◌∷◌, ◌++◌, length, None};
-ghost use Rattle.ether_peel.specs.Walker.Start.{limited_start};
-ghost use Rattle.ether_packet.specs.Packet.{IsPacket};
+ghost use Rattle.std.specs.Prelude.{◌≡◌, ◌↔◌, ◌<◌, ◌≤◌, [], ◌∷◌, ◌++◌, length, map, None, IsTrue, slice_get, unwrap_or};
+ghost use Rattle.std.specs.Option.{option_map};
+ghost use Rattle.etherparse.specs.Header.{header_len as header_len_of, payload_len};
+ghost use Rattle.ether_peel.specs.Grammar.Places.{place};
+ghost use Rattle.ether_peel.specs.Grammar.Cuts.{reach};
+ghost use Rattle.ether_packet.specs.Views.{link_units, ext_unit, unit_header, packet_units, packet_headers};
+ghost use Rattle.ether_packet.specs.Packet.{link_exts_cap, packet_start, IsPacket};
+ghost use Rattle.ether_packet.specs.Getters.{first_tags, vlans_of, vlan_ids_of, sec_tags_of, last_ext, HoldsPayload};
 ghost use Rattle.ether_packet.specs.Adding.{HasRoom, Adds, EndsWith};
 
 use crate::PacketExt;
 use arrayvec::ArrayVec;
 use ether_peel::{Peel, PeelFault, PeelUnit, RestKind, Start};
 use etherparse::{
-    ArpPacketSlice, DoubleVlanSlice, EtherPayloadSlice, LinkExtSlice, LinkSlice, MacsecSlice,
-    SingleVlanSlice, VlanId, VlanSlice,
+    ArpPacketSlice, DoubleVlanSlice, EtherPayloadSlice, Ethernet2Header, LinkExtSlice, LinkSlice,
+    LinuxSllHeader, MacsecSlice, SingleVlanSlice, VlanId, VlanSlice,
 };
 
 /// How many VLAN tags and SecTags a packet holds at most.
@@ -63,7 +68,7 @@ impl<'a> PacketSlice<'a> {
 
     /// The headers of a frame.
     pub fn from_slice(start: Start, bytes: &'a [u8]) -> PacketSlice<'a>
-        ensures { IsPacket (limited_start start 3) bytes.now result }
+        ensures { IsPacket (packet_start start) bytes.now result }
     {
         let mut peel = Peel::with_limit(start, bytes, LINK_EXTS_CAP);
         let mut packet = PacketSlice::begun(bytes);
@@ -99,7 +104,7 @@ impl<'a> PacketSlice<'a> {
 
     /// Adds the next header, which starts where the rest did.
     fn add(&mut self, unit: PeelUnit<'a>)
-        requires { HasRoom 3 self.old unit }
+        requires { HasRoom link_exts_cap self.old unit }
         ensures { Adds self.old unit.entry self.new }
     {
         match unit {
@@ -113,7 +118,7 @@ impl<'a> PacketSlice<'a> {
 
     /// Adds the next link extension.
     fn add_ext(&mut self, slice: LinkExtSlice<'a>)
-        requires { length self.old.link_exts.items < 3 }
+        requires { length self.old.link_exts.items < link_exts_cap }
         ensures link { self.new.link ≡ self.old.link }
         ensures exts { self.new.link_exts.items ≡ self.old.link_exts.items ++ record { offset = self.old.rest_offset; slice = slice.entry } ∷ [] }
         ensures arp { self.new.arp ≡ self.old.arp }
@@ -138,26 +143,30 @@ impl<'a> PacketSlice<'a> {
     }
 
     /// The first VLAN tag, or the first two.
-    pub fn vlan(&self) -> Option<VlanSlice<'a>> {
-        let mut outer: Option<SingleVlanSlice<'a>> = None;
-        for ext in &self.link_exts {
+    pub fn vlan(&self) -> Option<VlanSlice<'a>>
+        ensures { result ≡ first_tags (vlans_of (packet_units self.now)) }
+    {
+        let mut outer: Option<&SingleVlanSlice<'a>> = None;
+        for ext in self.link_exts.as_slice() {
             if let LinkExtSlice::Vlan(tag) = &ext.slice {
-                let Ok(tag) = tag.clone() else { return None };
                 match outer {
                     None => outer = Some(tag),
-                    Some(outer) => {
-                        return Some(VlanSlice::DoubleVlan(DoubleVlanSlice { outer, inner: tag }));
-                    }
+                    Some(outer) => return Some(VlanSlice::DoubleVlan(tags(outer, tag))),
                 }
             }
         }
-        outer.map(VlanSlice::SingleVlan)
+        match outer {
+            Some(tag) => Some(VlanSlice::SingleVlan(same_tag(tag))),
+            None => None,
+        }
     }
 
     /// The VLAN identifiers of the VLAN tags, the outermost first.
-    pub fn vlan_ids(&self) -> ArrayVec<VlanId, LINK_EXTS_CAP> {
+    pub fn vlan_ids(&self) -> ArrayVec<VlanId, LINK_EXTS_CAP>
+        ensures { result.items ≡ vlan_ids_of (packet_headers self.now) }
+    {
         let mut ids = ArrayVec::new();
-        for ext in &self.link_exts {
+        for ext in self.link_exts.as_slice() {
             if let LinkExtSlice::Vlan(tag) = &ext.slice {
                 ids.push(tag.vlan_identifier());
             }
@@ -166,8 +175,10 @@ impl<'a> PacketSlice<'a> {
     }
 
     /// The first SecTag and its payload.
-    pub fn macsec(&self) -> Option<&MacsecSlice<'a>> {
-        for ext in &self.link_exts {
+    pub fn macsec(&self) -> Option<&MacsecSlice<'a>>
+        ensures { option_map (λ packet. packet.now) result ≡ slice_get (sec_tags_of (packet_units self.now)) 0 }
+    {
+        for ext in self.link_exts.as_slice() {
             if let LinkExtSlice::Macsec(packet) = &ext.slice {
                 return Some(packet);
             }
@@ -175,9 +186,14 @@ impl<'a> PacketSlice<'a> {
         None
     }
 
-    /// The payload of the last header before an ARP packet and its ether type.
-    pub fn ether_payload(&self) -> Option<EtherPayloadSlice<'a>> {
-        match self.link_exts.last() {
+    /// The payload of the last VLAN tag or SecTag, or of the link's header if there is none, with its ether type.
+    ///
+    /// `None` if it has no ether type: of a SecTag whose payload is encrypted or changed, and of a cooked capture of some
+    /// protocols.
+    pub fn ether_payload(&self) -> Option<EtherPayloadSlice<'a>>
+        ensures { HoldsPayload self.now.link (last_ext self.now.link_exts.items) result }
+    {
+        match self.link_exts.as_slice().last() {
             Some(ext) => ext.slice.ether_payload(),
             None => match &self.link {
                 Some(link) => link.ether_payload(),
@@ -187,33 +203,81 @@ impl<'a> PacketSlice<'a> {
     }
 
     /// Whether no header is refused.
-    pub fn is_complete(&self) -> bool {
+    pub fn is_complete(&self) -> bool
+        ensures { IsTrue result ↔ (self.now.fault ≡ None) }
+    {
         self.fault.is_none()
     }
 
     /// The least length to which the frame can be cut so that its headers stay.
-    pub fn min_snap_len(&self) -> usize {
-        let mut at = match &self.link {
-            Some(LinkSlice::Ethernet2(_)) => 14,
-            Some(LinkSlice::LinuxSll(_)) => 16,
-            _ => 0,
-        };
-        let mut reach = at;
-        for ext in &self.link_exts {
-            at += ext.slice.header_len();
-            reach = reach.max(at + named_len(&ext.slice));
+    pub fn min_snap_len(&self) -> usize
+        ensures { result ≡ reach 0 (packet_headers self.now) }
+    {
+        let mut at = link_len(&self.link);
+        let mut end = at;
+        for ext in self.link_exts.as_slice() {
+            at += header_len(&ext.slice);
+            end = end.max(at + named_len(&ext.slice));
         }
         match &self.arp {
-            Some(arp) => reach.max(at + arp.slice().len()),
-            None => reach,
+            Some(arp) => end.max(at + arp.slice().len()),
+            None => end,
         }
     }
 }
 
-/// The length of the payload that a SecTag names, 0 if none is named.
-fn named_len(ext: &LinkExtSlice<'_>) -> usize {
+/// Two tags.
+fn tags<'a>(outer: &SingleVlanSlice<'a>, inner: &SingleVlanSlice<'a>) -> DoubleVlanSlice<'a>
+    ensures outer { result.outer ≡ outer.now }
+    ensures inner { result.inner ≡ inner.now }
+{
+    DoubleVlanSlice {
+        outer: same_tag(outer),
+        inner: same_tag(inner),
+    }
+}
+
+/// A tag once more.
+fn same_tag<'a>(tag: &SingleVlanSlice<'a>) -> SingleVlanSlice<'a>
+    ensures { result ≡ tag.now }
+{
+    match tag.clone() {
+        Ok(tag) => tag,
+        Err(_) => unreachable!(),
+    }
+}
+
+/// The length of a link's header, 0 if there is none.
+fn link_len(link: &Option<LinkSlice<'_>>) -> usize
+    ensures place { result ≡ place 0 (map unit_header (link_units link.now)) }
+    ensures reach { result ≡ reach 0 (map unit_header (link_units link.now)) }
+    ensures bound { result ≤ 16 }
+{
+    match link {
+        Some(LinkSlice::Ethernet2(_)) => Ethernet2Header::LEN,
+        Some(LinkSlice::LinuxSll(_)) => LinuxSllHeader::LEN,
+        _ => 0,
+    }
+}
+
+/// The length of a tag.
+fn header_len(ext: &LinkExtSlice<'_>) -> usize
+    ensures value { result ≡ header_len_of (unit_header (ext_unit ext.now)) }
+    ensures bound { result ≤ 16 }
+{
     match ext {
-        LinkExtSlice::Macsec(packet) => packet.header.expected_payload_len().unwrap_or(0),
+        LinkExtSlice::Vlan(tag) => tag.header_len(),
+        LinkExtSlice::Macsec(packet) => packet.header.header_len(),
+    }
+}
+
+/// The length of the payload that a SecTag names, 0 if none is named.
+fn named_len(ext: &LinkExtSlice<'_>) -> usize
+    ensures value { result ≡ unwrap_or (payload_len (unit_header (ext_unit ext.now))) 0 }
+    ensures bound { result < 64 }
+{
+    match ext {
         LinkExtSlice::Vlan(_) => 0,
+        LinkExtSlice::Macsec(packet) => packet.header.expected_payload_len().unwrap_or(0),
     }
 }
