@@ -11,3 +11,8 @@ pub use Rattle.ether_base.specs.declared.err.macsec.header_error.HeaderError as 
 pub use Rattle.ether_tags.specs.declared.macsec_header_slice.MacsecHeaderSlice
 pub use Rattle.ether_tags.specs.declared.macsec_payload_slice.MacsecPayloadSlice
 pub use Rattle.ether_tags.specs.declared.macsec_slice.MacsecSlice
+pub use Rattle.ether_tags.specs.declared.link_ext_slice.LinkExtSlice
+pub use Rattle.ether_sll.specs.declared.link_slice.LinkSlice
+pub use Rattle.ether_tags.specs.declared.ether_payload_slice.EtherPayloadSlice
+pub use Rattle.ether_tags.specs.declared.vlan_slice.VlanSlice
+pub use Rattle.ether_tags.specs.declared.double_vlan_slice.DoubleVlanSlice

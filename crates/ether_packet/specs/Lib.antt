@@ -1,0 +1,4 @@
+pub mod Views
+pub mod Packet
+pub mod Getters
+pub mod Adding
