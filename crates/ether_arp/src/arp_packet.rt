@@ -347,7 +347,8 @@ impl ArpPacket {
 
     /// The length of the packet in bytes, 8 to [`ArpPacket::MAX_LEN`].
     pub fn packet_len(&self) -> usize
-        ensures { result ≡ arp_len (arp_front_of self.now) }
+        ensures value { result ≡ arp_len (arp_front_of self.now) }
+        ensures bound { result ≤ 1028 }
     {
         8 + 2 * usize::from(self.hw_addr_size()) + 2 * usize::from(self.protocol_addr_size())
     }

@@ -8,7 +8,8 @@ use Rattle.etherparse.specs.Types.VlanSlice.{VlanSlice}
 use Rattle.etherparse.specs.Types.VlanSlice.TheVariants as tags
 use Rattle.etherparse.specs.Header.{Header}
 use Rattle.etherparse.specs.Header as headers
-use Rattle.etherparse.specs.Link.{told_ether_type, link_protocol, link_source, link_payload}
+use Rattle.etherparse.specs.LinuxSllProtocolType.{told_ether_type}
+use Rattle.etherparse.specs.Link.{link_protocol, link_source, link_payload}
 use Rattle.etherparse.specs.LinkExt.{HoldsExtPayload}
 use Rattle.ether_peel.specs.Grammar.Expectation.{Expectation}
 use Rattle.ether_peel.specs.Grammar.Stack.{Ending, Walk}

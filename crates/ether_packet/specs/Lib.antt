@@ -2,3 +2,5 @@ pub mod Views
 pub mod Packet
 pub mod Getters
 pub mod Adding
+pub mod Building
+pub mod Builder

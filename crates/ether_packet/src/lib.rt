@@ -2,10 +2,14 @@
 //! `ether_peel` returns them. No call allocates memory.
 #![tactic(auto)]
 
+mod build_error;
+mod packet_builder;
 mod packet_ext;
 mod packet_slice;
 #[cfg(test)]
 mod tests;
 
+pub use build_error::BuildError;
+pub use packet_builder::{PacketBuilder, PacketContent};
 pub use packet_ext::PacketExt;
 pub use packet_slice::PacketSlice;

@@ -118,6 +118,7 @@ impl LinuxSllHeader {
         ensures value { result ≡ linux_sll_bytes (linux_sll_view self.now) }
         ensures len { length result ≡ 16 }
         ensures fits { FitsLinuxSll (linux_sll_view self.now) }
+        ensures packet_type { self.now.packet_type ≤ 7 }
         ensures read_back { (r : Result LinuxSllHeader header_error) → AnswersHeader result r
             → ((r ≡ Ok self.now) ↔ HasOwnType self.now) }
     {

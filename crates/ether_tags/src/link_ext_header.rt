@@ -1,5 +1,5 @@
 //! A link extension as a value.
-ghost use Rattle.std.specs.Prelude.{◌≡◌};
+ghost use Rattle.std.specs.Prelude.{◌≡◌, ◌≤◌};
 ghost use Rattle.ether_tags.specs.LinkExt.{ext_header_len};
 
 use crate::{MacsecHeader, SingleVlanHeader};
@@ -23,7 +23,8 @@ pub enum LinkExtHeader {
 impl LinkExtHeader {
     /// The length of the tag in bytes: 4 of a VLAN tag, 6 to 16 of a MACsec SecTag.
     pub fn header_len(&self) -> usize
-        ensures { result ≡ ext_header_len self.now }
+        ensures value { result ≡ ext_header_len self.now }
+        ensures bound { result ≤ 16 }
     {
         match self {
             LinkExtHeader::Vlan(header) => header.header_len(),

@@ -133,7 +133,8 @@ impl MacsecHeader {
     /// The length of the tag in bytes, with the next ether type: [`MacsecHeader::MIN_LEN`] to
     /// [`MacsecHeader::MAX_LEN`].
     pub fn header_len(&self) -> usize
-        ensures { result ≡ sec_tag_len (header_front self.now) }
+        ensures value { result ≡ sec_tag_len (header_front self.now) }
+        ensures bound { result ≤ 16 }
     {
         macsec_fields::tag_len(self.sci.is_some(), self.next_ether_type().is_some())
     }

@@ -16,3 +16,5 @@ pub use Rattle.ether_sll.specs.declared.link_slice.LinkSlice
 pub use Rattle.ether_tags.specs.declared.ether_payload_slice.EtherPayloadSlice
 pub use Rattle.ether_tags.specs.declared.vlan_slice.VlanSlice
 pub use Rattle.ether_tags.specs.declared.double_vlan_slice.DoubleVlanSlice
+pub use Rattle.ether_tags.specs.declared.link_ext_header.LinkExtHeader
+pub use Rattle.ether_sll.specs.declared.link_header.LinkHeader

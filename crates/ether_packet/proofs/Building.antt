@@ -1,0 +1,215 @@
+-- The headers of a packet that is built are found by the walk.
+use Rattle.std.proofs.Common.{◌≡◌, ℕ, ◌+◌, ◌-◌, ◌<◌, ◌≤◌, List, [], ◌∷◌, ◌++◌, length, refl, sym, ap, subst, ◌∙◌, arith, Bool, true, false}
+use Rattle.std.specs.Prelude.{flat_map, slice_range, Option, Some, None, nat_lt, if◌then◌else◌}
+use Rattle.std.proofs.lemmas.List.{length-append}
+use Rattle.etherparse.specs.Types.LenSource.{LenSource}
+use Rattle.etherparse.specs.Ethernet2.{Ethernet2Value}
+use Rattle.etherparse.specs.LinuxSll.{LinuxSllValue, is_supported}
+use Rattle.etherparse.specs.Vlan.{VlanValue}
+use Rattle.etherparse.specs.Macsec.{PayloadType, SecTagValue, ether_type_len, known_len, sec_tag_len, sec_tag_front_of, encrypted_of, changed_of, short_len_for}
+use Rattle.etherparse.specs.Macsec as payloads
+use Rattle.etherparse.specs.Kind.{Kind}
+use Rattle.etherparse.specs.Kind as kinds
+use Rattle.etherparse.specs.Header.{Header, kind_of, header_len, payload_len, trailer_len, header_bytes, FitsHeader, Means}
+use Rattle.etherparse.specs.Header as headers
+use Rattle.etherparse.specs.Refusal.{Accepts, IsTooShort}
+use Rattle.etherparse.proofs.Rows.{accepts_vlan, accepts_packet, accepts_ethernet2, accepts_linux_sll}
+use Rattle.etherparse.proofs.MacsecFields.{sec_tag_bytes_accepted, sec_tag_bytes_begin}
+use Rattle.etherparse.proofs.Writing.{written_accepted}
+use Rattle.etherparse.proofs.SubLists.{part_all}
+use Rattle.etherparse.proofs.ReadBack.{length-header_bytes, means-header_bytes}
+use Rattle.ether_peel.specs.Grammar.Window.{within}
+use Rattle.ether_peel.specs.Grammar.Expectation.{Expectation, EtherType, Start, announced, after}
+use Rattle.ether_peel.specs.Grammar.Places.{place}
+use Rattle.ether_peel.specs.Grammar.Stack.{whole}
+use Rattle.ether_peel.proofs.Grammar.Carrying.{led}
+use Rattle.ether_peel.proofs.Grammar.Cleared.{whole_in}
+use Rattle.ether_packet.specs.Building.{type_of, retyped, before, built, is_readable, is_unmodified, IsChain, AllFit, expected_after, window_after, BeginsWith}
+use Rattle.ether_packet.proofs.Written.{Fitting, Fits, written}
+
+-- ---- a header before n bytes is as long as it is before others
+
+ether_type_kept : (p : PayloadType) (t : ℕ) → ether_type_len (encrypted_of (retyped p t)) (changed_of (retyped p t)) ≡ ether_type_len (encrypted_of p) (changed_of p)
+ether_type_kept (payloads.Unmodified old) t = refl
+ether_type_kept payloads.Modified t = refl
+ether_type_kept payloads.EncryptedUnmodified t = refl
+ether_type_kept payloads.Encrypted t = refl
+
+pub header_len_before : (h : Header) (t n : ℕ) → header_len (before h t n) ≡ header_len h
+header_len_before (headers.Ethernet2 e) t n = refl
+header_len_before (headers.Ethernet2Fcs e) t n = refl
+header_len_before (headers.LinuxSll s) t n = refl
+header_len_before (headers.Vlan v) t n = refl
+header_len_before (headers.Macsec m) t n = let e = ether_type_kept m.payload_type t in omega (arith, e)
+header_len_before (headers.Arp a) t n = refl
+
+pub place-built : (at : ℕ) (hs : List Header) (t n : ℕ) → place at (built hs t n) ≡ place at hs
+place-built at [] t n = refl
+place-built at (h ∷ hs) t n =
+    ap (λ (k : ℕ). place (at + k) (built hs t n)) (header_len_before h (type_of hs t) (place n hs)) ∙ place-built (at + header_len h) hs t n
+
+-- ---- the short length of a SecTag
+
+some_of : (b : Bool) (s k : ℕ) → (if b then None else Some s) ≡ Some k → k ≡ s
+some_of true s k e = absurd cc
+some_of false s k e = cc
+
+named_by : (b : Bool) (known n k : ℕ) → known_len known (if b then n + known else 0) ≡ Some k → k ≡ n
+named_by true known n k e = let s = some_of _ (n + known - known) k e in omega (arith, s)
+named_by false known n k e = absurd cc
+
+named_plain : (b : Bool) (n k : ℕ) → known_len 0 (if b then n else 0) ≡ Some k → k ≡ n
+named_plain true n k e = let s = some_of _ (n - 0) k e in omega (arith, s)
+named_plain false n k e = absurd cc
+
+named_for : (p : PayloadType) (n k : ℕ) → known_len (ether_type_len (encrypted_of p) (changed_of p)) (short_len_for p n) ≡ Some k → k ≡ n
+named_for (payloads.Unmodified t) n k e = named_by (nat_lt n 62) 2 n k e
+named_for payloads.Modified n k e = named_plain (nat_lt n 64) n k e
+named_for payloads.EncryptedUnmodified n k e = named_plain (nat_lt n 64) n k e
+named_for payloads.Encrypted n k e = named_plain (nat_lt n 64) n k e
+
+not_one : (b : Bool) (n : ℕ) → (if b then n + 2 else 0) ≡ 1 → ⊥
+not_one true n e = omega (arith, e)
+not_one false n e = omega (arith, e)
+
+long_enough : (p : PayloadType) (n : ℕ) → encrypted_of p ≡ 0 → changed_of p ≡ 0 → short_len_for p n ≡ 1 → ⊥
+long_enough (payloads.Unmodified t) n e c s = not_one (nat_lt n 62) n s
+long_enough payloads.Modified n e c s = omega (arith, c)
+long_enough payloads.EncryptedUnmodified n e c s = omega (arith, e)
+long_enough payloads.Encrypted n e c s = omega (arith, e)
+
+-- ---- each header where it is announced
+
+vlan_fits : (x : Expectation) (v : VlanValue) (n : ℕ) → announced x ≡ Some kinds.Vlan → FitsHeader (headers.Vlan v) → Fitting x (headers.Vlan v) n
+vlan_fits x v n announced fits = record {
+  announced = announced;
+  fits = fits;
+  accepted = λ bound more len. let all = length-append (header_bytes (headers.Vlan v)) more in let own = length-header_bytes (headers.Vlan v) fits in accepts_vlan bound (header_bytes (headers.Vlan v) ++ more) (omega (arith, all, own));
+  named = λ p e. absurd cc;
+  no_trailer = refl;
+}
+
+macsec_fits : (x : Expectation) (m : SecTagValue) (t n : ℕ) → announced x ≡ Some kinds.Macsec → FitsHeader (before (headers.Macsec m) t n) → Fitting x (before (headers.Macsec m) t n) n
+macsec_fits x m t n announced fits =
+    let p = retyped m.payload_type t in
+    let tag : SecTagValue = record m { payload_type = p; short_len = short_len_for p n } in
+    let bytes = header_bytes (headers.Macsec tag) in
+    let own : length bytes ≡ sec_tag_len (sec_tag_front_of 0 0 tag) = length-header_bytes (headers.Macsec tag) fits in
+    let long : IsTooShort (sec_tag_front_of 0 0 tag) → ⊥ = λ s. long_enough p n s.encrypted s.changed s.short_len in
+    record {
+      announced = announced;
+      fits = fits;
+      accepted = λ bound more len.
+        let all = length-append bytes more in
+        accepts_packet bound (bytes ++ more) (sec_tag_front_of 0 0 tag) (sec_tag_bytes_accepted bound tag more fits long) (sec_tag_bytes_begin tag more fits)
+          (λ k e. let is = named_for p n k e in omega (arith, all, own, len, is));
+      named = λ k e. named_for p n k e;
+      no_trailer = refl;
+    }
+
+-- ---- headers that an ether type announces
+
+abbrev pub IsInner : Header → Type 0
+IsInner (headers.Vlan v) = Unit {0}
+IsInner (headers.Macsec m) = Unit {0}
+IsInner (headers.Arp a) = Unit {0}
+IsInner h = ⊥
+
+abbrev pub AreInner : List Header → Type 0
+AreInner [] = Unit {0}
+AreInner (h ∷ hs) = IsInner h × AreInner hs
+
+abbrev pub expecting : ℕ → Expectation
+expecting t = record { next = EtherType t; limit = None }
+
+vlan_announced : (v : VlanValue) (hs : List Header) (t : ℕ) → announced (expecting (type_of (headers.Vlan v ∷ hs) t)) ≡ Some kinds.Vlan
+vlan_announced v [] t = refl
+vlan_announced v (headers.Ethernet2 e ∷ hs) t = refl
+vlan_announced v (headers.Ethernet2Fcs e ∷ hs) t = refl
+vlan_announced v (headers.LinuxSll s ∷ hs) t = refl
+vlan_announced v (headers.Vlan u ∷ hs) t = refl
+vlan_announced v (headers.Macsec m ∷ hs) t = refl
+vlan_announced v (headers.Arp a ∷ hs) t = refl
+
+later_chain : (h : Header) (hs : List Header) → IsChain (h ∷ hs) → IsChain hs
+later_chain h [] chain = tt
+later_chain h (g ∷ hs) chain = chain.1
+
+-- after a SecTag whose payload can be read comes what its ether type announces, and after another one nothing
+after_tag : (m : SecTagValue) (p : PayloadType) (hs : List Header) (t n k : ℕ) → m.payload_type ≡ p → IsChain (headers.Macsec m ∷ hs)
+    → Fits (expecting (type_of hs t)) (built hs t n) n → Fits (after (expecting k) (before (headers.Macsec m) (type_of hs t) (place n hs))) (built hs t n) n
+after_tag m p [] t n k e chain fits = tt
+after_tag m (payloads.Unmodified old) (g ∷ hs) t n k e chain fits =
+    subst (λ (q : PayloadType). Fits (after (expecting k) (before (headers.Macsec (record m { payload_type = q })) (type_of (g ∷ hs) t) (place n (g ∷ hs)))) (built (g ∷ hs) t n) n) (sym e) fits
+after_tag m payloads.Modified (g ∷ hs) t n k e chain fits = let f : true ≡ false = sym chain.0 ∙ ap is_unmodified e in absurd cc
+after_tag m payloads.EncryptedUnmodified (g ∷ hs) t n k e chain fits = let f : true ≡ false = sym chain.0 ∙ ap is_unmodified e in absurd cc
+after_tag m payloads.Encrypted (g ∷ hs) t n k e chain fits = let f : true ≡ false = sym chain.0 ∙ ap is_unmodified e in absurd cc
+
+pub inner_fits : (hs : List Header) (t n : ℕ) → AreInner hs → IsChain hs → AllFit (built hs t n) → Fits (expecting (type_of hs t)) (built hs t n) n
+inner_fits [] t n inner chain fit = tt
+inner_fits (headers.Vlan v ∷ hs) t n inner chain fit =
+    let own = vlan_fits (expecting (type_of (headers.Vlan v ∷ hs) t)) (record v { ether_type = type_of hs t }) (place n (built hs t n)) (vlan_announced v hs t) fit.0 in
+    (own, inner_fits hs t n inner.1 (later_chain (headers.Vlan v) hs chain) fit.1)
+inner_fits (headers.Macsec m ∷ hs) t n inner chain fit =
+    let own = macsec_fits (expecting 0x88E5) m (type_of hs t) (place n hs) refl fit.0 in
+    let later = inner_fits hs t n inner.1 (later_chain (headers.Macsec m) hs chain) fit.1 in
+    (subst (λ (k : ℕ). Fitting (expecting 0x88E5) (before (headers.Macsec m) (type_of hs t) (place n hs)) k) (sym (place-built n hs t n)) own, after_tag m m.payload_type hs t n 0x88E5 refl chain later)
+inner_fits (headers.Arp a ∷ []) t n inner chain fit = (record {
+      announced = refl;
+      fits = fit.0;
+      accepted = λ bound more len. written_accepted bound a more fit.0;
+      named = λ p e. absurd cc;
+      no_trailer = refl;
+    }, tt)
+inner_fits (headers.Arp a ∷ g ∷ hs) t n inner chain fit = let f : true ≡ false = sym chain.0 in absurd cc
+inner_fits (headers.Ethernet2 e ∷ hs) t n inner chain fit = absurd inner.0
+inner_fits (headers.Ethernet2Fcs e ∷ hs) t n inner chain fit = absurd inner.0
+inner_fits (headers.LinuxSll s ∷ hs) t n inner chain fit = absurd inner.0
+
+-- ---- the header of a link
+
+abbrev pub beginning : Kind → Expectation
+beginning kind = record { next = Start kind; limit = None }
+
+pub ethernet2_fits : (e : Ethernet2Value) (hs : List Header) (t n : ℕ) → AreInner hs → IsChain hs → AllFit (built (headers.Ethernet2 e ∷ hs) t n) → Fits (beginning kinds.Ethernet2) (built (headers.Ethernet2 e ∷ hs) t n) n
+ethernet2_fits e hs t n inner chain fit =
+    let h = before (headers.Ethernet2 e) (type_of hs t) (place n hs) in
+    (record {
+      announced = refl;
+      fits = fit.0;
+      accepted = λ bound more len. let all = length-append (header_bytes h) more in let own = length-header_bytes h fit.0 in accepts_ethernet2 bound (header_bytes h ++ more) (omega (arith, all, own));
+      named = λ p e. absurd cc;
+      no_trailer = refl;
+    }, inner_fits hs t n inner chain fit.1)
+
+-- a cooked capture of Ethernet
+pub linux_sll_fits : (s : LinuxSllValue) (hs : List Header) (t n : ℕ) → s.hardware_type ≡ 1 → s.packet_type ≤ 7 → AreInner hs → IsChain hs
+    → AllFit (built (headers.LinuxSll s ∷ hs) t n) → Fits (beginning kinds.LinuxSll) (built (headers.LinuxSll s ∷ hs) t n) n
+linux_sll_fits s hs t n hardware packet inner chain fit =
+    let v : LinuxSllValue = record s { protocol = type_of hs t } in
+    let h = headers.LinuxSll v in
+    let supported : is_supported v.hardware_type ≡ true = ap is_supported hardware in
+    let later = inner_fits hs t n inner chain fit.1 in
+    (record {
+      announced = refl;
+      fits = fit.0;
+      accepted = λ bound more len.
+        let bytes = header_bytes h ++ more in
+        let m = means-header_bytes h more fit.0 in
+        let whole = m.whole in
+        accepts_linux_sll bound bytes v (omega (arith, whole)) m.spells packet supported;
+      named = λ p e. absurd cc;
+      no_trailer = refl;
+    }, subst (λ (k : ℕ). Fits (after (beginning kinds.LinuxSll) (headers.LinuxSll (record v { hardware_type = k }))) (built hs t n) n) (sym hardware) later)
+
+-- ---- the walk
+
+pub begins_with : (start : Expectation) (list rest : List ℕ) (hs : List Header) → list ≡ flat_map header_bytes hs ++ rest → Fits start hs (length rest) → BeginsWith start list hs rest
+begins_with start list rest hs e fits =
+    let all : within list (whole start list) ≡ list = part_all list (length list) (omega arith) in
+    let w = written list start (whole start list) hs rest (whole_in start list) (all ∙ e) fits in
+    record {
+      payload = w.rest_is;
+      ends = w.finish;
+      walk = λ ks f stack. led list start (whole start list) hs ks (expected_after start hs) (window_after (whole start list) hs) f w.leads stack;
+    }

@@ -1,0 +1,76 @@
+-- A packet as it is built: headers one after the other, each of which announces the next one, and a payload.
+use Rattle.std.specs.Prelude.{◌≡◌, ℕ, ◌+◌, ◌<◌, ◌≤◌, List, [], ◌∷◌, ◌++◌, length, take, drop, map, flat_map, Bool, true, false, None}
+use Rattle.etherparse.specs.Macsec.{PayloadType, short_len_for}
+use Rattle.etherparse.specs.Macsec as payloads
+use Rattle.etherparse.specs.Header.{Header, header_bytes, FitsHeader}
+use Rattle.etherparse.specs.Header as headers
+use Rattle.ether_peel.specs.Grammar.Window.{Window, within, payload}
+use Rattle.ether_peel.specs.Grammar.Expectation.{Expectation, announced, after}
+use Rattle.ether_peel.specs.Grammar.Places.{place}
+use Rattle.ether_peel.specs.Grammar.Stack.{Ending, Stack, whole, Walk}
+
+-- ---- what a header announces
+
+-- The ether type that announces these headers, or a payload of type t if there is none: of a VLAN tag that of a service tag if
+-- another tag follows it, and that of a customer tag otherwise (IEEE 802.1Q, table 9-1).
+abbrev pub type_of : List Header → ℕ → ℕ
+type_of [] t = t
+type_of (headers.Vlan v ∷ headers.Vlan inner ∷ hs) t = 0x88A8
+type_of (headers.Vlan v ∷ hs) t = 0x8100
+type_of (headers.Macsec m ∷ hs) t = 0x88E5
+type_of (headers.Arp a ∷ hs) t = 0x0806
+type_of (h ∷ hs) t = 0
+
+abbrev pub retyped : PayloadType → ℕ → PayloadType
+retyped (payloads.Unmodified old) t = payloads.Unmodified t
+retyped p t = p
+
+-- a header before n bytes that an ether type announces: a SecTag names their number, if it has room for that
+abbrev pub before : Header → (t n : ℕ) → Header
+before (headers.Ethernet2 e) t n = headers.Ethernet2 (record e { ether_type = t })
+before (headers.LinuxSll s) t n = headers.LinuxSll (record s { protocol = t })
+before (headers.Vlan v) t n = headers.Vlan (record v { ether_type = t })
+before (headers.Macsec m) t n = let p = retyped m.payload_type t in headers.Macsec (record m { payload_type = p; short_len = short_len_for p n })
+before h t n = h
+
+-- headers before a payload of n bytes of type t
+abbrev pub built : List Header → (t n : ℕ) → List Header
+built [] t n = []
+built (h ∷ hs) t n = before h (type_of hs t) (place n hs) ∷ built hs t n
+
+abbrev pub is_unmodified : PayloadType → Bool
+is_unmodified (payloads.Unmodified t) = true
+is_unmodified p = false
+
+-- a header whose payload can be read
+abbrev pub is_readable : Header → Bool
+is_readable (headers.Macsec m) = is_unmodified m.payload_type
+is_readable (headers.Arp a) = false
+is_readable h = true
+
+-- only the last one may have a payload that can't be read
+abbrev pub IsChain : List Header → Type 0
+IsChain [] = Unit {0}
+IsChain (h ∷ []) = Unit {0}
+IsChain (h ∷ g ∷ hs) = (is_readable h ≡ true) × IsChain (g ∷ hs)
+
+-- the numbers of all of them are in their ranges
+abbrev pub AllFit : List Header → Type 0
+AllFit [] = Unit {0}
+AllFit (h ∷ hs) = FitsHeader h × AllFit hs
+
+-- ---- the walk of what is written
+
+abbrev pub expected_after : Expectation → List Header → Expectation
+expected_after x [] = x
+expected_after x (h ∷ hs) = expected_after (after x h) hs
+
+abbrev pub window_after : Window → List Header → Window
+window_after w [] = w
+window_after w (h ∷ hs) = window_after (payload w h) hs
+
+-- A list begins with these headers: in the window after them is this payload, and what is found there follows them.
+pub record BeginsWith (start : Expectation) (list : List ℕ) (hs : List Header) (rest : List ℕ) : Type 0 where
+  pub payload : within list (window_after (whole start list) hs) ≡ rest
+  pub ends : (window_after (whole start list) hs).finish ≡ length list
+  pub walk : (ks : List Header) (e : Ending) → Stack list (expected_after start hs) (window_after (whole start list) hs) ks e → Walk start list (hs ++ ks) e
