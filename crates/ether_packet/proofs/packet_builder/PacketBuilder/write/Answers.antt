@@ -1,0 +1,26 @@
+use Rattle.std.proofs.Common.{◌≡◌, ℕ, ◌<◌, length, refl, sym, ap, subst, ◌∙◌, rules, true, false}
+use Rattle.etherparse.specs.Types.Layer.TheVariants as layers
+use Rattle.etherparse.specs.WriteFront.{IsRefusedSpace}
+use Rattle.ether_packet.specs.Builder.{packet_len, IsEthernet, RefusesPacket, hardware_type, sealed, space}
+use Rattle.ether_packet.proofs.packet_builder.PacketBuilder.write.Goals as goal
+
+pub returns-then-not-is_ethernet-clause-refused : goal.returns-then-not-is_ethernet-clause-refused
+returns-then-not-is_ethernet-clause-refused c = hardware_type (λ e. let k : false ≡ true = c.if-not-is_ethernet.ensures.1 e in absurd cc)
+
+pub returns-in_err-require_readable-clause-refused : goal.returns-in_err-require_readable-clause-refused
+returns-in_err-require_readable-clause-refused c =
+    let p = c.args.self.now in
+    let ethernet : IsEthernet p.link = c.if-not-is_ethernet.ensures.0 refl in
+    let k = c.in_err-require_readable.ensures.sealed in
+    let h = subst (RefusesPacket p c.args.target.now) (sym k.1) (sealed k.0 ethernet k.2) in
+    search (rules, h)
+
+pub returns-then-len-required_len-clause-refused : goal.returns-then-len-required_len-clause-refused
+returns-then-len-required_len-clause-refused c =
+    let p = c.args.self.now in
+    let ethernet : IsEthernet p.link = c.if-not-is_ethernet.ensures.0 refl in
+    let chain = c.in_ok-require_readable.ensures.ok in
+    let len = c.size-required_len.ensures in
+    space _ ethernet chain
+      (subst (λ (n : ℕ). IsRefusedSpace n layers.EtherPayload c.args.target.now (record { required_len = c.size-required_len.result; len = length c.args.target.now; layer = layers.EtherPayload; layer_start_offset = 0 })) len
+        (record { short = c.if-len-required_len.true; error = refl }))
