@@ -1,2 +1,3 @@
 pub mod Gathering
 pub mod Getting
+pub mod Snapping

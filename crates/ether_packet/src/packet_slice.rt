@@ -4,9 +4,10 @@ ghost use Rattle.std.specs.Option.{option_map};
 ghost use Rattle.etherparse.specs.Header.{header_len as header_len_of, payload_len};
 ghost use Rattle.ether_peel.specs.Grammar.Places.{place};
 ghost use Rattle.ether_peel.specs.Grammar.Cuts.{reach};
+ghost use Rattle.ether_peel.specs.Walker.Limits.{IsFrontOfUnlimited};
 ghost use Rattle.ether_packet.specs.Views.{link_units, ext_unit, unit_header, packet_units, packet_headers};
 ghost use Rattle.ether_packet.specs.Packet.{link_exts_cap, packet_start, IsPacket};
-ghost use Rattle.ether_packet.specs.Getters.{first_tags, vlans_of, vlan_ids_of, sec_tags_of, last_ext, HoldsPayload};
+ghost use Rattle.ether_packet.specs.Getters.{first_tags, vlans_of, vlan_ids_of, sec_tags_of, last_ext, HoldsPayload, SnapsAt, TellsAccepted};
 ghost use Rattle.ether_packet.specs.Adding.{HasRoom, Adds, EndsWith};
 
 use crate::PacketExt;
@@ -68,7 +69,8 @@ impl<'a> PacketSlice<'a> {
 
     /// The headers of a frame.
     pub fn from_slice(start: Start, bytes: &'a [u8]) -> PacketSlice<'a>
-        ensures { IsPacket (packet_start start) bytes.now result }
+        ensures packet { IsPacket (packet_start start) bytes.now result }
+        ensures front { IsFrontOfUnlimited start bytes.now link_exts_cap }
     {
         let mut peel = Peel::with_limit(start, bytes, LINK_EXTS_CAP);
         let mut packet = PacketSlice::begun(bytes);
@@ -204,14 +206,16 @@ impl<'a> PacketSlice<'a> {
 
     /// Whether no header is refused.
     pub fn is_complete(&self) -> bool
-        ensures { IsTrue result ↔ (self.now.fault ≡ None) }
+        ensures value { IsTrue result ↔ (self.now.fault ≡ None) }
+        ensures accepted { TellsAccepted self.now result }
     {
         self.fault.is_none()
     }
 
     /// The least length to which the frame can be cut so that its headers stay.
     pub fn min_snap_len(&self) -> usize
-        ensures { result ≡ reach 0 (packet_headers self.now) }
+        ensures value { result ≡ reach 0 (packet_headers self.now) }
+        ensures least { SnapsAt self.now result }
     {
         let mut at = link_len(&self.link);
         let mut end = at;
