@@ -59,7 +59,7 @@ sec_tags_of us = filter_map macsec_in us
 abbrev pub HoldsLinkPayload : LinkSlice → Option EtherPayloadSlice → Type 0
 HoldsLinkPayload link result =
     MatchOption result (told_ether_type (link_protocol link) ≡ None)
-      (λ p. (told_ether_type (link_protocol link) ≡ Some p.ether_type.0) × (p.len_source ≡ link_source link) × (p.payload.now ≡ link_payload link))
+    (λ p. (told_ether_type (link_protocol link) ≡ Some p.ether_type.0) × (p.len_source ≡ link_source link) × (p.payload.now ≡ link_payload link))
 
 -- the last extension
 abbrev pub last_ext : List PacketExt → Option PacketExt

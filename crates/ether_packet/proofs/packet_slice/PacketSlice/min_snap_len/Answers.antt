@@ -31,7 +31,7 @@ overflow_add-at-in-loop-ext c =
 pub loop-ext-preserved : goal.loop-ext-preserved
 loop-ext-preserved c =
     subst (Reaches c.args.self.now.link c.as_slice-ext-items.result.now _ _) (sym c.max-end.ensures)
-      (reaches_next c.args.self.now.link c.as_slice-ext-items.result.now c.loop-ext.ext-index c.ext-item.result c.loop-ext.at c.loop-ext.end c.header_len-at.result c.named_len.result (c.loop-ext-test.true, c.ext-item.is) c.loop-ext.invariant c.header_len-at.ensures.value c.header_len-at.ensures.bound c.named_len.ensures.value c.named_len.ensures.bound)
+    (reaches_next c.args.self.now.link c.as_slice-ext-items.result.now c.loop-ext.ext-index c.ext-item.result c.loop-ext.at c.loop-ext.end c.header_len-at.result c.named_len.result (c.loop-ext-test.true, c.ext-item.is) c.loop-ext.invariant c.header_len-at.ensures.value c.header_len-at.ensures.bound c.named_len.ensures.value c.named_len.ensures.bound)
 
 pub overflow_add-at-in-Some : goal.overflow_add-at-in-Some
 overflow_add-at-in-Some c =
