@@ -14,10 +14,9 @@ use Rattle.ether_peel.specs.Grammar.Cuts.{reach}
 use Rattle.ether_peel.specs.Walker.Summary.{fault_of}
 use Rattle.ether_peel.proofs.Grammar.Carrying.{leads, beyond, Carries, StaysShort}
 use Rattle.ether_peel.proofs.Grammar.Extensions.{walk_open_to_end, kept}
-use Rattle.ether_peel.proofs.Grammar.Cuts.{reach_least, Common, common, wants_unit}
+use Rattle.ether_peel.proofs.Grammar.Cuts.{reach_least, common, wants_unit}
 use Rattle.ether_packet.specs.declared.packet_slice.PacketSlice.{PacketSlice}
 use Rattle.ether_packet.specs.Views.{packet_headers}
-use Rattle.ether_packet.specs.Packet.{IsPacket}
 use Rattle.ether_packet.specs.Getters.{IsLeastSnap, SnapsAt, TellsAccepted}
 
 not_longer : (ks later : List Header) (unit : Header) → ks ++ unit ∷ later ≡ ks → ⊥

@@ -1,5 +1,5 @@
 -- A packet that is read header by header.
-use Rattle.std.specs.Prelude.{◌≡◌, ℕ, ◌<◌, List, [], ◌∷◌, ◌++◌, length, Option, Some, None}
+use Rattle.std.specs.Prelude.{◌≡◌, ℕ, ◌<◌, List, [], ◌∷◌, ◌++◌, length, Option, Some}
 use Rattle.etherparse.specs.Types.LinkSlice.{LinkSlice}
 use Rattle.etherparse.specs.Types.LinkSlice.TheVariants as links
 use Rattle.etherparse.specs.Types.LinkExtSlice.TheVariants as exts

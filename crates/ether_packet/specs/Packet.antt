@@ -1,5 +1,5 @@
 -- The packet of a list of bytes: the headers of its walk as values, each with its window, and what is left.
-use Rattle.std.specs.Prelude.{◌≡◌, ℕ, ◌+◌, List, [], ◌∷◌, map, Option, Some, None, if◌then◌else◌}
+use Rattle.std.specs.Prelude.{◌≡◌, ℕ, ◌+◌, List, [], ◌∷◌, map, Option, Some, if◌then◌else◌}
 use Rattle.etherparse.specs.Types.LinkSlice.{LinkSlice}
 use Rattle.etherparse.specs.Types.LinkSlice.TheVariants as links
 use Rattle.etherparse.specs.Header.{Header, kind_of, header_len}

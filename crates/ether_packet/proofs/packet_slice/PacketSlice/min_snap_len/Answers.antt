@@ -1,7 +1,5 @@
-use Rattle.std.proofs.Common.{◌≡◌, ◌+◌, ℕ, List, length, ap, sym, subst, ◌∙◌, arith}
+use Rattle.std.proofs.Common.{◌≡◌, ◌+◌, length, ap, sym, subst, ◌∙◌, arith}
 use Rattle.std.specs.Prelude.{max}
-use Rattle.std.proofs.lemmas.List.{append-nil, take_all}
-use Rattle.ether_packet.specs.declared.packet_ext.PacketExt.{PacketExt}
 use Rattle.ether_packet.proofs.Getting.{Reaches, reaches_first, reaches_next, reaches_all, reach_without_arp, reach_with_arp}
 use Rattle.ether_peel.specs.Grammar.Cuts.{reach}
 use Rattle.ether_packet.specs.Views.{packet_headers}
