@@ -59,7 +59,8 @@ sec_tags_of us = filter_map macsec_in us
 abbrev pub HoldsLinkPayload : LinkSlice → Option EtherPayloadSlice → Type 0
 HoldsLinkPayload link result =
     MatchOption result (told_ether_type (link_protocol link) ≡ None)
-    (λ p. (told_ether_type (link_protocol link) ≡ Some p.ether_type.0) × (p.len_source ≡ link_source link) × (p.payload.now ≡ link_payload link))
+    (λ p. (told_ether_type (link_protocol link) ≡ Some p.ether_type.0)
+    × (p.len_source ≡ link_source link) × (p.payload.now ≡ link_payload link))
 
 -- the last extension
 abbrev pub last_ext : List PacketExt → Option PacketExt
@@ -76,18 +77,22 @@ HoldsPayload None None result = result ≡ None
 -- a cut of a list, with headers hs, keeps them if it has n bytes, and loses one if it has fewer
 pub record IsLeastSnap (start : Expectation) (list : List ℕ) (hs : List Header) (n : ℕ) : Type 0 where
   pub inside : n ≤ length list
-  pub keeps : (m : ℕ) (ks : List Header) (f : Ending) → n ≤ m → m ≤ length list → Walk start (take m list) ks f → ks ≡ hs
-  pub loses : (m : ℕ) (ks : List Header) (f : Ending) → m < n → Walk start (take m list) ks f → length ks < length hs
+  pub keeps : (m : ℕ) (ks : List Header) (f : Ending) → n ≤ m → m ≤ length list
+      → Walk start (take m list) ks f → ks ≡ hs
+  pub loses : (m : ℕ) (ks : List Header) (f : Ending) → m < n
+      → Walk start (take m list) ks f → length ks < length hs
 
 -- so it is for each list that has the packet, without a frame check sequence
 abbrev pub SnapsAt : PacketSlice → ℕ → Type 0
 SnapsAt p n =
-    (start : Expectation) (list : List ℕ) → IsBytes list → has_fcs start ≡ false → IsPacket start list p
+    (start : Expectation) (list : List ℕ)
+    → IsBytes list → has_fcs start ≡ false → IsPacket start list p
     → IsLeastSnap start list (packet_headers p) n
 
 -- ---- faults
 
--- each list that has the packet is accepted, or none is
+-- the walk of each list that has the packet ends accepted exactly if this is true
 abbrev pub TellsAccepted : PacketSlice → Bool → Type 0
 TellsAccepted p complete =
-    (start : Expectation) (list : List ℕ) (is : IsPacket start list p) → IsTrue complete ↔ (refusal_of is.ending ≡ None)
+    (start : Expectation) (list : List ℕ) (is : IsPacket start list p)
+    → IsTrue complete ↔ (refusal_of is.ending ≡ None)

@@ -20,6 +20,18 @@ fn keeps_from(rt: &impl Abort, start: Start, frame: &[u8], least: usize) {
 }
 
 #[test]
+fn the_example(rt: HostRuntime) {
+    let frame = [
+        0xFF, 0xFF, 0xFF, 0xFF, 0xFF, 0xFF, 0x02, 0x00, 0x00, 0x00, 0x00, 0x01, 0x81, 0x00, 0xB1,
+        0x23, 0x08, 0x00, 0x45,
+    ];
+    assert_eq!(rt;
+        PacketSlice::from_slice(Start::Ethernet2, &frame).min_snap_len(),
+        18
+    );
+}
+
+#[test]
 fn tags_and_an_arp_packet(rt: HostRuntime) {
     keeps_from(&rt, Start::Ethernet2, &TWICE_TAGGED_ARP_REQUEST, 50);
     keeps_from(&rt, Start::LinuxSll, &COOKED_ARP_REQUEST, 44);

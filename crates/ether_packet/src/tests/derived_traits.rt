@@ -12,7 +12,8 @@ pub fn clone_of_packet_ext<'a>(value: &PacketExt<'a>) -> Result<PacketExt<'a>, A
 }
 
 pub fn same_packet_ext(a: &PacketExt<'_>, b: &PacketExt<'_>) -> bool
-    ensures { IsTrue result ↔ ((a.now.offset ≡ b.now.offset) × SameExt a.now.slice b.now.slice) }
+    ensures { IsTrue result
+        ↔ ((a.now.offset ≡ b.now.offset) × SameExt a.now.slice b.now.slice) }
 {
     *a == *b
 }
