@@ -73,6 +73,7 @@ impl<'a> PacketSlice<'a> {
     ///
     /// A frame that is refused is no error here: the headers before the fault are there, and `fault` says why the next
     /// one is refused.
+    #[inline(always)]
     pub fn from_slice(start: Start, bytes: &'a [u8]) -> PacketSlice<'a>
         ensures packet { IsPacket (packet_start start) bytes.now result }
         ensures front { IsFrontOfUnlimited start bytes.now link_exts_cap }
@@ -92,6 +93,7 @@ impl<'a> PacketSlice<'a> {
     }
 
     /// A packet without headers.
+    #[inline(always)]
     fn begun(bytes: &'a [u8]) -> PacketSlice<'a>
         ensures link { result.link ≡ None }
         ensures exts { result.link_exts.items ≡ [] }
@@ -110,6 +112,7 @@ impl<'a> PacketSlice<'a> {
     }
 
     /// Adds the next header, which starts where the rest did.
+    #[inline(always)]
     fn add(&mut self, unit: PeelUnit<'a>)
         requires { HasRoom link_exts_cap self.old unit }
         ensures { Adds self.old unit.entry self.new }
@@ -124,6 +127,7 @@ impl<'a> PacketSlice<'a> {
     }
 
     /// Adds the next link extension.
+    #[inline(always)]
     fn add_ext(&mut self, slice: LinkExtSlice<'a>)
         requires { length self.old.link_exts.items < link_exts_cap }
         ensures link { self.new.link ≡ self.old.link }
@@ -138,6 +142,7 @@ impl<'a> PacketSlice<'a> {
     }
 
     /// The packet with what its walk leaves.
+    #[inline(always)]
     fn ended(self, peel: &Peel<'a>, fault: Option<PeelFault>) -> PacketSlice<'a>
         ensures { EndsWith self.entry peel.now fault result }
     {
@@ -148,6 +153,15 @@ impl<'a> PacketSlice<'a> {
             fault,
             ..self
         }
+    }
+
+    /// The VLAN tags and SecTags as a slice, the outermost first.
+    #[inline(always)]
+    pub fn link_exts(&self) -> &[PacketExt<'a>]
+        ensures items { result.now ≡ self.now.link_exts.items }
+        ensures most { length result.now ≤ link_exts_cap }
+    {
+        self.link_exts.as_slice()
     }
 
     /// The first VLAN tag with its payload, or the first two if there are several; `None` without a VLAN tag.

@@ -74,7 +74,10 @@ fn extensions_with_their_places(rt: HostRuntime) -> Result<(), Fail> {
         offset: 18,
         slice: LinkExtSlice::Vlan(SingleVlanSlice::from_slice(&frame[18..])?),
     };
-    assert_eq!(rt; packet.link_exts.as_slice(), [outer, inner].as_slice());
+    let exts = packet.link_exts();
+    assert_eq!(rt; exts.len(), 2);
+    assert_eq!(rt; exts[0], outer);
+    assert_eq!(rt; exts[1], inner);
     Ok(())
 }
 
@@ -135,7 +138,10 @@ fn a_tag_in_a_sec_tag(rt: HostRuntime) -> Result<(), Fail> {
         offset: 8,
         slice: LinkExtSlice::Vlan(SingleVlanSlice::from_slice(&TAG_IN_SEC_TAG[8..12])?),
     };
-    assert_eq!(rt; packet.link_exts.as_slice(), [protected, inner].as_slice());
+    let exts = packet.link_exts();
+    assert_eq!(rt; exts.len(), 2);
+    assert_eq!(rt; exts[0], protected);
+    assert_eq!(rt; exts[1], inner);
     assert_eq!(rt; packet.vlan(), Some(VlanSlice::SingleVlan(tag)));
     assert_eq!(rt; packet.rest_kind, RestKind::EtherType(EtherType(0xCCDD)));
     assert_eq!(rt; (packet.rest_offset, packet.rest.len()), (12, 0));

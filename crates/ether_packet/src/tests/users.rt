@@ -1,6 +1,7 @@
-//! A filter as users write it: what it promises speaks of the walk's headers alone.
-ghost use Rattle.std.specs.Prelude.{◌≡◌, ◌↔◌, List, Some, IsTrue, slice_get};
+//! Programs as users write them: what they promise speaks of the walk's headers alone.
+ghost use Rattle.std.specs.Prelude.{◌≡◌, ◌↔◌, ◌≤◌, List, Some, IsTrue, false, length, take, slice_get};
 ghost use Rattle.etherparse.specs.Header.{Header};
+ghost use Rattle.ether_peel.specs.Grammar.Expectation.{has_fcs};
 ghost use Rattle.ether_peel.specs.Grammar.Stack.{Ending, Walk};
 ghost use Rattle.ether_packet.specs.Packet.{packet_start};
 ghost use Rattle.ether_packet.specs.Getters.{vlan_ids_of};
@@ -20,6 +21,23 @@ fn is_in_vlan(start: Start, frame: &[u8], id: u16) -> bool
         Some(outer) => outer.value() == id,
         None => false,
     }
+}
+
+/// Whether the first `n` bytes of a frame have all headers of the frame.
+fn keeps_headers(start: Start, frame: &[u8], n: usize) -> bool
+    requires within { n ≤ length frame.now }
+    requires without_fcs { has_fcs (packet_start start) ≡ false }
+    ensures { (hs ks : List Header) (e f : Ending) → Walk (packet_start start) frame.now hs e
+        → Walk (packet_start start) (take n frame.now) ks f → IsTrue result ↔ (ks ≡ hs) }
+{
+    PacketSlice::from_slice(start, frame).min_snap_len() <= n
+}
+
+#[test]
+fn cuts_with_all_headers_pass(rt: HostRuntime) {
+    assert!(rt; keeps_headers(Start::Ethernet2, &TAGGED, 18));
+    assert!(rt; !keeps_headers(Start::Ethernet2, &TAGGED, 17));
+    assert!(rt; !keeps_headers(Start::Ethernet2, &TWICE_TAGGED_ARP_REQUEST, 49));
 }
 
 #[test]
