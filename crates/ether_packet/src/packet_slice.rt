@@ -86,8 +86,14 @@ impl<'a> PacketSlice<'a> {
                     packet.add(unit);
                     packet.rest_offset = peel.offset();
                 }
-                Some(Err(fault)) => return packet.ended(&peel, Some(fault)),
-                None => return packet.ended(&peel, None),
+                Some(Err(fault)) => {
+                    packet.end(&peel, Some(fault));
+                    return packet;
+                }
+                None => {
+                    packet.end(&peel, None);
+                    return packet;
+                }
             }
         }
     }
@@ -141,18 +147,15 @@ impl<'a> PacketSlice<'a> {
         });
     }
 
-    /// The packet with what its walk leaves.
+    /// Takes what the walk leaves.
     #[inline(always)]
-    fn ended(self, peel: &Peel<'a>, fault: Option<PeelFault>) -> PacketSlice<'a>
-        ensures { EndsWith self.entry peel.now fault result }
+    fn end(&mut self, peel: &Peel<'a>, fault: Option<PeelFault>)
+        ensures { EndsWith self.old peel.now fault self.new }
     {
-        PacketSlice {
-            rest: peel.rest(),
-            rest_offset: peel.offset(),
-            rest_kind: peel.kind(),
-            fault,
-            ..self
-        }
+        self.rest = peel.rest();
+        self.rest_offset = peel.offset();
+        self.rest_kind = peel.kind();
+        self.fault = fault;
     }
 
     /// The VLAN tags and SecTags as a slice, the outermost first.

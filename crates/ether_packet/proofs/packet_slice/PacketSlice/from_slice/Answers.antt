@@ -32,11 +32,11 @@ loop-unit-preserved c =
 pub returns-in-Some-Err-clause-packet : goal.returns-in-Some-Err-clause-packet
 returns-in-Some-Err-clause-packet c =
     let gives = rw c.in-Some-Err.field-0-is at c.in-Some-Err.ensures.steps in
-    is_packet link_exts_cap (packet_start c.args.start) c.args.bytes.now c.loop-unit.peel c.next.new.self c.loop-unit.packet c.ended.result (Some c.in-Some-Err.fault) c.loop-unit.invariant gives c.ended.ensures
+    is_packet link_exts_cap (packet_start c.args.start) c.args.bytes.now c.loop-unit.peel c.next.new.self c.loop-unit.packet c.end.new.self (Some c.in-Some-Err.fault) c.loop-unit.invariant gives c.end.ensures
 
 pub returns-in-None-clause-packet : goal.returns-in-None-clause-packet
 returns-in-None-clause-packet c =
-    is_packet link_exts_cap (packet_start c.args.start) c.args.bytes.now c.loop-unit.peel c.next.new.self c.loop-unit.packet c.ended-in-None.result None c.loop-unit.invariant c.in-None.ensures.steps c.ended-in-None.ensures
+    is_packet link_exts_cap (packet_start c.args.start) c.args.bytes.now c.loop-unit.peel c.next.new.self c.loop-unit.packet c.end-in-None.new.self None c.loop-unit.invariant c.in-None.ensures.steps c.end-in-None.ensures
 
 pub returns-in-Some-Err-clause-front : goal.returns-in-Some-Err-clause-front
 returns-in-Some-Err-clause-front c hs ks e f s t = cut_off c.args.bytes.now (start_next c.args.start) (Some link_exts_cap) (whole (start_of c.args.start) c.args.bytes.now) hs ks e f s t
