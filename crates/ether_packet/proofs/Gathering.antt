@@ -2,23 +2,18 @@
 use Rattle.std.proofs.Common.{◌≡◌, ℕ, zero, suc, ◌+◌, ◌-◌, ◌<◌, List, [], ◌∷◌, ◌++◌, length, refl, sym, ap, subst, ◌∙◌, arith, inl, inr, Bool, true, false, cond, ◌⊎◌}
 use Rattle.std.specs.Prelude.{map, Option, Some, None, Result, Ok, Err, ◌&&◌}
 use Rattle.std.proofs.lemmas.List.{append_assoc, append-nil, length-append, map-append}
-use Rattle.etherparse.specs.Types.LenSource.{LenSource}
 use Rattle.etherparse.specs.Types.LinkSlice.{LinkSlice}
 use Rattle.etherparse.specs.Types.LinuxSllProtocolType.{LinuxSllProtocolType}
 use Rattle.etherparse.specs.Bytes.{IsBytes}
-use Rattle.etherparse.specs.Ethernet2.{ethernet2_of}
-use Rattle.etherparse.specs.LinuxSll.{linux_sll_of}
-use Rattle.etherparse.specs.Vlan.{vlan_of}
 use Rattle.etherparse.specs.Macsec.{PayloadType, sec_tag_of, tag_bytes}
 use Rattle.etherparse.specs.Macsec as payloads
-use Rattle.etherparse.specs.Arp.{arp_of}
 use Rattle.etherparse.specs.Kind.{Kind}
 use Rattle.etherparse.specs.Kind as kinds
-use Rattle.etherparse.specs.Header.{Header, kind_of, header_len, Means}
+use Rattle.etherparse.specs.Header.{Header, kind_of, header_len}
 use Rattle.etherparse.specs.Header as headers
 use Rattle.etherparse.proofs.SubLists.{IsBytes-part}
 use Rattle.ether_peel.specs.Grammar.Window.{Window, within, payload}
-use Rattle.ether_peel.specs.Grammar.Expectation.{Next, Start, EtherType, Sll, Sealed, AfterArp, Expectation, is_extension, is_spent, permitted, announced_by, announced_next, announced, after, next_after, after_payload, lowered}
+use Rattle.ether_peel.specs.Grammar.Expectation.{Next, Start, EtherType, Sll, Sealed, AfterArp, Expectation, is_extension, permitted, announced_next, announced, after, next_after, after_payload, lowered}
 use Rattle.ether_peel.specs.Grammar.Stack.{Ending, Accepted, Fault, last_window, last_expected, whole, Walk}
 use Rattle.ether_peel.specs.Grammar.Places.{place}
 use Rattle.ether_peel.specs.Walker.State.{State}
@@ -31,26 +26,13 @@ use Rattle.ether_peel.specs.declared.peel_unit.PeelUnit.TheVariants as units
 use Rattle.ether_peel.specs.declared.peel_fault.PeelFault.{PeelFault}
 use Rattle.ether_peel.proofs.Grammar.Announced.{announced_is}
 use Rattle.ether_peel.proofs.Grammar.Stacks.{one_stack}
-use Rattle.ether_peel.proofs.Walker.ViewValues.{ethernet2_shown, linux_sll_shown, vlan_shown, macsec_shown, arp_shown}
+use Rattle.ether_peel.proofs.Walker.UnitHeaders.{unit_header-shown}
+use Rattle.ether_peel.specs.Walker.UnitHeader.{unit_header}
 use Rattle.ether_packet.specs.declared.packet_ext.PacketExt.{PacketExt}
 use Rattle.ether_packet.specs.declared.packet_slice.PacketSlice.{PacketSlice}
-use Rattle.ether_packet.specs.Views.{link_units, ext_unit, ext_units, arp_units, packet_units, unit_header, packet_headers}
+use Rattle.ether_packet.specs.Views.{link_units, ext_unit, ext_units, arp_units, packet_units, packet_headers}
 use Rattle.ether_packet.specs.Packet.{AreViews, ext_places, ext_offsets, IsHeader, IsPacket}
 use Rattle.ether_packet.specs.Adding.{HasRoom, Adds, EndsWith}
-
--- ---- the header of a view
-
--- a view of a unit means the unit's header
-pub unit_header-shown : (bytes rest : List ℕ) (h : Header) (u : PeelUnit) → IsBytes bytes → Means bytes h → ShowsUnit bytes rest h u → unit_header u ≡ h
-unit_header-shown bytes rest (headers.Ethernet2 e) u ok m shows = ap unit_header shows ∙ ap headers.Ethernet2 (ethernet2_shown bytes e ok m)
-unit_header-shown bytes rest (headers.Ethernet2Fcs e) u ok m shows =
-    let plain : Means bytes (headers.Ethernet2 e) = record { whole = m.whole; spells = m.spells } in
-    ap unit_header shows ∙ ap headers.Ethernet2Fcs (ethernet2_shown bytes e ok plain)
-unit_header-shown bytes rest (headers.LinuxSll s) u ok m shows = ap unit_header shows ∙ ap headers.LinuxSll (linux_sll_shown bytes s ok m)
-unit_header-shown bytes rest (headers.Vlan v) u ok m shows = ap unit_header shows ∙ ap headers.Vlan (vlan_shown bytes v ok m)
-unit_header-shown bytes rest (headers.Macsec t) u ok m shows =
-    ap unit_header shows.1 ∙ ap (λ (l : List ℕ). headers.Macsec (sec_tag_of l)) shows.2.header ∙ ap headers.Macsec (macsec_shown bytes t ok m)
-unit_header-shown bytes rest (headers.Arp a) u ok m shows = ap unit_header shows ∙ ap headers.Arp (arp_shown bytes a ok m)
 
 -- ---- one header more
 

@@ -1,5 +1,5 @@
 -- What is found among the headers of a packet, extension by extension.
-use Rattle.std.proofs.Common.{◌≡◌, ℕ, suc, ◌+◌, ◌*◌, ◌<◌, ◌≤◌, List, [], ◌∷◌, ◌++◌, length, take, drop, refl, sym, ap, subst, ◌∙◌, arith, append_assoc, Bor, slice_index_or, Bool, true, false}
+use Rattle.std.proofs.Common.{◌≡◌, ℕ, suc, ◌+◌, ◌*◌, ◌<◌, ◌≤◌, List, [], ◌∷◌, ◌++◌, length, take, drop, refl, sym, ap, ◌∙◌, arith, append_assoc, Bor, slice_index_or, Bool, true, false}
 use Rattle.std.specs.Prelude.{map, max, slice_get, Option, Some, None, unwrap_or, if◌then◌else◌}
 use Rattle.std.specs.List.{filter_map, cons_option}
 use Rattle.std.proofs.Math.Seq.{take-suc}
@@ -21,10 +21,11 @@ use Rattle.etherparse.proofs.Reading.{arp_front_back}
 use Rattle.ether_peel.specs.Grammar.Cuts.{reach}
 use Rattle.ether_peel.specs.Grammar.Places.{place}
 use Rattle.ether_peel.proofs.Grammar.Places.{place-append}
+use Rattle.ether_peel.specs.Walker.UnitHeader.{unit_header}
 use Rattle.ether_peel.specs.declared.peel_unit.PeelUnit.{PeelUnit}
 use Rattle.ether_packet.specs.declared.packet_ext.PacketExt.{PacketExt}
 use Rattle.ether_packet.specs.declared.packet_slice.PacketSlice.{PacketSlice}
-use Rattle.ether_packet.specs.Views.{link_units, ext_unit, ext_units, arp_units, packet_units, unit_header, packet_headers}
+use Rattle.ether_packet.specs.Views.{link_units, ext_unit, ext_units, arp_units, packet_units, packet_headers}
 use Rattle.ether_packet.specs.Getters.{vid_of, vlan_ids_of, vlan_in, vlans_of, first_tags, macsec_in, sec_tags_of}
 
 -- ---- one extension more

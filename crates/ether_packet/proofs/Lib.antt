@@ -4,3 +4,4 @@ pub mod Written
 pub mod Building
 pub mod Chains
 pub mod Filling
+pub mod Snapping

@@ -1,5 +1,5 @@
 -- A packet that is read header by header.
-use Rattle.std.specs.Prelude.{◌≡◌, ℕ, ◌<◌, List, [], ◌∷◌, ◌++◌, length, Option, Some, None}
+use Rattle.std.specs.Prelude.{◌≡◌, ℕ, ◌<◌, List, [], ◌∷◌, ◌++◌, length, Option, Some}
 use Rattle.etherparse.specs.Types.LinkSlice.{LinkSlice}
 use Rattle.etherparse.specs.Types.LinkSlice.TheVariants as links
 use Rattle.etherparse.specs.Types.LinkExtSlice.TheVariants as exts
@@ -39,7 +39,8 @@ pub record Adds (old : PacketSlice) (u : PeelUnit) (new : PacketSlice) : Type 0 
   pub arp : new.arp ≡ arp_with old.arp u
 
 -- the headers stay, and what is left is what a walker shows at its end
-pub record EndsWith (old : PacketSlice) (s : State) (met : Option PeelFault) (new : PacketSlice) : Type 0 where
+pub record EndsWith (old : PacketSlice) (s : State) (met : Option PeelFault) (new : PacketSlice)
+    : Type 0 where
   pub link : new.link ≡ old.link
   pub exts : new.link_exts.items ≡ old.link_exts.items
   pub arp : new.arp ≡ old.arp

@@ -1,21 +1,26 @@
 -- What is asked of a packet: its tags, the payload that they name, and the shortest cut that keeps its headers.
-use Rattle.std.specs.Prelude.{◌≡◌, ℕ, ◌-◌, ◌<◌, ◌≤◌, List, [], ◌∷◌, length, take, slice_get, Option, Some, None, MatchOption}
+use Rattle.std.specs.Prelude.{◌≡◌, ℕ, ◌-◌, ◌<◌, ◌≤◌, List, [], ◌∷◌, length, take, slice_get, Option, Some, None, MatchOption, Bool, false, IsTrue, ◌↔◌}
 use Rattle.std.specs.List.{filter_map}
 use Rattle.etherparse.specs.Types.EtherPayloadSlice.{EtherPayloadSlice}
 use Rattle.etherparse.specs.Types.LinkSlice.{LinkSlice}
 use Rattle.etherparse.specs.Types.MacsecSlice.{MacsecSlice}
 use Rattle.etherparse.specs.Types.VlanSlice.{VlanSlice}
 use Rattle.etherparse.specs.Types.VlanSlice.TheVariants as tags
+use Rattle.etherparse.specs.Bytes.{IsBytes}
 use Rattle.etherparse.specs.Header.{Header}
 use Rattle.etherparse.specs.Header as headers
 use Rattle.etherparse.specs.LinuxSllProtocolType.{told_ether_type}
 use Rattle.etherparse.specs.Link.{link_protocol, link_source, link_payload}
 use Rattle.etherparse.specs.LinkExt.{HoldsExtPayload}
-use Rattle.ether_peel.specs.Grammar.Expectation.{Expectation}
+use Rattle.ether_peel.specs.Grammar.Expectation.{Expectation, has_fcs}
 use Rattle.ether_peel.specs.Grammar.Stack.{Ending, Walk}
+use Rattle.ether_peel.specs.Grammar.Endings.{refusal_of}
 use Rattle.ether_peel.specs.declared.peel_unit.PeelUnit.{PeelUnit}
 use Rattle.ether_peel.specs.declared.peel_unit.PeelUnit.TheVariants as units
 use Rattle.ether_packet.specs.declared.packet_ext.PacketExt.{PacketExt}
+use Rattle.ether_packet.specs.declared.packet_slice.PacketSlice.{PacketSlice}
+use Rattle.ether_packet.specs.Views.{packet_headers}
+use Rattle.ether_packet.specs.Packet.{IsPacket}
 
 -- ---- tags
 
@@ -55,7 +60,8 @@ sec_tags_of us = filter_map macsec_in us
 abbrev pub HoldsLinkPayload : LinkSlice → Option EtherPayloadSlice → Type 0
 HoldsLinkPayload link result =
     MatchOption result (told_ether_type (link_protocol link) ≡ None)
-      (λ p. (told_ether_type (link_protocol link) ≡ Some p.ether_type.0) × (p.len_source ≡ link_source link) × (p.payload.now ≡ link_payload link))
+    (λ p. (told_ether_type (link_protocol link) ≡ Some p.ether_type.0)
+    × (p.len_source ≡ link_source link) × (p.payload.now ≡ link_payload link))
 
 -- the last extension
 abbrev pub last_ext : List PacketExt → Option PacketExt
@@ -72,5 +78,22 @@ HoldsPayload None None result = result ≡ None
 -- a cut of a list, with headers hs, keeps them if it has n bytes, and loses one if it has fewer
 pub record IsLeastSnap (start : Expectation) (list : List ℕ) (hs : List Header) (n : ℕ) : Type 0 where
   pub inside : n ≤ length list
-  pub keeps : (m : ℕ) (ks : List Header) (f : Ending) → n ≤ m → m ≤ length list → Walk start (take m list) ks f → ks ≡ hs
-  pub loses : (m : ℕ) (ks : List Header) (f : Ending) → m < n → Walk start (take m list) ks f → length ks < length hs
+  pub keeps : (m : ℕ) (ks : List Header) (f : Ending) → n ≤ m → m ≤ length list
+      → Walk start (take m list) ks f → ks ≡ hs
+  pub loses : (m : ℕ) (ks : List Header) (f : Ending) → m < n
+      → Walk start (take m list) ks f → length ks < length hs
+
+-- so it is for each list that has the packet, without a frame check sequence
+abbrev pub SnapsAt : PacketSlice → ℕ → Type 0
+SnapsAt p n =
+    (start : Expectation) (list : List ℕ)
+    → IsBytes list → has_fcs start ≡ false → IsPacket start list p
+    → IsLeastSnap start list (packet_headers p) n
+
+-- ---- faults
+
+-- the walk of each list that has the packet ends accepted exactly if this is true
+abbrev pub TellsAccepted : PacketSlice → Bool → Type 0
+TellsAccepted p complete =
+    (start : Expectation) (list : List ℕ) (is : IsPacket start list p)
+    → IsTrue complete ↔ (refusal_of is.ending ≡ None)

@@ -1,5 +1,5 @@
 -- The packet of a list of bytes: the headers of its walk as values, each with its window, and what is left.
-use Rattle.std.specs.Prelude.{◌≡◌, ℕ, ◌+◌, List, [], ◌∷◌, map, Option, Some, None, if◌then◌else◌}
+use Rattle.std.specs.Prelude.{◌≡◌, ℕ, ◌+◌, List, [], ◌∷◌, map, Option, Some, if◌then◌else◌}
 use Rattle.etherparse.specs.Types.LinkSlice.{LinkSlice}
 use Rattle.etherparse.specs.Types.LinkSlice.TheVariants as links
 use Rattle.etherparse.specs.Header.{Header, kind_of, header_len}
@@ -26,13 +26,16 @@ packet_start start = limited_start start link_exts_cap
 -- these units are the views of these headers in a window, each in the payload of the one before it
 abbrev pub AreViews : List ℕ → Window → List Header → List PeelUnit → Type 0
 AreViews list w [] [] = Unit {0}
-AreViews list w (h ∷ hs) (u ∷ us) = ShowsUnit (within list w) (within list (payload w h)) h u × AreViews list (payload w h) hs us
+AreViews list w (h ∷ hs) (u ∷ us) =
+    ShowsUnit (within list w) (within list (payload w h)) h u × AreViews list (payload w h) hs us
 AreViews list w _ _ = ⊥
 
 -- where the extensions among these headers begin, if the first header begins at a place
 abbrev pub ext_places : ℕ → List Header → List ℕ
 ext_places at [] = []
-ext_places at (h ∷ hs) = let later = ext_places (at + header_len h) hs in if is_extension (kind_of h) then at ∷ later else later
+ext_places at (h ∷ hs) =
+    let later = ext_places (at + header_len h) hs in
+    if is_extension (kind_of h) then at ∷ later else later
 
 abbrev pub ext_offsets : List PacketExt → List ℕ
 ext_offsets exts = map (λ (e : PacketExt). e.offset) exts
@@ -49,7 +52,8 @@ pub record IsPacket (start : Expectation) (list : List ℕ) (p : PacketSlice) : 
   pub ending : Ending
   pub walk : Walk start list (packet_headers p) ending
   -- which is the only one
-  pub one : (hs : List Header) (e : Ending) → Walk start list hs e → (hs ≡ packet_headers p) × (e ≡ ending)
+  pub one : (hs : List Header) (e : Ending)
+      → Walk start list hs e → (hs ≡ packet_headers p) × (e ≡ ending)
   -- each view has the bytes of its header's window, and each extension its place
   pub views : AreViews list (whole start list) (packet_headers p) (packet_units p)
   pub places : ext_offsets p.link_exts.items ≡ ext_places 0 (packet_headers p)

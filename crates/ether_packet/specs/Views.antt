@@ -1,16 +1,11 @@
 -- The views of a packet, and the headers that they mean.
-use Rattle.std.specs.Prelude.{ℕ, List, [], ◌∷◌, ◌++◌, map, Option, Some, None, if◌then◌else◌}
-use Rattle.etherparse.specs.Ethernet2.{ethernet2_of}
-use Rattle.etherparse.specs.LinuxSll.{linux_sll_of}
-use Rattle.etherparse.specs.Vlan.{vlan_of}
-use Rattle.etherparse.specs.Macsec.{sec_tag_of, tag_bytes}
-use Rattle.etherparse.specs.Arp.{arp_of}
+use Rattle.std.specs.Prelude.{ℕ, List, [], ◌∷◌, ◌++◌, map, Option, Some, None}
 use Rattle.etherparse.specs.Header.{Header}
-use Rattle.etherparse.specs.Header as headers
 use Rattle.etherparse.specs.Types.LinkSlice.{LinkSlice}
 use Rattle.etherparse.specs.Types.LinkSlice.TheVariants as links
 use Rattle.etherparse.specs.Types.LinkExtSlice.{LinkExtSlice}
 use Rattle.etherparse.specs.Types.LinkExtSlice.TheVariants as exts
+use Rattle.ether_peel.specs.Walker.UnitHeader.{unit_header}
 use Rattle.ether_peel.specs.declared.peel_unit.PeelUnit.{PeelUnit}
 use Rattle.ether_peel.specs.declared.peel_unit.PeelUnit.TheVariants as units
 use Rattle.ether_packet.specs.declared.packet_ext.PacketExt.{PacketExt}
@@ -39,14 +34,6 @@ abbrev pub packet_units : PacketSlice → List PeelUnit
 packet_units p = link_units p.link ++ ext_units p.link_exts.items ++ arp_units p.arp
 
 -- ---- headers
-
--- the header that the bytes of a view mean
-abbrev pub unit_header : PeelUnit → Header
-unit_header (units.Ethernet2 frame) = let e = ethernet2_of frame.bytes in if frame.has_fcs then headers.Ethernet2Fcs e else headers.Ethernet2 e
-unit_header (units.LinuxSll bytes) = headers.LinuxSll (linux_sll_of bytes)
-unit_header (units.Vlan bytes) = headers.Vlan (vlan_of bytes)
-unit_header (units.Macsec packet) = headers.Macsec (sec_tag_of (tag_bytes packet.header))
-unit_header (units.Arp bytes) = headers.Arp (arp_of bytes)
 
 -- the headers of a packet, in the order of the frame
 abbrev pub packet_headers : PacketSlice → List Header

@@ -1,4 +1,7 @@
 //! A link extension of a packet, and where it starts.
+ghost use Rattle.std.specs.Prelude.{◌≡◌, [], ◌∷◌};
+ghost use Rattle.etherparse.specs.Types.LinkExtSlice.TheVariants as exts;
+
 use etherparse::{LinkExtSlice, SingleVlanSlice};
 
 /// A VLAN tag or a MACsec SecTag of a packet with its payload, and where it starts.
@@ -12,6 +15,8 @@ pub struct PacketExt<'a> {
 
 /// A VLAN tag of zeros at offset 0, as the unused places of a list of a fixed capacity hold it.
 impl<'a> Default for PacketExt<'a> {
+    ghost is_default = { λ ext. ext ≡ record { offset = 0; slice = exts.Vlan (0 ∷ 0 ∷ 0 ∷ 0 ∷ []) } };
+
     fn default() -> PacketExt<'a> {
         match SingleVlanSlice::from_slice(&[0; 4]) {
             Ok(tag) => PacketExt {

@@ -4,9 +4,11 @@ ghost use Rattle.std.specs.Option.{option_map};
 ghost use Rattle.etherparse.specs.Header.{header_len as header_len_of, payload_len};
 ghost use Rattle.ether_peel.specs.Grammar.Places.{place};
 ghost use Rattle.ether_peel.specs.Grammar.Cuts.{reach};
-ghost use Rattle.ether_packet.specs.Views.{link_units, ext_unit, unit_header, packet_units, packet_headers};
+ghost use Rattle.ether_peel.specs.Walker.UnitHeader.{unit_header};
+ghost use Rattle.ether_peel.specs.Walker.Limits.{IsFrontOfUnlimited};
+ghost use Rattle.ether_packet.specs.Views.{link_units, ext_unit, packet_units, packet_headers};
 ghost use Rattle.ether_packet.specs.Packet.{link_exts_cap, packet_start, IsPacket};
-ghost use Rattle.ether_packet.specs.Getters.{first_tags, vlans_of, vlan_ids_of, sec_tags_of, last_ext, HoldsPayload};
+ghost use Rattle.ether_packet.specs.Getters.{first_tags, vlans_of, vlan_ids_of, sec_tags_of, last_ext, HoldsPayload, SnapsAt, TellsAccepted};
 ghost use Rattle.ether_packet.specs.Adding.{HasRoom, Adds, EndsWith};
 
 use crate::PacketExt;
@@ -66,9 +68,15 @@ impl<'a> PacketSlice<'a> {
     /// How many VLAN tags and SecTags a packet holds at most.
     pub const LINK_EXTS_CAP: usize = LINK_EXTS_CAP;
 
-    /// The headers of a frame.
+    /// The headers of a frame, which are those of the walk of [`Peel::with_limit`] with
+    /// [`LINK_EXTS_CAP`](Self::LINK_EXTS_CAP) as its limit.
+    ///
+    /// A frame that is refused is no error here: the headers before the fault are there, and `fault` says why the next
+    /// one is refused.
+    #[inline(always)]
     pub fn from_slice(start: Start, bytes: &'a [u8]) -> PacketSlice<'a>
-        ensures { IsPacket (packet_start start) bytes.now result }
+        ensures packet { IsPacket (packet_start start) bytes.now result }
+        ensures front { IsFrontOfUnlimited start bytes.now link_exts_cap }
     {
         let mut peel = Peel::with_limit(start, bytes, LINK_EXTS_CAP);
         let mut packet = PacketSlice::begun(bytes);
@@ -78,13 +86,20 @@ impl<'a> PacketSlice<'a> {
                     packet.add(unit);
                     packet.rest_offset = peel.offset();
                 }
-                Some(Err(fault)) => return packet.ended(&peel, Some(fault)),
-                None => return packet.ended(&peel, None),
+                Some(Err(fault)) => {
+                    packet.end(&peel, Some(fault));
+                    return packet;
+                }
+                None => {
+                    packet.end(&peel, None);
+                    return packet;
+                }
             }
         }
     }
 
     /// A packet without headers.
+    #[inline(always)]
     fn begun(bytes: &'a [u8]) -> PacketSlice<'a>
         ensures link { result.link ≡ None }
         ensures exts { result.link_exts.items ≡ [] }
@@ -103,6 +118,7 @@ impl<'a> PacketSlice<'a> {
     }
 
     /// Adds the next header, which starts where the rest did.
+    #[inline(always)]
     fn add(&mut self, unit: PeelUnit<'a>)
         requires { HasRoom link_exts_cap self.old unit }
         ensures { Adds self.old unit.entry self.new }
@@ -117,10 +133,12 @@ impl<'a> PacketSlice<'a> {
     }
 
     /// Adds the next link extension.
+    #[inline(always)]
     fn add_ext(&mut self, slice: LinkExtSlice<'a>)
         requires { length self.old.link_exts.items < link_exts_cap }
         ensures link { self.new.link ≡ self.old.link }
-        ensures exts { self.new.link_exts.items ≡ self.old.link_exts.items ++ record { offset = self.old.rest_offset; slice = slice.entry } ∷ [] }
+        ensures exts { self.new.link_exts.items
+            ≡ self.old.link_exts.items ++ record { offset = self.old.rest_offset; slice = slice.entry } ∷ [] }
         ensures arp { self.new.arp ≡ self.old.arp }
     {
         self.link_exts.push(PacketExt {
@@ -129,20 +147,29 @@ impl<'a> PacketSlice<'a> {
         });
     }
 
-    /// The packet with what its walk leaves.
-    fn ended(self, peel: &Peel<'a>, fault: Option<PeelFault>) -> PacketSlice<'a>
-        ensures { EndsWith self.entry peel.now fault result }
+    /// Takes what the walk leaves.
+    #[inline(always)]
+    fn end(&mut self, peel: &Peel<'a>, fault: Option<PeelFault>)
+        ensures { EndsWith self.old peel.now fault self.new }
     {
-        PacketSlice {
-            rest: peel.rest(),
-            rest_offset: peel.offset(),
-            rest_kind: peel.kind(),
-            fault,
-            ..self
-        }
+        self.rest = peel.rest();
+        self.rest_offset = peel.offset();
+        self.rest_kind = peel.kind();
+        self.fault = fault;
     }
 
-    /// The first VLAN tag, or the first two.
+    /// The VLAN tags and SecTags as a slice, the outermost first.
+    #[inline(always)]
+    pub fn link_exts(&self) -> &[PacketExt<'a>]
+        ensures items { result.now ≡ self.now.link_exts.items }
+        ensures most { length result.now ≤ link_exts_cap }
+    {
+        self.link_exts.as_slice()
+    }
+
+    /// The first VLAN tag with its payload, or the first two if there are several; `None` without a VLAN tag.
+    ///
+    /// SecTags are passed over.
     pub fn vlan(&self) -> Option<VlanSlice<'a>>
         ensures { result ≡ first_tags (vlans_of (packet_units self.now)) }
     {
@@ -151,7 +178,7 @@ impl<'a> PacketSlice<'a> {
             if let LinkExtSlice::Vlan(tag) = &ext.slice {
                 match outer {
                     None => outer = Some(tag),
-                    Some(outer) => return Some(VlanSlice::DoubleVlan(tags(outer, tag))),
+                    Some(outer) => return Some(VlanSlice::DoubleVlan(two_tags(outer, tag))),
                 }
             }
         }
@@ -174,9 +201,10 @@ impl<'a> PacketSlice<'a> {
         ids
     }
 
-    /// The first SecTag and its payload.
+    /// The first SecTag with its payload; `None` without a SecTag.
     pub fn macsec(&self) -> Option<&MacsecSlice<'a>>
-        ensures { option_map (λ packet. packet.now) result ≡ slice_get (sec_tags_of (packet_units self.now)) 0 }
+        ensures { option_map (λ packet. packet.now) result
+            ≡ slice_get (sec_tags_of (packet_units self.now)) 0 }
     {
         for ext in self.link_exts.as_slice() {
             if let LinkExtSlice::Macsec(packet) = &ext.slice {
@@ -186,10 +214,10 @@ impl<'a> PacketSlice<'a> {
         None
     }
 
-    /// The payload of the last VLAN tag or SecTag, or of the link's header if there is none, with its ether type.
+    /// The payload of the last VLAN tag or SecTag, or of the link's header without a tag, and its ether type.
     ///
-    /// `None` if it has no ether type: of a SecTag whose payload is encrypted or changed, and of a cooked capture of some
-    /// protocols.
+    /// `None` if it has no ether type, as after a SecTag whose payload is encrypted or changed, or if there is no header
+    /// before it. An ARP packet is part of the payload.
     pub fn ether_payload(&self) -> Option<EtherPayloadSlice<'a>>
         ensures { HoldsPayload self.now.link (last_ext self.now.link_exts.items) result }
     {
@@ -202,16 +230,31 @@ impl<'a> PacketSlice<'a> {
         }
     }
 
-    /// Whether no header is refused.
+    /// Whether no header is refused. What follows the headers may still be cut short.
     pub fn is_complete(&self) -> bool
-        ensures { IsTrue result ↔ (self.now.fault ≡ None) }
+        ensures value { IsTrue result ↔ (self.now.fault ≡ None) }
+        ensures accepted { TellsAccepted self.now result }
     {
         self.fault.is_none()
     }
 
-    /// The least length to which the frame can be cut so that its headers stay.
+    /// The least snap length that keeps all headers: a frame that is cut to it still has them, and one that is cut
+    /// shorter lacks one.
+    ///
+    /// The payload whose length a SecTag names counts, since the tag is refused without it. A frame check sequence does
+    /// not count: a frame that is cut has lost it, and is read as one without.
+    ///
+    /// ```
+    /// let frame = [
+    ///     0xFF, 0xFF, 0xFF, 0xFF, 0xFF, 0xFF, 0x02, 0x00, 0x00, 0x00, 0x00, 0x01, 0x81, 0x00, // Ethernet II
+    ///     0xB1, 0x23, 0x08, 0x00, // VLAN
+    ///     0x45,
+    /// ];
+    /// assert_eq!(rt; PacketSlice::from_slice(Start::Ethernet2, &frame).min_snap_len(), 18);
+    /// ```
     pub fn min_snap_len(&self) -> usize
-        ensures { result ≡ reach 0 (packet_headers self.now) }
+        ensures value { result ≡ reach 0 (packet_headers self.now) }
+        ensures least { SnapsAt self.now result }
     {
         let mut at = link_len(&self.link);
         let mut end = at;
@@ -227,7 +270,7 @@ impl<'a> PacketSlice<'a> {
 }
 
 /// Two tags.
-fn tags<'a>(outer: &SingleVlanSlice<'a>, inner: &SingleVlanSlice<'a>) -> DoubleVlanSlice<'a>
+fn two_tags<'a>(outer: &SingleVlanSlice<'a>, inner: &SingleVlanSlice<'a>) -> DoubleVlanSlice<'a>
     ensures outer { result.outer ≡ outer.now }
     ensures inner { result.inner ≡ inner.now }
 {

@@ -3,6 +3,7 @@ pub mod Bounds
 pub mod Units
 pub mod Steps
 pub mod ViewValues
+pub mod UnitHeaders
 pub mod SameValues
 pub mod Limits
 pub mod Summarizing

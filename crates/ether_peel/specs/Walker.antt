@@ -4,6 +4,7 @@ pub mod Start
 pub mod Reading
 pub mod Fault
 pub mod Next
+pub mod UnitHeader
 pub mod Summary
 pub mod WriteBack
 pub mod Limits

@@ -5,6 +5,7 @@ ghost use Rattle.ether_peel.specs.Grammar.Places.{StacksAreLocal};
 ghost use Rattle.ether_peel.specs.Grammar.Cleared.{HeadersGoBack};
 ghost use Rattle.ether_peel.specs.Grammar.Cuts.{CutsKeep};
 ghost use Rattle.ether_peel.specs.Grammar.Extensions.{ExtensionsKeep};
+ghost use Rattle.ether_peel.specs.Walker.UnitHeader.{UnitsMeanHeaders};
 
 /// In each window of each list of bytes there is a stack from each expectation, and no second one.
 pub fn stacks_are_one()
@@ -31,4 +32,9 @@ pub fn cuts_keep()
 /// its named length is there.
 pub fn extensions_keep()
     ensures { ExtensionsKeep }
+{}
+
+/// A view that a walk returns means the header that the walk has there: its bytes have that value.
+pub fn units_mean_headers()
+    ensures { UnitsMeanHeaders }
 {}

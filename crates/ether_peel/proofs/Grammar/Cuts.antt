@@ -88,22 +88,18 @@ open_of : (closed : Bool) (more : List ℕ) → 0 < length (beyond closed more) 
 open_of true more lt = absurd (omega arith)
 open_of false more lt = refl
 
--- that is refused for a length which is there in the whole
-wants : (start : Expectation) (cut more : List ℕ) (hs ks : List Header) (v : Window) (y : Expectation) (required len : ℕ) (source : LenSource) (layer : Layer) (rest : List Header) (last u : Window) (z : Expectation) → has_fcs start ≡ false
-    → Walk start cut ks (Fault v y (Length required len source layer)) → Carries cut (cut ++ more) more v last → hs ≡ ks ++ rest → Stack (cut ++ more) y last rest (Accepted u z) → required ≤ length (within cut v) + length (beyond v.closed more)
+-- that is refused, before a unit of the whole, for a length which is there in the whole
+pub wants_unit : (start : Expectation) (cut more : List ℕ) (hs ks : List Header) (v : Window) (y : Expectation) (required len : ℕ) (source : LenSource) (layer : Layer) (unit : Header) (later : List Header) (last : Window) (e : Ending) → has_fcs start ≡ false
+    → Walk start cut ks (Fault v y (Length required len source layer)) → Carries cut (cut ++ more) more v last → hs ≡ ks ++ unit ∷ later → Stack (cut ++ more) y last (unit ∷ later) e → required ≤ length (within cut v) + length (beyond v.closed more)
     → EndsInUnit (length cut) hs ks (Fault v y (Length required len source layer))
-wants start cut more hs ks v y required len source layer [] last u z h s c parts t long =
-    let end = (leads cut start (whole start cut) ks (Fault v y (Length required len source layer)) s).1 in
-    let e : None ≡ Some end.2 = sym t.2 ∙ end.3 in
-    absurd cc
-wants start cut more hs ks v y required len source layer (unit ∷ later) last u z h s c parts t long =
+wants_unit start cut more hs ks v y required len source layer unit later last e h s c parts t long =
     let f = Fault v y (Length required len source layer) in
     let l = leads cut start (whole start cut) ks f s in
     let kind = l.1.2 in
     let row = l.1.4 in
     let o = walk_open_to_end start cut ks f h s in
     let b = leads_after cut start (whole start cut) ks y v (whole_in start cut) l.0 in
-    let e : Some kind ≡ Some (kind_of unit) = sym l.1.3 ∙ t.0.announced in
+    let both : Some kind ≡ Some (kind_of unit) = sym l.1.3 ∙ t.0.announced in
     let same : kind ≡ kind_of unit = cc in
     let means : Means (within cut v ++ beyond v.closed more) unit = subst (λ (l : List ℕ). Means l unit) c.bytes t.0.means in
     let enough : required ≤ unit_len unit = required_within v.bound source (within cut v) (beyond v.closed more) kind required len layer unit row means same (λ k. o.free (l.1.3 ∙ ap Some k)) in
@@ -127,6 +123,16 @@ wants start cut more hs ks v y required len source layer (unit ∷ later) last u
       above = omega arith;
       at_most = omega arith;
     }
+
+-- so it is in an accepted list
+wants : (start : Expectation) (cut more : List ℕ) (hs ks : List Header) (v : Window) (y : Expectation) (required len : ℕ) (source : LenSource) (layer : Layer) (rest : List Header) (last u : Window) (z : Expectation) → has_fcs start ≡ false
+    → Walk start cut ks (Fault v y (Length required len source layer)) → Carries cut (cut ++ more) more v last → hs ≡ ks ++ rest → Stack (cut ++ more) y last rest (Accepted u z) → required ≤ length (within cut v) + length (beyond v.closed more)
+    → EndsInUnit (length cut) hs ks (Fault v y (Length required len source layer))
+wants start cut more hs ks v y required len source layer [] last u z h s c parts t long =
+    let end = (leads cut start (whole start cut) ks (Fault v y (Length required len source layer)) s).1 in
+    let e : None ≡ Some end.2 = sym t.2 ∙ end.3 in
+    absurd cc
+wants start cut more hs ks v y required len source layer (unit ∷ later) last u z h s c parts t long = wants_unit start cut more hs ks v y required len source layer unit later last (Accepted u z) h s c parts t long
 
 -- it is not refused in a way that stays
 not_for_good : (start : Expectation) (cut more : List ℕ) (hs ks : List Header) (v : Window) (y : Expectation) (r : Refusal) (u : Window) (z : Expectation) → has_fcs start ≡ false

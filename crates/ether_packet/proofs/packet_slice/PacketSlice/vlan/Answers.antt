@@ -8,7 +8,7 @@ use Rattle.ether_packet.proofs.packet_slice.PacketSlice.vlan.Goals.{in-Vlan+in-N
 
 pub returns-in-Some : goal.returns-in-Some
 returns-in-Some c =
-    tagged_twice c.args.self.now c.as_slice-ext-items.result.now c.loop-ext.ext-index c.ext-item.result c.loop-ext.outer c.in-Some.outer c.in-Vlan.tag c.tags.result (c.loop-ext-test.true, c.ext-item.is) c.loop-ext.invariant c.in-Some.is c.in-Vlan.is c.as_slice-ext-items.ensures.value c.tags.ensures.outer c.tags.ensures.inner
+    tagged_twice c.args.self.now c.as_slice-ext-items.result.now c.loop-ext.ext-index c.ext-item.result c.loop-ext.outer c.in-Some.outer c.in-Vlan.tag c.two_tags.result (c.loop-ext-test.true, c.ext-item.is) c.loop-ext.invariant c.in-Some.is c.in-Vlan.is c.as_slice-ext-items.ensures.value c.two_tags.ensures.outer c.two_tags.ensures.inner
 
 pub loop-ext-preserved : goal.loop-ext-preserved
 loop-ext-preserved c =
