@@ -1,8 +1,7 @@
 -- The headers of a packet that is built are found by the walk.
-use Rattle.std.proofs.Common.{◌≡◌, ℕ, ◌+◌, ◌-◌, ◌<◌, ◌≤◌, List, [], ◌∷◌, ◌++◌, length, refl, sym, ap, subst, ◌∙◌, arith, Bool, true, false}
-use Rattle.std.specs.Prelude.{flat_map, slice_range, Option, Some, None, nat_lt, if◌then◌else◌}
+use Rattle.std.proofs.Common.{◌≡◌, ℕ, ◌+◌, ◌-◌, ◌≤◌, List, [], ◌∷◌, ◌++◌, length, refl, sym, ap, subst, ◌∙◌, arith, Bool, true, false}
+use Rattle.std.specs.Prelude.{flat_map, Some, None, nat_lt, if◌then◌else◌}
 use Rattle.std.proofs.lemmas.List.{length-append}
-use Rattle.etherparse.specs.Types.LenSource.{LenSource}
 use Rattle.etherparse.specs.Ethernet2.{Ethernet2Value}
 use Rattle.etherparse.specs.LinuxSll.{LinuxSllValue, is_supported}
 use Rattle.etherparse.specs.Vlan.{VlanValue}
@@ -10,9 +9,9 @@ use Rattle.etherparse.specs.Macsec.{PayloadType, SecTagValue, ether_type_len, kn
 use Rattle.etherparse.specs.Macsec as payloads
 use Rattle.etherparse.specs.Kind.{Kind}
 use Rattle.etherparse.specs.Kind as kinds
-use Rattle.etherparse.specs.Header.{Header, kind_of, header_len, payload_len, trailer_len, header_bytes, FitsHeader, Means}
+use Rattle.etherparse.specs.Header.{Header, header_len, header_bytes, FitsHeader}
 use Rattle.etherparse.specs.Header as headers
-use Rattle.etherparse.specs.Refusal.{Accepts, IsTooShort}
+use Rattle.etherparse.specs.Refusal.{IsTooShort}
 use Rattle.etherparse.proofs.Rows.{accepts_vlan, accepts_packet, accepts_ethernet2, accepts_linux_sll}
 use Rattle.etherparse.proofs.MacsecFields.{sec_tag_bytes_accepted, sec_tag_bytes_begin}
 use Rattle.etherparse.proofs.Writing.{written_accepted}
@@ -24,7 +23,7 @@ use Rattle.ether_peel.specs.Grammar.Places.{place}
 use Rattle.ether_peel.specs.Grammar.Stack.{whole}
 use Rattle.ether_peel.proofs.Grammar.Carrying.{led}
 use Rattle.ether_peel.proofs.Grammar.Cleared.{whole_in}
-use Rattle.ether_packet.specs.Building.{type_of, retyped, before, built, is_readable, is_unmodified, IsChain, AllFit, expected_after, window_after, BeginsWith}
+use Rattle.ether_packet.specs.Building.{type_of, retyped, before, built, is_unmodified, IsChain, AllFit, expected_after, window_after, BeginsWith}
 use Rattle.ether_packet.proofs.Written.{Fitting, Fits, written}
 
 -- ---- a header before n bytes is as long as it is before others
@@ -100,8 +99,8 @@ macsec_fits x m t n announced fits =
       announced = announced;
       fits = fits;
       accepted = λ bound more len.
-        let all = length-append bytes more in
-        accepts_packet bound (bytes ++ more) (sec_tag_front_of 0 0 tag) (sec_tag_bytes_accepted bound tag more fits long) (sec_tag_bytes_begin tag more fits)
+          let all = length-append bytes more in
+          accepts_packet bound (bytes ++ more) (sec_tag_front_of 0 0 tag) (sec_tag_bytes_accepted bound tag more fits long) (sec_tag_bytes_begin tag more fits)
           (λ k e. let is = named_for p n k e in omega (arith, all, own, len, is));
       named = λ k e. named_for p n k e;
       no_trailer = refl;
@@ -154,13 +153,16 @@ inner_fits (headers.Macsec m ∷ hs) t n inner chain fit =
     let own = macsec_fits (expecting 0x88E5) m (type_of hs t) (place n hs) refl fit.0 in
     let later = inner_fits hs t n inner.1 (later_chain (headers.Macsec m) hs chain) fit.1 in
     (subst (λ (k : ℕ). Fitting (expecting 0x88E5) (before (headers.Macsec m) (type_of hs t) (place n hs)) k) (sym (place-built n hs t n)) own, after_tag m m.payload_type hs t n 0x88E5 refl chain later)
-inner_fits (headers.Arp a ∷ []) t n inner chain fit = (record {
-      announced = refl;
-      fits = fit.0;
-      accepted = λ bound more len. written_accepted bound a more fit.0;
-      named = λ p e. absurd cc;
-      no_trailer = refl;
-    }, tt)
+inner_fits (headers.Arp a ∷ []) t n inner chain fit = (
+  record {
+    announced = refl;
+    fits = fit.0;
+    accepted = λ bound more len. written_accepted bound a more fit.0;
+    named = λ p e. absurd cc;
+    no_trailer = refl;
+  },
+  tt,
+)
 inner_fits (headers.Arp a ∷ g ∷ hs) t n inner chain fit = let f : true ≡ false = sym chain.0 in absurd cc
 inner_fits (headers.Ethernet2 e ∷ hs) t n inner chain fit = absurd inner.0
 inner_fits (headers.Ethernet2Fcs e ∷ hs) t n inner chain fit = absurd inner.0
@@ -173,14 +175,16 @@ beginning kind = record { next = Start kind; limit = None }
 
 pub ethernet2_fits : (e : Ethernet2Value) (hs : List Header) (t n : ℕ) → AreInner hs → IsChain hs → AllFit (built (headers.Ethernet2 e ∷ hs) t n) → Fits (beginning kinds.Ethernet2) (built (headers.Ethernet2 e ∷ hs) t n) n
 ethernet2_fits e hs t n inner chain fit =
-    let h = before (headers.Ethernet2 e) (type_of hs t) (place n hs) in
-    (record {
-      announced = refl;
-      fits = fit.0;
-      accepted = λ bound more len. let all = length-append (header_bytes h) more in let own = length-header_bytes h fit.0 in accepts_ethernet2 bound (header_bytes h ++ more) (omega (arith, all, own));
-      named = λ p e. absurd cc;
-      no_trailer = refl;
-    }, inner_fits hs t n inner chain fit.1)
+    let h = before (headers.Ethernet2 e) (type_of hs t) (place n hs) in (
+      record {
+        announced = refl;
+        fits = fit.0;
+        accepted = λ bound more len. let all = length-append (header_bytes h) more in let own = length-header_bytes h fit.0 in accepts_ethernet2 bound (header_bytes h ++ more) (omega (arith, all, own));
+        named = λ p e. absurd cc;
+        no_trailer = refl;
+      },
+      inner_fits hs t n inner chain fit.1,
+    )
 
 -- a cooked capture of Ethernet
 pub linux_sll_fits : (s : LinuxSllValue) (hs : List Header) (t n : ℕ) → s.hardware_type ≡ 1 → s.packet_type ≤ 7 → AreInner hs → IsChain hs
@@ -189,18 +193,20 @@ linux_sll_fits s hs t n hardware packet inner chain fit =
     let v : LinuxSllValue = record s { protocol = type_of hs t } in
     let h = headers.LinuxSll v in
     let supported : is_supported v.hardware_type ≡ true = ap is_supported hardware in
-    let later = inner_fits hs t n inner chain fit.1 in
-    (record {
-      announced = refl;
-      fits = fit.0;
-      accepted = λ bound more len.
-        let bytes = header_bytes h ++ more in
-        let m = means-header_bytes h more fit.0 in
-        let whole = m.whole in
-        accepts_linux_sll bound bytes v (omega (arith, whole)) m.spells packet supported;
-      named = λ p e. absurd cc;
-      no_trailer = refl;
-    }, subst (λ (k : ℕ). Fits (after (beginning kinds.LinuxSll) (headers.LinuxSll (record v { hardware_type = k }))) (built hs t n) n) (sym hardware) later)
+    let later = inner_fits hs t n inner chain fit.1 in (
+      record {
+        announced = refl;
+        fits = fit.0;
+        accepted = λ bound more len.
+            let bytes = header_bytes h ++ more in
+            let m = means-header_bytes h more fit.0 in
+            let whole = m.whole in
+            accepts_linux_sll bound bytes v (omega (arith, whole)) m.spells packet supported;
+        named = λ p e. absurd cc;
+        no_trailer = refl;
+      },
+      subst (λ (k : ℕ). Fits (after (beginning kinds.LinuxSll) (headers.LinuxSll (record v { hardware_type = k }))) (built hs t n) n) (sym hardware) later,
+    )
 
 -- ---- the walk
 

@@ -1,7 +1,7 @@
 -- A target that is filled header by header.
-use Rattle.std.proofs.Common.{◌≡◌, ℕ, ◌+◌, ◌-◌, ◌<◌, ◌≤◌, List, [], ◌∷◌, ◌++◌, length, take, drop, slice_index_or, refl, sym, ap, subst, ◌∙◌, arith, append_assoc}
+use Rattle.std.proofs.Common.{◌≡◌, ℕ, ◌+◌, ◌<◌, ◌≤◌, List, [], ◌∷◌, ◌++◌, length, take, drop, slice_index_or, refl, sym, ap, subst, ◌∙◌, arith, append_assoc}
 use Rattle.std.specs.Prelude.{flat_map}
-use Rattle.std.proofs.Math.Seq.{drop-append_seam, drop-append-add, take-append_seam}
+use Rattle.std.proofs.Math.Seq.{drop-append-add, take-append_seam}
 use Rattle.std.proofs.lemmas.List.{append-nil, drop-drop, length-append}
 use Rattle.etherparse.specs.Bytes.{overwritten}
 use Rattle.etherparse.specs.Types.LinkHeader.{LinkHeader}
@@ -18,12 +18,11 @@ use Rattle.ether_peel.specs.Grammar.Places.{place}
 use Rattle.ether_packet.specs.declared.packet_builder.PacketContent.{PacketContent}
 use Rattle.ether_packet.specs.declared.packet_builder.PacketContent.TheVariants as contents
 use Rattle.ether_packet.specs.declared.packet_builder.PacketBuilder.{PacketBuilder}
-use Rattle.ether_packet.specs.Building.{type_of, before, built, IsChain, AllFit, BeginsWith}
+use Rattle.ether_packet.specs.Building.{type_of, before, built, IsChain, AllFit}
 use Rattle.ether_packet.specs.Builder.{link_header, link_start, content_headers, content_type, content_payload, content_bytes, content_len, inner_headers, built_headers, packet_len, IsEthernet, HasPacketType, IsWritten}
 use Rattle.ether_packet.proofs.Written.{Fits, place-first}
 use Rattle.ether_packet.proofs.Building.{AreInner, header_len_before, ethernet2_fits, linux_sll_fits, begins_with}
 use Rattle.ether_packet.proofs.Chains.{views, drop_next, content_place}
-
 
 flat_map-append : (hs ks : List Header) → flat_map header_bytes (hs ++ ks) ≡ flat_map header_bytes hs ++ flat_map header_bytes ks
 flat_map-append [] ks = refl
@@ -39,7 +38,7 @@ written_on done more old at e =
     let k = length more in
     let front : take at (done ++ drop at old) ≡ done = ap (λ (n : ℕ). take n (done ++ drop at old)) (sym e) ∙ take-append_seam done (drop at old) in
     let back : drop (at + k) (done ++ drop at old) ≡ drop (at + k) old =
-      ap (λ (n : ℕ). drop (n + k) (done ++ drop at old)) (sym e) ∙ drop-append-add done (drop at old) k ∙ drop-drop k at old in
+    ap (λ (n : ℕ). drop (n + k) (done ++ drop at old)) (sym e) ∙ drop-append-add done (drop at old) k ∙ drop-drop k at old in
     λ i. front i ++ more ++ back i
 
 -- ---- header by header
@@ -101,10 +100,10 @@ filled_next p old target new i at end t n d e lt so_far type following is bytes 
     let later = views (drop (i + 1) p.link_exts.now) ++ content in
     let len : length (header_bytes h) ≡ header_len h = length-header_bytes h fits in
     let first : built (views (drop i p.link_exts.now) ++ content) k m ≡ before x (type_of later k) (place m later) ∷ built later k m =
-      ap (λ (l : List Header). built (l ++ content) k m) (drop_next p.link_exts.now i d lt) in
+    ap (λ (l : List Header). built (l ++ content) k m) (drop_next p.link_exts.now i d lt) in
     let own : before x (type_of later k) (place m later) ≡ h = (λ j. before x (sym type j) (sym following j)) ∙ sym is in
     let done_bytes : flat_map header_bytes (so_far.done ++ h ∷ []) ≡ flat_map header_bytes so_far.done ++ header_bytes h =
-      flat_map-append so_far.done (h ∷ []) ∙ ap (λ (l : List ℕ). flat_map header_bytes so_far.done ++ l) (append-nil (header_bytes h)) in
+    flat_map-append so_far.done (h ∷ []) ∙ ap (λ (l : List ℕ). flat_map header_bytes so_far.done ++ l) (append-nil (header_bytes h)) in
     let end_is : at + length (header_bytes h) ≡ end = ap (λ (j : ℕ). at + j) len ∙ sym ends in
     let same_len : header_len h ≡ header_len x = ap header_len is ∙ header_len_before x t n in
     record {
@@ -154,11 +153,11 @@ filled_all p old target new i at ethernet packet chain room none so_far bytes fi
     let ends : at + length (content_bytes c) ≡ end = ap (λ (j : ℕ). at + j) (len ∙ content_place c) ∙ rest in
     let all : flat_map header_bytes (built_headers p) ++ content_payload c ≡ flat_map header_bytes so_far.done ++ content_bytes c = ap (λ (l : List Header). flat_map header_bytes l ++ content_payload c) split ∙ content_first c so_far.done in
     let whole : new ≡ (flat_map header_bytes (built_headers p) ++ content_payload c) ++ drop end old =
-      bytes ∙ ap (λ (l : List ℕ). overwritten l at (content_bytes c)) so_far.bytes ∙ written_on (flat_map header_bytes so_far.done) (content_bytes c) old at so_far.place_is ∙ (λ j. sym all j ++ drop (ends j) old) in
+    bytes ∙ ap (λ (l : List ℕ). overwritten l at (content_bytes c)) so_far.bytes ∙ written_on (flat_map header_bytes so_far.done) (content_bytes c) old at so_far.place_is ∙ (λ j. sym all j ++ drop (ends j) old) in
     let long : length (flat_map header_bytes (built_headers p) ++ content_payload c) ≡ end =
-      ap (λ (l : List ℕ). length l) all ∙ length-append (flat_map header_bytes so_far.done) (content_bytes c) ∙ ap (λ (j : ℕ). j + length (content_bytes c)) so_far.place_is ∙ ends in
+    ap (λ (l : List ℕ). length l) all ∙ length-append (flat_map header_bytes so_far.done) (content_bytes c) ∙ ap (λ (j : ℕ). j + length (content_bytes c)) so_far.place_is ∙ ends in
     let front : take end new ≡ flat_map header_bytes (built_headers p) ++ content_payload c =
-      ap (take end) whole ∙ ap (λ (j : ℕ). take j ((flat_map header_bytes (built_headers p) ++ content_payload c) ++ drop end old)) (sym long) ∙ take-append_seam (flat_map header_bytes (built_headers p) ++ content_payload c) (drop end old) in
+    ap (take end) whole ∙ ap (λ (j : ℕ). take j ((flat_map header_bytes (built_headers p) ++ content_payload c) ++ drop end old)) (sym long) ∙ take-append_seam (flat_map header_bytes (built_headers p) ++ content_payload c) (drop end old) in
     let fit : AllFit (built_headers p) = subst AllFit (sym split) (fit_append so_far.done (built (content_headers c) k m) so_far.fit (content_fits c fits)) in
     record {
       ends = refl;

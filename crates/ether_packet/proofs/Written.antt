@@ -1,5 +1,5 @@
 -- Headers that are written one after the other are found by the walk.
-use Rattle.std.proofs.Common.{◌≡◌, ℕ, ◌+◌, ◌-◌, ◌≤◌, List, [], ◌∷◌, ◌++◌, length, drop, refl, sym, ap, subst, ◌∙◌, arith, append_assoc}
+use Rattle.std.proofs.Common.{◌≡◌, ℕ, ◌+◌, ◌≤◌, List, [], ◌∷◌, ◌++◌, length, drop, refl, sym, ap, subst, ◌∙◌, arith, append_assoc}
 use Rattle.std.specs.Prelude.{slice_range, flat_map, Option, Some, None}
 use Rattle.std.proofs.lemmas.List.{length-append}
 use Rattle.std.proofs.Math.Seq.{drop-append_seam}
@@ -83,10 +83,10 @@ written list x w (h ∷ hs) rest at e (here, later) =
     let finish : (payload w h).finish ≡ w.finish = finish_is (payload_len h) (w.start + n) (trailer_len h) w.finish (length tail) here.no_trailer named sum in
     let le : w.start + n ≤ w.finish = omega arith in
     let inner : within list (payload w h) ≡ tail =
-      ap (λ (k : ℕ). slice_range list (w.start + n) k) finish
-      ∙ sym (rest_of_part list w.start w.finish n le)
-      ∙ ap (λ (l : List ℕ). drop n l) split
-      ∙ ap (λ (k : ℕ). drop k (front ++ tail)) (sym front_len)
-      ∙ drop-append_seam front tail in
+    ap (λ (k : ℕ). slice_range list (w.start + n) k) finish
+    ∙ sym (rest_of_part list w.start w.finish n le)
+    ∙ ap (λ (l : List ℕ). drop n l) split
+    ∙ ap (λ (k : ℕ). drop k (front ++ tail)) (sym front_len)
+    ∙ drop-append_seam front tail in
     let next = written list (after x h) (payload w h) hs rest (payload_in list x w h at unit) inner later in
     record { leads = (unit, next.leads); rest_is = next.rest_is; finish = next.finish ∙ finish }

@@ -1,5 +1,5 @@
 -- What a builder writes, by its parts.
-use Rattle.std.specs.Prelude.{◌≡◌, ℕ, ◌≤◌, List, [], ◌∷◌, ◌++◌, length, take, drop, map, flat_map, Bool, true, false, None}
+use Rattle.std.specs.Prelude.{◌≡◌, ℕ, ◌≤◌, List, [], ◌∷◌, ◌++◌, length, take, drop, map, flat_map, true, false, None}
 use Rattle.etherparse.specs.Types.LinkHeader.{LinkHeader}
 use Rattle.etherparse.specs.Types.LinkHeader.TheVariants as links
 use Rattle.etherparse.specs.Types.Layer.TheVariants as layers

@@ -1,11 +1,11 @@
 -- A packet as it is built: headers one after the other, each of which announces the next one, and a payload.
-use Rattle.std.specs.Prelude.{◌≡◌, ℕ, ◌+◌, ◌<◌, ◌≤◌, List, [], ◌∷◌, ◌++◌, length, take, drop, map, flat_map, Bool, true, false, None}
+use Rattle.std.specs.Prelude.{◌≡◌, ℕ, List, [], ◌∷◌, ◌++◌, length, Bool, true, false}
 use Rattle.etherparse.specs.Macsec.{PayloadType, short_len_for}
 use Rattle.etherparse.specs.Macsec as payloads
-use Rattle.etherparse.specs.Header.{Header, header_bytes, FitsHeader}
+use Rattle.etherparse.specs.Header.{Header, FitsHeader}
 use Rattle.etherparse.specs.Header as headers
 use Rattle.ether_peel.specs.Grammar.Window.{Window, within, payload}
-use Rattle.ether_peel.specs.Grammar.Expectation.{Expectation, announced, after}
+use Rattle.ether_peel.specs.Grammar.Expectation.{Expectation, after}
 use Rattle.ether_peel.specs.Grammar.Places.{place}
 use Rattle.ether_peel.specs.Grammar.Stack.{Ending, Stack, whole, Walk}
 

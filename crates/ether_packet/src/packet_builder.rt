@@ -27,6 +27,18 @@ pub enum PacketContent<'a> {
 /// When it is written, the ether type of each header is set by what follows it, and the short length of each SecTag by
 /// the length of what follows it, if there is room for that. A VLAN tag that another one follows is announced as a
 /// service tag (0x88A8), and any other as a customer tag (0x8100).
+///
+/// ```
+/// let tags = [LinkExtHeader::Vlan(SingleVlanHeader::from_bytes([0x00, 0x64, 0x00, 0x00]))];
+/// let packet = PacketBuilder {
+///     link: LinkHeader::Ethernet2(Ethernet2Header::default()),
+///     link_exts: &tags,
+///     content: PacketContent::Payload(EtherType::IPV4, &[0x45]),
+/// };
+/// let mut target = [0; 19];
+/// assert_eq!(rt; packet.write(&mut target), Ok(19));
+/// assert_eq!(rt; target[12..], [0x81, 0x00, 0x00, 0x64, 0x08, 0x00, 0x45]);
+/// ```
 #[derive(Debug, Drop)]
 pub struct PacketBuilder<'a> {
     /// The header that the packet begins with; of cooked capture one of Ethernet.
@@ -51,6 +63,15 @@ impl<'a> PacketBuilder<'a> {
     }
 
     /// Writes the packet to the front of a target, and returns its length. The bytes after it stay as they were.
+    ///
+    /// # Errors
+    ///
+    /// The first of these that holds; the target then stays as it was:
+    ///
+    /// - [`BuildError::HardwareType`]: the link's header is one of cooked capture of another link than Ethernet.
+    /// - [`BuildError::Sealed`]: another header follows a SecTag whose payload is encrypted or changed. It names the place
+    ///   of the first such SecTag in `link_exts`.
+    /// - [`BuildError::Space`]: the target is shorter than [`size`](Self::size).
     pub fn write(&self, target: &mut [u8]) -> Result<usize, BuildError>
         ensures ok { IfOk result (λ end. IsWritten self.now target.old end target.new) }
         ensures refused { IfErr result (RefusesPacket self.now target.old) }
@@ -77,7 +98,8 @@ impl<'a> PacketBuilder<'a> {
     /// Requires that each header which another one follows has a payload that can be read.
     fn require_readable(&self) -> Result<(), BuildError>
         ensures ok { OnOk result (IsChain (inner_headers self.now)) }
-        ensures sealed { IfErr result (λ e. (i : ℕ) × (e ≡ BuildError.Sealed i) × IsSealedAt (inner_headers self.now) i) }
+        ensures sealed { IfErr result
+            (λ e. (i : ℕ) × (e ≡ BuildError.Sealed i) × IsSealedAt (inner_headers self.now) i) }
     {
         for i in 0..self.followed() {
             if !is_readable_ext(&self.link_exts[i]) {
@@ -90,8 +112,11 @@ impl<'a> PacketBuilder<'a> {
     /// How many extensions another header follows.
     fn followed(&self) -> usize
         ensures within { result ≤ length self.now.link_exts.now }
-        ensures follows { (i : ℕ) → i < result → 1 ≤ length (drop (i + 1) self.now.link_exts.now) + length (content_headers self.now.content) }
-        ensures last { length (drop result self.now.link_exts.now) + length (content_headers self.now.content) ≤ 1 }
+        ensures follows { (i : ℕ) → i < result
+            → 1 ≤ length (drop (i + 1) self.now.link_exts.now)
+            + length (content_headers self.now.content) }
+        ensures last { length (drop result self.now.link_exts.now)
+            + length (content_headers self.now.content) ≤ 1 }
     {
         match self.content {
             PacketContent::Payload(..) => self.link_exts.len().saturating_sub(1),
@@ -119,7 +144,9 @@ impl<'a> PacketBuilder<'a> {
     /// The ether type that announces the extension at a place, or what follows the last one.
     fn type_at(&self, i: usize) -> EtherType
         requires { i ≤ length self.now.link_exts.now }
-        ensures { result.0 ≡ type_of (map ext_header_view (drop i self.now.link_exts.now) ++ content_headers self.now.content) (content_type self.now.content) }
+        ensures { result.0
+            ≡ type_of (map ext_header_view (drop i self.now.link_exts.now)
+            ++ content_headers self.now.content) (content_type self.now.content) }
     {
         match (self.link_exts.get(i), self.link_exts.get(i + 1)) {
             (Some(LinkExtHeader::Macsec(_)), _) => EtherType::MACSEC,
@@ -157,7 +184,8 @@ fn is_readable_ext(ext: &LinkExtHeader) -> bool
 
 /// A tag before a number of bytes that an ether type announces.
 fn before(ext: &LinkExtHeader, ether_type: EtherType, following: usize) -> LinkExtHeader
-    ensures { ext_header_view result ≡ header_before (ext_header_view ext.now) ether_type.0 following }
+    ensures { ext_header_view result
+        ≡ header_before (ext_header_view ext.now) ether_type.0 following }
 {
     match ext {
         LinkExtHeader::Vlan(tag) => LinkExtHeader::Vlan(SingleVlanHeader { ether_type, ..*tag }),
@@ -175,7 +203,9 @@ fn before(ext: &LinkExtHeader, ether_type: EtherType, following: usize) -> LinkE
 /// Writes the header of a link, and returns where it ends.
 fn write_link(target: &mut [u8], link: &LinkHeader, ether_type: EtherType) -> usize
     requires { header_len (link_header link.now) ≤ length target.old }
-    ensures bytes { target.new ≡ overwritten target.old 0 (header_bytes (header_before (link_header link.now) ether_type.0 0)) }
+    ensures bytes { target.new
+        ≡ overwritten target.old 0
+        (header_bytes (header_before (link_header link.now) ether_type.0 0)) }
     ensures fits { FitsHeader (header_before (link_header link.now) ether_type.0 0) }
     ensures packet_type { HasPacketType link.now }
     ensures end { result ≡ header_len (link_header link.now) }
@@ -201,7 +231,8 @@ fn write_link(target: &mut [u8], link: &LinkHeader, ether_type: EtherType) -> us
 /// Writes a tag from a place on, and returns where it ends.
 fn write_ext(target: &mut [u8], at: usize, ext: &LinkExtHeader) -> usize
     requires { at + header_len (ext_header_view ext.now) ≤ length target.old }
-    ensures bytes { target.new ≡ overwritten target.old at (header_bytes (ext_header_view ext.now)) }
+    ensures bytes { target.new
+        ≡ overwritten target.old at (header_bytes (ext_header_view ext.now)) }
     ensures fits { FitsHeader (ext_header_view ext.now) }
     ensures end { result ≡ at + header_len (ext_header_view ext.now) }
 {

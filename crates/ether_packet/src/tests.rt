@@ -1,4 +1,5 @@
-//! Packets of worked frames.
+//! Packets of worked frames, read and built.
+mod building;
 mod cuts;
 mod derived_traits;
 mod frames;

@@ -18,7 +18,7 @@ loop-i-preserved c =
     let lt = c.loop-i-test.true in
     let within = c.followed-i-end.ensures.within in
     subst AllReadable (sym (take_next p.link_exts.now c.loop-i.i c.index-self-i.result (omega (arith, lt, within))))
-      (readable_one_more _ (ext_header_view _) c.loop-i.invariant (sym c.is_readable_ext.ensures ∙ c.if-not-is_readable_ext.false))
+    (readable_one_more _ (ext_header_view _) c.loop-i.invariant (sym c.is_readable_ext.ensures ∙ c.if-not-is_readable_ext.false))
 
 pub returns-clause-ok : goal.returns-clause-ok
 returns-clause-ok c =

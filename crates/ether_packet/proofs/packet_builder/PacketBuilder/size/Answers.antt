@@ -1,4 +1,4 @@
-use Rattle.std.proofs.Common.{◌≡◌, ℕ, ◌+◌, ◌<◌, ◌≤◌, ◌∙◌, length, ap, arith}
+use Rattle.std.proofs.Common.{◌+◌, ◌∙◌, ap, arith}
 use Rattle.etherparse.specs.LinkExt.{ext_header_len}
 use Rattle.etherparse.specs.Link.{link_header_len}
 use Rattle.ether_packet.specs.Builder.{content_len}

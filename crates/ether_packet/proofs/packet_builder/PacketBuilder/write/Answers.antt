@@ -1,7 +1,7 @@
-use Rattle.std.proofs.Common.{◌≡◌, ℕ, ◌<◌, length, refl, sym, ap, subst, ◌∙◌, rules, true, false}
+use Rattle.std.proofs.Common.{◌≡◌, ℕ, length, refl, sym, subst, rules, true, false}
 use Rattle.etherparse.specs.Types.Layer.TheVariants as layers
 use Rattle.etherparse.specs.WriteFront.{IsRefusedSpace}
-use Rattle.ether_packet.specs.Builder.{packet_len, IsEthernet, RefusesPacket, hardware_type, sealed, space}
+use Rattle.ether_packet.specs.Builder.{IsEthernet, RefusesPacket, hardware_type, sealed, space}
 use Rattle.ether_packet.proofs.packet_builder.PacketBuilder.write.Goals as goal
 
 pub returns-then-not-is_ethernet-clause-refused : goal.returns-then-not-is_ethernet-clause-refused
@@ -22,5 +22,5 @@ returns-then-len-required_len-clause-refused c =
     let chain = c.in_ok-require_readable.ensures.ok in
     let len = c.size-required_len.ensures in
     space _ ethernet chain
-      (subst (λ (n : ℕ). IsRefusedSpace n layers.EtherPayload c.args.target.now (record { required_len = c.size-required_len.result; len = length c.args.target.now; layer = layers.EtherPayload; layer_start_offset = 0 })) len
-        (record { short = c.if-len-required_len.true; error = refl }))
+    (subst (λ (n : ℕ). IsRefusedSpace n layers.EtherPayload c.args.target.now (record { required_len = c.size-required_len.result; len = length c.args.target.now; layer = layers.EtherPayload; layer_start_offset = 0 })) len
+    (record { short = c.if-len-required_len.true; error = refl }))

@@ -1,7 +1,6 @@
-use Rattle.std.proofs.Common.{◌≡◌, ℕ, ◌+◌, ◌-◌, ◌<◌, ◌≤◌, List, length, drop, drop_of_length-le, refl, sym, ap, ◌∙◌, arith}
-use Rattle.etherparse.specs.LinkExt.{ext_header_view, ext_header_len}
+use Rattle.std.proofs.Common.{◌-◌, length, drop_of_length-le, ap, ◌∙◌, arith}
+use Rattle.etherparse.specs.LinkExt.{ext_header_view}
 use Rattle.etherparse.specs.Header.{header_len}
-use Rattle.ether_packet.specs.Builder.{packet_len}
 use Rattle.ether_packet.proofs.Building.{header_len_before}
 use Rattle.ether_packet.proofs.Filling.{room_for_link, filled_first, following_is, filled_next, filled_all}
 use Rattle.ether_packet.proofs.packet_builder.PacketBuilder.write_whole.Goals as goal
@@ -38,7 +37,7 @@ loop-i-preserved c =
     let len = c.header_len.ensures.value in
     let tag = c.write_ext-at.ensures in
     filled_next p c.args.target.now c.loop-i.target c.write_ext-at.new.target c.loop-i.i c.loop-i.at c.write_ext-at.result c.type_at-in-loop-i.result.0 (c.size-end.result - c.loop-i.at - c.header_len.result) c.index-self-i.result c.before-in-loop-i.result
-      c.loop-i-test.true c.loop-i.invariant c.type_at-in-loop-i.ensures (omega (arith, all, end, len)) c.before-in-loop-i.ensures tag.bytes tag.fits tag.end
+    c.loop-i-test.true c.loop-i.invariant c.type_at-in-loop-i.ensures (omega (arith, all, end, len)) c.before-in-loop-i.ensures tag.bytes tag.fits tag.end
 
 pub returns : goal.returns
 returns c =

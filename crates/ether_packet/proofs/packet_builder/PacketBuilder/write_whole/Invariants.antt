@@ -1,4 +1,3 @@
-use Rattle.ether_packet.specs.Builder.{HasPacketType}
 use Rattle.ether_packet.proofs.Filling.{Filled}
 use Rattle.ether_packet.proofs.packet_builder.PacketBuilder.write_whole.Given as goal
 
