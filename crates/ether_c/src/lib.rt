@@ -1,0 +1,14 @@
+//! The walk through the link-layer headers of a frame, for callers in C: `c/ether_c.h` declares and documents the calls.
+//!
+//! Each export calls one function of `ether_peel`, and its contract says what that call says. Enumerations cross as numbers
+//! (`specs/Numbers.antt`), and a start that has no number is refused. No call allocates memory, blocks or keeps a pointer.
+#![tactic(auto)]
+
+mod ether_fault;
+mod ether_found;
+mod numbers;
+pub mod summarizing;
+pub mod writing_back;
+
+pub use ether_fault::EtherFault;
+pub use ether_found::EtherFound;
