@@ -1,3 +1,6 @@
 pub mod Numbers
 pub mod Found
 pub mod Calls
+pub mod Units
+pub mod Walk
+pub mod Views

@@ -6,9 +6,12 @@
 
 mod ether_fault;
 mod ether_found;
+mod ether_unit;
 mod numbers;
 pub mod summarizing;
+pub mod walking;
 pub mod writing_back;
 
 pub use ether_fault::EtherFault;
 pub use ether_found::EtherFound;
+pub use ether_unit::{EtherArp, EtherEthernet2, EtherLinuxSll, EtherMacsec, EtherUnit, EtherVlan};
