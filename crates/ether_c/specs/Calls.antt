@@ -1,13 +1,20 @@
 -- What the calls from C do, by the start that their numbers name: each says what its call of the walk says.
-use Rattle.std.specs.Prelude.{◌≡◌, ℕ, List, Result, Ok, Err, IfOk, IfErr}
+use Rattle.std.specs.Prelude.{◌≡◌, ℕ, ◌<◌, ◌≤◌, List, [], ◌++◌, length, drop, Option, Some, None, unwrap_or, Result, Ok, Err, IfOk, IfErr, MatchOption}
+use Rattle.arrayvec.specs.ArrayVec.{ArrayVec}
 use Rattle.etherparse.specs.Types.SliceWriteSpaceError.{SliceWriteSpaceError}
 use Rattle.ether_peel.specs.Grammar.Expectation.{Expectation}
+use Rattle.ether_peel.specs.Grammar.Completion.{Completes, NothingToComplete}
+use Rattle.ether_peel.specs.Walker.Fault.{Misses}
+use Rattle.ether_peel.specs.Walker.Feeding.{IsFeed}
 use Rattle.ether_peel.specs.Walker.Summary.{IsSummary}
 use Rattle.ether_peel.specs.Walker.WriteBack.{WritesBack, RefusesBack}
+use Rattle.ether_peel.specs.declared.peel_fault.PeelFault.{PeelFault}
+use Rattle.ether_peel.specs.declared.walk_feed.Feed.{Feed}
 use Rattle.ether_peel.specs.declared.walk_summary.Summary.{Summary}
+use Rattle.ether_c.specs.declared.ether_fed.EtherFed.{EtherFed}
 use Rattle.ether_c.specs.declared.ether_found.EtherFound.{EtherFound}
 use Rattle.ether_c.specs.Numbers.{done, no_room}
-use Rattle.ether_c.specs.Found.{told_summary}
+use Rattle.ether_c.specs.Found.{told_summary, told_feed}
 
 -- ---- summaries
 
@@ -37,3 +44,44 @@ pub record TellsWriteBack (start : Expectation) (list old new : List ℕ) (statu
   pub kept : IfErr written (λ _. new ≡ old)
   pub status_is : status ≡ written_status written
   pub len_is : len ≡ written_len written
+
+-- ---- feeding
+
+-- what a reader takes of the list, and each number of it is told
+pub record TellsFeed (start : Expectation) (list : List ℕ) (status : ℕ) (told : EtherFed) : Type 0 where
+  pub fed : Feed
+  pub feed : IsFeed start list fed
+  pub told_is : told ≡ told_feed fed
+  pub status_is : status ≡ done
+
+-- ---- missing bytes
+
+-- As many bytes are missing at the end of a walk with this fault, or with none. 0 stands for "more bytes would not help", since what is
+-- missing is never 0.
+abbrev pub MissesAtEnd : Option PeelFault → ℕ → Type 0
+MissesAtEnd None n = n ≡ 0
+MissesAtEnd (Some f) n = (missing : Option ℕ) × (n ≡ unwrap_or missing 0) × MatchOption missing ((m : ℕ) → Misses f m → ⊥) (Misses f)
+
+pub record TellsMissing (start : Expectation) (list : List ℕ) (status missing : ℕ) : Type 0 where
+  pub found : Summary
+  pub summary : IsSummary start list found
+  pub misses : MissesAtEnd found.fault missing
+  pub status_is : status ≡ done
+
+-- ---- bytes
+
+-- Bytes are put to the front of a target, or it has no room for them and stays as it is; their number is told.
+abbrev pub PutsBytes : (bytes old new : List ℕ) → (status len : ℕ) → Type 0
+PutsBytes bytes old new status len =
+    (len ≡ length bytes) × (length bytes ≤ length old → (status ≡ done) × (new ≡ bytes ++ drop (length bytes) old)) × (length old < length bytes → (status ≡ no_room) × (new ≡ old))
+
+-- the bytes of a completion, none if there is none
+abbrev pub fill_bytes : Option (ArrayVec ℕ) → List ℕ
+fill_bytes None = []
+fill_bytes (Some fill) = fill.items
+
+-- the list has a completion, which is put into the target; or it has none, and nothing is put there
+pub record TellsCompletion (start : Expectation) (list old new : List ℕ) (status len : ℕ) : Type 0 where
+  pub found : Option (ArrayVec ℕ)
+  pub completion : MatchOption found (NothingToComplete start list) (λ fill. Completes start list fill.items)
+  pub puts : PutsBytes (fill_bytes found) old new status len

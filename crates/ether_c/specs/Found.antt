@@ -1,4 +1,4 @@
--- Faults and summaries of a walk as C is told of them.
+-- Faults, summaries and the feeding of a walk as C is told of them.
 use Rattle.std.specs.Prelude.{ℕ, ◌-◌, Option, Some, None, Bool, if◌then◌else◌}
 use Rattle.etherparse.specs.Bytes.{bit}
 use Rattle.etherparse.specs.Types.LenError.{LenError}
@@ -9,6 +9,8 @@ use Rattle.ether_peel.specs.declared.peel_error.PeelError.TheVariants as errors
 use Rattle.ether_peel.specs.declared.peel_fault.PeelFault.{PeelFault}
 use Rattle.ether_peel.specs.declared.walk_summary.Summary.{Summary}
 use Rattle.ether_c.specs.declared.ether_fault.EtherFault.{EtherFault}
+use Rattle.ether_peel.specs.declared.walk_feed.Feed.{Feed}
+use Rattle.ether_c.specs.declared.ether_fed.EtherFed.{EtherFed}
 use Rattle.ether_c.specs.declared.ether_found.EtherFound.{EtherFound}
 use Rattle.ether_c.specs.Numbers.{layer_number, len_source_number, rest_kind_number, rest_protocol_of}
 
@@ -71,3 +73,6 @@ told_summary s = record {
   rest_kind = rest_kind_number s.kind;
   rest_protocol = rest_protocol_of s.kind;
 }
+
+abbrev pub told_feed : Feed → EtherFed
+told_feed f = record { refusals = f.refusals; taken = f.taken; fault = told_end f.fault }

@@ -4,14 +4,20 @@
 //! (`specs/Numbers.antt`), and a start that has no number is refused. No call allocates memory, blocks or keeps a pointer.
 #![tactic(auto)]
 
+pub mod completing;
 mod ether_fault;
+mod ether_fed;
 mod ether_found;
 mod ether_unit;
+pub mod feeding;
+pub mod missing_bytes;
 mod numbers;
+mod putting;
 pub mod summarizing;
 pub mod walking;
 pub mod writing_back;
 
 pub use ether_fault::EtherFault;
+pub use ether_fed::EtherFed;
 pub use ether_found::EtherFound;
 pub use ether_unit::{EtherArp, EtherEthernet2, EtherLinuxSll, EtherMacsec, EtherUnit, EtherVlan};
