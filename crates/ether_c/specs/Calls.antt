@@ -1,11 +1,12 @@
 -- What the calls from C do, by the start that their numbers name: each says what its call of the walk says.
-use Rattle.std.specs.Prelude.{◌≡◌, ℕ, ◌<◌, ◌≤◌, List, [], ◌++◌, length, drop, Option, Some, None, unwrap_or, Result, Ok, Err, IfOk, IfErr, MatchOption}
+use Rattle.std.specs.Prelude.{◌≡◌, ℕ, ◌<◌, ◌≤◌, List, [], ◌++◌, length, drop, Option, Some, None, unwrap_or, Result, Ok, Err, IfOk, IfErr, MatchOption, ◌⊎◌}
 use Rattle.arrayvec.specs.ArrayVec.{ArrayVec}
 use Rattle.etherparse.specs.Types.SliceWriteSpaceError.{SliceWriteSpaceError}
 use Rattle.ether_peel.specs.Grammar.Expectation.{Expectation}
 use Rattle.ether_peel.specs.Grammar.Completion.{Completes, NothingToComplete}
 use Rattle.ether_peel.specs.Walker.Fault.{Misses}
 use Rattle.ether_peel.specs.Walker.Feeding.{IsFeed}
+use Rattle.ether_peel.specs.Walker.Texts.{peel_fault_text}
 use Rattle.ether_peel.specs.Walker.Summary.{IsSummary}
 use Rattle.ether_peel.specs.Walker.WriteBack.{WritesBack, RefusesBack}
 use Rattle.ether_peel.specs.declared.peel_fault.PeelFault.{PeelFault}
@@ -13,7 +14,7 @@ use Rattle.ether_peel.specs.declared.walk_feed.Feed.{Feed}
 use Rattle.ether_peel.specs.declared.walk_summary.Summary.{Summary}
 use Rattle.ether_c.specs.declared.ether_fed.EtherFed.{EtherFed}
 use Rattle.ether_c.specs.declared.ether_found.EtherFound.{EtherFound}
-use Rattle.ether_c.specs.Numbers.{done, no_room}
+use Rattle.ether_c.specs.Numbers.{done, no_room, no_text}
 use Rattle.ether_c.specs.Found.{told_summary, told_feed}
 
 -- ---- summaries
@@ -85,3 +86,20 @@ pub record TellsCompletion (start : Expectation) (list old new : List ℕ) (stat
   pub found : Option (ArrayVec ℕ)
   pub completion : MatchOption found (NothingToComplete start list) (λ fill. Completes start list fill.items)
   pub puts : PutsBytes (fill_bytes found) old new status len
+
+-- ---- texts
+
+-- The text of a fault is put into the target. That it can't be made is not ruled out here: then nothing is put there.
+abbrev pub PutsText : PeelFault → (old new : List ℕ) → (status len : ℕ) → Type 0
+PutsText f old new status len =
+    PutsBytes (peel_fault_text f) old new status len ⊎ ((status ≡ no_text) × (len ≡ 0) × (new ≡ old))
+
+-- no text if there is no fault
+abbrev pub PutsEndText : Option PeelFault → (old new : List ℕ) → (status len : ℕ) → Type 0
+PutsEndText None old new status len = (status ≡ done) × (len ≡ 0) × (new ≡ old)
+PutsEndText (Some f) old new status len = PutsText f old new status len
+
+pub record TellsText (start : Expectation) (list old new : List ℕ) (status len : ℕ) : Type 0 where
+  pub found : Summary
+  pub summary : IsSummary start list found
+  pub text : PutsEndText found.fault old new status len

@@ -23,6 +23,9 @@ unknown_start = 1
 abbrev pub no_room : ℕ
 no_room = 2
 
+abbrev pub no_text : ℕ
+no_text = 3
+
 -- ---- what a frame begins with
 
 -- the start with a number, if there is one: the ether type is that of the fourth

@@ -35,6 +35,9 @@ pub struct EtherFault {
     pub closed: u8,
 }
 
+// as c/ether_c.h lays it out
+const _: () = prove!(size_of::<EtherFault>() == 56);
+
 impl EtherFault {
     /// No fault.
     const NONE: EtherFault = EtherFault {

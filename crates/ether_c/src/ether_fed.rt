@@ -19,6 +19,9 @@ pub struct EtherFed {
     pub fault: EtherFault,
 }
 
+// as c/ether_c.h lays it out
+const _: () = prove!(size_of::<EtherFed>() == 72);
+
 impl EtherFed {
     /// The result of feeding a walk.
     pub(crate) fn of(fed: &Feed) -> EtherFed

@@ -26,6 +26,9 @@ pub struct EtherFound {
     pub rest_protocol: u16,
 }
 
+// as c/ether_c.h lays it out
+const _: () = prove!(size_of::<EtherFound>() == 88);
+
 impl EtherFound {
     /// The result of a walk.
     pub(crate) fn of(found: &Summary) -> EtherFound

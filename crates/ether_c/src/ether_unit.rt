@@ -141,6 +141,19 @@ pub struct EtherUnit {
     pub arp: EtherArp,
 }
 
+// as c/ether_c.h lays them out
+const _: () = prove!(size_of::<EtherEthernet2>() == 16);
+
+const _: () = prove!(size_of::<EtherLinuxSll>() == 16);
+
+const _: () = prove!(size_of::<EtherVlan>() == 6);
+
+const _: () = prove!(size_of::<EtherMacsec>() == 24);
+
+const _: () = prove!(size_of::<EtherArp>() == 40);
+
+const _: () = prove!(size_of::<EtherUnit>() == 144);
+
 /// Where a unit is in a frame.
 #[derive(Clone, Copy)]
 pub(crate) struct Place {

@@ -9,6 +9,7 @@ mod ether_fault;
 mod ether_fed;
 mod ether_found;
 mod ether_unit;
+pub mod fault_text;
 pub mod feeding;
 pub mod missing_bytes;
 mod numbers;

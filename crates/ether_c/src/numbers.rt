@@ -15,6 +15,9 @@ pub(crate) const UNKNOWN_START: u32 = 1;
 /// The target is too short, and was not written to.
 pub(crate) const NO_ROOM: u32 = 2;
 
+/// A text can't be made, and nothing was written.
+pub(crate) const NO_TEXT: u32 = 3;
+
 /// The start with a number. The ether type is that of the fourth.
 pub(crate) fn start_of(number: u32, ether_type: u16) -> Option<Start>
     ensures { result ≡ start_numbered number ether_type }

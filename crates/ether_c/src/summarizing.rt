@@ -1,6 +1,7 @@
 //! The whole walk through a frame in one call.
-ghost use Rattle.std.specs.Prelude.{◌≡◌, MatchOption};
+ghost use Rattle.std.specs.Prelude.{◌≡◌, ◌/◌, ◌<◌, length, IfSome, MatchOption};
 ghost use Rattle.ether_peel.specs.Walker.Start.{start_of as start_meant, limited_start};
+ghost use Rattle.ether_peel.specs.Walker.Limits.{IsFrontOfUnlimited};
 ghost use Rattle.ether_c.specs.Numbers.{start_numbered, unknown_start};
 ghost use Rattle.ether_c.specs.Calls.{TellsSummary};
 
@@ -34,7 +35,9 @@ pub extern "C" fn ether_summary_limited(
     limit: usize,
     found: &mut EtherFound,
 ) -> u32
-    ensures { MatchOption (start_numbered start ether_type) ((result ≡ unknown_start) × (found.new ≡ found.old)) (λ s. TellsSummary (limited_start s limit) bytes.now result found.new) }
+    ensures told { MatchOption (start_numbered start ether_type) ((result ≡ unknown_start) × (found.new ≡ found.old)) (λ s. TellsSummary (limited_start s limit) bytes.now result found.new) }
+    ensures front { IfSome (start_numbered start ether_type) (λ s. IsFrontOfUnlimited s bytes.now limit) }
+    ensures spare { IfSome (start_numbered start ether_type) (λ s. length bytes.now / 4 < limit → TellsSummary (start_meant s) bytes.now result found.new) }
 {
     let Some(start) = start_of(start, ether_type) else {
         return UNKNOWN_START;
