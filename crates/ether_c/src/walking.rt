@@ -1,6 +1,5 @@
 //! The units of a frame in an array.
-ghost use Rattle.std.specs.Prelude.{◌≡◌, MatchOption};
-ghost use Rattle.std.proofs.Common.{set};
+ghost use Rattle.std.specs.Prelude.{◌≡◌, MatchOption, slice_set};
 ghost use Rattle.ether_peel.specs.Walker.Start.{start_of as start_meant, limited_start, start_with};
 ghost use Rattle.ether_peel.specs.Walker.Next.{begun, FacesWalk};
 ghost use Rattle.ether_c.specs.Numbers.{start_numbered, unknown_start};
@@ -87,7 +86,7 @@ fn begun_walk<'a>(start: Start, bytes: &'a [u8], limit: Option<usize>) -> Peel<'
 
 /// Writes a unit to its place, if the array has it.
 fn put(units: &mut [EtherUnit], at: usize, unit: EtherUnit)
-    ensures { units.new ≡ set units.old at unit }
+    ensures { units.new ≡ slice_set units.old at unit }
 {
     if at < units.len() {
         units[at] = unit;
