@@ -1,4 +1,5 @@
-/* Prints the headers of a frame, which is given as hexadecimal digits: headers FFFFFFFFFFFF0200000000018100B123080045 */
+/* Prints the headers of a frame, which is given as hexadecimal digits: headers
+ * FFFFFFFFFFFF0200000000018100B123080045 */
 #include "../ether_c.h"
 
 #include <inttypes.h>
@@ -19,24 +20,27 @@ static void print_address(const char *name, const uint8_t a[6]) {
 static void print_unit(const ether_unit *u) {
     printf("%zu:", u->offset);
     switch (u->kind) {
-    case ETHER_UNIT_ETHERNET2:
-        printf(" Ethernet II");
-        print_address("to", u->ethernet2.destination);
-        print_address("from", u->ethernet2.source);
-        printf(" type 0x%04X\n", u->ethernet2.ether_type);
-        break;
-    case ETHER_UNIT_LINUX_SLL:
-        printf(" cooked capture, hardware type %u, protocol 0x%04X\n", u->linux_sll.hardware_type, u->linux_sll.protocol);
-        break;
-    case ETHER_UNIT_VLAN:
-        printf(" VLAN %u, priority %u, type 0x%04X\n", u->vlan.vid, u->vlan.pcp, u->vlan.ether_type);
-        break;
-    case ETHER_UNIT_MACSEC:
-        printf(" MACsec, packet number %" PRIu32 "%s\n", u->macsec.packet_number, u->macsec.encrypted ? ", encrypted" : "");
-        break;
-    case ETHER_UNIT_ARP:
-        printf(" ARP, operation %u\n", u->arp.operation);
-        break;
+        case ETHER_UNIT_ETHERNET2:
+            printf(" Ethernet II");
+            print_address("to", u->ethernet2.destination);
+            print_address("from", u->ethernet2.source);
+            printf(" type 0x%04X\n", u->ethernet2.ether_type);
+            break;
+        case ETHER_UNIT_LINUX_SLL:
+            printf(" cooked capture, hardware type %u, protocol 0x%04X\n",
+                   u->linux_sll.hardware_type, u->linux_sll.protocol);
+            break;
+        case ETHER_UNIT_VLAN:
+            printf(" VLAN %u, priority %u, type 0x%04X\n", u->vlan.vid, u->vlan.pcp,
+                   u->vlan.ether_type);
+            break;
+        case ETHER_UNIT_MACSEC:
+            printf(" MACsec, packet number %" PRIu32 "%s\n", u->macsec.packet_number,
+                   u->macsec.encrypted ? ", encrypted" : "");
+            break;
+        case ETHER_UNIT_ARP:
+            printf(" ARP, operation %u\n", u->arp.operation);
+            break;
     }
 }
 

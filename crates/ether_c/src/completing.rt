@@ -1,7 +1,7 @@
 //! The bytes that complete a unit of which a frame has only the first bytes.
-ghost use Rattle.std.specs.Prelude.{◌≡◌, MatchOption};
+ghost use Rattle.std.specs.Prelude.{◌≡◌};
 ghost use Rattle.ether_peel.specs.Walker.Start.{start_of as start_meant, limited_start};
-ghost use Rattle.ether_c.specs.Numbers.{start_numbered, unknown_start};
+ghost use Rattle.ether_c.specs.Starts.{IsUnknown, IsRefused, OfStart};
 ghost use Rattle.ether_c.specs.Calls.{TellsCompletion, PutsBytes, fill_bytes};
 
 use crate::numbers::{DONE, UNKNOWN_START, start_of};
@@ -18,7 +18,8 @@ pub extern "C" fn ether_completion(
     fill: &mut [u8],
     len: &mut usize,
 ) -> u32
-    ensures { MatchOption (start_numbered start ether_type) ((result ≡ unknown_start) × (fill.new ≡ fill.old) × (len.new ≡ len.old)) (λ s. TellsCompletion (start_meant s) bytes.now fill.old fill.new result len.new) }
+    ensures unknown { IsUnknown start ether_type → IsRefused result ((fill.new ≡ fill.old) × (len.new ≡ len.old)) }
+    ensures told { OfStart start ether_type (λ s. TellsCompletion (start_meant s) bytes.now fill.old fill.new result len.new) }
 {
     let Some(start) = start_of(start, ether_type) else {
         return UNKNOWN_START;
@@ -39,7 +40,8 @@ pub extern "C" fn ether_completion_limited(
     fill: &mut [u8],
     len: &mut usize,
 ) -> u32
-    ensures { MatchOption (start_numbered start ether_type) ((result ≡ unknown_start) × (fill.new ≡ fill.old) × (len.new ≡ len.old)) (λ s. TellsCompletion (limited_start s limit) bytes.now fill.old fill.new result len.new) }
+    ensures unknown { IsUnknown start ether_type → IsRefused result ((fill.new ≡ fill.old) × (len.new ≡ len.old)) }
+    ensures told { OfStart start ether_type (λ s. TellsCompletion (limited_start s limit) bytes.now fill.old fill.new result len.new) }
 {
     let Some(start) = start_of(start, ether_type) else {
         return UNKNOWN_START;

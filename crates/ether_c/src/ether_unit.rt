@@ -1,11 +1,9 @@
 //! A header of a frame and where its payload is, as C is told of them.
-ghost use Rattle.std.specs.Prelude.{◌≡◌, ◌+◌, ◌<◌, ◌^◌, Bool, length};
-ghost use Rattle.etherparse.specs.Bytes.{bit};
-ghost use Rattle.etherparse.specs.Ethernet2.{ethernet2_of, Frame};
+ghost use Rattle.std.specs.Prelude.{◌≡◌, ◌+◌, ◌<◌, ◌^◌};
 ghost use Rattle.etherparse.specs.LinuxSll.{linux_sll_of};
 ghost use Rattle.etherparse.specs.Vlan.{vlan_of};
 ghost use Rattle.etherparse.specs.Macsec.{sec_tag_of, tag_bytes};
-ghost use Rattle.etherparse.specs.Arp.{arp_of, arp_len, arp_front_in};
+ghost use Rattle.etherparse.specs.Arp.{arp_of};
 ghost use Rattle.etherparse.specs.Header as headers;
 ghost use Rattle.etherparse.specs.Header.{header_len};
 ghost use Rattle.ether_c.specs.Units.{told_ethernet2, told_linux_sll, told_vlan, told_macsec, told_arp};

@@ -1,8 +1,8 @@
 //! The text of a frame's fault.
-ghost use Rattle.std.specs.Prelude.{◌≡◌, IfSome, MatchOption};
+ghost use Rattle.std.specs.Prelude.{◌≡◌, IfSome};
 ghost use Rattle.ether_peel.specs.Walker.Start.{start_of as start_meant, limited_start};
 ghost use Rattle.ether_peel.specs.Walker.Texts.{peel_fault_text};
-ghost use Rattle.ether_c.specs.Numbers.{start_numbered, unknown_start};
+ghost use Rattle.ether_c.specs.Starts.{IsUnknown, IsRefused, OfStart};
 ghost use Rattle.ether_c.specs.Calls.{TellsText, PutsEndText, PutsText};
 
 use crate::numbers::{DONE, NO_TEXT, UNKNOWN_START, start_of};
@@ -23,7 +23,8 @@ pub extern "C" fn ether_fault_text(
     text: &mut [u8],
     len: &mut usize,
 ) -> u32
-    ensures { MatchOption (start_numbered start ether_type) ((result ≡ unknown_start) × (text.new ≡ text.old) × (len.new ≡ len.old)) (λ s. TellsText (start_meant s) bytes.now text.old text.new result len.new) }
+    ensures unknown { IsUnknown start ether_type → IsRefused result ((text.new ≡ text.old) × (len.new ≡ len.old)) }
+    ensures told { OfStart start ether_type (λ s. TellsText (start_meant s) bytes.now text.old text.new result len.new) }
 {
     let Some(start) = start_of(start, ether_type) else {
         return UNKNOWN_START;
@@ -44,7 +45,8 @@ pub extern "C" fn ether_fault_text_limited(
     text: &mut [u8],
     len: &mut usize,
 ) -> u32
-    ensures { MatchOption (start_numbered start ether_type) ((result ≡ unknown_start) × (text.new ≡ text.old) × (len.new ≡ len.old)) (λ s. TellsText (limited_start s limit) bytes.now text.old text.new result len.new) }
+    ensures unknown { IsUnknown start ether_type → IsRefused result ((text.new ≡ text.old) × (len.new ≡ len.old)) }
+    ensures told { OfStart start ether_type (λ s. TellsText (limited_start s limit) bytes.now text.old text.new result len.new) }
 {
     let Some(start) = start_of(start, ether_type) else {
         return UNKNOWN_START;

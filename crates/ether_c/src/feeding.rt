@@ -1,7 +1,7 @@
 //! A walk that receives a frame piece by piece.
-ghost use Rattle.std.specs.Prelude.{◌≡◌, MatchOption};
+ghost use Rattle.std.specs.Prelude.{◌≡◌};
 ghost use Rattle.ether_peel.specs.Walker.Start.{start_of as start_meant, limited_start};
-ghost use Rattle.ether_c.specs.Numbers.{start_numbered, unknown_start};
+ghost use Rattle.ether_c.specs.Starts.{IsUnknown, IsRefused, OfStart};
 ghost use Rattle.ether_c.specs.Calls.{TellsFeed};
 
 use crate::EtherFed;
@@ -11,7 +11,8 @@ use ether_peel::{feed, feed_limited};
 /// What a reader takes of a frame that asks for exactly the bytes that the walk needs next.
 #[unsafe(no_mangle)]
 pub extern "C" fn ether_feed(start: u32, ether_type: u16, bytes: &[u8], fed: &mut EtherFed) -> u32
-    ensures { MatchOption (start_numbered start ether_type) ((result ≡ unknown_start) × (fed.new ≡ fed.old)) (λ s. TellsFeed (start_meant s) bytes.now result fed.new) }
+    ensures unknown { IsUnknown start ether_type → IsRefused result (fed.new ≡ fed.old) }
+    ensures told { OfStart start ether_type (λ s. TellsFeed (start_meant s) bytes.now result fed.new) }
 {
     let Some(start) = start_of(start, ether_type) else {
         return UNKNOWN_START;
@@ -29,7 +30,8 @@ pub extern "C" fn ether_feed_limited(
     limit: usize,
     fed: &mut EtherFed,
 ) -> u32
-    ensures { MatchOption (start_numbered start ether_type) ((result ≡ unknown_start) × (fed.new ≡ fed.old)) (λ s. TellsFeed (limited_start s limit) bytes.now result fed.new) }
+    ensures unknown { IsUnknown start ether_type → IsRefused result (fed.new ≡ fed.old) }
+    ensures told { OfStart start ether_type (λ s. TellsFeed (limited_start s limit) bytes.now result fed.new) }
 {
     let Some(start) = start_of(start, ether_type) else {
         return UNKNOWN_START;

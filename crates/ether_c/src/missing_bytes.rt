@@ -1,7 +1,7 @@
 //! How many bytes a frame that is cut short misses.
-ghost use Rattle.std.specs.Prelude.{◌≡◌, MatchOption};
+ghost use Rattle.std.specs.Prelude.{◌≡◌};
 ghost use Rattle.ether_peel.specs.Walker.Start.{start_of as start_meant, limited_start};
-ghost use Rattle.ether_c.specs.Numbers.{start_numbered, unknown_start};
+ghost use Rattle.ether_c.specs.Starts.{IsUnknown, IsRefused, OfStart};
 ghost use Rattle.ether_c.specs.Calls.{TellsMissing, MissesAtEnd};
 
 use crate::numbers::{DONE, UNKNOWN_START, start_of};
@@ -15,7 +15,8 @@ pub extern "C" fn ether_missing(
     bytes: &[u8],
     missing: &mut usize,
 ) -> u32
-    ensures { MatchOption (start_numbered start ether_type) ((result ≡ unknown_start) × (missing.new ≡ missing.old)) (λ s. TellsMissing (start_meant s) bytes.now result missing.new) }
+    ensures unknown { IsUnknown start ether_type → IsRefused result (missing.new ≡ missing.old) }
+    ensures told { OfStart start ether_type (λ s. TellsMissing (start_meant s) bytes.now result missing.new) }
 {
     let Some(start) = start_of(start, ether_type) else {
         return UNKNOWN_START;
@@ -33,7 +34,8 @@ pub extern "C" fn ether_missing_limited(
     limit: usize,
     missing: &mut usize,
 ) -> u32
-    ensures { MatchOption (start_numbered start ether_type) ((result ≡ unknown_start) × (missing.new ≡ missing.old)) (λ s. TellsMissing (limited_start s limit) bytes.now result missing.new) }
+    ensures unknown { IsUnknown start ether_type → IsRefused result (missing.new ≡ missing.old) }
+    ensures told { OfStart start ether_type (λ s. TellsMissing (limited_start s limit) bytes.now result missing.new) }
 {
     let Some(start) = start_of(start, ether_type) else {
         return UNKNOWN_START;

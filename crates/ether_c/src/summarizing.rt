@@ -1,8 +1,8 @@
 //! The whole walk through a frame in one call.
-ghost use Rattle.std.specs.Prelude.{◌≡◌, ◌/◌, ◌<◌, length, IfSome, MatchOption};
+ghost use Rattle.std.specs.Prelude.{◌≡◌, ◌/◌, ◌<◌, length};
 ghost use Rattle.ether_peel.specs.Walker.Start.{start_of as start_meant, limited_start};
 ghost use Rattle.ether_peel.specs.Walker.Limits.{IsFrontOfUnlimited};
-ghost use Rattle.ether_c.specs.Numbers.{start_numbered, unknown_start};
+ghost use Rattle.ether_c.specs.Starts.{IsUnknown, IsRefused, OfStart};
 ghost use Rattle.ether_c.specs.Calls.{TellsSummary};
 
 use crate::EtherFound;
@@ -17,7 +17,8 @@ pub extern "C" fn ether_summary(
     bytes: &[u8],
     found: &mut EtherFound,
 ) -> u32
-    ensures { MatchOption (start_numbered start ether_type) ((result ≡ unknown_start) × (found.new ≡ found.old)) (λ s. TellsSummary (start_meant s) bytes.now result found.new) }
+    ensures unknown { IsUnknown start ether_type → IsRefused result (found.new ≡ found.old) }
+    ensures told { OfStart start ether_type (λ s. TellsSummary (start_meant s) bytes.now result found.new) }
 {
     let Some(start) = start_of(start, ether_type) else {
         return UNKNOWN_START;
@@ -35,9 +36,10 @@ pub extern "C" fn ether_summary_limited(
     limit: usize,
     found: &mut EtherFound,
 ) -> u32
-    ensures told { MatchOption (start_numbered start ether_type) ((result ≡ unknown_start) × (found.new ≡ found.old)) (λ s. TellsSummary (limited_start s limit) bytes.now result found.new) }
-    ensures front { IfSome (start_numbered start ether_type) (λ s. IsFrontOfUnlimited s bytes.now limit) }
-    ensures spare { IfSome (start_numbered start ether_type) (λ s. length bytes.now / 4 < limit → TellsSummary (start_meant s) bytes.now result found.new) }
+    ensures unknown { IsUnknown start ether_type → IsRefused result (found.new ≡ found.old) }
+    ensures told { OfStart start ether_type (λ s. TellsSummary (limited_start s limit) bytes.now result found.new) }
+    ensures front { OfStart start ether_type (λ s. IsFrontOfUnlimited s bytes.now limit) }
+    ensures spare { OfStart start ether_type (λ s. length bytes.now / 4 < limit → TellsSummary (start_meant s) bytes.now result found.new) }
 {
     let Some(start) = start_of(start, ether_type) else {
         return UNKNOWN_START;

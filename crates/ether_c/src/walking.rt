@@ -1,8 +1,8 @@
 //! The units of a frame in an array.
-ghost use Rattle.std.specs.Prelude.{◌≡◌, MatchOption, slice_set};
+ghost use Rattle.std.specs.Prelude.{◌≡◌, slice_set};
 ghost use Rattle.ether_peel.specs.Walker.Start.{start_of as start_meant, limited_start, start_with};
 ghost use Rattle.ether_peel.specs.Walker.Next.{begun, FacesWalk};
-ghost use Rattle.ether_c.specs.Numbers.{start_numbered, unknown_start};
+ghost use Rattle.ether_c.specs.Starts.{IsUnknown, IsRefused, OfStart};
 ghost use Rattle.ether_c.specs.Walk.{TellsWalk, TellsUnits};
 
 use crate::EtherUnit;
@@ -19,7 +19,8 @@ pub extern "C" fn ether_walk(
     units: &mut [EtherUnit],
     count: &mut usize,
 ) -> u32
-    ensures { MatchOption (start_numbered start ether_type) ((result ≡ unknown_start) × (units.new ≡ units.old) × (count.new ≡ count.old)) (λ s. TellsWalk (start_meant s) bytes.now units.old units.new result count.new) }
+    ensures unknown { IsUnknown start ether_type → IsRefused result ((units.new ≡ units.old) × (count.new ≡ count.old)) }
+    ensures told { OfStart start ether_type (λ s. TellsWalk (start_meant s) bytes.now units.old units.new result count.new) }
 {
     let Some(start) = start_of(start, ether_type) else {
         return UNKNOWN_START;
@@ -39,7 +40,8 @@ pub extern "C" fn ether_walk_limited(
     units: &mut [EtherUnit],
     count: &mut usize,
 ) -> u32
-    ensures { MatchOption (start_numbered start ether_type) ((result ≡ unknown_start) × (units.new ≡ units.old) × (count.new ≡ count.old)) (λ s. TellsWalk (limited_start s limit) bytes.now units.old units.new result count.new) }
+    ensures unknown { IsUnknown start ether_type → IsRefused result ((units.new ≡ units.old) × (count.new ≡ count.old)) }
+    ensures told { OfStart start ether_type (λ s. TellsWalk (limited_start s limit) bytes.now units.old units.new result count.new) }
 {
     let Some(start) = start_of(start, ether_type) else {
         return UNKNOWN_START;

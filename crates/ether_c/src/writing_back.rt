@@ -1,7 +1,7 @@
 //! Headers written back before the rest.
-ghost use Rattle.std.specs.Prelude.{◌≡◌, MatchOption};
+ghost use Rattle.std.specs.Prelude.{◌≡◌};
 ghost use Rattle.ether_peel.specs.Walker.Start.{start_of as start_meant, limited_start};
-ghost use Rattle.ether_c.specs.Numbers.{start_numbered, unknown_start};
+ghost use Rattle.ether_c.specs.Starts.{IsUnknown, IsRefused, OfStart};
 ghost use Rattle.ether_c.specs.Calls.{TellsWriteBack, written_status, written_len};
 
 use crate::numbers::{DONE, NO_ROOM, UNKNOWN_START, start_of};
@@ -17,7 +17,8 @@ pub extern "C" fn ether_write_back(
     target: &mut [u8],
     len: &mut usize,
 ) -> u32
-    ensures { MatchOption (start_numbered start ether_type) ((result ≡ unknown_start) × (target.new ≡ target.old) × (len.new ≡ len.old)) (λ s. TellsWriteBack (start_meant s) bytes.now target.old target.new result len.new) }
+    ensures unknown { IsUnknown start ether_type → IsRefused result ((target.new ≡ target.old) × (len.new ≡ len.old)) }
+    ensures told { OfStart start ether_type (λ s. TellsWriteBack (start_meant s) bytes.now target.old target.new result len.new) }
 {
     let Some(start) = start_of(start, ether_type) else {
         return UNKNOWN_START;
@@ -37,7 +38,8 @@ pub extern "C" fn ether_write_back_limited(
     target: &mut [u8],
     len: &mut usize,
 ) -> u32
-    ensures { MatchOption (start_numbered start ether_type) ((result ≡ unknown_start) × (target.new ≡ target.old) × (len.new ≡ len.old)) (λ s. TellsWriteBack (limited_start s limit) bytes.now target.old target.new result len.new) }
+    ensures unknown { IsUnknown start ether_type → IsRefused result ((target.new ≡ target.old) × (len.new ≡ len.old)) }
+    ensures told { OfStart start ether_type (λ s. TellsWriteBack (limited_start s limit) bytes.now target.old target.new result len.new) }
 {
     let Some(start) = start_of(start, ether_type) else {
         return UNKNOWN_START;
