@@ -1,24 +1,7 @@
 /* Tests of ether_c.h from C and from C++: prints a line for each check that fails, and at the end
  * "N passed, M failed". */
-#include "../ether_c.h"
-
-#include <stdio.h>
-#include <stdlib.h>
-#include <string.h>
-
-static unsigned passed, failed;
-
-static void check(int holds, const char *what, int line) {
-    if (holds) {
-        passed++;
-    } else {
-        failed++;
-        printf("tests.c:%d: %s\n", line, what);
-    }
-}
-
-#define CHECK(condition) check((condition) ? 1 : 0, #condition, __LINE__)
-#define COUNT(array) (sizeof(array) / sizeof((array)[0]))
+#define _DEFAULT_SOURCE
+#include "check.h"
 
 /* ---- frames: the two addresses are to all stations, from 02:00:00:00:00:01 ---- */
 
@@ -78,29 +61,13 @@ static void layout(void) {
 
 /* ---- helpers ---- */
 
-static int all_are(const void *memory, size_t len, uint8_t byte) {
-    const uint8_t *bytes = (const uint8_t *)memory;
-    for (size_t i = 0; i < len; i++)
-        if (bytes[i] != byte) return 0;
-    return 1;
-}
-
-/* a copy of a frame in memory that ends with it, so that a sanitizer sees each byte that is read
- * after it */
-static uint8_t *copied(const uint8_t *bytes, size_t len) {
-    uint8_t *copy = (uint8_t *)malloc(len ? len : 1);
-    if (!copy) abort();
-    if (len) memcpy(copy, bytes, len);
-    return copy;
-}
-
 static ether_found summary_of(uint32_t start, uint16_t ether_type, const uint8_t *bytes,
                               size_t len) {
     ether_found found;
-    uint8_t *copy = copied(bytes, len);
+    const guarded page = guarded_page();
     memset(&found, 0xA5, sizeof found);
-    CHECK(ether_summary(start, ether_type, copy, len, &found) == ETHER_DONE);
-    free(copy);
+    CHECK(ether_summary(start, ether_type, copied(page, bytes, len), len, &found) == ETHER_DONE);
+    release(page);
     return found;
 }
 
@@ -239,17 +206,6 @@ static int has_place(const ether_unit *u, uint32_t kind, size_t offset, size_t h
                      size_t end, int closed) {
     return u->kind == kind && u->offset == offset && u->header_len == header_len &&
            u->payload_start == offset + header_len && u->payload_end == end && u->closed == closed;
-}
-
-/* the headers of the other kinds are 0, byte for byte but for the padding at the ends */
-static int others_are_zero(const ether_unit *u) {
-    return (u->kind == ETHER_UNIT_ETHERNET2 ||
-            all_are(&u->ethernet2, offsetof(ether_ethernet2, has_fcs) + 1, 0)) &&
-           (u->kind == ETHER_UNIT_LINUX_SLL || all_are(&u->linux_sll, sizeof u->linux_sll, 0)) &&
-           (u->kind == ETHER_UNIT_VLAN || all_are(&u->vlan, sizeof u->vlan, 0)) &&
-           (u->kind == ETHER_UNIT_MACSEC ||
-            all_are(&u->macsec, offsetof(ether_macsec, short_len) + 1, 0)) &&
-           (u->kind == ETHER_UNIT_ARP || all_are(&u->arp, sizeof u->arp, 0));
 }
 
 static void walk_of_tags(void) {
@@ -529,45 +485,69 @@ static void no_frame(void) {
           f.rest_end == 0 && is_none(&f.fault));
 }
 
-/* all fronts of random frames of announced types: the calls agree with one another and stay inside
- * the memory */
-static void random_frames(void) {
+static uint32_t seed = 1;
+
+/* a number below n, drawn by a linear congruence */
+static size_t drawn(size_t n) {
+    seed = seed * 1664525u + 1013904223u;
+    return (seed >> 8) % n;
+}
+
+/* a frame of drawn bytes, with ether types that announce something where tags would have them */
+static size_t draw_frame(uint8_t bytes[64]) {
     static const uint8_t types[][2] = {{0x81, 0x00}, {0x88, 0xA8}, {0x91, 0x00},
                                        {0x88, 0xE5}, {0x08, 0x06}, {0x08, 0x00}};
-    uint32_t seed = 1;
-    unsigned wrong = 0;
-    for (int round = 0; round < 10000; round++) {
-        uint8_t bytes[64];
-        for (size_t i = 0; i < sizeof bytes; i++)
-            seed = seed * 1664525u + 1013904223u,
-            bytes[i] = (seed >> 24) & ((seed >> 20) & 1 ? 0x0F : 0xFF);
-        for (size_t i = 12; i + 2 <= sizeof bytes; i += 4) {
-            seed = seed * 1664525u + 1013904223u;
-            if ((seed >> 28) < 12) memcpy(bytes + i, types[(seed >> 24) % COUNT(types)], 2);
-        }
-        const uint32_t start = 1 + (seed >> 8) % 4;
-        const size_t len = (seed >> 12) % (sizeof bytes + 1);
-        uint8_t *frame = copied(bytes, len);
-        ether_found f;
-        ether_unit u[16];
-        uint8_t target[64];
-        char text[512];
-        size_t count, written, missing, text_len;
-        ether_summary(start, 0x88E5, frame, len, &f);
-        ether_walk(start, 0x88E5, frame, len, u, COUNT(u), &count);
-        ether_write_back(start, 0x88E5, frame, len, target, sizeof target, &written);
-        ether_missing(start, 0x88E5, frame, len, &missing);
-        ether_fault_text(start, 0x88E5, frame, len, text, sizeof text, &text_len);
-        wrong += count != f.units || count > COUNT(u) || written != f.rest_end ||
-                 missing != f.fault.missing || (text_len == 0) != (f.fault.kind == 0);
-        for (size_t i = 0; i < count && i < COUNT(u); i++) {
-            const size_t end = i + 1 < count ? u[i + 1].offset : f.rest_start;
-            wrong += u[i].payload_start != end || u[i].payload_end > len ||
-                     u[i].offset + u[i].header_len != end || !others_are_zero(&u[i]);
-        }
-        free(frame);
+    for (size_t i = 0; i < 64; i++) bytes[i] = (uint8_t)drawn(drawn(2) ? 256 : 4);
+    for (size_t i = 12; i < 64; i += 2)
+        if (drawn(3)) memcpy(bytes + i, types[drawn(COUNT(types))], 2);
+    return drawn(65);
+}
+
+/* whether the units of a frame follow one another up to the rest, each header at its payload's
+ * start */
+static int units_are_chained(const ether_unit *u, size_t count, size_t len, const ether_found *f) {
+    for (size_t i = 0; i < count; i++) {
+        const size_t end = i + 1 < count ? u[i + 1].offset : f->rest_start;
+        if (u[i].payload_start != end || u[i].offset + u[i].header_len != end) return 0;
+        if (u[i].payload_end > len || !others_are_zero(&u[i])) return 0;
     }
-    CHECK(wrong == 0);
+    return 1;
+}
+
+/* The calls agree with one another on drawn frames, and touch no memory after a frame or a target.
+ */
+static void drawn_frames(void) {
+    const guarded pages[] = {guarded_page(), guarded_page(), guarded_page(), guarded_page()};
+    unsigned wrong = 0;
+    size_t most = 0;
+    for (int round = 0; round < 20000; round++) {
+        uint8_t bytes[64];
+        const size_t len = draw_frame(bytes);
+        const uint32_t start = (uint32_t)(1 + drawn(4));
+        const uint8_t *frame = copied(pages[0], bytes, len);
+        ether_found f;
+        size_t count, written, missing, fill_len, text_len;
+        ether_summary(start, 0x88E5, frame, len, &f);
+        ether_unit *units = (ether_unit *)(void *)last(pages[1], f.units * sizeof(ether_unit));
+        uint8_t *target = last(pages[2], f.rest_end);
+        wrong += ether_walk(start, 0x88E5, frame, len, units, f.units, &count) != ETHER_DONE;
+        wrong += count != f.units || !units_are_chained(units, count, len, &f);
+        wrong +=
+            ether_write_back(start, 0x88E5, frame, len, target, f.rest_end, &written) != ETHER_DONE;
+        wrong += written != f.rest_end;
+        ether_missing(start, 0x88E5, frame, len, &missing);
+        wrong += missing != f.fault.missing;
+        ether_completion(start, 0x88E5, frame, len, NULL, 0, &fill_len);
+        ether_completion(start, 0x88E5, frame, len, last(pages[3], fill_len), fill_len, &fill_len);
+        wrong += fill_len != 0 && fill_len < missing;
+        ether_fault_text(start, 0x88E5, frame, len, NULL, 0, &text_len);
+        wrong += (text_len == 0) != (f.fault.kind == ETHER_FAULT_NONE) || text_len >= 512;
+        wrong += ether_fault_text(start, 0x88E5, frame, len, (char *)last(pages[3], text_len),
+                                  text_len, &text_len) != ETHER_DONE;
+        if (count > most) most = count;
+    }
+    CHECK(wrong == 0 && most >= 6);
+    for (size_t i = 0; i < COUNT(pages); i++) release(pages[i]);
 }
 
 int main(void) {
@@ -591,7 +571,7 @@ int main(void) {
     texts();
     unknown_starts();
     no_frame();
-    random_frames();
+    drawn_frames();
     printf("%u passed, %u failed\n", passed, failed);
     return failed ? 1 : 0;
 }
