@@ -6,6 +6,7 @@ import sys
 
 sys.path.insert(0, os.path.join(os.path.dirname(os.path.abspath(__file__)), ".."))
 import ether_c as ether
+from walker import ETHERNET2, LINUX_SLL, Walker
 
 lib = ether.load(sys.argv[1])
 counts = {True: 0, False: 0}
@@ -51,23 +52,56 @@ def no_frame():
     check("unknown", lib.ether_summary(0, 0, None, 0, C.byref(ether.Found())), ether.UNKNOWN_START)
 
 
-def fronts(rounds):
-    """A reading of tags by hand, on random stacks of tags and on their fronts."""
+def plain(value):
+    """A struct as the tuple of its fields."""
+    if isinstance(value, C.Structure):
+        return tuple(plain(getattr(value, name)) for name, _ in value._fields_)
+    return bytes(value) if isinstance(value, C.Array) else value
+
+
+def unit_of(unit):
+    headers = [unit.ethernet2, unit.linux_sll, unit.vlan, unit.macsec, unit.arp]
+    own = headers.pop(unit.kind - 1)
+    zero = all(bytes(value).count(0) == len(value) if isinstance(value, bytes) else value == 0
+               for header in headers for value in plain(header))
+    placed = zero and unit.payload_start == unit.offset + unit.header_len
+    return (unit.kind if placed else None, unit.offset, unit.header_len, unit.payload_end, unit.closed, plain(own))
+
+
+def drawn_frame(draw):
+    """Bytes with many ether types that announce something, and many short numbers."""
+    frame = bytearray(draw.choice((draw.randrange(256), draw.randrange(8))) for _ in range(draw.randrange(100)))
+    for at in range(12, len(frame) - 1, 2):
+        if draw.random() < 0.6:
+            frame[at:at + 2] = draw.choice((0x8100, 0x88A8, 0x9100, 0x88E5, 0x88E5, 0x0806, 0x0800)).to_bytes(2, "big")
+    if draw.random() < 0.5:  # a cooked capture that is not refused at once
+        frame[0:4] = bytes((0, draw.randrange(9))) + draw.choice((1, 1, 770, 778, 803, 824, 2)).to_bytes(2, "big")
+    return bytes(frame)
+
+
+def drawn_frames(rounds):
+    """The second walk on drawn frames: the same units with all fields, the same rest, the same fault."""
     draw = random.Random(1)
-    wrong = 0
+    faults, most = set(), 0
     for _ in range(rounds):
-        tags = [(draw.choice((0x8100, 0x88A8, 0x9100)), draw.randrange(0x10000)) for _ in range(draw.randrange(5))]
-        frame = ADDRESSES + b"".join(t.to_bytes(2, "big") + c.to_bytes(2, "big") for t, c in tags) + b"\x08\x00"
-        n = draw.randrange(14, len(frame) + 1)
-        units = ether.walk(lib, ether.START_ETHERNET2, frame[:n])
-        whole = (n - 14) // 4
-        wrong += [(u.vlan.pcp, u.vlan.dei, u.vlan.vid) for u in units[1:]] != [(c >> 13, c >> 12 & 1, c & 0xFFF) for _, c in tags[:whole]]
-        wrong += ether.summary(lib, ether.START_ETHERNET2, frame[:n]).fault.missing != (0 if n == len(frame) else 4 - (n - 14) % 4)
-    check("wrong readings", wrong, 0)
+        frame = drawn_frame(draw)
+        start, ether_type = draw.randrange(1, 5), draw.choice((0x8100, 0x88E5, 0x0806, 0x0800))
+        walker = {1: lambda: Walker(frame, ETHERNET2), 2: lambda: Walker(frame, ETHERNET2, has_fcs=True),
+                  3: lambda: Walker(frame, LINUX_SLL), 4: lambda: Walker(frame, ether_type=ether_type)}[start]()
+        units = [unit_of(unit) for unit in ether.walk(lib, start, frame, ether_type)]
+        found = ether.summary(lib, start, frame, ether_type)
+        told = (units, (found.rest_start, found.rest_end), (found.rest_kind, found.rest_protocol), plain(found.fault))
+        expected = (walker.units, (walker.at, walker.end), walker.rest, walker.fault or (0,) * 10)
+        if told != expected:
+            check(f"start {start} ether type {ether_type:04X} frame {frame.hex()}", told, expected)
+        faults.add((found.fault.kind, found.fault.layer, found.fault.len_source, found.fault.closed))
+        most = max(most, len(units))
+    check("10,000 frames", counts[False], 0)
+    check("many units and all kinds of faults", most >= 6 and {kind for kind, *_ in faults} == set(range(6)), True)
 
 
 layout()
 worked_examples()
 no_frame()
-fronts(2000)
+drawn_frames(10000)
 print(f"{counts[True]} passed, {counts[False]} failed")
