@@ -1,6 +1,6 @@
 #!/bin/sh
-# Builds the static library, and runs the tests of its callers: in C99 and C++11, with sanitizers where the compiler has them, and from
-# Python. The last line is 'N passed, M failed'. CC, CXX and PYTHON name other programs.
+# Builds the static library, and runs the tests of its callers: in C99 and C++11, with sanitizers if the compiler has
+# them, and from Python. The last line is 'N passed, M failed'. CC, CXX and PYTHON name other programs.
 set -eu
 cd "$(dirname "$0")"
 library=../crates/ether_c/out/libether_c.a
@@ -20,8 +20,10 @@ compiler_of() {
     done
 }
 
-# the clang of the kit is in its toolchain, next to the page that `rt doc` names
-kit_clang=$(dirname "$(rt doc)")/toolchain/bin/clang
+# the clang of the kit is in its toolchain, next to the page that `rt doc` names; it has no headers of its own
+kit_clang=$work/kit-clang
+printf '#!/bin/sh\nexec %s -isystem %s "$@"\n' "$(dirname "$(rt doc)")/toolchain/bin/clang" "$PWD/tests/freestanding" > "$kit_clang"
+chmod +x "$kit_clang"
 cc=$(compiler_of c "${CC:-}" gcc cc clang "$kit_clang")
 cxx=$(compiler_of c++ "${CXX:-}" g++ c++ clang++ "$cc")
 python=${PYTHON:-python3}
