@@ -23,7 +23,7 @@
  *            parallel. ether_completion and ether_fault_text take some 2.5 KB of stack, the others
  *            less than 1 KB.
  *   Time     Linear in the number of headers, of which a frame has at most len / 4;
- *            ether_write_back copies the frame besides.
+ *            ether_write_back also copies the frame.
  *   Limits   Each call has a form `.._limited`, which reads no more than `limit` VLAN tags and
  *            SecTags. After these, the ether type of a tag announces nothing: the walk ends there,
  *            with no fault. A limit above len / 4 changes nothing.
@@ -307,7 +307,7 @@ uint32_t ether_feed_limited(uint32_t start, uint16_t ether_type, const uint8_t *
 /* ether_completion - the fewest bytes that, after a frame cut short, make it accepted
  *
  * They complete the unit in which the frame ends: an Ethernet II header, a VLAN tag, an ARP packet,
- * or a SecTag with the payload whose length it names. Each is 0, but 1 where a 0 would end an ether
+ * or a SecTag with the payload whose length it names. Each is 0, but 1 if a 0 would end an ether
  * type that announces a VLAN tag. *fill_len is their number, at most 1028; it is 0 if no bytes
  * complete the frame: it is accepted, or is refused for its contents or in a closed window, or ends
  * in a header of cooked capture, in fewer than six bytes of a SecTag, or in the payload of a whole

@@ -260,6 +260,26 @@ static void walk_of_sec_tags(void) {
           u[0].macsec.encrypted == 1 && u[0].macsec.changed == 1);
 }
 
+/* the 54-octet frame of IEEE 802.1AE, Annex C, with integrity protection */
+static void walk_of_the_example_of_the_standard(void) {
+    static const uint8_t front[] = {0xD6, 0x09, 0xB1, 0xF0, 0x56, 0x63, 0x7A, 0x0D, 0x46, 0xDF,
+                                    0x99, 0x8D, 0x88, 0xE5, 0x22, 0x2A, 0xB2, 0xC2, 0x84, 0x65,
+                                    0x12, 0x15, 0x35, 0x24, 0xC0, 0x89, 0x5E, 0x81, 0x08, 0x00};
+    uint8_t frame[86] = {0};
+    ether_unit u[2];
+    size_t count;
+    memcpy(frame, front, sizeof front);
+    CHECK(ether_walk(ETHER_START_ETHERNET2, 0, frame, sizeof frame, u, COUNT(u), &count) ==
+              ETHER_DONE &&
+          count == 2);
+    CHECK(memcmp(u[0].ethernet2.destination, front, 6) == 0 &&
+          memcmp(u[0].ethernet2.source, front + 6, 6) == 0);
+    CHECK(has_place(&u[1], ETHER_UNIT_MACSEC, 14, 16, 70, 1) && u[1].macsec.ether_type == 0x0800);
+    CHECK(u[1].macsec.packet_number == 0xB2C28465u && u[1].macsec.sci == 0x12153524C0895E81u);
+    CHECK(u[1].macsec.association_number == 2 && u[1].macsec.short_len == 42 &&
+          u[1].macsec.end_station == 0);
+}
+
 static void walk_of_arp(void) {
     ether_unit u[2];
     size_t count;
@@ -493,7 +513,7 @@ static size_t drawn(size_t n) {
     return (seed >> 8) % n;
 }
 
-/* a frame of drawn bytes, with ether types that announce something where tags would have them */
+/* a frame of drawn bytes, many of them ether types that announce something */
 static size_t draw_frame(uint8_t bytes[64]) {
     static const uint8_t types[][2] = {{0x81, 0x00}, {0x88, 0xA8}, {0x91, 0x00},
                                        {0x88, 0xE5}, {0x08, 0x06}, {0x08, 0x00}};
@@ -561,6 +581,7 @@ int main(void) {
     walk_of_tags();
     walk_with_a_check_sequence();
     walk_of_sec_tags();
+    walk_of_the_example_of_the_standard();
     walk_of_arp();
     walk_of_a_cooked_capture();
     walk_with_less_room();

@@ -57,11 +57,16 @@ pub record TellsFeed (start : Expectation) (list : List ℕ) (status : ℕ) (tol
 
 -- ---- missing bytes
 
--- As many bytes are missing at the end of a walk with this fault, or with none. 0 stands for "more bytes would not help", since what is
--- missing is never 0.
+-- As many bytes are missing of a unit with this fault: 0 if more bytes would not help, since what is missing is never 0.
+pub record MissesOf (f : PeelFault) (n : ℕ) : Type 0 where
+  pub missing : Option ℕ
+  pub misses : MatchOption missing ((m : ℕ) → Misses f m → ⊥) (Misses f)
+  pub is : n ≡ unwrap_or missing 0
+
+-- at the end of a walk with this fault, or with none
 abbrev pub MissesAtEnd : Option PeelFault → ℕ → Type 0
 MissesAtEnd None n = n ≡ 0
-MissesAtEnd (Some f) n = (missing : Option ℕ) × (n ≡ unwrap_or missing 0) × MatchOption missing ((m : ℕ) → Misses f m → ⊥) (Misses f)
+MissesAtEnd (Some f) n = MissesOf f n
 
 pub record TellsMissing (start : Expectation) (list : List ℕ) (status missing : ℕ) : Type 0 where
   pub found : Summary
@@ -72,9 +77,10 @@ pub record TellsMissing (start : Expectation) (list : List ℕ) (status missing 
 -- ---- bytes
 
 -- Bytes are put to the front of a target, or it has no room for them and stays as it is; their number is told.
-abbrev pub PutsBytes : (bytes old new : List ℕ) → (status len : ℕ) → Type 0
-PutsBytes bytes old new status len =
-    (len ≡ length bytes) × (length bytes ≤ length old → (status ≡ done) × (new ≡ bytes ++ drop (length bytes) old)) × (length old < length bytes → (status ≡ no_room) × (new ≡ old))
+pub record PutsBytes (bytes old new : List ℕ) (status len : ℕ) : Type 0 where
+  pub len_is : len ≡ length bytes
+  pub put : length bytes ≤ length old → (status ≡ done) × (new ≡ bytes ++ drop (length bytes) old)
+  pub kept : length old < length bytes → (status ≡ no_room) × (new ≡ old)
 
 -- the bytes of a completion, none if there is none
 abbrev pub fill_bytes : Option (ArrayVec ℕ) → List ℕ

@@ -15,17 +15,54 @@ use Rattle.ether_c.specs.declared.ether_unit.EtherUnit.{EtherUnit}
 -- ---- fields of headers, each 0 in a unit of another kind
 
 abbrev pub told_ethernet2 : Header → EtherEthernet2
-told_ethernet2 (headers.Ethernet2 e) = record { destination = spelled 6 e.destination; source = spelled 6 e.source; ether_type = e.ether_type; has_fcs = 0 }
-told_ethernet2 (headers.Ethernet2Fcs e) = record { destination = spelled 6 e.destination; source = spelled 6 e.source; ether_type = e.ether_type; has_fcs = 1 }
-told_ethernet2 _ = record { destination = replicate 6 0; source = replicate 6 0; ether_type = 0; has_fcs = 0 }
+told_ethernet2 (headers.Ethernet2 e) = record {
+  destination = spelled 6 e.destination;
+  source = spelled 6 e.source;
+  ether_type = e.ether_type;
+  has_fcs = 0;
+}
+told_ethernet2 (headers.Ethernet2Fcs e) = record {
+  destination = spelled 6 e.destination;
+  source = spelled 6 e.source;
+  ether_type = e.ether_type;
+  has_fcs = 1;
+}
+told_ethernet2 _ = record {
+  destination = replicate 6 0;
+  source = replicate 6 0;
+  ether_type = 0;
+  has_fcs = 0;
+}
 
 abbrev pub told_linux_sll : Header → EtherLinuxSll
-told_linux_sll (headers.LinuxSll s) = record { packet_type = s.packet_type; hardware_type = s.hardware_type; address_len = s.address_len; address = spelled 8 s.address; protocol = s.protocol }
-told_linux_sll _ = record { packet_type = 0; hardware_type = 0; address_len = 0; address = replicate 8 0; protocol = 0 }
+told_linux_sll (headers.LinuxSll s) = record {
+  packet_type = s.packet_type;
+  hardware_type = s.hardware_type;
+  address_len = s.address_len;
+  address = spelled 8 s.address;
+  protocol = s.protocol;
+}
+told_linux_sll _ = record {
+  packet_type = 0;
+  hardware_type = 0;
+  address_len = 0;
+  address = replicate 8 0;
+  protocol = 0;
+}
 
 abbrev pub told_vlan : Header → EtherVlan
-told_vlan (headers.Vlan v) = record { vid = v.vid; ether_type = v.ether_type; pcp = v.pcp; dei = v.dei }
-told_vlan _ = record { vid = 0; ether_type = 0; pcp = 0; dei = 0 }
+told_vlan (headers.Vlan v) = record {
+  vid = v.vid;
+  ether_type = v.ether_type;
+  pcp = v.pcp;
+  dei = v.dei;
+}
+told_vlan _ = record {
+  vid = 0;
+  ether_type = 0;
+  pcp = 0;
+  dei = 0;
+}
 
 -- the ether type and the SCI are 0 if there is none
 abbrev pub told_macsec : Header → EtherMacsec
@@ -41,7 +78,18 @@ told_macsec (headers.Macsec t) = record {
   association_number = t.association_number;
   short_len = t.short_len;
 }
-told_macsec _ = record { sci = 0; packet_number = 0; ether_type = 0; end_station = 0; sci_present = 0; single_copy_broadcast = 0; encrypted = 0; changed = 0; association_number = 0; short_len = 0 }
+told_macsec _ = record {
+  sci = 0;
+  packet_number = 0;
+  ether_type = 0;
+  end_station = 0;
+  sci_present = 0;
+  single_copy_broadcast = 0;
+  encrypted = 0;
+  changed = 0;
+  association_number = 0;
+  short_len = 0;
+}
 
 -- with the places of the four addresses in the frame
 abbrev pub told_arp : (start : ℕ) → Header → EtherArp
@@ -56,7 +104,17 @@ told_arp start (headers.Arp a) = record {
   hardware_size = length a.sender_hardware;
   protocol_size = length a.sender_protocol;
 }
-told_arp start _ = record { sender_hardware = 0; sender_protocol = 0; target_hardware = 0; target_protocol = 0; hardware_type = 0; protocol_type = 0; operation = 0; hardware_size = 0; protocol_size = 0 }
+told_arp start _ = record {
+  sender_hardware = 0;
+  sender_protocol = 0;
+  target_hardware = 0;
+  target_protocol = 0;
+  hardware_type = 0;
+  protocol_type = 0;
+  operation = 0;
+  hardware_size = 0;
+  protocol_size = 0;
+}
 
 -- ---- units
 

@@ -1,4 +1,4 @@
--- A view of a unit as its header, and as C is told of it at its places.
+-- A view of a unit as its header, and as C is told of it at its places: for the contracts of private functions.
 use Rattle.std.specs.Prelude.{ℕ, ◌-◌, Bool, if◌then◌else◌}
 use Rattle.etherparse.specs.Bytes.{bit}
 use Rattle.etherparse.specs.Ethernet2.{Frame, ethernet2_of}

@@ -7,8 +7,8 @@ use Rattle.ether_c.specs.declared.ether_unit.EtherUnit.{EtherUnit}
 use Rattle.ether_c.specs.Numbers.{done}
 use Rattle.ether_c.specs.Units.{told_units}
 
--- The list has a walk and no second one, whose units are counted. The array holds them from its front on, as many as it has room
--- for, and after them what it held before.
+-- The list has a walk and no second one, whose units are counted. The array holds them from its front on, as many as
+-- it has room for, and after them what it held before.
 pub record TellsUnits (start : Expectation) (list : List ℕ) (old new : List EtherUnit) (count : ℕ) : Type 0 where
   pub headers : List Header
   pub ending : Ending

@@ -108,7 +108,8 @@ impl EtherFault {
     }
 }
 
-/// How many bytes a unit that is refused for its length needs at least beyond those that are there; 0 if more bytes would not help.
+/// How many bytes a unit that is refused for its length needs at least beyond those that are there; 0 if more bytes
+/// would not help.
 #[tactic(auto, using(crate::proofs::Missing::missing_is))]
 fn missing(fault: &PeelFault, error: &LenError) -> usize
     requires { fault.now.error ≡ errors.Len error.now }

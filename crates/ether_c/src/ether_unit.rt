@@ -108,8 +108,8 @@ pub struct EtherArp {
     pub protocol_size: u8,
 }
 
-/// A unit: a header and where its payload is: `ether_unit` in C. Of the five headers, only that of the unit's kind is filled;
-/// the others are 0.
+/// A header and where its payload is: `ether_unit` in C. Of the five headers, only that of the unit's kind is filled; the
+/// others are 0.
 ///
 /// Each bit pattern is a value, so that C may pass memory that it has not written to.
 #[repr(C)]

@@ -29,8 +29,8 @@ pub extern "C" fn ether_walk(
     DONE
 }
 
-/// The units of the walk that reads no more than `limit` VLAN tags and MACsec SecTags, as many as the array has room for, and how
-/// many there are in all.
+/// The units of the walk that reads no more than `limit` VLAN tags and MACsec SecTags, as many as the array has room
+/// for, and how many there are in all.
 #[unsafe(no_mangle)]
 pub extern "C" fn ether_walk_limited(
     start: u32,
