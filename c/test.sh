@@ -3,6 +3,7 @@
 # them, and from Python. The last line is 'N passed, M failed'. CC, CXX and PYTHON name other programs.
 set -eu
 cd "$(dirname "$0")"
+export PYTHONDONTWRITEBYTECODE=1
 library=../crates/ether_c/out/libether_c.a
 work=$(mktemp -d)
 trap 'rm -rf "$work"' EXIT
