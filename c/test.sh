@@ -1,6 +1,7 @@
 #!/bin/sh
 # Builds the static library, and runs the tests of its callers: in C99 and C++11, with sanitizers if the compiler has
-# them, and from Python. The last line is 'N passed, M failed'. CC, CXX and PYTHON name other programs.
+# them, and from Python. Builds the tool, and compares its lines with those that calls from C give. The last line is
+# 'N passed, M failed'. CC, CXX and PYTHON name other programs.
 set -eu
 cd "$(dirname "$0")"
 export PYTHONDONTWRITEBYTECODE=1
@@ -88,5 +89,6 @@ done
 "$cc" -shared -o "$work/libether_c.so" -Wl,--whole-archive "$library" -Wl,--no-whole-archive
 run "Python, $python" "$python" tests/tests.py "$work/libether_c.so"
 run "The examples" sh tests/examples.sh "$cc" "$library" "$python" "$work"
+run "The lines of the tool" sh tests/lines.sh "$cc" "$library" "$python" "$work"
 
 awk '{ passed += $1; failed += $3 } END { printf "%d passed, %d failed\n", passed, failed; exit failed > 0 }' "$work/counts"
