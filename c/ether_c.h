@@ -18,7 +18,8 @@
  *   Units    Lengths count elements: bytes of frames, targets and texts, structs of `units`.
  *            Offsets count bytes from the start of the frame.
  *   Result   ETHER_DONE, or why the call did nothing. After ETHER_UNKNOWN_START nothing was written
- *            at all; after ETHER_NO_ROOM only the length that the target needs.
+ *            at all; after ETHER_NO_ROOM only the length that the target needs; after ETHER_NO_TEXT
+ *            only the length 0.
  *   Memory   No call allocates, blocks, or stores anything between calls, so calls may run in
  *            parallel. ether_completion and ether_fault_text take some 2.5 KB of stack, the others
  *            less than 1 KB.
@@ -53,7 +54,7 @@ enum ether_status {
     ETHER_UNKNOWN_START = 1,
     /* The target is too short. */
     ETHER_NO_ROOM = 2,
-    /* A text can't be made. No call is known to return it. */
+    /* A text can't be made; only ether_fault_text could return it. */
     ETHER_NO_TEXT = 3
 };
 
@@ -153,7 +154,7 @@ typedef struct ether_fault {
     size_t offset;          /* where the unit starts */
     size_t required_len;    /* the length that the unit requires, from its start */
     size_t len;             /* the length that is available to it */
-    size_t missing;         /* how many further bytes it needs at least, 0 if none would help */
+    size_t missing;         /* the fewest further bytes that it needs, 0 if none would help */
     uint32_t kind;          /* enum ether_fault_kind */
     uint32_t layer;         /* enum ether_layer */
     uint32_t len_source;    /* enum ether_len_source */
@@ -321,7 +322,7 @@ uint32_t ether_completion_limited(uint32_t start, uint16_t ether_type, const uin
                                   size_t len, size_t limit, uint8_t *fill, size_t room,
                                   size_t *fill_len);
 
-/* ether_missing - how many further bytes the unit that is refused needs at least
+/* ether_missing - the minimum number of further bytes that the refused unit needs
  *
  * *missing is 0 if more bytes after the frame would not help: it is accepted, or is refused for its
  * contents or in a closed window. Supplying the missing bytes does not guarantee acceptance. The
@@ -339,7 +340,8 @@ uint32_t ether_missing_limited(uint32_t start, uint16_t ether_type, const uint8_
  * with no 0 byte at its end. *text_len is its length, fewer than 512 bytes; it is 0 if the frame is
  * accepted.
  * Returns ETHER_DONE, ETHER_UNKNOWN_START, or ETHER_NO_ROOM if `room` is smaller than *text_len;
- * then `text` stays as it was.
+ * then `text` stays as it was. ETHER_NO_TEXT is not ruled out by proof, though every refusal in the
+ * tests gives a text; after it *text_len is 0, and `text` stays as it was.
  */
 uint32_t ether_fault_text(uint32_t start, uint16_t ether_type, const uint8_t *bytes, size_t len,
                           char *text, size_t room, size_t *text_len);

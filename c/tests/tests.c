@@ -61,6 +61,18 @@ static void layout(void) {
 
 /* ---- helpers ---- */
 
+/* a refusal has a text, which begins with the offset of the unit; no refusal has none */
+static int has_text(uint32_t start, uint16_t ether_type, const uint8_t *bytes, size_t len,
+                    const ether_fault *fault) {
+    char text[512], front[64];
+    size_t text_len = 99;
+    const int front_len = snprintf(front, sizeof front, "at offset %zu: ", fault->offset);
+    if (ether_fault_text(start, ether_type, bytes, len, text, sizeof text, &text_len) != ETHER_DONE)
+        return 0;
+    if (fault->kind == ETHER_FAULT_NONE) return text_len == 0;
+    return text_len > (size_t)front_len && memcmp(text, front, (size_t)front_len) == 0;
+}
+
 static ether_found summary_of(uint32_t start, uint16_t ether_type, const uint8_t *bytes,
                               size_t len) {
     ether_found found;
@@ -68,6 +80,7 @@ static ether_found summary_of(uint32_t start, uint16_t ether_type, const uint8_t
     memset(&found, 0xA5, sizeof found);
     CHECK(ether_summary(start, ether_type, copied(page, bytes, len), len, &found) == ETHER_DONE);
     release(page);
+    CHECK(has_text(start, ether_type, bytes, len, &found.fault));
     return found;
 }
 
