@@ -1,4 +1,5 @@
--- What the calls from C do, by the start that their numbers name: each says what its call of the walk says.
+-- What the calls from C do, for the start that their numbers name: each says what the call of
+-- ether_peel says.
 use Rattle.std.specs.Prelude.{◌≡◌, ℕ, ◌<◌, ◌≤◌, List, [], ◌++◌, length, drop, Option, Some, None, unwrap_or, Result, Ok, Err, IfOk, IfErr, MatchOption, ◌⊎◌}
 use Rattle.arrayvec.specs.ArrayVec.{ArrayVec}
 use Rattle.etherparse.specs.Types.SliceWriteSpaceError.{SliceWriteSpaceError}
@@ -19,8 +20,9 @@ use Rattle.ether_c.specs.Found.{told_summary, told_feed}
 
 -- ---- summaries
 
--- the summary of the list's one walk, and each number of it is told
-pub record TellsSummary (start : Expectation) (list : List ℕ) (status : ℕ) (told : EtherFound) : Type 0 where
+-- the summary of the list's one walk, as a struct of C
+pub record TellsSummary (start : Expectation) (list : List ℕ)
+    (status : ℕ) (told : EtherFound) : Type 0 where
   pub found : Summary
   pub summary : IsSummary start list found
   pub told_is : told ≡ told_summary found
@@ -38,7 +40,8 @@ written_len (Ok end) = end
 written_len (Err error) = error.required_len
 
 -- the target holds what writing back leaves in it, or is too short and stays as it is
-pub record TellsWriteBack (start : Expectation) (list old new : List ℕ) (status len : ℕ) : Type 0 where
+pub record TellsWriteBack (start : Expectation) (list old new : List ℕ)
+    (status len : ℕ) : Type 0 where
   pub written : Result ℕ SliceWriteSpaceError
   pub ok : IfOk written (λ end. WritesBack start list end old new)
   pub refused : IfErr written (RefusesBack start list old)
@@ -48,8 +51,9 @@ pub record TellsWriteBack (start : Expectation) (list old new : List ℕ) (statu
 
 -- ---- feeding
 
--- what a reader takes of the list, and each number of it is told
-pub record TellsFeed (start : Expectation) (list : List ℕ) (status : ℕ) (told : EtherFed) : Type 0 where
+-- what a reader takes of the list, as a struct of C
+pub record TellsFeed (start : Expectation) (list : List ℕ)
+    (status : ℕ) (told : EtherFed) : Type 0 where
   pub fed : Feed
   pub feed : IsFeed start list fed
   pub told_is : told ≡ told_feed fed
@@ -57,7 +61,8 @@ pub record TellsFeed (start : Expectation) (list : List ℕ) (status : ℕ) (tol
 
 -- ---- missing bytes
 
--- As many bytes are missing of a unit with this fault: 0 if more bytes would not help, since what is missing is never 0.
+-- The number of bytes missing from a unit with this fault, 0 if more bytes would not help: a number
+-- that is missing is never 0.
 pub record MissesOf (f : PeelFault) (n : ℕ) : Type 0 where
   pub missing : Option ℕ
   pub misses : MatchOption missing ((m : ℕ) → Misses f m → ⊥) (Misses f)
@@ -76,7 +81,8 @@ pub record TellsMissing (start : Expectation) (list : List ℕ) (status missing 
 
 -- ---- bytes
 
--- Bytes are put to the front of a target, or it has no room for them and stays as it is; their number is told.
+-- Bytes are written to the front of a target, or it has no room for them and stays as it is. The
+-- length is their number.
 pub record PutsBytes (bytes old new : List ℕ) (status len : ℕ) : Type 0 where
   pub len_is : len ≡ length bytes
   pub put : length bytes ≤ length old → (status ≡ done) × (new ≡ bytes ++ drop (length bytes) old)
@@ -87,18 +93,22 @@ abbrev pub fill_bytes : Option (ArrayVec ℕ) → List ℕ
 fill_bytes None = []
 fill_bytes (Some fill) = fill.items
 
--- the list has a completion, which is put into the target; or it has none, and nothing is put there
-pub record TellsCompletion (start : Expectation) (list old new : List ℕ) (status len : ℕ) : Type 0 where
+-- the list has a completion, which is written to the target; or it has none, and nothing is written
+pub record TellsCompletion (start : Expectation) (list old new : List ℕ)
+    (status len : ℕ) : Type 0 where
   pub found : Option (ArrayVec ℕ)
-  pub completion : MatchOption found (NothingToComplete start list) (λ fill. Completes start list fill.items)
+  pub completion : MatchOption found (NothingToComplete start list)
+      (λ fill. Completes start list fill.items)
   pub puts : PutsBytes (fill_bytes found) old new status len
 
 -- ---- texts
 
--- The text of a fault is put into the target. That it can't be made is not ruled out here: then nothing is put there.
+-- The text of a fault is written to the target. No contract says that a text can be made, so the
+-- call may also give up; then it writes nothing.
 abbrev pub PutsText : PeelFault → (old new : List ℕ) → (status len : ℕ) → Type 0
 PutsText f old new status len =
-    PutsBytes (peel_fault_text f) old new status len ⊎ ((status ≡ no_text) × (len ≡ 0) × (new ≡ old))
+    PutsBytes (peel_fault_text f) old new status len
+    ⊎ ((status ≡ no_text) × (len ≡ 0) × (new ≡ old))
 
 -- no text if there is no fault
 abbrev pub PutsEndText : Option PeelFault → (old new : List ℕ) → (status len : ℕ) → Type 0

@@ -1,4 +1,4 @@
--- Faults, summaries and the feeding of a walk as C is told of them.
+-- Faults, summaries and the feeding of a walk as structs of C.
 use Rattle.std.specs.Prelude.{ℕ, ◌-◌, Option, Some, None, Bool, if◌then◌else◌}
 use Rattle.etherparse.specs.Bytes.{bit}
 use Rattle.etherparse.specs.Types.LenError.{LenError}
@@ -44,8 +44,8 @@ told_length offset closed e = record {
   closed = bit closed;
 }
 
--- By its error: a length; a packet type or a hardware type of a cooked capture that is not supported; the version of
--- a SecTag; its short length. What belongs to another error is 0.
+-- By its error: a length; a packet type or a hardware type of a cooked capture that is not
+-- supported; the version of a SecTag; its short length. What belongs to another error is 0.
 abbrev pub told_error : (offset : ℕ) → (closed : Bool) → PeelError → EtherFault
 told_error offset closed (errors.Len e) = told_length offset closed e
 told_error offset closed (errors.LinuxSll (linux_sll.UnsupportedPacketTypeField n)) =

@@ -28,7 +28,7 @@ no_text = 3
 
 -- ---- what a frame begins with
 
--- the start with a number, if there is one: the ether type is that of the fourth
+-- the start with a number, if there is one; only the fourth has the ether type
 abbrev pub start_numbered : (number ether_type : ℕ) → Option Start
 start_numbered number ether_type =
     if nat_eq number 1 then Some starts.Ethernet2

@@ -7,7 +7,7 @@ use Rattle.ether_c.specs.Numbers.{start_numbered, unknown_start}
 abbrev pub IsUnknown : (number ether_type : ℕ) → Type 0
 IsUnknown number ether_type = start_numbered number ether_type ≡ None
 
--- the call says so, and keeps what it was given to write to
+-- the status says so, and what the call might have written to is kept
 abbrev pub IsRefused : (status : ℕ) → Type 0 → Type 0
 IsRefused status Kept = (status ≡ unknown_start) × Kept
 

@@ -1,4 +1,4 @@
--- The units of a walk as C is told of them.
+-- The units of a walk as structs of C.
 use Rattle.std.specs.Prelude.{ℕ, ◌+◌, ◌*◌, List, [], ◌∷◌, length, replicate, unwrap_or}
 use Rattle.etherparse.specs.Bytes.{bit, spelled}
 use Rattle.etherparse.specs.Macsec.{encrypted_of, changed_of, sci_present_of, readable_type}

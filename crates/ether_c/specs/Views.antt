@@ -1,4 +1,5 @@
--- A view of a unit as its header, and as C is told of it at its places: for the contracts of private functions.
+-- The header that a view of a unit means, and its struct of C with its places: for the contracts of
+-- private functions.
 use Rattle.std.specs.Prelude.{ℕ, ◌-◌, Bool, if◌then◌else◌}
 use Rattle.etherparse.specs.Bytes.{bit}
 use Rattle.etherparse.specs.Ethernet2.{Frame, ethernet2_of}
@@ -14,7 +15,9 @@ use Rattle.ether_c.specs.declared.ether_unit.EtherUnit.{EtherUnit}
 use Rattle.ether_c.specs.Units.{header_number, told_ethernet2, told_linux_sll, told_vlan, told_macsec, told_arp}
 
 abbrev pub ethernet2_header : Frame → Header
-ethernet2_header f = if f.has_fcs then headers.Ethernet2Fcs (ethernet2_of f.bytes) else headers.Ethernet2 (ethernet2_of f.bytes)
+ethernet2_header f =
+    if f.has_fcs then headers.Ethernet2Fcs (ethernet2_of f.bytes)
+    else headers.Ethernet2 (ethernet2_of f.bytes)
 
 -- the header that the bytes of a view mean
 abbrev pub header_of : PeelUnit → Header

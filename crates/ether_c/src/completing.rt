@@ -1,4 +1,4 @@
-//! The bytes that complete a unit of which a frame has only the first bytes.
+//! The bytes that complete the unit in which a frame ends.
 ghost use Rattle.std.specs.Prelude.{◌≡◌};
 ghost use Rattle.ether_peel.specs.Walker.Start.{start_of as start_meant, limited_start};
 ghost use Rattle.ether_c.specs.Starts.{IsUnknown, IsRefused, OfStart};
@@ -9,7 +9,7 @@ use crate::putting::put_bytes;
 use arrayvec::ArrayVec;
 use ether_peel::{completion, completion_limited};
 
-/// The fewest bytes that make a frame accepted that is cut short.
+/// The fewest bytes that, after a frame cut short, make it accepted.
 #[unsafe(no_mangle)]
 pub extern "C" fn ether_completion(
     start: u32,
@@ -18,8 +18,10 @@ pub extern "C" fn ether_completion(
     fill: &mut [u8],
     len: &mut usize,
 ) -> u32
-    ensures unknown { IsUnknown start ether_type → IsRefused result ((fill.new ≡ fill.old) × (len.new ≡ len.old)) }
-    ensures told { OfStart start ether_type (λ s. TellsCompletion (start_meant s) bytes.now fill.old fill.new result len.new) }
+    ensures unknown { IsUnknown start ether_type
+        → IsRefused result ((fill.new ≡ fill.old) × (len.new ≡ len.old)) }
+    ensures told { OfStart start ether_type
+        (λ s. TellsCompletion (start_meant s) bytes.now fill.old fill.new result len.new) }
 {
     let Some(start) = start_of(start, ether_type) else {
         return UNKNOWN_START;
@@ -30,7 +32,7 @@ pub extern "C" fn ether_completion(
     status
 }
 
-/// The same of the walk that reads no more than `limit` VLAN tags and MACsec SecTags.
+/// The same for the walk that reads no more than `limit` VLAN tags and MACsec SecTags.
 #[unsafe(no_mangle)]
 pub extern "C" fn ether_completion_limited(
     start: u32,
@@ -40,8 +42,10 @@ pub extern "C" fn ether_completion_limited(
     fill: &mut [u8],
     len: &mut usize,
 ) -> u32
-    ensures unknown { IsUnknown start ether_type → IsRefused result ((fill.new ≡ fill.old) × (len.new ≡ len.old)) }
-    ensures told { OfStart start ether_type (λ s. TellsCompletion (limited_start s limit) bytes.now fill.old fill.new result len.new) }
+    ensures unknown { IsUnknown start ether_type
+        → IsRefused result ((fill.new ≡ fill.old) × (len.new ≡ len.old)) }
+    ensures told { OfStart start ether_type
+        (λ s. TellsCompletion (limited_start s limit) bytes.now fill.old fill.new result len.new) }
 {
     let Some(start) = start_of(start, ether_type) else {
         return UNKNOWN_START;

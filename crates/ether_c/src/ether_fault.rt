@@ -1,4 +1,4 @@
-//! A unit that is refused, as C is told of it.
+//! A unit that is refused, as a struct of C.
 ghost use Rattle.std.specs.Prelude.{◌≡◌, ◌-◌, if◌then◌else◌};
 ghost use Rattle.ether_peel.specs.declared.peel_error.PeelError.TheVariants as errors;
 ghost use Rattle.ether_c.specs.Found.{told_fault, told_end};
@@ -19,19 +19,20 @@ pub struct EtherFault {
     pub required_len: usize,
     /// The length that is available to it, of a length fault.
     pub len: usize,
-    /// How many bytes it needs at least beyond those that are there; 0 if more bytes would not help.
+    /// The minimum number of further bytes that it needs, 0 if more bytes would not help.
     pub missing: usize,
-    /// 0 none, 1 a length, 2 a packet type, 3 a hardware type, 4 a SecTag's version, 5 its short length.
+    /// 0 none, 1 a length, 2 a packet type, 3 a hardware type, 4 a SecTag's version, 5 its short
+    /// length.
     pub kind: u32,
     /// The layer of a length fault.
     pub layer: u32,
-    /// What named the available length, of a length fault.
+    /// What gave the length that is available or required, of a length fault.
     pub len_source: u32,
     /// The packet type of a cooked capture that is not supported.
     pub packet_type: u16,
     /// The hardware type of a cooked capture that is not supported.
     pub hardware_type: u16,
-    /// 1 if bytes that follow the frame would not belong to the unit, else 0.
+    /// 1 if bytes appended to the frame would lie outside the unit, else 0.
     pub closed: u8,
 }
 
@@ -108,8 +109,8 @@ impl EtherFault {
     }
 }
 
-/// How many bytes a unit that is refused for its length needs at least beyond those that are there; 0 if more bytes
-/// would not help.
+/// The minimum number of further bytes that a unit needs that is refused for its length, 0 if more
+/// bytes would not help.
 #[tactic(auto, using(crate::proofs::Missing::missing_is))]
 fn missing(fault: &PeelFault, error: &LenError) -> usize
     requires { fault.now.error ≡ errors.Len error.now }

@@ -1,4 +1,4 @@
-//! The result of feeding a walk, as C is told of it.
+//! The result of feeding a walk, as a struct of C.
 ghost use Rattle.std.specs.Prelude.{◌≡◌};
 ghost use Rattle.ether_c.specs.Found.{told_feed};
 

@@ -1,4 +1,4 @@
-//! The result of a whole walk, as C is told of it.
+//! The result of a whole walk, as a struct of C.
 ghost use Rattle.std.specs.Prelude.{◌≡◌};
 ghost use Rattle.ether_c.specs.Found.{told_summary};
 
@@ -19,8 +19,8 @@ pub struct EtherFound {
     pub rest_end: usize,
     /// The unit that is refused, if one is.
     pub fault: EtherFault,
-    /// 0 the header that the frame begins with, 1 an ether type, 2 netlink, 3 GRE over IP, 4 a number without a meaning,
-    /// 5 sealed by MACsec, 6 what follows an ARP packet.
+    /// 0 the header that the frame begins with, 1 an ether type, 2 netlink, 3 GRE over IP, 4 a
+    /// number without a meaning, 5 sealed by MACsec, 6 what follows an ARP packet.
     pub rest_kind: u32,
     /// The ether type or protocol number, 0 if there is none.
     pub rest_protocol: u16,

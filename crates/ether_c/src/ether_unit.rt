@@ -1,4 +1,4 @@
-//! A header of a frame and where its payload is, as C is told of them.
+//! A header of a frame and where its payload is, as a struct of C.
 ghost use Rattle.std.specs.Prelude.{◌≡◌, ◌+◌, ◌<◌, ◌^◌};
 ghost use Rattle.etherparse.specs.LinuxSll.{linux_sll_of};
 ghost use Rattle.etherparse.specs.Vlan.{vlan_of};
@@ -108,8 +108,8 @@ pub struct EtherArp {
     pub protocol_size: u8,
 }
 
-/// A header and where its payload is: `ether_unit` in C. Of the five headers, only that of the unit's kind is filled; the
-/// others are 0.
+/// A header and where its payload is: `ether_unit` in C. Of the five headers, only that of the
+/// unit's kind is filled; the others are 0.
 ///
 /// Each bit pattern is a value, so that C may pass memory that it has not written to.
 #[repr(C)]
@@ -125,7 +125,7 @@ pub struct EtherUnit {
     pub payload_end: usize,
     /// 1 Ethernet II, 2 Linux cooked capture, 3 a VLAN tag, 4 a MACsec SecTag, 5 an ARP packet.
     pub kind: u32,
-    /// 1 if bytes that follow the frame would not belong to the payload, else 0.
+    /// 1 if bytes appended to the frame would lie outside the payload, else 0.
     pub closed: u8,
     /// The fields of an Ethernet II header.
     pub ethernet2: EtherEthernet2,
@@ -165,7 +165,8 @@ impl EtherUnit {
     /// A unit at a place.
     pub(crate) fn of(unit: &PeelUnit<'_>, place: Place) -> EtherUnit
         requires { place.offset + header_len (header_of unit.now) ≡ place.payload_start }
-        ensures { result ≡ told_view unit.now place.offset place.payload_start place.payload_end place.closed }
+        ensures { result
+            ≡ told_view unit.now place.offset place.payload_start place.payload_end place.closed }
     {
         let placed = EtherUnit {
             offset: place.offset,

@@ -11,10 +11,11 @@ use arrayvec::ArrayString;
 use ether_peel::{PeelFault, summary, summary_limited};
 use std::fmt::Write;
 
-/// The longest text of a fault has fewer bytes.
+/// The text of every fault is shorter than this.
 const LONGEST: usize = 512;
 
-/// The text of the fault in which the walk through a frame ends, with no 0 byte at its end. Nothing if it ends in none.
+/// The text of the fault in which the walk through a frame ends, with no 0 byte at its end; it is
+/// empty if there is no fault.
 #[unsafe(no_mangle)]
 pub extern "C" fn ether_fault_text(
     start: u32,
@@ -23,8 +24,10 @@ pub extern "C" fn ether_fault_text(
     text: &mut [u8],
     len: &mut usize,
 ) -> u32
-    ensures unknown { IsUnknown start ether_type → IsRefused result ((text.new ≡ text.old) × (len.new ≡ len.old)) }
-    ensures told { OfStart start ether_type (λ s. TellsText (start_meant s) bytes.now text.old text.new result len.new) }
+    ensures unknown { IsUnknown start ether_type
+        → IsRefused result ((text.new ≡ text.old) × (len.new ≡ len.old)) }
+    ensures told { OfStart start ether_type
+        (λ s. TellsText (start_meant s) bytes.now text.old text.new result len.new) }
 {
     let Some(start) = start_of(start, ether_type) else {
         return UNKNOWN_START;
@@ -35,7 +38,7 @@ pub extern "C" fn ether_fault_text(
     status
 }
 
-/// The same of the walk that reads no more than `limit` VLAN tags and MACsec SecTags.
+/// The same for the walk that reads no more than `limit` VLAN tags and MACsec SecTags.
 #[unsafe(no_mangle)]
 pub extern "C" fn ether_fault_text_limited(
     start: u32,
@@ -45,8 +48,10 @@ pub extern "C" fn ether_fault_text_limited(
     text: &mut [u8],
     len: &mut usize,
 ) -> u32
-    ensures unknown { IsUnknown start ether_type → IsRefused result ((text.new ≡ text.old) × (len.new ≡ len.old)) }
-    ensures told { OfStart start ether_type (λ s. TellsText (limited_start s limit) bytes.now text.old text.new result len.new) }
+    ensures unknown { IsUnknown start ether_type
+        → IsRefused result ((text.new ≡ text.old) × (len.new ≡ len.old)) }
+    ensures told { OfStart start ether_type
+        (λ s. TellsText (limited_start s limit) bytes.now text.old text.new result len.new) }
 {
     let Some(start) = start_of(start, ether_type) else {
         return UNKNOWN_START;
@@ -77,7 +82,7 @@ fn put_text(fault: &PeelFault, target: &mut [u8]) -> (u32, usize)
     }
 }
 
-/// The text of a fault. That it is `None` is not ruled out, as of any text that is written.
+/// The text of a fault. `None` is not ruled out, since no contract says that `write!` succeeds.
 fn text_of(fault: &PeelFault) -> Option<ArrayString<LONGEST>>
     ensures { IfSome result (λ text. text.bytes ≡ peel_fault_text fault.now) }
 {

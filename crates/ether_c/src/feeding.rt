@@ -8,11 +8,12 @@ use crate::EtherFed;
 use crate::numbers::{DONE, UNKNOWN_START, start_of};
 use ether_peel::{feed, feed_limited};
 
-/// What a reader takes of a frame that asks for exactly the bytes that the walk needs next.
+/// What a reader takes of a frame if it asks for exactly the bytes that the walk needs next.
 #[unsafe(no_mangle)]
 pub extern "C" fn ether_feed(start: u32, ether_type: u16, bytes: &[u8], fed: &mut EtherFed) -> u32
     ensures unknown { IsUnknown start ether_type → IsRefused result (fed.new ≡ fed.old) }
-    ensures told { OfStart start ether_type (λ s. TellsFeed (start_meant s) bytes.now result fed.new) }
+    ensures told { OfStart start ether_type
+        (λ s. TellsFeed (start_meant s) bytes.now result fed.new) }
 {
     let Some(start) = start_of(start, ether_type) else {
         return UNKNOWN_START;
@@ -31,7 +32,8 @@ pub extern "C" fn ether_feed_limited(
     fed: &mut EtherFed,
 ) -> u32
     ensures unknown { IsUnknown start ether_type → IsRefused result (fed.new ≡ fed.old) }
-    ensures told { OfStart start ether_type (λ s. TellsFeed (limited_start s limit) bytes.now result fed.new) }
+    ensures told { OfStart start ether_type
+        (λ s. TellsFeed (limited_start s limit) bytes.now result fed.new) }
 {
     let Some(start) = start_of(start, ether_type) else {
         return UNKNOWN_START;

@@ -1,4 +1,4 @@
-//! How many bytes a frame that is cut short misses.
+//! The number of bytes that are missing from a frame cut short.
 ghost use Rattle.std.specs.Prelude.{◌≡◌};
 ghost use Rattle.ether_peel.specs.Walker.Start.{start_of as start_meant, limited_start};
 ghost use Rattle.ether_c.specs.Starts.{IsUnknown, IsRefused, OfStart};
@@ -7,7 +7,7 @@ ghost use Rattle.ether_c.specs.Calls.{TellsMissing, MissesAtEnd};
 use crate::numbers::{DONE, UNKNOWN_START, start_of};
 use ether_peel::{PeelFault, summary, summary_limited};
 
-/// How many bytes the unit in which a frame ends needs at least beyond those that are there, 0 if more bytes would not help.
+/// The minimum number of further bytes that the refused unit needs, 0 if more bytes would not help.
 #[unsafe(no_mangle)]
 pub extern "C" fn ether_missing(
     start: u32,
@@ -16,7 +16,8 @@ pub extern "C" fn ether_missing(
     missing: &mut usize,
 ) -> u32
     ensures unknown { IsUnknown start ether_type → IsRefused result (missing.new ≡ missing.old) }
-    ensures told { OfStart start ether_type (λ s. TellsMissing (start_meant s) bytes.now result missing.new) }
+    ensures told { OfStart start ether_type
+        (λ s. TellsMissing (start_meant s) bytes.now result missing.new) }
 {
     let Some(start) = start_of(start, ether_type) else {
         return UNKNOWN_START;
@@ -25,7 +26,7 @@ pub extern "C" fn ether_missing(
     DONE
 }
 
-/// The same of the walk that reads no more than `limit` VLAN tags and MACsec SecTags.
+/// The same for the walk that reads no more than `limit` VLAN tags and MACsec SecTags.
 #[unsafe(no_mangle)]
 pub extern "C" fn ether_missing_limited(
     start: u32,
@@ -35,7 +36,8 @@ pub extern "C" fn ether_missing_limited(
     missing: &mut usize,
 ) -> u32
     ensures unknown { IsUnknown start ether_type → IsRefused result (missing.new ≡ missing.old) }
-    ensures told { OfStart start ether_type (λ s. TellsMissing (limited_start s limit) bytes.now result missing.new) }
+    ensures told { OfStart start ether_type
+        (λ s. TellsMissing (limited_start s limit) bytes.now result missing.new) }
 {
     let Some(start) = start_of(start, ether_type) else {
         return UNKNOWN_START;
@@ -44,7 +46,7 @@ pub extern "C" fn ether_missing_limited(
     DONE
 }
 
-/// How many bytes a walk misses that ends with this fault, or with none.
+/// The number of bytes that are missing at the end of a walk with this fault, or with none.
 fn missing_at_end(fault: &Option<PeelFault>) -> usize
     ensures { MissesAtEnd fault.now result }
 {

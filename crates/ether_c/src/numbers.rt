@@ -18,7 +18,7 @@ pub(crate) const NO_ROOM: u32 = 2;
 /// A text can't be made, and nothing was written.
 pub(crate) const NO_TEXT: u32 = 3;
 
-/// The start with a number. The ether type is that of the fourth.
+/// The start with a number, if there is one. Only the fourth has the ether type.
 pub(crate) fn start_of(number: u32, ether_type: u16) -> Option<Start>
     ensures { result ≡ start_numbered number ether_type }
 {

@@ -18,7 +18,8 @@ pub extern "C" fn ether_summary(
     found: &mut EtherFound,
 ) -> u32
     ensures unknown { IsUnknown start ether_type → IsRefused result (found.new ≡ found.old) }
-    ensures told { OfStart start ether_type (λ s. TellsSummary (start_meant s) bytes.now result found.new) }
+    ensures told { OfStart start ether_type
+        (λ s. TellsSummary (start_meant s) bytes.now result found.new) }
 {
     let Some(start) = start_of(start, ether_type) else {
         return UNKNOWN_START;
@@ -37,9 +38,12 @@ pub extern "C" fn ether_summary_limited(
     found: &mut EtherFound,
 ) -> u32
     ensures unknown { IsUnknown start ether_type → IsRefused result (found.new ≡ found.old) }
-    ensures told { OfStart start ether_type (λ s. TellsSummary (limited_start s limit) bytes.now result found.new) }
+    ensures told { OfStart start ether_type
+        (λ s. TellsSummary (limited_start s limit) bytes.now result found.new) }
     ensures front { OfStart start ether_type (λ s. IsFrontOfUnlimited s bytes.now limit) }
-    ensures spare { OfStart start ether_type (λ s. length bytes.now / 4 < limit → TellsSummary (start_meant s) bytes.now result found.new) }
+    ensures spare { OfStart start ether_type (λ s.
+        length bytes.now / 4 < limit
+        → TellsSummary (start_meant s) bytes.now result found.new) }
 {
     let Some(start) = start_of(start, ether_type) else {
         return UNKNOWN_START;

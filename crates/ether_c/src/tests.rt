@@ -1,4 +1,5 @@
-//! The calls as C makes them: each once, on frames of the standards' layouts. `c/tests` makes them from C, C++ and Python.
+//! The calls as C makes them: each once, on frames of the standards' layouts. `c/tests` makes them
+//! from C, C++ and Python.
 use crate::completing::ether_completion;
 use crate::fault_text::ether_fault_text;
 use crate::feeding::ether_feed;
@@ -11,7 +12,8 @@ use crate::{
     EtherUnit, EtherVlan,
 };
 
-/// An Ethernet II header, a VLAN tag with PCP 5, DEI 1 and VID 0x123, and the first byte of an IPv4 packet.
+/// An Ethernet II header, a VLAN tag with PCP 5, DEI 1 and VID 0x123, and the first byte of an IPv4
+/// packet.
 const TAGGED: [u8; 19] = [
     0xFF, 0xFF, 0xFF, 0xFF, 0xFF, 0xFF, 2, 0, 0, 0, 0, 1, 0x81, 0x00, 0xB1, 0x23, 0x08, 0x00, 0x45,
 ];
@@ -19,7 +21,7 @@ const TAGGED: [u8; 19] = [
 /// The number of a start at an Ethernet II header.
 const ETHERNET2: u32 = 1;
 
-/// Memory of C that was written to before.
+/// Memory of C that was written to earlier.
 const FAULT: EtherFault = EtherFault {
     offset: 9,
     required_len: 9,

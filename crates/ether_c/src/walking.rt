@@ -19,8 +19,10 @@ pub extern "C" fn ether_walk(
     units: &mut [EtherUnit],
     count: &mut usize,
 ) -> u32
-    ensures unknown { IsUnknown start ether_type → IsRefused result ((units.new ≡ units.old) × (count.new ≡ count.old)) }
-    ensures told { OfStart start ether_type (λ s. TellsWalk (start_meant s) bytes.now units.old units.new result count.new) }
+    ensures unknown { IsUnknown start ether_type
+        → IsRefused result ((units.new ≡ units.old) × (count.new ≡ count.old)) }
+    ensures told { OfStart start ether_type
+        (λ s. TellsWalk (start_meant s) bytes.now units.old units.new result count.new) }
 {
     let Some(start) = start_of(start, ether_type) else {
         return UNKNOWN_START;
@@ -29,8 +31,8 @@ pub extern "C" fn ether_walk(
     DONE
 }
 
-/// The units of the walk that reads no more than `limit` VLAN tags and MACsec SecTags, as many as the array has room
-/// for, and how many there are in all.
+/// The units of the walk that reads no more than `limit` VLAN tags and MACsec SecTags, as many as
+/// the array has room for, and how many there are in all.
 #[unsafe(no_mangle)]
 pub extern "C" fn ether_walk_limited(
     start: u32,
@@ -40,8 +42,10 @@ pub extern "C" fn ether_walk_limited(
     units: &mut [EtherUnit],
     count: &mut usize,
 ) -> u32
-    ensures unknown { IsUnknown start ether_type → IsRefused result ((units.new ≡ units.old) × (count.new ≡ count.old)) }
-    ensures told { OfStart start ether_type (λ s. TellsWalk (limited_start s limit) bytes.now units.old units.new result count.new) }
+    ensures unknown { IsUnknown start ether_type
+        → IsRefused result ((units.new ≡ units.old) × (count.new ≡ count.old)) }
+    ensures told { OfStart start ether_type
+        (λ s. TellsWalk (limited_start s limit) bytes.now units.old units.new result count.new) }
 {
     let Some(start) = start_of(start, ether_type) else {
         return UNKNOWN_START;

@@ -17,8 +17,10 @@ pub extern "C" fn ether_write_back(
     target: &mut [u8],
     len: &mut usize,
 ) -> u32
-    ensures unknown { IsUnknown start ether_type → IsRefused result ((target.new ≡ target.old) × (len.new ≡ len.old)) }
-    ensures told { OfStart start ether_type (λ s. TellsWriteBack (start_meant s) bytes.now target.old target.new result len.new) }
+    ensures unknown { IsUnknown start ether_type
+        → IsRefused result ((target.new ≡ target.old) × (len.new ≡ len.old)) }
+    ensures told { OfStart start ether_type
+        (λ s. TellsWriteBack (start_meant s) bytes.now target.old target.new result len.new) }
 {
     let Some(start) = start_of(start, ether_type) else {
         return UNKNOWN_START;
@@ -28,7 +30,8 @@ pub extern "C" fn ether_write_back(
     status
 }
 
-/// Writes the headers of the walk that reads no more than `limit` VLAN tags and MACsec SecTags, and what is left after them.
+/// Writes the headers of the walk that reads no more than `limit` VLAN tags and MACsec SecTags, and
+/// what is left after them.
 #[unsafe(no_mangle)]
 pub extern "C" fn ether_write_back_limited(
     start: u32,
@@ -38,8 +41,10 @@ pub extern "C" fn ether_write_back_limited(
     target: &mut [u8],
     len: &mut usize,
 ) -> u32
-    ensures unknown { IsUnknown start ether_type → IsRefused result ((target.new ≡ target.old) × (len.new ≡ len.old)) }
-    ensures told { OfStart start ether_type (λ s. TellsWriteBack (limited_start s limit) bytes.now target.old target.new result len.new) }
+    ensures unknown { IsUnknown start ether_type
+        → IsRefused result ((target.new ≡ target.old) × (len.new ≡ len.old)) }
+    ensures told { OfStart start ether_type
+        (λ s. TellsWriteBack (limited_start s limit) bytes.now target.old target.new result len.new) }
 {
     let Some(start) = start_of(start, ether_type) else {
         return UNKNOWN_START;
@@ -49,7 +54,8 @@ pub extern "C" fn ether_write_back_limited(
     status
 }
 
-/// What the call returns, and the length that it tells: the bytes that were written, or those that the target has to have.
+/// The status of the call, and its length: the number of bytes that were written, or that the
+/// target needs.
 fn told(written: Result<usize, SliceWriteSpaceError>) -> (u32, usize)
     ensures status { result.0 ≡ written_status written }
     ensures len { result.1 ≡ written_len written }
