@@ -1,4 +1,4 @@
-"""Prints the headers of a frame, which is given as hexadecimal digits: headers.py libether_c.so FFFFFFFFFFFF0200000000018100B123080045"""
+"""Prints the headers of a frame, given as hexadecimal digits: headers.py libether_c.so FFFFFFFFFFFF0200000000018100B123080045"""
 import os
 import sys
 

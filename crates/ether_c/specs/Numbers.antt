@@ -1,4 +1,4 @@
--- The numbers by which enumerations cross to C.
+-- The numbers that stand for enumerations in C.
 use Rattle.std.specs.Prelude.{ℕ, Option, Some, None, nat_eq, if◌then◌else◌}
 use Rattle.etherparse.specs.Types.LenSource.{LenSource}
 use Rattle.etherparse.specs.Types.LenSource.TheVariants as sources

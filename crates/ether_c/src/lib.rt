@@ -1,10 +1,10 @@
 //! The walk through the link-layer headers of a frame, for callers in C. `c/ether_c.h` declares and
 //! documents the calls, and `docs/C.md` says how a program is built with them.
 //!
-//! Each export calls one function of `ether_peel`, in a module of that function's name, and its
-//! contract says what that call says. A struct that crosses has a file of its own, and `specs/`
-//! says each of its fields. Enumerations cross as numbers (`specs/Numbers.antt`), and a start that
-//! has no number is refused. No call allocates memory or keeps a pointer.
+//! Each export calls one function of `ether_peel`, and its contract says what that call says. Each
+//! struct that is passed has a file of its own, and `specs/` says each of its fields. Enumerations are
+//! passed as numbers (`specs/Numbers.antt`), and a start that has no number is refused. No call
+//! allocates memory or keeps a pointer.
 #![tactic(auto)]
 
 pub mod completing;

@@ -1,4 +1,4 @@
-//! The numbers by which enumerations cross to C.
+//! The numbers that stand for enumerations in C.
 ghost use Rattle.std.specs.Prelude.{◌≡◌};
 ghost use Rattle.ether_c.specs.Numbers.{start_numbered, rest_kind_number, rest_protocol_of, layer_number, len_source_number};
 

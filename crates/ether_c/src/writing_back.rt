@@ -44,7 +44,8 @@ pub extern "C" fn ether_write_back_limited(
     ensures unknown { IsUnknown start ether_type
         → IsRefused result ((target.new ≡ target.old) × (len.new ≡ len.old)) }
     ensures told { OfStart start ether_type
-        (λ s. TellsWriteBack (limited_start s limit) bytes.now target.old target.new result len.new) }
+        (λ s. TellsWriteBack (limited_start s limit) bytes.now target.old target.new
+        result len.new) }
 {
     let Some(start) = start_of(start, ether_type) else {
         return UNKNOWN_START;
