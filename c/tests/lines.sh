@@ -1,5 +1,5 @@
-# Compares the lines that tests/lines.c prints by calls from C with those of the tool, on 10,000 drawn frames for each
-# way in which a frame begins: lines.sh CC LIBRARY PYTHON FOLDER
+# Compares the lines that tests/lines.c prints by calls from C with lines of captured frames that are known, and with
+# those of the tool on 10,000 drawn frames for each way in which a frame begins: lines.sh CC LIBRARY PYTHON FOLDER
 cc=$1 library=$2 python=$3 work=$4
 tool=$PWD/../crates/ether_tool/out/ether_tool
 passed=0 failed=0
@@ -16,6 +16,30 @@ if ! (cd ../crates/ether_tool && rt run -- eth < /dev/null) > "$work/tool.log" 2
     exit 1
 fi
 "$cc" -std=c99 -O2 -Wall -Wextra -Wpedantic -Werror -o "$work/lines" tests/lines.c "$library" || exit 1
+
+# a captured frame, the word for what it begins with, and its lines
+known() {
+    lines=$(echo "$1" | "$work/lines" "$2")
+    [ "$lines" = "$3" ]
+    count $? "$2 $1: $lines"
+}
+request=000108000604000102005e100001c0000201000000000000c0000202
+segment=0010dbff100000152c9dcc00810001f7080045000028298d40007d0683a0ac1bca8e451694e2d40a0050dfab9cc6cd1ee5d1501001005a740000000000000000
+known $segment eth 'ethernet2 0 0010dbff1000 00152c9dcc00 0x8100
+vlan 14 pcp 0 dei 0 vid 503 0x0800
+rest 18 64 type 0x0800'
+known ${segment}945dd029 fcs 'ethernet2 0 0010dbff1000 00152c9dcc00 0x8100 fcs 945dd029
+vlan 14 pcp 0 dei 0 vid 503 0x0800
+rest 18 64 type 0x0800'
+known ffffffffffff02005e10000188a8000a810000640806$request eth 'ethernet2 0 ffffffffffff 02005e100001 0x88A8
+vlan 14 pcp 0 dei 0 vid 10 0x8100
+vlan 18 pcp 0 dei 0 vid 100 0x0806
+arp 22 hw 1 proto 0x0800 hlen 6 plen 4 op 1
+rest 50 50 after_arp'
+known 00010001000602005e10000100000806$request sll 'linux_sll 0 packet 1 hw 1 alen 6 addr 02005e1000010000 0x0806
+arp 16 hw 1 proto 0x0800 hlen 6 plen 4 op 1
+rest 44 44 after_arp'
+
 : > "$work/all"
 
 # the frames of a file, with these words for both programs; the tool's status 1 says that a frame is refused
