@@ -1,0 +1,94 @@
+#!/bin/sh
+# Builds the static library, and runs the tests of its callers: in C99 and C++11, with sanitizers if the compiler has
+# them, and from Python. Builds the tool, and compares its lines with those that calls from C give. The last line is
+# 'N passed, M failed'. CC, CXX and PYTHON name other programs.
+set -eu
+cd "$(dirname "$0")"
+export PYTHONDONTWRITEBYTECODE=1
+library=../crates/ether_c/out/libether_c.a
+work=$(mktemp -d)
+trap 'rm -rf "$work"' EXIT
+
+# the first of the compilers that are there which compiles and runs a program with headers of the C library
+compiler_of() {
+    language=$1
+    shift
+    printf '#include <stdint.h>\n#include <stdio.h>\nint main(void) { return 0; }\n' > "$work/probe.c"
+    for compiler in "$@"; do
+        if [ -n "$compiler" ] && "$compiler" -x "$language" "$work/probe.c" -o "$work/probe" > /dev/null 2>&1 && "$work/probe"; then
+            echo "$compiler"
+            return
+        fi
+    done
+}
+
+# the clang of the kit is in its toolchain, next to the page that `rt doc` names; it has no headers of its own
+kit_clang=$work/kit-clang
+printf '#!/bin/sh\nexec %s -isystem %s "$@"\n' "$(dirname "$(rt doc)")/toolchain/bin/clang" "$PWD/tests/freestanding" > "$kit_clang"
+chmod +x "$kit_clang"
+cc=$(compiler_of c "${CC:-}" gcc cc clang "$kit_clang")
+cxx=$(compiler_of c++ "${CXX:-}" g++ c++ clang++ "$cc")
+python=${PYTHON:-python3}
+if [ -z "$cc" ] || [ -z "$cxx" ]; then
+    echo "no compiler was found that has the headers of the C library: install one, or name one in CC and CXX"
+    exit 1
+fi
+if ! "$python" -c 'import ctypes' > /dev/null 2>&1; then
+    echo "no Python with ctypes was found: install one, or name one in PYTHON"
+    exit 1
+fi
+
+if ! (cd ../crates/ether_c && rt lib) > "$work/lib.log" 2>&1; then
+    cat "$work/lib.log"
+    exit 1
+fi
+
+warnings="-Wall -Wextra -Wpedantic -Werror"
+# runs a program or a script, and keeps its counts; one that ends before it prints them has failed
+run() {
+    name=$1
+    shift
+    "$@" > "$work/out" 2>&1 || true
+    grep -v '^[0-9]* passed, [0-9]* failed$' "$work/out" || true
+    counts=$(grep '^[0-9]* passed, [0-9]* failed$' "$work/out" | tail -n 1)
+    counts=${counts:-0 passed, 1 failed}
+    echo "$name: $counts"
+    echo "$counts" >> "$work/counts"
+}
+
+build_and_run() {
+    name=$1
+    out=$work/$2
+    shift 2
+    if "$@" tests/tests.c -x none -o "$out" "$library" > "$work/build.log" 2>&1; then
+        run "$name" "$out"
+    else
+        cat "$work/build.log"
+        run "$name (not built)" false
+    fi
+}
+
+# whether a compiler links and runs a program with these flags
+has() {
+    "$@" "$work/probe.c" -x none -o "$work/probe" > "$work/probe.log" 2>&1 && "$work/probe" > "$work/probe.log" 2>&1
+}
+
+build_and_run "C99, $cc" c99 "$cc" -std=c99 -O2 $warnings -x c
+build_and_run "C++11, $cxx" cxx11 "$cxx" -std=c++11 -O2 $warnings -x c++
+for compiler in "$cc" $(compiler_of c clang); do
+    for sanitizer in address undefined; do
+        flags="-fsanitize=$sanitizer -fno-sanitize-recover=all -g"
+        if has "$compiler" $flags -x c; then
+            build_and_run "C99, $compiler, $sanitizer sanitizer" "$sanitizer" "$compiler" -std=c99 -O1 $flags $warnings -x c
+        else
+            echo "C99, $compiler: no $sanitizer sanitizer"
+        fi
+    done
+done
+
+"$cc" -shared -o "$work/libether_c.so" -Wl,--whole-archive "$library" -Wl,--no-whole-archive
+run "Python, $python" "$python" tests/tests.py "$work/libether_c.so"
+run "The examples" sh tests/examples.sh "$cc" "$library" "$python" "$work"
+run "The lines of the tool" sh tests/lines.sh "$cc" "$library" "$python" "$work"
+
+awk '{ passed += $1; failed += $3 } END { printf "%d passed, %d failed\n", passed, failed; exit failed > 0 }' "$work/counts"

@@ -1,0 +1,7 @@
+pub mod Numbers
+pub mod Starts
+pub mod Found
+pub mod Calls
+pub mod Units
+pub mod Walk
+pub mod Views

@@ -1,0 +1,81 @@
+-- The numbers that stand for enumerations in C.
+use Rattle.std.specs.Prelude.{ℕ, Option, Some, None, nat_eq, if◌then◌else◌}
+use Rattle.etherparse.specs.Types.LenSource.{LenSource}
+use Rattle.etherparse.specs.Types.LenSource.TheVariants as sources
+use Rattle.etherparse.specs.Types.Layer.{Layer}
+use Rattle.etherparse.specs.Types.Layer.TheVariants as layers
+use Rattle.etherparse.specs.Types.LinuxSllProtocolType.{LinuxSllProtocolType}
+use Rattle.etherparse.specs.Types.LinuxSllProtocolType.TheVariants as protocols
+use Rattle.etherparse.specs.LinuxSllProtocolType.{protocol_number}
+use Rattle.ether_peel.specs.declared.start.Start.{Start}
+use Rattle.ether_peel.specs.declared.start.Start.TheVariants as starts
+use Rattle.ether_peel.specs.declared.rest_kind.RestKind.{RestKind}
+use Rattle.ether_peel.specs.declared.rest_kind.RestKind.TheVariants as rests
+
+-- ---- what a call returns
+
+abbrev pub done : ℕ
+done = 0
+
+abbrev pub unknown_start : ℕ
+unknown_start = 1
+
+abbrev pub no_room : ℕ
+no_room = 2
+
+abbrev pub no_text : ℕ
+no_text = 3
+
+-- ---- what a frame begins with
+
+-- the start with a number, if there is one; only the fourth has the ether type
+abbrev pub start_numbered : (number ether_type : ℕ) → Option Start
+start_numbered number ether_type =
+    if nat_eq number 1 then Some starts.Ethernet2
+    else (if nat_eq number 2 then Some starts.Ethernet2Fcs
+    else (if nat_eq number 3 then Some starts.LinuxSll
+    else (if nat_eq number 4 then Some (starts.EtherType (record { 0 = ether_type })) else None)))
+
+-- ---- what is left of a frame
+
+-- a protocol of a cooked capture
+abbrev pub protocol_kind_number : LinuxSllProtocolType → ℕ
+protocol_kind_number (protocols.Ignored n) = 4
+protocol_kind_number (protocols.NetlinkProtocolType n) = 2
+protocol_kind_number (protocols.GenericRoutingEncapsulationProtocolType n) = 3
+protocol_kind_number (protocols.EtherType t) = 1
+protocol_kind_number (protocols.LinuxNonstandardEtherType n) = 1
+
+abbrev pub rest_kind_number : RestKind → ℕ
+rest_kind_number rests.Start = 0
+rest_kind_number (rests.EtherType t) = 1
+rest_kind_number (rests.Sll protocol) = protocol_kind_number protocol
+rest_kind_number rests.Sealed = 5
+rest_kind_number rests.AfterArp = 6
+
+-- the ether type or protocol number, 0 if there is none
+abbrev pub rest_protocol_of : RestKind → ℕ
+rest_protocol_of rests.Start = 0
+rest_protocol_of (rests.EtherType t) = t.0
+rest_protocol_of (rests.Sll protocol) = protocol_number protocol
+rest_protocol_of rests.Sealed = 0
+rest_protocol_of rests.AfterArp = 0
+
+-- ---- faults
+
+-- the layers that a walk names; 0 is none of them
+abbrev pub layer_number : Layer → ℕ
+layer_number layers.Ethernet2Header = 1
+layer_number layers.LinuxSllHeader = 2
+layer_number layers.VlanHeader = 3
+layer_number layers.MacsecHeader = 4
+layer_number layers.MacsecPacket = 5
+layer_number layers.Arp = 6
+layer_number _ = 0
+
+-- the sources of a length that a walk names; 0 is none of them
+abbrev pub len_source_number : LenSource → ℕ
+len_source_number sources.Slice = 1
+len_source_number sources.MacsecShortLength = 2
+len_source_number sources.ArpAddrLengths = 3
+len_source_number _ = 0

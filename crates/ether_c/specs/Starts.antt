@@ -1,0 +1,16 @@
+-- The start that the numbers of a call name.
+use Rattle.std.specs.Prelude.{◌≡◌, ℕ, None, IfSome}
+use Rattle.ether_peel.specs.declared.start.Start.{Start}
+use Rattle.ether_c.specs.Numbers.{start_numbered, unknown_start}
+
+-- no start has these numbers
+abbrev pub IsUnknown : (number ether_type : ℕ) → Type 0
+IsUnknown number ether_type = start_numbered number ether_type ≡ None
+
+-- the status says so, and what the call might have written to is kept
+abbrev pub IsRefused : (status : ℕ) → Type 0 → Type 0
+IsRefused status Kept = (status ≡ unknown_start) × Kept
+
+-- what holds of the start with these numbers, if there is one
+abbrev pub OfStart : (number ether_type : ℕ) → (Start → Type 0) → Type 0
+OfStart number ether_type Holds = IfSome (start_numbered number ether_type) Holds

@@ -1,0 +1,47 @@
+-- The header that a view of a unit means, and its struct of C with its places: for the contracts of
+-- private functions.
+use Rattle.std.specs.Prelude.{ℕ, ◌-◌, Bool, if◌then◌else◌}
+use Rattle.etherparse.specs.Bytes.{bit}
+use Rattle.etherparse.specs.Ethernet2.{Frame, ethernet2_of}
+use Rattle.etherparse.specs.LinuxSll.{linux_sll_of}
+use Rattle.etherparse.specs.Vlan.{vlan_of}
+use Rattle.etherparse.specs.Macsec.{sec_tag_of, tag_bytes}
+use Rattle.etherparse.specs.Arp.{arp_of}
+use Rattle.etherparse.specs.Header.{Header}
+use Rattle.etherparse.specs.Header as headers
+use Rattle.ether_peel.specs.declared.peel_unit.PeelUnit.{PeelUnit}
+use Rattle.ether_peel.specs.declared.peel_unit.PeelUnit.TheVariants as units
+use Rattle.ether_c.specs.declared.ether_unit.EtherUnit.{EtherUnit}
+use Rattle.ether_c.specs.Units.{header_number, told_ethernet2, told_linux_sll, told_vlan, told_macsec, told_arp}
+
+abbrev pub ethernet2_header : Frame → Header
+ethernet2_header f =
+    if f.has_fcs then headers.Ethernet2Fcs (ethernet2_of f.bytes)
+    else headers.Ethernet2 (ethernet2_of f.bytes)
+
+-- the header that the bytes of a view mean
+abbrev pub header_of : PeelUnit → Header
+header_of (units.Ethernet2 frame) = ethernet2_header frame
+header_of (units.LinuxSll bytes) = headers.LinuxSll (linux_sll_of bytes)
+header_of (units.Vlan bytes) = headers.Vlan (vlan_of bytes)
+header_of (units.Macsec packet) = headers.Macsec (sec_tag_of (tag_bytes packet.header))
+header_of (units.Arp bytes) = headers.Arp (arp_of bytes)
+
+-- a header that starts at a place, with the places of its payload and the mark of that
+abbrev pub told_placed : Header → (offset start finish : ℕ) → (closed : Bool) → EtherUnit
+told_placed h offset start finish closed = record {
+  offset = offset;
+  header_len = start - offset;
+  payload_start = start;
+  payload_end = finish;
+  kind = header_number h;
+  closed = bit closed;
+  ethernet2 = told_ethernet2 h;
+  linux_sll = told_linux_sll h;
+  vlan = told_vlan h;
+  macsec = told_macsec h;
+  arp = told_arp offset h;
+}
+
+abbrev pub told_view : PeelUnit → (offset start finish : ℕ) → (closed : Bool) → EtherUnit
+told_view u = told_placed (header_of u)

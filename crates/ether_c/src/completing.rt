@@ -1,0 +1,67 @@
+//! The bytes that complete the unit in which a frame ends.
+ghost use Rattle.std.specs.Prelude.{◌≡◌};
+ghost use Rattle.ether_peel.specs.Walker.Start.{start_of as start_meant, limited_start};
+ghost use Rattle.ether_c.specs.Starts.{IsUnknown, IsRefused, OfStart};
+ghost use Rattle.ether_c.specs.Calls.{TellsCompletion, PutsBytes, fill_bytes};
+
+use crate::numbers::{DONE, UNKNOWN_START, start_of};
+use crate::putting::put_bytes;
+use arrayvec::ArrayVec;
+use ether_peel::{completion, completion_limited};
+
+/// The fewest bytes that, after a frame cut short, make it accepted.
+#[unsafe(no_mangle)]
+pub extern "C" fn ether_completion(
+    start: u32,
+    ether_type: u16,
+    bytes: &[u8],
+    fill: &mut [u8],
+    len: &mut usize,
+) -> u32
+    ensures unknown { IsUnknown start ether_type
+        → IsRefused result ((fill.new ≡ fill.old) × (len.new ≡ len.old)) }
+    ensures told { OfStart start ether_type
+        (λ s. TellsCompletion (start_meant s) bytes.now fill.old fill.new result len.new) }
+{
+    let Some(start) = start_of(start, ether_type) else {
+        return UNKNOWN_START;
+    };
+    let found = completion(start, bytes);
+    let (status, needed) = put_fill(&found, fill);
+    *len = needed;
+    status
+}
+
+/// The same for the walk that reads no more than `limit` VLAN tags and MACsec SecTags.
+#[unsafe(no_mangle)]
+pub extern "C" fn ether_completion_limited(
+    start: u32,
+    ether_type: u16,
+    bytes: &[u8],
+    limit: usize,
+    fill: &mut [u8],
+    len: &mut usize,
+) -> u32
+    ensures unknown { IsUnknown start ether_type
+        → IsRefused result ((fill.new ≡ fill.old) × (len.new ≡ len.old)) }
+    ensures told { OfStart start ether_type
+        (λ s. TellsCompletion (limited_start s limit) bytes.now fill.old fill.new result len.new) }
+{
+    let Some(start) = start_of(start, ether_type) else {
+        return UNKNOWN_START;
+    };
+    let found = completion_limited(start, bytes, limit);
+    let (status, needed) = put_fill(&found, fill);
+    *len = needed;
+    status
+}
+
+/// Writes the bytes of a completion, if there is one, to the front of a target.
+fn put_fill(found: &Option<ArrayVec<u8, 1028>>, target: &mut [u8]) -> (u32, usize)
+    ensures { PutsBytes (fill_bytes found.now) target.old target.new result.0 result.1 }
+{
+    match found {
+        Some(fill) => put_bytes(fill.as_slice(), target),
+        None => (DONE, 0),
+    }
+}

@@ -1,0 +1,43 @@
+//! A walk that receives a frame piece by piece.
+ghost use Rattle.std.specs.Prelude.{◌≡◌};
+ghost use Rattle.ether_peel.specs.Walker.Start.{start_of as start_meant, limited_start};
+ghost use Rattle.ether_c.specs.Starts.{IsUnknown, IsRefused, OfStart};
+ghost use Rattle.ether_c.specs.Calls.{TellsFeed};
+
+use crate::EtherFed;
+use crate::numbers::{DONE, UNKNOWN_START, start_of};
+use ether_peel::{feed, feed_limited};
+
+/// What a reader takes of a frame if it asks for exactly the bytes that the walk needs next.
+#[unsafe(no_mangle)]
+pub extern "C" fn ether_feed(start: u32, ether_type: u16, bytes: &[u8], fed: &mut EtherFed) -> u32
+    ensures unknown { IsUnknown start ether_type → IsRefused result (fed.new ≡ fed.old) }
+    ensures told { OfStart start ether_type
+        (λ s. TellsFeed (start_meant s) bytes.now result fed.new) }
+{
+    let Some(start) = start_of(start, ether_type) else {
+        return UNKNOWN_START;
+    };
+    *fed = EtherFed::of(&feed(start, bytes));
+    DONE
+}
+
+/// Feeds the walk that reads no more than `limit` VLAN tags and MACsec SecTags.
+#[unsafe(no_mangle)]
+pub extern "C" fn ether_feed_limited(
+    start: u32,
+    ether_type: u16,
+    bytes: &[u8],
+    limit: usize,
+    fed: &mut EtherFed,
+) -> u32
+    ensures unknown { IsUnknown start ether_type → IsRefused result (fed.new ≡ fed.old) }
+    ensures told { OfStart start ether_type
+        (λ s. TellsFeed (limited_start s limit) bytes.now result fed.new) }
+{
+    let Some(start) = start_of(start, ether_type) else {
+        return UNKNOWN_START;
+    };
+    *fed = EtherFed::of(&feed_limited(start, bytes, limit));
+    DONE
+}

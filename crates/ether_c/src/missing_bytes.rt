@@ -1,0 +1,57 @@
+//! The number of bytes that are missing from a frame cut short.
+ghost use Rattle.std.specs.Prelude.{◌≡◌};
+ghost use Rattle.ether_peel.specs.Walker.Start.{start_of as start_meant, limited_start};
+ghost use Rattle.ether_c.specs.Starts.{IsUnknown, IsRefused, OfStart};
+ghost use Rattle.ether_c.specs.Calls.{TellsMissing, MissesAtEnd};
+
+use crate::numbers::{DONE, UNKNOWN_START, start_of};
+use ether_peel::{PeelFault, summary, summary_limited};
+
+/// The minimum number of further bytes that the refused unit needs, 0 if more bytes would not help.
+#[unsafe(no_mangle)]
+pub extern "C" fn ether_missing(
+    start: u32,
+    ether_type: u16,
+    bytes: &[u8],
+    missing: &mut usize,
+) -> u32
+    ensures unknown { IsUnknown start ether_type → IsRefused result (missing.new ≡ missing.old) }
+    ensures told { OfStart start ether_type
+        (λ s. TellsMissing (start_meant s) bytes.now result missing.new) }
+{
+    let Some(start) = start_of(start, ether_type) else {
+        return UNKNOWN_START;
+    };
+    *missing = missing_at_end(&summary(start, bytes).fault);
+    DONE
+}
+
+/// The same for the walk that reads no more than `limit` VLAN tags and MACsec SecTags.
+#[unsafe(no_mangle)]
+pub extern "C" fn ether_missing_limited(
+    start: u32,
+    ether_type: u16,
+    bytes: &[u8],
+    limit: usize,
+    missing: &mut usize,
+) -> u32
+    ensures unknown { IsUnknown start ether_type → IsRefused result (missing.new ≡ missing.old) }
+    ensures told { OfStart start ether_type
+        (λ s. TellsMissing (limited_start s limit) bytes.now result missing.new) }
+{
+    let Some(start) = start_of(start, ether_type) else {
+        return UNKNOWN_START;
+    };
+    *missing = missing_at_end(&summary_limited(start, bytes, limit).fault);
+    DONE
+}
+
+/// The number of bytes that are missing at the end of a walk with this fault, or with none.
+fn missing_at_end(fault: &Option<PeelFault>) -> usize
+    ensures { MissesAtEnd fault.now result }
+{
+    match fault {
+        Some(fault) => fault.missing().unwrap_or(0),
+        None => 0,
+    }
+}

@@ -1,0 +1,87 @@
+//! The numbers that stand for enumerations in C.
+ghost use Rattle.std.specs.Prelude.{◌≡◌};
+ghost use Rattle.ether_c.specs.Numbers.{start_numbered, rest_kind_number, rest_protocol_of, layer_number, len_source_number};
+
+use ether_peel::{RestKind, Start};
+use etherparse::err::Layer;
+use etherparse::{EtherType, LenSource, LinuxSllProtocolType};
+
+/// The call has done its work.
+pub(crate) const DONE: u32 = 0;
+
+/// No start has the number that was passed, and nothing was written.
+pub(crate) const UNKNOWN_START: u32 = 1;
+
+/// The target is too short, and was not written to.
+pub(crate) const NO_ROOM: u32 = 2;
+
+/// A text can't be made, and nothing was written.
+pub(crate) const NO_TEXT: u32 = 3;
+
+/// The start with a number, if there is one. Only the fourth has the ether type.
+pub(crate) fn start_of(number: u32, ether_type: u16) -> Option<Start>
+    ensures { result ≡ start_numbered number ether_type }
+{
+    match number {
+        1 => Some(Start::Ethernet2),
+        2 => Some(Start::Ethernet2Fcs),
+        3 => Some(Start::LinuxSll),
+        4 => Some(Start::EtherType(EtherType(ether_type))),
+        _ => None,
+    }
+}
+
+/// The number of what is left of a frame.
+pub(crate) fn rest_kind(kind: RestKind) -> u32
+    ensures { result ≡ rest_kind_number kind }
+{
+    match kind {
+        RestKind::Start => 0,
+        RestKind::EtherType(_)
+        | RestKind::Sll(LinuxSllProtocolType::EtherType(_))
+        | RestKind::Sll(LinuxSllProtocolType::LinuxNonstandardEtherType(_)) => 1,
+        RestKind::Sll(LinuxSllProtocolType::NetlinkProtocolType(_)) => 2,
+        RestKind::Sll(LinuxSllProtocolType::GenericRoutingEncapsulationProtocolType(_)) => 3,
+        RestKind::Sll(LinuxSllProtocolType::Ignored(_)) => 4,
+        RestKind::Sealed => 5,
+        RestKind::AfterArp => 6,
+    }
+}
+
+/// The ether type or protocol number of what is left of a frame, 0 if it has none.
+pub(crate) fn rest_protocol(kind: RestKind) -> u16
+    ensures { result ≡ rest_protocol_of kind }
+{
+    match kind {
+        RestKind::EtherType(ether_type) => ether_type.0,
+        RestKind::Sll(protocol) => u16::from(protocol),
+        RestKind::Start | RestKind::Sealed | RestKind::AfterArp => 0,
+    }
+}
+
+/// The number of a layer that a walk names, 0 for any other.
+pub(crate) fn layer(layer: Layer) -> u32
+    ensures { result ≡ layer_number layer }
+{
+    match layer {
+        Layer::Ethernet2Header => 1,
+        Layer::LinuxSllHeader => 2,
+        Layer::VlanHeader => 3,
+        Layer::MacsecHeader => 4,
+        Layer::MacsecPacket => 5,
+        Layer::Arp => 6,
+        _ => 0,
+    }
+}
+
+/// The number of a source of a length that a walk names, 0 for any other.
+pub(crate) fn len_source(source: LenSource) -> u32
+    ensures { result ≡ len_source_number source }
+{
+    match source {
+        LenSource::Slice => 1,
+        LenSource::MacsecShortLength => 2,
+        LenSource::ArpAddrLengths => 3,
+        _ => 0,
+    }
+}

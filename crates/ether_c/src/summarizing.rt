@@ -1,0 +1,53 @@
+//! The whole walk through a frame in one call.
+ghost use Rattle.std.specs.Prelude.{◌≡◌, ◌/◌, ◌<◌, length};
+ghost use Rattle.ether_peel.specs.Walker.Start.{start_of as start_meant, limited_start};
+ghost use Rattle.ether_peel.specs.Walker.Limits.{IsFrontOfUnlimited};
+ghost use Rattle.ether_c.specs.Starts.{IsUnknown, IsRefused, OfStart};
+ghost use Rattle.ether_c.specs.Calls.{TellsSummary};
+
+use crate::EtherFound;
+use crate::numbers::{DONE, UNKNOWN_START, start_of};
+use ether_peel::{summary, summary_limited};
+
+/// The result of the walk through a frame.
+#[unsafe(no_mangle)]
+pub extern "C" fn ether_summary(
+    start: u32,
+    ether_type: u16,
+    bytes: &[u8],
+    found: &mut EtherFound,
+) -> u32
+    ensures unknown { IsUnknown start ether_type → IsRefused result (found.new ≡ found.old) }
+    ensures told { OfStart start ether_type
+        (λ s. TellsSummary (start_meant s) bytes.now result found.new) }
+{
+    let Some(start) = start_of(start, ether_type) else {
+        return UNKNOWN_START;
+    };
+    *found = EtherFound::of(&summary(start, bytes));
+    DONE
+}
+
+/// The result of the walk that reads no more than `limit` VLAN tags and MACsec SecTags.
+#[unsafe(no_mangle)]
+pub extern "C" fn ether_summary_limited(
+    start: u32,
+    ether_type: u16,
+    bytes: &[u8],
+    limit: usize,
+    found: &mut EtherFound,
+) -> u32
+    ensures unknown { IsUnknown start ether_type → IsRefused result (found.new ≡ found.old) }
+    ensures told { OfStart start ether_type
+        (λ s. TellsSummary (limited_start s limit) bytes.now result found.new) }
+    ensures front { OfStart start ether_type (λ s. IsFrontOfUnlimited s bytes.now limit) }
+    ensures spare { OfStart start ether_type (λ s.
+        length bytes.now / 4 < limit
+        → TellsSummary (start_meant s) bytes.now result found.new) }
+{
+    let Some(start) = start_of(start, ether_type) else {
+        return UNKNOWN_START;
+    };
+    *found = EtherFound::of(&summary_limited(start, bytes, limit));
+    DONE
+}

@@ -1,0 +1,100 @@
+//! The units of a frame in an array.
+ghost use Rattle.std.specs.Prelude.{◌≡◌, slice_set};
+ghost use Rattle.ether_peel.specs.Walker.Start.{start_of as start_meant, limited_start, start_with};
+ghost use Rattle.ether_peel.specs.Walker.Next.{begun, FacesWalk};
+ghost use Rattle.ether_c.specs.Starts.{IsUnknown, IsRefused, OfStart};
+ghost use Rattle.ether_c.specs.Walk.{TellsWalk, TellsUnits};
+
+use crate::EtherUnit;
+use crate::ether_unit::Place;
+use crate::numbers::{DONE, UNKNOWN_START, start_of};
+use ether_peel::{Peel, Start};
+
+/// The units of a frame, as many as the array has room for, and how many there are in all.
+#[unsafe(no_mangle)]
+pub extern "C" fn ether_walk(
+    start: u32,
+    ether_type: u16,
+    bytes: &[u8],
+    units: &mut [EtherUnit],
+    count: &mut usize,
+) -> u32
+    ensures unknown { IsUnknown start ether_type
+        → IsRefused result ((units.new ≡ units.old) × (count.new ≡ count.old)) }
+    ensures told { OfStart start ether_type
+        (λ s. TellsWalk (start_meant s) bytes.now units.old units.new result count.new) }
+{
+    let Some(start) = start_of(start, ether_type) else {
+        return UNKNOWN_START;
+    };
+    *count = walked(start, bytes, None, units);
+    DONE
+}
+
+/// The units of the walk that reads no more than `limit` VLAN tags and MACsec SecTags, as many as
+/// the array has room for, and how many there are in all.
+#[unsafe(no_mangle)]
+pub extern "C" fn ether_walk_limited(
+    start: u32,
+    ether_type: u16,
+    bytes: &[u8],
+    limit: usize,
+    units: &mut [EtherUnit],
+    count: &mut usize,
+) -> u32
+    ensures unknown { IsUnknown start ether_type
+        → IsRefused result ((units.new ≡ units.old) × (count.new ≡ count.old)) }
+    ensures told { OfStart start ether_type
+        (λ s. TellsWalk (limited_start s limit) bytes.now units.old units.new result count.new) }
+{
+    let Some(start) = start_of(start, ether_type) else {
+        return UNKNOWN_START;
+    };
+    *count = walked(start, bytes, Some(limit), units);
+    DONE
+}
+
+/// The units of a walk with a limit on extensions or without, and how many there are in all.
+fn walked(start: Start, bytes: &[u8], limit: Option<usize>, units: &mut [EtherUnit]) -> usize
+    ensures { TellsUnits (start_with start limit) bytes.now units.old units.new result }
+{
+    let mut peel = begun_walk(start, bytes, limit);
+    let mut count = 0;
+    loop {
+        let offset = peel.offset();
+        match peel.next() {
+            Some(Ok(unit)) => {
+                let place = Place {
+                    offset,
+                    payload_start: peel.offset(),
+                    payload_end: peel.offset() + peel.rest().len(),
+                    closed: peel.closed(),
+                };
+                put(units, count, EtherUnit::of(&unit, place));
+                count += 1;
+            }
+            Some(Err(_)) => return count,
+            None => return count,
+        }
+    }
+}
+
+/// A walk that has read nothing yet, with a limit on extensions or without.
+fn begun_walk<'a>(start: Start, bytes: &'a [u8], limit: Option<usize>) -> Peel<'a>
+    ensures state { result ≡ begun (start_with start limit) bytes.now }
+    ensures walk { FacesWalk (start_with start limit) bytes.now result }
+{
+    match limit {
+        Some(limit) => Peel::with_limit(start, bytes, limit),
+        None => Peel::new(start, bytes),
+    }
+}
+
+/// Writes a unit to its place, if the array has it.
+fn put(units: &mut [EtherUnit], at: usize, unit: EtherUnit)
+    ensures { units.new ≡ slice_set units.old at unit }
+{
+    if at < units.len() {
+        units[at] = unit;
+    }
+}

@@ -1,0 +1,68 @@
+//! Headers written back before the rest.
+ghost use Rattle.std.specs.Prelude.{◌≡◌};
+ghost use Rattle.ether_peel.specs.Walker.Start.{start_of as start_meant, limited_start};
+ghost use Rattle.ether_c.specs.Starts.{IsUnknown, IsRefused, OfStart};
+ghost use Rattle.ether_c.specs.Calls.{TellsWriteBack, written_status, written_len};
+
+use crate::numbers::{DONE, NO_ROOM, UNKNOWN_START, start_of};
+use ether_peel::{write_back, write_back_limited};
+use etherparse::err::SliceWriteSpaceError;
+
+/// Writes the headers of a frame, and what is left after them, to the front of a target.
+#[unsafe(no_mangle)]
+pub extern "C" fn ether_write_back(
+    start: u32,
+    ether_type: u16,
+    bytes: &[u8],
+    target: &mut [u8],
+    len: &mut usize,
+) -> u32
+    ensures unknown { IsUnknown start ether_type
+        → IsRefused result ((target.new ≡ target.old) × (len.new ≡ len.old)) }
+    ensures told { OfStart start ether_type
+        (λ s. TellsWriteBack (start_meant s) bytes.now target.old target.new result len.new) }
+{
+    let Some(start) = start_of(start, ether_type) else {
+        return UNKNOWN_START;
+    };
+    let (status, end) = told(write_back(start, bytes, target));
+    *len = end;
+    status
+}
+
+/// Writes the headers of the walk that reads no more than `limit` VLAN tags and MACsec SecTags, and
+/// what is left after them.
+#[unsafe(no_mangle)]
+pub extern "C" fn ether_write_back_limited(
+    start: u32,
+    ether_type: u16,
+    bytes: &[u8],
+    limit: usize,
+    target: &mut [u8],
+    len: &mut usize,
+) -> u32
+    ensures unknown { IsUnknown start ether_type
+        → IsRefused result ((target.new ≡ target.old) × (len.new ≡ len.old)) }
+    ensures told { OfStart start ether_type
+        (λ s. TellsWriteBack (limited_start s limit) bytes.now target.old target.new
+        result len.new) }
+{
+    let Some(start) = start_of(start, ether_type) else {
+        return UNKNOWN_START;
+    };
+    let (status, end) = told(write_back_limited(start, bytes, target, limit));
+    *len = end;
+    status
+}
+
+/// The status of the call, and its length: the number of bytes that were written, or that the
+/// target needs.
+fn told(written: Result<usize, SliceWriteSpaceError>) -> (u32, usize)
+    ensures status { result.0 ≡ written_status written }
+    ensures len { result.1 ≡ written_len written }
+{
+    match written {
+        Ok(end) => (DONE, end),
+        Err(error) => (NO_ROOM, error.required_len),
+    }
+}
