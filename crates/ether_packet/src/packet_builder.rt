@@ -40,17 +40,17 @@ pub enum PacketContent<'a> {
 /// assert_eq!(rt; target[12..], [0x81, 0x00, 0x00, 0x64, 0x08, 0x00, 0x45]);
 /// ```
 #[derive(Debug, Drop)]
-pub struct PacketBuilder<'a> {
+pub struct PacketBuilder<'a, 'b> {
     /// The header that the packet begins with; of cooked capture one of Ethernet.
     pub link: LinkHeader,
     /// The VLAN tags and SecTags, the outermost first. Only the last one, before a payload, may be a SecTag whose
     /// payload is encrypted or changed.
     pub link_exts: &'a [LinkExtHeader],
     /// What follows them.
-    pub content: PacketContent<'a>,
+    pub content: PacketContent<'b>,
 }
 
-impl<'a> PacketBuilder<'a> {
+impl<'a, 'b> PacketBuilder<'a, 'b> {
     /// The length of the packet in bytes.
     pub fn size(&self) -> usize
         ensures { result ≡ packet_len self.now }
