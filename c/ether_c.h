@@ -27,7 +27,7 @@
  *            ether_write_back also copies the frame.
  *   Limits   Each call has a form `.._limited`, which reads no more than `limit` VLAN tags and
  *            SecTags. After these, the ether type of a tag announces nothing: the walk ends there,
- *            with no fault. A limit above len / 4 changes nothing.
+ *            with no fault.
  */
 #ifndef ETHER_C_H
 #define ETHER_C_H
@@ -256,7 +256,8 @@ typedef struct ether_unit {
  * Fills *found with the number of units, the window that is left and its announced kind, and the
  * fault if a unit is refused.
  * Returns ETHER_DONE or ETHER_UNKNOWN_START. A frame that is refused is ETHER_DONE, with
- * found->fault.kind other than ETHER_FAULT_NONE.
+ * found->fault.kind other than ETHER_FAULT_NONE. The form with a limit above len / 4 fills *found
+ * as the form without one does.
  */
 uint32_t ether_summary(uint32_t start, uint16_t ether_type, const uint8_t *bytes, size_t len,
                        ether_found *found);

@@ -5,7 +5,11 @@ ghost use Rattle.ether_c.specs.Found.{told_fault, told_end};
 
 use crate::numbers;
 use ether_peel::{PeelError, PeelFault};
-use etherparse::err::{LenError, linux_sll, macsec};
+use etherparse::err::LenError;
+use etherparse::err::linux_sll::HeaderError::{
+    UnsupportedArpHardwareId, UnsupportedPacketTypeField,
+};
+use etherparse::err::macsec::HeaderError::{InvalidUnmodifiedShortLen, UnexpectedVersion};
 
 /// A unit that is refused, or none: `ether_fault` in C.
 ///
@@ -75,36 +79,26 @@ impl EtherFault {
         };
         match &fault.error {
             PeelError::Len(error) => EtherFault {
+                kind: 1,
                 required_len: error.required_len,
                 len: error.len,
                 missing: missing(fault, error),
-                kind: 1,
                 layer: numbers::layer(error.layer),
                 len_source: numbers::len_source(error.len_source),
                 ..placed
             },
-            PeelError::LinuxSll(
-                linux_sll::HeaderError::UnsupportedPacketTypeField { packet_type },
-            ) => EtherFault {
+            PeelError::LinuxSll(UnsupportedPacketTypeField { packet_type }) => EtherFault {
                 kind: 2,
                 packet_type: *packet_type,
                 ..placed
             },
-            PeelError::LinuxSll(
-                linux_sll::HeaderError::UnsupportedArpHardwareId { arp_hardware_type },
-            ) => EtherFault {
+            PeelError::LinuxSll(UnsupportedArpHardwareId { arp_hardware_type }) => EtherFault {
                 kind: 3,
                 hardware_type: arp_hardware_type.0,
                 ..placed
             },
-            PeelError::Macsec(macsec::HeaderError::UnexpectedVersion) => EtherFault {
-                kind: 4,
-                ..placed
-            },
-            PeelError::Macsec(macsec::HeaderError::InvalidUnmodifiedShortLen) => EtherFault {
-                kind: 5,
-                ..placed
-            },
+            PeelError::Macsec(UnexpectedVersion) => EtherFault { kind: 4, ..placed },
+            PeelError::Macsec(InvalidUnmodifiedShortLen) => EtherFault { kind: 5, ..placed },
         }
     }
 }

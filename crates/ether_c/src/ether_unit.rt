@@ -162,6 +162,20 @@ pub(crate) struct Place {
 }
 
 impl EtherUnit {
+    const NONE: EtherUnit = EtherUnit {
+        offset: 0,
+        header_len: 0,
+        payload_start: 0,
+        payload_end: 0,
+        kind: 0,
+        closed: 0,
+        ethernet2: EtherEthernet2::NONE,
+        linux_sll: EtherLinuxSll::NONE,
+        vlan: EtherVlan::NONE,
+        macsec: EtherMacsec::NONE,
+        arp: EtherArp::NONE,
+    };
+
     /// A unit at a place.
     pub(crate) fn of(unit: &PeelUnit<'_>, place: Place) -> EtherUnit
         requires { place.offset + header_len (header_of unit.now) ≡ place.payload_start }
@@ -173,13 +187,8 @@ impl EtherUnit {
             header_len: place.payload_start - place.offset,
             payload_start: place.payload_start,
             payload_end: place.payload_end,
-            kind: 0,
             closed: u8::from(place.closed),
-            ethernet2: EtherEthernet2::NONE,
-            linux_sll: EtherLinuxSll::NONE,
-            vlan: EtherVlan::NONE,
-            macsec: EtherMacsec::NONE,
-            arp: EtherArp::NONE,
+            ..EtherUnit::NONE
         };
         match unit {
             PeelUnit::Ethernet2(frame) => EtherUnit {

@@ -97,7 +97,12 @@ pub record IsSealedAt (hs : List Header) (i : ℕ) : Type 0 where
   pub readable : AllReadable front
   pub unreadable : is_readable sealed ≡ false
 
+-- a header of cooked capture of another link than Ethernet is refused with its hardware type
+abbrev pub IsOtherLink : LinkHeader → BuildError → Type 0
+IsOtherLink (links.LinuxSll h) e = (e ≡ errors.HardwareType h.arp_hrd_type) × (h.arp_hrd_type.0 ≡ 1 → ⊥)
+IsOtherLink (links.Ethernet2 h) e = ⊥
+
 pub data RefusesPacket (p : PacketBuilder) (target : List ℕ) : BuildError → Type 0 where
-  hardware_type : (IsEthernet p.link → ⊥) → RefusesPacket p target errors.HardwareType
+  hardware_type : (e : BuildError) → IsOtherLink p.link e → RefusesPacket p target e
   sealed : (i : ℕ) → IsEthernet p.link → IsSealedAt (inner_headers p) i → RefusesPacket p target (errors.Sealed i)
   space : (e : SliceWriteSpaceError) → IsEthernet p.link → IsChain (inner_headers p) → IsRefusedSpace (packet_len p) layers.EtherPayload target e → RefusesPacket p target (errors.Space e)

@@ -4,3 +4,4 @@ pub mod Getters
 pub mod Adding
 pub mod Building
 pub mod Builder
+pub mod Texts

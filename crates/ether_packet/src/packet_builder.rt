@@ -1,10 +1,10 @@
 //! A packet to be written.
-ghost use Rattle.std.specs.Prelude.{◌≡◌, ℕ, ◌+◌, ◌^◌, ◌<◌, ◌≤◌, ◌++◌, length, map, drop, IsTrue, ◌↔◌, IfOk, IfErr, OnOk, OnErr};
+ghost use Rattle.std.specs.Prelude.{◌≡◌, ℕ, ◌+◌, ◌^◌, ◌<◌, ◌≤◌, ◌++◌, length, map, drop, IfOk, IfErr, OnOk, OnErr};
 ghost use Rattle.etherparse.specs.Bytes.{overwritten};
 ghost use Rattle.etherparse.specs.LinkExt.{ext_header_view};
 ghost use Rattle.etherparse.specs.Header.{FitsHeader, header_bytes, header_len};
 ghost use Rattle.ether_packet.specs.Building.{type_of, before as header_before, is_readable, IsChain, AllFit};
-ghost use Rattle.ether_packet.specs.Builder.{link_header, content_headers, content_type, content_bytes, content_len as content_len_of, inner_headers, packet_len, IsEthernet, HasPacketType, IsSealedAt, IsWritten, RefusesPacket};
+ghost use Rattle.ether_packet.specs.Builder.{link_header, content_headers, content_type, content_bytes, content_len as content_len_of, inner_headers, packet_len, IsEthernet, IsOtherLink, HasPacketType, IsSealedAt, IsWritten, RefusesPacket};
 
 use crate::BuildError;
 use etherparse::err::{Layer, SliceWriteSpaceError};
@@ -68,8 +68,9 @@ impl<'a, 'b> PacketBuilder<'a, 'b> {
     ///
     /// The first of these that holds; the target then stays as it was:
     ///
-    /// - [`BuildError::HardwareType`]: the link's header is one of cooked capture of another link than Ethernet.
-    /// - [`BuildError::Sealed`]: another header follows a SecTag whose payload is encrypted or changed. It names the place
+    /// - [`BuildError::HardwareType`]: the link's header is one of cooked capture of another link than Ethernet, with its
+    ///   hardware type.
+    /// - [`BuildError::Sealed`]: another header follows a SecTag whose payload is encrypted or changed. It names the index
     ///   of the first such SecTag in `link_exts`.
     /// - [`BuildError::Space`]: the target is shorter than [`size`](Self::size).
     pub fn write(&self, target: &mut [u8]) -> Result<usize, BuildError>
@@ -77,9 +78,7 @@ impl<'a, 'b> PacketBuilder<'a, 'b> {
         ensures refused { IfErr result (RefusesPacket self.now target.old) }
         ensures kept { OnErr result (target.new ≡ target.old) }
     {
-        if !is_ethernet(&self.link) {
-            return Err(BuildError::HardwareType);
-        }
+        require_ethernet(&self.link)?;
         self.require_readable()?;
         let required_len = self.size();
         let len = target.len();
@@ -162,13 +161,16 @@ impl<'a, 'b> PacketBuilder<'a, 'b> {
     }
 }
 
-/// Whether an ether type can follow the header.
-fn is_ethernet(link: &LinkHeader) -> bool
-    ensures { IsTrue result ↔ IsEthernet link.now }
+/// Requires that an ether type can follow the header.
+fn require_ethernet(link: &LinkHeader) -> Result<(), BuildError>
+    ensures ok { OnOk result (IsEthernet link.now) }
+    ensures other { IfErr result (IsOtherLink link.now) }
 {
     match link {
-        LinkHeader::Ethernet2(_) => true,
-        LinkHeader::LinuxSll(header) => header.arp_hrd_type == ArpHardwareId::ETHERNET,
+        LinkHeader::LinuxSll(header) if header.arp_hrd_type != ArpHardwareId::ETHERNET => {
+            Err(BuildError::HardwareType(header.arp_hrd_type))
+        }
+        _ => Ok(()),
     }
 }
 

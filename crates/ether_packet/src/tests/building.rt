@@ -7,6 +7,7 @@ use etherparse::{
     LinuxSllHeader, LinuxSllPacketType, LinuxSllProtocolType, MacsecAn, MacsecHeader, MacsecPType,
     MacsecShortLen, SingleVlanHeader,
 };
+use std::alloc::AllocError;
 use std::test::Fail;
 
 /// To all stations. The ether type is not that of what follows.
@@ -155,6 +156,37 @@ fn a_cooked_capture_of_another_link(rt: HostRuntime) {
         content: PacketContent::Payload(EtherType(0x0800), &[]),
     };
     let mut target = [0xAA; 16];
-    assert_eq!(rt; packet.write(&mut target), Err(BuildError::HardwareType));
+    assert_eq!(rt;
+        packet.write(&mut target),
+        Err(BuildError::HardwareType(ArpHardwareId(824)))
+    );
     assert_eq!(rt; target, [0xAA; 16]);
+}
+
+#[test]
+fn texts(rt: HostRuntime) -> Result<(), AllocError> {
+    let space = SliceWriteSpaceError {
+        required_len: 15,
+        len: 14,
+        layer: Layer::EtherPayload,
+        layer_start_offset: 0,
+    };
+    let texts = [
+        (
+            BuildError::HardwareType(ArpHardwareId(824)),
+            "No ether type can follow a header of cooked capture of hardware type 824.",
+        ),
+        (
+            BuildError::Sealed(1),
+            "A header follows the SecTag at index 1, whose payload is encrypted or changed.",
+        ),
+        (
+            BuildError::Space(space),
+            "Not enough space to write Ether type payload to slice. Needed 15 byte(s), but only 14 byte(s) were available.",
+        ),
+    ];
+    for (error, text) in texts {
+        assert_eq!(rt; format!(in rt.alloc(); "{error}")?.as_str(), text);
+    }
+    Ok(())
 }

@@ -4,13 +4,15 @@ use Rattle.etherparse.specs.WriteFront.{IsRefusedSpace}
 use Rattle.ether_packet.specs.Builder.{IsEthernet, RefusesPacket, hardware_type, sealed, space}
 use Rattle.ether_packet.proofs.packet_builder.PacketBuilder.write.Goals as goal
 
-pub returns-then-not-is_ethernet-clause-refused : goal.returns-then-not-is_ethernet-clause-refused
-returns-then-not-is_ethernet-clause-refused c = hardware_type (λ e. let k : false ≡ true = c.if-not-is_ethernet.ensures.1 e in absurd cc)
+pub returns-in_err-require_ethernet-clause-refused : goal.returns-in_err-require_ethernet-clause-refused
+returns-in_err-require_ethernet-clause-refused c =
+    let h : RefusesPacket c.args.self.now c.args.target.now c.in_err-require_ethernet.field-0.0 = hardware_type _ c.in_err-require_ethernet.ensures.other in
+    search (rules, h)
 
 pub returns-in_err-require_readable-clause-refused : goal.returns-in_err-require_readable-clause-refused
 returns-in_err-require_readable-clause-refused c =
     let p = c.args.self.now in
-    let ethernet : IsEthernet p.link = c.if-not-is_ethernet.ensures.0 refl in
+    let ethernet : IsEthernet p.link = c.in_ok-require_ethernet.ensures.ok in
     let k = c.in_err-require_readable.ensures.sealed in
     let h = subst (RefusesPacket p c.args.target.now) (sym k.1) (sealed k.0 ethernet k.2) in
     search (rules, h)
@@ -18,7 +20,7 @@ returns-in_err-require_readable-clause-refused c =
 pub returns-then-len-required_len-clause-refused : goal.returns-then-len-required_len-clause-refused
 returns-then-len-required_len-clause-refused c =
     let p = c.args.self.now in
-    let ethernet : IsEthernet p.link = c.if-not-is_ethernet.ensures.0 refl in
+    let ethernet : IsEthernet p.link = c.in_ok-require_ethernet.ensures.ok in
     let chain = c.in_ok-require_readable.ensures.ok in
     let len = c.size-required_len.ensures in
     space _ ethernet chain
