@@ -4,4 +4,3 @@ mod cuts;
 mod derived_traits;
 mod frames;
 mod packets;
-mod users;

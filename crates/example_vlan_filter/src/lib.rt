@@ -1,0 +1,66 @@
+//! A filter of frames by VLAN and protocol, as an example of a program over `ether_packet`. No call allocates memory.
+#![tactic(auto)]
+
+#[cfg(test)]
+mod tests;
+
+ghost use Rattle.std.specs.Prelude.{◌≡◌, ◌↔◌, List, IsTrue};
+ghost use Rattle.etherparse.specs.Header.{Header};
+ghost use Rattle.ether_peel.specs.Grammar.Stack.{Ending, last_expected, Walk};
+ghost use Rattle.ether_peel.specs.Walker.Start.{kind_shown};
+ghost use Rattle.ether_packet.specs.Packet.{packet_start};
+ghost use Rattle.ether_packet.specs.Views.{packet_headers};
+ghost use Rattle.example_vlan_filter.specs.Passes.{IsInVlan, IsIpv4OrArp};
+
+use ether_packet::PacketSlice;
+use ether_peel::{RestKind, Start};
+use etherparse::{EtherType, VlanId};
+
+/// Returns `true` if a frame belongs to one of some VLANs and holds IPv4 or ARP.
+///
+/// The frame begins with an Ethernet II header and has no frame check sequence. It belongs to the VLAN of its outermost
+/// VLAN tag; a frame without a VLAN tag belongs to none. SecTags are passed over, and so are further VLAN tags: what
+/// counts is the ether type after the last one. An ARP packet counts even if it is cut short.
+///
+/// No more than three VLAN tags and SecTags are read, as by [`PacketSlice::from_slice`].
+///
+/// # Examples
+///
+/// ```
+/// let frame = [
+///     0xFF, 0xFF, 0xFF, 0xFF, 0xFF, 0xFF, 0x02, 0x00, 0x00, 0x00, 0x00, 0x01, 0x81, 0x00, // Ethernet II
+///     0xB1, 0x23, 0x08, 0x00, // VLAN
+///     0x45,
+/// ];
+/// let vlan_ids = [VlanId::try_new(0x123)?, VlanId::try_new(7)?];
+/// assert!(rt; is_ipv4_or_arp_in_vlans(&frame, &vlan_ids));
+/// assert!(rt; !is_ipv4_or_arp_in_vlans(&frame, &vlan_ids[1..]));
+/// ```
+pub fn is_ipv4_or_arp_in_vlans(frame: &[u8], vlan_ids: &[VlanId]) -> bool
+    ensures { (hs : List Header) (e : Ending) → Walk (packet_start Start.Ethernet2) frame.now hs e
+        → IsTrue result ↔ (IsInVlan vlan_ids.now hs × IsIpv4OrArp (kind_shown (last_expected e))) }
+{
+    let packet = PacketSlice::from_slice(Start::Ethernet2, frame);
+    is_in_vlans(&packet, vlan_ids) && is_ipv4_or_arp(&packet.rest_kind)
+}
+
+/// Whether the outermost VLAN tag has one of these identifiers.
+fn is_in_vlans(packet: &PacketSlice<'_>, vlan_ids: &[VlanId]) -> bool
+    ensures { IsTrue result ↔ IsInVlan vlan_ids.now (packet_headers packet.now) }
+{
+    let ids = packet.vlan_ids();
+    match ids.as_slice().first() {
+        Some(outermost) => vlan_ids.contains(outermost),
+        None => false,
+    }
+}
+
+/// Whether what is left is IPv4, an ARP packet that is cut short, or what follows an ARP packet.
+fn is_ipv4_or_arp(kind: &RestKind) -> bool
+    ensures { IsTrue result ↔ IsIpv4OrArp kind.now }
+{
+    matches!(
+        *kind,
+        RestKind::EtherType(EtherType::IPV4 | EtherType::ARP) | RestKind::AfterArp
+    )
+}
