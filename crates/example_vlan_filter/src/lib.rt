@@ -32,9 +32,9 @@ use etherparse::{EtherType, VlanId};
 ///     0xB1, 0x23, 0x08, 0x00, // VLAN
 ///     0x45,
 /// ];
-/// let vlan_ids = [VlanId::try_new(0x123)?, VlanId::try_new(7)?];
-/// assert!(rt; is_ipv4_or_arp_in_vlans(&frame, &vlan_ids));
-/// assert!(rt; !is_ipv4_or_arp_in_vlans(&frame, &vlan_ids[1..]));
+/// let id = VlanId::try_new(0x123)?;
+/// assert!(rt; is_ipv4_or_arp_in_vlans(&frame, &[VlanId::ZERO, id]));
+/// assert!(rt; !is_ipv4_or_arp_in_vlans(&frame, &[VlanId::ZERO]));
 /// ```
 pub fn is_ipv4_or_arp_in_vlans(frame: &[u8], vlan_ids: &[VlanId]) -> bool
     ensures { (hs : List Header) (e : Ending) → Walk (packet_start Start.Ethernet2) frame.now hs e
