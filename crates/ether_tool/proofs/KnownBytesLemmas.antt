@@ -2,20 +2,10 @@
 use Rattle.std.proofs.Common.{◌≡◌, ℕ, List, [], ◌++◌, Option, Some, None, sym, ap, ◌∙◌, append_assoc, append-nil, refl}
 use Rattle.std.specs.Io.KnownBytes.{Appends, Consumes, Keeps, append_known}
 
-pub Appends-none : (known : Option (List ℕ)) → Appends known known []
-Appends-none None = tt
-Appends-none (Some xs) = sym (append-nil xs)
-
 -- if no text waits
 pub append_known_nil : (known : Option (List ℕ)) → append_known known [] ≡ known
 append_known_nil None = refl
 append_known_nil (Some xs) = ap Some (append-nil xs)
-
-pub Appends-then : (old mid new : Option (List ℕ)) (xs ys : List ℕ) → Appends old mid xs → Appends mid new ys → Appends old new (xs ++ ys)
-Appends-then None mid new xs ys h k = tt
-Appends-then (Some a) None new xs ys h k = absurd h
-Appends-then (Some a) (Some b) None xs ys h k = absurd k
-Appends-then (Some a) (Some b) (Some c) xs ys h k = k ∙ ap (λ (z : List ℕ). z ++ ys) h ∙ append_assoc a xs ys
 
 pub Consumes-none : (known : Option (List ℕ)) → Consumes known known []
 Consumes-none None = tt
@@ -32,13 +22,6 @@ Consumes-kept None mid new xs h k = tt
 Consumes-kept (Some a) None new xs h k = absurd h
 Consumes-kept (Some a) (Some b) None xs h k = absurd k
 Consumes-kept (Some a) (Some b) (Some c) xs h k = h ∙ ap (λ (z : List ℕ). xs ++ z) (sym k)
-
--- text that waited is written, and none waits
-pub Appends-settled : (held old new : Option (List ℕ)) (waited text : List ℕ) → Appends held (append_known old waited) text → Appends old new waited → Appends held new text
-Appends-settled None old new waited text h k = tt
-Appends-settled (Some a) None new waited text h k = absurd h
-Appends-settled (Some a) (Some b) None waited text h k = absurd k
-Appends-settled (Some a) (Some b) (Some c) waited text h k = k ∙ h
 
 -- text that waited is written out: the whole stays
 pub Appends-written_out : (held old new : Option (List ℕ)) (waited waits text : List ℕ)

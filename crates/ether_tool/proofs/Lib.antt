@@ -1,10 +1,4 @@
-pub mod DecimalLemmas
-pub mod WriteHexLemmas
 pub mod KnownBytesLemmas
-pub mod OutputBufferLemmas
-pub mod ViewLinesLemmas
-pub mod WriteWalkLemmas
-pub mod WriteFeedLemmas
 pub mod InputLinesLemmas
 pub mod ParseFrameLemmas
 pub mod LineLoopLemmas

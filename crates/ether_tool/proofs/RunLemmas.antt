@@ -2,14 +2,14 @@
 use Rattle.std.proofs.Common.{◌≡◌, ℕ, List, [], ◌++◌, Option, Some, None, true, unwrap_or, Result, Ok, Err, IfOk, IfErr, refl, sym, subst, append-nil}
 use Rattle.std.specs.Str.Lines.{lines}
 use Rattle.std.specs.Io.KnownBytes.{Consumes, IsAtEnd, Keeps}
-use Rattle.ether_tool.specs.OutputBuffer.{contents_of, WritesOut}
+use Rattle.ether_text.specs.OutputBuffer.{contents_of, WritesOut}
 use Rattle.ether_tool.specs.Run.{AreAnswered, IsLeft, HasRun, OnBadLine, OnStreamFault}
 use Rattle.ether_tool.specs.LineLoop.{Reached, StopsWithin, Finishes}
 use Rattle.ether_tool.specs.declared.command.Command.{Command}
 use Rattle.ether_tool.specs.declared.outcome.Verdict.{Verdict}
 use Rattle.ether_tool.specs.declared.outcome.ToolFault.{ToolFault}
 use Rattle.ether_tool.specs.declared.outcome.ToolFault.TheVariants.{BadLine, Input, Output}
-use Rattle.ether_tool.specs.declared.output_buffer.OutputBuffer.{OutputBuffer}
+use Rattle.ether_text.specs.declared.output_buffer.OutputBuffer.{OutputBuffer}
 use Rattle.ether_tool.specs.declared.line_loop.LineLoop.{LineLoop}
 use Rattle.ether_tool.proofs.KnownBytesLemmas.{Consumes-then, Consumes-kept}
 use Rattle.ether_tool.proofs.LineLoopLemmas.{Reached-written_out}

@@ -1,10 +1,6 @@
-pub mod HexText
-pub mod Lines
-pub mod ViewLines
 pub mod Mode
 pub mod Command
-pub mod WalkText
-pub mod OutputBuffer
+pub mod Answer
 pub mod InputReader
 pub mod Frame
 pub mod LineBuffer

@@ -3,7 +3,7 @@ ghost use Rattle.std.specs.Io.KnownBytes.{Consumes, IsAtEnd, Keeps};
 ghost use Rattle.ether_tool.specs.InputReader.{HasCause};
 
 use crate::outcome::ToolFault;
-use crate::output_buffer::OutputBuffer;
+use ether_text::OutputBuffer;
 use std::io::Read;
 
 /// The reader of a run. During a run nothing else calls it, and after a fault nothing does.

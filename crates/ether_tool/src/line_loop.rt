@@ -2,9 +2,9 @@
 use crate::command::Command;
 use crate::line_buffer::{LineBuffer, LineEnd};
 use crate::outcome::{ToolFault, Verdict};
-use crate::output_buffer::OutputBuffer;
 use crate::parse_frame::MAX_FRAME_LEN;
-use crate::write_walk::write_answer;
+use crate::write_answer::write_answer;
+use ether_text::OutputBuffer;
 use std::io::Write;
 
 /// The line under way, and what the lines before it gave.

@@ -11,7 +11,6 @@ mod line_buffer;
 mod line_loop;
 pub mod mode;
 pub mod outcome;
-mod output_buffer;
 pub mod parse_frame;
 pub mod program;
 pub mod run;
@@ -19,10 +18,7 @@ pub mod run;
 mod test_frames;
 #[cfg(test)]
 mod tests;
-mod write_feed;
-mod write_hex;
-mod write_lines;
-mod write_walk;
+mod write_answer;
 
 use std::process::ExitCode;
 use std::{env, io};

@@ -4,6 +4,7 @@ ghost use Rattle.std.specs.Option.{option_map};
 ghost use Rattle.ether_tool.specs.Outcome.{exit_status, last_line_text, last_text, status_of_program};
 
 use crate::mode::Usage;
+use ether_text::OutputFault;
 use std::fmt;
 use thiserror::Error;
 
@@ -40,6 +41,16 @@ pub enum ToolFault {
     /// The writer failed.
     #[error("output failed")]
     Output,
+}
+
+impl From<OutputFault> for ToolFault {
+    ghost use Rattle.ether_tool.specs.declared.outcome.ToolFault.TheVariants.{Output};
+
+    ghost from_gives = { λ _ fault. fault ≡ Output };
+
+    fn from(_fault: OutputFault) -> ToolFault {
+        ToolFault::Output
+    }
 }
 
 /// The exit status of a run.

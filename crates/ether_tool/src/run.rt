@@ -1,6 +1,6 @@
 //! A run: from a reader of lines to a writer of the text for each.
 ghost use Rattle.std.specs.Prelude.{◌≡◌, [], true, IfErr};
-ghost use Rattle.ether_tool.specs.OutputBuffer.{contents_of};
+ghost use Rattle.ether_text.specs.OutputBuffer.{contents_of};
 ghost use Rattle.ether_tool.specs.Command.{limited_to, unlimited};
 ghost use Rattle.ether_tool.specs.Run.{HasRun, IfSettled, OnInput, OnStreamFault};
 
@@ -9,7 +9,7 @@ use crate::input_reader::InputReader;
 use crate::line_loop::LineLoop;
 use crate::mode::Mode;
 use crate::outcome::{ToolFault, Verdict};
-use crate::output_buffer::OutputBuffer;
+use ether_text::OutputBuffer;
 use std::io::{Read, Write};
 
 /// The room for one read.

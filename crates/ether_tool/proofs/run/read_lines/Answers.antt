@@ -1,5 +1,5 @@
 use Rattle.std.proofs.Common.{rules, ℕ, List, [], ◌++◌, take, refl, ap, ◌∙◌, arith}
-use Rattle.ether_tool.specs.OutputBuffer.{contents_of}
+use Rattle.ether_text.specs.OutputBuffer.{contents_of}
 use Rattle.ether_tool.proofs.KnownBytesLemmas.{Consumes-none, Consumes-then}
 use Rattle.ether_tool.proofs.LineLoopLemmas.{Reached-written_out, Reached-start}
 use Rattle.ether_tool.proofs.RunLemmas.{broken_off, finished, stopped}

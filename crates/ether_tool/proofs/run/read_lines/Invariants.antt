@@ -1,6 +1,6 @@
 use Rattle.std.proofs.Common.{◌≡◌, ℕ, List}
 use Rattle.std.specs.Io.KnownBytes.{Consumes}
-use Rattle.ether_tool.specs.OutputBuffer.{contents_of}
+use Rattle.ether_text.specs.OutputBuffer.{contents_of}
 use Rattle.ether_tool.specs.LineLoop.{Reached}
 use Rattle.ether_tool.proofs.run.read_lines.Given as goal
 

@@ -1,0 +1,5 @@
+pub mod HexText
+pub mod Lines
+pub mod ViewLines
+pub mod WalkText
+pub mod OutputBuffer

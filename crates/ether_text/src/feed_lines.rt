@@ -1,0 +1,79 @@
+//! Writes the text for a frame that a walk is fed.
+ghost use Rattle.ether_text.specs.OutputBuffer.{TakesAnswer};
+ghost use Rattle.ether_text.specs.WalkText.{AnswersFeed};
+ghost use Rattle.ether_peel.specs.Walker.Feeding.{IsFeed};
+ghost use Rattle.ether_peel.specs.Walker.Start.{start_with};
+
+use crate::OutputBuffer;
+use crate::write_lines::{write_counts, write_fault};
+use ether_peel::{Feed, Start, feed, feed_limited};
+use std::io::Write;
+
+/// Writes how often a walk asks for more of the frame, how much it takes, and the fault of what it takes, if there is
+/// one. Returns whether there is none.
+///
+/// The numbers and the fault are those of [`feed`], or of [`feed_limited`] if there is a limit.
+///
+/// ```
+/// let frame = [
+///     0xFF, 0xFF, 0xFF, 0xFF, 0xFF, 0xFF, 0x02, 0x00, 0x00, 0x00, 0x00, 0x01, 0x81, 0x00, // Ethernet II
+///     0xB1, 0x23, 0x08, 0x00, // VLAN
+///     0x45,
+/// ];
+/// let mut written = ArrayVec::<u8, 128>::new();
+/// let mut out = OutputBuffer::new(&mut written);
+/// assert!(rt; write_feed(Start::Ethernet2, None, &frame, &mut out));
+/// assert_eq!(rt; out.flush(), Ok(()));
+/// assert_eq!(rt; written.as_slice(), b"feed refusals 2 taken 18\n".as_slice());
+/// ```
+pub fn write_feed<W: Write>(
+    start: Start,
+    limit: Option<usize>,
+    frame: &[u8],
+    out: &mut OutputBuffer<'_, W>,
+) -> bool
+    ensures { TakesAnswer W.contents (AnswersFeed (start_with start limit) frame.now)
+        out.old out.new result }
+{
+    let outcome = fed(start, limit, frame);
+    write_counts(out, outcome.refusals, outcome.taken);
+    match &outcome.fault {
+        Some(fault) => {
+            write_fault(out, fault);
+            false
+        }
+        None => true,
+    }
+}
+
+/// What a walk takes of a frame that it is fed, with a limit on VLAN tags and SecTags or without.
+fn fed(start: Start, limit: Option<usize>, frame: &[u8]) -> Feed
+    ensures { IsFeed (start_with start limit) frame.now result }
+{
+    match limit {
+        Some(limit) => feed_limited(start, frame, limit),
+        None => feed(start, frame),
+    }
+}
+
+#[cfg(test)]
+mod tests {
+    use super::*;
+    use arrayvec::ArrayVec;
+
+    #[test]
+    fn the_example(rt: HostRuntime) {
+        let frame = [
+            0xFF, 0xFF, 0xFF, 0xFF, 0xFF, 0xFF, 0x02, 0x00, 0x00, 0x00, 0x00, 0x01, 0x81, 0x00,
+            0xB1, 0x23, 0x08, 0x00, 0x45,
+        ];
+        let mut written = ArrayVec::<u8, 128>::new();
+        let mut out = OutputBuffer::new(&mut written);
+        assert!(rt; write_feed(Start::Ethernet2, None, &frame, &mut out));
+        assert_eq!(rt; out.flush(), Ok(()));
+        assert_eq!(rt;
+            written.as_slice(),
+            b"feed refusals 2 taken 18\n".as_slice()
+        );
+    }
+}

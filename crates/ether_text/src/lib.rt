@@ -1,0 +1,20 @@
+//! The walk through the headers of a frame as lines of text: one for each header, and one for the ending. No call
+//! allocates memory.
+//!
+//! [`write_walk`] writes the lines of the walk of `ether_peel`, and [`write_feed`] those of feeding it. Both write to
+//! an [`OutputBuffer`], which gathers the text for a writer and remembers whether the writer has failed.
+#![tactic(auto)]
+
+mod feed_lines;
+mod output_buffer;
+mod output_fault;
+#[cfg(test)]
+mod tests;
+mod walk_lines;
+mod write_hex;
+mod write_lines;
+
+pub use feed_lines::write_feed;
+pub use output_buffer::OutputBuffer;
+pub use output_fault::OutputFault;
+pub use walk_lines::write_walk;

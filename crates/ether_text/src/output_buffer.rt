@@ -1,0 +1,194 @@
+//! A writer with a buffer of fixed size, which remembers that it failed.
+use crate::OutputFault;
+use arrayvec::ArrayVec;
+use std::io::Write;
+
+/// The room for text that waits.
+const ROOM: usize = 65536;
+
+/// Text on its way to a writer, gathered so that many short pieces cost one write.
+///
+/// What it holds is the writer's contents followed by the text that waits. After a fault the writer is not called
+/// again. Text that was not written out by [`write_out`](Self::write_out) or [`flush`](Self::flush) is lost when the
+/// buffer goes.
+///
+/// ```
+/// let mut written = ArrayVec::<u8, 64>::new();
+/// let mut out = OutputBuffer::new(&mut written);
+/// out.append(b"rest 14 14 ");
+/// out.append(b"sealed\n");
+/// assert_eq!(rt; out.flush(), Ok(()));
+/// assert_eq!(rt; written.as_slice(), b"rest 14 14 sealed\n".as_slice());
+/// ```
+#[derive(Drop)]
+pub struct OutputBuffer<'a, W> {
+    writer: &'a mut W,
+    waiting: ArrayVec<u8, ROOM>,
+    has_failed: bool,
+    is_flushed: bool,
+}
+
+impl<'a, W: Write> OutputBuffer<'a, W> {
+    ghost use Rattle.std.specs.Prelude.{◌≡◌, ◌≤◌, [], length, true, false, OnOk, OnErr};
+    ghost use Rattle.ether_text.specs.OutputBuffer.{contents_of, Takes, WritesOut};
+
+    /// An empty buffer for `writer`.
+    pub fn new(writer: &'a mut W) -> Self
+        ensures same_writer { result.writer.ghost_name ≡ writer.entry.ghost_name }
+        ensures contents { result.writer.now ≡ writer.old }
+        ensures none_waits { result.waiting.items ≡ [] }
+        ensures fresh { result.has_failed ≡ false }
+    {
+        OutputBuffer {
+            writer,
+            waiting: ArrayVec::new(),
+            has_failed: false,
+            is_flushed: false,
+        }
+    }
+
+    /// Appends `bytes`, and calls the writer only if there is no room for them after the text that waits.
+    ///
+    /// The room is 65,536 bytes; longer text is written out piece by piece. A fault of the writer
+    /// is remembered, and [`check`](Self::check) returns it. How much was written is then unspecified.
+    #[inline(always)]
+    pub fn append(&mut self, bytes: &[u8])
+        ensures { Takes W.contents self.old bytes.now self.new }
+    {
+        if self.waiting.try_extend_from_slice(bytes).is_err() {
+            self.append_slowly(bytes);
+        }
+    }
+
+    /// Appends `bytes` for which there is no room before the text that waits is written out, piece by piece if they
+    /// are more than the room.
+    ///
+    /// They are copied, and not passed to the writer themselves: so callers need not keep in memory what they append.
+    #[cold]
+    #[inline(never)]
+    fn append_slowly(&mut self, bytes: &[u8])
+        ensures { Takes W.contents self.old bytes.now self.new }
+    {
+        let mut rest = bytes;
+        while rest.len() > ROOM {
+            self.append_piece(&rest[..ROOM]);
+            rest = &rest[ROOM..];
+        }
+        self.append_piece(rest);
+    }
+
+    /// Writes out the text that waits, and appends `bytes`.
+    fn append_piece(&mut self, bytes: &[u8])
+        requires { length bytes.now ≤ ROOM }
+        ensures { Takes W.contents self.old bytes.now self.new }
+    {
+        if self.write_out().is_err() {
+            return;
+        }
+        if self.waiting.try_extend_from_slice(bytes).is_err() {
+            unreachable!();
+        }
+    }
+
+    /// Returns [`OutputFault`] if the writer has failed.
+    pub fn check(&self) -> Result<(), OutputFault>
+        ensures ok { OnOk result (self.now.has_failed ≡ false) }
+        ensures failed { OnErr result (self.now.has_failed ≡ true) }
+    {
+        if self.has_failed {
+            return Err(OutputFault);
+        }
+        Ok(())
+    }
+
+    /// Passes all that waits to the writer, which is not flushed.
+    ///
+    /// Returns [`OutputFault`] if the writer fails, or has failed before.
+    pub fn write_out(&mut self) -> Result<(), OutputFault>
+        ensures same_writer { self.new.writer.ghost_name ≡ self.old.writer.ghost_name }
+        ensures ok { OnOk result (WritesOut W.contents self.old self.new) }
+        ensures failed { OnErr result (self.new.has_failed ≡ true) }
+    {
+        if self.has_failed {
+            return Err(OutputFault);
+        }
+        self.is_flushed = false;
+        match self.writer.write_all(self.waiting.as_slice()) {
+            Ok(()) => {
+                self.waiting.clear();
+                Ok(())
+            }
+            Err(_) => Err(self.fail()),
+        }
+    }
+
+    /// Passes all that waits to the writer, and flushes it.
+    ///
+    /// Returns [`OutputFault`] if the writer fails, or has failed before.
+    pub fn flush(&mut self) -> Result<(), OutputFault>
+        ensures same_writer { self.new.writer.ghost_name ≡ self.old.writer.ghost_name }
+        ensures ok { OnOk result (WritesOut W.contents self.old self.new) }
+        ensures flushed { OnOk result (self.new.is_flushed ≡ true) }
+        ensures failed { OnErr result (self.new.has_failed ≡ true) }
+    {
+        self.write_out()?;
+        match self.writer.flush() {
+            Ok(()) => {
+                self.is_flushed = true;
+                Ok(())
+            }
+            Err(_) => Err(self.fail()),
+        }
+    }
+
+    /// Gives the writer up: what it holds is no longer whole.
+    pub(crate) fn fail(&mut self) -> OutputFault
+        ensures same_writer { self.new.writer.ghost_name ≡ self.old.writer.ghost_name }
+        ensures failed { self.new.has_failed ≡ true }
+    {
+        self.has_failed = true;
+        OutputFault
+    }
+}
+
+#[cfg(test)]
+mod tests {
+    use super::*;
+
+    #[test]
+    fn the_example(rt: HostRuntime) {
+        let mut written = ArrayVec::<u8, 64>::new();
+        let mut out = OutputBuffer::new(&mut written);
+        out.append(b"rest 14 14 ");
+        out.append(b"sealed\n");
+        assert_eq!(rt; out.flush(), Ok(()));
+        assert_eq!(rt; written.as_slice(), b"rest 14 14 sealed\n".as_slice());
+    }
+
+    #[test]
+    fn passes_long_text_on(rt: HostRuntime) {
+        let mut written = ArrayVec::<u8, 70000>::new();
+        let mut out = OutputBuffer::new(&mut written);
+        let text = [b'a'; ROOM + 1];
+        out.append(b"b");
+        out.append(&text);
+        out.append(b"c");
+        assert_eq!(rt; out.flush(), Ok(()));
+        assert_eq!(rt; written.len(), ROOM + 3);
+        assert_eq!(rt; written[0], b'b');
+        assert_eq!(rt; &written[1..ROOM + 2], text.as_slice());
+        assert_eq!(rt; written[ROOM + 2], b'c');
+    }
+
+    #[test]
+    fn remembers_a_fault(rt: HostRuntime) {
+        let mut written = ArrayVec::<u8, 4>::new();
+        let mut out = OutputBuffer::new(&mut written);
+        out.append(b"rest ");
+        assert_eq!(rt; out.check(), Ok(()));
+        assert_eq!(rt; out.write_out(), Err(OutputFault));
+        out.append(b"14 ");
+        assert_eq!(rt; out.check(), Err(OutputFault));
+        assert_eq!(rt; out.flush(), Err(OutputFault));
+    }
+}

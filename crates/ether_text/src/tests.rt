@@ -1,0 +1,2 @@
+//! Tests of the crate as a whole.
+mod derived_traits;

@@ -1,0 +1,23 @@
+//! What callers learn of the derived traits, at each type of this crate. These functions are proved and never run.
+ghost use Rattle.std.specs.Prelude.{◌≡◌, ◌↔◌, IsTrue};
+
+use crate::OutputFault;
+use std::alloc::AllocError;
+
+pub fn clone_of_output_fault(value: &OutputFault) -> Result<OutputFault, AllocError>
+    ensures { result ≡ Ok value.now }
+{
+    value.clone()
+}
+
+pub fn copy_of_output_fault(value: OutputFault) -> (OutputFault, OutputFault)
+    ensures { result ≡ (value, value) }
+{
+    (value, value)
+}
+
+pub fn same_output_fault(a: &OutputFault, b: &OutputFault) -> bool
+    ensures { IsTrue result ↔ (a.now ≡ b.now) }
+{
+    *a == *b
+}

@@ -1,0 +1,99 @@
+//! Writes the lines of a frame's walk.
+ghost use Rattle.std.specs.Prelude.{◌≡◌, List, false};
+ghost use Rattle.ether_text.specs.OutputBuffer.{TakesAnswer};
+ghost use Rattle.ether_text.specs.WalkText.{AnswersWalk};
+ghost use Rattle.etherparse.specs.Header.{Header};
+ghost use Rattle.ether_peel.specs.Grammar.Stack.{Ending, Walk, whole};
+ghost use Rattle.ether_peel.specs.Walker.Next.{Faces};
+ghost use Rattle.ether_peel.specs.Walker.Start.{start_with};
+
+use crate::OutputBuffer;
+use crate::write_lines::{write_fault, write_rest, write_unit};
+use ether_peel::{Peel, Start};
+use std::io::Write;
+
+/// Writes the lines of a frame's walk, and returns whether the frame is accepted.
+///
+/// There is a line for each unit, in order, and one for the ending: `rest` with what is left of the frame, or `fault`.
+/// With a limit no more than so many VLAN tags and SecTags are read, as by [`Peel::with_limit`].
+///
+/// ```
+/// let frame = [
+///     0xFF, 0xFF, 0xFF, 0xFF, 0xFF, 0xFF, 0x02, 0x00, 0x00, 0x00, 0x00, 0x01, 0x81, 0x00, // Ethernet II
+///     0xB1, 0x23, 0x08, 0x00, // VLAN
+/// ];
+/// let mut written = ArrayVec::<u8, 128>::new();
+/// let mut out = OutputBuffer::new(&mut written);
+/// assert!(rt; write_walk(Start::Ethernet2, None, &frame, &mut out));
+/// assert_eq!(rt; out.flush(), Ok(()));
+/// assert_eq!(rt;
+///     written.as_slice(),
+///     b"ethernet2 0 ffffffffffff 020000000001 0x8100\n\
+/// vlan 14 pcp 5 dei 1 vid 291 0x0800\n\
+/// rest 18 18 type 0x0800\n".as_slice()
+/// );
+/// ```
+pub fn write_walk<W: Write>(
+    start: Start,
+    limit: Option<usize>,
+    frame: &[u8],
+    out: &mut OutputBuffer<'_, W>,
+) -> bool
+    ensures { TakesAnswer W.contents (AnswersWalk (start_with start limit) frame.now)
+        out.old out.new result }
+{
+    let mut peel = walker(start, limit, frame);
+    loop {
+        let offset = peel.offset();
+        match peel.next() {
+            Some(Ok(unit)) => write_unit(out, offset, peel.rest().len(), peel.closed(), &unit),
+            Some(Err(fault)) => {
+                write_fault(out, &fault);
+                return false;
+            }
+            None => {
+                let end = offset + peel.rest().len();
+                write_rest(out, offset, end, peel.kind());
+                return true;
+            }
+        }
+    }
+}
+
+/// The walk of a frame, with a limit on VLAN tags and SecTags or without.
+fn walker(start: Start, limit: Option<usize>, frame: &[u8]) -> Peel<'_>
+    ensures going { result.over ≡ false }
+    ensures walk { (headers : List Header) × (ending : Ending)
+        × Walk (start_with start limit) frame.now headers ending
+        × Faces frame.now (whole (start_with start limit) frame.now) result headers ending }
+{
+    match limit {
+        Some(limit) => Peel::with_limit(start, frame, limit),
+        None => Peel::new(start, frame),
+    }
+}
+
+#[cfg(test)]
+mod tests {
+    use super::*;
+    use arrayvec::ArrayVec;
+
+    #[test]
+    fn the_example(rt: HostRuntime) {
+        let frame = [
+            0xFF, 0xFF, 0xFF, 0xFF, 0xFF, 0xFF, 0x02, 0x00, 0x00, 0x00, 0x00, 0x01, 0x81, 0x00,
+            0xB1, 0x23, 0x08, 0x00,
+        ];
+        let mut written = ArrayVec::<u8, 128>::new();
+        let mut out = OutputBuffer::new(&mut written);
+        assert!(rt; write_walk(Start::Ethernet2, None, &frame, &mut out));
+        assert_eq!(rt; out.flush(), Ok(()));
+        assert_eq!(rt;
+            written.as_slice(),
+            b"ethernet2 0 ffffffffffff 020000000001 0x8100\n\
+vlan 14 pcp 5 dei 1 vid 291 0x0800\n\
+rest 18 18 type 0x0800\n"
+                .as_slice()
+        );
+    }
+}

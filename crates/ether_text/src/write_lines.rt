@@ -1,0 +1,401 @@
+//! Writes the lines of a walk: one for each unit and one for the ending, or one for the two counts of feeding it.
+//!
+//! Each is appended to the output piece by piece: through the formatter it would take twice as long.
+ghost use Rattle.std.specs.Prelude.{◌≡◌, ◌++◌, ◌+◌, ◌≤◌, ◌<◌, codes, decimal, length};
+ghost use Rattle.etherparse.specs.Ethernet2.{ethernet2_of, fcs_of};
+ghost use Rattle.etherparse.specs.Vlan.{vlan_of};
+ghost use Rattle.etherparse.specs.LinuxSll.{linux_sll_of};
+ghost use Rattle.etherparse.specs.Macsec.{payload_type_view, sec_tag_of, tag_bytes};
+ghost use Rattle.etherparse.specs.Arp.{arp_of};
+ghost use Rattle.ether_text.specs.Lines.{arp_text, feed_text, linux_sll_text, macsec_text, mark_text, payload_type_text, protocol_text, sci_text, source_text, vlan_text};
+ghost use Rattle.ether_text.specs.OutputBuffer.{Takes};
+ghost use Rattle.ether_text.specs.ViewLines.{error_view_text, ethernet2_view_text, fault_view_text, fcs_text, kind_view_text, len_view_text, linux_sll_view_text, macsec_view_text, rest_view_text, view_text};
+
+use crate::OutputBuffer;
+use crate::write_hex::{hex_address, hex_fcs, hex_long, hex_type};
+use arrayvec::ArrayString;
+use ether_peel::{PeelError, PeelFault, PeelUnit, RestKind};
+use etherparse::err::{self, LenError};
+use etherparse::{
+    ArpPacketSlice, EtherType, Ethernet2Slice, LenSource, LinuxSllProtocolType, LinuxSllSlice,
+    MacsecHeaderSlice, MacsecPType, SingleVlanSlice,
+};
+use std::fmt::Write as _;
+use std::io::Write;
+
+/// Writes the line of a unit that starts at a place of the frame. After the unit there is left a
+/// window of `len` bytes, which is closed or open.
+pub fn write_unit<W: Write>(
+    out: &mut OutputBuffer<'_, W>,
+    start: usize,
+    len: usize,
+    closed: bool,
+    unit: &PeelUnit<'_>,
+)
+    ensures { Takes W.contents out.old (view_text start len closed unit.now ++ codes "\n") out.new }
+{
+    match unit {
+        PeelUnit::Ethernet2(slice) => write_ethernet2(out, start, slice),
+        PeelUnit::LinuxSll(slice) => write_linux_sll(out, start, slice),
+        PeelUnit::Vlan(slice) => write_vlan(out, start, slice),
+        PeelUnit::Macsec(slice) => write_macsec(out, start, &slice.header, len, closed),
+        PeelUnit::Arp(slice) => write_arp(out, start, slice),
+    }
+    out.append(b"\n");
+}
+
+/// Writes the text of an Ethernet II header.
+#[inline(always)]
+fn write_ethernet2<W: Write>(
+    out: &mut OutputBuffer<'_, W>,
+    start: usize,
+    slice: &Ethernet2Slice<'_>,
+)
+    ensures { Takes W.contents out.old
+        (ethernet2_view_text start (ethernet2_of slice.now.bytes) (fcs_of slice.now)) out.new }
+{
+    // Bytes that were just written one by one are slow to copy, so the digits come first.
+    let destination = hex_address(slice.destination());
+    let source = hex_address(slice.source());
+    let ether_type = hex_type(slice.ether_type());
+    out.append(b"ethernet2 ");
+    write_decimal(out, start);
+    out.append(b" ");
+    out.append(&destination);
+    out.append(b" ");
+    out.append(&source);
+    out.append(b" ");
+    out.append(&ether_type);
+    write_fcs(out, slice.fcs());
+}
+
+/// Writes what a frame check sequence adds to the text of an Ethernet II header.
+#[inline(always)]
+fn write_fcs<W: Write>(out: &mut OutputBuffer<'_, W>, fcs: Option<[u8; 4]>)
+    ensures { Takes W.contents out.old (fcs_text fcs) out.new }
+{
+    if let Some(fcs) = fcs {
+        out.append(b" fcs ");
+        out.append(&hex_fcs(fcs));
+    }
+}
+
+/// Writes the text of a header of Linux cooked capture.
+fn write_linux_sll<W: Write>(out: &mut OutputBuffer<'_, W>, start: usize, slice: &LinuxSllSlice<'_>)
+    ensures { Takes W.contents out.old (linux_sll_text start (linux_sll_of slice.now)) out.new }
+{
+    let header = slice.header_slice();
+    write_number(out, b"linux_sll ", start);
+    write_number(out, b" packet ", usize::from(packet_type_of(header)));
+    write_number(out, b" hw ", usize::from(slice.arp_hardware_type().0));
+    write_number(
+        out,
+        b" alen ",
+        usize::from(slice.sender_address_valid_length()),
+    );
+    out.append(b" addr ");
+    out.append(&hex_long(slice.sender_address_full()));
+    out.append(b" ");
+    out.append(&hex_type(EtherType(protocol_of(header))));
+}
+
+/// The number of the packet type in the bytes of a header of Linux cooked capture.
+fn packet_type_of(header: &[u8]) -> u16
+    requires { 16 ≤ length header.now }
+    ensures { result ≡ (linux_sll_of header.now).packet_type }
+{
+    u16::from_be_bytes([header[0], header[1]])
+}
+
+/// The number of the protocol type in the bytes of a header of Linux cooked capture.
+fn protocol_of(header: &[u8]) -> u16
+    requires { 16 ≤ length header.now }
+    ensures { result ≡ (linux_sll_of header.now).protocol }
+{
+    u16::from_be_bytes([header[14], header[15]])
+}
+
+/// Writes the text of a VLAN tag.
+#[inline(always)]
+fn write_vlan<W: Write>(out: &mut OutputBuffer<'_, W>, start: usize, slice: &SingleVlanSlice<'_>)
+    ensures { Takes W.contents out.old (vlan_text start (vlan_of slice.now)) out.new }
+{
+    let ether_type = hex_type(slice.ether_type());
+    out.append(b"vlan ");
+    write_decimal(out, start);
+    out.append(b" pcp ");
+    write_decimal(out, usize::from(slice.priority_code_point().value()));
+    out.append(b" dei ");
+    write_decimal(out, usize::from(slice.drop_eligible_indicator()));
+    out.append(b" vid ");
+    write_decimal(out, usize::from(slice.vlan_identifier().value()));
+    out.append(b" ");
+    out.append(&ether_type);
+}
+
+/// Writes the text of a MACsec SecTag, and of the window after it.
+fn write_macsec<W: Write>(
+    out: &mut OutputBuffer<'_, W>,
+    start: usize,
+    tag: &MacsecHeaderSlice<'_>,
+    len: usize,
+    closed: bool,
+)
+    ensures { Takes W.contents out.old
+        (macsec_text start (sec_tag_of (tag_bytes tag.now)) len closed) out.new }
+{
+    write_number(out, b"macsec ", start);
+    out.append(b" ");
+    write_payload_type(out, tag.ptype());
+    write_number(out, b" es ", usize::from(tag.endstation_id()));
+    write_number(out, b" scb ", usize::from(tag.tci_scb()));
+    write_number(out, b" an ", usize::from(tag.an().value()));
+    write_number(out, b" sl ", usize::from(tag.short_len().value()));
+    write_number(out, b" pn ", tag.packet_nr() as usize);
+    out.append(b" sci ");
+    write_sci(out, tag.sci());
+    write_number(out, b" window ", len);
+    out.append(b" ");
+    out.append(mark_of(closed).as_bytes());
+}
+
+/// Writes the text of the payload type of a SecTag.
+fn write_payload_type<W: Write>(out: &mut OutputBuffer<'_, W>, ptype: MacsecPType)
+    ensures { Takes W.contents out.old (payload_type_text (payload_type_view ptype)) out.new }
+{
+    match ptype {
+        MacsecPType::Unmodified(ether_type) => {
+            out.append(b"unmodified ");
+            out.append(&hex_type(ether_type));
+        }
+        MacsecPType::Modified => out.append(b"modified"),
+        MacsecPType::Encrypted => out.append(b"encrypted"),
+        MacsecPType::EncryptedUnmodified => out.append(b"encrypted_unmodified"),
+    }
+}
+
+/// Writes the digits of a secure channel identifier, or a hyphen if there is none.
+fn write_sci<W: Write>(out: &mut OutputBuffer<'_, W>, sci: Option<u64>)
+    ensures { Takes W.contents out.old (sci_text sci) out.new }
+{
+    match sci {
+        Some(sci) => out.append(&hex_long(sci.to_be_bytes())),
+        None => out.append(b"-"),
+    }
+}
+
+/// Writes the text of an ARP packet.
+fn write_arp<W: Write>(out: &mut OutputBuffer<'_, W>, start: usize, slice: &ArpPacketSlice<'_>)
+    ensures { Takes W.contents out.old (arp_text start (arp_of slice.now)) out.new }
+{
+    write_number(out, b"arp ", start);
+    write_number(out, b" hw ", usize::from(slice.hw_addr_type().0));
+    out.append(b" proto ");
+    out.append(&hex_type(slice.proto_addr_type()));
+    write_number(out, b" hlen ", usize::from(slice.hw_addr_size()));
+    write_number(out, b" plen ", usize::from(slice.proto_addr_size()));
+    write_number(out, b" op ", usize::from(slice.operation().0));
+}
+
+/// Writes the line of what is left of a frame that was accepted: from a start to an end, and what it
+/// is announced as.
+pub fn write_rest<W: Write>(out: &mut OutputBuffer<'_, W>, start: usize, end: usize, kind: RestKind)
+    ensures { Takes W.contents out.old (rest_view_text start end kind ++ codes "\n") out.new }
+{
+    out.append(b"rest ");
+    write_decimal(out, start);
+    out.append(b" ");
+    write_decimal(out, end);
+    write_kind(out, kind);
+    out.append(b"\n");
+}
+
+/// Writes a space, and what a window is announced as.
+#[inline(always)]
+fn write_kind<W: Write>(out: &mut OutputBuffer<'_, W>, kind: RestKind)
+    ensures { Takes W.contents out.old (codes " " ++ kind_view_text kind) out.new }
+{
+    match kind {
+        RestKind::Start => out.append(b" "),
+        RestKind::EtherType(ether_type) => {
+            let ether_type = hex_type(ether_type);
+            out.append(b" type ");
+            out.append(&ether_type);
+        }
+        RestKind::Sll(protocol) => write_protocol(out, protocol),
+        RestKind::Sealed => out.append(b" sealed"),
+        RestKind::AfterArp => out.append(b" after_arp"),
+    }
+}
+
+/// Writes a space, and the protocol of a cooked capture that has no ether type.
+fn write_protocol<W: Write>(out: &mut OutputBuffer<'_, W>, protocol: LinuxSllProtocolType)
+    ensures { Takes W.contents out.old (codes " " ++ protocol_text protocol) out.new }
+{
+    match protocol {
+        LinuxSllProtocolType::Ignored(number) => {
+            out.append(b" sll ignored ");
+            out.append(&hex_type(EtherType(number)));
+        }
+        LinuxSllProtocolType::NetlinkProtocolType(number) => {
+            out.append(b" sll netlink ");
+            out.append(&hex_type(EtherType(number)));
+        }
+        LinuxSllProtocolType::GenericRoutingEncapsulationProtocolType(number) => {
+            out.append(b" sll gre ");
+            out.append(&hex_type(EtherType(number)));
+        }
+        LinuxSllProtocolType::EtherType(_) | LinuxSllProtocolType::LinuxNonstandardEtherType(_) =>
+            out.append(b" "),
+    }
+}
+
+/// Writes the line of a walk that is fed: how often it asks for more bytes, and how many it takes.
+pub fn write_counts<W: Write>(out: &mut OutputBuffer<'_, W>, refusals: usize, taken: usize)
+    ensures { Takes W.contents out.old (feed_text refusals taken ++ codes "\n") out.new }
+{
+    write_number(out, b"feed refusals ", refusals);
+    write_number(out, b" taken ", taken);
+    out.append(b"\n");
+}
+
+/// Writes the line of a frame's fault.
+pub fn write_fault<W: Write>(out: &mut OutputBuffer<'_, W>, fault: &PeelFault)
+    ensures { Takes W.contents out.old (fault_view_text fault.now ++ codes "\n") out.new }
+{
+    out.append(b"fault ");
+    write_decimal(out, fault.offset);
+    out.append(b" ");
+    out.append(mark_of(fault.closed).as_bytes());
+    out.append(b" ");
+    write_error(out, &fault.error);
+    out.append(b"\n");
+}
+
+/// Writes the text of what is wrong with a unit.
+fn write_error<W: Write>(out: &mut OutputBuffer<'_, W>, error: &PeelError)
+    ensures { Takes W.contents out.old (error_view_text error.now) out.new }
+{
+    match error {
+        PeelError::Len(error) => write_len_error(out, error),
+        PeelError::LinuxSll(error) => write_linux_sll_error(out, error),
+        PeelError::Macsec(error) => write_macsec_error(out, error),
+    }
+}
+
+/// Writes the text of a length error.
+fn write_len_error<W: Write>(out: &mut OutputBuffer<'_, W>, error: &LenError)
+    ensures { Takes W.contents out.old (len_view_text error.now) out.new }
+{
+    out.append(b"length ");
+    write_decimal(out, error.required_len);
+    out.append(b" ");
+    write_decimal(out, error.len);
+    out.append(b" ");
+    out.append(source_of(error.len_source).as_bytes());
+}
+
+/// Writes the text of what is wrong in a header of Linux cooked capture.
+fn write_linux_sll_error<W: Write>(
+    out: &mut OutputBuffer<'_, W>,
+    error: &err::linux_sll::HeaderError,
+)
+    ensures { Takes W.contents out.old (linux_sll_view_text error.now) out.new }
+{
+    match error {
+        err::linux_sll::HeaderError::UnsupportedPacketTypeField { packet_type } => {
+            write_number(out, b"content sll_packet_type ", usize::from(*packet_type));
+        }
+        err::linux_sll::HeaderError::UnsupportedArpHardwareId { arp_hardware_type } => {
+            write_number(
+                out,
+                b"content sll_hardware_type ",
+                usize::from(arp_hardware_type.0),
+            );
+        }
+    }
+}
+
+/// Writes the text of what is wrong in a MACsec SecTag.
+fn write_macsec_error<W: Write>(out: &mut OutputBuffer<'_, W>, error: &err::macsec::HeaderError)
+    ensures { Takes W.contents out.old (macsec_view_text error.now) out.new }
+{
+    match error {
+        err::macsec::HeaderError::UnexpectedVersion => out.append(b"content macsec_version"),
+        err::macsec::HeaderError::InvalidUnmodifiedShortLen => {
+            out.append(b"content macsec_short_len");
+        }
+    }
+}
+
+/// Writes a word with the spaces around it, and a number in decimal digits.
+fn write_number<W: Write>(out: &mut OutputBuffer<'_, W>, word: &[u8], number: usize)
+    ensures { Takes W.contents out.old (word.now ++ decimal number) out.new }
+{
+    out.append(word);
+    write_decimal(out, number);
+}
+
+/// Writes a number in decimal digits.
+#[inline(always)]
+fn write_decimal<W: Write>(out: &mut OutputBuffer<'_, W>, number: usize)
+    ensures { Takes W.contents out.old (decimal number) out.new }
+{
+    if number < 10 {
+        out.append(&[digit(number)]);
+    } else if number < 100 {
+        out.append(&[digit(number / 10), digit(number % 10)]);
+    } else if number < 1000 {
+        out.append(&[
+            digit(number / 100),
+            digit(number / 10 % 10),
+            digit(number % 10),
+        ]);
+    } else {
+        write_long_decimal(out, number);
+    }
+}
+
+/// The decimal digit of a number below 10.
+#[inline(always)]
+fn digit(number: usize) -> u8
+    requires { number < 10 }
+    ensures { result ≡ 48 + number }
+{
+    b'0' + number as u8
+}
+
+/// Writes a number of many digits.
+#[inline(never)]
+fn write_long_decimal<W: Write>(out: &mut OutputBuffer<'_, W>, number: usize)
+    ensures { Takes W.contents out.old (decimal number) out.new }
+{
+    let mut text = ArrayString::<20>::new();
+    if write!(text, "{number}").is_err() {
+        out.fail();
+        return;
+    }
+    out.append(text.as_str().as_bytes());
+}
+
+/// The word for a window's mark.
+fn mark_of(closed: bool) -> &'static str
+    ensures { result.now ≡ mark_text closed }
+{
+    if closed { "closed" } else { "open" }
+}
+
+/// The word for the source of a length.
+fn source_of(source: LenSource) -> &'static str
+    ensures { result.now ≡ source_text source }
+{
+    match source {
+        LenSource::Slice => "slice",
+        LenSource::MacsecShortLength => "macsec_short_length",
+        LenSource::Ipv4HeaderTotalLen => "ipv4_total_len",
+        LenSource::Ipv6HeaderPayloadLen => "ipv6_payload_len",
+        LenSource::UdpHeaderLen => "udp_len",
+        LenSource::TcpHeaderLen => "tcp_len",
+        LenSource::ArpAddrLengths => "arp_addr_lengths",
+    }
+}

@@ -1,7 +1,0 @@
-use Rattle.ether_tool.specs.Lines.{feed_text}
-use Rattle.ether_tool.proofs.OutputBufferLemmas.{Takes-then}
-use Rattle.ether_tool.proofs.write_lines.write_counts.Goals as goal
-
-pub returns : goal.returns
-unfolding feed_text
-returns g c = Takes-then (Takes-then c.write_number.ensures c.write_number-2.ensures) c.append.ensures
