@@ -4,4 +4,5 @@ pub mod Getters
 pub mod Adding
 pub mod Building
 pub mod Builder
+pub mod Replacing
 pub mod Texts
