@@ -7,3 +7,4 @@ pub mod Filling
 pub mod Snapping
 pub mod Replaced
 pub mod PacketExts
+pub mod VlanIds

@@ -1,9 +1,8 @@
--- The extensions of a packet among the headers of its list.
-use Rattle.std.proofs.Common.{◌≡◌, ℕ, zero, suc, ◌+◌, ◌<◌, ◌≤◌, List, [], ◌∷◌, ◌++◌, length, refl, sym, ap, subst, ◌∙◌, arith, append_assoc, slice_index_or, Bool, true, false, cond}
-use Rattle.std.specs.Prelude.{map, slice_get, Option, Some, None, get_or, if◌then◌else◌}
+-- The extensions of a packet among its headers, and the header that replaces one of them.
+use Rattle.std.proofs.Common.{◌≡◌, ℕ, suc, ◌+◌, ◌≤◌, List, [], ◌∷◌, ◌++◌, length, take, drop, refl, sym, ap, subst, ◌∙◌, arith, append_assoc, Bool, true, false, cond}
+use Rattle.std.specs.Prelude.{map, Option, Some, None, get_or, if◌then◌else◌}
 use Rattle.std.proofs.Math.Seq.{get_or-append_seam}
-use Rattle.std.proofs.lemmas.List.{length-append, map-append}
-use Rattle.std.proofs.lemmas.Option.{slice_get_read}
+use Rattle.std.proofs.lemmas.List.{length-append, length-take-le, map-append, take-append-drop}
 use Rattle.etherparse.specs.Types.LinkSlice.{LinkSlice}
 use Rattle.etherparse.specs.Types.LinkSlice.TheVariants as links
 use Rattle.etherparse.specs.Types.LinkExtHeader.{LinkExtHeader}
@@ -26,11 +25,12 @@ use Rattle.ether_packet.specs.declared.replace_error.ReplaceError.TheVariants as
 use Rattle.ether_packet.specs.Views.{link_units, ext_unit, ext_units, arp_units, packet_units, packet_headers}
 use Rattle.ether_packet.specs.Packet.{ext_places, ext_offsets, IsPacket}
 use Rattle.ether_packet.specs.Replacing.{SayTheSame, ext_count, IsExtAt, TakesExt, ReplacesExt, RefusesExt, none, other}
+use Rattle.ether_packet.proofs.Getting.{IsAt, take_next}
 use Rattle.ether_packet.proofs.Replaced.{IsSendable, same_len, length-overwritten, header_inside, replaced_walk}
 
 -- ---- counting
 
-ext_count-append : (hs ks : List Header) → ext_count (hs ++ ks) ≡ ext_count hs + ext_count ks
+pub ext_count-append : (hs ks : List Header) → ext_count (hs ++ ks) ≡ ext_count hs + ext_count ks
 ext_count-append [] ks = omega arith
 ext_count-append (h ∷ hs) ks = let more = ext_count-append hs ks in omega (arith, more)
 
@@ -86,38 +86,42 @@ offsets_count (x ∷ xs) = ap suc (offsets_count xs)
 
 -- ---- the extension at an index
 
-pub record Split (xs : List PacketExt) (i : ℕ) (x : PacketExt) : Type 0 where
-  pub before : List PacketExt
-  pub following : List PacketExt
-  pub parts : xs ≡ before ++ x ∷ following
-  pub count : length before ≡ i
+-- the headers before it, and those after it
+abbrev pub front_of : PacketSlice → ℕ → List Header
+front_of p i = map unit_header (link_units p.link) ++ map unit_header (ext_units (take i p.link_exts.items))
 
-pub split_at : (xs : List PacketExt) (i : ℕ) (x : PacketExt) → slice_get xs i ≡ Some x → Split xs i x
-split_at [] i x e = absurd cc
-split_at (y ∷ xs) zero x e = let is : y ≡ x = cc in record { before = []; following = xs; parts = ap (λ (z : PacketExt). z ∷ xs) is; count = refl }
-split_at (y ∷ xs) (suc i) x e =
-    let s = split_at xs i x e in record { before = y ∷ s.before; following = s.following; parts = ap (λ (l : List PacketExt). y ∷ l) s.parts; count = ap suc s.count }
+abbrev pub later_of : PacketSlice → ℕ → List Header
+later_of p i = map unit_header (ext_units (drop (i + 1) p.link_exts.items)) ++ map unit_header (arp_units p.arp)
 
--- the headers before the extensions that follow these
-abbrev pub front_of : PacketSlice → List PacketExt → List Header
-front_of p before = map unit_header (link_units p.link) ++ map unit_header (ext_units before)
+items_split : (xs : List PacketExt) (i : ℕ) (x : PacketExt) → IsAt xs i x → xs ≡ take i xs ++ x ∷ drop (i + 1) xs
+items_split xs i x at =
+    sym (take-append-drop (i + 1) xs) ∙ ap (λ (l : List PacketExt). l ++ drop (i + 1) xs) (take_next xs i x at) ∙ append_assoc (take i xs) (x ∷ []) (drop (i + 1) xs)
 
-abbrev pub later_of : PacketSlice → List PacketExt → List Header
-later_of p following = map unit_header (ext_units following) ++ map unit_header (arp_units p.arp)
-
-headers_split : (p : PacketSlice) (before following : List PacketExt) (x : PacketExt) → p.link_exts.items ≡ before ++ x ∷ following
-    → packet_headers p ≡ front_of p before ++ unit_header (ext_unit x.slice) ∷ later_of p following
-headers_split p before following x parts =
+headers_split : (p : PacketSlice) (i : ℕ) (x : PacketExt) → IsAt p.link_exts.items i x → packet_headers p ≡ front_of p i ++ unit_header (ext_unit x.slice) ∷ later_of p i
+headers_split p i x at =
+    let xs = p.link_exts.items in
     let link = map unit_header (link_units p.link) in
     let arp = map unit_header (arp_units p.arp) in
-    let a = map unit_header (ext_units before) in
-    let b = map unit_header (ext_units following) in
+    let a = map unit_header (ext_units (take i xs)) in
+    let b = map unit_header (ext_units (drop (i + 1) xs)) in
     let h = unit_header (ext_unit x.slice) in
-    let middle : map unit_header (ext_units p.link_exts.items) ≡ a ++ h ∷ b =
-    ap (λ (l : List PacketExt). map unit_header (ext_units l)) parts ∙ ap (map unit_header) (map-append (λ (e : PacketExt). ext_unit e.slice) before (x ∷ following)) ∙ map-append unit_header (ext_units before) (ext_unit x.slice ∷ ext_units following) in
-    map-append unit_header (link_units p.link ++ ext_units p.link_exts.items) (arp_units p.arp)
-    ∙ ap (λ (l : List Header). l ++ arp) (map-append unit_header (link_units p.link) (ext_units p.link_exts.items) ∙ ap (λ (l : List Header). link ++ l) middle ∙ sym (append_assoc link a (h ∷ b)))
+    let middle : map unit_header (ext_units xs) ≡ a ++ h ∷ b =
+    ap (λ (l : List PacketExt). map unit_header (ext_units l)) (items_split xs i x at)
+    ∙ ap (map unit_header) (map-append (λ (e : PacketExt). ext_unit e.slice) (take i xs) (x ∷ drop (i + 1) xs))
+    ∙ map-append unit_header (ext_units (take i xs)) (ext_unit x.slice ∷ ext_units (drop (i + 1) xs)) in
+    map-append unit_header (link_units p.link ++ ext_units xs) (arp_units p.arp)
+    ∙ ap (λ (l : List Header). l ++ arp) (map-append unit_header (link_units p.link) (ext_units xs) ∙ ap (λ (l : List Header). link ++ l) middle ∙ sym (append_assoc link a (h ∷ b)))
     ∙ append_assoc (link ++ a) (h ∷ b) arp
+
+pub ext_at : (p : PacketSlice) (i : ℕ) (x : PacketExt) → IsAt p.link_exts.items i x → IsExtAt (packet_headers p) i (front_of p i) (unit_header (ext_unit x.slice)) (later_of p i)
+ext_at p i x at =
+    let xs = p.link_exts.items in
+    let a = ext_count-append (map unit_header (link_units p.link)) (map unit_header (ext_units (take i xs))) in
+    let b = link_count p.link in
+    let c = exts_count (take i xs) in
+    let lt = at.0 in
+    let d = length-take-le i xs (omega arith) in
+    record { parts = headers_split p i x at; extension = ext_is x.slice; before = omega (arith, a, b, c, d) }
 
 pub all_count : (p : PacketSlice) → ext_count (packet_headers p) ≡ length p.link_exts.items
 all_count p =
@@ -133,44 +137,22 @@ all_count p =
     let e = exts_count p.link_exts.items in
     ap ext_count split ∙ omega (arith, a, b, c, d, e)
 
--- its place among the headers, and in the list
-pub record Found (p : PacketSlice) (i : ℕ) (x : PacketExt) : Type 0 where
-  pub front : List Header
-  pub later : List Header
-  pub found : IsExtAt (packet_headers p) i front (unit_header (ext_unit x.slice)) later
-  pub begins : x.offset ≡ place 0 front
-
-pub found_at : (start : Expectation) (list : List ℕ) (p : PacketSlice) (i : ℕ) (x : PacketExt) → IsPacket start list p → (s : Split p.link_exts.items i x) → Found p i x
-found_at start list p i x is s =
-    let front = front_of p s.before in
-    let h = unit_header (ext_unit x.slice) in
-    let later = later_of p s.following in
-    let parts = headers_split p s.before s.following x s.parts in
-    let a = ext_count-append (map unit_header (link_units p.link)) (map unit_header (ext_units s.before)) in
-    let b = link_count p.link in
-    let c = exts_count s.before in
-    let count = s.count in
-    let before : ext_count front ≡ i = omega (arith, a, b, c, count) in
-    let offsets : ext_offsets p.link_exts.items ≡ ext_offsets s.before ++ x.offset ∷ ext_offsets s.following = ap ext_offsets s.parts ∙ map-append (λ (e : PacketExt). e.offset) s.before (x ∷ s.following) in
-    let places = ap (ext_places 0) parts ∙ places_split 0 front h later (ext_is x.slice) in
-    let len : length (ext_offsets s.before) ≡ length (ext_places 0 front) = offsets_count s.before ∙ count ∙ sym (places_count 0 front ∙ before) in
-    record {
-      front = front;
-      later = later;
-      found = record { parts = parts; extension = ext_is x.slice; before = before };
-      begins = same_after _ _ _ _ x.offset (place 0 front) len (sym offsets ∙ is.places ∙ places);
-    }
+-- and its place in the list
+begins_at : (start : Expectation) (list : List ℕ) (p : PacketSlice) (i : ℕ) (x : PacketExt) → IsPacket start list p → IsAt p.link_exts.items i x → x.offset ≡ place 0 (front_of p i)
+begins_at start list p i x is at =
+    let xs = p.link_exts.items in
+    let found = ext_at p i x at in
+    let lt = at.0 in
+    let offsets : ext_offsets xs ≡ ext_offsets (take i xs) ++ x.offset ∷ ext_offsets (drop (i + 1) xs) = ap ext_offsets (items_split xs i x at) ∙ map-append (λ (e : PacketExt). e.offset) (take i xs) (x ∷ drop (i + 1) xs) in
+    let places = ap (ext_places 0) found.parts ∙ places_split 0 (front_of p i) (unit_header (ext_unit x.slice)) (later_of p i) found.extension in
+    let count : length (ext_offsets (take i xs)) ≡ i = offsets_count (take i xs) ∙ length-take-le i xs (omega arith) in
+    same_after _ _ _ _ x.offset (place 0 (front_of p i)) (count ∙ sym (places_count 0 (front_of p i) ∙ found.before)) (sym offsets ∙ is.places ∙ places)
 
 -- ---- a header that replaces it
 
-pub found_ext : (xs : List PacketExt) (p : PacketSlice) (i : ℕ) (x : PacketExt) → xs ≡ p.link_exts.items → i < length xs → x ≡ slice_index_or xs i x → slice_get p.link_exts.items i ≡ Some x
-found_ext xs p i x items lt is = ap (λ (l : List PacketExt). slice_get l i) (sym items) ∙ slice_get_read xs (length xs) i x refl lt is
-
--- of a walk of the packet's list
-takes_ext : (start : Expectation) (list : List ℕ) (p : PacketSlice) (i : ℕ) (x : PacketExt) (g : Header) → IsPacket start list p → slice_get p.link_exts.items i ≡ Some x → SayTheSame g (unit_header (ext_unit x.slice)) → TakesExt (packet_headers p) i g x.offset
+takes_ext : (start : Expectation) (list : List ℕ) (p : PacketSlice) (i : ℕ) (x : PacketExt) (g : Header) → IsPacket start list p → IsAt p.link_exts.items i x → SayTheSame g (unit_header (ext_unit x.slice)) → TakesExt (packet_headers p) i g x.offset
 takes_ext start list p i x g is at same =
-    let f = found_at start list p i x is (split_at p.link_exts.items i x at) in
-    record { front = f.front; replaced = unit_header (ext_unit x.slice); later = f.later; found = f.found; same = same; begins = f.begins }
+    record { front = front_of p i; replaced = unit_header (ext_unit x.slice); later = later_of p i; found = ext_at p i x at; same = same; begins = begins_at start list p i x is at }
 
 slice_is : (s : LinkExtSlice) → unit_header (ext_unit s) ≡ ext_slice_header s
 slice_is (exts.Vlan bytes) = refl
@@ -179,12 +161,12 @@ slice_is (exts.Macsec packet) = refl
 says : (s : LinkExtSlice) (g old : Header) → old ≡ ext_slice_header s → SayTheSame g old → SayTheSame g (unit_header (ext_unit s))
 says s g old e same = subst (SayTheSame g) (e ∙ sym (slice_is s)) same
 
-pub found_takes : (start : Expectation) (list : List ℕ) (p : PacketSlice) (i : ℕ) (x : PacketExt) (g old : Header) (hs : List Header) (e : Ending) → IsPacket start list p → slice_get p.link_exts.items i ≡ Some x → old ≡ ext_slice_header x.slice → SayTheSame g old
+pub found_takes : (start : Expectation) (list : List ℕ) (p : PacketSlice) (i : ℕ) (x : PacketExt) (g old : Header) (hs : List Header) (e : Ending) → IsPacket start list p → IsAt p.link_exts.items i x → old ≡ ext_slice_header x.slice → SayTheSame g old
     → Walk start list hs e → TakesExt hs i g x.offset
 found_takes start list p i x g old hs e is at value same walk =
     subst (λ (l : List Header). TakesExt l i g x.offset) (sym (is.one hs e walk).0) (takes_ext start list p i x g is at (says x.slice g old value same))
 
-pub found_room : (start : Expectation) (list : List ℕ) (p : PacketSlice) (i : ℕ) (x : PacketExt) (g old : Header) → IsPacket start list p → slice_get p.link_exts.items i ≡ Some x → old ≡ ext_slice_header x.slice → SayTheSame g old
+pub found_room : (start : Expectation) (list : List ℕ) (p : PacketSlice) (i : ℕ) (x : PacketExt) (g old : Header) → IsPacket start list p → IsAt p.link_exts.items i x → old ≡ ext_slice_header x.slice → SayTheSame g old
     → x.offset + header_len g ≤ length list
 found_room start list p i x g old is at value same =
     let t = takes_ext start list p i x g is at (says x.slice g old value same) in
@@ -194,12 +176,11 @@ found_room start list p i x g old is at value same =
     let begins = t.begins in
     omega arith
 
-pub found_other : (start : Expectation) (list : List ℕ) (p : PacketSlice) (i : ℕ) (x : PacketExt) (g old : Header) (hs : List Header) (e : Ending) → IsPacket start list p → slice_get p.link_exts.items i ≡ Some x → old ≡ ext_slice_header x.slice → (SayTheSame g old → ⊥)
+pub found_other : (start : Expectation) (list : List ℕ) (p : PacketSlice) (i : ℕ) (x : PacketExt) (g old : Header) (hs : List Header) (e : Ending) → IsPacket start list p → IsAt p.link_exts.items i x → old ≡ ext_slice_header x.slice → (SayTheSame g old → ⊥)
     → Walk start list hs e → RefusesExt hs i g errors.SaysOther
 found_other start list p i x g old hs e is at value differ walk =
-    let f = found_at start list p i x is (split_at p.link_exts.items i x at) in
     let never : SayTheSame g (unit_header (ext_unit x.slice)) → ⊥ = λ same. differ (subst (SayTheSame g) (slice_is x.slice ∙ sym value) same) in
-    subst (λ (l : List Header). RefusesExt l i g errors.SaysOther) (sym (is.one hs e walk).0) (other f.front (unit_header (ext_unit x.slice)) f.later f.found never)
+    subst (λ (l : List Header). RefusesExt l i g errors.SaysOther) (sym (is.one hs e walk).0) (other (front_of p i) (unit_header (ext_unit x.slice)) (later_of p i) (ext_at p i x at) never)
 
 pub found_none : (start : Expectation) (list : List ℕ) (p : PacketSlice) (i n : ℕ) (g : Header) (hs : List Header) (e : Ending) → IsPacket start list p → n ≡ length p.link_exts.items → n ≤ i → Walk start list hs e → RefusesExt hs i g (errors.NoLinkExt n)
 found_none start list p i n g hs e is len past walk =

@@ -219,7 +219,7 @@ later_stack list bytes at x w (h ∷ hs) e fits past s =
     )
 
 -- the front of a window
-front_is : (list : List ℕ) (w : Window) (n : ℕ) → w.start + n ≤ w.finish → slice_range (within list w) 0 n ≡ slice_range list w.start (w.start + n)
+pub front_is : (list : List ℕ) (w : Window) (n : ℕ) → w.start + n ≤ w.finish → slice_range (within list w) 0 n ≡ slice_range list w.start (w.start + n)
 front_is list w n le =
     let zero_more : w.start + 0 ≡ w.start = omega arith in
     part_of_part list w.start w.finish 0 n (omega arith) le ∙ ap (λ (k : ℕ). slice_range list k (w.start + n)) zero_more

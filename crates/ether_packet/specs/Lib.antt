@@ -5,4 +5,5 @@ pub mod Adding
 pub mod Building
 pub mod Builder
 pub mod Replacing
+pub mod VlanIds
 pub mod Texts
