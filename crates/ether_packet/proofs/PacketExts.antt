@@ -204,6 +204,7 @@ is_replaced start old new hs e i at g t fits sendable bytes walk =
       later = t.later;
       found = t.found;
       same = t.same;
+      fits = fits;
       bytes = same_place;
       len = ap length same_place ∙ length-overwritten old (header_bytes g) (place 0 t.front) (omega arith);
       walk = subst (λ (l : List ℕ). Walk start l (t.front ++ g ∷ t.later) e) (sym same_place) (replaced_walk start old t.front t.replaced g t.later e t.same fits sendable split);

@@ -78,14 +78,15 @@ no_ids_before p i untagged =
     ∙ (λ j. (ids_of_units (link_units p.link) ∙ (link_has p.link).0) j ++ (ids_of_units (ext_units (take i p.link_exts.items)) ∙ sym untagged.found) j)
 
 -- after extensions that are no VLAN tags
-pub is_outermost : (p : PacketSlice) (i : ℕ) (x : PacketExt) (bytes : List ℕ) (tag : VlanValue) → IsAt p.link_exts.items i x → Identified p.link_exts.items i [] → x.slice ≡ exts.Vlan bytes → tag ≡ vlan_of bytes → IsOutermost (packet_headers p) i tag
-is_outermost p i x bytes tag at untagged is value =
+pub is_outermost : (p : PacketSlice) (xs : List PacketExt) (i : ℕ) (x : PacketExt) (bytes : List ℕ) (tag : VlanValue) → xs ≡ p.link_exts.items → IsAt xs i x → Identified xs i [] → x.slice ≡ exts.Vlan bytes → tag ≡ vlan_of bytes
+    → IsOutermost (packet_headers p) i tag
+is_outermost p xs i x bytes tag items at untagged is value =
     let header : unit_header (ext_unit x.slice) ≡ headers.Vlan tag = ap (λ (s : LinkExtSlice). unit_header (ext_unit s)) is ∙ ap headers.Vlan (sym value) in
     record {
       front = front_of p i;
       later = later_of p i;
-      found = subst (λ (h : Header). IsExtAt (packet_headers p) i (front_of p i) h (later_of p i)) header (ext_at p i x at);
-      outermost = no_ids_before p i untagged;
+      found = subst (λ (h : Header). IsExtAt (packet_headers p) i (front_of p i) h (later_of p i)) header (ext_at p i x (subst (λ (l : List PacketExt). IsAt l i x) items at));
+      outermost = no_ids_before p i (subst (λ (l : List PacketExt). Identified l i []) items untagged);
     }
 
 -- ---- its bits
@@ -173,13 +174,13 @@ vid_set start old new front v later e vid ok lt walk bytes =
     (subst (λ (l : List ℕ). SetsVid l (length (take at old)) vid (take at old ++ vlan_bytes w ++ drop (at + 4) old)) old_is sets))
 
 -- the outermost VLAN tag is replaced by one with another identifier
-pub sets_outermost : (start : Expectation) (old new : List ℕ) (hs : List Header) (e : Ending) (i : ℕ) (tag : VlanValue) (vid : ℕ) → IsBytes old → vid < 4096 → (o : IsOutermost hs i tag) → Walk start old hs e
+pub sets_outermost : (start : Expectation) (old new : List ℕ) (hs : List Header) (e : Ending) (i : ℕ) (tag : VlanValue) (vid : ℕ) → IsBytes old → (o : IsOutermost hs i tag) → Walk start old hs e
     → ReplacesExt start old hs e i (headers.Vlan (record tag { vid = vid })) new
     → Walk start new (o.front ++ headers.Vlan (record tag { vid = vid }) ∷ o.later) e × SetsVid old (place 0 o.front) vid new
-sets_outermost start old new hs e i tag vid ok lt o walk r =
+sets_outermost start old new hs e i tag vid ok o walk r =
     let g = headers.Vlan (record tag { vid = vid }) in
     let same = one_ext hs i r.front o.front r.replaced (headers.Vlan tag) r.later o.later r.found o.found in
     let bytes = r.bytes ∙ ap (λ (f : List Header). overwritten old (place 0 f) (header_bytes g)) same.0 in (
       subst (λ (f : List Header). Walk start new (f ++ g ∷ o.later) e) same.0 (subst (λ (l : List Header). Walk start new (r.front ++ g ∷ l) e) same.2 r.walk),
-      vid_set start old new o.front tag o.later e vid ok lt (subst (λ (l : List Header). Walk start old l e) o.found.parts walk) bytes,
+      vid_set start old new o.front tag o.later e vid ok r.fits.vid (subst (λ (l : List Header). Walk start old l e) o.found.parts walk) bytes,
     )

@@ -2,7 +2,7 @@
 use Rattle.std.specs.Prelude.{◌≡◌, ℕ, ◌+◌, ◌≤◌, List, [], ◌∷◌, ◌++◌, length, true, if◌then◌else◌}
 use Rattle.etherparse.specs.Bytes.{overwritten}
 use Rattle.etherparse.specs.Macsec.{sci_present_of}
-use Rattle.etherparse.specs.Header.{Header, kind_of, header_bytes}
+use Rattle.etherparse.specs.Header.{Header, kind_of, header_bytes, FitsHeader}
 use Rattle.etherparse.specs.Header as headers
 use Rattle.ether_peel.specs.Grammar.Expectation.{Expectation, is_extension}
 use Rattle.ether_peel.specs.Grammar.Places.{place}
@@ -53,6 +53,7 @@ pub record ReplacesExt (start : Expectation) (old : List ℕ) (hs : List Header)
   pub later : List Header
   pub found : IsExtAt hs i front replaced later
   pub same : SayTheSame g replaced
+  pub fits : FitsHeader g
   pub bytes : new ≡ overwritten old (place 0 front) (header_bytes g)
   pub len : length new ≡ length old
   pub walk : Walk start new (front ++ g ∷ later) e
