@@ -77,7 +77,7 @@ frame_has_no_id : (b : Bool) (e : Ethernet2Value) → cons_option (vid_of (if b 
 frame_has_no_id true e = refl
 frame_has_no_id false e = refl
 
-link_has : (link : Option LinkSlice) → (filter_map vid_in (link_units link) ≡ []) × (filter_map vlan_in (link_units link) ≡ []) × (filter_map macsec_in (link_units link) ≡ [])
+pub link_has : (link : Option LinkSlice) → (filter_map vid_in (link_units link) ≡ []) × (filter_map vlan_in (link_units link) ≡ []) × (filter_map macsec_in (link_units link) ≡ [])
 link_has None = (refl, refl, refl)
 link_has (Some (links.Ethernet2 frame)) = (frame_has_no_id frame.has_fcs _, refl, refl)
 link_has (Some (links.LinuxSll s)) = (refl, refl, refl)
@@ -88,7 +88,7 @@ arp_has : (arp : Option (List ℕ)) → (filter_map vid_in (arp_units arp) ≡ [
 arp_has None = (refl, refl, refl)
 arp_has (Some bytes) = (refl, refl, refl)
 
-ids_of_units : (us : List PeelUnit) → vlan_ids_of (map unit_header us) ≡ filter_map vid_in us
+pub ids_of_units : (us : List PeelUnit) → vlan_ids_of (map unit_header us) ≡ filter_map vid_in us
 ids_of_units [] = refl
 ids_of_units (u ∷ us) = ap (cons_option (vid_in u)) (ids_of_units us)
 

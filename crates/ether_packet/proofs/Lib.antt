@@ -5,3 +5,6 @@ pub mod Building
 pub mod Chains
 pub mod Filling
 pub mod Snapping
+pub mod Replaced
+pub mod PacketExts
+pub mod VlanIds

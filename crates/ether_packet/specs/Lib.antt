@@ -4,4 +4,6 @@ pub mod Getters
 pub mod Adding
 pub mod Building
 pub mod Builder
+pub mod Replacing
+pub mod VlanIds
 pub mod Texts

@@ -6,6 +6,8 @@ mod build_error;
 mod packet_builder;
 mod packet_ext;
 mod packet_slice;
+mod replace_error;
+mod replacing;
 #[cfg(test)]
 mod tests;
 
@@ -13,3 +15,5 @@ pub use build_error::BuildError;
 pub use packet_builder::{PacketBuilder, PacketContent};
 pub use packet_ext::PacketExt;
 pub use packet_slice::PacketSlice;
+pub use replace_error::ReplaceError;
+pub use replacing::replace_link_ext;

@@ -231,7 +231,7 @@ fn write_link(target: &mut [u8], link: &LinkHeader, ether_type: EtherType) -> us
 }
 
 /// Writes a tag from a place on, and returns where it ends.
-fn write_ext(target: &mut [u8], at: usize, ext: &LinkExtHeader) -> usize
+pub(crate) fn write_ext(target: &mut [u8], at: usize, ext: &LinkExtHeader) -> usize
     requires { at + header_len (ext_header_view ext.now) ≤ length target.old }
     ensures bytes { target.new
         ≡ overwritten target.old at (header_bytes (ext_header_view ext.now)) }

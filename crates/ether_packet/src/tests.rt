@@ -4,3 +4,4 @@ mod cuts;
 mod derived_traits;
 mod frames;
 mod packets;
+mod replacing;

@@ -1,0 +1,290 @@
+-- A header of a walk that is replaced in place: the walk is the one before with the other header.
+use Rattle.std.proofs.Common.{◌≡◌, ℕ, ◌+◌, ◌-◌, ◌*◌, ◌≤◌, List, [], ◌∷◌, ◌++◌, length, take, drop, refl, sym, ap, subst, ◌∙◌, arith, Bool, true, false}
+use Rattle.std.specs.Prelude.{slice_range, Option, Some, unwrap_or}
+use Rattle.std.proofs.lemmas.List.{append_assoc, drop_at, drop-drop, length-append, length-drop, length-take-le}
+use Rattle.std.proofs.lemmas.Slice.{between_from_start}
+use Rattle.etherparse.specs.Types.LenSource.{LenSource}
+use Rattle.etherparse.specs.Types.LenSource.TheVariants as sources
+use Rattle.etherparse.specs.Bytes.{overwritten}
+use Rattle.etherparse.specs.LinuxSll.{LinuxSllValue, BeginsLinuxSll, is_supported}
+use Rattle.etherparse.specs.Macsec.{SecTagFront, BeginsSecTag, encrypted_of, changed_of, ether_type_len, known_len, known_payload_len, sec_tag_len, sec_tag_front_of}
+use Rattle.etherparse.specs.Arp.{arp_front_of}
+use Rattle.etherparse.specs.Kind.{Kind}
+use Rattle.etherparse.specs.Kind as kinds
+use Rattle.etherparse.specs.Header.{Header, kind_of, header_len, payload_len, trailer_len, header_bytes, FitsHeader, Means, Spells}
+use Rattle.etherparse.specs.Header as headers
+use Rattle.etherparse.specs.Refusal.{Refuses, Accepts, IsTooShort}
+use Rattle.etherparse.specs.Refusal as rows
+use Rattle.etherparse.proofs.SubLists.{length-part, part-append, part_after_front, part_of_front, part_of_part}
+use Rattle.etherparse.proofs.Rows.{at_least, accepts_ethernet2, accepts_ethernet2_fcs, accepts_linux_sll, accepts_vlan, accepts_macsec, accepts_arp, version_zero}
+use Rattle.etherparse.proofs.Means.{arp_begins, begins_whole, tag_begins, unit_fits}
+use Rattle.etherparse.proofs.ReadBack.{length-header_bytes, sec_tag_front_back, spells-header_bytes}
+use Rattle.ether_peel.specs.Grammar.Window.{Window, within, IsIn, payload}
+use Rattle.ether_peel.specs.Grammar.Expectation.{Expectation, Next, next_after, after, after_capture, after_payload, has_fcs, is_extension, lowered}
+use Rattle.ether_peel.specs.Grammar.Places.{place}
+use Rattle.ether_peel.specs.Grammar.Stack.{Ending, Accepted, Fault, IsUnit, Stack, whole, Walk}
+use Rattle.ether_peel.proofs.Grammar.Windows.{payload_from, payload_in}
+use Rattle.ether_peel.proofs.Grammar.Places.{place_least, header_before, last_after}
+use Rattle.ether_peel.proofs.Grammar.Cleared.{whole_in}
+use Rattle.ether_packet.specs.Replacing.{SayTheSame}
+
+-- ---- a list that is written over
+
+pub length-overwritten : (list bytes : List ℕ) (at : ℕ) → at + length bytes ≤ length list → length (overwritten list at bytes) ≡ length list
+length-overwritten list bytes at le = simp (length-append, length-drop) (omega (arith, length-take-le at list (omega arith)))
+
+-- what is before the bytes
+pub part_before : (list bytes : List ℕ) (at i j : ℕ) → at ≤ length list → i ≤ j → j ≤ at → slice_range (overwritten list at bytes) i j ≡ slice_range list i j
+part_before list bytes at i j le ij ja =
+    let more = drop (at + length bytes) list in
+    let front : length (take at list) ≡ at = length-take-le at list le in
+    ap (λ (l : List ℕ). slice_range l i j) (append_assoc (take at list) bytes more) ∙ part-append (take at list) (bytes ++ more) i j ij (omega arith) ∙ ap (λ (l : List ℕ). slice_range l i j) (sym (between_from_start list at)) ∙ part_of_front list at i j ij ja
+
+-- the bytes
+pub part_at : (list bytes : List ℕ) (at : ℕ) → at + length bytes ≤ length list → slice_range (overwritten list at bytes) at (at + length bytes) ≡ bytes
+part_at list bytes at le = part_after_front (take at list) bytes (drop (at + length bytes) list) at (at + length bytes) (length-take-le at list (omega arith)) refl
+
+-- what follows them
+rest_after : (list bytes : List ℕ) (at : ℕ) → at + length bytes ≤ length list → drop (at + length bytes) (overwritten list at bytes) ≡ drop (at + length bytes) list
+rest_after list bytes at le =
+    let end = at + length bytes in
+    let len : length (take at list ++ bytes) ≡ end = length-append (take at list) bytes ∙ ap (λ (n : ℕ). n + length bytes) (length-take-le at list (omega arith)) in
+    drop_at (take at list ++ bytes) (drop end list) end len
+
+pub part_after : (list bytes : List ℕ) (at i j : ℕ) → at + length bytes ≤ length list → at + length bytes ≤ i → slice_range (overwritten list at bytes) i j ≡ slice_range list i j
+part_after list bytes at i j le past =
+    let end = at + length bytes in
+    let k = i - end in
+    let split : end + k ≡ i = omega arith in
+    let a = drop-drop k end (overwritten list at bytes) in
+    let b = drop-drop k end list in
+    ap (λ (n : ℕ). take (j - i) (drop n (overwritten list at bytes))) (sym split) ∙ ap (take (j - i)) (sym a ∙ ap (drop k) (rest_after list bytes at le) ∙ b) ∙ ap (λ (n : ℕ). take (j - i) (drop n list)) split
+
+-- ---- headers that say the same
+
+pub same_self : (h : Header) → SayTheSame h h
+same_self (headers.Ethernet2 e) = refl
+same_self (headers.Ethernet2Fcs e) = refl
+same_self (headers.LinuxSll s) = (refl, refl)
+same_self (headers.Vlan v) = refl
+same_self (headers.Macsec t) = (refl, refl, refl)
+same_self (headers.Arp a) = (refl, refl)
+
+pub same_kind : (g h : Header) → SayTheSame g h → kind_of g ≡ kind_of h
+same_kind (headers.Ethernet2 g) (headers.Ethernet2 h) same = refl
+same_kind (headers.Ethernet2Fcs g) (headers.Ethernet2Fcs h) same = refl
+same_kind (headers.LinuxSll g) (headers.LinuxSll h) same = refl
+same_kind (headers.Vlan g) (headers.Vlan h) same = refl
+same_kind (headers.Macsec g) (headers.Macsec h) same = refl
+same_kind (headers.Arp g) (headers.Arp h) same = refl
+same_kind _ _ same = absurd same
+
+pub same_len : (g h : Header) → SayTheSame g h → header_len g ≡ header_len h
+same_len (headers.Ethernet2 g) (headers.Ethernet2 h) same = refl
+same_len (headers.Ethernet2Fcs g) (headers.Ethernet2Fcs h) same = refl
+same_len (headers.LinuxSll g) (headers.LinuxSll h) same = refl
+same_len (headers.Vlan g) (headers.Vlan h) same = refl
+same_len (headers.Macsec g) (headers.Macsec h) same = λ i. 6 + 8 * same.2 i + ether_type_len (encrypted_of (same.0 i)) (changed_of (same.0 i))
+same_len (headers.Arp g) (headers.Arp h) same = λ i. 8 + 2 * same.0 i + 2 * same.1 i
+same_len _ _ same = absurd same
+
+same_payload_len : (g h : Header) → SayTheSame g h → payload_len g ≡ payload_len h
+same_payload_len (headers.Ethernet2 g) (headers.Ethernet2 h) same = refl
+same_payload_len (headers.Ethernet2Fcs g) (headers.Ethernet2Fcs h) same = refl
+same_payload_len (headers.LinuxSll g) (headers.LinuxSll h) same = refl
+same_payload_len (headers.Vlan g) (headers.Vlan h) same = refl
+same_payload_len (headers.Macsec g) (headers.Macsec h) same = λ i. known_len (ether_type_len (encrypted_of (same.0 i)) (changed_of (same.0 i))) (same.1 i)
+same_payload_len (headers.Arp g) (headers.Arp h) same = refl
+same_payload_len _ _ same = absurd same
+
+same_trailer : (g h : Header) → SayTheSame g h → trailer_len g ≡ trailer_len h
+same_trailer (headers.Ethernet2 g) (headers.Ethernet2 h) same = refl
+same_trailer (headers.Ethernet2Fcs g) (headers.Ethernet2Fcs h) same = refl
+same_trailer (headers.LinuxSll g) (headers.LinuxSll h) same = refl
+same_trailer (headers.Vlan g) (headers.Vlan h) same = refl
+same_trailer (headers.Macsec g) (headers.Macsec h) same = refl
+same_trailer (headers.Arp g) (headers.Arp h) same = refl
+same_trailer _ _ same = absurd same
+
+same_next : (g h : Header) → SayTheSame g h → next_after g ≡ next_after h
+same_next (headers.Ethernet2 g) (headers.Ethernet2 h) same = λ i. next_after (headers.Ethernet2 (record g { ether_type = same i }))
+same_next (headers.Ethernet2Fcs g) (headers.Ethernet2Fcs h) same = λ i. next_after (headers.Ethernet2Fcs (record g { ether_type = same i }))
+same_next (headers.LinuxSll g) (headers.LinuxSll h) same = λ i. after_capture (same.0 i) (same.1 i)
+same_next (headers.Vlan g) (headers.Vlan h) same = λ i. next_after (headers.Vlan (record g { ether_type = same i }))
+same_next (headers.Macsec g) (headers.Macsec h) same = ap after_payload same.0
+same_next (headers.Arp g) (headers.Arp h) same = refl
+same_next _ _ same = absurd same
+
+same_after : (x : Expectation) (g h : Header) → SayTheSame g h → after x g ≡ after x h
+same_after x g h same = λ i. record { next = same_next g h same i; limit = lowered (is_extension (same_kind g h same i)) x.limit }
+
+same_payload : (w : Window) (g h : Header) → SayTheSame g h → payload w g ≡ payload w h
+same_payload w g h same = λ i. payload_from (w.start + same_len g h same i) (same_trailer g h same i) (same_payload_len g h same i) w
+
+-- ---- a header that is read again
+
+-- no row on the content of a header holds
+abbrev IsSound : List ℕ → Header → Type 0
+IsSound bytes (headers.LinuxSll s) = s.packet_type ≤ 7
+IsSound bytes (headers.Macsec t) = (reserved : ℕ) × BeginsSecTag bytes (sec_tag_front_of 0 reserved t)
+IsSound bytes h = Unit {0}
+
+packet_type_of : (bound : LenSource) (bytes : List ℕ) (s : LinuxSllValue) → Accepts bound bytes kinds.LinuxSll → Means bytes (headers.LinuxSll s) → s.packet_type ≤ 7
+packet_type_of bound bytes s ok m = at_least 7 s.packet_type (λ lt. ok _ (rows.linux_sll_packet_type s m.whole m.spells lt))
+
+supported : (bound : LenSource) (bytes : List ℕ) (s : LinuxSllValue) (b : Bool) → is_supported s.hardware_type ≡ b → Accepts bound bytes kinds.LinuxSll → Means bytes (headers.LinuxSll s) → is_supported s.hardware_type ≡ true
+supported bound bytes s true e ok m = e
+supported bound bytes s false e ok m = absurd (ok _ (rows.linux_sll_hardware_type s m.whole m.spells (packet_type_of bound bytes s ok m) e))
+
+fits_named : (o : Option ℕ) (n p trailer most : ℕ) → o ≡ Some p → n + unwrap_or o 0 + trailer ≤ most → n + p ≤ most
+fits_named o n p trailer most e le = let k : unwrap_or o 0 ≡ p = ap (λ (x : Option ℕ). unwrap_or x 0) e in omega arith
+
+-- bytes of the same number that begin with a header which says the same are accepted as well
+accepts_same : (bound : LenSource) (old new : List ℕ) (g h : Header) → Accepts bound old (kind_of h) → Means old h → Means new g → length new ≡ length old → SayTheSame g h → IsSound new g → Accepts bound new (kind_of g)
+accepts_same bound old new (headers.Ethernet2 g) (headers.Ethernet2 h) ok m n len same sound = accepts_ethernet2 bound new n.whole
+accepts_same bound old new (headers.Ethernet2Fcs g) (headers.Ethernet2Fcs h) ok m n len same sound =
+    let le = at_least (length old) 18 (λ lt. ok _ (rows.ethernet2_fcs lt)) in accepts_ethernet2_fcs bound new (omega arith)
+accepts_same bound old new (headers.LinuxSll g) (headers.LinuxSll h) ok m n len same sound =
+    accepts_linux_sll bound new g n.whole n.spells sound (ap is_supported same.0 ∙ supported bound old h (is_supported h.hardware_type) refl ok m)
+accepts_same bound old new (headers.Vlan g) (headers.Vlan h) ok m n len same sound = accepts_vlan bound new n.whole
+accepts_same bound old new (headers.Macsec g) (headers.Macsec h) ok m n len same sound =
+    let a = tag_begins old h m in
+    let c = sec_tag_front_of a.0 a.1 h in
+    let k = m.whole in
+    let l = n.whole in
+    let six : 6 ≤ length old = omega arith in
+    let version : a.0 ≡ 0 = version_zero bound old c six a.2 (ok _) in
+    let fits = unit_fits bound old (headers.Macsec h) ok m in
+    let as_long = same_len (headers.Macsec g) (headers.Macsec h) same in
+    accepts_macsec bound new (sec_tag_front_of 0 sound.0 g) (omega arith) sound.1 refl
+    (λ s. ok _ (rows.macsec_short_len c six a.2 version (record { encrypted = ap encrypted_of (sym same.0) ∙ s.encrypted; changed = ap changed_of (sym same.0) ∙ s.changed; short_len = sym same.1 ∙ s.short_len })))
+    l
+    (λ p e. let named = fits_named (payload_len (headers.Macsec h)) (header_len (headers.Macsec h)) p 0 (length old) (sym (same_payload_len (headers.Macsec g) (headers.Macsec h) same) ∙ e) fits in omega (arith, as_long, named, len))
+accepts_same bound old new (headers.Arp g) (headers.Arp h) ok m n len same sound =
+    let k = n.whole in accepts_arp bound new (arp_front_of g) (omega arith) (arp_begins new g n) k
+accepts_same bound old new _ _ ok m n len same sound = absurd same
+
+unit_same : (old new : List ℕ) (x : Expectation) (w : Window) (g h : Header) → IsUnit old x w h → Means (within new w) g → length (within new w) ≡ length (within old w) → SayTheSame g h → IsSound (within new w) g → IsUnit new x w g
+unit_same old new x w g h u m len same sound = record {
+  announced = u.announced ∙ ap Some (sym (same_kind g h same));
+  accepted = accepts_same w.bound (within old w) (within new w) g h u.accepted u.means m len same sound;
+  means = m;
+}
+
+-- a header whose own bytes are the same
+sound_kept : (bound : LenSource) (old new : List ℕ) (h : Header) → Accepts bound old (kind_of h) → Means old h → slice_range new 0 (header_len h) ≡ slice_range old 0 (header_len h) → IsSound new h
+sound_kept bound old new (headers.Ethernet2 e) ok m part = tt
+sound_kept bound old new (headers.Ethernet2Fcs e) ok m part = tt
+sound_kept bound old new (headers.LinuxSll s) ok m part = packet_type_of bound old s ok m
+sound_kept bound old new (headers.Vlan v) ok m part = tt
+sound_kept bound old new (headers.Macsec t) ok m part =
+    let n = header_len (headers.Macsec t) in
+    let c = sec_tag_front_of m.spells.version m.spells.reserved t in
+    let k = m.whole in
+    let version : m.spells.version ≡ 0 = version_zero bound old c (omega arith) (begins_whole old n c (omega arith) m.spells.front) (ok _) in
+    let begins = begins_whole new n c (omega arith) (subst (λ (l : List ℕ). BeginsSecTag l c) (sym part) m.spells.front) in
+    (m.spells.reserved, subst (λ (v : ℕ). BeginsSecTag new (sec_tag_front_of v m.spells.reserved t)) version begins)
+sound_kept bound old new (headers.Arp a) ok m part = tt
+
+-- a header that a sender may write: of a cooked capture with a packet type that is supported
+abbrev pub IsSendable : Header → Type 0
+IsSendable (headers.LinuxSll s) = s.packet_type ≤ 7
+IsSendable h = Unit {0}
+
+sound_written : (new : List ℕ) (g : Header) → FitsHeader g → IsSendable g → slice_range new 0 (header_len g) ≡ header_bytes g → IsSound new g
+sound_written new (headers.Ethernet2 e) fits sendable part = tt
+sound_written new (headers.Ethernet2Fcs e) fits sendable part = tt
+sound_written new (headers.LinuxSll s) fits sendable part = sendable
+sound_written new (headers.Vlan v) fits sendable part = tt
+sound_written new (headers.Macsec t) fits sendable part =
+    let c = sec_tag_front_of 0 0 t in
+    (0, begins_whole new (header_len (headers.Macsec t)) c (omega arith) (subst (λ (l : List ℕ). BeginsSecTag l c) (sym part) (sec_tag_front_back t fits)))
+sound_written new (headers.Arp a) fits sendable part = tt
+
+-- ---- stacks
+
+-- windows that begin after the bytes that are written over
+later_stack : (list bytes : List ℕ) (at : ℕ) (x : Expectation) (w : Window) (hs : List Header) (e : Ending) → at + length bytes ≤ length list → at + length bytes ≤ w.start → Stack list x w hs e → Stack (overwritten list at bytes) x w hs e
+later_stack list bytes at x w [] (Accepted v y) fits past s = s
+later_stack list bytes at x w [] (Fault v y r) fits past s =
+    (s.0, s.1, s.2, s.3, subst (λ (l : List ℕ). Refuses w.bound l s.2 r) (sym (part_after list bytes at w.start w.finish fits past)) s.4)
+later_stack list bytes at x w (h ∷ hs) e fits past s =
+    let same : within (overwritten list at bytes) w ≡ within list w = part_after list bytes at w.start w.finish fits past in (
+      record {
+        announced = s.0.announced;
+        accepted = subst (λ (l : List ℕ). Accepts w.bound l (kind_of h)) (sym same) s.0.accepted;
+        means = subst (λ (l : List ℕ). Means l h) (sym same) s.0.means;
+      },
+      later_stack list bytes at (after x h) (payload w h) hs e fits (omega arith) s.1,
+    )
+
+-- the front of a window
+pub front_is : (list : List ℕ) (w : Window) (n : ℕ) → w.start + n ≤ w.finish → slice_range (within list w) 0 n ≡ slice_range list w.start (w.start + n)
+front_is list w n le =
+    let zero_more : w.start + 0 ≡ w.start = omega arith in
+    part_of_part list w.start w.finish 0 n (omega arith) le ∙ ap (λ (k : ℕ). slice_range list k (w.start + n)) zero_more
+
+pub replaced_stack : (list : List ℕ) (x : Expectation) (w : Window) (front : List Header) (h g : Header) (later : List Header) (e : Ending) (at : ℕ)
+    → at ≡ place w.start front → at + header_len g ≤ length list → IsIn list w → SayTheSame g h → FitsHeader g → IsSendable g
+    → Stack list x w (front ++ h ∷ later) e → Stack (overwritten list at (header_bytes g)) x w (front ++ g ∷ later) e
+replaced_stack list x w [] h g later e at is room inside same fits sendable s =
+    let bytes = header_bytes g in
+    let new = overwritten list at bytes in
+    let len : length bytes ≡ header_len g = length-header_bytes g fits in
+    let fit : at + length bytes ≤ length list = omega arith in
+    let within_list = inside.inside in
+    let ordered = inside.ordered in
+    let all = length-overwritten list bytes at fit in
+    let old_len = length-part list w.start w.finish within_list in
+    let new_len = length-part new w.start w.finish (omega arith) in
+    let as_long = same_len g h same in
+    let there = s.0.means.whole in
+    let own : slice_range (within new w) 0 (header_len g) ≡ bytes =
+    front_is new w (header_len g) (omega arith) ∙ (λ i. slice_range new (sym is i) (sym is i + sym len i)) ∙ part_at list bytes at fit in
+    let means : Means (within new w) g = record { whole = omega arith; spells = subst (λ (l : List ℕ). Spells l g) (sym own) (spells-header_bytes g fits) } in
+    let rest = later_stack list bytes at (after x h) (payload w h) later e fit (omega arith) s.1 in (
+      unit_same list new x w g h s.0 means (omega arith) same (sound_written (within new w) g fits sendable own),
+      subst (λ (y : Expectation). Stack new y (payload w g) later e) (sym (same_after x g h same)) (subst (λ (v : Window). Stack new (after x h) v later e) (sym (same_payload w g h same)) rest),
+    )
+replaced_stack list x w (k ∷ front) h g later e at is room inside same fits sendable s =
+    let bytes = header_bytes g in
+    let new = overwritten list at bytes in
+    let n = header_len k in
+    let len : length bytes ≡ header_len g = length-header_bytes g fits in
+    let within_list = inside.inside in
+    let ordered = inside.ordered in
+    let all = length-overwritten list bytes at (omega arith) in
+    let old_len = length-part list w.start w.finish within_list in
+    let new_len = length-part new w.start w.finish (omega arith) in
+    let there = s.0.means.whole in
+    let least = place_least (w.start + n) front in
+    let own : slice_range (within new w) 0 n ≡ slice_range (within list w) 0 n =
+    front_is new w n (omega arith) ∙ part_before list bytes at w.start (w.start + n) (omega arith) (omega arith) (omega arith) ∙ sym (front_is list w n (omega arith)) in
+    let means : Means (within new w) k = record { whole = omega arith; spells = subst (λ (l : List ℕ). Spells l k) (sym own) s.0.means.spells } in (
+      unit_same list new x w k k s.0 means (omega arith) (same_self k) (sound_kept w.bound (within list w) (within new w) k s.0.accepted s.0.means own),
+      replaced_stack list (after x k) (payload w k) front h g later e at is room (payload_in list x w k inside s.0) same fits sendable s.1,
+    )
+
+-- ---- walks
+
+-- a header of a walk lies in the list
+pub header_inside : (start : Expectation) (list : List ℕ) (front : List Header) (h : Header) (later : List Header) (e : Ending) → Walk start list (front ++ h ∷ later) e → place 0 front + header_len h ≤ length list
+header_inside start list front h later e s =
+    let after_all = last_after list start (whole start list) (front ++ h ∷ later) e (whole_in start list) s in
+    let a = header_before (whole start list) _ front h later after_all in
+    let b = after_all.inside in
+    omega arith
+
+-- If a header of a walk is replaced by one that says the same, then the walk has that one in its place, and ends as before.
+pub replaced_walk : (start : Expectation) (list : List ℕ) (front : List Header) (h g : Header) (later : List Header) (e : Ending) → SayTheSame g h → FitsHeader g → IsSendable g
+    → Walk start list (front ++ h ∷ later) e → Walk start (overwritten list (place 0 front) (header_bytes g)) (front ++ g ∷ later) e
+replaced_walk start list front h g later e same fits sendable s =
+    let at = place 0 front in
+    let new = overwritten list at (header_bytes g) in
+    let as_long = same_len g h same in
+    let inside = header_inside start list front h later e s in
+    let room : at + header_len g ≤ length list = omega arith in
+    let bytes_len = length-header_bytes g fits in
+    let len = length-overwritten list (header_bytes g) at (omega arith) in
+    let stack = replaced_stack list start (whole start list) front h g later e at refl room (whole_in start list) same fits sendable s in
+    subst (λ (n : ℕ). Stack new start (record { start = 0; finish = n; closed = has_fcs start; bound = sources.Slice }) (front ++ g ∷ later) e) (sym len) stack

@@ -1,0 +1,186 @@
+-- The identifier of the outermost VLAN tag, set in place.
+use Rattle.std.proofs.Common.{◌≡◌, ◌≢◌, ℕ, zero, suc, ◌+◌, ◌-◌, ◌*◌, ◌/◌, ◌%◌, ◌^◌, ◌<◌, ◌≤◌, List, [], ◌∷◌, ◌++◌, length, take, drop, refl, sym, ap, subst, ◌∙◌, arith, append_assoc, Bool, true, false}
+use Rattle.std.specs.Prelude.{map, slice_index, slice_range, if◌then◌else◌}
+use Rattle.std.proofs.Math.Seq.{get_or-append_seam}
+use Rattle.std.proofs.lemmas.List.{get_or-append-add, drop-drop, length-append, length-take-le, take-append-drop}
+use Rattle.std.proofs.lemmas.List.Elements.{filter_map-append}
+use Rattle.etherparse.specs.Bytes.{IsBytes, spelled, overwritten}
+use Rattle.etherparse.specs.Types.LinkExtSlice.{LinkExtSlice}
+use Rattle.etherparse.specs.Types.LinkExtSlice.TheVariants as exts
+use Rattle.etherparse.specs.Vlan.{VlanValue, FitsVlan, IsVlan, vlan_number, vlan_bytes, vlan_of}
+use Rattle.etherparse.specs.Header.{Header, kind_of, header_len, header_bytes, Spells}
+use Rattle.etherparse.specs.Header as headers
+use Rattle.etherparse.proofs.Numbers.{length-spelled}
+use Rattle.etherparse.proofs.SubLists.{IsBytes-part, length-part}
+use Rattle.etherparse.proofs.VlanFields.{vlan_bytes-read}
+use Rattle.ether_peel.specs.Grammar.Window.{Window, within, IsIn, payload}
+use Rattle.ether_peel.specs.Grammar.Expectation.{Expectation, after, is_extension}
+use Rattle.ether_peel.specs.Grammar.Places.{place}
+use Rattle.ether_peel.specs.Grammar.Stack.{Ending, Stack, whole, Walk}
+use Rattle.ether_peel.specs.Walker.UnitHeader.{unit_header}
+use Rattle.ether_peel.proofs.Grammar.Cleared.{whole_in}
+use Rattle.ether_peel.proofs.Grammar.Windows.{payload_in}
+use Rattle.ether_packet.specs.declared.packet_ext.PacketExt.{PacketExt}
+use Rattle.ether_packet.specs.declared.packet_slice.PacketSlice.{PacketSlice}
+use Rattle.ether_packet.specs.declared.replace_error.ReplaceError.{ReplaceError}
+use Rattle.ether_packet.specs.Views.{link_units, ext_unit, ext_units, packet_headers}
+use Rattle.ether_packet.specs.Getters.{vid_of, vlan_ids_of}
+use Rattle.ether_packet.specs.Replacing.{SayTheSame, ext_count, IsExtAt, ReplacesExt, RefusesExt, none, other}
+use Rattle.ether_packet.specs.VlanIds.{IsOutermost, SetsVid}
+use Rattle.ether_packet.proofs.Getting.{IsAt, vid_in, Identified, link_has, ids_of_units}
+use Rattle.ether_packet.proofs.PacketExts.{ext_count-append, front_of, later_of, ext_at}
+use Rattle.ether_packet.proofs.Replaced.{front_is, header_inside}
+
+-- ---- the extension at an index is one
+
+-- what a header adds to their number
+abbrev counted : Header → ℕ
+counted h = if is_extension (kind_of h) then 1 else 0
+
+same_count : (h k : Header) (n m : ℕ) → h ≡ k → counted h + n ≡ counted k + m → n ≡ m
+same_count h k n m e counts = let same : counted h ≡ counted k = ap counted e in omega (arith, counts, same)
+
+one_more : (h : Header) (n : ℕ) → is_extension (kind_of h) ≡ true → counted h + n ≡ 0 → ⊥
+one_more h n is e = let one : counted h ≡ 1 = ap (λ (b : Bool). if b then 1 else 0) is in omega (arith, one, e)
+
+same_ext : (front other_front : List Header) (h k : Header) (later other_later : List Header) → front ++ h ∷ later ≡ other_front ++ k ∷ other_later
+    → is_extension (kind_of h) ≡ true → is_extension (kind_of k) ≡ true → ext_count front ≡ ext_count other_front → (front ≡ other_front) × (h ≡ k) × (later ≡ other_later)
+same_ext [] [] h k later other_later e a b n = (refl, cc, cc)
+same_ext [] (y ∷ ys) h k later other_later e a b n =
+    let first : h ≡ y = cc in absurd (one_more y (ext_count ys) (subst (λ (x : Header). is_extension (kind_of x) ≡ true) first a) (sym n))
+same_ext (x ∷ xs) [] h k later other_later e a b n =
+    let first : k ≡ x = cc in absurd (one_more x (ext_count xs) (subst (λ (y : Header). is_extension (kind_of y) ≡ true) first b) n)
+same_ext (x ∷ xs) (y ∷ ys) h k later other_later e a b n =
+    let first : x ≡ y = cc in
+    let rest : xs ++ h ∷ later ≡ ys ++ k ∷ other_later = cc in
+    let r = same_ext xs ys h k later other_later rest a b (same_count x y (ext_count xs) (ext_count ys) first n) in
+    ((λ i. first i ∷ r.0 i), r.1, r.2)
+
+one_ext : (hs : List Header) (i : ℕ) (front other_front : List Header) (h k : Header) (later other_later : List Header) → IsExtAt hs i front h later → IsExtAt hs i other_front k other_later
+    → (front ≡ other_front) × (h ≡ k) × (later ≡ other_later)
+one_ext hs i front other_front h k later other_later f g = same_ext front other_front h k later other_later (sym f.parts ∙ g.parts) f.extension g.extension (f.before ∙ sym g.before)
+
+-- it is replaced by a header that says the same
+pub never_refused : (hs : List Header) (i : ℕ) (front : List Header) (h g : Header) (later : List Header) (e : ReplaceError) → IsExtAt hs i front h later → SayTheSame g h → RefusesExt hs i g e → ⊥
+never_refused hs i front h g later e found same (none few) =
+    let all = ap ext_count found.parts ∙ ext_count-append front (h ∷ later) in
+    let one : counted h ≡ 1 = ap (λ (b : Bool). if b then 1 else 0) found.extension in
+    let before = found.before in
+    omega (arith, all, one, before, few)
+never_refused hs i front h g later e found same (other other_front k other_later there differ) =
+    differ (subst (SayTheSame g) (one_ext hs i front other_front h k later other_later found there).1 same)
+
+-- ---- the outermost VLAN tag
+
+no_ids_before : (p : PacketSlice) (i : ℕ) → Identified p.link_exts.items i [] → vlan_ids_of (front_of p i) ≡ []
+no_ids_before p i untagged =
+    filter_map-append vid_of (map unit_header (link_units p.link)) (map unit_header (ext_units (take i p.link_exts.items)))
+    ∙ (λ j. (ids_of_units (link_units p.link) ∙ (link_has p.link).0) j ++ (ids_of_units (ext_units (take i p.link_exts.items)) ∙ sym untagged.found) j)
+
+-- after extensions that are no VLAN tags
+pub is_outermost : (p : PacketSlice) (xs : List PacketExt) (i : ℕ) (x : PacketExt) (bytes : List ℕ) (tag : VlanValue) → xs ≡ p.link_exts.items → IsAt xs i x → Identified xs i [] → x.slice ≡ exts.Vlan bytes → tag ≡ vlan_of bytes
+    → IsOutermost (packet_headers p) i tag
+is_outermost p xs i x bytes tag items at untagged is value =
+    let header : unit_header (ext_unit x.slice) ≡ headers.Vlan tag = ap (λ (s : LinkExtSlice). unit_header (ext_unit s)) is ∙ ap headers.Vlan (sym value) in
+    record {
+      front = front_of p i;
+      later = later_of p i;
+      found = subst (λ (h : Header). IsExtAt (packet_headers p) i (front_of p i) h (later_of p i)) header (ext_at p i x (subst (λ (l : List PacketExt). IsAt l i x) items at));
+      outermost = no_ids_before p i (subst (λ (l : List PacketExt). Identified l i []) items untagged);
+    }
+
+-- ---- its bits
+
+-- a header of a stack is meant by its own bytes
+own_bytes : (list : List ℕ) (x : Expectation) (w : Window) (front : List Header) (h : Header) (later : List Header) (e : Ending) → IsIn list w → Stack list x w (front ++ h ∷ later) e
+    → Spells (slice_range list (place w.start front) (place w.start front + header_len h)) h
+own_bytes list x w [] h later e inside s =
+    let whole = s.0.means.whole in
+    let ordered = inside.ordered in
+    let len = length-part list w.start w.finish inside.inside in
+    subst (λ (l : List ℕ). Spells l h) (front_is list w (header_len h) (omega arith)) s.0.means.spells
+own_bytes list x w (k ∷ front) h later e inside s = own_bytes list (after x k) (payload w k) front h later e (payload_in list x w k inside s.0) s.1
+
+two_changed : (front : List ℕ) (a b p q : ℕ) (tail : List ℕ) (i : ℕ) → i ≢ length front → i ≢ length front + 1 → slice_index (front ++ a ∷ b ∷ tail) i ≡ slice_index (front ++ p ∷ q ∷ tail) i
+two_changed [] a b p q tail zero h k = absurd (h refl)
+two_changed [] a b p q tail (suc zero) h k = absurd (k refl)
+two_changed [] a b p q tail (suc (suc i)) h k = refl
+two_changed (x ∷ front) a b p q tail zero h k = refl
+two_changed (x ∷ front) a b p q tail (suc i) h k = two_changed front a b p q tail i (λ e. h (omega arith)) (λ e. k (omega arith))
+
+two_set : (front tail : List ℕ) (a b p q vid : ℕ) → a / 16 ≡ p / 16 → a % 16 * 256 + b ≡ vid → SetsVid (front ++ p ∷ q ∷ tail) (length front) vid (front ++ a ∷ b ∷ tail)
+two_set front tail a b p q vid upper set =
+    let new_a = get_or-append_seam front a (b ∷ tail) 0 in
+    let new_b = get_or-append-add front (a ∷ b ∷ tail) 1 0 in
+    let old_p = get_or-append_seam front p (q ∷ tail) 0 in
+    record {
+      len = length-append front (a ∷ b ∷ tail) ∙ sym (length-append front (p ∷ q ∷ tail));
+      others = λ i h k. two_changed front a b p q tail i h k;
+      upper = (λ i. new_a i / 16) ∙ upper ∙ sym (λ i. old_p i / 16);
+      set = (λ i. new_a i % 16 * 256 + new_b i) ∙ set;
+    }
+
+vlan_spelled : (v : VlanValue) → vlan_bytes v ≡ vlan_number v / 256 ^ 3 % 256 ∷ vlan_number v / 256 ^ 2 % 256 ∷ vlan_number v / 256 % 256 ∷ vlan_number v % 256 ∷ []
+unfolding spelled
+vlan_spelled v =
+    let c : vlan_number v / 256 ^ 1 % 256 ≡ vlan_number v / 256 % 256 = omega arith in
+    let d : vlan_number v / 256 ^ 0 % 256 ≡ vlan_number v % 256 = omega arith in
+    λ i. vlan_number v / 256 ^ 3 % 256 ∷ vlan_number v / 256 ^ 2 % 256 ∷ c i ∷ d i ∷ []
+
+-- a tag with another identifier differs in 12 bits
+tag_set : (front rest : List ℕ) (v : VlanValue) (vid : ℕ) → FitsVlan v → vid < 4096 → SetsVid (front ++ vlan_bytes v ++ rest) (length front) vid (front ++ vlan_bytes (record v { vid = vid }) ++ rest)
+tag_set front rest v vid fits lt =
+    let n = vlan_number v in
+    let w : VlanValue = record v { vid = vid } in
+    let m = vlan_number w in
+    let p = fits.pcp in
+    let d = fits.dei in
+    let f = fits.vid in
+    let t = fits.ether_type in
+    let third : m / 256 % 256 ≡ n / 256 % 256 = omega arith in
+    let fourth : m % 256 ≡ n % 256 = omega arith in
+    let upper : m / 256 ^ 3 % 256 / 16 ≡ n / 256 ^ 3 % 256 / 16 = omega arith in
+    let set : m / 256 ^ 3 % 256 % 16 * 256 + m / 256 ^ 2 % 256 ≡ vid = omega arith in
+    let old : front ++ vlan_bytes v ++ rest ≡ front ++ n / 256 ^ 3 % 256 ∷ n / 256 ^ 2 % 256 ∷ n / 256 % 256 ∷ n % 256 ∷ rest =
+    append_assoc front (vlan_bytes v) rest ∙ ap (λ (l : List ℕ). front ++ (l ++ rest)) (vlan_spelled v) in
+    let new : front ++ vlan_bytes w ++ rest ≡ front ++ m / 256 ^ 3 % 256 ∷ m / 256 ^ 2 % 256 ∷ n / 256 % 256 ∷ n % 256 ∷ rest =
+    append_assoc front (vlan_bytes w) rest ∙ ap (λ (l : List ℕ). front ++ (l ++ rest)) (vlan_spelled w) ∙ (λ i. front ++ m / 256 ^ 3 % 256 ∷ m / 256 ^ 2 % 256 ∷ third i ∷ fourth i ∷ rest) in
+    let sets = two_set front (n / 256 % 256 ∷ n % 256 ∷ rest) (m / 256 ^ 3 % 256) (m / 256 ^ 2 % 256) (n / 256 ^ 3 % 256) (n / 256 ^ 2 % 256) vid upper set in
+    subst (λ (l : List ℕ). SetsVid l (length front) vid (front ++ vlan_bytes w ++ rest)) (sym old) (subst (SetsVid _ (length front) vid) (sym new) sets)
+
+-- the bytes of a part, written over it again
+own_over : (list : List ℕ) (at n : ℕ) → take at list ++ slice_range list at (at + n) ++ drop (at + n) list ≡ list
+own_over list at n =
+    let sub : at + n - at ≡ n = omega arith in
+    (λ i. take at list ++ take (sub i) (drop at list) ++ sym (drop-drop n at list) i) ∙ append_assoc (take at list) (take n (drop at list)) (drop n (drop at list))
+    ∙ ap (λ (l : List ℕ). take at list ++ l) (take-append-drop n (drop at list)) ∙ take-append-drop at list
+
+vid_set : (start : Expectation) (old new : List ℕ) (front : List Header) (v : VlanValue) (later : List Header) (e : Ending) (vid : ℕ) → IsBytes old → vid < 4096 → Walk start old (front ++ headers.Vlan v ∷ later) e
+    → new ≡ overwritten old (place 0 front) (header_bytes (headers.Vlan (record v { vid = vid }))) → SetsVid old (place 0 front) vid new
+vid_set start old new front v later e vid ok lt walk bytes =
+    let at = place 0 front in
+    let w : VlanValue = record v { vid = vid } in
+    let room : at + 4 ≤ length old = header_inside start old front (headers.Vlan v) later e walk in
+    let part = slice_range old at (at + 4) in
+    let spells : IsVlan part v = own_bytes old start (whole start old) front (headers.Vlan v) later e (whole_in start old) walk in
+    let len : length part ≡ 4 = length-part old at (at + 4) room ∙ omega arith in
+    let same : vlan_bytes v ≡ part = vlan_bytes-read part v (IsBytes-part at (at + 4) old ok) len spells in
+    let old_is : take at old ++ vlan_bytes v ++ drop (at + 4) old ≡ old = ap (λ (l : List ℕ). take at old ++ l ++ drop (at + 4) old) same ∙ own_over old at 4 in
+    let new_is : new ≡ take at old ++ vlan_bytes w ++ drop (at + 4) old = bytes ∙ ap (λ (n : ℕ). take at old ++ vlan_bytes w ++ drop (at + n) old) (length-spelled 4 (vlan_number w)) in
+    let begins : length (take at old) ≡ at = length-take-le at old (omega arith) in
+    let sets = tag_set (take at old) (drop (at + 4) old) v vid spells.fits lt in
+    subst (SetsVid old at vid) (sym new_is)
+    (subst (λ (n : ℕ). SetsVid old n vid (take at old ++ vlan_bytes w ++ drop (at + 4) old)) begins
+    (subst (λ (l : List ℕ). SetsVid l (length (take at old)) vid (take at old ++ vlan_bytes w ++ drop (at + 4) old)) old_is sets))
+
+-- the outermost VLAN tag is replaced by one with another identifier
+pub sets_outermost : (start : Expectation) (old new : List ℕ) (hs : List Header) (e : Ending) (i : ℕ) (tag : VlanValue) (vid : ℕ) → IsBytes old → (o : IsOutermost hs i tag) → Walk start old hs e
+    → ReplacesExt start old hs e i (headers.Vlan (record tag { vid = vid })) new
+    → Walk start new (o.front ++ headers.Vlan (record tag { vid = vid }) ∷ o.later) e × SetsVid old (place 0 o.front) vid new
+sets_outermost start old new hs e i tag vid ok o walk r =
+    let g = headers.Vlan (record tag { vid = vid }) in
+    let same = one_ext hs i r.front o.front r.replaced (headers.Vlan tag) r.later o.later r.found o.found in
+    let bytes = r.bytes ∙ ap (λ (f : List Header). overwritten old (place 0 f) (header_bytes g)) same.0 in (
+      subst (λ (f : List Header). Walk start new (f ++ g ∷ o.later) e) same.0 (subst (λ (l : List Header). Walk start new (r.front ++ g ∷ l) e) same.2 r.walk),
+      vid_set start old new o.front tag o.later e vid ok r.fits.vid (subst (λ (l : List Header). Walk start old l e) o.found.parts walk) bytes,
+    )

@@ -1,0 +1,65 @@
+-- A header of a frame that is replaced in place.
+use Rattle.std.specs.Prelude.{◌≡◌, ℕ, ◌+◌, ◌≤◌, List, [], ◌∷◌, ◌++◌, length, true, if◌then◌else◌}
+use Rattle.etherparse.specs.Bytes.{overwritten}
+use Rattle.etherparse.specs.Macsec.{sci_present_of}
+use Rattle.etherparse.specs.Header.{Header, kind_of, header_bytes, FitsHeader}
+use Rattle.etherparse.specs.Header as headers
+use Rattle.ether_peel.specs.Grammar.Expectation.{Expectation, is_extension}
+use Rattle.ether_peel.specs.Grammar.Places.{place}
+use Rattle.ether_peel.specs.Grammar.Stack.{Ending, Walk}
+use Rattle.ether_packet.specs.declared.replace_error.ReplaceError.{ReplaceError}
+use Rattle.ether_packet.specs.declared.replace_error.ReplaceError.TheVariants as errors
+
+-- Two headers are of one kind and length, and say the same about what follows them: they announce the same, and name the same
+-- length of a payload or none.
+abbrev pub SayTheSame : Header → Header → Type 0
+SayTheSame (headers.Ethernet2 g) (headers.Ethernet2 h) = g.ether_type ≡ h.ether_type
+SayTheSame (headers.Ethernet2Fcs g) (headers.Ethernet2Fcs h) = g.ether_type ≡ h.ether_type
+SayTheSame (headers.LinuxSll g) (headers.LinuxSll h) = (g.hardware_type ≡ h.hardware_type) × (g.protocol ≡ h.protocol)
+SayTheSame (headers.Vlan g) (headers.Vlan h) = g.ether_type ≡ h.ether_type
+SayTheSame (headers.Macsec g) (headers.Macsec h) =
+    (g.payload_type ≡ h.payload_type) × (g.short_len ≡ h.short_len) × (sci_present_of g.sci ≡ sci_present_of h.sci)
+SayTheSame (headers.Arp g) (headers.Arp h) =
+    (length g.sender_hardware ≡ length h.sender_hardware) × (length g.sender_protocol ≡ length h.sender_protocol)
+SayTheSame g h = ⊥
+
+-- how many of these headers are extensions
+abbrev pub ext_count : List Header → ℕ
+ext_count [] = 0
+ext_count (h ∷ hs) = (if is_extension (kind_of h) then 1 else 0) + ext_count hs
+
+-- h is the extension at an index of the headers hs, after those of front and before the later ones
+pub record IsExtAt (hs : List Header) (i : ℕ) (front : List Header) (h : Header) (later : List Header)
+    : Type 0 where
+  pub parts : hs ≡ front ++ h ∷ later
+  pub extension : is_extension (kind_of h) ≡ true
+  pub before : ext_count front ≡ i
+
+-- The extension at an index begins at a place, and g can replace it.
+pub record TakesExt (hs : List Header) (i : ℕ) (g : Header) (at : ℕ) : Type 0 where
+  pub front : List Header
+  pub replaced : Header
+  pub later : List Header
+  pub found : IsExtAt hs i front replaced later
+  pub same : SayTheSame g replaced
+  pub begins : at ≡ place 0 front
+
+-- A list with headers hs and this ending becomes another one, in which g replaces the extension at an index. Only the bytes of
+-- that extension are others, and the walk has all other headers and the ending as before.
+pub record ReplacesExt (start : Expectation) (old : List ℕ) (hs : List Header) (e : Ending) (i : ℕ) (g : Header) (new : List ℕ)
+    : Type 0 where
+  pub front : List Header
+  pub replaced : Header
+  pub later : List Header
+  pub found : IsExtAt hs i front replaced later
+  pub same : SayTheSame g replaced
+  pub fits : FitsHeader g
+  pub bytes : new ≡ overwritten old (place 0 front) (header_bytes g)
+  pub len : length new ≡ length old
+  pub walk : Walk start new (front ++ g ∷ later) e
+
+-- g does not replace the extension at an index: there is none, or it says something else
+pub data RefusesExt (hs : List Header) (i : ℕ) (g : Header) : ReplaceError → Type 0 where
+  none : ext_count hs ≤ i → RefusesExt hs i g (errors.NoLinkExt (ext_count hs))
+  other : (front : List Header) (h : Header) (later : List Header)
+      → IsExtAt hs i front h later → (SayTheSame g h → ⊥) → RefusesExt hs i g errors.SaysOther

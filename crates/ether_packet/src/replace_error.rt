@@ -1,0 +1,41 @@
+//! Why a header is not replaced.
+ghost use Rattle.std.specs.Prelude.{Some};
+ghost use Rattle.ether_packet.specs.Texts.{replace_error_text};
+
+use std::error::Error;
+use std::fmt;
+
+/// Why a header is not replaced. The frame is then as it was.
+///
+/// ```
+/// assert_eq!(rt;
+///     format!(in rt.alloc(); "{}", ReplaceError::NoLinkExt(1))?.as_str(),
+///     "There is no VLAN tag or SecTag at this index: the frame has 1."
+/// );
+/// ```
+#[derive(Clone, PartialEq, Eq, Debug, Drop)]
+pub enum ReplaceError {
+    /// There is no VLAN tag or SecTag at the index. The frame has this many.
+    NoLinkExt(usize),
+    /// The header in the frame is of another kind, or says something else about what follows it.
+    SaysOther,
+}
+
+impl fmt::Display for ReplaceError {
+    ghost output = { λ error. Some (replace_error_text error) };
+
+    fn fmt<W: fmt::Write>(&self, f: &mut fmt::Formatter<W>) -> fmt::Result {
+        match self {
+            ReplaceError::NoLinkExt(count) => write!(
+                f,
+                "There is no VLAN tag or SecTag at this index: the frame has {count}."
+            ),
+            ReplaceError::SaysOther => write!(
+                f,
+                "The header in the frame is of another kind, or says something else about what follows it."
+            ),
+        }
+    }
+}
+
+impl Error for ReplaceError {}
