@@ -99,7 +99,7 @@ pub record IsSealedAt (hs : List Header) (i : ℕ) : Type 0 where
 
 -- a header of cooked capture of another link than Ethernet is refused with its hardware type
 abbrev pub IsOtherLink : LinkHeader → BuildError → Type 0
-IsOtherLink (links.LinuxSll h) e = (e ≡ errors.HardwareType h.arp_hrd_type) × (h.arp_hrd_type.0 ≡ 1 → ⊥)
+IsOtherLink (links.LinuxSll h) e = (e ≡ errors.HardwareType h.arp_hrd_type) × (IsEthernet (links.LinuxSll h) → ⊥)
 IsOtherLink (links.Ethernet2 h) e = ⊥
 
 pub data RefusesPacket (p : PacketBuilder) (target : List ℕ) : BuildError → Type 0 where
