@@ -1,38 +1,43 @@
 -- A packet that has gathered the headers of a walk so far, and its end.
 use Rattle.std.proofs.Common.{◌≡◌, ℕ, zero, suc, ◌+◌, ◌-◌, ◌<◌, List, [], ◌∷◌, ◌++◌, length, refl, sym, ap, subst, ◌∙◌, arith, inl, inr, Bool, true, false, cond, ◌⊎◌}
-use Rattle.std.specs.Prelude.{map, Option, Some, None, Result, Ok, Err, ◌&&◌}
+use Rattle.std.specs.Prelude.{map, slice_get, slice_range, Option, Some, None, Result, Ok, Err, ◌&&◌}
+use Rattle.std.specs.List.{filter_map, cons_option}
 use Rattle.std.proofs.lemmas.List.{append_assoc, append-nil, length-append, map-append}
-use Rattle.etherparse.specs.Types.LinkSlice.{LinkSlice}
+use Rattle.std.proofs.lemmas.List.Elements.{filter-append, filter_map-append}
+use Rattle.etherparse.specs.Types.LenSource.{LenSource}
 use Rattle.etherparse.specs.Types.LinuxSllProtocolType.{LinuxSllProtocolType}
 use Rattle.etherparse.specs.Bytes.{IsBytes}
-use Rattle.etherparse.specs.Macsec.{PayloadType, sec_tag_of, tag_bytes}
+use Rattle.etherparse.specs.Macsec.{PayloadType}
 use Rattle.etherparse.specs.Macsec as payloads
 use Rattle.etherparse.specs.Kind.{Kind}
 use Rattle.etherparse.specs.Kind as kinds
-use Rattle.etherparse.specs.Header.{Header, kind_of, header_len}
+use Rattle.etherparse.specs.Header.{Header, kind_of}
 use Rattle.etherparse.specs.Header as headers
-use Rattle.etherparse.proofs.SubLists.{IsBytes-part}
+use Rattle.etherparse.specs.Refusal.{Accepts}
+use Rattle.etherparse.proofs.SubLists.{IsBytes-part, length-part}
 use Rattle.ether_peel.specs.Grammar.Window.{Window, within, payload}
 use Rattle.ether_peel.specs.Grammar.Expectation.{Next, Start, EtherType, Sll, Sealed, AfterArp, Expectation, is_extension, permitted, announced_next, announced, after, next_after, after_payload, lowered}
-use Rattle.ether_peel.specs.Grammar.Stack.{Ending, Accepted, Fault, last_window, last_expected, whole, Walk}
-use Rattle.ether_peel.specs.Grammar.Places.{place}
+use Rattle.ether_peel.specs.Grammar.Stack.{Ending, Accepted, Fault, IsUnit, last_window, last_expected, whole, Walk}
 use Rattle.ether_peel.specs.Walker.State.{State}
 use Rattle.ether_peel.specs.Walker.Start.{kind_shown}
 use Rattle.ether_peel.specs.Walker.Fault.{fault_in}
 use Rattle.ether_peel.specs.Walker.Next.{Faces, ShowsUnit, GivesNext, Gives}
 use Rattle.ether_peel.specs.Walker.Summary.{fault_of}
+use Rattle.ether_peel.specs.Walker.UnitHeader.{unit_header}
 use Rattle.ether_peel.specs.declared.peel_unit.PeelUnit.{PeelUnit}
-use Rattle.ether_peel.specs.declared.peel_unit.PeelUnit.TheVariants as units
 use Rattle.ether_peel.specs.declared.peel_fault.PeelFault.{PeelFault}
 use Rattle.ether_peel.proofs.Grammar.Announced.{announced_is}
 use Rattle.ether_peel.proofs.Grammar.Stacks.{one_stack}
+use Rattle.ether_peel.proofs.Walker.Bounds.{named, bounded_row}
 use Rattle.ether_peel.proofs.Walker.UnitHeaders.{unit_header-shown}
-use Rattle.ether_peel.specs.Walker.UnitHeader.{unit_header}
-use Rattle.ether_packet.specs.declared.packet_ext.PacketExt.{PacketExt}
+use Rattle.ether_packet.specs.declared.ext_places.Place.{Place}
 use Rattle.ether_packet.specs.declared.packet_slice.PacketSlice.{PacketSlice}
-use Rattle.ether_packet.specs.Views.{link_units, ext_unit, ext_units, arp_units, packet_units, packet_headers}
-use Rattle.ether_packet.specs.Packet.{AreViews, ext_places, ext_offsets, IsHeader, IsPacket}
-use Rattle.ether_packet.specs.Adding.{HasRoom, Adds, EndsWith}
+use Rattle.ether_packet.specs.PacketUnit.{PacketUnit, Read}
+use Rattle.ether_packet.specs.Views.{header_in, header_of, exts_of, arp_in, arp_view}
+use Rattle.ether_packet.specs.Packet.{packet_headers, IsUnitAt, AreUnitsAt, IsPacket}
+use Rattle.ether_packet.specs.Places.{Reads, IsReadable, kind_read, unit_at, read_with, HasPlace, HasPlaceForExt}
+use Rattle.ether_packet.proofs.HeadersIn.{header_shown}
+use Rattle.ether_packet.proofs.Places.{is_ext, arp_of_unit}
 
 -- ---- one header more
 
@@ -45,26 +50,11 @@ window_after-append : (w : Window) (hs : List Header) (h : Header) → window_af
 window_after-append w [] h = refl
 window_after-append w (k ∷ hs) h = window_after-append (payload w k) hs h
 
-after_start : (w : Window) (hs : List Header) → (window_after w hs).start ≡ place w.start hs
-after_start w [] = refl
-after_start w (h ∷ hs) = after_start (payload w h) hs
-
-views-append : (list : List ℕ) (w : Window) (hs : List Header) (us : List PeelUnit) (h : Header) (u : PeelUnit) → AreViews list w hs us
-    → ShowsUnit (within list (window_after w hs)) (within list (payload (window_after w hs) h)) h u → AreViews list w (hs ++ h ∷ []) (us ++ u ∷ [])
-views-append list w [] [] h u views shows = (shows, tt)
-views-append list w (k ∷ hs) (v ∷ us) h u views shows = (views.0, views-append list (payload w k) hs us h u views.1 shows)
-views-append list w [] (v ∷ us) h u views shows = absurd views
-views-append list w (k ∷ hs) [] h u views shows = absurd views
-
-more_places : (b : Bool) (at : ℕ) (l m : List ℕ) → cond b (at ∷ (l ++ m)) (l ++ m) ≡ cond b (at ∷ l) l ++ m
-more_places true at l m = refl
-more_places false at l m = refl
-
-ext_places-append : (at : ℕ) (hs : List Header) (h : Header) → ext_places at (hs ++ h ∷ []) ≡ ext_places at hs ++ cond (is_extension (kind_of h)) (place at hs ∷ []) []
-ext_places-append at [] h = refl
-ext_places-append at (k ∷ hs) h =
-    ap (λ (l : List ℕ). cond (is_extension (kind_of k)) (at ∷ l) l) (ext_places-append (at + header_len k) hs h)
-    ∙ more_places (is_extension (kind_of k)) at (ext_places (at + header_len k) hs) (cond (is_extension (kind_of h)) (place (at + header_len k) hs ∷ []) [])
+units-append : (list : List ℕ) (w : Window) (hs : List Header) (us : List PacketUnit) (h : Header) (u : PacketUnit) → AreUnitsAt list w hs us → IsUnitAt list (window_after w hs) h u → AreUnitsAt list w (hs ++ h ∷ []) (us ++ u ∷ [])
+units-append list w [] [] h u are is = (is, tt)
+units-append list w (k ∷ hs) (v ∷ us) h u are is = (are.0, units-append list (payload w k) hs us h u are.1 is)
+units-append list w [] (v ∷ us) h u are is = absurd are
+units-append list w (k ∷ hs) [] h u are is = absurd are
 
 -- ---- what is announced
 
@@ -99,110 +89,69 @@ may_read x kind zero limit ext e =
 
 -- ---- a unit is added
 
--- what is known of a packet before a unit, where x is expected and so many extensions may still be read
-pub record Ready (p : PacketSlice) (x : Expectation) (free : ℕ) : Type 0 where
-  pub link : IsHeader p.link
+-- what is known of the headers that were read before a unit, where x is expected and so many extensions may still be read
+pub record Ready (r : Read) (x : Expectation) (free : ℕ) : Type 0 where
   pub limit : x.limit ≡ Some free
-  pub first : (kind : Kind) → x.next ≡ Start kind → (p.link ≡ None) × (p.link_exts.items ≡ []) × (p.arp ≡ None)
-  pub arp : (p.arp ≡ None) ⊎ (x.next ≡ AfterArp)
+  pub first : (kind : Kind) → x.next ≡ Start kind → r.units ≡ []
+  pub arp : (arp_view r.units ≡ None) ⊎ (x.next ≡ AfterArp)
 
--- and what a packet gains by a unit of a header
-pub record Gains (p q : PacketSlice) (h : Header) (u : PeelUnit) (free : ℕ) : Type 0 where
-  pub units : packet_units q ≡ packet_units p ++ u ∷ []
-  pub places : ext_offsets q.link_exts.items ≡ ext_offsets p.link_exts.items ++ cond (is_extension (kind_of h)) (p.rest_offset ∷ []) []
-  pub room : length q.link_exts.items + cond (is_extension (kind_of h)) (free - 1) free ≡ length p.link_exts.items + free
-  pub link : IsHeader q.link
-  pub arp : (q.arp ≡ None) ⊎ (next_after h ≡ AfterArp)
+no_arp : (r : Read) (x : Expectation) (kind : Kind) → (arp_view r.units ≡ None) ⊎ (x.next ≡ AfterArp) → announced x ≡ Some kind → arp_view r.units ≡ None
+no_arp r x kind (inl none) e = none
+no_arp r x kind (inr over) e = let a = announced_is x kind e in let b = ap announced_next over in absurd cc
 
-units_are : (p q : PacketSlice) (link : Option LinkSlice) (exts : List PacketExt) (arp : Option (List ℕ)) → q.link ≡ link → q.link_exts.items ≡ exts → q.arp ≡ arp → packet_units q ≡ link_units link ++ ext_units exts ++ arp_units arp
-units_are p q link exts arp a b c = λ i. link_units (a i) ++ ext_units (b i) ++ arp_units (c i)
-
-no_arp : (p : PacketSlice) (x : Expectation) (kind : Kind) → (p.arp ≡ None) ⊎ (x.next ≡ AfterArp) → announced x ≡ Some kind → p.arp ≡ None
-no_arp p x kind (inl none) e = none
-no_arp p x kind (inr over) e = let a = announced_is x kind e in let b = ap announced_next over in absurd cc
-
--- the first unit is the link's header
-gains_link : (p q : PacketSlice) (x : Expectation) (h : Header) (u : PeelUnit) (link : LinkSlice) (free : ℕ)
-    → Ready p x free → announced x ≡ Some (kind_of h) → is_first (kind_of h) ≡ true → is_extension (kind_of h) ≡ false
-    → link_units (Some link) ≡ u ∷ [] → IsHeader (Some link) → q.link ≡ Some link → q.link_exts.items ≡ p.link_exts.items → q.arp ≡ p.arp → Gains p q h u free
-gains_link p q x h u link free ready e first plain unit header a b c =
-    let start = starts x.next (kind_of h) (announced_is x (kind_of h) e) first in
+-- a link's header is the first
+place_first : (r : Read) (x : Expectation) (kind : Kind) (p : Place) (free : ℕ) → Ready r x free → announced x ≡ Some kind → is_first kind ≡ true → (r.units ≡ [] → (p.start ≡ 0) × (p.end ≡ length r.frame))
+    → (r.units ≡ []) × (p.start ≡ 0) × (p.end ≡ length r.frame)
+place_first r x kind p free ready e first whole_frame =
+    let start = starts x.next kind (announced_is x kind e) first in
     let none = ready.first start.0 start.1 in
-    let old = units_are p p None [] None none.0 none.1 none.2 in
-    let new = units_are p q (Some link) [] None a (b ∙ none.1) (c ∙ none.2) in
-    record {
-      units = new ∙ ap (λ (l : List PeelUnit). l ++ [] ++ []) unit ∙ ap (λ (l : List PeelUnit). l ++ u ∷ []) (sym old);
-      places = ap ext_offsets b ∙ sym (append-nil _) ∙ ap (λ (k : Bool). ext_offsets p.link_exts.items ++ cond k (p.rest_offset ∷ []) []) (sym plain);
-      room = ap (λ (k : Bool). length q.link_exts.items + cond k (free - 1) free) plain ∙ ap (λ (l : List PacketExt). length l + free) b;
-      link = subst IsHeader (sym a) header;
-      arp = inl (c ∙ none.2);
-    }
+    let all = whole_frame none in
+    (none, all.0, all.1)
 
--- an extension comes after the others
-gains_ext : (p q : PacketSlice) (x : Expectation) (h : Header) (u : PeelUnit) (ext : PacketExt) (free : ℕ)
-    → Ready p x free → announced x ≡ Some (kind_of h) → is_extension (kind_of h) ≡ true
-    → ext_unit ext.slice ≡ u → ext.offset ≡ p.rest_offset → q.link ≡ p.link → q.link_exts.items ≡ p.link_exts.items ++ ext ∷ [] → q.arp ≡ p.arp → Gains p q h u free
-gains_ext p q x h u ext free ready e extends unit at a b c =
-    let none = no_arp p x (kind_of h) ready.arp e in
-    let lt = may_read x (kind_of h) free ready.limit extends e in
-    let list = p.link_exts.items in
-    let old = units_are p p p.link list None refl refl none in
-    let new = units_are p q p.link (list ++ ext ∷ []) None a b (c ∙ none) in
-    let more : ext_units (list ++ ext ∷ []) ≡ ext_units list ++ u ∷ [] = map-append (λ (k : PacketExt). ext_unit k.slice) list (ext ∷ []) ∙ ap (λ (v : PeelUnit). ext_units list ++ v ∷ []) unit in
-    let len : length q.link_exts.items ≡ length list + 1 = ap length b ∙ length-append list (ext ∷ []) in
-    record {
-      units =
-          new ∙ append-nil _ ∙ ap (λ (l : List PeelUnit). link_units p.link ++ l) more ∙ sym (append_assoc (link_units p.link) (ext_units list) (u ∷ []))
-          ∙ ap (λ (l : List PeelUnit). l ++ u ∷ []) (sym (old ∙ append-nil _));
-      places =
-          ap ext_offsets b ∙ map-append (λ (k : PacketExt). k.offset) list (ext ∷ []) ∙ ap (λ (n : ℕ). ext_offsets list ++ n ∷ []) at
-          ∙ ap (λ (k : Bool). ext_offsets list ++ cond k (p.rest_offset ∷ []) []) (sym extends);
-      room = ap (λ (k : Bool). length q.link_exts.items + cond k (free - 1) free) extends ∙ omega (arith, len, lt);
-      link = subst IsHeader (sym a) ready.link;
-      arp = inl (c ∙ none);
-    }
+place_ext : (r : Read) (x : Expectation) (kind : Kind) (free : ℕ) → Ready r x free → announced x ≡ Some kind → is_extension kind ≡ true → length (exts_of r.units) + free ≡ 3 → HasPlaceForExt r
+place_ext r x kind free ready e extends room = let lt = may_read x kind free ready.limit extends e in (omega arith, no_arp r x kind ready.arp e)
 
--- an ARP packet is the last
-gains_arp : (p q : PacketSlice) (x : Expectation) (h : Header) (bytes : List ℕ) (free : ℕ)
-    → Ready p x free → announced x ≡ Some (kind_of h) → is_extension (kind_of h) ≡ false → next_after h ≡ AfterArp
-    → q.link ≡ p.link → q.link_exts.items ≡ p.link_exts.items → q.arp ≡ Some bytes → Gains p q h (units.Arp bytes) free
-gains_arp p q x h bytes free ready e plain over a b c =
-    let none = no_arp p x (kind_of h) ready.arp e in
-    let list = p.link_exts.items in
-    let u = units.Arp bytes in
-    let old = units_are p p p.link list None refl refl none in
-    let new = units_are p q p.link list (Some bytes) a b c in
-    record {
-      units = new ∙ ap (λ (l : List PeelUnit). l ++ u ∷ []) (sym (old ∙ append-nil _));
-      places = ap ext_offsets b ∙ sym (append-nil _) ∙ ap (λ (k : Bool). ext_offsets list ++ cond k (p.rest_offset ∷ []) []) (sym plain);
-      room = ap (λ (k : Bool). length q.link_exts.items + cond k (free - 1) free) plain ∙ ap (λ (l : List PacketExt). length l + free) b;
-      link = subst IsHeader (sym a) ready.link;
-      arp = inr over;
-    }
+pub has_place : (r : Read) (x : Expectation) (bytes rest : List ℕ) (h : Header) (u : PeelUnit) (p : Place) (free : ℕ) → Ready r x free → announced x ≡ Some (kind_of h) → ShowsUnit bytes rest h u → length (exts_of r.units) + free ≡ 3
+    → (r.units ≡ [] → (p.start ≡ 0) × (p.end ≡ length r.frame)) → HasPlace r u p
+has_place r x bytes rest (headers.Ethernet2 e) u p free ready known shows room first = subst (λ (v : PeelUnit). HasPlace r v p) (sym shows) (place_first r x kinds.Ethernet2 p free ready known refl first)
+has_place r x bytes rest (headers.Ethernet2Fcs e) u p free ready known shows room first = subst (λ (v : PeelUnit). HasPlace r v p) (sym shows) (place_first r x kinds.Ethernet2Fcs p free ready known refl first)
+has_place r x bytes rest (headers.LinuxSll s) u p free ready known shows room first = subst (λ (v : PeelUnit). HasPlace r v p) (sym shows) (place_first r x kinds.LinuxSll p free ready known refl first)
+has_place r x bytes rest (headers.Vlan v) u p free ready known shows room first = subst (λ (k : PeelUnit). HasPlace r k p) (sym shows) (place_ext r x kinds.Vlan free ready known refl room)
+has_place r x bytes rest (headers.Macsec t) u p free ready known shows room first = subst (λ (k : PeelUnit). HasPlace r k p) (sym shows.1) (place_ext r x kinds.Macsec free ready known refl room)
+has_place r x bytes rest (headers.Arp a) u p free ready known shows room first = subst (λ (k : PeelUnit). HasPlace r k p) (sym shows) (no_arp r x kinds.Arp ready.arp known)
 
-gains : (bytes rest : List ℕ) (p q : PacketSlice) (x : Expectation) (h : Header) (u : PeelUnit) (free : ℕ) → Ready p x free → announced x ≡ Some (kind_of h) → ShowsUnit bytes rest h u → Adds p u q → Gains p q h u free
-gains bytes rest p q x (headers.Ethernet2 e) u free ready known shows adds =
-    let a = subst (λ (v : PeelUnit). Adds p v q) shows adds in
-    subst (λ (v : PeelUnit). Gains p q (headers.Ethernet2 e) v free) (sym shows) (gains_link p q x (headers.Ethernet2 e) _ _ free ready known refl refl refl tt a.link a.exts a.arp)
-gains bytes rest p q x (headers.Ethernet2Fcs e) u free ready known shows adds =
-    let a = subst (λ (v : PeelUnit). Adds p v q) shows adds in
-    subst (λ (v : PeelUnit). Gains p q (headers.Ethernet2Fcs e) v free) (sym shows) (gains_link p q x (headers.Ethernet2Fcs e) _ _ free ready known refl refl refl tt a.link a.exts a.arp)
-gains bytes rest p q x (headers.LinuxSll s) u free ready known shows adds =
-    let a = subst (λ (v : PeelUnit). Adds p v q) shows adds in
-    subst (λ (v : PeelUnit). Gains p q (headers.LinuxSll s) v free) (sym shows) (gains_link p q x (headers.LinuxSll s) _ _ free ready known refl refl refl tt a.link a.exts a.arp)
-gains bytes rest p q x (headers.Vlan v) u free ready known shows adds =
-    let a = subst (λ (v : PeelUnit). Adds p v q) shows adds in
-    subst (λ (k : PeelUnit). Gains p q (headers.Vlan v) k free) (sym shows) (gains_ext p q x (headers.Vlan v) _ _ free ready known refl refl refl a.link a.exts a.arp)
-gains bytes rest p q x (headers.Macsec t) u free ready known shows adds =
-    let a = subst (λ (v : PeelUnit). Adds p v q) shows.1 adds in
-    subst (λ (k : PeelUnit). Gains p q (headers.Macsec t) k free) (sym shows.1) (gains_ext p q x (headers.Macsec t) _ _ free ready known refl refl refl a.link a.exts a.arp)
-gains bytes rest p q x (headers.Arp b) u free ready known shows adds =
-    let a = subst (λ (v : PeelUnit). Adds p v q) shows adds in
-    subst (λ (k : PeelUnit). Gains p q (headers.Arp b) k free) (sym shows) (gains_arp p q x (headers.Arp b) _ free ready known refl refl a.link a.exts a.arp)
+-- one extension more takes its place
+room_for : (us : List PacketUnit) (u : PacketUnit) (b : Bool) (free : ℕ) → is_extension u.kind ≡ b → (b ≡ true → 0 < free) → length (exts_of us) + free ≡ 3 → length (exts_of (us ++ u ∷ [])) + cond b (free - 1) free ≡ 3
+room_for us u true free is more room =
+    let lt = more refl in
+    let parts : length (exts_of (us ++ u ∷ [])) ≡ length (exts_of us) + length (exts_of (u ∷ [])) = ap length (filter-append is_ext us (u ∷ [])) ∙ length-append (exts_of us) (exts_of (u ∷ [])) in
+    let one : length (exts_of (u ∷ [])) ≡ 1 = ap (λ (b : Bool). length (cond b (u ∷ []) [])) is in
+    omega (arith, parts, one, lt, room)
+room_for us u false free is more room =
+    let parts : length (exts_of (us ++ u ∷ [])) ≡ length (exts_of us) + length (exts_of (u ∷ [])) = ap length (filter-append is_ext us (u ∷ [])) ∙ length-append (exts_of us) (exts_of (u ∷ [])) in
+    let none : length (exts_of (u ∷ [])) ≡ 0 = ap (λ (b : Bool). length (cond b (u ∷ []) [])) is in
+    omega (arith, parts, none, room)
+
+empty_if : (l : List (List ℕ)) → slice_get l 0 ≡ None → l ≡ []
+empty_if [] e = refl
+empty_if (x ∷ l) e = absurd cc
+
+-- what is no ARP packet adds none
+still_no_arp : (us : List PacketUnit) (u : PacketUnit) → arp_view us ≡ None → arp_in u.kind u.bytes ≡ None → arp_view (us ++ u ∷ []) ≡ None
+still_no_arp us u none other =
+    ap (λ l. slice_get l 0) (filter_map-append arp_of_unit us (u ∷ []) ∙ (λ i. empty_if (filter_map arp_of_unit us) none i ++ cons_option (other i) []))
+
+arp_or_over : (h : Header) (bytes : List ℕ) → (arp_in (kind_of h) bytes ≡ None) ⊎ (next_after h ≡ AfterArp)
+arp_or_over (headers.Ethernet2 e) bytes = inl refl
+arp_or_over (headers.Ethernet2Fcs e) bytes = inl refl
+arp_or_over (headers.LinuxSll s) bytes = inl refl
+arp_or_over (headers.Vlan v) bytes = inl refl
+arp_or_over (headers.Macsec t) bytes = inl refl
+arp_or_over (headers.Arp a) bytes = inr refl
 
 -- ---- a packet so far
 
-pub record Gathered (total : ℕ) (start : Expectation) (list : List ℕ) (s : State) (p : PacketSlice) : Type 0 where
+pub record Gathered (start : Expectation) (list : List ℕ) (s : State) (r : Read) (p : Place) : Type 0 where
   -- the walk of the list, with the headers before the walker and those that it faces
   pub done : List Header
   pub left : List Header
@@ -213,22 +162,32 @@ pub record Gathered (total : ℕ) (start : Expectation) (list : List ℕ) (s : S
   pub going : s.over ≡ false
   pub comes_after : window ≡ window_after (whole start list) done
   -- the packet has the former
-  pub values : packet_headers p ≡ done
-  pub views : AreViews list (whole start list) done (packet_units p)
-  pub places : ext_offsets p.link_exts.items ≡ ext_places 0 done
-  pub offset : p.rest_offset ≡ window.start
-  -- and has room for more
+  pub values : map header_of r.units ≡ done
+  pub frame : r.frame ≡ list
+  pub units : AreUnitsAt list (whole start list) done r.units
+  -- the place is that of the window
+  pub from : p.start ≡ window.start
+  pub to : p.end ≡ window.finish
+  -- and there is room for more
   pub free : ℕ
-  pub room : length p.link_exts.items + free ≡ total
-  pub ready : Ready p s.expected free
+  pub room : length (exts_of r.units) + free ≡ 3
+  pub ready : Ready r s.expected free
+
+-- where a walker's window ends
+window_end : (list : List ℕ) (w : Window) (s : State) (hs : List Header) (e : Ending) (end : ℕ) → Faces list w s hs e → end ≡ s.offset + length s.rest → end ≡ w.finish
+window_end list w s hs e end f is =
+    let at = f.offset in
+    let rest : length s.rest ≡ length (within list w) = ap length f.rest in
+    let len = length-part list w.start w.finish f.inside.inside in
+    let ordered = f.inside.ordered in
+    omega arith
 
 -- a walker that has read nothing
-pub gathered_first : (total : ℕ) (start : Expectation) (list : List ℕ) (s : State) (p : PacketSlice) (hs : List Header) (e : Ending)
-    → start.limit ≡ Some total → Walk start list hs e → Faces list (whole start list) s hs e → s.over ≡ false → s.expected ≡ start
-    → p.link ≡ None → p.link_exts.items ≡ [] → p.arp ≡ None → p.rest_offset ≡ 0 → Gathered total start list s p
-gathered_first total start list s p hs e limit walk faces going expected link exts arp offset =
-    let empty = units_are p p None [] None link exts arp in
-    let none : length p.link_exts.items ≡ 0 = ap length exts in
+pub gathered_first : (start : Expectation) (list : List ℕ) (s : State) (r : Read) (p : Place) (hs : List Header) (e : Ending)
+    → start.limit ≡ Some 3 → Walk start list hs e → Faces list (whole start list) s hs e → s.over ≡ false → s.expected ≡ start
+    → r ≡ record { frame = list; units = [] } → p.start ≡ s.offset → p.end ≡ s.offset + length s.rest → Gathered start list s r p
+gathered_first start list s r p hs e limit walk faces going expected is from to =
+    let none = ap (λ (k : Read). k.units) is in
     record {
       done = [];
       left = hs;
@@ -238,17 +197,17 @@ gathered_first total start list s p hs e limit walk faces going expected link ex
       faces = faces;
       going = going;
       comes_after = refl;
-      values = ap (map unit_header) empty;
-      views = subst (AreViews list (whole start list) []) (sym empty) tt;
-      places = ap ext_offsets exts;
-      offset = offset;
-      free = total;
-      room = omega arith;
+      values = ap (map header_of) none;
+      frame = ap (λ (k : Read). k.frame) is;
+      units = subst (AreUnitsAt list (whole start list) []) (sym none) tt;
+      from = from ∙ faces.offset;
+      to = window_end list (whole start list) s hs e p.end faces to;
+      free = 3;
+      room = ap (λ (us : List PacketUnit). length (exts_of us) + 3) none;
       ready = record {
-        link = subst IsHeader (sym link) tt;
         limit = ap (λ (x : Expectation). x.limit) expected ∙ limit;
-        first = λ kind is. (link, exts, arp);
-        arp = inl arp;
+        first = λ kind start_is. none;
+        arp = inl (ap arp_view none);
       };
     }
 
@@ -273,7 +232,7 @@ given list w (h ∷ hs) e s t u g =
 -- what is known of it
 pub record IsNext (list : List ℕ) (w : Window) (left : List Header) (e : Ending) (s t : State) (u : PeelUnit) : Type 0 where
   pub given : Given list w left e s t u
-  pub announced : announced s.expected ≡ Some (kind_of given.header)
+  pub unit : IsUnit list s.expected w given.header
   pub shows : ShowsUnit (within list w) (within list (payload w given.header)) given.header u
   pub value : unit_header u ≡ given.header
 
@@ -286,27 +245,49 @@ is_next list w left e s t u ok faces g =
     let shows = subst (λ (l : List ℕ). ShowsUnit l (within list (payload w h)) h u) old.rest (subst (λ (l : List ℕ). ShowsUnit s.rest l h u) n.faces.rest n.shows) in
     record {
       given = n;
-      announced = unit.announced;
+      unit = unit;
       shows = shows;
       value = unit_header-shown (within list w) (within list (payload w h)) h u (IsBytes-part w.start w.finish list ok) unit.means shows;
     }
 
-abbrev pub NextOf : (total : ℕ) (start : Expectation) (list : List ℕ) (s t : State) (p : PacketSlice) (u : PeelUnit) → Gathered total start list s p → Type 0
-NextOf total start list s t p u a = IsNext list a.window a.left a.ending s t u
+abbrev pub NextOf : (start : Expectation) (list : List ℕ) (s t : State) (r : Read) (p : Place) (u : PeelUnit) → Gathered start list s r p → Type 0
+NextOf start list s t r p u a = IsNext list a.window a.left a.ending s t u
 
-pub next_of : (total : ℕ) (start : Expectation) (list : List ℕ) (s t : State) (p : PacketSlice) (u : PeelUnit) → IsBytes list → (a : Gathered total start list s p) → Gives s (Some (Ok u)) t → NextOf total start list s t p u a
-next_of total start list s t p u ok a gives = is_next list a.window a.left a.ending s t u ok a.faces (gives.next a.going list a.window a.left a.ending a.faces)
+pub next_of : (start : Expectation) (list : List ℕ) (s t : State) (r : Read) (p : Place) (u : PeelUnit) → IsBytes list → (a : Gathered start list s r p) → Gives s (Some (Ok u)) t → NextOf start list s t r p u a
+next_of start list s t r p u ok a gives = is_next list a.window a.left a.ending s t u ok a.faces (gives.next a.going list a.window a.left a.ending a.faces)
 
-has_room : (total : ℕ) (p : PacketSlice) (x : Expectation) (bytes rest : List ℕ) (h : Header) (u : PeelUnit) (free : ℕ) → length p.link_exts.items + free ≡ total → x.limit ≡ Some free → announced x ≡ Some (kind_of h) → ShowsUnit bytes rest h u → HasRoom total p u
-has_room total p x bytes rest (headers.Ethernet2 e) u free room limit known shows = subst (HasRoom total p) (sym shows) tt
-has_room total p x bytes rest (headers.Ethernet2Fcs e) u free room limit known shows = subst (HasRoom total p) (sym shows) tt
-has_room total p x bytes rest (headers.LinuxSll s) u free room limit known shows = subst (HasRoom total p) (sym shows) tt
-has_room total p x bytes rest (headers.Vlan v) u free room limit known shows = let lt = may_read x kinds.Vlan free limit refl known in subst (HasRoom total p) (sym shows) (omega arith)
-has_room total p x bytes rest (headers.Macsec t) u free room limit known shows = let lt = may_read x kinds.Macsec free limit refl known in subst (HasRoom total p) (sym shows.1) (omega arith)
-has_room total p x bytes rest (headers.Arp a) u free room limit known shows = subst (HasRoom total p) (sym shows) tt
+none_done : (list : List ℕ) (w : Window) (hs : List Header) (us : List PacketUnit) → AreUnitsAt list w hs us → us ≡ [] → hs ≡ []
+none_done list w [] us are none = refl
+none_done list w (h ∷ hs) [] are none = absurd are
+none_done list w (h ∷ hs) (u ∷ us) are none = absurd cc
 
-pub room_for : (total : ℕ) (start : Expectation) (list : List ℕ) (s t : State) (p : PacketSlice) (u : PeelUnit) (a : Gathered total start list s p) → NextOf total start list s t p u a → HasRoom total p u
-room_for total start list s t p u a n = has_room total p s.expected (within list a.window) (within list (payload a.window n.given.header)) n.given.header u a.free a.room a.ready.limit n.announced n.shows
+pub fits : (start : Expectation) (list : List ℕ) (s t : State) (r : Read) (p : Place) (u : PeelUnit) (a : Gathered start list s r p) → NextOf start list s t r p u a → HasPlace r u p
+fits start list s t r p u a n =
+    let first : (r.units ≡ []) → (p.start ≡ 0) × (p.end ≡ length r.frame) = λ none.
+    let window : a.window ≡ whole start list = a.comes_after ∙ ap (window_after (whole start list)) (none_done list (whole start list) a.done r.units a.units none) in
+    (a.from ∙ ap (λ (w : Window). w.start) window, a.to ∙ ap (λ (w : Window). w.finish) window ∙ sym (ap length a.frame)) in
+    has_place r s.expected (within list a.window) (within list (payload a.window n.given.header)) n.given.header u p a.free a.ready n.unit.announced n.shows a.room first
+
+-- no row holds of a slice that none holds of in a window with a bound
+unbounded : (bound : LenSource) (bytes : List ℕ) (kind : Kind) → Accepts bound bytes kind → Reads bytes kind
+unbounded bound bytes kind ok r row = ok (named bound r) (bounded_row bound bytes kind r row)
+
+part_is : (start : Expectation) (list : List ℕ) (s : State) (r : Read) (p : Place) (a : Gathered start list s r p) → slice_range r.frame p.start p.end ≡ within list a.window
+part_is start list s r p a = λ i. slice_range (a.frame i) (a.from i) (a.to i)
+
+pub readable : (start : Expectation) (list : List ℕ) (s t : State) (r : Read) (p : Place) (u : PeelUnit) (a : Gathered start list s r p) → NextOf start list s t r p u a → IsReadable r.frame (kind_read u) p
+readable start list s t r p u a n =
+    let from = a.from in
+    let to = a.to in
+    let ordered = a.faces.inside.ordered in
+    let inside = a.faces.inside.inside in
+    let len : length r.frame ≡ length list = ap length a.frame in
+    let own = unbounded a.window.bound (within list a.window) (kind_of n.given.header) n.unit.accepted in
+    record {
+      ordered = omega arith;
+      inside = omega arith;
+      accepted = subst (λ (l : List ℕ). Reads l (kind_read u)) (sym (part_is start list s r p a)) (subst (Reads (within list a.window)) (sym (ap kind_of n.value)) own);
+    }
 
 -- no start is announced by a header
 no_start_capture : (b : Bool) (t : ℕ) (protocol : LinuxSllProtocolType) (kind : Kind) → cond b (EtherType t) (Sll protocol) ≡ Start kind → ⊥
@@ -331,16 +312,21 @@ lowered_limit : (b : Bool) (limit : Option ℕ) (free : ℕ) → limit ≡ Some 
 lowered_limit true limit free e = ap (lowered true) e
 lowered_limit false limit free e = e
 
-pub gathered_next : (total : ℕ) (start : Expectation) (list : List ℕ) (s t : State) (p q : PacketSlice) (u : PeelUnit) (at : ℕ) (a : Gathered total start list s p) → NextOf total start list s t p u a → Adds p u q → at ≡ t.offset
-    → Gathered total start list t (record q { rest_offset = at })
-gathered_next total start list s t p q u at a n adds place_is =
+pub gathered_next : (start : Expectation) (list : List ℕ) (s t : State) (r q : Read) (p v : Place) (u : PeelUnit) (a : Gathered start list s r p) → IsBytes list → NextOf start list s t r p u a → q ≡ read_with r (kind_read u) p
+    → v.start ≡ t.offset → v.end ≡ t.offset + length t.rest → Gathered start list t q v
+gathered_next start list s t r q p v u a ok n is from to =
     let h = n.given.header in
     let w = a.window in
     let whole_list = whole start list in
-    let g = gains (within list w) (within list (payload w h)) p q s.expected h u a.free a.ready n.announced n.shows adds in
+    let unit : PacketUnit = unit_at r.frame (kind_read u) p in
+    let kind : kind_read u ≡ kind_of h = ap kind_of n.value in
+    let bytes = part_is start list s r p a in
+    let at : IsUnitAt list w h unit = record { kind = kind; offset = a.from; bytes = bytes } in
+    let value : header_of unit ≡ h = (λ i. header_in (kind i) (bytes i)) ∙ header_shown (within list w) h (IsBytes-part w.start w.finish list ok) n.unit.means in
+    let units : q.units ≡ r.units ++ unit ∷ [] = ap (λ (k : Read). k.units) is in
     let same : a.done ++ a.left ≡ (a.done ++ h ∷ []) ++ n.given.later = ap (λ (l : List Header). a.done ++ l) n.given.parts ∙ sym (append_assoc a.done (h ∷ []) n.given.later) in
-    let from : p.rest_offset ≡ place 0 a.done = a.offset ∙ ap (λ (v : Window). v.start) a.comes_after ∙ after_start whole_list a.done in
-    let shows = subst (λ (v : Window). ShowsUnit (within list v) (within list (payload v h)) h u) a.comes_after n.shows in
+    let extends : is_extension unit.kind ≡ is_extension (kind_of h) = ap is_extension kind in
+    let more = λ (e : is_extension (kind_of h) ≡ true). may_read s.expected (kind_of h) a.free a.ready.limit e n.unit.announced in
     record {
       done = a.done ++ h ∷ [];
       left = n.given.later;
@@ -349,19 +335,21 @@ gathered_next total start list s t p q u at a n adds place_is =
       walk = subst (λ (l : List Header). Walk start list l a.ending) same a.walk;
       faces = n.given.faces;
       going = n.given.going;
-      comes_after = ap (λ (v : Window). payload v h) a.comes_after ∙ sym (window_after-append whole_list a.done h);
-      values = ap (map unit_header) g.units ∙ map-append unit_header (packet_units p) (u ∷ []) ∙ (λ i. a.values i ++ n.value i ∷ []);
-      views = subst (AreViews list whole_list (a.done ++ h ∷ [])) (sym g.units) (views-append list whole_list a.done (packet_units p) h u a.views shows);
-      places = g.places ∙ (λ i. a.places i ++ cond (is_extension (kind_of h)) (from i ∷ []) []) ∙ sym (ext_places-append 0 a.done h);
-      offset = place_is ∙ n.given.faces.offset;
+      comes_after = ap (λ (k : Window). payload k h) a.comes_after ∙ sym (window_after-append whole_list a.done h);
+      values = ap (map header_of) units ∙ map-append header_of r.units (unit ∷ []) ∙ (λ i. a.values i ++ value i ∷ []);
+      frame = ap (λ (k : Read). k.frame) is ∙ a.frame;
+      units = subst (AreUnitsAt list whole_list (a.done ++ h ∷ [])) (sym units) (units-append list whole_list a.done r.units h unit a.units (subst (λ (k : Window). IsUnitAt list k h unit) a.comes_after at));
+      from = from ∙ n.given.faces.offset;
+      to = window_end list (payload w h) t n.given.later a.ending v.end n.given.faces to;
       free = cond (is_extension (kind_of h)) (a.free - 1) a.free;
-      room = g.room ∙ a.room;
+      room = ap (λ (us : List PacketUnit). length (exts_of us) + cond (is_extension (kind_of h)) (a.free - 1) a.free) units ∙ room_for r.units unit (is_extension (kind_of h)) a.free extends more a.room;
       ready = record {
-        link = g.link;
         limit = ap (λ (x : Expectation). x.limit) n.given.expected ∙ lowered_limit (is_extension (kind_of h)) s.expected.limit a.free a.ready.limit;
-        first = λ kind is. absurd (no_start h kind (sym (ap (λ (x : Expectation). x.next) n.given.expected) ∙ is));
-        arp = elim g.arp [
-          | inl none ↦ inl none
+        first = λ k start_is. absurd (no_start h k (sym (ap (λ (x : Expectation). x.next) n.given.expected) ∙ start_is));
+        arp = elim (arp_or_over h unit.bytes) [
+          | inl other ↦
+              let before = no_arp r s.expected (kind_of h) a.ready.arp n.unit.announced in
+              inl (ap arp_view units ∙ still_no_arp r.units unit before (ap (λ (k : Kind). arp_in k unit.bytes) kind ∙ other))
           | inr over ↦ inr (ap (λ (x : Expectation). x.next) n.given.expected ∙ over)
         ];
       };
@@ -404,21 +392,20 @@ ended list w [] (Fault v y r) s t (Some x) f g =
 ended list w (h ∷ hs) e s t None f g = let some = g.1 in absurd cc
 ended list w (h ∷ hs) e s t (Some x) f g = let some = g.1 in absurd cc
 
-pub is_packet : (total : ℕ) (start : Expectation) (list : List ℕ) (s t : State) (p r : PacketSlice) (met : Option PeelFault) → Gathered total start list s p → Gives s (item_of met) t → EndsWith p t met r → IsPacket start list r
-is_packet total start list s t p r met a gives ends =
+pub is_packet : (start : Expectation) (list : List ℕ) (s t : State) (r : Read) (p : Place) (packet : PacketSlice) (met : Option PeelFault) → Gathered start list s r p → Gives s (item_of met) t
+    → packet.read ≡ r → packet.rest.now ≡ t.rest → packet.rest_offset ≡ t.offset → packet.rest_kind ≡ kind_shown t.expected → packet.fault ≡ met → IsPacket start list packet
+is_packet start list s t r p packet met a gives read rest offset kind fault =
     let n = ended list a.window a.left a.ending s t met a.faces (gives.next a.going list a.window a.left a.ending a.faces) in
     let walk = subst (λ (l : List Header). Walk start list l a.ending) (ap (λ (l : List Header). a.done ++ l) n.none_left ∙ append-nil a.done) a.walk in
-    let units_same : packet_units r ≡ packet_units p = units_are p r p.link p.link_exts.items p.arp ends.link ends.exts ends.arp in
-    let values : a.done ≡ packet_headers r = sym (ap (map unit_header) units_same ∙ a.values) in
+    let values : a.done ≡ packet_headers packet = sym (ap (λ (k : Read). map header_of k.units) read ∙ a.values) in
     record {
       ending = a.ending;
       walk = subst (λ (l : List Header). Walk start list l a.ending) values walk;
       one = λ hs e other. let same = one_stack list start (whole start list) hs a.done e a.ending other walk in (same.0 ∙ values, same.1);
-      views = subst (λ (l : List Header). AreViews list (whole start list) l (packet_units r)) values (subst (AreViews list (whole start list) a.done) (sym units_same) a.views);
-      places = ap ext_offsets ends.exts ∙ a.places ∙ ap (ext_places 0) values;
-      link = subst IsHeader (sym ends.link) a.ready.link;
-      rest = ends.rest ∙ n.rest;
-      offset = ends.offset ∙ n.offset;
-      kind = ends.kind ∙ ap kind_shown n.expected;
-      fault = ends.fault ∙ n.fault;
+      frame = ap (λ (k : Read). k.frame) read ∙ a.frame;
+      units = subst (λ (l : List Header). AreUnitsAt list (whole start list) l packet.read.units) values (subst (λ (k : Read). AreUnitsAt list (whole start list) a.done k.units) (sym read) a.units);
+      rest = rest ∙ n.rest;
+      offset = offset ∙ n.offset;
+      kind = kind ∙ ap kind_shown n.expected;
+      fault = fault ∙ n.fault;
     }

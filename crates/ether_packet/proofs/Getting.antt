@@ -1,244 +1,245 @@
 -- What is found among the headers of a packet, extension by extension.
-use Rattle.std.proofs.Common.{◌≡◌, ℕ, suc, ◌+◌, ◌*◌, ◌<◌, ◌≤◌, List, [], ◌∷◌, ◌++◌, length, take, drop, refl, sym, ap, ◌∙◌, arith, append_assoc, Bor, slice_index_or, Bool, true, false}
-use Rattle.std.specs.Prelude.{map, max, slice_get, Option, Some, None, unwrap_or, if◌then◌else◌}
+use Rattle.std.proofs.Common.{◌≡◌, ℕ, suc, ◌+◌, ◌<◌, ◌≤◌, List, [], ◌∷◌, ◌++◌, length, take, drop, refl, sym, ap, subst, ◌∙◌, arith, inl, inr, Bool, true, false}
+use Rattle.std.specs.Prelude.{map, slice_get, Option, Some, None}
 use Rattle.std.specs.List.{filter_map, cons_option}
+use Rattle.std.specs.Option.{option_and_then}
 use Rattle.std.proofs.Math.Seq.{take-suc}
 use Rattle.std.proofs.lemmas.List.{append-nil, length-append, map-append, take-append-drop, take_all}
 use Rattle.std.proofs.lemmas.List.Elements.{filter_map-append}
+use Rattle.std.proofs.lemmas.Option.{slice_get_cases, slice_get_within, get_or_from_slice_get}
+use Rattle.etherparse.specs.Kind.{Kind}
+use Rattle.etherparse.specs.Kind as kinds
+use Rattle.etherparse.specs.Types.EtherPayloadSlice.{EtherPayloadSlice}
 use Rattle.etherparse.specs.Types.LinkSlice.{LinkSlice}
-use Rattle.etherparse.specs.Types.LinkSlice.TheVariants as links
-use Rattle.etherparse.specs.Types.LinkExtSlice.{LinkExtSlice}
-use Rattle.etherparse.specs.Types.LinkExtSlice.TheVariants as exts
 use Rattle.etherparse.specs.Types.MacsecSlice.{MacsecSlice}
 use Rattle.etherparse.specs.Types.VlanSlice.TheVariants as tags
-use Rattle.etherparse.specs.Types.DoubleVlanSlice.{DoubleVlanSlice}
-use Rattle.etherparse.specs.Ethernet2.{Ethernet2Value}
+use Rattle.etherparse.specs.LinkExt.{HoldsExtPayload}
 use Rattle.etherparse.specs.Vlan.{vlan_of}
-use Rattle.etherparse.specs.Arp.{arp_front_in, arp_len, arp_of}
-use Rattle.etherparse.specs.Header.{Header, header_len, payload_len, unit_len}
-use Rattle.etherparse.specs.Header as headers
-use Rattle.etherparse.proofs.Reading.{arp_front_back}
-use Rattle.ether_peel.specs.Grammar.Cuts.{reach}
-use Rattle.ether_peel.specs.Grammar.Places.{place}
-use Rattle.ether_peel.proofs.Grammar.Places.{place-append}
-use Rattle.ether_peel.specs.Walker.UnitHeader.{unit_header}
-use Rattle.ether_peel.specs.declared.peel_unit.PeelUnit.{PeelUnit}
+use Rattle.ether_peel.specs.Grammar.Expectation.{is_extension}
 use Rattle.ether_packet.specs.declared.packet_ext.PacketExt.{PacketExt}
-use Rattle.ether_packet.specs.declared.packet_slice.PacketSlice.{PacketSlice}
-use Rattle.ether_packet.specs.Views.{link_units, ext_unit, ext_units, arp_units, packet_units, packet_headers}
-use Rattle.ether_packet.specs.Getters.{vid_of, vlan_ids_of, vlan_in, vlans_of, first_tags, macsec_in, sec_tags_of}
+use Rattle.ether_packet.specs.PacketUnit.{PacketUnit}
+use Rattle.ether_packet.specs.Views.{header_in, header_of, exts_of, vlan_in, vlan_of_unit, macsec_in, macsec_of_unit, ViewsSecTagIf, ViewsExt, ViewsExtIf, ViewsExts}
+use Rattle.ether_packet.specs.Getters.{vid_of, vlan_ids_of, vlans_of, first_tags, sec_tags_of, HoldsPayload}
+use Rattle.ether_packet.proofs.Places.{is_ext, missing_past}
+
+-- ---- among the extensions
+
+pub ext_kept : (u : PacketUnit) (us : List PacketUnit) → is_ext u ≡ true → exts_of (u ∷ us) ≡ u ∷ exts_of us
+ext_kept u us e = rw e refl
+
+pub other_dropped : (u : PacketUnit) (us : List PacketUnit) → is_ext u ≡ false → exts_of (u ∷ us) ≡ exts_of us
+other_dropped u us e = rw e refl
+
+-- what is found in extensions only
+abbrev pub InExts : {X : Type 0} → (PacketUnit → Option X) → Type 0
+InExts f = (u : PacketUnit) → is_ext u ≡ false → f u ≡ None
+
+found_cons : {X : Type 0} (f : PacketUnit → Option X) (u : PacketUnit) (us : List PacketUnit) (b : Bool) → InExts f → is_ext u ≡ b → filter_map f us ≡ filter_map f (exts_of us) → filter_map f (u ∷ us) ≡ filter_map f (exts_of (u ∷ us))
+found_cons f u us true only e more = ap (cons_option (f u)) more ∙ ap (filter_map f) (sym (ext_kept u us e))
+found_cons f u us false only e more = ap (λ r. cons_option r (filter_map f us)) (only u e) ∙ more ∙ ap (filter_map f) (sym (other_dropped u us e))
+
+-- is found among these
+found_in : {X : Type 0} (f : PacketUnit → Option X) (us : List PacketUnit) → InExts f → filter_map f us ≡ filter_map f (exts_of us)
+found_in f [] only = refl
+found_in f (u ∷ us) only = found_cons f u us (is_ext u) only refl (found_in f us only)
+
+no_tag : (k : Kind) (bytes : List ℕ) → is_extension k ≡ false → (vlan_in k bytes ≡ None) × (macsec_in k bytes ≡ None)
+no_tag kinds.Ethernet2 bytes e = (refl, refl)
+no_tag kinds.Ethernet2Fcs bytes e = (refl, refl)
+no_tag kinds.LinuxSll bytes e = (refl, refl)
+no_tag kinds.Vlan bytes e = absurd cc
+no_tag kinds.Macsec bytes e = absurd cc
+no_tag kinds.Arp bytes e = (refl, refl)
+
+pub vlans_found : (us : List PacketUnit) → vlans_of us ≡ vlans_of (exts_of us)
+vlans_found us = found_in vlan_of_unit us (λ u e. (no_tag u.kind u.bytes e).0)
+
+pub sec_tags_found : (us : List PacketUnit) → sec_tags_of us ≡ sec_tags_of (exts_of us)
+sec_tags_found us = found_in macsec_of_unit us (λ u e. (no_tag u.kind u.bytes e).1)
 
 -- ---- one extension more
 
--- it is the element at an index
-abbrev pub IsAt : List PacketExt → ℕ → PacketExt → Type 0
-IsAt xs i x = (i < length xs) × (x ≡ slice_index_or xs i x)
-
-pub take_next : (xs : List PacketExt) (i : ℕ) (x : PacketExt) → IsAt xs i x → take (i + 1) xs ≡ take i xs ++ x ∷ []
-take_next xs i x at =
+take_next : (us : List PacketUnit) (i : ℕ) (u : PacketUnit) → slice_get us i ≡ Some u → take (i + 1) us ≡ take i us ++ u ∷ []
+take_next us i u at =
     let e : i + 1 ≡ suc i = omega arith in
-    ap (λ (n : ℕ). take n xs) e ∙ take-suc xs i x at.0 ∙ ap (λ (y : PacketExt). take i xs ++ y ∷ []) (sym at.1)
+    ap (λ (n : ℕ). take n us) e ∙ take-suc us i u (slice_get_within us i u at) ∙ ap (λ (v : PacketUnit). take i us ++ v ∷ []) (get_or_from_slice_get us i u u at)
 
-pub units_next : (xs : List PacketExt) (i : ℕ) (x : PacketExt) → IsAt xs i x → ext_units (take (i + 1) xs) ≡ ext_units (take i xs) ++ ext_unit x.slice ∷ []
-units_next xs i x at = ap ext_units (take_next xs i x at) ∙ map-append (λ (e : PacketExt). ext_unit e.slice) (take i xs) (x ∷ [])
-
-pub found_next : {X : Type 0} (f : PeelUnit → Option X) (xs : List PacketExt) (i : ℕ) (x : PacketExt) → IsAt xs i x
-    → filter_map f (ext_units (take (i + 1) xs)) ≡ filter_map f (ext_units (take i xs)) ++ filter_map f (ext_unit x.slice ∷ [])
-found_next f xs i x at = ap (filter_map f) (units_next xs i x at) ∙ filter_map-append f (ext_units (take i xs)) (ext_unit x.slice ∷ [])
+-- what was found so far, and what the extension at an index adds
+pub found_next : {X : Type 0} (f : PacketUnit → Option X) (us : List PacketUnit) (i : ℕ) (r : Option X) → i < length us → r ≡ option_and_then f (slice_get us i)
+    → filter_map f (take (i + 1) us) ≡ filter_map f (take i us) ++ cons_option r []
+found_next f us i r lt is =
+    elim ((slice_get_cases us i).1) [
+      | inl w ↦
+          ap (filter_map f) (take_next us i w.0 w.2) ∙ filter_map-append f (take i us) (w.0 ∷ [])
+          ∙ ap (λ o. filter_map f (take i us) ++ cons_option o []) (sym (is ∙ ap (option_and_then f) w.2))
+      | inr w ↦ let le = w.0 in absurd (omega (arith, lt, le))
+    ]
 
 -- and then the others
-pub found_at : {X : Type 0} (f : PeelUnit → Option X) (xs : List PacketExt) (i : ℕ) (x : PacketExt) → IsAt xs i x
-    → filter_map f (ext_units xs) ≡ filter_map f (ext_units (take i xs)) ++ filter_map f (ext_unit x.slice ∷ []) ++ filter_map f (ext_units (drop (i + 1) xs))
-found_at f xs i x at =
-    ap (λ (l : List PacketExt). filter_map f (ext_units l)) (sym (take-append-drop (i + 1) xs))
-    ∙ ap (filter_map f) (map-append (λ (e : PacketExt). ext_unit e.slice) (take (i + 1) xs) (drop (i + 1) xs))
-    ∙ filter_map-append f (ext_units (take (i + 1) xs)) (ext_units (drop (i + 1) xs))
-    ∙ ap (λ l. l ++ filter_map f (ext_units (drop (i + 1) xs))) (found_next f xs i x at)
+pub found_at : {X : Type 0} (f : PacketUnit → Option X) (us : List PacketUnit) (i : ℕ) (r : Option X) → i < length us → r ≡ option_and_then f (slice_get us i)
+    → filter_map f us ≡ filter_map f (take i us) ++ cons_option r [] ++ filter_map f (drop (i + 1) us)
+found_at f us i r lt is =
+    ap (filter_map f) (sym (take-append-drop (i + 1) us)) ∙ filter_map-append f (take (i + 1) us) (drop (i + 1) us)
+    ∙ ap (λ l. l ++ filter_map f (drop (i + 1) us)) (found_next f us i r lt is)
 
--- what was found so far, and what an extension adds
-found_step : {X : Type 0} (f : PeelUnit → Option X) (xs : List PacketExt) (i : ℕ) (x : PacketExt) (ys zs : List X) → IsAt xs i x
-    → ys ≡ filter_map f (ext_units (take i xs)) → filter_map f (ext_unit x.slice ∷ []) ≡ zs → ys ++ zs ≡ filter_map f (ext_units (take (i + 1) xs))
-found_step f xs i x ys zs at so_far more = (λ j. so_far j ++ sym more j) ∙ sym (found_next f xs i x at)
+pub found_all : {X : Type 0} (f : PacketUnit → Option X) (us : List PacketUnit) (n : ℕ) → length us ≤ n → filter_map f (take n us) ≡ filter_map f us
+found_all f us n past = ap (filter_map f) (take_all n us past)
 
--- ---- among all views
-
-found_in : {X : Type 0} (f : PeelUnit → Option X) (p : PacketSlice) → filter_map f (link_units p.link) ≡ [] → filter_map f (arp_units p.arp) ≡ [] → filter_map f (packet_units p) ≡ filter_map f (ext_units p.link_exts.items)
-found_in f p a b =
-    filter_map-append f (link_units p.link ++ ext_units p.link_exts.items) (arp_units p.arp)
-    ∙ ap (λ l. l ++ filter_map f (arp_units p.arp)) (filter_map-append f (link_units p.link) (ext_units p.link_exts.items))
-    ∙ (λ i. a i ++ filter_map f (ext_units p.link_exts.items) ++ b i)
-    ∙ append-nil _
-
--- the identifier of a VLAN tag
-abbrev pub vid_in : PeelUnit → Option ℕ
-vid_in u = vid_of (unit_header u)
-
-frame_has_no_id : (b : Bool) (e : Ethernet2Value) → cons_option (vid_of (if b then headers.Ethernet2Fcs e else headers.Ethernet2 e)) [] ≡ []
-frame_has_no_id true e = refl
-frame_has_no_id false e = refl
-
-pub link_has : (link : Option LinkSlice) → (filter_map vid_in (link_units link) ≡ []) × (filter_map vlan_in (link_units link) ≡ []) × (filter_map macsec_in (link_units link) ≡ [])
-link_has None = (refl, refl, refl)
-link_has (Some (links.Ethernet2 frame)) = (frame_has_no_id frame.has_fcs _, refl, refl)
-link_has (Some (links.LinuxSll s)) = (refl, refl, refl)
-link_has (Some (links.EtherPayload p)) = (refl, refl, refl)
-link_has (Some (links.LinuxSllPayload p)) = (refl, refl, refl)
-
-arp_has : (arp : Option (List ℕ)) → (filter_map vid_in (arp_units arp) ≡ []) × (filter_map vlan_in (arp_units arp) ≡ []) × (filter_map macsec_in (arp_units arp) ≡ [])
-arp_has None = (refl, refl, refl)
-arp_has (Some bytes) = (refl, refl, refl)
-
-pub ids_of_units : (us : List PeelUnit) → vlan_ids_of (map unit_header us) ≡ filter_map vid_in us
-ids_of_units [] = refl
-ids_of_units (u ∷ us) = ap (cons_option (vid_in u)) (ids_of_units us)
-
-pub ids_found : (p : PacketSlice) → vlan_ids_of (packet_headers p) ≡ filter_map vid_in (ext_units p.link_exts.items)
-ids_found p = ids_of_units (packet_units p) ∙ found_in vid_in p (link_has p.link).0 (arp_has p.arp).0
-
-pub vlans_found : (p : PacketSlice) → filter_map vlan_in (packet_units p) ≡ filter_map vlan_in (ext_units p.link_exts.items)
-vlans_found p = found_in vlan_in p (link_has p.link).1 (arp_has p.arp).1
-
-pub sec_tags_found : (p : PacketSlice) → filter_map macsec_in (packet_units p) ≡ filter_map macsec_in (ext_units p.link_exts.items)
-sec_tags_found p = found_in macsec_in p (link_has p.link).2 (arp_has p.arp).2
-
--- the identifiers of the first n extensions
-pub record Identified (xs : List PacketExt) (n : ℕ) (ids : List ℕ) : Type 0 where
-  pub found : ids ≡ filter_map vid_in (ext_units (take n xs))
-  pub few : length ids ≤ n
-
-pub identified_tag : (xs : List PacketExt) (i : ℕ) (x : PacketExt) (ids new tag : List ℕ) → IsAt xs i x → Identified xs i ids → x.slice ≡ exts.Vlan tag → new ≡ ids ++ (vlan_of tag).vid ∷ [] → Identified xs (i + 1) new
-identified_tag xs i x ids new tag at a is more =
-    let len : length new ≡ length ids + 1 = ap length more ∙ length-append ids ((vlan_of tag).vid ∷ []) in
-    let few = a.few in
-    record {
-      found = more ∙ found_step vid_in xs i x ids ((vlan_of tag).vid ∷ []) at a.found (ap (λ (s : LinkExtSlice). filter_map vid_in (ext_unit s ∷ [])) is);
-      few = omega arith;
-    }
-
-pub identified_other : (xs : List PacketExt) (i : ℕ) (x : PacketExt) (ids new : List ℕ) (packet : MacsecSlice) → IsAt xs i x → Identified xs i ids → x.slice ≡ exts.Macsec packet → new ≡ ids → Identified xs (i + 1) new
-identified_other xs i x ids new packet at a is same =
-    let len : length new ≡ length ids = ap length same in
-    let few = a.few in
-    record {
-      found = same ∙ sym (append-nil ids) ∙ found_step vid_in xs i x ids [] at a.found (ap (λ (s : LinkExtSlice). filter_map vid_in (ext_unit s ∷ [])) is);
-      few = omega arith;
-    }
-
-pub identified_all : (p : PacketSlice) (xs : List PacketExt) (n : ℕ) (ids : List ℕ) → Identified xs n ids → length xs ≤ n → xs ≡ p.link_exts.items → ids ≡ vlan_ids_of (packet_headers p)
-identified_all p xs n ids a past items = a.found ∙ ap (λ (l : List PacketExt). filter_map vid_in (ext_units l)) (take_all n xs past ∙ items) ∙ sym (ids_found p)
-
--- a tag that was kept
-abbrev pub tag_list : Option (Bor (List ℕ)) → List (List ℕ)
-tag_list None = []
-tag_list (Some tag) = tag.now ∷ []
+-- ---- VLAN tags
 
 -- the VLAN tags of the first n extensions
-abbrev pub Tagged : List PacketExt → ℕ → Option (Bor (List ℕ)) → Type 0
-Tagged xs n outer = tag_list outer ≡ filter_map vlan_in (ext_units (take n xs))
+abbrev pub Tagged : List PacketUnit → ℕ → Option (List ℕ) → Type 0
+Tagged us n first = cons_option first [] ≡ vlans_of (take n us)
 
-pub tagged_first : (xs : List PacketExt) (i : ℕ) (x : PacketExt) (old new : Option (Bor (List ℕ))) (tag : List ℕ) → IsAt xs i x → Tagged xs i old → old ≡ None → x.slice ≡ exts.Vlan tag → tag_list new ≡ tag ∷ [] → Tagged xs (i + 1) new
-tagged_first xs i x old new tag at a none is kept =
-    kept ∙ found_step vlan_in xs i x [] (tag ∷ []) at (sym (ap tag_list none) ∙ a) (ap (λ (s : LinkExtSlice). filter_map vlan_in (ext_unit s ∷ [])) is)
+tagged_next : (us : List PacketUnit) (i : ℕ) (old r : Option (List ℕ)) → Tagged us i old → i < length us → r ≡ option_and_then vlan_of_unit (slice_get us i) → cons_option old [] ++ cons_option r [] ≡ vlans_of (take (i + 1) us)
+tagged_next us i old r so_far lt is = ap (λ l. l ++ cons_option r []) so_far ∙ sym (found_next vlan_of_unit us i r lt is)
 
-pub tagged_other : (xs : List PacketExt) (i : ℕ) (x : PacketExt) (old new : Option (Bor (List ℕ))) (packet : MacsecSlice) → IsAt xs i x → Tagged xs i old → x.slice ≡ exts.Macsec packet → new ≡ old → Tagged xs (i + 1) new
-tagged_other xs i x old new packet at a is same =
-    ap tag_list same ∙ sym (append-nil (tag_list old)) ∙ found_step vlan_in xs i x (tag_list old) [] at a (ap (λ (s : LinkExtSlice). filter_map vlan_in (ext_unit s ∷ [])) is)
+pub tagged_first : (us : List PacketUnit) (i : ℕ) (old r : Option (List ℕ)) (tag : List ℕ) → Tagged us i old → i < length us → r ≡ option_and_then vlan_of_unit (slice_get us i) → old ≡ None → r ≡ Some tag → Tagged us (i + 1) (Some tag)
+tagged_first us i old r tag so_far lt is none some =
+    sym (λ j. cons_option (none j) [] ++ cons_option (some j) []) ∙ tagged_next us i old r so_far lt is
 
-pub tagged_twice : (p : PacketSlice) (xs : List PacketExt) (i : ℕ) (x : PacketExt) (old : Option (Bor (List ℕ))) (outer : Bor (List ℕ)) (tag : List ℕ) (both : DoubleVlanSlice) → IsAt xs i x → Tagged xs i old → old ≡ Some outer → x.slice ≡ exts.Vlan tag → xs ≡ p.link_exts.items
-    → both.outer ≡ outer.now → both.inner ≡ tag → Some (tags.DoubleVlan both) ≡ first_tags (vlans_of (packet_units p))
-tagged_twice p xs i x old outer tag both at a some is items first second =
-    let front : filter_map vlan_in (ext_units (take i xs)) ≡ outer.now ∷ [] = sym a ∙ ap tag_list some in
-    let here : filter_map vlan_in (ext_unit x.slice ∷ []) ≡ tag ∷ [] = ap (λ (s : LinkExtSlice). filter_map vlan_in (ext_unit s ∷ [])) is in
-    let all : vlans_of (packet_units p) ≡ outer.now ∷ tag ∷ filter_map vlan_in (ext_units (drop (i + 1) xs)) =
-    vlans_found p ∙ ap (λ (l : List PacketExt). filter_map vlan_in (ext_units l)) (sym items) ∙ found_at vlan_in xs i x at ∙ (λ j. front j ++ here j ++ filter_map vlan_in (ext_units (drop (i + 1) xs))) in
-    (λ j. Some (tags.DoubleVlan (record { outer = first j; inner = second j }))) ∙ ap first_tags (sym all)
+pub tagged_other : (us : List PacketUnit) (i : ℕ) (old r : Option (List ℕ)) → Tagged us i old → i < length us → r ≡ option_and_then vlan_of_unit (slice_get us i) → r ≡ None → Tagged us (i + 1) old
+tagged_other us i old r so_far lt is none =
+    sym ((λ j. cons_option old [] ++ cons_option (none j) []) ∙ append-nil (cons_option old [])) ∙ tagged_next us i old r so_far lt is
 
-pub tagged_all : (p : PacketSlice) (xs : List PacketExt) (n : ℕ) (old : Option (Bor (List ℕ))) → Tagged xs n old → length xs ≤ n → xs ≡ p.link_exts.items → tag_list old ≡ vlans_of (packet_units p)
-tagged_all p xs n old a past items = a ∙ ap (λ (l : List PacketExt). filter_map vlan_in (ext_units l)) (take_all n xs past ∙ items) ∙ sym (vlans_found p)
+pub tagged_twice : (us : List PacketUnit) (i : ℕ) (old r : Option (List ℕ)) (outer inner : List ℕ) → Tagged (exts_of us) i old → i < length (exts_of us) → r ≡ option_and_then vlan_of_unit (slice_get (exts_of us) i)
+    → old ≡ Some outer → r ≡ Some inner → Some (tags.DoubleVlan (record { outer = outer; inner = inner })) ≡ first_tags (vlans_of us)
+tagged_twice us i old r outer inner so_far lt is first second =
+    let later = filter_map vlan_of_unit (drop (i + 1) (exts_of us)) in
+    let front : vlans_of (take i (exts_of us)) ≡ outer ∷ [] = sym so_far ∙ ap (λ (o : Option (List ℕ)). cons_option o []) first in
+    let all : vlans_of us ≡ outer ∷ inner ∷ later = vlans_found us ∙ found_at vlan_of_unit (exts_of us) i r lt is ∙ (λ j. front j ++ cons_option (second j) [] ++ later) in
+    ap first_tags (sym all)
 
--- no SecTag is among the first n extensions
-abbrev pub Untagged : List PacketExt → ℕ → Type 0
-Untagged xs n = [] ≡ filter_map macsec_in (ext_units (take n xs))
+pub tagged_all : (us : List PacketUnit) (n : ℕ) (old : Option (List ℕ)) → Tagged (exts_of us) n old → length (exts_of us) ≤ n → cons_option old [] ≡ vlans_of us
+tagged_all us n old so_far past = so_far ∙ found_all vlan_of_unit (exts_of us) n past ∙ sym (vlans_found us)
 
-pub untagged_next : (xs : List PacketExt) (i : ℕ) (x : PacketExt) (tag : List ℕ) → IsAt xs i x → Untagged xs i → x.slice ≡ exts.Vlan tag → Untagged xs (i + 1)
-untagged_next xs i x tag at a is = found_step macsec_in xs i x [] [] at a (ap (λ (s : LinkExtSlice). filter_map macsec_in (ext_unit s ∷ [])) is)
+-- no VLAN tag is among the first n extensions
+abbrev pub Untagged : List PacketUnit → ℕ → Type 0
+Untagged us n = vlans_of (take n us) ≡ []
 
-pub sec_tag_first : (p : PacketSlice) (xs : List PacketExt) (i : ℕ) (x : PacketExt) (packet : MacsecSlice) → IsAt xs i x → Untagged xs i → x.slice ≡ exts.Macsec packet → xs ≡ p.link_exts.items → Some packet ≡ slice_get (sec_tags_of (packet_units p)) 0
-sec_tag_first p xs i x packet at a is items =
-    let here : filter_map macsec_in (ext_unit x.slice ∷ []) ≡ packet ∷ [] = ap (λ (s : LinkExtSlice). filter_map macsec_in (ext_unit s ∷ [])) is in
-    let all : sec_tags_of (packet_units p) ≡ packet ∷ filter_map macsec_in (ext_units (drop (i + 1) xs)) =
-    sec_tags_found p ∙ ap (λ (l : List PacketExt). filter_map macsec_in (ext_units l)) (sym items) ∙ found_at macsec_in xs i x at ∙ (λ j. sym a j ++ here j ++ filter_map macsec_in (ext_units (drop (i + 1) xs))) in
-    ap (λ l. slice_get l 0) (sym all)
+pub untagged_next : (us : List PacketUnit) (i : ℕ) (r : Option (List ℕ)) → Untagged us i → i < length us → r ≡ option_and_then vlan_of_unit (slice_get us i) → r ≡ None → Untagged us (i + 1)
+untagged_next us i r so_far lt is none = found_next vlan_of_unit us i r lt is ∙ (λ j. so_far j ++ cons_option (none j) [])
 
-pub sec_tag_none : (p : PacketSlice) (xs : List PacketExt) (n : ℕ) → Untagged xs n → length xs ≤ n → xs ≡ p.link_exts.items → None ≡ slice_get (sec_tags_of (packet_units p)) 0
-sec_tag_none p xs n a past items =
-    let all : [] ≡ sec_tags_of (packet_units p) = a ∙ ap (λ (l : List PacketExt). filter_map macsec_in (ext_units l)) (take_all n xs past ∙ items) ∙ sym (sec_tags_found p) in
-    ap (λ l. slice_get l 0) all
+-- ---- identifiers
 
--- ---- how far the headers reach
+abbrev pub vid_at : List ℕ → ℕ
+vid_at bytes = (vlan_of bytes).vid
 
-pub reach-append : (at : ℕ) (hs : List Header) (h : Header) → reach at (hs ++ h ∷ []) ≡ max (reach at hs) (place at hs + unit_len h)
-reach-append at [] h = omega arith
-reach-append at (k ∷ hs) h = let more = reach-append (at + header_len k) hs h in omega arith
+ids_cons : (k : Kind) (bytes : List ℕ) (ids : List ℕ) (tags : List (List ℕ)) → ids ≡ map vid_at tags → cons_option (vid_of (header_in k bytes)) ids ≡ map vid_at (cons_option (vlan_in k bytes) tags)
+ids_cons kinds.Ethernet2 bytes ids tags e = e
+ids_cons kinds.Ethernet2Fcs bytes ids tags e = e
+ids_cons kinds.LinuxSll bytes ids tags e = e
+ids_cons kinds.Vlan bytes ids tags e = ap (λ (l : List ℕ). vid_at bytes ∷ l) e
+ids_cons kinds.Macsec bytes ids tags e = e
+ids_cons kinds.Arp bytes ids tags e = e
 
--- the headers of a link and of some extensions
-abbrev pub headers_so_far : Option LinkSlice → List PacketExt → List Header
-headers_so_far link xs = map unit_header (link_units link) ++ map unit_header (ext_units xs)
+pub ids_of : (us : List PacketUnit) → vlan_ids_of (map header_of us) ≡ map vid_at (vlans_of us)
+ids_of [] = refl
+ids_of (u ∷ us) = ids_cons u.kind u.bytes _ _ (ids_of us)
 
-headers_next : (link : Option LinkSlice) (xs : List PacketExt) (i : ℕ) (x : PacketExt) → IsAt xs i x → headers_so_far link (take (i + 1) xs) ≡ headers_so_far link (take i xs) ++ unit_header (ext_unit x.slice) ∷ []
-headers_next link xs i x at =
-    let first = map unit_header (link_units link) in
-    ap (λ (l : List PeelUnit). first ++ map unit_header l) (units_next xs i x at) ∙ ap (λ (l : List Header). first ++ l) (map-append unit_header (ext_units (take i xs)) (ext_unit x.slice ∷ []))
-    ∙ sym (append_assoc first (map unit_header (ext_units (take i xs))) (unit_header (ext_unit x.slice) ∷ []))
+-- none without a VLAN tag
+pub no_ids : (us : List PacketUnit) (n : ℕ) → Untagged (exts_of us) n → length (exts_of us) ≤ n → vlan_ids_of (map header_of us) ≡ []
+no_ids us n so_far past = ids_of us ∙ ap (map vid_at) (vlans_found us ∙ sym (found_all vlan_of_unit (exts_of us) n past) ∙ so_far)
 
--- where the headers of a link and of the first n extensions end, and how far they reach
-pub record Reaches (link : Option LinkSlice) (xs : List PacketExt) (n at end : ℕ) : Type 0 where
-  pub ends : at ≡ place 0 (headers_so_far link (take n xs))
-  pub reaches : end ≡ reach 0 (headers_so_far link (take n xs))
-  pub near : at ≤ 16 + 16 * n
-  pub most : end ≤ 80 + 16 * n
+-- the identifiers of the first n extensions
+pub record Identified (us : List PacketUnit) (n : ℕ) (ids : List ℕ) : Type 0 where
+  pub found : ids ≡ map vid_at (vlans_of (take n us))
+  pub few : length ids ≤ n
 
-pub reaches_first : (link : Option LinkSlice) (xs : List PacketExt) (at : ℕ) → at ≡ place 0 (map unit_header (link_units link)) → at ≡ reach 0 (map unit_header (link_units link)) → at ≤ 16 → Reaches link xs 0 at at
-reaches_first link xs at ends reaches near =
-    let same = sym (append-nil (map unit_header (link_units link))) in
-    record { ends = ends ∙ ap (place 0) same; reaches = reaches ∙ ap (reach 0) same; near = omega arith; most = omega arith }
+identified_next : (us : List PacketUnit) (i : ℕ) (ids : List ℕ) (r : Option (List ℕ)) → Identified us i ids → i < length us → r ≡ option_and_then vlan_of_unit (slice_get us i) → ids ++ map vid_at (cons_option r []) ≡ map vid_at (vlans_of (take (i + 1) us))
+identified_next us i ids r a lt is =
+    ap (λ (l : List ℕ). l ++ map vid_at (cons_option r [])) a.found ∙ sym (map-append vid_at (vlans_of (take i us)) (cons_option r [])) ∙ ap (map vid_at) (sym (found_next vlan_of_unit us i r lt is))
 
-pub reaches_next : (link : Option LinkSlice) (xs : List PacketExt) (i : ℕ) (x : PacketExt) (at end len named : ℕ) → IsAt xs i x → Reaches link xs i at end
-    → len ≡ header_len (unit_header (ext_unit x.slice)) → len ≤ 16 → named ≡ unwrap_or (payload_len (unit_header (ext_unit x.slice))) 0 → named < 64
-    → Reaches link xs (i + 1) (at + len) (max end (at + len + named))
-reaches_next link xs i x at end len named is r len_is few named_is less =
-    let h = unit_header (ext_unit x.slice) in
-    let before = headers_so_far link (take i xs) in
-    let next = headers_next link xs i x is in
-    let ends = ap (place 0) next ∙ place-append 0 before (h ∷ []) in
-    let reaches = ap (reach 0) next ∙ reach-append 0 before h in
-    let old_end = r.ends in
-    let old_reach = r.reaches in
-    let near = r.near in
-    let most = r.most in
-    record { ends = omega arith; reaches = omega arith; near = omega arith; most = omega arith }
+pub identified_tag : (us : List PacketUnit) (i : ℕ) (ids new : List ℕ) (r : Option (List ℕ)) (tag : List ℕ) → Identified us i ids → i < length us → r ≡ option_and_then vlan_of_unit (slice_get us i) → r ≡ Some tag → new ≡ ids ++ vid_at tag ∷ [] → Identified us (i + 1) new
+identified_tag us i ids new r tag a lt is some more =
+    let len : length new ≡ length ids + 1 = ap length more ∙ length-append ids (vid_at tag ∷ []) in
+    let few = a.few in
+    record { found = more ∙ sym (λ j. ids ++ map vid_at (cons_option (some j) [])) ∙ identified_next us i ids r a lt is; few = omega arith }
 
-pub reaches_all : (p : PacketSlice) (xs : List PacketExt) (n at end : ℕ) → Reaches p.link xs n at end → length xs ≤ n → xs ≡ p.link_exts.items
-    → (at ≡ place 0 (headers_so_far p.link p.link_exts.items)) × (end ≡ reach 0 (headers_so_far p.link p.link_exts.items))
-reaches_all p xs n at end r past items =
-    let all = ap (headers_so_far p.link) (take_all n xs past ∙ items) in
-    (r.ends ∙ ap (place 0) all, r.reaches ∙ ap (reach 0) all)
+pub identified_other : (us : List PacketUnit) (i : ℕ) (ids new : List ℕ) (r : Option (List ℕ)) → Identified us i ids → i < length us → r ≡ option_and_then vlan_of_unit (slice_get us i) → r ≡ None → new ≡ ids → Identified us (i + 1) new
+identified_other us i ids new r a lt is none same =
+    let len : length new ≡ length ids = ap length same in
+    let few = a.few in
+    record { found = same ∙ sym ((λ j. ids ++ map vid_at (cons_option (none j) [])) ∙ append-nil ids) ∙ identified_next us i ids r a lt is; few = omega arith }
 
-headers_are : (p : PacketSlice) → packet_headers p ≡ headers_so_far p.link p.link_exts.items ++ map unit_header (arp_units p.arp)
-headers_are p =
-    map-append unit_header (link_units p.link ++ ext_units p.link_exts.items) (arp_units p.arp)
-    ∙ ap (λ (l : List Header). l ++ map unit_header (arp_units p.arp)) (map-append unit_header (link_units p.link) (ext_units p.link_exts.items))
+pub identified_all : (us : List PacketUnit) (n : ℕ) (ids : List ℕ) → Identified (exts_of us) n ids → length (exts_of us) ≤ n → ids ≡ vlan_ids_of (map header_of us)
+identified_all us n ids a past = a.found ∙ ap (map vid_at) (found_all vlan_of_unit (exts_of us) n past ∙ sym (vlans_found us)) ∙ sym (ids_of us)
 
-pub reach_without_arp : (p : PacketSlice) → p.arp ≡ None → reach 0 (packet_headers p) ≡ reach 0 (headers_so_far p.link p.link_exts.items)
-reach_without_arp p none =
-    let first = headers_so_far p.link p.link_exts.items in
-    ap (reach 0) (headers_are p ∙ ap (λ (a : Option (List ℕ)). first ++ map unit_header (arp_units a)) none ∙ append-nil first)
+-- ---- SecTags
 
-pub reach_with_arp : (p : PacketSlice) (bytes : List ℕ) → p.arp ≡ Some bytes → length bytes ≡ arp_len (arp_front_in bytes)
-    → reach 0 (packet_headers p) ≡ max (reach 0 (headers_so_far p.link p.link_exts.items)) (place 0 (headers_so_far p.link p.link_exts.items) + length bytes)
-reach_with_arp p bytes some len =
-    let first = headers_so_far p.link p.link_exts.items in
-    let h = headers.Arp (arp_of bytes) in
-    let own : header_len h ≡ length bytes = ap arp_len (arp_front_back bytes (arp_front_in bytes) (omega arith)) ∙ sym len in
-    let all = ap (reach 0) (headers_are p ∙ ap (λ (a : Option (List ℕ)). first ++ map unit_header (arp_units a)) some) ∙ reach-append 0 first h in
-    all ∙ ap (λ (n : ℕ). max (reach 0 first) (place 0 first + n)) (let e : unit_len h ≡ header_len h = omega arith in e ∙ own)
+-- none is among the first n extensions
+abbrev pub Unsealed : List PacketUnit → ℕ → Type 0
+Unsealed us n = sec_tags_of (take n us) ≡ []
+
+not_viewed : (o : Option (List ℕ)) → ViewsSecTagIf o None → o ≡ None
+not_viewed None v = refl
+not_viewed (Some bytes) v = absurd v
+
+pub unsealed_next : (us : List PacketUnit) (i : ℕ) → Unsealed us i → i < length us → ViewsSecTagIf (option_and_then macsec_of_unit (slice_get us i)) None → Unsealed us (i + 1)
+unsealed_next us i so_far lt view =
+    let o = option_and_then macsec_of_unit (slice_get us i) in
+    found_next macsec_of_unit us i o lt refl ∙ (λ j. so_far j ++ cons_option (not_viewed o view j) [])
+
+first_viewed : (us : List PacketUnit) (i : ℕ) (o : Option (List ℕ)) (packet : MacsecSlice) → Unsealed (exts_of us) i → i < length (exts_of us) → o ≡ option_and_then macsec_of_unit (slice_get (exts_of us) i)
+    → ViewsSecTagIf o (Some packet) → ViewsSecTagIf (slice_get (sec_tags_of us) 0) (Some packet)
+first_viewed us i None packet so_far lt is view = absurd cc
+first_viewed us i (Some bytes) packet so_far lt is view =
+    let later = filter_map macsec_of_unit (drop (i + 1) (exts_of us)) in
+    let all : sec_tags_of us ≡ bytes ∷ later = sec_tags_found us ∙ found_at macsec_of_unit (exts_of us) i (Some bytes) lt is ∙ ap (λ (l : List (List ℕ)). l ++ (bytes ∷ []) ++ later) so_far in
+    subst (λ (l : List (List ℕ)). ViewsSecTagIf (slice_get l 0) (Some packet)) (sym all) view
+
+pub sec_tag_first : (us : List PacketUnit) (i : ℕ) (packet : MacsecSlice) → Unsealed (exts_of us) i → i < length (exts_of us) → ViewsSecTagIf (option_and_then macsec_of_unit (slice_get (exts_of us) i)) (Some packet) → ViewsSecTagIf (slice_get (sec_tags_of us) 0) (Some packet)
+sec_tag_first us i packet so_far lt view = first_viewed us i _ packet so_far lt refl view
+
+pub sec_tag_none : (us : List PacketUnit) (n : ℕ) → Unsealed (exts_of us) n → length (exts_of us) ≤ n → ViewsSecTagIf (slice_get (sec_tags_of us) 0) None
+sec_tag_none us n so_far past =
+    let all : sec_tags_of us ≡ [] = sec_tags_found us ∙ sym (found_all macsec_of_unit (exts_of us) n past) ∙ so_far in
+    subst (λ (l : List (List ℕ)). ViewsSecTagIf (slice_get l 0) None) (sym all) refl
+
+-- ---- views of extensions
+
+-- an extension that is viewed
+pub viewed : (o : Option PacketUnit) (ext : PacketExt) → ViewsExtIf o (Some ext) → (u : PacketUnit) × (o ≡ Some u) × ViewsExt u ext
+viewed None ext view = absurd cc
+viewed (Some u) ext view = (u, refl, view)
+
+pub unviewed : (o : Option PacketUnit) → ViewsExtIf o None → o ≡ None
+unviewed None view = refl
+unviewed (Some u) view = absurd view
+
+-- the views of the first n
+pub record Viewed (us : List PacketUnit) (n : ℕ) (exts : List PacketExt) : Type 0 where
+  pub views : ViewsExts (take n us) exts
+  pub few : length exts ≤ n
+
+views_more : (us : List PacketUnit) (exts : List PacketExt) (u : PacketUnit) (ext : PacketExt) → ViewsExts us exts → ViewsExt u ext → ViewsExts (us ++ u ∷ []) (exts ++ ext ∷ [])
+views_more [] [] u ext all view = (view, tt)
+views_more [] (x ∷ xs) u ext all view = absurd all
+views_more (v ∷ us) [] u ext all view = absurd all
+views_more (v ∷ us) (x ∷ xs) u ext all view = (all.0, views_more us xs u ext all.1 view)
+
+pub viewed_next : (us : List PacketUnit) (i : ℕ) (exts new : List PacketExt) (ext : PacketExt) → Viewed us i exts → ViewsExtIf (slice_get us i) (Some ext) → new ≡ exts ++ ext ∷ [] → Viewed us (i + 1) new
+viewed_next us i exts new ext so_far view more =
+    let w = viewed (slice_get us i) ext view in
+    let len : length new ≡ length exts + 1 = ap length more ∙ length-append exts (ext ∷ []) in
+    let few = so_far.few in
+    record {
+      views = subst (ViewsExts (take (i + 1) us)) (sym more) (subst (λ (l : List PacketUnit). ViewsExts l (exts ++ ext ∷ [])) (sym (take_next us i w.0 w.1)) (views_more (take i us) exts w.0 ext so_far.views w.2));
+      few = omega arith;
+    }
+
+-- none is missing
+pub viewed_inside : (us : List PacketUnit) (i : ℕ) → i < length us → ViewsExtIf (slice_get us i) None → ⊥
+viewed_inside us i lt view = let le = missing_past us i (unviewed (slice_get us i) view) in absurd (omega (arith, lt, le))
+
+pub viewed_all : (us : List PacketUnit) (n : ℕ) (exts : List PacketExt) → Viewed us n exts → length us ≤ n → ViewsExts us exts
+viewed_all us n exts so_far past = subst (λ (l : List PacketUnit). ViewsExts l exts) (take_all n us past) so_far.views
+
+-- ---- payloads
+
+pub ext_payload : (link : Option LinkSlice) (o : Option PacketUnit) (ext : PacketExt) (r : Option EtherPayloadSlice) → ViewsExtIf o (Some ext) → HoldsExtPayload ext.slice r → HoldsPayload link o r
+ext_payload link None ext r view holds = absurd cc
+ext_payload link (Some u) ext r view holds = (ext.slice, view.tag, holds)
+
+pub link_payload : (link : Option LinkSlice) (o : Option PacketUnit) (r : Option EtherPayloadSlice) → ViewsExtIf o None → HoldsPayload link None r → HoldsPayload link o r
+link_payload link o r view holds = subst (λ (p : Option PacketUnit). HoldsPayload link p r) (sym (unviewed o view)) holds

@@ -1,3 +1,6 @@
+pub mod HeadersIn
+pub mod Places
+pub mod Reaching
 pub mod Gathering
 pub mod Getting
 pub mod Written

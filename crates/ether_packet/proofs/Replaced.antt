@@ -6,21 +6,20 @@ use Rattle.std.proofs.lemmas.Slice.{between_from_start}
 use Rattle.etherparse.specs.Types.LenSource.{LenSource}
 use Rattle.etherparse.specs.Types.LenSource.TheVariants as sources
 use Rattle.etherparse.specs.Bytes.{overwritten}
-use Rattle.etherparse.specs.LinuxSll.{LinuxSllValue, BeginsLinuxSll, is_supported}
-use Rattle.etherparse.specs.Macsec.{SecTagFront, BeginsSecTag, encrypted_of, changed_of, ether_type_len, known_len, known_payload_len, sec_tag_len, sec_tag_front_of}
+use Rattle.etherparse.specs.LinuxSll.{LinuxSllValue, is_supported}
+use Rattle.etherparse.specs.Macsec.{BeginsSecTag, encrypted_of, changed_of, ether_type_len, known_len, sec_tag_front_of}
 use Rattle.etherparse.specs.Arp.{arp_front_of}
-use Rattle.etherparse.specs.Kind.{Kind}
 use Rattle.etherparse.specs.Kind as kinds
 use Rattle.etherparse.specs.Header.{Header, kind_of, header_len, payload_len, trailer_len, header_bytes, FitsHeader, Means, Spells}
 use Rattle.etherparse.specs.Header as headers
-use Rattle.etherparse.specs.Refusal.{Refuses, Accepts, IsTooShort}
+use Rattle.etherparse.specs.Refusal.{Refuses, Accepts}
 use Rattle.etherparse.specs.Refusal as rows
 use Rattle.etherparse.proofs.SubLists.{length-part, part-append, part_after_front, part_of_front, part_of_part}
 use Rattle.etherparse.proofs.Rows.{at_least, accepts_ethernet2, accepts_ethernet2_fcs, accepts_linux_sll, accepts_vlan, accepts_macsec, accepts_arp, version_zero}
 use Rattle.etherparse.proofs.Means.{arp_begins, begins_whole, tag_begins, unit_fits}
 use Rattle.etherparse.proofs.ReadBack.{length-header_bytes, sec_tag_front_back, spells-header_bytes}
 use Rattle.ether_peel.specs.Grammar.Window.{Window, within, IsIn, payload}
-use Rattle.ether_peel.specs.Grammar.Expectation.{Expectation, Next, next_after, after, after_capture, after_payload, has_fcs, is_extension, lowered}
+use Rattle.ether_peel.specs.Grammar.Expectation.{Expectation, next_after, after, after_capture, after_payload, has_fcs, is_extension, lowered}
 use Rattle.ether_peel.specs.Grammar.Places.{place}
 use Rattle.ether_peel.specs.Grammar.Stack.{Ending, Accepted, Fault, IsUnit, Stack, whole, Walk}
 use Rattle.ether_peel.proofs.Grammar.Windows.{payload_from, payload_in}

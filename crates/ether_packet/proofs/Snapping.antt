@@ -16,7 +16,7 @@ use Rattle.ether_peel.proofs.Grammar.Carrying.{leads, beyond, Carries, StaysShor
 use Rattle.ether_peel.proofs.Grammar.Extensions.{walk_open_to_end, kept}
 use Rattle.ether_peel.proofs.Grammar.Cuts.{reach_least, common, wants_unit}
 use Rattle.ether_packet.specs.declared.packet_slice.PacketSlice.{PacketSlice}
-use Rattle.ether_packet.specs.Views.{packet_headers}
+use Rattle.ether_packet.specs.Packet.{packet_headers}
 use Rattle.ether_packet.specs.Getters.{IsLeastSnap, SnapsAt, TellsAccepted}
 
 not_longer : (ks later : List Header) (unit : Header) → ks ++ unit ∷ later ≡ ks → ⊥

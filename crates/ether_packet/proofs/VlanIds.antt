@@ -1,34 +1,33 @@
 -- The identifier of the outermost VLAN tag, set in place.
-use Rattle.std.proofs.Common.{◌≡◌, ◌≢◌, ℕ, zero, suc, ◌+◌, ◌-◌, ◌*◌, ◌/◌, ◌%◌, ◌^◌, ◌<◌, ◌≤◌, List, [], ◌∷◌, ◌++◌, length, take, drop, refl, sym, ap, subst, ◌∙◌, arith, append_assoc, Bool, true, false}
-use Rattle.std.specs.Prelude.{map, slice_index, slice_range, if◌then◌else◌}
+use Rattle.std.proofs.Common.{◌≡◌, ◌≢◌, ℕ, zero, suc, ◌+◌, ◌-◌, ◌*◌, ◌/◌, ◌%◌, ◌^◌, ◌<◌, ◌≤◌, List, [], ◌∷◌, ◌++◌, length, take, drop, refl, sym, ap, subst, ◌∙◌, arith, append_assoc, Bool, true}
+use Rattle.std.specs.Prelude.{map, slice_get, slice_index, slice_range, Some, if◌then◌else◌}
+use Rattle.std.specs.Option.{option_and_then}
 use Rattle.std.proofs.Math.Seq.{get_or-append_seam}
 use Rattle.std.proofs.lemmas.List.{get_or-append-add, drop-drop, length-append, length-take-le, take-append-drop}
-use Rattle.std.proofs.lemmas.List.Elements.{filter_map-append}
+use Rattle.std.proofs.lemmas.Option.{option_and_then_some}
 use Rattle.etherparse.specs.Bytes.{IsBytes, spelled, overwritten}
-use Rattle.etherparse.specs.Types.LinkExtSlice.{LinkExtSlice}
-use Rattle.etherparse.specs.Types.LinkExtSlice.TheVariants as exts
+use Rattle.etherparse.specs.Kind.{Kind}
+use Rattle.etherparse.specs.Kind as kinds
 use Rattle.etherparse.specs.Vlan.{VlanValue, FitsVlan, IsVlan, vlan_number, vlan_bytes, vlan_of}
 use Rattle.etherparse.specs.Header.{Header, kind_of, header_len, header_bytes, Spells}
 use Rattle.etherparse.specs.Header as headers
 use Rattle.etherparse.proofs.Numbers.{length-spelled}
 use Rattle.etherparse.proofs.SubLists.{IsBytes-part, length-part}
 use Rattle.etherparse.proofs.VlanFields.{vlan_bytes-read}
-use Rattle.ether_peel.specs.Grammar.Window.{Window, within, IsIn, payload}
+use Rattle.ether_peel.specs.Grammar.Window.{Window, IsIn, payload}
 use Rattle.ether_peel.specs.Grammar.Expectation.{Expectation, after, is_extension}
 use Rattle.ether_peel.specs.Grammar.Places.{place}
 use Rattle.ether_peel.specs.Grammar.Stack.{Ending, Stack, whole, Walk}
-use Rattle.ether_peel.specs.Walker.UnitHeader.{unit_header}
 use Rattle.ether_peel.proofs.Grammar.Cleared.{whole_in}
 use Rattle.ether_peel.proofs.Grammar.Windows.{payload_in}
-use Rattle.ether_packet.specs.declared.packet_ext.PacketExt.{PacketExt}
-use Rattle.ether_packet.specs.declared.packet_slice.PacketSlice.{PacketSlice}
 use Rattle.ether_packet.specs.declared.replace_error.ReplaceError.{ReplaceError}
-use Rattle.ether_packet.specs.Views.{link_units, ext_unit, ext_units, packet_headers}
-use Rattle.ether_packet.specs.Getters.{vid_of, vlan_ids_of}
+use Rattle.ether_packet.specs.PacketUnit.{PacketUnit}
+use Rattle.ether_packet.specs.Views.{header_in, header_of, exts_of, vlan_in, vlan_of_unit}
+use Rattle.ether_packet.specs.Getters.{vlan_ids_of, vlans_of}
 use Rattle.ether_packet.specs.Replacing.{SayTheSame, ext_count, IsExtAt, ReplacesExt, RefusesExt, none, other}
 use Rattle.ether_packet.specs.VlanIds.{IsOutermost, SetsVid}
-use Rattle.ether_packet.proofs.Getting.{IsAt, vid_in, Identified, link_has, ids_of_units}
-use Rattle.ether_packet.proofs.PacketExts.{ext_count-append, front_of, later_of, ext_at}
+use Rattle.ether_packet.proofs.Getting.{Untagged, vid_at, ids_of, vlans_found}
+use Rattle.ether_packet.proofs.PacketExts.{ext_count-append, Split, split_at, ext_at}
 use Rattle.ether_packet.proofs.Replaced.{front_is, header_inside}
 
 -- ---- the extension at an index is one
@@ -72,22 +71,31 @@ never_refused hs i front h g later e found same (other other_front k other_later
 
 -- ---- the outermost VLAN tag
 
-no_ids_before : (p : PacketSlice) (i : ℕ) → Identified p.link_exts.items i [] → vlan_ids_of (front_of p i) ≡ []
-no_ids_before p i untagged =
-    filter_map-append vid_of (map unit_header (link_units p.link)) (map unit_header (ext_units (take i p.link_exts.items)))
-    ∙ (λ j. (ids_of_units (link_units p.link) ∙ (link_has p.link).0) j ++ (ids_of_units (ext_units (take i p.link_exts.items)) ∙ sym untagged.found) j)
+no_ids_before : (us : List PacketUnit) (i : ℕ) (x : PacketUnit) (s : Split us i x) → Untagged (exts_of us) i → vlan_ids_of (map header_of s.front) ≡ []
+no_ids_before us i x s untagged = ids_of s.front ∙ ap (map vid_at) (vlans_found s.front ∙ ap vlans_of s.before ∙ untagged)
+
+tag_is : (k : Kind) (bytes tag : List ℕ) → vlan_in k bytes ≡ Some tag → header_in k bytes ≡ headers.Vlan (vlan_of tag)
+tag_is kinds.Ethernet2 bytes tag e = absurd cc
+tag_is kinds.Ethernet2Fcs bytes tag e = absurd cc
+tag_is kinds.LinuxSll bytes tag e = absurd cc
+tag_is kinds.Vlan bytes tag e = let same : bytes ≡ tag = cc in ap (λ (l : List ℕ). headers.Vlan (vlan_of l)) same
+tag_is kinds.Macsec bytes tag e = absurd cc
+tag_is kinds.Arp bytes tag e = absurd cc
 
 -- after extensions that are no VLAN tags
-pub is_outermost : (p : PacketSlice) (xs : List PacketExt) (i : ℕ) (x : PacketExt) (bytes : List ℕ) (tag : VlanValue) → xs ≡ p.link_exts.items → IsAt xs i x → Identified xs i [] → x.slice ≡ exts.Vlan bytes → tag ≡ vlan_of bytes
-    → IsOutermost (packet_headers p) i tag
-is_outermost p xs i x bytes tag items at untagged is value =
-    let header : unit_header (ext_unit x.slice) ≡ headers.Vlan tag = ap (λ (s : LinkExtSlice). unit_header (ext_unit s)) is ∙ ap headers.Vlan (sym value) in
+is_tag : (us : List PacketUnit) (i : ℕ) (x : PacketUnit) (bytes : List ℕ) (tag : VlanValue) → Untagged (exts_of us) i → slice_get (exts_of us) i ≡ Some x → vlan_of_unit x ≡ Some bytes → tag ≡ vlan_of bytes → IsOutermost (map header_of us) i tag
+is_tag us i x bytes tag untagged at is value =
+    let s = split_at us i x at in
+    let header : header_of x ≡ headers.Vlan tag = tag_is x.kind x.bytes bytes is ∙ ap headers.Vlan (sym value) in
     record {
-      front = front_of p i;
-      later = later_of p i;
-      found = subst (λ (h : Header). IsExtAt (packet_headers p) i (front_of p i) h (later_of p i)) header (ext_at p i x (subst (λ (l : List PacketExt). IsAt l i x) items at));
-      outermost = no_ids_before p i (subst (λ (l : List PacketExt). Identified l i []) items untagged);
+      front = map header_of s.front;
+      later = map header_of s.later;
+      found = subst (λ (h : Header). IsExtAt (map header_of us) i (map header_of s.front) h (map header_of s.later)) header (ext_at us i x at s);
+      outermost = no_ids_before us i x s untagged;
     }
+
+pub is_outermost : (us : List PacketUnit) (i : ℕ) (bytes : List ℕ) (tag : VlanValue) → Untagged (exts_of us) i → Some bytes ≡ option_and_then vlan_of_unit (slice_get (exts_of us) i) → tag ≡ vlan_of bytes → IsOutermost (map header_of us) i tag
+is_outermost us i bytes tag untagged is value = option_and_then_some vlan_of_unit (slice_get (exts_of us) i) bytes (sym is) (λ x at here. is_tag us i x bytes tag untagged at here value)
 
 -- ---- its bits
 

@@ -2,8 +2,8 @@
 use Rattle.std.specs.Prelude.{◌≡◌, ℕ, ◌-◌, ◌<◌, ◌≤◌, List, [], ◌∷◌, length, take, slice_get, Option, Some, None, MatchOption, Bool, false, IsTrue, ◌↔◌}
 use Rattle.std.specs.List.{filter_map}
 use Rattle.etherparse.specs.Types.EtherPayloadSlice.{EtherPayloadSlice}
+use Rattle.etherparse.specs.Types.LinkExtSlice.{LinkExtSlice}
 use Rattle.etherparse.specs.Types.LinkSlice.{LinkSlice}
-use Rattle.etherparse.specs.Types.MacsecSlice.{MacsecSlice}
 use Rattle.etherparse.specs.Types.VlanSlice.{VlanSlice}
 use Rattle.etherparse.specs.Types.VlanSlice.TheVariants as tags
 use Rattle.etherparse.specs.Bytes.{IsBytes}
@@ -15,12 +15,10 @@ use Rattle.etherparse.specs.LinkExt.{HoldsExtPayload}
 use Rattle.ether_peel.specs.Grammar.Expectation.{Expectation, has_fcs}
 use Rattle.ether_peel.specs.Grammar.Stack.{Ending, Walk}
 use Rattle.ether_peel.specs.Grammar.Endings.{refusal_of}
-use Rattle.ether_peel.specs.declared.peel_unit.PeelUnit.{PeelUnit}
-use Rattle.ether_peel.specs.declared.peel_unit.PeelUnit.TheVariants as units
-use Rattle.ether_packet.specs.declared.packet_ext.PacketExt.{PacketExt}
 use Rattle.ether_packet.specs.declared.packet_slice.PacketSlice.{PacketSlice}
-use Rattle.ether_packet.specs.Views.{packet_headers}
-use Rattle.ether_packet.specs.Packet.{IsPacket}
+use Rattle.ether_packet.specs.PacketUnit.{PacketUnit}
+use Rattle.ether_packet.specs.Views.{exts_of, vlan_of_unit, macsec_of_unit, ViewsTag}
+use Rattle.ether_packet.specs.Packet.{packet_headers, IsPacket}
 
 -- ---- tags
 
@@ -32,13 +30,9 @@ vid_of _ = None
 abbrev pub vlan_ids_of : List Header → List ℕ
 vlan_ids_of hs = filter_map vid_of hs
 
-abbrev pub vlan_in : PeelUnit → Option (List ℕ)
-vlan_in (units.Vlan bytes) = Some bytes
-vlan_in _ = None
-
--- the bytes of the VLAN tags among units, in order
-abbrev pub vlans_of : List PeelUnit → List (List ℕ)
-vlans_of us = filter_map vlan_in us
+-- the bytes of the VLAN tags with their payloads, in order
+abbrev pub vlans_of : List PacketUnit → List (List ℕ)
+vlans_of us = filter_map vlan_of_unit us
 
 -- the first of them, or the first two
 abbrev pub first_tags : List (List ℕ) → Option VlanSlice
@@ -46,13 +40,9 @@ first_tags [] = None
 first_tags (tag ∷ []) = Some (tags.SingleVlan tag)
 first_tags (outer ∷ inner ∷ later) = Some (tags.DoubleVlan (record { outer = outer; inner = inner }))
 
-abbrev pub macsec_in : PeelUnit → Option MacsecSlice
-macsec_in (units.Macsec packet) = Some packet
-macsec_in _ = None
-
--- the SecTags among units, in order
-abbrev pub sec_tags_of : List PeelUnit → List MacsecSlice
-sec_tags_of us = filter_map macsec_in us
+-- those of the SecTags
+abbrev pub sec_tags_of : List PacketUnit → List (List ℕ)
+sec_tags_of us = filter_map macsec_of_unit us
 
 -- ---- payloads
 
@@ -64,12 +54,12 @@ HoldsLinkPayload link result =
     × (p.len_source ≡ link_source link) × (p.payload.now ≡ link_payload link))
 
 -- the last extension
-abbrev pub last_ext : List PacketExt → Option PacketExt
-last_ext exts = slice_get exts (length exts - 1)
+abbrev pub last_ext : List PacketUnit → Option PacketUnit
+last_ext us = slice_get (exts_of us) (length (exts_of us) - 1)
 
 -- the payload of the last extension, or of the link if there is none
-abbrev pub HoldsPayload : Option LinkSlice → Option PacketExt → Option EtherPayloadSlice → Type 0
-HoldsPayload link (Some ext) result = HoldsExtPayload ext.slice result
+abbrev pub HoldsPayload : Option LinkSlice → Option PacketUnit → Option EtherPayloadSlice → Type 0
+HoldsPayload link (Some u) result = (tag : LinkExtSlice) × ViewsTag u.kind u.bytes tag × HoldsExtPayload tag result
 HoldsPayload (Some link) None result = HoldsLinkPayload link result
 HoldsPayload None None result = result ≡ None
 

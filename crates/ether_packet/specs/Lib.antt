@@ -1,7 +1,9 @@
+pub mod PacketUnit
 pub mod Views
 pub mod Packet
 pub mod Getters
-pub mod Adding
+pub mod ExtPlaces
+pub mod Places
 pub mod Building
 pub mod Builder
 pub mod Replacing

@@ -3,9 +3,11 @@
 #![tactic(auto)]
 
 mod build_error;
+mod ext_places;
 mod packet_builder;
 mod packet_ext;
 mod packet_slice;
+mod packet_units;
 mod replace_error;
 mod replacing;
 #[cfg(test)]

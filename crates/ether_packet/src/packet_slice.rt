@@ -1,31 +1,31 @@
-//! The headers of a packet as views.
-ghost use Rattle.std.specs.Prelude.{◌≡◌, ◌↔◌, ◌<◌, ◌≤◌, [], ◌∷◌, ◌++◌, length, map, None, IsTrue, slice_get, unwrap_or};
-ghost use Rattle.std.specs.Option.{option_map};
-ghost use Rattle.etherparse.specs.Header.{header_len as header_len_of, payload_len};
-ghost use Rattle.ether_peel.specs.Grammar.Places.{place};
+//! The headers of a packet, read in one call.
+ghost use Rattle.std.specs.Prelude.{◌≡◌, ◌↔◌, ◌+◌, ◌≤◌, [], length, None, IsTrue, MatchOption, slice_get};
+ghost use Rattle.etherparse.specs.Vlan.{vlan_view};
 ghost use Rattle.ether_peel.specs.Grammar.Cuts.{reach};
-ghost use Rattle.ether_peel.specs.Walker.UnitHeader.{unit_header};
+ghost use Rattle.ether_peel.specs.Walker.Start.{kind_shown};
 ghost use Rattle.ether_peel.specs.Walker.Limits.{IsFrontOfUnlimited};
-ghost use Rattle.ether_packet.specs.Views.{link_units, ext_unit, packet_units, packet_headers};
-ghost use Rattle.ether_packet.specs.Packet.{link_exts_cap, packet_start, IsPacket};
+ghost use Rattle.ether_packet.specs.Views.{link_of, exts_of, arp_view, ViewsExtIf, ViewsExts, ViewsSecTagIf};
+ghost use Rattle.ether_packet.specs.Packet.{link_exts_cap, packet_start, packet_headers, IsPacket};
 ghost use Rattle.ether_packet.specs.Getters.{first_tags, vlans_of, vlan_ids_of, sec_tags_of, last_ext, HoldsPayload, SnapsAt, TellsAccepted};
-ghost use Rattle.ether_packet.specs.Adding.{HasRoom, Adds, EndsWith};
+ghost use Rattle.ether_packet.specs.VlanIds.{IsOutermost};
 
 use crate::PacketExt;
+use crate::ext_places::Place;
+use crate::packet_units::PacketUnits;
 use arrayvec::ArrayVec;
-use ether_peel::{Peel, PeelFault, PeelUnit, RestKind, Start};
+use ether_peel::{Peel, PeelFault, RestKind, Start};
 use etherparse::{
-    ArpPacketSlice, DoubleVlanSlice, EtherPayloadSlice, Ethernet2Header, LinkExtSlice, LinkSlice,
-    LinuxSllHeader, MacsecSlice, SingleVlanSlice, VlanId, VlanSlice,
+    ArpPacketSlice, DoubleVlanSlice, EtherPayloadSlice, LinkSlice, MacsecSlice, SingleVlanHeader,
+    VlanId, VlanSlice,
 };
 
 /// How many VLAN tags and SecTags a packet holds at most.
 const LINK_EXTS_CAP: usize = 3;
 
-/// The link-layer headers of a frame as views that borrow it, what is left after them, and the fault if one of them is
-/// refused.
+/// The link-layer headers of a frame, what is left after them, and the fault if one of them is refused.
 ///
-/// After a fault the headers before it stay. At most [`LINK_EXTS_CAP`](Self::LINK_EXTS_CAP) VLAN tags and SecTags are
+/// A packet keeps where its headers are. Each getter returns a view that borrows the frame, without walking through the
+/// frame again. After a fault the headers before it stay. At most [`LINK_EXTS_CAP`](Self::LINK_EXTS_CAP) VLAN tags and SecTags are
 /// read; tags beyond them are the rest.
 ///
 /// ```
@@ -46,14 +46,7 @@ const LINK_EXTS_CAP: usize = 3;
 /// ```
 #[derive(Debug, Drop)]
 pub struct PacketSlice<'a> {
-    /// The header that the frame begins with, and its payload: of Ethernet II or Linux cooked capture v1.
-    ///
-    /// `None` if the header is refused, or if the frame begins with what an ether type announces.
-    pub link: Option<LinkSlice<'a>>,
-    /// The VLAN tags and SecTags, the outermost first.
-    pub link_exts: ArrayVec<PacketExt<'a>, LINK_EXTS_CAP>,
-    /// The ARP packet, without what follows it.
-    pub arp: Option<ArpPacketSlice<'a>>,
+    read: PacketUnits<'a>,
     /// The bytes of the window left to read: after a fault, of the window in which it came.
     pub rest: &'a [u8],
     /// Where the rest starts, in bytes from the start of the frame.
@@ -79,111 +72,117 @@ impl<'a> PacketSlice<'a> {
         ensures front { IsFrontOfUnlimited start bytes.now link_exts_cap }
     {
         let mut peel = Peel::with_limit(start, bytes, LINK_EXTS_CAP);
-        let mut packet = PacketSlice::begun(bytes);
+        let mut read = PacketUnits::new(bytes);
+        let mut window = window_of(&peel);
         loop {
             match peel.next() {
                 Some(Ok(unit)) => {
-                    packet.add(unit);
-                    packet.rest_offset = peel.offset();
+                    read.add(&unit, window);
+                    window = window_of(&peel);
                 }
-                Some(Err(fault)) => {
-                    packet.end(&peel, Some(fault));
-                    return packet;
-                }
-                None => {
-                    packet.end(&peel, None);
-                    return packet;
-                }
+                Some(Err(fault)) => return PacketSlice::ended(read, &peel, Some(fault)),
+                None => return PacketSlice::ended(read, &peel, None),
             }
         }
     }
 
-    /// A packet without headers.
+    /// The headers that were read, and what the walk leaves.
     #[inline(always)]
-    fn begun(bytes: &'a [u8]) -> PacketSlice<'a>
-        ensures link { result.link ≡ None }
-        ensures exts { result.link_exts.items ≡ [] }
-        ensures arp { result.arp ≡ None }
-        ensures offset { result.rest_offset ≡ 0 }
+    fn ended(read: PacketUnits<'a>, peel: &Peel<'a>, fault: Option<PeelFault>) -> PacketSlice<'a>
+        ensures read { result.read ≡ read.entry }
+        ensures rest { result.rest.now ≡ peel.now.rest }
+        ensures offset { result.rest_offset ≡ peel.now.offset }
+        ensures kind { result.rest_kind ≡ kind_shown peel.now.expected }
+        ensures fault { result.fault ≡ fault }
     {
         PacketSlice {
-            link: None,
-            link_exts: ArrayVec::new(),
-            arp: None,
-            rest: bytes,
-            rest_offset: 0,
-            rest_kind: RestKind::Start,
-            fault: None,
+            read,
+            rest: peel.rest(),
+            rest_offset: peel.offset(),
+            rest_kind: peel.kind(),
+            fault,
         }
     }
 
-    /// Adds the next header, which starts where the rest did.
+    /// The header that the frame begins with, of Ethernet II or Linux cooked capture v1, and its payload.
+    ///
+    /// `None` if the header is refused, or if the frame begins with what an ether type announces.
     #[inline(always)]
-    fn add(&mut self, unit: PeelUnit<'a>)
-        requires { HasRoom link_exts_cap self.old unit }
-        ensures { Adds self.old unit.entry self.new }
+    pub fn link(&self) -> Option<LinkSlice<'a>>
+        ensures { result ≡ link_of self.now.read.units }
     {
-        match unit {
-            PeelUnit::Ethernet2(slice) => self.link = Some(LinkSlice::Ethernet2(slice)),
-            PeelUnit::LinuxSll(slice) => self.link = Some(LinkSlice::LinuxSll(slice)),
-            PeelUnit::Vlan(slice) => self.add_ext(LinkExtSlice::Vlan(slice)),
-            PeelUnit::Macsec(slice) => self.add_ext(LinkExtSlice::Macsec(slice)),
-            PeelUnit::Arp(slice) => self.arp = Some(slice),
+        self.read.link()
+    }
+
+    /// The number of VLAN tags and SecTags.
+    #[inline(always)]
+    pub fn link_ext_count(&self) -> usize
+        ensures value { result ≡ length (exts_of self.now.read.units) }
+        ensures most { result ≤ link_exts_cap }
+    {
+        self.read.ext_count()
+    }
+
+    /// The VLAN tag or SecTag at an index, counted from the outermost one; `None` if there are not so many.
+    #[inline(always)]
+    pub fn link_ext(&self, index: usize) -> Option<PacketExt<'a>>
+        ensures { ViewsExtIf (slice_get (exts_of self.now.read.units) index) result }
+    {
+        self.read.ext(index)
+    }
+
+    /// The VLAN tags and SecTags, the outermost first.
+    ///
+    /// ```
+    /// let tags = [
+    ///     0x00, 0x0A, 0x81, 0x00, // VLAN
+    ///     0x00, 0x64, 0x08, 0x00, // VLAN
+    /// ];
+    /// let packet = PacketSlice::from_slice(Start::EtherType(EtherType::PROVIDER_BRIDGING), &tags);
+    /// let exts = packet.link_exts();
+    /// assert_eq!(rt; exts.len(), 2);
+    /// assert_eq!(rt; exts[1].offset, 4);
+    /// ```
+    pub fn link_exts(&self) -> ArrayVec<PacketExt<'a>, LINK_EXTS_CAP>
+        ensures { ViewsExts (exts_of self.now.read.units) result.items }
+    {
+        let mut exts = ArrayVec::new();
+        for index in 0..self.read.ext_count() {
+            if let Some(ext) = self.read.ext(index) {
+                exts.push(ext);
+            }
         }
+        exts
     }
 
-    /// Adds the next link extension.
+    /// The ARP packet, without what follows it.
     #[inline(always)]
-    fn add_ext(&mut self, slice: LinkExtSlice<'a>)
-        requires { length self.old.link_exts.items < link_exts_cap }
-        ensures link { self.new.link ≡ self.old.link }
-        ensures exts { self.new.link_exts.items
-            ≡ self.old.link_exts.items ++ record { offset = self.old.rest_offset; slice = slice.entry } ∷ [] }
-        ensures arp { self.new.arp ≡ self.old.arp }
+    pub fn arp(&self) -> Option<ArpPacketSlice<'a>>
+        ensures { result ≡ arp_view self.now.read.units }
     {
-        self.link_exts.push(PacketExt {
-            offset: self.rest_offset,
-            slice,
-        });
-    }
-
-    /// Takes what the walk leaves.
-    #[inline(always)]
-    fn end(&mut self, peel: &Peel<'a>, fault: Option<PeelFault>)
-        ensures { EndsWith self.old peel.now fault self.new }
-    {
-        self.rest = peel.rest();
-        self.rest_offset = peel.offset();
-        self.rest_kind = peel.kind();
-        self.fault = fault;
-    }
-
-    /// The VLAN tags and SecTags as a slice, the outermost first.
-    #[inline(always)]
-    pub fn link_exts(&self) -> &[PacketExt<'a>]
-        ensures items { result.now ≡ self.now.link_exts.items }
-        ensures most { length result.now ≤ link_exts_cap }
-    {
-        self.link_exts.as_slice()
+        self.read.arp()
     }
 
     /// The first VLAN tag with its payload, or the first two if there are several; `None` without a VLAN tag.
     ///
     /// SecTags are passed over.
     pub fn vlan(&self) -> Option<VlanSlice<'a>>
-        ensures { result ≡ first_tags (vlans_of (packet_units self.now)) }
+        ensures { result ≡ first_tags (vlans_of self.now.read.units) }
     {
-        let mut outer: Option<&SingleVlanSlice<'a>> = None;
-        for ext in self.link_exts.as_slice() {
-            if let LinkExtSlice::Vlan(tag) = &ext.slice {
-                match outer {
-                    None => outer = Some(tag),
-                    Some(outer) => return Some(VlanSlice::DoubleVlan(two_tags(outer, tag))),
+        let mut first = None;
+        for index in 0..self.read.ext_count() {
+            if let Some(tag) = self.read.tag(index) {
+                match first {
+                    None => first = Some(tag),
+                    Some(outer) => {
+                        let inner = tag;
+                        return Some(VlanSlice::DoubleVlan(DoubleVlanSlice { outer, inner }));
+                    }
                 }
             }
         }
-        match outer {
-            Some(tag) => Some(VlanSlice::SingleVlan(same_tag(tag))),
+        match first {
+            Some(tag) => Some(VlanSlice::SingleVlan(tag)),
             None => None,
         }
     }
@@ -193,21 +192,49 @@ impl<'a> PacketSlice<'a> {
         ensures { result.items ≡ vlan_ids_of (packet_headers self.now) }
     {
         let mut ids = ArrayVec::new();
-        for ext in self.link_exts.as_slice() {
-            if let LinkExtSlice::Vlan(tag) = &ext.slice {
+        for index in 0..self.read.ext_count() {
+            if let Some(tag) = self.read.tag(index) {
                 ids.push(tag.vlan_identifier());
             }
         }
         ids
     }
 
-    /// The first SecTag with its payload; `None` without a SecTag.
-    pub fn macsec(&self) -> Option<&MacsecSlice<'a>>
-        ensures { option_map (λ packet. packet.now) result
-            ≡ slice_get (sec_tags_of (packet_units self.now)) 0 }
+    /// The first VLAN tag, with its index among the tags, which is the one that [`replace_link_ext`](crate::replace_link_ext)
+    /// takes; `None` without a VLAN tag.
+    ///
+    /// ```
+    /// let tags = [
+    ///     0x00, 0x0A, 0x81, 0x00, // VLAN
+    ///     0x00, 0x64, 0x08, 0x00, // VLAN
+    /// ];
+    /// let packet = PacketSlice::from_slice(Start::EtherType(EtherType::PROVIDER_BRIDGING), &tags);
+    /// match packet.outermost_vlan() {
+    ///     Some((index, tag)) => {
+    ///         assert_eq!(rt; index, 0);
+    ///         assert_eq!(rt; tag.vlan_id.value(), 10);
+    ///     }
+    ///     None => panic!(rt; "no tag"),
+    /// }
+    /// ```
+    pub fn outermost_vlan(&self) -> Option<(usize, SingleVlanHeader)>
+        ensures { MatchOption result (vlan_ids_of (packet_headers self.now) ≡ [])
+            (λ found. IsOutermost (packet_headers self.now) found.0 (vlan_view found.1)) }
     {
-        for ext in self.link_exts.as_slice() {
-            if let LinkExtSlice::Macsec(packet) = &ext.slice {
+        for index in 0..self.read.ext_count() {
+            if let Some(tag) = self.read.tag(index) {
+                return Some((index, tag.to_header()));
+            }
+        }
+        None
+    }
+
+    /// The first SecTag with its payload; `None` without a SecTag.
+    pub fn macsec(&self) -> Option<MacsecSlice<'a>>
+        ensures { ViewsSecTagIf (slice_get (sec_tags_of self.now.read.units) 0) result }
+    {
+        for index in 0..self.read.ext_count() {
+            if let Some(packet) = self.read.sec_tag(index) {
                 return Some(packet);
             }
         }
@@ -219,11 +246,11 @@ impl<'a> PacketSlice<'a> {
     /// `None` if it has no ether type, as after a SecTag whose payload is encrypted or changed, or if there is no header
     /// before it. An ARP packet is part of the payload.
     pub fn ether_payload(&self) -> Option<EtherPayloadSlice<'a>>
-        ensures { HoldsPayload self.now.link (last_ext self.now.link_exts.items) result }
+        ensures { HoldsPayload (link_of self.now.read.units) (last_ext self.now.read.units) result }
     {
-        match self.link_exts.as_slice().last() {
+        match self.read.ext(self.read.ext_count().saturating_sub(1)) {
             Some(ext) => ext.slice.ether_payload(),
-            None => match &self.link {
+            None => match self.read.link() {
                 Some(link) => link.ether_payload(),
                 None => None,
             },
@@ -256,71 +283,19 @@ impl<'a> PacketSlice<'a> {
         ensures value { result ≡ reach 0 (packet_headers self.now) }
         ensures least { SnapsAt self.now result }
     {
-        let mut at = link_len(&self.link);
-        let mut end = at;
-        for ext in self.link_exts.as_slice() {
-            at += header_len(&ext.slice);
-            end = end.max(at + named_len(&ext.slice));
-        }
-        match &self.arp {
-            Some(arp) => end.max(at + arp.slice().len()),
-            None => end,
-        }
+        self.read.min_snap_len()
     }
 }
 
-/// Two tags.
-fn two_tags<'a>(outer: &SingleVlanSlice<'a>, inner: &SingleVlanSlice<'a>) -> DoubleVlanSlice<'a>
-    ensures outer { result.outer ≡ outer.now }
-    ensures inner { result.inner ≡ inner.now }
+/// The window left to read.
+#[inline(always)]
+fn window_of(peel: &Peel<'_>) -> Place
+    ensures start { result.start ≡ peel.now.offset }
+    ensures end { result.end ≡ peel.now.offset + length peel.now.rest }
 {
-    DoubleVlanSlice {
-        outer: same_tag(outer),
-        inner: same_tag(inner),
-    }
-}
-
-/// A tag once more.
-fn same_tag<'a>(tag: &SingleVlanSlice<'a>) -> SingleVlanSlice<'a>
-    ensures { result ≡ tag.now }
-{
-    match tag.clone() {
-        Ok(tag) => tag,
-        Err(_) => unreachable!(),
-    }
-}
-
-/// The length of a link's header, 0 if there is none.
-fn link_len(link: &Option<LinkSlice<'_>>) -> usize
-    ensures place { result ≡ place 0 (map unit_header (link_units link.now)) }
-    ensures reach { result ≡ reach 0 (map unit_header (link_units link.now)) }
-    ensures bound { result ≤ 16 }
-{
-    match link {
-        Some(LinkSlice::Ethernet2(_)) => Ethernet2Header::LEN,
-        Some(LinkSlice::LinuxSll(_)) => LinuxSllHeader::LEN,
-        _ => 0,
-    }
-}
-
-/// The length of a tag.
-fn header_len(ext: &LinkExtSlice<'_>) -> usize
-    ensures value { result ≡ header_len_of (unit_header (ext_unit ext.now)) }
-    ensures bound { result ≤ 16 }
-{
-    match ext {
-        LinkExtSlice::Vlan(tag) => tag.header_len(),
-        LinkExtSlice::Macsec(packet) => packet.header.header_len(),
-    }
-}
-
-/// The length of the payload that a SecTag names, 0 if none is named.
-fn named_len(ext: &LinkExtSlice<'_>) -> usize
-    ensures value { result ≡ unwrap_or (payload_len (unit_header (ext_unit ext.now))) 0 }
-    ensures bound { result < 64 }
-{
-    match ext {
-        LinkExtSlice::Vlan(_) => 0,
-        LinkExtSlice::Macsec(packet) => packet.header.expected_payload_len().unwrap_or(0),
+    let start = peel.offset();
+    Place {
+        start,
+        end: start + peel.rest().len(),
     }
 }

@@ -77,9 +77,8 @@ fn find_ext(
         → RefusesExt hs index (ext_header_view header.now) error) }
 {
     let packet = PacketSlice::from_slice(start, frame);
-    let exts = packet.link_exts();
-    match exts.get(index) {
-        None => Err(ReplaceError::NoLinkExt(exts.len())),
+    match packet.link_ext(index) {
+        None => Err(ReplaceError::NoLinkExt(packet.link_ext_count())),
         Some(ext) if say_the_same(header, &ext.slice.to_header()) => Ok(ext.offset),
         Some(_) => Err(ReplaceError::SaysOther),
     }

@@ -8,8 +8,7 @@ ghost use Rattle.std.specs.Prelude.{◌≡◌, ◌↔◌, List, IsTrue};
 ghost use Rattle.etherparse.specs.Header.{Header};
 ghost use Rattle.ether_peel.specs.Grammar.Stack.{Ending, last_expected, Walk};
 ghost use Rattle.ether_peel.specs.Walker.Start.{kind_shown};
-ghost use Rattle.ether_packet.specs.Packet.{packet_start};
-ghost use Rattle.ether_packet.specs.Views.{packet_headers};
+ghost use Rattle.ether_packet.specs.Packet.{packet_start, packet_headers};
 ghost use Rattle.example_vlan_filter.specs.Passes.{IsInVlan, IsIpv4OrArp};
 
 use ether_packet::PacketSlice;

@@ -4,20 +4,17 @@
 #[cfg(test)]
 mod tests;
 
-ghost use Rattle.std.specs.Prelude.{◌≡◌, List, [], MatchOption, IsTrue, IsFalse};
+ghost use Rattle.std.specs.Prelude.{◌≡◌, List, [], IsTrue, IsFalse};
 ghost use Rattle.etherparse.specs.Bytes.{IsBytes};
-ghost use Rattle.etherparse.specs.Vlan.{vlan_view};
 ghost use Rattle.etherparse.specs.Header.{Header};
 ghost use Rattle.ether_peel.specs.Grammar.Stack.{Ending, Walk};
 ghost use Rattle.ether_packet.specs.Getters.{vlan_ids_of};
 ghost use Rattle.ether_packet.specs.Packet.{packet_start, IsPacket};
-ghost use Rattle.ether_packet.specs.Views.{packet_headers};
-ghost use Rattle.ether_packet.specs.VlanIds.{IsOutermost};
 ghost use Rattle.example_vlan_rewriter.specs.VlanIdSet.{SetsVlanId};
 
 use ether_packet::{PacketSlice, replace_link_ext};
 use ether_peel::Start;
-use etherparse::{LinkExtHeader, LinkExtSlice, SingleVlanHeader, VlanId};
+use etherparse::{LinkExtHeader, SingleVlanHeader, VlanId};
 
 /// Sets the VLAN identifier of the outermost VLAN tag of a frame in place, and returns `true` if there is one.
 ///
@@ -45,7 +42,7 @@ pub fn set_vlan_id(frame: &mut [u8], vlan_id: VlanId) -> bool
     ensures kept { IsFalse result → frame.new ≡ frame.old }
 {
     let packet = packet_of(frame);
-    let Some((index, tag)) = outermost_tag(&packet) else {
+    let Some((index, tag)) = packet.outermost_vlan() else {
         return false;
     };
     let tag = LinkExtHeader::Vlan(SingleVlanHeader { vlan_id, ..tag });
@@ -58,18 +55,4 @@ fn packet_of(frame: &[u8]) -> PacketSlice<'_>
     ensures bytes { IsBytes frame.now }
 {
     PacketSlice::from_slice(Start::Ethernet2, frame)
-}
-
-/// The index of the outermost VLAN tag among a packet's extensions, and the tag.
-fn outermost_tag(packet: &PacketSlice<'_>) -> Option<(usize, SingleVlanHeader)>
-    ensures { MatchOption result (vlan_ids_of (packet_headers packet.now) ≡ [])
-        (λ found. IsOutermost (packet_headers packet.now) found.0 (vlan_view found.1)) }
-{
-    let exts = packet.link_exts();
-    for index in 0..exts.len() {
-        if let LinkExtSlice::Vlan(tag) = &exts[index].slice {
-            return Some((index, tag.to_header()));
-        }
-    }
-    None
 }

@@ -50,8 +50,11 @@ fn two_tags_and_an_arp_packet(rt: HostRuntime) -> Result<(), Fail> {
     let outer = SingleVlanSlice::from_slice(&frame[14..])?;
     let inner = SingleVlanSlice::from_slice(&frame[18..])?;
     let link = Ethernet2Slice::from_slice_without_fcs(&frame)?;
-    assert_eq!(rt; packet.link, Some(LinkSlice::Ethernet2(link)));
-    assert_eq!(rt; packet.arp, Some(ArpPacketSlice::from_slice(&frame[22..])?));
+    assert_eq!(rt; packet.link(), Some(LinkSlice::Ethernet2(link)));
+    assert_eq!(rt;
+        packet.arp(),
+        Some(ArpPacketSlice::from_slice(&frame[22..])?)
+    );
     assert_eq!(rt;
         packet.vlan(),
         Some(VlanSlice::DoubleVlan(DoubleVlanSlice { outer, inner }))
@@ -85,7 +88,7 @@ fn extensions_with_their_places(rt: HostRuntime) -> Result<(), Fail> {
 fn a_request_by_its_fields(rt: HostRuntime) {
     let packet = PacketSlice::from_slice(Start::Ethernet2, &TWICE_TAGGED_ARP_REQUEST);
     let mut found = false;
-    if let Some(arp) = &packet.arp {
+    if let Some(arp) = packet.arp() {
         found = true;
         assert_eq!(rt; arp.operation(), ArpOperation::REQUEST);
         assert_eq!(rt;
@@ -152,10 +155,10 @@ fn a_tag_in_a_sec_tag(rt: HostRuntime) -> Result<(), Fail> {
 fn a_cooked_capture(rt: HostRuntime) -> Result<(), Fail> {
     let packet = PacketSlice::from_slice(Start::LinuxSll, &COOKED_ARP_REQUEST);
     let link = LinuxSllSlice::from_slice(&COOKED_ARP_REQUEST)?;
-    assert_eq!(rt; packet.link, Some(LinkSlice::LinuxSll(link)));
-    assert!(rt; packet.link_exts.is_empty());
+    assert_eq!(rt; packet.link(), Some(LinkSlice::LinuxSll(link)));
+    assert!(rt; packet.link_exts().is_empty());
     assert_eq!(rt;
-        packet.arp,
+        packet.arp(),
         Some(ArpPacketSlice::from_slice(&COOKED_ARP_REQUEST[16..])?)
     );
     assert_eq!(rt;
@@ -173,7 +176,7 @@ fn a_cooked_capture(rt: HostRuntime) -> Result<(), Fail> {
 fn a_check_sequence_is_not_left(rt: HostRuntime) -> Result<(), Fail> {
     let packet = PacketSlice::from_slice(Start::Ethernet2Fcs, &CHECKED);
     let link = Ethernet2Slice::from_slice_with_crc32_fcs(&CHECKED)?;
-    assert_eq!(rt; packet.link, Some(LinkSlice::Ethernet2(link)));
+    assert_eq!(rt; packet.link(), Some(LinkSlice::Ethernet2(link)));
     assert_eq!(rt; packet.rest, [0x45].as_slice());
     Ok(())
 }
@@ -189,7 +192,7 @@ fn padding_is_left_after_an_arp_packet(rt: HostRuntime) {
 #[test]
 fn no_link_after_an_ether_type(rt: HostRuntime) {
     let packet = PacketSlice::from_slice(Start::EtherType(EtherType::IPV4), &[0x45]);
-    assert_eq!(rt; packet.link, None);
+    assert_eq!(rt; packet.link(), None);
     assert_eq!(rt; packet.ether_payload(), None);
     assert_eq!(rt; packet.rest, [0x45].as_slice());
     assert!(rt; packet.macsec().is_none());
@@ -215,7 +218,7 @@ fn a_fault_keeps_the_headers_before_it(rt: HostRuntime) -> Result<(), Fail> {
     let packet = PacketSlice::from_slice(Start::Ethernet2, &SECOND_TAG_CUT);
     let link = Ethernet2Slice::from_slice_without_fcs(&SECOND_TAG_CUT)?;
     let ids = packet.vlan_ids();
-    assert_eq!(rt; packet.link, Some(LinkSlice::Ethernet2(link)));
+    assert_eq!(rt; packet.link(), Some(LinkSlice::Ethernet2(link)));
     assert_eq!(rt; ids.len(), 1);
     assert_eq!(rt; ids[0].value(), 1);
     assert_eq!(rt; packet.fault, Some(short(18, 4, 2, Layer::VlanHeader)));
@@ -231,7 +234,7 @@ fn a_fault_keeps_the_headers_before_it(rt: HostRuntime) -> Result<(), Fail> {
 #[test]
 fn a_refused_link(rt: HostRuntime) {
     let packet = PacketSlice::from_slice(Start::Ethernet2, &TAGGED[..13]);
-    assert_eq!(rt; packet.link, None);
+    assert_eq!(rt; packet.link(), None);
     assert_eq!(rt;
         packet.fault,
         Some(short(0, 14, 13, Layer::Ethernet2Header))

@@ -3,8 +3,7 @@ use Rattle.std.proofs.lemmas.Bool.{cases_lt, leb-true, le-leb}
 use Rattle.std.proofs.lemmas.List.{take_all}
 use Rattle.ether_peel.specs.Grammar.Cuts.{reach}
 use Rattle.ether_peel.specs.Grammar.Stack.{Walk}
-use Rattle.ether_packet.specs.Packet.{packet_start}
-use Rattle.ether_packet.specs.Views.{packet_headers}
+use Rattle.ether_packet.specs.Packet.{packet_start, packet_headers}
 use Rattle.example_snap_checker.proofs.keeps_all_headers.Goals as goal
 
 pub returns-clause-same : goal.returns-clause-same

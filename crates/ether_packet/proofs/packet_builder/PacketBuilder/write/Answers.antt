@@ -1,4 +1,4 @@
-use Rattle.std.proofs.Common.{◌≡◌, ℕ, length, refl, sym, subst, rules, true, false}
+use Rattle.std.proofs.Common.{ℕ, length, refl, sym, subst, rules}
 use Rattle.etherparse.specs.Types.Layer.TheVariants as layers
 use Rattle.etherparse.specs.WriteFront.{IsRefusedSpace}
 use Rattle.ether_packet.specs.Builder.{IsEthernet, RefusesPacket, hardware_type, sealed, space}

@@ -1,0 +1,178 @@
+-- The headers at the places that a packet keeps.
+use Rattle.std.proofs.Common.{◌≡◌, ℕ, ◌-◌, ◌≤◌, List, [], ◌∷◌, ◌++◌, length, refl, sym, ap, subst, ◌∙◌, arith, append_assoc, inl, inr, Bool, true, false}
+use Rattle.std.specs.Prelude.{map, slice_range, slice_get, Option, Some, None, option_map, get_or, if◌then◌else◌}
+use Rattle.std.specs.List.{All, filter, filter_map, cons_option}
+use Rattle.std.proofs.lemmas.List.{append-nil, map-append, take_all}
+use Rattle.std.proofs.lemmas.List.Elements.{filter-append, filter_map-append, All-append, All-get_or, All-from_get_or}
+use Rattle.std.proofs.lemmas.Option.{slice_get-map, slice_get_cases, slice_get_within, get_or_from_slice_get}
+use Rattle.etherparse.specs.Ethernet2.{Ethernet2Value}
+use Rattle.etherparse.specs.Kind.{Kind}
+use Rattle.etherparse.specs.Kind as kinds
+use Rattle.etherparse.specs.Header.{kind_of}
+use Rattle.etherparse.specs.Header as headers
+use Rattle.ether_peel.specs.Grammar.Expectation.{is_extension}
+use Rattle.ether_packet.specs.declared.ext_places.Place.{Place}
+use Rattle.ether_packet.specs.declared.ext_places.ExtKind.{ExtKind}
+use Rattle.ether_packet.specs.declared.ext_places.ExtKind.TheVariants as tags
+use Rattle.ether_packet.specs.declared.ext_places.ExtPlace.{ExtPlace}
+use Rattle.ether_packet.specs.declared.packet_ext.PacketExt.{PacketExt}
+use Rattle.ether_packet.specs.declared.packet_units.LinkPlace.{LinkPlace}
+use Rattle.ether_packet.specs.declared.packet_units.LinkPlace.TheVariants as places
+use Rattle.ether_packet.specs.PacketUnit.{PacketUnit}
+use Rattle.ether_packet.specs.Views.{link_of, exts_of, arp_in, arp_view, ViewsExt, ViewsExtIf}
+use Rattle.ether_packet.specs.Places.{unit_at, link_unit, link_units, ext_kind, ext_unit, arp_units, units_at, Reads, IsReadable, IsReadableLink, frame_link}
+
+-- ---- among them
+
+abbrev pub is_ext : PacketUnit → Bool
+is_ext u = is_extension u.kind
+
+abbrev pub arp_of_unit : PacketUnit → Option (List ℕ)
+arp_of_unit u = arp_in u.kind u.bytes
+
+link_is : (frame : List ℕ) (link : LinkPlace) → (filter is_ext (link_units frame link) ≡ []) × (filter_map arp_of_unit (link_units frame link) ≡ [])
+link_is frame places.Missing = (refl, refl)
+link_is frame places.Ethernet2 = (refl, refl)
+link_is frame places.Ethernet2Fcs = (refl, refl)
+link_is frame places.LinuxSll = (refl, refl)
+
+ext_is : (kind : ExtKind) (at : ℕ) (bytes : List ℕ) → (is_extension (ext_kind kind) ≡ true) × (arp_in (ext_kind kind) bytes ≡ None)
+ext_is tags.Vlan at bytes = (refl, refl)
+ext_is tags.Macsec at bytes = (refl, refl)
+
+keep_first : (b : Bool) (u : PacketUnit) (us : List PacketUnit) → is_ext u ≡ true → filter is_ext (u ∷ us) ≡ u ∷ filter is_ext us
+keep_first b u us e = rw e refl
+
+exts_are : (frame : List ℕ) (xs : List ExtPlace) → (filter is_ext (map (ext_unit frame) xs) ≡ map (ext_unit frame) xs) × (filter_map arp_of_unit (map (ext_unit frame) xs) ≡ [])
+exts_are frame [] = (refl, refl)
+exts_are frame (x ∷ xs) =
+    let u = ext_unit frame x in
+    let is = ext_is x.kind u.offset u.bytes in
+    let more = exts_are frame xs in (
+      keep_first true u (map (ext_unit frame) xs) is.0 ∙ ap (λ (l : List PacketUnit). u ∷ l) more.0,
+      ap (λ (a : Option (List ℕ)). cons_option a (filter_map arp_of_unit (map (ext_unit frame) xs))) is.1 ∙ more.1,
+    )
+
+arp_has : (frame : List ℕ) (arp : Option Place) → filter is_ext (arp_units frame arp) ≡ []
+arp_has frame None = refl
+arp_has frame (Some p) = refl
+
+-- the extensions
+pub exts_at : (frame : List ℕ) (link : LinkPlace) (xs : List ExtPlace) (arp : Option Place) → exts_of (units_at frame link xs arp) ≡ map (ext_unit frame) xs
+exts_at frame link xs arp =
+    filter-append is_ext (link_units frame link ++ map (ext_unit frame) xs) (arp_units frame arp)
+    ∙ ap (λ (l : List PacketUnit). l ++ filter is_ext (arp_units frame arp)) (filter-append is_ext (link_units frame link) (map (ext_unit frame) xs))
+    ∙ (λ i. (link_is frame link).0 i ++ (exts_are frame xs).0 i ++ arp_has frame arp i)
+    ∙ append-nil _
+
+-- the ARP packet
+abbrev pub packet_at : List ℕ → Option Place → Option (List ℕ)
+packet_at frame None = None
+packet_at frame (Some p) = arp_in kinds.Arp (slice_range frame p.start p.end)
+
+only_arp : (frame : List ℕ) (arp : Option Place) → slice_get (filter_map arp_of_unit (arp_units frame arp)) 0 ≡ packet_at frame arp
+only_arp frame None = refl
+only_arp frame (Some p) = refl
+
+pub arp_at : (frame : List ℕ) (link : LinkPlace) (xs : List ExtPlace) (arp : Option Place) → arp_view (units_at frame link xs arp) ≡ packet_at frame arp
+arp_at frame link xs arp =
+    ap (λ l. slice_get l 0) (filter_map-append arp_of_unit (link_units frame link ++ map (ext_unit frame) xs) (arp_units frame arp)
+    ∙ ap (λ l. l ++ filter_map arp_of_unit (arp_units frame arp)) (filter_map-append arp_of_unit (link_units frame link) (map (ext_unit frame) xs))
+    ∙ (λ i. (link_is frame link).1 i ++ (exts_are frame xs).1 i ++ filter_map arp_of_unit (arp_units frame arp)))
+    ∙ only_arp frame arp
+
+pub no_packet : (frame : List ℕ) (arp : Option Place) → packet_at frame arp ≡ None → arp ≡ None
+no_packet frame None e = refl
+no_packet frame (Some p) e = absurd cc
+
+-- the link's header
+later_link : (kind : ExtKind) (at : ℕ) (bytes : List ℕ) (us : List PacketUnit) → link_of (record { kind = ext_kind kind; offset = at; bytes = bytes } ∷ us) ≡ None
+later_link tags.Vlan at bytes us = refl
+later_link tags.Macsec at bytes us = refl
+
+pub no_link : (frame : List ℕ) (xs : List ExtPlace) (arp : Option Place) → link_of (units_at frame places.Missing xs arp) ≡ None
+no_link frame [] None = refl
+no_link frame [] (Some p) = refl
+no_link frame (x ∷ xs) arp = later_link x.kind x.place.start (slice_range frame x.place.start x.place.end) (map (ext_unit frame) xs ++ arp_units frame arp)
+
+-- ---- one header more
+
+-- nothing was read
+pub nothing : (frame : List ℕ) (link : LinkPlace) (xs : List ExtPlace) (arp : Option Place) → units_at frame link xs arp ≡ [] → (link ≡ places.Missing) × (xs ≡ []) × (arp ≡ None)
+nothing frame places.Missing [] None e = (refl, refl, refl)
+nothing frame _ _ _ e = absurd cc
+
+whole_part : (frame : List ℕ) → slice_range frame 0 (length frame) ≡ frame
+whole_part frame = take_all (length frame - 0) frame (omega arith)
+
+first_is : (frame : List ℕ) (kind : Kind) (p : Place) → p.start ≡ 0 → p.end ≡ length frame → unit_at frame kind p ≡ link_unit frame kind
+first_is frame kind p start end =
+    (λ i. record { kind = kind; offset = start i; bytes = slice_range frame (start i) (end i) })
+    ∙ ap (λ (l : List ℕ). record { kind = kind; offset = 0; bytes = l }) (whole_part frame)
+
+-- the link's header comes first
+pub with_link : (frame : List ℕ) (old new : LinkPlace) (xs : List ExtPlace) (arp : Option Place) (kind : Kind) (p : Place) → units_at frame old xs arp ≡ [] → p.start ≡ 0 → p.end ≡ length frame
+    → link_units frame new ≡ link_unit frame kind ∷ [] → units_at frame new xs arp ≡ units_at frame old xs arp ++ unit_at frame kind p ∷ []
+with_link frame old new xs arp kind p none start end is =
+    let parts = nothing frame old xs arp none in
+    (λ i. units_at frame new (parts.1 i) (parts.2 i)) ∙ append-nil (link_units frame new ++ []) ∙ append-nil (link_units frame new) ∙ is
+    ∙ ap (λ (u : PacketUnit). u ∷ []) (sym (first_is frame kind p start end)) ∙ ap (λ (l : List PacketUnit). l ++ unit_at frame kind p ∷ []) (sym none)
+
+pub frame_unit : (frame : List ℕ) (b : Bool) (e : Ethernet2Value) → link_units frame (frame_link b) ≡ link_unit frame (kind_of (if b then headers.Ethernet2Fcs e else headers.Ethernet2 e)) ∷ []
+frame_unit frame true e = refl
+frame_unit frame false e = refl
+
+pub readable_whole : (frame : List ℕ) (kind : Kind) (p : Place) → p.start ≡ 0 → p.end ≡ length frame → IsReadable frame kind p → Reads frame kind
+readable_whole frame kind p start end r =
+    let same : slice_range frame p.start p.end ≡ frame = (λ i. slice_range frame (start i) (end i)) ∙ whole_part frame in
+    subst (λ (l : List ℕ). Reads l kind) same r.accepted
+
+pub readable_frame : (frame : List ℕ) (b : Bool) (e : Ethernet2Value) → Reads frame (kind_of (if b then headers.Ethernet2Fcs e else headers.Ethernet2 e)) → IsReadableLink frame (frame_link b)
+readable_frame frame true e r = r
+readable_frame frame false e r = r
+
+-- an extension after the others
+pub with_ext : (frame : List ℕ) (link : LinkPlace) (xs : List ExtPlace) (arp : Option Place) (x : ExtPlace) → arp ≡ None → units_at frame link (xs ++ x ∷ []) arp ≡ units_at frame link xs arp ++ ext_unit frame x ∷ []
+with_ext frame link xs arp x none =
+    let l = link_units frame link in
+    let m = map (ext_unit frame) xs in
+    let u = ext_unit frame x in
+    ap (units_at frame link (xs ++ x ∷ [])) none ∙ append-nil _ ∙ ap (λ (k : List PacketUnit). l ++ k) (map-append (ext_unit frame) xs (x ∷ [])) ∙ sym (append_assoc l m (u ∷ []))
+    ∙ ap (λ (k : List PacketUnit). k ++ u ∷ []) (sym (ap (units_at frame link xs) none ∙ append-nil (l ++ m)))
+
+-- an ARP packet after all
+pub with_arp : (frame : List ℕ) (link : LinkPlace) (xs : List ExtPlace) (arp : Option Place) (p : Place) → arp ≡ None → units_at frame link xs (Some p) ≡ units_at frame link xs arp ++ unit_at frame kinds.Arp p ∷ []
+with_arp frame link xs arp p none =
+    let u = unit_at frame kinds.Arp p in
+    ap (λ (k : List PacketUnit). k ++ u ∷ []) (sym (ap (units_at frame link xs) none ∙ append-nil (link_units frame link ++ map (ext_unit frame) xs)))
+
+pub all_with : {X : Type 0} (P : X → Type 0) (xs : List X) (x : X) → All P xs → P x → All P (xs ++ x ∷ [])
+all_with P xs x all p =
+    let one = All-from_get_or P (x ∷ []) x (λ i lt. let first : 0 ≡ i = omega (arith, lt) in subst (λ (k : ℕ). P (get_or (x ∷ []) k x)) first p) in
+    All-append P xs (x ∷ []) all one
+
+-- ---- the extension at an index
+
+-- there is none past the end alone
+pub missing_past : {X : Type 0} (xs : List X) (i : ℕ) → slice_get xs i ≡ None → length xs ≤ i
+missing_past xs i none =
+    elim ((slice_get_cases xs i).1) [
+      | inl w ↦ absurd (let both : None ≡ Some w.0 = sym none ∙ w.2 in cc)
+      | inr w ↦ w.0
+    ]
+
+pub all_get : {X : Type 0} (P : X → Type 0) (xs : List X) (i : ℕ) (x : X) → All P xs → slice_get xs i ≡ Some x → P x
+all_get P xs i x all e = subst P (get_or_from_slice_get xs i x x e) (All-get_or P xs i x (slice_get_within xs i x e) all)
+
+pub ext_got : (frame : List ℕ) (link : LinkPlace) (xs : List ExtPlace) (arp : Option Place) (i : ℕ) (x : ExtPlace) (ext : PacketExt) → slice_get xs i ≡ Some x → ViewsExt (ext_unit frame x) ext
+    → ViewsExtIf (slice_get (exts_of (units_at frame link xs arp)) i) (Some ext)
+ext_got frame link xs arp i x ext got views =
+    let e : slice_get (exts_of (units_at frame link xs arp)) i ≡ Some (ext_unit frame x) =
+    ap (λ (l : List PacketUnit). slice_get l i) (exts_at frame link xs arp) ∙ slice_get-map (ext_unit frame) xs i ∙ ap (option_map (ext_unit frame)) got in
+    subst (λ (o : Option PacketUnit). ViewsExtIf o (Some ext)) (sym e) views
+
+pub ext_missing : (frame : List ℕ) (link : LinkPlace) (xs : List ExtPlace) (arp : Option Place) (i : ℕ) → slice_get xs i ≡ None → ViewsExtIf (slice_get (exts_of (units_at frame link xs arp)) i) None
+ext_missing frame link xs arp i none =
+    let e : slice_get (exts_of (units_at frame link xs arp)) i ≡ None =
+    ap (λ (l : List PacketUnit). slice_get l i) (exts_at frame link xs arp) ∙ slice_get-map (ext_unit frame) xs i ∙ ap (option_map (ext_unit frame)) none in
+    subst (λ (o : Option PacketUnit). ViewsExtIf o None) (sym e) refl

@@ -1,0 +1,100 @@
+-- How far the headers of a packet reach, extension by extension.
+use Rattle.std.proofs.Common.{◌≡◌, ℕ, suc, ◌+◌, ◌*◌, ◌<◌, ◌≤◌, List, [], ◌∷◌, ◌++◌, length, take, sym, ap, ◌∙◌, arith, append_assoc}
+use Rattle.std.specs.Prelude.{map, max, slice_get, Some, None, unwrap_or}
+use Rattle.std.proofs.Math.Seq.{take-suc}
+use Rattle.std.proofs.lemmas.List.{append-nil, map-append, take_all}
+use Rattle.std.proofs.lemmas.Option.{slice_get_within, get_or_from_slice_get}
+use Rattle.etherparse.specs.Arp.{ArpValue, arp_front_in, arp_len, arp_of}
+use Rattle.etherparse.specs.Kind as kinds
+use Rattle.etherparse.specs.Header.{Header, header_len, payload_len, unit_len}
+use Rattle.etherparse.specs.Header as headers
+use Rattle.etherparse.proofs.Reading.{arp_front_back}
+use Rattle.ether_peel.specs.Grammar.Cuts.{reach}
+use Rattle.ether_peel.specs.Grammar.Places.{place}
+use Rattle.ether_peel.proofs.Grammar.Places.{place-append}
+use Rattle.ether_packet.specs.declared.ext_places.Place.{Place}
+use Rattle.ether_packet.specs.declared.ext_places.ExtPlace.{ExtPlace}
+use Rattle.ether_packet.specs.declared.packet_units.LinkPlace.{LinkPlace}
+use Rattle.ether_packet.specs.PacketUnit.{PacketUnit}
+use Rattle.ether_packet.specs.Views.{header_of}
+use Rattle.ether_packet.specs.Places.{unit_at, link_units, ext_unit, headers_at}
+
+reach-append : (at : ℕ) (hs : List Header) (h : Header) → reach at (hs ++ h ∷ []) ≡ max (reach at hs) (place at hs + unit_len h)
+reach-append at [] h = omega arith
+reach-append at (k ∷ hs) h = let more = reach-append (at + header_len k) hs h in omega arith
+
+-- the headers of a link and of some extensions
+abbrev pub headers_so_far : List ℕ → LinkPlace → List ExtPlace → List Header
+headers_so_far frame link xs = map header_of (link_units frame link) ++ map header_of (map (ext_unit frame) xs)
+
+take_next : (xs : List ExtPlace) (i : ℕ) (x : ExtPlace) → slice_get xs i ≡ Some x → take (i + 1) xs ≡ take i xs ++ x ∷ []
+take_next xs i x at =
+    let e : i + 1 ≡ suc i = omega arith in
+    ap (λ (n : ℕ). take n xs) e ∙ take-suc xs i x (slice_get_within xs i x at) ∙ ap (λ (y : ExtPlace). take i xs ++ y ∷ []) (get_or_from_slice_get xs i x x at)
+
+headers_next : (frame : List ℕ) (link : LinkPlace) (xs : List ExtPlace) (i : ℕ) (x : ExtPlace) → slice_get xs i ≡ Some x
+    → headers_so_far frame link (take (i + 1) xs) ≡ headers_so_far frame link (take i xs) ++ header_of (ext_unit frame x) ∷ []
+headers_next frame link xs i x at =
+    let first = map header_of (link_units frame link) in
+    let before = map (ext_unit frame) (take i xs) in
+    let u = ext_unit frame x in
+    ap (λ (l : List ExtPlace). first ++ map header_of (map (ext_unit frame) l)) (take_next xs i x at)
+    ∙ ap (λ (l : List PacketUnit). first ++ map header_of l) (map-append (ext_unit frame) (take i xs) (x ∷ []))
+    ∙ ap (λ (l : List Header). first ++ l) (map-append header_of before (u ∷ []))
+    ∙ sym (append_assoc first (map header_of before) (header_of u ∷ []))
+
+-- where the headers of a link and of the first n extensions end, and how far they reach
+pub record Reaches (frame : List ℕ) (link : LinkPlace) (xs : List ExtPlace) (n at end : ℕ) : Type 0 where
+  pub ends : at ≡ place 0 (headers_so_far frame link (take n xs))
+  pub reaches : end ≡ reach 0 (headers_so_far frame link (take n xs))
+  pub near : at ≤ 16 + 16 * n
+  pub most : end ≤ 80 + 16 * n
+
+pub reaches_first : (frame : List ℕ) (link : LinkPlace) (xs : List ExtPlace) (at : ℕ) → at ≡ place 0 (map header_of (link_units frame link)) → at ≡ reach 0 (map header_of (link_units frame link)) → at ≤ 16 → Reaches frame link xs 0 at at
+reaches_first frame link xs at ends reaches near =
+    let same = sym (append-nil (map header_of (link_units frame link))) in
+    record { ends = ends ∙ ap (place 0) same; reaches = reaches ∙ ap (reach 0) same; near = omega arith; most = omega arith }
+
+pub reaches_next : (frame : List ℕ) (link : LinkPlace) (xs : List ExtPlace) (i : ℕ) (x : ExtPlace) (h : Header) (at end len named : ℕ) → slice_get xs i ≡ Some x → h ≡ header_of (ext_unit frame x) → Reaches frame link xs i at end
+    → len ≡ header_len h → len ≤ 16 → named ≡ unwrap_or (payload_len h) 0 → named < 64 → Reaches frame link xs (i + 1) (at + len) (max end (at + len + named))
+reaches_next frame link xs i x h at end len named is value r len_is few named_is less =
+    let before = headers_so_far frame link (take i xs) in
+    let next = headers_next frame link xs i x is ∙ ap (λ (k : Header). before ++ k ∷ []) (sym value) in
+    let ends = ap (place 0) next ∙ place-append 0 before (h ∷ []) in
+    let reaches = ap (reach 0) next ∙ reach-append 0 before h in
+    let old_end = r.ends in
+    let old_reach = r.reaches in
+    let near = r.near in
+    let most = r.most in
+    record { ends = omega arith; reaches = omega arith; near = omega arith; most = omega arith }
+
+pub reaches_all : (frame : List ℕ) (link : LinkPlace) (xs : List ExtPlace) (n at end : ℕ) → Reaches frame link xs n at end → length xs ≤ n
+    → (at ≡ place 0 (headers_so_far frame link xs)) × (end ≡ reach 0 (headers_so_far frame link xs))
+reaches_all frame link xs n at end r past =
+    let all = ap (headers_so_far frame link) (take_all n xs past) in
+    (r.ends ∙ ap (place 0) all, r.reaches ∙ ap (reach 0) all)
+
+-- without an ARP packet
+pub headers_before : (frame : List ℕ) (link : LinkPlace) (xs : List ExtPlace) → headers_at frame link xs None ≡ headers_so_far frame link xs
+headers_before frame link xs = ap (map header_of) (append-nil (link_units frame link ++ map (ext_unit frame) xs)) ∙ map-append header_of (link_units frame link) (map (ext_unit frame) xs)
+
+pub reaches_before : (frame : List ℕ) (link : LinkPlace) (xs : List ExtPlace) (n at end : ℕ) → Reaches frame link xs n at end → length xs ≤ n
+    → (at ≡ place 0 (headers_at frame link xs None)) × (end ≡ reach 0 (headers_at frame link xs None))
+reaches_before frame link xs n at end r past =
+    let all = reaches_all frame link xs n at end r past in
+    let same = sym (headers_before frame link xs) in
+    (all.0 ∙ ap (place 0) same, all.1 ∙ ap (reach 0) same)
+
+pub packet_len : (bytes packet : List ℕ) → arp_of packet ≡ arp_of bytes → length packet ≡ arp_len (arp_front_in packet) → header_len (headers.Arp (arp_of bytes)) ≡ length packet
+packet_len bytes packet same len = ap (λ (a : ArpValue). header_len (headers.Arp a)) (sym same) ∙ ap arp_len (arp_front_back packet (arp_front_in packet) (omega arith)) ∙ sym len
+
+-- with one
+pub reach_with_arp : (frame : List ℕ) (link : LinkPlace) (xs : List ExtPlace) (p : Place) (n : ℕ) → header_len (header_of (unit_at frame kinds.Arp p)) ≡ n
+    → reach 0 (headers_at frame link xs (Some p)) ≡ max (reach 0 (headers_at frame link xs None)) (place 0 (headers_at frame link xs None) + n)
+reach_with_arp frame link xs p n own =
+    let first = headers_at frame link xs None in
+    let h = header_of (unit_at frame kinds.Arp p) in
+    let units = link_units frame link ++ map (ext_unit frame) xs in
+    let split : headers_at frame link xs (Some p) ≡ first ++ h ∷ [] =
+    map-append header_of units (unit_at frame kinds.Arp p ∷ []) ∙ ap (λ (l : List PacketUnit). map header_of l ++ h ∷ []) (sym (append-nil units)) in
+    ap (reach 0) split ∙ reach-append 0 first h ∙ ap (λ (k : ℕ). max (reach 0 first) (place 0 first + k)) (let e : unit_len h ≡ header_len h = omega arith in e ∙ own)

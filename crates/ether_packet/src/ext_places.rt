@@ -1,0 +1,101 @@
+//! Where the VLAN tags and SecTags of a packet lie in its frame.
+ghost use Rattle.std.specs.Prelude.{◌≡◌, ◌<◌, ◌≤◌, [], ◌∷◌, ◌++◌, length, slice_get};
+
+use std::marker::Model;
+
+/// A window of a frame, from a start up to an end.
+#[derive(Clone, Copy, Debug)]
+pub(crate) struct Place {
+    pub start: usize,
+    pub end: usize,
+}
+
+/// Which link extension a tag is.
+#[derive(Clone, Copy, Debug)]
+pub(crate) enum ExtKind {
+    Vlan,
+    Macsec,
+}
+
+/// A tag, and the window in which it was read.
+#[derive(Clone, Copy, Debug)]
+pub(crate) struct ExtPlace {
+    pub kind: ExtKind,
+    pub place: Place,
+}
+
+/// Up to three tags in order. Three fields take fewer instructions than a list, whose unused places are filled.
+#[derive(Debug, Drop)]
+pub(crate) struct ExtPlaces {
+    first: Option<ExtPlace>,
+    second: Option<ExtPlace>,
+    third: Option<ExtPlace>,
+}
+
+impl Model for ExtPlaces {
+    ghost use Rattle.std.specs.Prelude.{List};
+    ghost use Rattle.ether_packet.specs.declared.ext_places.ExtPlace.{ExtPlace as Placed};
+    ghost use Rattle.ether_packet.specs.ExtPlaces.{listed, IsGapless};
+
+    ghost Value = { List Placed };
+
+    ghost view = { λ a. listed a.first a.second a.third };
+
+    ghost invariant = { λ a. IsGapless a.first a.second a.third };
+}
+
+impl ExtPlaces {
+    /// No tags.
+    #[inline(always)]
+    pub fn new() -> ExtPlaces
+        ensures { result ≡ [] }
+    {
+        ExtPlaces {
+            first: None,
+            second: None,
+            third: None,
+        }
+    }
+
+    /// Adds a tag after the others.
+    #[inline(always)]
+    pub fn push(&mut self, tag: ExtPlace)
+        requires { length self.old < 3 }
+        ensures { self.new ≡ self.old ++ tag ∷ [] }
+    {
+        if self.first.is_none() {
+            self.first = Some(tag);
+        } else if self.second.is_none() {
+            self.second = Some(tag);
+        } else {
+            self.third = Some(tag);
+        }
+    }
+
+    /// The tag at an index.
+    #[inline(always)]
+    pub fn get(&self, index: usize) -> Option<ExtPlace>
+        ensures { result ≡ slice_get self.now index }
+    {
+        match index {
+            0 => self.first,
+            1 => self.second,
+            2 => self.third,
+            _ => None,
+        }
+    }
+
+    /// How many tags there are.
+    #[inline(always)]
+    pub fn len(&self) -> usize
+        ensures value { result ≡ length self.now }
+        ensures most { length self.now ≤ 3 }
+    {
+        match (&self.first, &self.second, &self.third) {
+            (None, _, _) => 0,
+            (_, None, _) => 1,
+            (_, _, None) => 2,
+            _ => 3,
+        }
+    }
+}

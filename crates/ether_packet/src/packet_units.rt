@@ -1,0 +1,341 @@
+//! The headers of a packet, kept as places in the frame: a view is made when it is asked for.
+ghost use Rattle.std.specs.Prelude.{◌≡◌, ◌≤◌, ◌<◌, ℕ, List, [], map, unwrap_or, true, false, length, slice_get, slice_range, None as NoPlace};
+ghost use Rattle.std.specs.List.{All};
+ghost use Rattle.std.specs.Option.{option_and_then};
+ghost use Rattle.etherparse.specs.Kind as kinds;
+ghost use Rattle.etherparse.specs.Header.{header_len, payload_len};
+ghost use Rattle.etherparse.specs.LinkExt.{ext_slice_header};
+ghost use Rattle.ether_peel.specs.Grammar.Places.{place as place_after};
+ghost use Rattle.ether_peel.specs.Grammar.Cuts.{reach};
+ghost use Rattle.etherparse.specs.Macsec.{sec_tag_of as sec_tag_meant, tag_bytes};
+ghost use Rattle.etherparse.specs.Arp.{arp_front_in, arp_len, arp_of};
+ghost use Rattle.ether_packet.specs.Places.{Reads, kind_read, ext_kind, ext_unit, link_units, headers_at, frame_link, HasPlace, HasPlaceForExt, IsReadable, IsReadableExt, read_with};
+ghost use Rattle.ether_packet.specs.Views.{header_of, link_of, exts_of, arp_view, vlan_of_unit, macsec_of_unit, ViewsExtIf, ViewsExt, ViewsSecTag, ViewsSecTagIf};
+
+use crate::PacketExt;
+use crate::ext_places::{ExtKind, ExtPlace, ExtPlaces, Place};
+use ether_peel::PeelUnit;
+use etherparse::{
+    ArpPacketSlice, Ethernet2Header, Ethernet2Slice, LinkExtSlice, LinkSlice, LinuxSllHeader,
+    LinuxSllSlice, MacsecSlice, SingleVlanSlice,
+};
+use std::marker::Model;
+
+/// The header of a link that a frame begins with, if it has one.
+#[derive(Clone, Copy, Debug)]
+enum LinkPlace {
+    Missing,
+    Ethernet2,
+    Ethernet2Fcs,
+    LinuxSll,
+}
+
+/// The headers that were read of a frame, each with the window in which it was read.
+#[derive(Debug, Drop)]
+pub(crate) struct PacketUnits<'a> {
+    frame: &'a [u8],
+    link: LinkPlace,
+    exts: ExtPlaces,
+    arp: Option<Place>,
+}
+
+impl<'a> Model for PacketUnits<'a> {
+    ghost use Rattle.ether_packet.specs.PacketUnit.{Read};
+    ghost use Rattle.ether_packet.specs.Places.{units_at, AreReadable};
+
+    ghost Value = { Read };
+
+    ghost view = { λ a. record { frame = a.frame.now; units = units_at a.frame.now a.link a.exts a.arp } };
+
+    ghost invariant = { λ a. AreReadable a.frame.now a.link a.exts a.arp };
+}
+
+impl<'a> PacketUnits<'a> {
+    /// No headers.
+    #[inline(always)]
+    pub fn new(frame: &'a [u8]) -> PacketUnits<'a>
+        ensures { result ≡ record { frame = frame.now; units = [] } }
+    {
+        PacketUnits {
+            frame,
+            link: LinkPlace::Missing,
+            exts: ExtPlaces::new(),
+            arp: None,
+        }
+    }
+
+    /// Adds a header that was read in a window.
+    #[inline(always)]
+    pub fn add(&mut self, unit: &PeelUnit<'a>, place: Place)
+        requires fits { HasPlace self.old unit.now place }
+        requires readable { IsReadable self.old.frame (kind_read unit.now) place }
+        ensures { self.new ≡ read_with self.old (kind_read unit.now) place }
+    {
+        match unit {
+            PeelUnit::Ethernet2(slice) => self.link = frame_place(slice),
+            PeelUnit::LinuxSll(_) => self.link = LinkPlace::LinuxSll,
+            PeelUnit::Vlan(_) => self.add_ext(ExtKind::Vlan, place),
+            PeelUnit::Macsec(_) => self.add_ext(ExtKind::Macsec, place),
+            PeelUnit::Arp(_) => self.arp = Some(place),
+        }
+    }
+
+    /// Adds a VLAN tag or SecTag.
+    #[inline(always)]
+    fn add_ext(&mut self, kind: ExtKind, place: Place)
+        requires fits { HasPlaceForExt self.old }
+        requires readable { IsReadable self.old.frame (ext_kind kind) place }
+        ensures { self.new ≡ read_with self.old (ext_kind kind) place }
+    {
+        self.exts.push(ExtPlace { kind, place });
+    }
+
+    /// The link's header with its payload.
+    #[inline(always)]
+    pub fn link(&self) -> Option<LinkSlice<'a>>
+        ensures { result ≡ link_of self.now.units }
+    {
+        match self.link {
+            LinkPlace::Missing => None,
+            LinkPlace::Ethernet2 => Some(LinkSlice::Ethernet2(frame_of(self.frame))),
+            LinkPlace::Ethernet2Fcs => Some(LinkSlice::Ethernet2(frame_with_fcs_of(self.frame))),
+            LinkPlace::LinuxSll => Some(LinkSlice::LinuxSll(capture_of(self.frame))),
+        }
+    }
+
+    /// How many VLAN tags and SecTags there are.
+    #[inline(always)]
+    pub fn ext_count(&self) -> usize
+        ensures value { result ≡ length (exts_of self.now.units) }
+        ensures most { result ≤ 3 }
+    {
+        self.exts.len()
+    }
+
+    /// The VLAN tag or SecTag at an index.
+    #[inline(always)]
+    pub fn ext(&self, index: usize) -> Option<PacketExt<'a>>
+        ensures { ViewsExtIf (slice_get (exts_of self.now.units) index) result }
+    {
+        match self.exts.get(index) {
+            Some(ext) => Some(ext_of(self.frame, ext)),
+            None => None,
+        }
+    }
+
+    /// The VLAN tag or SecTag at an index, if it is a VLAN tag.
+    #[inline(always)]
+    pub fn tag(&self, index: usize) -> Option<SingleVlanSlice<'a>>
+        ensures { result ≡ option_and_then vlan_of_unit (slice_get (exts_of self.now.units) index) }
+    {
+        match self.ext(index) {
+            Some(
+                PacketExt {
+                    slice: LinkExtSlice::Vlan(tag),
+                    ..
+                },
+            ) => Some(tag),
+            _ => None,
+        }
+    }
+
+    /// The VLAN tag or SecTag at an index, if it is a SecTag.
+    #[inline(always)]
+    pub fn sec_tag(&self, index: usize) -> Option<MacsecSlice<'a>>
+        ensures { ViewsSecTagIf (option_and_then macsec_of_unit (slice_get (exts_of self.now.units) index))
+            result }
+    {
+        match self.ext(index) {
+            Some(
+                PacketExt {
+                    slice: LinkExtSlice::Macsec(packet),
+                    ..
+                },
+            ) => Some(packet),
+            _ => None,
+        }
+    }
+
+    /// The ARP packet.
+    #[inline(always)]
+    pub fn arp(&self) -> Option<ArpPacketSlice<'a>>
+        ensures { result ≡ arp_view self.now.units }
+    {
+        match self.arp {
+            Some(place) => Some(packet_of(&self.frame[place.start..place.end])),
+            None => None,
+        }
+    }
+
+    /// How far the headers reach, with the payloads whose length a SecTag names.
+    pub fn min_snap_len(&self) -> usize
+        ensures { result ≡ reach 0 (map header_of self.now.units) }
+    {
+        let (at, end) = tags_reach(self.frame, self.link, &self.exts);
+        match self.arp {
+            Some(place) => {
+                let packet = packet_of(&self.frame[place.start..place.end]);
+                end.max(at + packet.slice().len())
+            }
+            None => end,
+        }
+    }
+}
+
+/// Where the headers of a link and of tags end, and how far they reach.
+fn tags_reach(frame: &[u8], link: LinkPlace, exts: &ExtPlaces) -> (usize, usize)
+    requires { All (IsReadableExt frame.now) exts.now }
+    ensures place { result.0 ≡ place_after 0 (headers_at frame.now link exts.now NoPlace) }
+    ensures reach { result.1 ≡ reach 0 (headers_at frame.now link exts.now NoPlace) }
+    ensures bound { result.0 ≤ 64 }
+{
+    let mut at = link_len(link);
+    let mut end = at;
+    for index in 0..exts.len() {
+        if let Some(ext) = exts.get(index) {
+            let slice = ext_of(frame, ext).slice;
+            at += tag_len(&slice);
+            end = end.max(at + named_len(&slice));
+        }
+    }
+    (at, end)
+}
+
+/// The length of the link's header, 0 if there is none.
+fn link_len(link: LinkPlace) -> usize
+    ensures place { (frame : List ℕ)
+        → result ≡ place_after 0 (map header_of (link_units frame link)) }
+    ensures reach { (frame : List ℕ) → result ≡ reach 0 (map header_of (link_units frame link)) }
+    ensures bound { result ≤ 16 }
+{
+    match link {
+        LinkPlace::Missing => 0,
+        LinkPlace::Ethernet2 | LinkPlace::Ethernet2Fcs => Ethernet2Header::LEN,
+        LinkPlace::LinuxSll => LinuxSllHeader::LEN,
+    }
+}
+
+/// The length of a tag.
+fn tag_len(ext: &LinkExtSlice<'_>) -> usize
+    ensures value { result ≡ header_len (ext_slice_header ext.now) }
+    ensures bound { result ≤ 16 }
+{
+    match ext {
+        LinkExtSlice::Vlan(tag) => tag.header_len(),
+        LinkExtSlice::Macsec(packet) => packet.header.header_len(),
+    }
+}
+
+/// The length of the payload that a SecTag names, 0 if none is named.
+fn named_len(ext: &LinkExtSlice<'_>) -> usize
+    ensures value { result ≡ unwrap_or (payload_len (ext_slice_header ext.now)) 0 }
+    ensures bound { result < 64 }
+{
+    match ext {
+        LinkExtSlice::Vlan(_) => 0,
+        LinkExtSlice::Macsec(packet) => packet.header.expected_payload_len().unwrap_or(0),
+    }
+}
+
+/// Whether a frame has a frame check sequence.
+#[inline(always)]
+fn frame_place(slice: &Ethernet2Slice<'_>) -> LinkPlace
+    ensures { result ≡ frame_link slice.now.has_fcs }
+{
+    if slice.fcs().is_some() {
+        LinkPlace::Ethernet2Fcs
+    } else {
+        LinkPlace::Ethernet2
+    }
+}
+
+/// An Ethernet II frame that was read before.
+#[inline(always)]
+fn frame_of(bytes: &[u8]) -> Ethernet2Slice<'_>
+    requires { Reads bytes.now kinds.Ethernet2 }
+    ensures { result ≡ record { bytes = bytes.now; has_fcs = false } }
+{
+    match Ethernet2Slice::from_slice_without_fcs(bytes) {
+        Ok(slice) => slice,
+        Err(_) => unreachable!(),
+    }
+}
+
+/// An Ethernet II frame with a frame check sequence that was read before.
+#[inline(always)]
+fn frame_with_fcs_of(bytes: &[u8]) -> Ethernet2Slice<'_>
+    requires { Reads bytes.now kinds.Ethernet2Fcs }
+    ensures { result ≡ record { bytes = bytes.now; has_fcs = true } }
+{
+    match Ethernet2Slice::from_slice_with_crc32_fcs(bytes) {
+        Ok(slice) => slice,
+        Err(_) => unreachable!(),
+    }
+}
+
+/// A cooked capture that was read before.
+#[inline(always)]
+fn capture_of(bytes: &[u8]) -> LinuxSllSlice<'_>
+    requires { Reads bytes.now kinds.LinuxSll }
+    ensures { result ≡ bytes.now }
+{
+    match LinuxSllSlice::from_slice(bytes) {
+        Ok(slice) => slice,
+        Err(_) => unreachable!(),
+    }
+}
+
+/// A VLAN tag or SecTag that was read before in a frame.
+#[inline(always)]
+fn ext_of<'a>(frame: &'a [u8], ext: ExtPlace) -> PacketExt<'a>
+    requires { IsReadableExt frame.now ext }
+    ensures { ViewsExt (ext_unit frame.now ext) result }
+{
+    let bytes = &frame[ext.place.start..ext.place.end];
+    let slice = match ext.kind {
+        ExtKind::Vlan => LinkExtSlice::Vlan(tag_of(bytes)),
+        ExtKind::Macsec => LinkExtSlice::Macsec(sec_tag_of(bytes)),
+    };
+    PacketExt {
+        offset: ext.place.start,
+        slice,
+    }
+}
+
+/// A VLAN tag that was read before.
+#[inline(always)]
+fn tag_of(bytes: &[u8]) -> SingleVlanSlice<'_>
+    requires { Reads bytes.now kinds.Vlan }
+    ensures { result ≡ bytes.now }
+{
+    match SingleVlanSlice::from_slice(bytes) {
+        Ok(slice) => slice,
+        Err(_) => unreachable!(),
+    }
+}
+
+/// A SecTag that was read before.
+#[inline(always)]
+fn sec_tag_of(bytes: &[u8]) -> MacsecSlice<'_>
+    requires { Reads bytes.now kinds.Macsec }
+    ensures views { ViewsSecTag bytes.now result }
+    ensures value { sec_tag_meant (tag_bytes result.header) ≡ sec_tag_meant bytes.now }
+{
+    match MacsecSlice::from_slice(bytes) {
+        Ok(slice) => slice,
+        Err(_) => unreachable!(),
+    }
+}
+
+/// An ARP packet that was read before.
+#[inline(always)]
+fn packet_of(bytes: &[u8]) -> ArpPacketSlice<'_>
+    requires { Reads bytes.now kinds.Arp }
+    ensures bytes { result ≡ slice_range bytes.now 0 (arp_len (arp_front_in bytes.now)) }
+    ensures value { arp_of result ≡ arp_of bytes.now }
+{
+    match ArpPacketSlice::from_slice(bytes) {
+        Ok(slice) => slice,
+        Err(_) => unreachable!(),
+    }
+}
