@@ -61,25 +61,16 @@ pub record Split (us : List PacketUnit) (i : ℕ) (x : PacketUnit) : Type 0 wher
   pub extension : is_ext x ≡ true
   pub before : exts_of front ≡ take i (exts_of us)
 
+split_after : (u : PacketUnit) (us : List PacketUnit) (i j : ℕ) (x : PacketUnit) (s : Split us i x) → exts_of (u ∷ s.front) ≡ take j (exts_of (u ∷ us)) → Split (u ∷ us) j x
+split_after u us i j x s before =
+    record { front = u ∷ s.front; later = s.later; parts = ap (λ (l : List PacketUnit). u ∷ l) s.parts; extension = s.extension; before = before }
+
 split_other : (u : PacketUnit) (us : List PacketUnit) (i : ℕ) (x : PacketUnit) → is_ext u ≡ false → Split us i x → Split (u ∷ us) i x
-split_other u us i x e s =
-    record {
-      front = u ∷ s.front;
-      later = s.later;
-      parts = ap (λ (l : List PacketUnit). u ∷ l) s.parts;
-      extension = s.extension;
-      before = other_dropped u s.front e ∙ s.before ∙ ap (take i) (sym (other_dropped u us e));
-    }
+split_other u us i x e s = split_after u us i i x s (other_dropped u s.front e ∙ s.before ∙ ap (take i) (sym (other_dropped u us e)))
 
 split_next : (u : PacketUnit) (us : List PacketUnit) (i : ℕ) (x : PacketUnit) → is_ext u ≡ true → Split us i x → Split (u ∷ us) (suc i) x
 split_next u us i x e s =
-    record {
-      front = u ∷ s.front;
-      later = s.later;
-      parts = ap (λ (l : List PacketUnit). u ∷ l) s.parts;
-      extension = s.extension;
-      before = ext_kept u s.front e ∙ ap (λ (l : List PacketUnit). u ∷ l) s.before ∙ ap (take (suc i)) (sym (ext_kept u us e));
-    }
+    split_after u us i (suc i) x s (ext_kept u s.front e ∙ ap (λ (l : List PacketUnit). u ∷ l) s.before ∙ ap (take (suc i)) (sym (ext_kept u us e)))
 
 split_first : (u : PacketUnit) (us : List PacketUnit) (x : PacketUnit) → is_ext u ≡ true → u ≡ x → Split (u ∷ us) 0 x
 split_first u us x e same =
