@@ -10,6 +10,10 @@ mod pcap_record;
 mod pcap_records;
 mod record_error;
 mod record_fault;
+#[cfg(test)]
+mod test_asserts;
+#[cfg(test)]
+mod tests;
 mod time_unit;
 
 pub use byte_order::ByteOrder;

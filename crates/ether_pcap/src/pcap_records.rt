@@ -17,13 +17,10 @@ use std::marker::Model;
 /// ];
 /// let mut records = PcapRecords::from_slice(&file)?;
 /// assert_eq!(rt; records.header().link_type, LinkType::ETHERNET);
-/// let mut count = 0;
 /// while let Some(Ok(record)) = records.next() {
 ///     assert_eq!(rt; record.packet, [0xFF].as_slice());
-///     count += 1;
 /// }
-/// assert_eq!(rt; count, 1);
-/// assert!(rt; records.rest().is_empty());
+/// assert_eq!(rt; records.offset(), 41);
 /// ```
 #[derive(Debug, Drop)]
 pub struct PcapRecords<'a> {
