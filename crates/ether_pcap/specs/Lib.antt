@@ -4,4 +4,9 @@ pub mod Record
 pub mod Views
 pub mod Reading
 pub mod Laws
+pub mod Block
+pub mod Section
+pub mod Bodies
+pub mod PcapngViews
 pub mod Texts
+pub mod PcapngTexts

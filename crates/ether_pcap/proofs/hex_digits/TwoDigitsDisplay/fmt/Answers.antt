@@ -1,7 +1,7 @@
 use Rattle.std.proofs.Common.{arith, rules, true, ◌<◌}
 use Rattle.std.proofs.lemmas.Fmt.{hex_byte}
 use Rattle.ether_pcap.specs.Texts.{two_digits}
-use Rattle.ether_pcap.proofs.file_header_error.TwoDigitsDisplay.fmt.Goals as goal
+use Rattle.ether_pcap.proofs.hex_digits.TwoDigitsDisplay.fmt.Goals as goal
 
 pub returns-clause-writes : goal.returns-clause-writes
 unfolding two_digits
