@@ -1,5 +1,4 @@
 -- The structs and enums of this crate for pcapng files as values of the format.
-use Rattle.std.specs.Prelude.{ℕ, List}
 use Rattle.ether_pcap.specs.Block.{BlockValue, BlockRefusal}
 use Rattle.ether_pcap.specs.Block as block_rows
 use Rattle.ether_pcap.specs.Bodies.{BodyRefusal, InterfaceValue, EnhancedPacketValue, SimplePacketValue}

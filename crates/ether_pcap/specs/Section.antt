@@ -1,6 +1,6 @@
 -- The section header block of a pcapng file (draft-ietf-opsawg-pcapng, section 4.1), which says the order of the bytes of the
 -- numbers up to the next one.
-use Rattle.std.specs.Prelude.{◌≡◌, ◌≢◌, ◌⊎◌, ℕ, ◌+◌, ◌<◌, ◌≤◌, List, length, slice_range}
+use Rattle.std.specs.Prelude.{◌≡◌, ◌≢◌, ◌⊎◌, ℕ, ◌<◌, ◌≤◌, List, length, slice_range}
 use Rattle.ether_base.specs.Bytes.{number}
 use Rattle.ether_pcap.specs.Numbers.{Order, field}
 use Rattle.ether_pcap.specs.Block.{BlockValue, BlockRefusal, BeginsBlock, RefusesBlock}

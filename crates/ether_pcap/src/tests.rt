@@ -4,5 +4,7 @@ mod cuts;
 mod derived_traits;
 mod examples;
 mod file_headers;
+mod pcapng;
+mod pcapng_captures;
 mod records;
 mod texts;

@@ -1,10 +1,11 @@
 //! What callers learn of the derived traits and of the constants, at each type of this crate. These functions are proved and
 //! never run.
-ghost use Rattle.std.specs.Prelude.{◌≡◌, ◌↔◌, IsTrue, Ok};
+ghost use Rattle.std.specs.Prelude.{◌≡◌, ◌↔◌, IsTrue, Ok, [], ◌∷◌};
+ghost use Rattle.ether_pcap.specs.Views.{record_view};
 
 use crate::{
-    ByteOrder, FileHeader, FileHeaderError, LinkType, PcapRecord, RecordError, RecordFault,
-    TimeUnit,
+    BlockError, BodyError, ByteOrder, FileHeader, FileHeaderError, LinkType, PcapRecord,
+    PcapngBlock, RecordError, RecordFault, SectionError, TimeUnit,
 };
 use std::alloc::AllocError;
 
@@ -90,4 +91,63 @@ pub fn greatest_captured_len() -> u32
     ensures { result ≡ 262144 }
 {
     PcapRecord::MAX_CAPTURED_LEN
+}
+
+pub fn clone_of_record_error(value: &RecordError) -> Result<RecordError, AllocError>
+    ensures { result ≡ Ok value.now }
+{
+    value.clone()
+}
+
+pub fn clone_of_block_error(value: &BlockError) -> Result<BlockError, AllocError>
+    ensures { result ≡ Ok value.now }
+{
+    value.clone()
+}
+
+pub fn same_block_error(a: &BlockError, b: &BlockError) -> bool
+    ensures { IsTrue result ↔ (a.now ≡ b.now) }
+{
+    *a == *b
+}
+
+pub fn clone_of_body_error(value: &BodyError) -> Result<BodyError, AllocError>
+    ensures { result ≡ Ok value.now }
+{
+    value.clone()
+}
+
+pub fn same_body_error(a: &BodyError, b: &BodyError) -> bool
+    ensures { IsTrue result ↔ (a.now ≡ b.now) }
+{
+    *a == *b
+}
+
+pub fn clone_of_section_error(value: &SectionError) -> Result<SectionError, AllocError>
+    ensures { result ≡ Ok value.now }
+{
+    value.clone()
+}
+
+pub fn same_section_error(a: &SectionError, b: &SectionError) -> bool
+    ensures { IsTrue result ↔ (a.now ≡ b.now) }
+{
+    *a == *b
+}
+
+pub fn block_types() -> [u32; 4]
+    ensures { result ≡ 0x0A0D0D0A ∷ 1 ∷ 3 ∷ 6 ∷ [] }
+{
+    [
+        PcapngBlock::SECTION_HEADER,
+        PcapngBlock::INTERFACE_DESCRIPTION,
+        PcapngBlock::SIMPLE_PACKET,
+        PcapngBlock::ENHANCED_PACKET,
+    ]
+}
+
+pub fn same_pcap_record(a: &PcapRecord<'_>, b: &PcapRecord<'_>) -> bool
+    ensures { IsTrue result ↔ (record_view a.now ≡ record_view b.now) }
+{
+    *a == *b
 }

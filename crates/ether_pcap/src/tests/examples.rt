@@ -1,8 +1,9 @@
 //! The examples of the documentation.
 use crate::test_asserts::{assert_display, check_eq};
 use crate::{
-    ByteOrder, FileHeader, FileHeaderError, LinkType, PcapRecord, PcapRecords, RecordError,
-    RecordFault, TimeUnit,
+    ByteOrder, EnhancedPacket, FileHeader, FileHeaderError, InterfaceDescription, LinkType,
+    PcapRecord, PcapRecords, PcapngBlock, RecordError, RecordFault, SectionHeader, SimplePacket,
+    TimeUnit,
 };
 use std::test::Fail;
 
@@ -98,4 +99,56 @@ fn of_texts(rt: HostRuntime) -> Result<(), Fail> {
         &fault,
         "At byte 24: A record of a pcap file needs 16 byte(s); only 3 are available.",
     )
+}
+
+#[test]
+fn of_a_section_header(rt: HostRuntime) -> Result<(), Fail> {
+    let bytes = [
+        0x0A, 0x0D, 0x0D, 0x0A, 0x1C, 0x00, 0x00, 0x00, 0x4D, 0x3C, 0x2B, 0x1A, 0x01, 0x00, 0x00,
+        0x00, //
+        0xFF, 0xFF, 0xFF, 0xFF, 0xFF, 0xFF, 0xFF, 0xFF, 0x1C, 0x00, 0x00, 0x00, //
+    ];
+    let section = SectionHeader::from_slice(&bytes)?;
+    check_eq!(rt; section.byte_order, ByteOrder::LittleEndian);
+    check_eq!(rt; section.block.block_len(), 28);
+    Ok(())
+}
+
+#[test]
+fn of_a_block(rt: HostRuntime) -> Result<(), Fail> {
+    let bytes = [
+        0x00, 0x00, 0x00, 0x03, 0x00, 0x00, 0x00, 0x10, 0x00, 0x00, 0x00, 0x00, 0x00, 0x00, 0x00,
+        0x10, //
+    ];
+    let block = PcapngBlock::from_slice(ByteOrder::BigEndian, &bytes)?;
+    check_eq!(rt; block.block_type, PcapngBlock::SIMPLE_PACKET);
+    check_eq!(rt; block.body, [0x00, 0x00, 0x00, 0x00].as_slice());
+    check_eq!(rt; block.block_len(), 16);
+    Ok(())
+}
+
+#[test]
+fn of_an_interface_description(rt: HostRuntime) -> Result<(), Fail> {
+    let body = [0x00, 0x01, 0x00, 0x00, 0x00, 0x04, 0x00, 0x00];
+    let interface = InterfaceDescription::from_body(ByteOrder::BigEndian, &body)?;
+    check_eq!(rt; interface.link_type, LinkType::ETHERNET);
+    check_eq!(rt; interface.snap_len, 262_144);
+    Ok(())
+}
+
+#[test]
+fn of_packets(rt: HostRuntime) -> Result<(), Fail> {
+    let body = [
+        0x00, 0x00, 0x00, 0x00, 0x00, 0x00, 0x00, 0x01, 0x00, 0x00, 0x00, 0x02, //
+        0x00, 0x00, 0x00, 0x02, 0x00, 0x00, 0x00, 0x3C, 0xFF, 0xFF, 0x00, 0x00, //
+    ];
+    let packet = EnhancedPacket::from_body(ByteOrder::BigEndian, &body)?;
+    check_eq!(rt; packet.time, 4_294_967_298);
+    check_eq!(rt; packet.original_len, 60);
+    check_eq!(rt; packet.packet, [0xFF, 0xFF].as_slice());
+    let body = [0x00, 0x00, 0x00, 0x3C, 0xFF, 0xFF, 0x00, 0x00];
+    let packet = SimplePacket::from_body(ByteOrder::BigEndian, 2, &body)?;
+    check_eq!(rt; packet.original_len, 60);
+    check_eq!(rt; packet.packet, [0xFF, 0xFF].as_slice());
+    Ok(())
 }
