@@ -1,0 +1,30 @@
+-- The laws of the format.
+use Rattle.std.specs.Prelude.{◌≡◌, ℕ, List, Option}
+use Rattle.ether_base.specs.Bytes.{IsBytes}
+use Rattle.ether_pcap.specs.Numbers.{Order}
+use Rattle.ether_pcap.specs.FileHeader.{FileHeaderValue, IsFileHeader, FileRefusal, RefusesFile}
+use Rattle.ether_pcap.specs.Record.{RecordValue, RecordRefusal, BeginsRecord, RefusesRecord, HasRecords}
+
+-- bytes begin with at most one file header, or are refused for one reason
+pub record FileHeadersAreOne : Type 0 where
+  pub one : (bytes : List ℕ) (h k : FileHeaderValue) → IsBytes bytes → IsFileHeader bytes h → IsFileHeader bytes k → h ≡ k
+  pub apart : (bytes : List ℕ) (h : FileHeaderValue) (r : FileRefusal) → IsBytes bytes → IsFileHeader bytes h → RefusesFile bytes r → ⊥
+  pub refused : (bytes : List ℕ) (r s : FileRefusal) → IsBytes bytes → RefusesFile bytes r → RefusesFile bytes s → r ≡ s
+
+-- bytes begin with at most one record, or are refused for one reason
+pub record RecordsAreOne : Type 0 where
+  pub one : (order : Order) (bytes : List ℕ) (r s : RecordValue) → BeginsRecord order bytes r → BeginsRecord order bytes s → r ≡ s
+  pub apart : (order : Order) (bytes : List ℕ) (r : RecordValue) (e : RecordRefusal) → BeginsRecord order bytes r → RefusesRecord order bytes e → ⊥
+  pub refused : (order : Order) (bytes : List ℕ) (e f : RecordRefusal) → RefusesRecord order bytes e → RefusesRecord order bytes f → e ≡ f
+
+-- the records of bytes, and what is left after them
+pub record Contents (order : Order) (bytes : List ℕ) : Type 0 where
+  pub records : List RecordValue
+  pub rest : List ℕ
+  pub fault : Option RecordRefusal
+  pub has : HasRecords order bytes records rest fault
+
+-- bytes have records in one way
+pub record ContentsAreOne : Type 0 where
+  pub some : (order : Order) (bytes : List ℕ) → Contents order bytes
+  pub one : (order : Order) (bytes : List ℕ) (c d : Contents order bytes) → (c.records ≡ d.records) × (c.rest ≡ d.rest) × (c.fault ≡ d.fault)

@@ -1,0 +1,12 @@
+pub mod Numbers
+pub mod FileHeader
+pub mod Record
+pub mod Views
+pub mod Reading
+pub mod Laws
+pub mod Block
+pub mod Section
+pub mod Bodies
+pub mod PcapngViews
+pub mod Texts
+pub mod PcapngTexts

@@ -1,0 +1,56 @@
+//! Why a slice does not begin with a block of a pcapng file.
+ghost use Rattle.std.specs.Prelude.{Some};
+ghost use Rattle.ether_pcap.specs.PcapngTexts.{block_error_text};
+
+use std::error::Error;
+use std::fmt;
+
+/// Why a slice does not begin with a block of a pcapng file.
+///
+/// ```
+/// assert_eq!(rt;
+///     format!(in rt.alloc(); "{}", BlockError::TotalLen(13))?.as_str(),
+///     "A block of a pcapng file cannot have 13 byte(s)."
+/// );
+/// ```
+#[derive(Clone, PartialEq, Eq, Debug, Drop)]
+pub enum BlockError {
+    /// The slice is too short.
+    Len {
+        /// The length of the block in bytes; if the slice has fewer than the 12 bytes that every block has, 12.
+        required_len: usize,
+        /// The length of the slice.
+        len: usize,
+    },
+    /// The block's length is below 12 or above 16 MiB, or no multiple of 4.
+    TotalLen(u32),
+    /// The block ends with another length than it begins with.
+    Trailer {
+        /// The length at its beginning.
+        total_len: u32,
+        /// The length at its end.
+        trailer: u32,
+    },
+}
+
+impl fmt::Display for BlockError {
+    ghost output = { λ error. Some (block_error_text error) };
+
+    fn fmt<W: fmt::Write>(&self, f: &mut fmt::Formatter<W>) -> fmt::Result {
+        match self {
+            BlockError::Len { required_len, len } => write!(
+                f,
+                "A block of a pcapng file needs {required_len} byte(s); only {len} are available."
+            ),
+            BlockError::TotalLen(len) => {
+                write!(f, "A block of a pcapng file cannot have {len} byte(s).")
+            }
+            BlockError::Trailer { total_len, trailer } => write!(
+                f,
+                "A block of a pcapng file begins with length {total_len} and ends with {trailer}."
+            ),
+        }
+    }
+}
+
+impl Error for BlockError {}

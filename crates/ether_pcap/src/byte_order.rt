@@ -1,0 +1,57 @@
+//! The order of the bytes of each number in a capture file.
+ghost use Rattle.std.specs.Prelude.{◌≡◌, ◌+◌, ◌≤◌, length};
+ghost use Rattle.ether_base.specs.Bytes.{IsBytes};
+ghost use Rattle.ether_pcap.specs.Numbers.{number_in, field};
+ghost use Rattle.ether_pcap.specs.Views.{order_of};
+
+/// The order of the bytes of each number in a capture file: that of the machine that wrote it.
+///
+/// ```
+/// assert_eq!(rt; ByteOrder::BigEndian.u16_of([0x02, 0x01]), 513);
+/// assert_eq!(rt; ByteOrder::LittleEndian.u16_of([0x02, 0x01]), 258);
+/// ```
+#[derive(Clone, Copy, PartialEq, Eq, Debug)]
+pub enum ByteOrder {
+    /// The most significant byte comes first.
+    BigEndian,
+    /// The least significant byte comes first.
+    LittleEndian,
+}
+
+impl ByteOrder {
+    /// The number of two bytes in this order.
+    pub fn u16_of(self, bytes: [u8; 2]) -> u16
+        ensures { result ≡ number_in (order_of self) bytes }
+    {
+        match self {
+            ByteOrder::BigEndian => u16::from_be_bytes(bytes),
+            ByteOrder::LittleEndian => u16::from_le_bytes(bytes),
+        }
+    }
+
+    /// The number of four bytes in this order.
+    pub fn u32_of(self, bytes: [u8; 4]) -> u32
+        ensures { result ≡ number_in (order_of self) bytes }
+    {
+        match self {
+            ByteOrder::BigEndian => u32::from_be_bytes(bytes),
+            ByteOrder::LittleEndian => u32::from_le_bytes(bytes),
+        }
+    }
+
+    /// The number in the two bytes at a place.
+    pub(crate) fn u16_at(self, bytes: &[u8], at: usize) -> u16
+        requires { at + 2 ≤ length bytes.now }
+        ensures { result ≡ field (order_of self) bytes.now at (at + 2) }
+    {
+        self.u16_of([bytes[at], bytes[at + 1]])
+    }
+
+    /// The number in the four bytes at a place.
+    pub(crate) fn u32_at(self, bytes: &[u8], at: usize) -> u32
+        requires { at + 4 ≤ length bytes.now }
+        ensures { result ≡ field (order_of self) bytes.now at (at + 4) }
+    {
+        self.u32_of([bytes[at], bytes[at + 1], bytes[at + 2], bytes[at + 3]])
+    }
+}

@@ -1,0 +1,83 @@
+//! The body of an enhanced packet.
+ghost use Rattle.std.specs.Prelude.{IfOk, IfErr};
+ghost use Rattle.ether_pcap.specs.Bodies.{IsEnhancedPacket, RefusesEnhancedPacket};
+ghost use Rattle.ether_pcap.specs.Views.{order_of};
+ghost use Rattle.ether_pcap.specs.PcapngViews.{enhanced_packet_view, body_refusal_view};
+
+use crate::{BodyError, ByteOrder, PcapRecord};
+
+/// A view of the body of an enhanced packet: a packet that was captured on one of several interfaces.
+///
+/// ```text
+///  0           4                       12            16            20
+///  +-----------+-----------+-----------+-------------+-------------+-- ..
+///  | interface |    time, upper half first           |             |
+///  |           |           |           |captured len |original len | packet
+///  +-----------+-----------+-----------+-------------+-------------+-- ..
+/// ```
+///
+/// ```
+/// let body = [
+///     0x00, 0x00, 0x00, 0x00, 0x00, 0x00, 0x00, 0x01, 0x00, 0x00, 0x00, 0x02, //
+///     0x00, 0x00, 0x00, 0x02, 0x00, 0x00, 0x00, 0x3C, 0xFF, 0xFF, 0x00, 0x00, //
+/// ];
+/// let packet = EnhancedPacket::from_body(ByteOrder::BigEndian, &body)?;
+/// assert_eq!(rt; packet.time, 4_294_967_298);
+/// assert_eq!(rt; packet.original_len, 60);
+/// assert_eq!(rt; packet.packet, [0xFF, 0xFF].as_slice());
+/// ```
+#[derive(Clone, Copy, PartialEq, Eq, Debug)]
+pub struct EnhancedPacket<'a> {
+    /// The interface, counted from 0 in the order of the section's interface descriptions.
+    pub interface: u32,
+    /// The time of the capture since the beginning of 1970, UTC: in microseconds if no option of the interface says otherwise.
+    pub time: u64,
+    /// How many bytes the packet had before it was cut.
+    pub original_len: u32,
+    /// The bytes that were captured of the packet.
+    pub packet: &'a [u8],
+}
+
+impl<'a> EnhancedPacket<'a> {
+    /// Reads the body of a block of type [`PcapngBlock::ENHANCED_PACKET`](crate::PcapngBlock::ENHANCED_PACKET). Padding and options
+    /// after the packet are not read.
+    ///
+    /// # Errors
+    ///
+    /// The first of these that holds:
+    ///
+    /// - `BodyError::Len`: the body has fewer than 20 bytes. `required_len` is 20, `len` the body's length.
+    /// - `BodyError::CapturedLen`: the number of captured bytes, which the error names, is above 262,144.
+    /// - `BodyError::Len`: the body ends within the packet. `required_len` is 20 more than the number of captured bytes.
+    #[tactic(auto, using(crate::specs::Bodies::enhanced, crate::specs::Bodies::enhanced_too_long, crate::specs::Bodies::enhanced_packet))]
+    pub fn from_body(byte_order: ByteOrder, body: &'a [u8]) -> Result<EnhancedPacket<'a>, BodyError>
+        ensures packet { IfOk result (λ p. IsEnhancedPacket (order_of byte_order) body.now (enhanced_packet_view p)) }
+        ensures refused { IfErr result (λ e. RefusesEnhancedPacket (order_of byte_order) body.now (body_refusal_view e)) }
+    {
+        if body.len() < 20 {
+            return Err(BodyError::Len {
+                required_len: 20,
+                len: body.len(),
+            });
+        }
+        let captured_len = byte_order.u32_at(body, 12);
+        if captured_len > PcapRecord::MAX_CAPTURED_LEN {
+            return Err(BodyError::CapturedLen(captured_len));
+        }
+        let end = 20 + captured_len as usize;
+        if body.len() < end {
+            return Err(BodyError::Len {
+                required_len: end,
+                len: body.len(),
+            });
+        }
+        let upper = u64::from(byte_order.u32_at(body, 4));
+        let lower = u64::from(byte_order.u32_at(body, 8));
+        Ok(EnhancedPacket {
+            interface: byte_order.u32_at(body, 0),
+            time: upper * 0x1_0000_0000 + lower,
+            original_len: byte_order.u32_at(body, 16),
+            packet: &body[20..end],
+        })
+    }
+}

@@ -1,0 +1,59 @@
+//! Why a slice does not begin with the header of a capture file.
+ghost use Rattle.std.specs.Prelude.{Some};
+ghost use Rattle.ether_pcap.specs.Texts.{file_header_error_text};
+
+use crate::hex_digits::EightDigits;
+use std::error::Error;
+use std::fmt;
+
+/// Why a slice does not begin with the header of a classic pcap file.
+///
+/// ```
+/// assert_eq!(rt;
+///     format!(in rt.alloc(); "{}", FileHeaderError::Magic(0x0A0D_0D0A))?.as_str(),
+///     "The magic number 0x0A0D0D0A is not that of a pcap file."
+/// );
+/// ```
+#[derive(Clone, PartialEq, Eq, Debug, Drop)]
+pub enum FileHeaderError {
+    /// The slice is too short.
+    Len {
+        /// The length of the header, 24 bytes.
+        required_len: usize,
+        /// The length of the slice.
+        len: usize,
+    },
+    /// The first four bytes are no magic number of the format in either byte order. This is their number if the first one
+    /// is the most significant. A file of the newer pcapng format has 0x0A0D0D0A here.
+    Magic(u32),
+    /// The version of the format is not 2.4.
+    Version {
+        /// The number before the point.
+        major: u16,
+        /// The number after the point.
+        minor: u16,
+    },
+}
+
+impl fmt::Display for FileHeaderError {
+    ghost output = { λ error. Some (file_header_error_text error) };
+
+    fn fmt<W: fmt::Write>(&self, f: &mut fmt::Formatter<W>) -> fmt::Result {
+        match self {
+            FileHeaderError::Len { required_len, len } => write!(
+                f,
+                "The header of a pcap file needs {required_len} byte(s); only {len} are available."
+            ),
+            FileHeaderError::Magic(number) => {
+                let digits = EightDigits(*number);
+                write!(f, "The magic number 0x{digits} is not that of a pcap file.")
+            }
+            FileHeaderError::Version { major, minor } => write!(
+                f,
+                "Version {major}.{minor} of the pcap format is not supported, only 2.4."
+            ),
+        }
+    }
+}
+
+impl Error for FileHeaderError {}

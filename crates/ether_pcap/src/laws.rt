@@ -1,0 +1,17 @@
+//! The laws of the format. Each is the contract of a function that does nothing.
+ghost use Rattle.ether_pcap.specs.Laws.{FileHeadersAreOne, RecordsAreOne, ContentsAreOne};
+
+/// Bytes begin with at most one file header, or are refused for one reason.
+pub fn file_headers_are_one()
+    ensures { FileHeadersAreOne }
+{}
+
+/// Bytes begin with at most one record, or are refused for one reason.
+pub fn records_are_one()
+    ensures { RecordsAreOne }
+{}
+
+/// Any bytes have records, in one way: these, what is left after them, and why it is no record.
+pub fn contents_are_one()
+    ensures { ContentsAreOne }
+{}

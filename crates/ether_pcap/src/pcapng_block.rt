@@ -1,0 +1,113 @@
+//! A block of a pcapng file.
+ghost use Rattle.std.specs.Prelude.{◌≡◌, ◌+◌, ◌↔◌, IsTrue, length, IfOk, IfErr};
+ghost use Rattle.ether_pcap.specs.Block.{BeginsBlock, RefusesBlock, IsTotalLen};
+ghost use Rattle.ether_pcap.specs.Views.{order_of};
+ghost use Rattle.ether_pcap.specs.PcapngViews.{block_view, block_refusal_view};
+
+use crate::{BlockError, ByteOrder};
+
+/// A view of a block of a pcapng file. A file is a list of them; those of unknown types are to be skipped.
+///
+/// ```text
+///  0          4          8                 n - 4        n
+///  +----------+----------+-- .. --+---------+-----------+
+///  |   type   | length n |  body  | padding |  length n |
+///  +----------+----------+-- .. --+---------+-----------+
+/// ```
+///
+/// The padding, if there is any, is part of `body`: where it begins depends on the type of the block.
+///
+/// ```
+/// let bytes = [
+///     0x00, 0x00, 0x00, 0x03, 0x00, 0x00, 0x00, 0x10, 0x00, 0x00, 0x00, 0x00, 0x00, 0x00, 0x00, 0x10, //
+/// ];
+/// let block = PcapngBlock::from_slice(ByteOrder::BigEndian, &bytes)?;
+/// assert_eq!(rt; block.block_type, PcapngBlock::SIMPLE_PACKET);
+/// assert_eq!(rt; block.body, [0x00, 0x00, 0x00, 0x00].as_slice());
+/// assert_eq!(rt; block.block_len(), 16);
+/// ```
+#[derive(Clone, Copy, PartialEq, Eq, Debug)]
+pub struct PcapngBlock<'a> {
+    /// What the body is.
+    pub block_type: u32,
+    /// The bytes between the two lengths, a multiple of 4.
+    pub body: &'a [u8],
+}
+
+impl<'a> PcapngBlock<'a> {
+    /// The type of a section header, with which each file begins.
+    pub const SECTION_HEADER: u32 = 0x0A0D_0D0A;
+
+    /// The type of an interface description.
+    pub const INTERFACE_DESCRIPTION: u32 = 1;
+
+    /// The type of a simple packet.
+    pub const SIMPLE_PACKET: u32 = 3;
+
+    /// The type of an enhanced packet.
+    pub const ENHANCED_PACKET: u32 = 6;
+
+    /// The length in bytes of a block with an empty body.
+    pub const MIN_LEN: usize = 12;
+
+    /// The greatest length in bytes of a block that is read, 16 MiB: libpcap reads none that is longer.
+    pub const MAX_LEN: u32 = 16_777_216;
+
+    /// The block at the front of a slice. The order of the bytes is that of the section.
+    ///
+    /// # Errors
+    ///
+    /// The first of these that holds:
+    ///
+    /// - `BlockError::Len`: the slice has fewer than 12 bytes. `required_len` is 12, `len` the slice's length.
+    /// - `BlockError::TotalLen`: the block's length, which the error names, is below 12 or above 16 MiB, or no multiple of 4.
+    /// - `BlockError::Len`: the slice is shorter than the block. `required_len` is the block's length, `len` the slice's.
+    /// - `BlockError::Trailer`: the block ends with another length than it begins with. The error names both.
+    #[tactic(auto, using(crate::specs::Block::front, crate::specs::Block::total_len, crate::specs::Block::body))]
+    pub fn from_slice(byte_order: ByteOrder, slice: &'a [u8]) -> Result<PcapngBlock<'a>, BlockError>
+        ensures block { IfOk result (λ b. BeginsBlock (order_of byte_order) slice.now (block_view b)) }
+        ensures refused { IfErr result (λ e. RefusesBlock (order_of byte_order) slice.now (block_refusal_view e)) }
+    {
+        if slice.len() < PcapngBlock::MIN_LEN {
+            return Err(BlockError::Len {
+                required_len: PcapngBlock::MIN_LEN,
+                len: slice.len(),
+            });
+        }
+        let total_len = byte_order.u32_at(slice, 4);
+        if !is_total_len(total_len) {
+            return Err(BlockError::TotalLen(total_len));
+        }
+        let end = total_len as usize;
+        if slice.len() < end {
+            return Err(BlockError::Len {
+                required_len: end,
+                len: slice.len(),
+            });
+        }
+        let trailer = byte_order.u32_at(slice, end - 4);
+        if trailer != total_len {
+            return Err(BlockError::Trailer { total_len, trailer });
+        }
+        Ok(PcapngBlock {
+            block_type: byte_order.u32_at(slice, 0),
+            body: &slice[8..end - 4],
+        })
+    }
+
+    /// The length of the block in bytes: the next block begins there.
+    pub fn block_len(&self) -> usize
+        ensures { result ≡ 12 + length self.now.body.now }
+    {
+        PcapngBlock::MIN_LEN + self.body.len()
+    }
+}
+
+/// Tests that a block can have this length.
+fn is_total_len(total_len: u32) -> bool
+    ensures { IsTrue result ↔ IsTotalLen total_len }
+{
+    total_len >= PcapngBlock::MIN_LEN as u32
+        && total_len % 4 == 0
+        && total_len <= PcapngBlock::MAX_LEN
+}

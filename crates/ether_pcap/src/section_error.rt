@@ -1,0 +1,82 @@
+//! Why a slice does not begin with a section header.
+ghost use Rattle.std.specs.Prelude.{Some};
+ghost use Rattle.ether_pcap.specs.PcapngTexts.{section_error_text};
+
+use crate::BlockError;
+use crate::hex_digits::EightDigits;
+use std::error::Error;
+use std::fmt;
+
+/// Why a slice does not begin with the section header of a pcapng file.
+///
+/// ```
+/// assert_eq!(rt;
+///     format!(in rt.alloc(); "{}", SectionError::Magic(0x1A2B_3C4E))?.as_str(),
+///     "The byte-order magic 0x1A2B3C4E is not that of a pcapng file."
+/// );
+/// ```
+#[derive(Clone, PartialEq, Eq, Debug, Drop)]
+pub enum SectionError {
+    /// The slice is too short for a type, a length and a byte-order magic.
+    Len {
+        /// The length of the three, 12 bytes.
+        required_len: usize,
+        /// The length of the slice.
+        len: usize,
+    },
+    /// The type of the block, as a number whose first byte is the most significant one.
+    BlockType(u32),
+    /// The byte-order magic, as a number whose first byte is the most significant one.
+    Magic(u32),
+    /// The slice does not begin with a block.
+    Block(BlockError),
+    /// The body is too short for its fields.
+    Body {
+        /// The length of the fields, 16 bytes.
+        required_len: usize,
+        /// The length of the body.
+        len: usize,
+    },
+    /// The version of the format is neither 1.0 nor 1.2.
+    Version {
+        /// The number before the point.
+        major: u16,
+        /// The number after the point.
+        minor: u16,
+    },
+}
+
+impl fmt::Display for SectionError {
+    ghost output = { λ error. Some (section_error_text error) };
+
+    fn fmt<W: fmt::Write>(&self, f: &mut fmt::Formatter<W>) -> fmt::Result {
+        match self {
+            SectionError::Len { required_len, len } => write!(
+                f,
+                "A section header needs {required_len} byte(s); only {len} are available."
+            ),
+            SectionError::BlockType(number) => {
+                let digits = EightDigits(*number);
+                write!(f, "A block of type 0x{digits} is no section header.")
+            }
+            SectionError::Magic(number) => {
+                let digits = EightDigits(*number);
+                write!(
+                    f,
+                    "The byte-order magic 0x{digits} is not that of a pcapng file."
+                )
+            }
+            SectionError::Block(error) => error.fmt(f),
+            SectionError::Body { required_len, len } => write!(
+                f,
+                "The body of a section header needs {required_len} byte(s); it has {len}."
+            ),
+            SectionError::Version { major, minor } => write!(
+                f,
+                "Version {major}.{minor} of the pcapng format is not supported."
+            ),
+        }
+    }
+}
+
+impl Error for SectionError {}

@@ -1,0 +1,99 @@
+//! The section header of a pcapng file.
+ghost use Rattle.std.specs.Prelude.{◌≡◌, ◌≤◌, length, IfOk, IfErr, MatchOption, ◌↔◌, IsTrue};
+ghost use Rattle.ether_pcap.specs.Numbers.{Order};
+ghost use Rattle.ether_pcap.specs.Section.{IsSection, RefusesSection, HasOrder, IsVersion};
+ghost use Rattle.ether_pcap.specs.Views.{order_of};
+ghost use Rattle.ether_pcap.specs.PcapngViews.{block_view, section_refusal_view};
+
+use crate::{ByteOrder, PcapngBlock, SectionError};
+
+/// A view of a section header, the block with which a pcapng file begins: it says the order of the bytes of the numbers in its
+/// section, which reaches to the next section header. The length of the section is not read.
+///
+/// ```
+/// let bytes = [
+///     0x0A, 0x0D, 0x0D, 0x0A, 0x1C, 0x00, 0x00, 0x00, 0x4D, 0x3C, 0x2B, 0x1A, 0x01, 0x00, 0x00, 0x00, //
+///     0xFF, 0xFF, 0xFF, 0xFF, 0xFF, 0xFF, 0xFF, 0xFF, 0x1C, 0x00, 0x00, 0x00, //
+/// ];
+/// let section = SectionHeader::from_slice(&bytes)?;
+/// assert_eq!(rt; section.byte_order, ByteOrder::LittleEndian);
+/// assert_eq!(rt; section.block.block_len(), 28);
+/// ```
+#[derive(Clone, Copy, PartialEq, Eq, Debug)]
+pub struct SectionHeader<'a> {
+    /// The order of the bytes of each number in the section.
+    pub byte_order: ByteOrder,
+    /// The block itself.
+    pub block: PcapngBlock<'a>,
+}
+
+impl<'a> SectionHeader<'a> {
+    /// The section header at the front of a slice.
+    ///
+    /// # Errors
+    ///
+    /// The first of these that holds:
+    ///
+    /// - `SectionError::Len`: the slice has fewer than 12 bytes. `required_len` is 12, `len` the slice's length.
+    /// - `SectionError::BlockType`: the block has another type than 0x0A0D0D0A.
+    /// - `SectionError::Magic`: the first number of the body is not 0x1A2B3C4D in either byte order.
+    /// - `SectionError::Block`: the slice does not begin with a block in this byte order.
+    /// - `SectionError::Body`: the body has fewer than 16 bytes. `required_len` is 16, `len` the body's length.
+    /// - `SectionError::Version`: the version, which the error names, is neither 1.0 nor 1.2.
+    pub fn from_slice(slice: &'a [u8]) -> Result<SectionHeader<'a>, SectionError>
+        ensures section { IfOk result (λ s. IsSection slice.now (order_of s.byte_order) (block_view s.block)) }
+        ensures refused { IfErr result (λ e. RefusesSection slice.now (section_refusal_view e)) }
+    {
+        if slice.len() < PcapngBlock::MIN_LEN {
+            return Err(SectionError::Len {
+                required_len: PcapngBlock::MIN_LEN,
+                len: slice.len(),
+            });
+        }
+        let block_type = ByteOrder::BigEndian.u32_at(slice, 0);
+        if block_type != PcapngBlock::SECTION_HEADER {
+            return Err(SectionError::BlockType(block_type));
+        }
+        let Some(byte_order) = order(slice) else {
+            return Err(SectionError::Magic(ByteOrder::BigEndian.u32_at(slice, 8)));
+        };
+        let block = match PcapngBlock::from_slice(byte_order, slice) {
+            Ok(block) => block,
+            Err(error) => return Err(SectionError::Block(error)),
+        };
+        if block.body.len() < 16 {
+            return Err(SectionError::Body {
+                required_len: 16,
+                len: block.body.len(),
+            });
+        }
+        let major = byte_order.u16_at(slice, 12);
+        let minor = byte_order.u16_at(slice, 14);
+        if !is_version(major, minor) {
+            return Err(SectionError::Version { major, minor });
+        }
+        Ok(SectionHeader { byte_order, block })
+    }
+}
+
+/// The byte order in which the first number of the body is the byte-order magic.
+fn order(slice: &[u8]) -> Option<ByteOrder>
+    requires { 12 ≤ length slice.now }
+    ensures { MatchOption result ((o : Order) → HasOrder slice.now o → ⊥) (λ o. HasOrder slice.now (order_of o)) }
+{
+    const MAGIC: u32 = 0x1A2B_3C4D;
+    if ByteOrder::BigEndian.u32_at(slice, 8) == MAGIC {
+        return Some(ByteOrder::BigEndian);
+    }
+    if ByteOrder::LittleEndian.u32_at(slice, 8) == MAGIC {
+        return Some(ByteOrder::LittleEndian);
+    }
+    None
+}
+
+/// Tests that a version is one that is read.
+fn is_version(major: u16, minor: u16) -> bool
+    ensures { IsTrue result ↔ IsVersion major minor }
+{
+    major == 1 && (minor == 0 || minor == 2)
+}

@@ -1,0 +1,79 @@
+//! The body of a simple packet.
+ghost use Rattle.std.specs.Prelude.{◌≡◌, IfOk, IfErr};
+ghost use Rattle.ether_pcap.specs.Bodies.{IsSimplePacket, RefusesSimplePacket, captured_by};
+ghost use Rattle.ether_pcap.specs.Views.{order_of};
+ghost use Rattle.ether_pcap.specs.PcapngViews.{simple_packet_view, body_refusal_view};
+
+use crate::{BodyError, ByteOrder, PcapRecord};
+
+/// A view of the body of a simple packet: a packet with no time, captured on the first interface of its section.
+///
+/// ```
+/// let body = [0x00, 0x00, 0x00, 0x3C, 0xFF, 0xFF, 0x00, 0x00];
+/// let packet = SimplePacket::from_body(ByteOrder::BigEndian, 2, &body)?;
+/// assert_eq!(rt; packet.original_len, 60);
+/// assert_eq!(rt; packet.packet, [0xFF, 0xFF].as_slice());
+/// ```
+#[derive(Clone, Copy, PartialEq, Eq, Debug)]
+pub struct SimplePacket<'a> {
+    /// How many bytes the packet had before it was cut.
+    pub original_len: u32,
+    /// The bytes that were captured of the packet.
+    pub packet: &'a [u8],
+}
+
+impl<'a> SimplePacket<'a> {
+    /// Reads the body of a block of type [`PcapngBlock::SIMPLE_PACKET`](crate::PcapngBlock::SIMPLE_PACKET), in a section whose first
+    /// interface has this snap length, 0 for none. It says how many bytes were captured: the packet's length if that is less.
+    ///
+    /// # Errors
+    ///
+    /// The first of these that holds:
+    ///
+    /// - `BodyError::Len`: the body has fewer than 4 bytes. `required_len` is 4, `len` the body's length.
+    /// - `BodyError::CapturedLen`: the number of captured bytes, which the error names, is above 262,144.
+    /// - `BodyError::Len`: the body ends within the packet. `required_len` is 4 more than the number of captured bytes.
+    #[tactic(auto, using(crate::specs::Bodies::simple, crate::specs::Bodies::simple_too_long, crate::specs::Bodies::simple_packet))]
+    pub fn from_body(
+        byte_order: ByteOrder,
+        snap_len: u32,
+        body: &'a [u8],
+    ) -> Result<SimplePacket<'a>, BodyError>
+        ensures packet { IfOk result (λ p. IsSimplePacket (order_of byte_order) snap_len body.now (simple_packet_view p)) }
+        ensures refused { IfErr result (λ e. RefusesSimplePacket (order_of byte_order) snap_len body.now (body_refusal_view e)) }
+    {
+        if body.len() < 4 {
+            return Err(BodyError::Len {
+                required_len: 4,
+                len: body.len(),
+            });
+        }
+        let original_len = byte_order.u32_at(body, 0);
+        let captured_len = captured_len(snap_len, original_len);
+        if captured_len > PcapRecord::MAX_CAPTURED_LEN {
+            return Err(BodyError::CapturedLen(captured_len));
+        }
+        let end = 4 + captured_len as usize;
+        if body.len() < end {
+            return Err(BodyError::Len {
+                required_len: end,
+                len: body.len(),
+            });
+        }
+        Ok(SimplePacket {
+            original_len,
+            packet: &body[4..end],
+        })
+    }
+}
+
+/// How many bytes of a packet are captured with a snap length, of which 0 is none.
+fn captured_len(snap_len: u32, original_len: u32) -> u32
+    ensures { result ≡ captured_by snap_len original_len }
+{
+    if snap_len == 0 {
+        original_len
+    } else {
+        snap_len.min(original_len)
+    }
+}

@@ -1,0 +1,10 @@
+//! Small captures, read and cut. Their fields were printed by Wireshark's `tshark`.
+mod captures;
+mod cuts;
+mod derived_traits;
+mod examples;
+mod file_headers;
+mod pcapng;
+mod pcapng_captures;
+mod records;
+mod texts;

@@ -1,0 +1,153 @@
+//! What callers learn of the derived traits and of the constants, at each type of this crate. These functions are proved and
+//! never run.
+ghost use Rattle.std.specs.Prelude.{◌≡◌, ◌↔◌, IsTrue, Ok, [], ◌∷◌};
+ghost use Rattle.ether_pcap.specs.Views.{record_view};
+
+use crate::{
+    BlockError, BodyError, ByteOrder, FileHeader, FileHeaderError, LinkType, PcapRecord,
+    PcapngBlock, RecordError, RecordFault, SectionError, TimeUnit,
+};
+use std::alloc::AllocError;
+
+pub fn clone_of_file_header(value: &FileHeader) -> Result<FileHeader, AllocError>
+    ensures { result ≡ Ok value.now }
+{
+    value.clone()
+}
+
+pub fn clone_of_pcap_record<'a>(value: &PcapRecord<'a>) -> Result<PcapRecord<'a>, AllocError>
+    ensures { result ≡ Ok value.now }
+{
+    value.clone()
+}
+
+pub fn clone_of_file_header_error(value: &FileHeaderError) -> Result<FileHeaderError, AllocError>
+    ensures { result ≡ Ok value.now }
+{
+    value.clone()
+}
+
+pub fn clone_of_record_fault(value: &RecordFault) -> Result<RecordFault, AllocError>
+    ensures { result ≡ Ok value.now }
+{
+    value.clone()
+}
+
+pub fn same_byte_order(a: &ByteOrder, b: &ByteOrder) -> bool
+    ensures { IsTrue result ↔ (a.now ≡ b.now) }
+{
+    *a == *b
+}
+
+pub fn same_time_unit(a: &TimeUnit, b: &TimeUnit) -> bool
+    ensures { IsTrue result ↔ (a.now ≡ b.now) }
+{
+    *a == *b
+}
+
+pub fn same_link_type(a: &LinkType, b: &LinkType) -> bool
+    ensures { IsTrue result ↔ (a.now ≡ b.now) }
+{
+    *a == *b
+}
+
+pub fn same_file_header(a: &FileHeader, b: &FileHeader) -> bool
+    ensures { IsTrue result ↔ (a.now ≡ b.now) }
+{
+    *a == *b
+}
+
+pub fn same_file_header_error(a: &FileHeaderError, b: &FileHeaderError) -> bool
+    ensures { IsTrue result ↔ (a.now ≡ b.now) }
+{
+    *a == *b
+}
+
+pub fn same_record_error(a: &RecordError, b: &RecordError) -> bool
+    ensures { IsTrue result ↔ (a.now ≡ b.now) }
+{
+    *a == *b
+}
+
+pub fn same_record_fault(a: &RecordFault, b: &RecordFault) -> bool
+    ensures { IsTrue result ↔ (a.now ≡ b.now) }
+{
+    *a == *b
+}
+
+pub fn link_type_of_ethernet() -> u16
+    ensures { result ≡ 1 }
+{
+    LinkType::ETHERNET.0
+}
+
+pub fn link_type_of_cooked_capture() -> u16
+    ensures { result ≡ 113 }
+{
+    LinkType::LINUX_SLL.0
+}
+
+pub fn greatest_captured_len() -> u32
+    ensures { result ≡ 262144 }
+{
+    PcapRecord::MAX_CAPTURED_LEN
+}
+
+pub fn clone_of_record_error(value: &RecordError) -> Result<RecordError, AllocError>
+    ensures { result ≡ Ok value.now }
+{
+    value.clone()
+}
+
+pub fn clone_of_block_error(value: &BlockError) -> Result<BlockError, AllocError>
+    ensures { result ≡ Ok value.now }
+{
+    value.clone()
+}
+
+pub fn same_block_error(a: &BlockError, b: &BlockError) -> bool
+    ensures { IsTrue result ↔ (a.now ≡ b.now) }
+{
+    *a == *b
+}
+
+pub fn clone_of_body_error(value: &BodyError) -> Result<BodyError, AllocError>
+    ensures { result ≡ Ok value.now }
+{
+    value.clone()
+}
+
+pub fn same_body_error(a: &BodyError, b: &BodyError) -> bool
+    ensures { IsTrue result ↔ (a.now ≡ b.now) }
+{
+    *a == *b
+}
+
+pub fn clone_of_section_error(value: &SectionError) -> Result<SectionError, AllocError>
+    ensures { result ≡ Ok value.now }
+{
+    value.clone()
+}
+
+pub fn same_section_error(a: &SectionError, b: &SectionError) -> bool
+    ensures { IsTrue result ↔ (a.now ≡ b.now) }
+{
+    *a == *b
+}
+
+pub fn block_types() -> [u32; 4]
+    ensures { result ≡ 0x0A0D0D0A ∷ 1 ∷ 3 ∷ 6 ∷ [] }
+{
+    [
+        PcapngBlock::SECTION_HEADER,
+        PcapngBlock::INTERFACE_DESCRIPTION,
+        PcapngBlock::SIMPLE_PACKET,
+        PcapngBlock::ENHANCED_PACKET,
+    ]
+}
+
+pub fn same_pcap_record(a: &PcapRecord<'_>, b: &PcapRecord<'_>) -> bool
+    ensures { IsTrue result ↔ (record_view a.now ≡ record_view b.now) }
+{
+    *a == *b
+}
