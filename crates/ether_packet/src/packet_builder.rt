@@ -1,5 +1,5 @@
 //! A packet to be written.
-ghost use Rattle.std.specs.Prelude.{◌≡◌, ℕ, ◌+◌, ◌-◌, ◌^◌, ◌<◌, ◌≤◌, List, ◌∷◌, length, drop, IfOk, IfErr, OnOk, OnErr};
+ghost use Rattle.std.specs.Prelude.{◌≡◌, ◌↔◌, ℕ, ◌+◌, ◌-◌, ◌^◌, ◌<◌, ◌≤◌, List, ◌∷◌, length, drop, IsTrue, None, IfSome, IfOk, IfErr, OnOk, OnErr};
 ghost use Rattle.etherparse.specs.Bytes.{overwritten};
 ghost use Rattle.etherparse.specs.LinkExt.{ext_header_view};
 ghost use Rattle.etherparse.specs.Header as headers;
@@ -7,7 +7,7 @@ ghost use Rattle.etherparse.specs.Header.{Header, FitsHeader, header_bytes, head
 ghost use Rattle.etherparse.specs.Macsec.{sec_tag_view};
 ghost use Rattle.etherparse.specs.Arp.{arp_bytes};
 ghost use Rattle.ether_packet.specs.Building.{vlan_type as vlan_type_of, type_of, before as header_before, is_readable, IsChain, AllFit};
-ghost use Rattle.ether_packet.specs.Builder.{link_header, content_headers, content_type, content_bytes, content_len as content_len_of, inner_headers, packet_len, IsEthernet, IsOtherLink, HasPacketType, IsSealedAt, IsWritten, RefusesPacket};
+ghost use Rattle.ether_packet.specs.Builder.{link_header, content_headers, content_type, content_bytes, content_len as content_len_of, inner_headers, packet_len, IsEthernet, IsOtherLink, HasPacketType, IsSealedAt, IsWritten, RefusesPacket, RefusesSpace};
 
 use crate::BuildError;
 use etherparse::err::{Layer, SliceWriteSpaceError};
@@ -75,14 +75,22 @@ impl<'a, 'b> PacketBuilder<'a, 'b> {
     ///   hardware type.
     /// - [`BuildError::Sealed`]: another header follows a SecTag whose payload is encrypted or changed. It names the index
     ///   of the first such SecTag in `link_exts`.
-    /// - [`BuildError::Space`]: the target is shorter than [`size`](Self::size).
+    /// - [`BuildError::Space`]: the target is shorter than [`size`](Self::size). An Ethernet II header, VLAN tags and what
+    ///   follows them are refused for nothing else.
     pub fn write(&self, target: &mut [u8]) -> Result<usize, BuildError>
         ensures ok { IfOk result (λ end. IsWritten self.now target.old end target.new) }
         ensures refused { IfErr result (RefusesPacket self.now target.old) }
+        ensures space { IsEthernet self.now.link → IsChain (inner_headers self.now)
+            → IfErr result (RefusesSpace self.now target.old) }
         ensures kept { OnErr result (target.new ≡ target.old) }
     {
-        require_ethernet(&self.link)?;
-        let required_len = self.readable_len()?;
+        if let Some(hardware_type) = other_link(&self.link) {
+            return Err(BuildError::HardwareType(hardware_type));
+        }
+        let required_len = match self.readable_len() {
+            Ok(required_len) => required_len,
+            Err(index) => return Err(BuildError::Sealed(index)),
+        };
         let len = target.len();
         if len < required_len {
             return Err(BuildError::Space(SliceWriteSpaceError {
@@ -96,39 +104,34 @@ impl<'a, 'b> PacketBuilder<'a, 'b> {
         Ok(required_len)
     }
 
-    /// The length of the packet, if each header that another one follows has a payload that can be read.
+    /// The length of the packet, if each header that another one follows has a payload that can be read; otherwise the
+    /// index of the first that hasn't.
     #[inline(always)]
-    fn readable_len(&self) -> Result<usize, BuildError>
+    fn readable_len(&self) -> Result<usize, usize>
         ensures len { IfOk result (λ len. len ≡ packet_len self.now) }
         ensures chain { OnOk result (IsChain (inner_headers self.now)) }
-        ensures sealed { IfErr result
-            (λ e. (i : ℕ) × (e ≡ BuildError.Sealed i) × IsSealedAt (inner_headers self.now) i) }
+        ensures sealed { IfErr result (IsSealedAt (inner_headers self.now)) }
     {
         let exts = self.link_exts;
-        let followed = self.followed();
         let mut len = self.link.header_len() + content_len(&self.content);
         for i in 0..exts.len() {
             len += exts[i].header_len();
-            if !is_readable_ext(&exts[i]) && i < followed {
-                return Err(BuildError::Sealed(i));
+            if !is_readable_ext(&exts[i]) && self.is_followed(i) {
+                return Err(i);
             }
         }
         Ok(len)
     }
 
-    /// How many extensions another header follows.
-    fn followed(&self) -> usize
-        ensures within { result ≤ length self.now.link_exts.now }
-        ensures follows { (i : ℕ) → i < result
-            → 1 ≤ length (drop (i + 1) self.now.link_exts.now)
-            + length (content_headers self.now.content) }
-        ensures last { length (drop result self.now.link_exts.now)
-            + length (content_headers self.now.content) ≤ 1 }
+    /// Whether another header follows the extension at an index. It is asked for those that can't be read alone.
+    #[cold]
+    #[inline(never)]
+    fn is_followed(&self, i: usize) -> bool
+        requires { i < length self.now.link_exts.now }
+        ensures { IsTrue result ↔ (i + 1 < length self.now.link_exts.now
+            + length (content_headers self.now.content)) }
     {
-        match self.content {
-            PacketContent::Payload(..) => self.link_exts.len().saturating_sub(1),
-            PacketContent::Arp(_) => self.link_exts.len(),
-        }
+        i + 1 < self.link_exts.len() || matches!(self.content, PacketContent::Arp(_))
     }
 
     /// Writes a packet of a known length, the last part first: what follows each header is then known when it is
@@ -161,16 +164,17 @@ struct Front {
     vlan_type: EtherType,
 }
 
-/// Requires that an ether type can follow the header.
-fn require_ethernet(link: &LinkHeader) -> Result<(), BuildError>
-    ensures ok { OnOk result (IsEthernet link.now) }
-    ensures other { IfErr result (IsOtherLink link.now) }
+/// The hardware type of a link whose header no ether type can follow.
+#[inline(always)]
+fn other_link(link: &LinkHeader) -> Option<ArpHardwareId>
+    ensures none { result ≡ None → IsEthernet link.now }
+    ensures other { IfSome result (λ t. IsOtherLink link.now (BuildError.HardwareType t)) }
 {
     match link {
         LinkHeader::LinuxSll(header) if header.arp_hrd_type != ArpHardwareId::ETHERNET => {
-            Err(BuildError::HardwareType(header.arp_hrd_type))
+            Some(header.arp_hrd_type)
         }
-        _ => Ok(()),
+        _ => None,
     }
 }
 
@@ -240,9 +244,9 @@ fn write_sec_tag(
         (header_before (headers.Macsec (sec_tag_view tag.now)) ether_type.0 following) }
     ensures start { result + header_len (headers.Macsec (sec_tag_view tag.now)) ≡ end }
 {
-    let at = end - tag.header_len();
-    let tag = sec_tag_before(tag, ether_type, following);
-    write_at(target, at, tag.to_bytes().as_slice());
+    let bytes = sec_tag_before(tag, ether_type, following).to_bytes();
+    let at = end - bytes.len();
+    write_at(target, at, bytes.as_slice());
     at
 }
 
