@@ -1,7 +1,8 @@
 -- Which headers of a builder can be followed, and how long they are.
-use Rattle.std.proofs.Common.{◌≡◌, ℕ, suc, ◌+◌, ◌*◌, ◌<◌, ◌≤◌, List, [], ◌∷◌, ◌++◌, length, take, drop, drop_of_length-le, slice_index_or, refl, sym, ap, subst, ◌∙◌, arith, append_assoc, true, false}
+use Rattle.std.proofs.Common.{◌≡◌, ℕ, suc, ◌+◌, ◌-◌, ◌*◌, ◌<◌, ◌≤◌, List, [], ◌∷◌, ◌++◌, length, take, drop, drop_of_length-le, slice_index_or, refl, sym, ap, subst, ◌∙◌, arith, append_assoc, inl, inr, true, false}
 use Rattle.std.specs.Prelude.{map}
 use Rattle.std.proofs.Math.Seq.{drop-cons, take-suc}
+use Rattle.std.proofs.lemmas.Bool.{cases_lt}
 use Rattle.std.proofs.lemmas.List.{length-append, length-take-le, map-append, take-append-drop}
 use Rattle.etherparse.specs.Types.LinkExtHeader.{LinkExtHeader}
 use Rattle.etherparse.specs.LinkExt.{ext_header_view}
@@ -42,6 +43,28 @@ length-views (x ∷ xs) = ap suc (length-views xs)
 pub readable_one_more : (hs : List Header) (h : Header) → AllReadable hs → is_readable h ≡ true → AllReadable (hs ++ h ∷ [])
 readable_one_more [] h all is = (is, tt)
 readable_one_more (g ∷ hs) h all is = (all.0, readable_one_more hs h all.1 is)
+
+pub content_short : (c : PacketContent) → length (content_headers c) ≤ 1
+content_short (contents.Payload t bytes) = omega arith
+content_short (contents.Arp packet) = omega arith
+
+-- how many extensions another header follows
+abbrev pub followed : List LinkExtHeader → PacketContent → ℕ
+followed xs c = length xs + length (content_headers c) - 1
+
+-- all before an index that another header follows can be read
+abbrev pub ReadTo : (xs : List LinkExtHeader) (followed i : ℕ) → Type 0
+ReadTo xs followed i = (n : ℕ) → n ≤ i → n ≤ followed → AllReadable (views (take n xs))
+
+read_up_to : (xs : List LinkExtHeader) (followed i n : ℕ) (d : LinkExtHeader) → i < length xs → ReadTo xs followed i → (i < followed → is_readable (ext_header_view (slice_index_or xs i d)) ≡ true) → n ≤ followed
+    → n ≡ i + 1 → AllReadable (views (take n xs))
+read_up_to xs followed i n d lt so_far is few e =
+    subst (λ (k : ℕ). AllReadable (views (take k xs))) (sym e)
+    (subst AllReadable (sym (take_next xs i d lt)) (readable_one_more _ (ext_header_view (slice_index_or xs i d)) (so_far i (omega arith) (omega (arith, few, e))) (is (omega (arith, few, e)))))
+
+pub read_next : (xs : List LinkExtHeader) (followed i : ℕ) (d : LinkExtHeader) → i < length xs → ReadTo xs followed i → (i < followed → is_readable (ext_header_view (slice_index_or xs i d)) ≡ true) → ReadTo xs followed (i + 1)
+read_next xs followed i d lt so_far is n le few =
+    elim (cases_lt i n) [ inl past ↦ read_up_to xs followed i n d lt so_far is few (omega (arith, past, le)) | inr within ↦ so_far n within few ]
 
 -- all but the last one can be read
 pub chain_from : (front back : List Header) → AllReadable front → length back ≤ 1 → IsChain (front ++ back)
@@ -85,6 +108,17 @@ is_sealed xs i content d lt all sealed follows =
     let m = length-views (drop (i + 1) xs) in
     let t : length (views (take i xs)) ≡ i = length-views (take i xs) ∙ length-take-le i xs (omega (arith, lt)) in
     sealed_before xs i content (views (drop (i + 1) xs) ++ content) (ext_header_view (slice_index_or xs i d)) (omega (arith, lt)) all (drop_next xs i d lt) sealed t refl (omega (arith, n, m, follows))
+
+-- ---- what is refused
+
+unread_last : (front : List Header) (h g : Header) (later : List Header) → IsChain (front ++ h ∷ g ∷ later) → is_readable h ≡ false → ⊥
+unread_last [] h g later chain sealed = let f : true ≡ false = sym chain.0 ∙ sealed in absurd cc
+unread_last (x ∷ []) h g later chain sealed = unread_last [] h g later chain.1 sealed
+unread_last (x ∷ y ∷ front) h g later chain sealed = unread_last (y ∷ front) h g later chain.1 sealed
+
+-- nothing is sealed where all that others follow can be read
+pub chain_unsealed : (hs : List Header) (i : ℕ) → IsChain hs → IsSealedAt hs i → ⊥
+chain_unsealed hs i chain s = unread_last s.front s.sealed s.follows s.later (subst IsChain s.split chain) s.unreadable
 
 -- ---- lengths
 

@@ -45,7 +45,7 @@ finish_is : (o : Option ℕ) (start trailer finish n : ℕ) → trailer ≡ 0 �
 finish_is None start trailer finish n zero named e = omega arith
 finish_is (Some p) start trailer finish n zero named e = let k = named p refl in omega arith
 
-length-headers : (x : Expectation) (hs : List Header) (rest : List ℕ) → Fits x hs (length rest) → length (flat_map header_bytes hs ++ rest) ≡ place (length rest) hs
+pub length-headers : (x : Expectation) (hs : List Header) (rest : List ℕ) → Fits x hs (length rest) → length (flat_map header_bytes hs ++ rest) ≡ place (length rest) hs
 length-headers x [] rest fits = refl
 length-headers x (h ∷ hs) rest (here, later) =
     let tail = flat_map header_bytes hs ++ rest in

@@ -106,3 +106,8 @@ pub data RefusesPacket (p : PacketBuilder) (target : List ℕ) : BuildError → 
   hardware_type : (e : BuildError) → IsOtherLink p.link e → RefusesPacket p target e
   sealed : (i : ℕ) → IsEthernet p.link → IsSealedAt (inner_headers p) i → RefusesPacket p target (errors.Sealed i)
   space : (e : SliceWriteSpaceError) → IsEthernet p.link → IsChain (inner_headers p) → IsRefusedSpace (packet_len p) layers.EtherPayload target e → RefusesPacket p target (errors.Space e)
+
+-- the target is too short, and nothing else is refused
+abbrev pub RefusesSpace : (p : PacketBuilder) (target : List ℕ) → BuildError → Type 0
+RefusesSpace p target (errors.Space e) = IsRefusedSpace (packet_len p) layers.EtherPayload target e
+RefusesSpace p target e = ⊥

@@ -11,12 +11,16 @@ use Rattle.ether_peel.specs.Grammar.Stack.{Ending, Stack, whole, Walk}
 
 -- ---- what a header announces
 
--- The ether type that announces these headers, or a payload of type t if there is none: of a VLAN tag that of a service tag if
--- another tag follows it, and that of a customer tag otherwise (IEEE 802.1Q, table 9-1).
+-- The ether type that announces a VLAN tag before these headers: that of a service tag if another tag follows it, and that of a
+-- customer tag otherwise (IEEE 802.1Q, table 9-1).
+abbrev pub vlan_type : List Header → ℕ
+vlan_type (headers.Vlan inner ∷ hs) = 0x88A8
+vlan_type hs = 0x8100
+
+-- the ether type that announces these headers, or a payload of type t if there is none
 abbrev pub type_of : List Header → ℕ → ℕ
 type_of [] t = t
-type_of (headers.Vlan v ∷ headers.Vlan inner ∷ hs) t = 0x88A8
-type_of (headers.Vlan v ∷ hs) t = 0x8100
+type_of (headers.Vlan v ∷ hs) t = vlan_type hs
 type_of (headers.Macsec m ∷ hs) t = 0x88E5
 type_of (headers.Arp a ∷ hs) t = 0x0806
 type_of (h ∷ hs) t = 0

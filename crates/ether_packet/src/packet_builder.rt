@@ -1,10 +1,13 @@
 //! A packet to be written.
-ghost use Rattle.std.specs.Prelude.{◌≡◌, ℕ, ◌+◌, ◌^◌, ◌<◌, ◌≤◌, ◌++◌, length, map, drop, IfOk, IfErr, OnOk, OnErr};
+ghost use Rattle.std.specs.Prelude.{◌≡◌, ◌↔◌, ℕ, ◌+◌, ◌-◌, ◌^◌, ◌<◌, ◌≤◌, List, ◌∷◌, length, drop, IsTrue, None, IfSome, IfOk, IfErr, OnOk, OnErr};
 ghost use Rattle.etherparse.specs.Bytes.{overwritten};
 ghost use Rattle.etherparse.specs.LinkExt.{ext_header_view};
-ghost use Rattle.etherparse.specs.Header.{FitsHeader, header_bytes, header_len};
-ghost use Rattle.ether_packet.specs.Building.{type_of, before as header_before, is_readable, IsChain, AllFit};
-ghost use Rattle.ether_packet.specs.Builder.{link_header, content_headers, content_type, content_bytes, content_len as content_len_of, inner_headers, packet_len, IsEthernet, IsOtherLink, HasPacketType, IsSealedAt, IsWritten, RefusesPacket};
+ghost use Rattle.etherparse.specs.Header as headers;
+ghost use Rattle.etherparse.specs.Header.{Header, FitsHeader, header_bytes, header_len};
+ghost use Rattle.etherparse.specs.Macsec.{sec_tag_view};
+ghost use Rattle.etherparse.specs.Arp.{arp_bytes};
+ghost use Rattle.ether_packet.specs.Building.{vlan_type as vlan_type_of, type_of, before as header_before, is_readable, IsChain, AllFit};
+ghost use Rattle.ether_packet.specs.Builder.{link_header, content_headers, content_type, content_bytes, content_len as content_len_of, inner_headers, packet_len, IsEthernet, IsOtherLink, HasPacketType, IsSealedAt, IsWritten, RefusesPacket, RefusesSpace};
 
 use crate::BuildError;
 use etherparse::err::{Layer, SliceWriteSpaceError};
@@ -72,15 +75,22 @@ impl<'a, 'b> PacketBuilder<'a, 'b> {
     ///   hardware type.
     /// - [`BuildError::Sealed`]: another header follows a SecTag whose payload is encrypted or changed. It names the index
     ///   of the first such SecTag in `link_exts`.
-    /// - [`BuildError::Space`]: the target is shorter than [`size`](Self::size).
+    /// - [`BuildError::Space`]: the target is shorter than [`size`](Self::size). An Ethernet II header, VLAN tags and what
+    ///   follows them are refused for nothing else.
     pub fn write(&self, target: &mut [u8]) -> Result<usize, BuildError>
         ensures ok { IfOk result (λ end. IsWritten self.now target.old end target.new) }
         ensures refused { IfErr result (RefusesPacket self.now target.old) }
+        ensures space { IsEthernet self.now.link → IsChain (inner_headers self.now)
+            → IfErr result (RefusesSpace self.now target.old) }
         ensures kept { OnErr result (target.new ≡ target.old) }
     {
-        require_ethernet(&self.link)?;
-        self.require_readable()?;
-        let required_len = self.size();
+        if let Some(hardware_type) = other_link(&self.link) {
+            return Err(BuildError::HardwareType(hardware_type));
+        }
+        let required_len = match self.readable_len() {
+            Ok(required_len) => required_len,
+            Err(index) => return Err(BuildError::Sealed(index)),
+        };
         let len = target.len();
         if len < required_len {
             return Err(BuildError::Space(SliceWriteSpaceError {
@@ -90,87 +100,81 @@ impl<'a, 'b> PacketBuilder<'a, 'b> {
                 layer_start_offset: 0,
             }));
         }
-        self.write_whole(target);
+        self.write_whole(target, required_len);
         Ok(required_len)
     }
 
-    /// Requires that each header which another one follows has a payload that can be read.
-    fn require_readable(&self) -> Result<(), BuildError>
-        ensures ok { OnOk result (IsChain (inner_headers self.now)) }
-        ensures sealed { IfErr result
-            (λ e. (i : ℕ) × (e ≡ BuildError.Sealed i) × IsSealedAt (inner_headers self.now) i) }
+    /// The length of the packet, if each header that another one follows has a payload that can be read; otherwise the
+    /// index of the first that hasn't.
+    #[inline(always)]
+    fn readable_len(&self) -> Result<usize, usize>
+        ensures len { IfOk result (λ len. len ≡ packet_len self.now) }
+        ensures chain { OnOk result (IsChain (inner_headers self.now)) }
+        ensures sealed { IfErr result (IsSealedAt (inner_headers self.now)) }
     {
-        for i in 0..self.followed() {
-            if !is_readable_ext(&self.link_exts[i]) {
-                return Err(BuildError::Sealed(i));
+        let exts = self.link_exts;
+        let mut len = self.link.header_len() + content_len(&self.content);
+        for i in 0..exts.len() {
+            len += exts[i].header_len();
+            if !is_readable_ext(&exts[i]) && self.is_followed(i) {
+                return Err(i);
             }
         }
-        Ok(())
+        Ok(len)
     }
 
-    /// How many extensions another header follows.
-    fn followed(&self) -> usize
-        ensures within { result ≤ length self.now.link_exts.now }
-        ensures follows { (i : ℕ) → i < result
-            → 1 ≤ length (drop (i + 1) self.now.link_exts.now)
-            + length (content_headers self.now.content) }
-        ensures last { length (drop result self.now.link_exts.now)
-            + length (content_headers self.now.content) ≤ 1 }
+    /// Whether another header follows the extension at an index. It is asked for those that can't be read alone.
+    #[cold]
+    #[inline(never)]
+    fn is_followed(&self, i: usize) -> bool
+        requires { i < length self.now.link_exts.now }
+        ensures { IsTrue result ↔ (i + 1 < length self.now.link_exts.now
+            + length (content_headers self.now.content)) }
     {
-        match self.content {
-            PacketContent::Payload(..) => self.link_exts.len().saturating_sub(1),
-            PacketContent::Arp(_) => self.link_exts.len(),
-        }
+        i + 1 < self.link_exts.len() || matches!(self.content, PacketContent::Arp(_))
     }
 
-    /// Writes all headers and the payload.
-    fn write_whole(&self, target: &mut [u8])
+    /// Writes a packet of a known length, the last part first: what follows each header is then known when it is
+    /// written.
+    #[inline(always)]
+    fn write_whole(&self, target: &mut [u8], len: usize)
         requires ethernet { IsEthernet self.now.link }
         requires chain { IsChain (inner_headers self.now) }
-        requires room { packet_len self.now ≤ length target.old }
-        ensures { IsWritten self.now target.old (packet_len self.now) target.new }
+        requires len { len ≡ packet_len self.now }
+        requires room { len ≤ length target.old }
+        ensures { IsWritten self.now target.old len target.new }
     {
-        let end = self.size();
-        let mut at = write_link(target, &self.link, self.type_at(0));
-        for i in 0..self.link_exts.len() {
-            let ext = &self.link_exts[i];
-            let following = end - at - ext.header_len();
-            at = write_ext(target, at, &before(ext, self.type_at(i + 1), following));
+        let exts = self.link_exts;
+        let mut front = write_content(target, len, &self.content);
+        for i in (0..exts.len()).rev() {
+            front = write_ext_before(target, len, &exts[i], front);
         }
-        write_content(target, at, &self.content);
-    }
-
-    /// The ether type that announces the extension at a place, or what follows the last one.
-    fn type_at(&self, i: usize) -> EtherType
-        requires { i ≤ length self.now.link_exts.now }
-        ensures { result.0
-            ≡ type_of (map ext_header_view (drop i self.now.link_exts.now)
-            ++ content_headers self.now.content) (content_type self.now.content) }
-    {
-        match (self.link_exts.get(i), self.link_exts.get(i + 1)) {
-            (Some(LinkExtHeader::Macsec(_)), _) => EtherType::MACSEC,
-            (Some(LinkExtHeader::Vlan(_)), Some(LinkExtHeader::Vlan(_))) => {
-                EtherType::PROVIDER_BRIDGING
-            }
-            (Some(LinkExtHeader::Vlan(_)), _) => EtherType::VLAN_TAGGED_FRAME,
-            (None, _) => match &self.content {
-                PacketContent::Payload(ether_type, _) => *ether_type,
-                PacketContent::Arp(_) => EtherType::ARP,
-            },
-        }
+        write_link(target, &self.link, front.ether_type);
     }
 }
 
-/// Requires that an ether type can follow the header.
-fn require_ethernet(link: &LinkHeader) -> Result<(), BuildError>
-    ensures ok { OnOk result (IsEthernet link.now) }
-    ensures other { IfErr result (IsOtherLink link.now) }
+/// The front of what is written of a packet so far.
+#[derive(Clone, Copy)]
+struct Front {
+    /// Where it starts.
+    at: usize,
+    /// What announces it.
+    ether_type: EtherType,
+    /// What announces a VLAN tag before it.
+    vlan_type: EtherType,
+}
+
+/// The hardware type of a link whose header no ether type can follow.
+#[inline(always)]
+fn other_link(link: &LinkHeader) -> Option<ArpHardwareId>
+    ensures none { result ≡ None → IsEthernet link.now }
+    ensures other { IfSome result (λ t. IsOtherLink link.now (BuildError.HardwareType t)) }
 {
     match link {
         LinkHeader::LinuxSll(header) if header.arp_hrd_type != ArpHardwareId::ETHERNET => {
-            Err(BuildError::HardwareType(header.arp_hrd_type))
+            Some(header.arp_hrd_type)
         }
-        _ => Ok(()),
+        _ => None,
     }
 }
 
@@ -184,33 +188,90 @@ fn is_readable_ext(ext: &LinkExtHeader) -> bool
     }
 }
 
-/// A tag before a number of bytes that an ether type announces.
-fn before(ext: &LinkExtHeader, ether_type: EtherType, following: usize) -> LinkExtHeader
-    ensures { ext_header_view result
-        ≡ header_before (ext_header_view ext.now) ether_type.0 following }
+/// Writes a tag before the front of a packet of a known length.
+#[inline(always)]
+fn write_ext_before(target: &mut [u8], len: usize, ext: &LinkExtHeader, front: Front) -> Front
+    requires start { header_len (ext_header_view ext.now) ≤ front.at }
+    requires front { front.at ≤ len }
+    requires end { len ≤ length target.old }
+    ensures bytes { target.new ≡ overwritten target.old result.at (header_bytes
+        (header_before (ext_header_view ext.now) front.ether_type.0 (len - front.at))) }
+    ensures fits { FitsHeader
+        (header_before (ext_header_view ext.now) front.ether_type.0 (len - front.at)) }
+    ensures start { result.at + header_len (ext_header_view ext.now) ≡ front.at }
+    ensures ether_type { (hs : List Header) (t : ℕ) → front.vlan_type.0 ≡ vlan_type_of hs
+        → result.ether_type.0 ≡ type_of (ext_header_view ext.now ∷ hs) t }
+    ensures vlan_type { (hs : List Header)
+        → result.vlan_type.0 ≡ vlan_type_of (ext_header_view ext.now ∷ hs) }
 {
     match ext {
-        LinkExtHeader::Vlan(tag) => LinkExtHeader::Vlan(SingleVlanHeader { ether_type, ..*tag }),
-        LinkExtHeader::Macsec(tag) => {
-            let mut tag = *tag;
-            if let MacsecPType::Unmodified(_) = tag.ptype {
-                tag.ptype = MacsecPType::Unmodified(ether_type);
+        LinkExtHeader::Vlan(tag) => {
+            let at = front.at - SingleVlanHeader::LEN;
+            let tag = SingleVlanHeader {
+                ether_type: front.ether_type,
+                ..*tag
+            };
+            put_at(target, at, tag.to_bytes());
+            Front {
+                at,
+                ether_type: front.vlan_type,
+                vlan_type: EtherType::PROVIDER_BRIDGING,
             }
-            tag.set_payload_len(following);
-            LinkExtHeader::Macsec(tag)
         }
+        LinkExtHeader::Macsec(tag) => Front {
+            at: write_sec_tag(target, front.at, tag, front.ether_type, len - front.at),
+            ether_type: EtherType::MACSEC,
+            vlan_type: EtherType::VLAN_TAGGED_FRAME,
+        },
     }
 }
 
-/// Writes the header of a link, and returns where it ends.
-fn write_link(target: &mut [u8], link: &LinkHeader, ether_type: EtherType) -> usize
+/// Writes a SecTag so that it ends at a place, before a number of bytes that an ether type announces, and returns where
+/// it starts. Inlined, it would take the registers of the loop over the tags.
+#[inline(never)]
+fn write_sec_tag(
+    target: &mut [u8],
+    end: usize,
+    tag: &MacsecHeader,
+    ether_type: EtherType,
+    following: usize,
+) -> usize
+    requires start { header_len (headers.Macsec (sec_tag_view tag.now)) ≤ end }
+    requires end { end ≤ length target.old }
+    ensures bytes { target.new ≡ overwritten target.old result (header_bytes
+        (header_before (headers.Macsec (sec_tag_view tag.now)) ether_type.0 following)) }
+    ensures fits { FitsHeader
+        (header_before (headers.Macsec (sec_tag_view tag.now)) ether_type.0 following) }
+    ensures start { result + header_len (headers.Macsec (sec_tag_view tag.now)) ≡ end }
+{
+    let bytes = sec_tag_before(tag, ether_type, following).to_bytes();
+    let at = end - bytes.len();
+    write_at(target, at, bytes.as_slice());
+    at
+}
+
+/// A SecTag before a number of bytes that an ether type announces.
+fn sec_tag_before(tag: &MacsecHeader, ether_type: EtherType, following: usize) -> MacsecHeader
+    ensures { headers.Macsec (sec_tag_view result)
+        ≡ header_before (headers.Macsec (sec_tag_view tag.now)) ether_type.0 following }
+{
+    let mut tag = *tag;
+    if let MacsecPType::Unmodified(_) = tag.ptype {
+        tag.ptype = MacsecPType::Unmodified(ether_type);
+    }
+    tag.set_payload_len(following);
+    tag
+}
+
+/// Writes the header of a link.
+#[inline(always)]
+fn write_link(target: &mut [u8], link: &LinkHeader, ether_type: EtherType)
     requires { header_len (link_header link.now) ≤ length target.old }
     ensures bytes { target.new
         ≡ overwritten target.old 0
         (header_bytes (header_before (link_header link.now) ether_type.0 0)) }
     ensures fits { FitsHeader (header_before (link_header link.now) ether_type.0 0) }
     ensures packet_type { HasPacketType link.now }
-    ensures end { result ≡ header_len (link_header link.now) }
 {
     match link {
         LinkHeader::Ethernet2(header) => {
@@ -218,28 +279,27 @@ fn write_link(target: &mut [u8], link: &LinkHeader, ether_type: EtherType) -> us
                 ether_type,
                 ..*header
             };
-            write_at(target, 0, &header.to_bytes())
+            put_at(target, 0, header.to_bytes());
         }
         LinkHeader::LinuxSll(header) => {
             let header = LinuxSllHeader {
                 protocol_type: LinuxSllProtocolType::EtherType(ether_type),
                 ..*header
             };
-            write_at(target, 0, &header.to_bytes())
+            put_at(target, 0, header.to_bytes());
         }
     }
 }
 
-/// Writes a tag from a place on, and returns where it ends.
-pub(crate) fn write_ext(target: &mut [u8], at: usize, ext: &LinkExtHeader) -> usize
+/// Writes a tag from a place on.
+pub(crate) fn write_ext(target: &mut [u8], at: usize, ext: &LinkExtHeader)
     requires { at + header_len (ext_header_view ext.now) ≤ length target.old }
     ensures bytes { target.new
         ≡ overwritten target.old at (header_bytes (ext_header_view ext.now)) }
     ensures fits { FitsHeader (ext_header_view ext.now) }
-    ensures end { result ≡ at + header_len (ext_header_view ext.now) }
 {
     match ext {
-        LinkExtHeader::Vlan(tag) => write_at(target, at, &tag.to_bytes()),
+        LinkExtHeader::Vlan(tag) => put_at(target, at, tag.to_bytes()),
         LinkExtHeader::Macsec(tag) => write_at(target, at, tag.to_bytes().as_slice()),
     }
 }
@@ -255,26 +315,76 @@ fn content_len(content: &PacketContent<'_>) -> usize
     }
 }
 
-/// Writes an ARP packet or a payload from a place on, and returns where it ends.
-fn write_content(target: &mut [u8], at: usize, content: &PacketContent<'_>) -> usize
-    requires { at + content_len_of content.now ≤ length target.old }
-    ensures bytes { target.new ≡ overwritten target.old at (content_bytes content.now) }
+/// Writes an ARP packet or a payload to the end of a packet of a known length.
+#[inline(always)]
+fn write_content(target: &mut [u8], len: usize, content: &PacketContent<'_>) -> Front
+    requires start { content_len_of content.now ≤ len }
+    requires end { len ≤ length target.old }
+    ensures bytes { target.new ≡ overwritten target.old result.at (content_bytes content.now) }
     ensures fits { AllFit (content_headers content.now) }
-    ensures end { result ≡ at + content_len_of content.now }
+    ensures start { result.at + content_len_of content.now ≡ len }
+    ensures ether_type { result.ether_type.0
+        ≡ type_of (content_headers content.now) (content_type content.now) }
+    ensures vlan_type { result.vlan_type.0 ≡ vlan_type_of (content_headers content.now) }
 {
+    let vlan_type = EtherType::VLAN_TAGGED_FRAME;
     match content {
-        PacketContent::Payload(_, bytes) => write_at(target, at, bytes),
-        PacketContent::Arp(packet) => write_at(target, at, packet.to_bytes().as_slice()),
+        PacketContent::Payload(ether_type, bytes) => {
+            let at = len - bytes.len();
+            write_at(target, at, bytes);
+            Front {
+                at,
+                ether_type: *ether_type,
+                vlan_type,
+            }
+        }
+        PacketContent::Arp(packet) => Front {
+            at: write_arp(target, len, packet),
+            ether_type: EtherType::ARP,
+            vlan_type,
+        },
     }
 }
 
-/// Replaces the bytes of a target from a place on, and returns where they end.
-fn write_at(target: &mut [u8], at: usize, bytes: &[u8]) -> usize
-    requires { at + length bytes.now ≤ length target.old }
-    ensures bytes { target.new ≡ overwritten target.old at bytes.now }
-    ensures end { result ≡ at + length bytes.now }
+/// Writes an ARP packet so that it ends at a place, and returns where it starts. Inlined, its 1,028 bytes would be on the
+/// stack of every packet.
+#[inline(never)]
+fn write_arp(target: &mut [u8], end: usize, packet: &ArpPacket) -> usize
+    requires start { header_len (headers.Arp packet.now) ≤ end }
+    requires end { end ≤ length target.old }
+    ensures bytes { target.new ≡ overwritten target.old result (arp_bytes packet.now) }
+    ensures fits { FitsHeader (headers.Arp packet.now) }
+    ensures start { result + header_len (headers.Arp packet.now) ≡ end }
 {
-    let end = at + bytes.len();
-    target[at..end].copy_from_slice(bytes);
-    end
+    let at = end - packet.packet_len();
+    write_at(target, at, packet.to_bytes().as_slice());
+    at
+}
+
+/// Replaces the bytes of a target from a place on.
+fn write_at(target: &mut [u8], at: usize, bytes: &[u8])
+    requires { at + length bytes.now ≤ length target.old }
+    ensures { target.new ≡ overwritten target.old at bytes.now }
+{
+    target[at..at + bytes.len()].copy_from_slice(bytes);
+}
+
+/// The same with a whole array, which is written in one piece.
+#[inline(always)]
+fn put_at<const N: usize>(target: &mut [u8], at: usize, bytes: [u8; N])
+    requires { at + N ≤ length target.old }
+    ensures { target.new ≡ overwritten target.old at bytes.entry }
+{
+    fill(&mut target[at..at + N], bytes);
+}
+
+/// Replaces all bytes of a slice.
+#[inline(always)]
+fn fill<const N: usize>(slice: &mut [u8], bytes: [u8; N])
+    requires { length slice.old ≡ N }
+    ensures { slice.new ≡ bytes.entry }
+{
+    if let Some(whole) = slice.first_chunk_mut::<N>() {
+        *whole = bytes;
+    }
 }

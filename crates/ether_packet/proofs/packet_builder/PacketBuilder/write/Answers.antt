@@ -1,28 +1,26 @@
+<<<<<<< HEAD
 use Rattle.std.proofs.Common.{ℕ, length, refl, sym, subst, rules}
+=======
+use Rattle.std.proofs.Common.{ℕ, length, refl, subst}
+>>>>>>> 4a8a1f7a07d35a5a3a8c9ca11c5302bea494e446
 use Rattle.etherparse.specs.Types.Layer.TheVariants as layers
 use Rattle.etherparse.specs.WriteFront.{IsRefusedSpace}
-use Rattle.ether_packet.specs.Builder.{IsEthernet, RefusesPacket, hardware_type, sealed, space}
+use Rattle.ether_packet.specs.Builder.{hardware_type, sealed, space, inner_headers}
+use Rattle.ether_packet.proofs.Chains.{chain_unsealed}
 use Rattle.ether_packet.proofs.packet_builder.PacketBuilder.write.Goals as goal
 
-pub returns-in_err-require_ethernet-clause-refused : goal.returns-in_err-require_ethernet-clause-refused
-returns-in_err-require_ethernet-clause-refused c =
-    let h : RefusesPacket c.args.self.now c.args.target.now c.in_err-require_ethernet.field-0.0 = hardware_type _ c.in_err-require_ethernet.ensures.other in
-    search (rules, h)
+pub returns-in-Some-clause-refused : goal.returns-in-Some-clause-refused
+returns-in-Some-clause-refused c = hardware_type _ c.in-Some.ensures.other
 
-pub returns-in_err-require_readable-clause-refused : goal.returns-in_err-require_readable-clause-refused
-returns-in_err-require_readable-clause-refused c =
-    let p = c.args.self.now in
-    let ethernet : IsEthernet p.link = c.in_ok-require_ethernet.ensures.ok in
-    let k = c.in_err-require_readable.ensures.sealed in
-    let h = subst (RefusesPacket p c.args.target.now) (sym k.1) (sealed k.0 ethernet k.2) in
-    search (rules, h)
+pub returns-in-Err-clause-refused : goal.returns-in-Err-clause-refused
+returns-in-Err-clause-refused c = sealed c.in-Err.index (c.in_default.ensures.none refl) c.in-Err.ensures.sealed
+
+pub returns-in-Err-clause-space : goal.returns-in-Err-clause-space
+returns-in-Err-clause-space c = λ _ chain. chain_unsealed (inner_headers c.args.self.now) c.in-Err.index chain c.in-Err.ensures.sealed
 
 pub returns-then-len-required_len-clause-refused : goal.returns-then-len-required_len-clause-refused
 returns-then-len-required_len-clause-refused c =
-    let p = c.args.self.now in
-    let ethernet : IsEthernet p.link = c.in_ok-require_ethernet.ensures.ok in
-    let chain = c.in_ok-require_readable.ensures.ok in
-    let len = c.size-required_len.ensures in
-    space _ ethernet chain
-    (subst (λ (n : ℕ). IsRefusedSpace n layers.EtherPayload c.args.target.now (record { required_len = c.size-required_len.result; len = length c.args.target.now; layer = layers.EtherPayload; layer_start_offset = 0 })) len
+    let required_len = c.in-Ok.required_len in
+    space _ (c.in_default.ensures.none refl) c.in-Ok.ensures.chain
+    (subst (λ (n : ℕ). IsRefusedSpace n layers.EtherPayload c.args.target.now (record { required_len = required_len; len = length c.args.target.now; layer = layers.EtherPayload; layer_start_offset = 0 })) c.in-Ok.ensures.len
     (record { short = c.if-len-required_len.true; error = refl }))

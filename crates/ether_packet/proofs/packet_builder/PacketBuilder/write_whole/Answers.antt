@@ -1,47 +1,59 @@
-use Rattle.std.proofs.Common.{◌-◌, length, drop_of_length-le, ap, ◌∙◌, arith}
+use Rattle.std.proofs.Common.{◌≡◌, ℕ, ◌-◌, List, length, sym, ap, subst, ◌∙◌, arith}
 use Rattle.etherparse.specs.LinkExt.{ext_header_view}
-use Rattle.etherparse.specs.Header.{header_len}
-use Rattle.ether_packet.proofs.Building.{header_len_before}
-use Rattle.ether_packet.proofs.Filling.{room_for_link, filled_first, following_is, filled_next, filled_all}
+use Rattle.etherparse.specs.Header.{Header}
+use Rattle.ether_packet.specs.Builder.{content_type, IsWritten}
+use Rattle.ether_packet.proofs.Filling.{Filled, later, later_none, later_before, room_for_content, room_for_link, room_before, filled_content, filled_next, filled_all}
 use Rattle.ether_packet.proofs.packet_builder.PacketBuilder.write_whole.Goals as goal
 
-pub write_link-at-requires : goal.write_link-at-requires
-write_link-at-requires c = room_for_link c.args.self.now (length c.args.target.now) c.requires.room
+pub write_content-front-requires-clause-start : goal.write_content-front-requires-clause-start
+write_content-front-requires-clause-start c =
+    let room = room_for_content c.args.self.now in
+    let len = c.requires.len in
+    omega (arith, room, len)
 
 pub loop-i-init : goal.loop-i-init
 loop-i-init c =
-    let link = c.write_link-at.ensures in
-    filled_first c.args.self.now c.args.target.now c.write_link-at.new.target c.type_at.result.0 c.write_link-at.result c.type_at.ensures link.bytes link.fits link.end
+    let p = c.args.self.now in
+    let front = c.write_content-front in
+    let content = front.ensures in
+    subst (λ (hs : List Header). Filled p c.args.target.now front.new.target hs front.result.at front.result.ether_type.0 front.result.vlan_type.0) (sym (later_none p))
+    (filled_content p c.args.target.now front.new.target front.result.at front.result.ether_type.0 front.result.vlan_type.0 (content.start ∙ c.requires.len) content.bytes content.fits content.ether_type content.vlan_type)
 
-pub overflow_sub-following-in-loop-i : goal.overflow_sub-following-in-loop-i
-overflow_sub-following-in-loop-i c =
-    let all = following_is c.args.self.now c.args.target.now c.loop-i.target c.loop-i.i c.loop-i.at c.index-self-i.result c.loop-i-test.true c.loop-i.invariant in
-    let end = c.size-end.ensures in
-    let len = c.header_len.ensures.value in
-    omega (arith, all, end, len)
-
-pub write_ext-at-requires : goal.write_ext-at-requires
-write_ext-at-requires c =
-    let all = following_is c.args.self.now c.args.target.now c.loop-i.target c.loop-i.i c.loop-i.at c.index-self-i.result c.loop-i-test.true c.loop-i.invariant in
-    let kept = ap header_len c.before-in-loop-i.ensures ∙ header_len_before (ext_header_view _) c.type_at-in-loop-i.result.0 _ in
-    let room = c.requires.room in
-    let same = c.loop-i.auto.target in
-    let first = c.write_link-at.auto.target in
-    omega (arith, all, kept, room, same, first)
+pub write_ext_before-front-requires-clause-start : goal.write_ext_before-front-requires-clause-start
+write_ext_before-front-requires-clause-start c =
+    let l = c.loop-i in
+    room_before c.args.self.now c.args.target.now l.target l.i c.index-exts-i.result l.front.at l.front.ether_type.0 l.front.vlan_type.0 c.loop-i-test.true l.auto.i c.index-exts-i.is l.invariant
 
 pub loop-i-preserved : goal.loop-i-preserved
 loop-i-preserved c =
     let p = c.args.self.now in
-    let all = following_is p c.args.target.now c.loop-i.target c.loop-i.i c.loop-i.at c.index-self-i.result c.loop-i-test.true c.loop-i.invariant in
-    let end = c.size-end.ensures in
-    let len = c.header_len.ensures.value in
-    let tag = c.write_ext-at.ensures in
-    filled_next p c.args.target.now c.loop-i.target c.write_ext-at.new.target c.loop-i.i c.loop-i.at c.write_ext-at.result c.type_at-in-loop-i.result.0 (c.size-end.result - c.loop-i.at - c.header_len.result) c.index-self-i.result c.before-in-loop-i.result
-    c.loop-i-test.true c.loop-i.invariant c.type_at-in-loop-i.ensures (omega (arith, all, end, len)) c.before-in-loop-i.ensures tag.bytes tag.fits tag.end
+    let l = c.loop-i in
+    let x = c.index-exts-i.result in
+    let front = c.write_ext_before-front in
+    let tag = front.ensures in
+    let len = c.requires.len in
+    let room = c.requires.room in
+    subst (λ (hs : List Header). Filled p c.args.target.now front.new.target hs front.result.at front.result.ether_type.0 front.result.vlan_type.0) (sym (later_before p l.i x c.loop-i-test.true l.auto.i c.index-exts-i.is))
+    (filled_next p c.args.target.now l.target front.new.target (ext_header_view x) (later p l.i) l.front.at l.front.ether_type.0 l.front.vlan_type.0 front.result.at (c.args.len - l.front.at) front.result.ether_type.0 front.result.vlan_type.0
+    (omega (arith, len, room)) l.invariant tag.start (ap (λ (n : ℕ). n - l.front.at) len) tag.bytes tag.fits (tag.ether_type (later p l.i) (content_type p.content) l.invariant.tag) (tag.vlan_type (later p l.i)))
+
+pub write_link-requires : goal.write_link-requires
+write_link-requires c =
+    let len = c.requires.len in
+    let room = c.requires.room in
+    let same = c.loop-i.auto.target in
+    let first = c.write_content-front.auto.target in
+    room_for_link c.args.self.now (length c.loop-i.target) (omega (arith, len, room, same, first))
 
 pub returns : goal.returns
 returns c =
     let p = c.args.self.now in
-    let none = drop_of_length-le p.link_exts.now c.loop-i-test.false in
-    let content = c.write_content.ensures in
-    filled_all p c.args.target.now c.loop-i.target c.write_content.new.target c.loop-i.i c.loop-i.at c.requires.ethernet c.write_link-at.ensures.packet_type c.requires.chain c.requires.room none c.loop-i.invariant content.bytes content.fits
+    let l = c.loop-i in
+    let over = c.loop-i-test.false in
+    let none : l.i ≡ 0 = omega (arith, over) in
+    let so_far = subst (λ (i : ℕ). Filled p c.args.target.now l.target (later p i) l.front.at l.front.ether_type.0 l.front.vlan_type.0) none l.invariant in
+    let len = c.requires.len in
+    let room = c.requires.room in
+    let link = c.write_link.ensures in
+    subst (λ (n : ℕ). IsWritten p c.args.target.now n c.write_link.new.target) (sym len)
+    (filled_all p c.args.target.now l.target c.write_link.new.target l.front.at l.front.ether_type.0 l.front.vlan_type.0 c.requires.ethernet link.packet_type c.requires.chain (omega (arith, len, room)) so_far link.bytes link.fits)
