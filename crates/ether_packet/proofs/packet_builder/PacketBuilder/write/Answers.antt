@@ -1,8 +1,4 @@
-<<<<<<< HEAD
-use Rattle.std.proofs.Common.{ℕ, length, refl, sym, subst, rules}
-=======
 use Rattle.std.proofs.Common.{ℕ, length, refl, subst}
->>>>>>> 4a8a1f7a07d35a5a3a8c9ca11c5302bea494e446
 use Rattle.etherparse.specs.Types.Layer.TheVariants as layers
 use Rattle.etherparse.specs.WriteFront.{IsRefusedSpace}
 use Rattle.ether_packet.specs.Builder.{hardware_type, sealed, space, inner_headers}
