@@ -123,9 +123,7 @@ impl<'a, 'b> PacketBuilder<'a, 'b> {
         Ok(len)
     }
 
-    /// Whether another header follows the extension at an index. It is asked for those that can't be read alone.
-    #[cold]
-    #[inline(never)]
+    /// Whether another header follows the extension at an index.
     fn is_followed(&self, i: usize) -> bool
         requires { i < length self.now.link_exts.now }
         ensures { IsTrue result ↔ (i + 1 < length self.now.link_exts.now
@@ -346,9 +344,7 @@ fn write_content(target: &mut [u8], len: usize, content: &PacketContent<'_>) -> 
     }
 }
 
-/// Writes an ARP packet so that it ends at a place, and returns where it starts. Inlined, its 1,028 bytes would be on the
-/// stack of every packet.
-#[inline(never)]
+/// Writes an ARP packet so that it ends at a place, and returns where it starts.
 fn write_arp(target: &mut [u8], end: usize, packet: &ArpPacket) -> usize
     requires start { header_len (headers.Arp packet.now) ≤ end }
     requires end { end ≤ length target.old }
