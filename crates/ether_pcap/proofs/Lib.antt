@@ -1,2 +1,4 @@
 mod Records
 mod FileHeaders
+mod Blocks
+mod Options

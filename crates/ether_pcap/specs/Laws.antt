@@ -3,6 +3,8 @@ use Rattle.std.specs.Prelude.{◌≡◌, ℕ, List, Option}
 use Rattle.ether_base.specs.Bytes.{IsBytes}
 use Rattle.ether_pcap.specs.Numbers.{Order}
 use Rattle.ether_pcap.specs.FileHeader.{FileHeaderValue, IsFileHeader, FileRefusal, RefusesFile}
+use Rattle.ether_pcap.specs.Block.{BlockValue, BlockRefusal, BeginsBlock, RefusesBlock}
+use Rattle.ether_pcap.specs.Options.{OptionValue, HasOptions}
 use Rattle.ether_pcap.specs.Record.{RecordValue, RecordRefusal, BeginsRecord, RefusesRecord, HasRecords}
 
 -- bytes begin with at most one file header, or are refused for one reason
@@ -28,3 +30,14 @@ pub record Contents (order : Order) (bytes : List ℕ) : Type 0 where
 pub record ContentsAreOne : Type 0 where
   pub some : (order : Order) (bytes : List ℕ) → Contents order bytes
   pub one : (order : Order) (bytes : List ℕ) (c d : Contents order bytes) → (c.records ≡ d.records) × (c.rest ≡ d.rest) × (c.fault ≡ d.fault)
+
+-- bytes begin with at most one block of a pcapng file, or are refused for one reason
+pub record BlocksAreOne : Type 0 where
+  pub one : (order : Order) (bytes : List ℕ) (b c : BlockValue) → BeginsBlock order bytes b → BeginsBlock order bytes c → b ≡ c
+  pub apart : (order : Order) (bytes : List ℕ) (b : BlockValue) (r : BlockRefusal) → BeginsBlock order bytes b → RefusesBlock order bytes r → ⊥
+  pub refused : (order : Order) (bytes : List ℕ) (r s : BlockRefusal) → RefusesBlock order bytes r → RefusesBlock order bytes s → r ≡ s
+
+-- bytes have options in one way
+pub record OptionsAreOne : Type 0 where
+  pub some : (order : Order) (bytes : List ℕ) → (options : List OptionValue) × HasOptions order bytes options
+  pub one : (order : Order) (bytes : List ℕ) (options others : List OptionValue) → HasOptions order bytes options → HasOptions order bytes others → options ≡ others
