@@ -14,13 +14,13 @@ const TIME_RESOLUTION: u16 = 9;
 /// The code of the option with the length of the frame check sequence, `if_fcslen`.
 const FCS_LEN: u16 = 13;
 
-/// A view of the body of an interface description: on what packets were captured.
+/// A view of the body of an interface description (draft-ietf-opsawg-pcapng, section 4.2): on what packets were captured.
 ///
 /// ```text
-///  0          2          4          8
-///  +----------+----------+----------+-- ..
-///  |link type | reserved | snap len | options
-///  +----------+----------+----------+-- ..
+///  0           2          4          8
+///  +-----------+----------+----------+-- ..
+///  | link type | reserved | snap len | options
+///  +-----------+----------+----------+-- ..
 /// ```
 ///
 /// The interfaces of a section are counted from 0 in the order of their blocks.

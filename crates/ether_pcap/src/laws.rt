@@ -1,5 +1,5 @@
 //! The laws of the format. Each is the contract of a function that does nothing.
-ghost use Rattle.ether_pcap.specs.Laws.{FileHeadersAreOne, RecordsAreOne, ContentsAreOne, BlocksAreOne, OptionsAreOne};
+ghost use Rattle.ether_pcap.specs.Laws.{FileHeadersAreOne, RecordsAreOne, ContentsAreOne, BlocksAreOne, BodiesAreOne, SectionsAreOne, OptionsAreOne};
 
 /// Bytes begin with at most one file header, or are refused for one reason.
 pub fn file_headers_are_one()
@@ -19,6 +19,16 @@ pub fn contents_are_one()
 /// Bytes begin with at most one block of a pcapng file, or are refused for one reason.
 pub fn blocks_are_one()
     ensures { BlocksAreOne }
+{}
+
+/// The body of an interface description or of a packet has at most one value, or is refused for one reason.
+pub fn bodies_are_one()
+    ensures { BodiesAreOne }
+{}
+
+/// Bytes begin with at most one section header, or are refused for one reason.
+pub fn sections_are_one()
+    ensures { SectionsAreOne }
 {}
 
 /// Any bytes have options, in one way.
