@@ -1,2 +1,6 @@
 mod Records
 mod FileHeaders
+mod Blocks
+mod Bodies
+mod Sections
+mod Options

@@ -7,6 +7,7 @@ pub mod Laws
 pub mod Block
 pub mod Section
 pub mod Bodies
+pub mod Options
 pub mod PcapngViews
 pub mod Texts
 pub mod PcapngTexts

@@ -3,12 +3,14 @@ use Rattle.ether_pcap.specs.Block.{BlockValue, BlockRefusal}
 use Rattle.ether_pcap.specs.Block as block_rows
 use Rattle.ether_pcap.specs.Bodies.{BodyRefusal, InterfaceValue, EnhancedPacketValue, SimplePacketValue}
 use Rattle.ether_pcap.specs.Bodies as body_rows
+use Rattle.ether_pcap.specs.Options.{OptionValue}
 use Rattle.ether_pcap.specs.Section.{SectionRefusal}
 use Rattle.ether_pcap.specs.Section as section_rows
 use Rattle.ether_pcap.specs.declared.pcapng_block.PcapngBlock.{PcapngBlock}
 use Rattle.ether_pcap.specs.declared.interface_description.InterfaceDescription.{InterfaceDescription}
 use Rattle.ether_pcap.specs.declared.enhanced_packet.EnhancedPacket.{EnhancedPacket}
 use Rattle.ether_pcap.specs.declared.simple_packet.SimplePacket.{SimplePacket}
+use Rattle.ether_pcap.specs.declared.pcapng_option.PcapngOption.{PcapngOption}
 use Rattle.ether_pcap.specs.declared.block_error.BlockError.{BlockError}
 use Rattle.ether_pcap.specs.declared.block_error.BlockError.TheVariants as block_errors
 use Rattle.ether_pcap.specs.declared.body_error.BodyError.{BodyError}
@@ -26,6 +28,9 @@ block_refusal_view (block_errors.Trailer total_len trailer) = block_rows.Trailer
 
 abbrev pub interface_view : InterfaceDescription → InterfaceValue
 interface_view i = record { link_type = i.link_type.0; snap_len = i.snap_len; options = i.options.now }
+
+abbrev pub option_view : PcapngOption → OptionValue
+option_view o = record { code = o.code; value = o.value.now }
 
 abbrev pub enhanced_packet_view : EnhancedPacket → EnhancedPacketValue
 enhanced_packet_view p = record { interface = p.interface; time = p.time; original_len = p.original_len; packet = p.packet.now }

@@ -6,14 +6,15 @@ ghost use Rattle.ether_pcap.specs.PcapngViews.{enhanced_packet_view, body_refusa
 
 use crate::{BodyError, ByteOrder, PcapRecord};
 
-/// A view of the body of an enhanced packet: a packet that was captured on one of several interfaces.
+/// A view of the body of an enhanced packet (draft-ietf-opsawg-pcapng, section 4.3): a packet that was captured on one of several
+/// interfaces.
 ///
 /// ```text
-///  0           4                       12            16            20
-///  +-----------+-----------+-----------+-------------+-------------+-- ..
-///  | interface |    time, upper half first           |             |
-///  |           |           |           |captured len |original len | packet
-///  +-----------+-----------+-----------+-------------+-------------+-- ..
+///  0           4           8           12             16             20
+///  +-----------+-----------+-----------+--------------+--------------+-- ..
+///  | interface |   time,   |   time,   | captured len | original len | packet
+///  |           | high half | low half  |              |              |
+///  +-----------+-----------+-----------+--------------+--------------+-- ..
 /// ```
 ///
 /// ```

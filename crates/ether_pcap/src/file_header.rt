@@ -5,13 +5,13 @@ ghost use Rattle.ether_pcap.specs.Views.{order_of, resolution_of, file_header_vi
 
 use crate::{ByteOrder, FileHeaderError, LinkType, TimeUnit};
 
-/// The header of a classic pcap file, 24 bytes: how the records after it are to be read.
+/// The header of a classic pcap file (draft-ietf-opsawg-pcap, section 4), 24 bytes: how the records after it are to be read.
 ///
 /// ```text
-///  0          4          8                     16         20         24
-///  +----------+-----+----+---------------------+----------+----------+
-///  |  magic   |major|minor     not read        | snap len |  link    |
-///  +----------+-----+----+---------------------+----------+----------+
+///  0       4       6       8            16         20         24
+///  +-------+-------+-------+------------+----------+----------+
+///  | magic | major | minor |  not read  | snap len |   link   |
+///  +-------+-------+-------+------------+----------+----------+
 /// ```
 ///
 /// Each number is in the byte order of the machine that wrote the file, which the magic number shows. In the last number the

@@ -1,27 +1,39 @@
 //! The body of an interface description.
-ghost use Rattle.std.specs.Prelude.{IfOk, IfErr};
+ghost use Rattle.std.specs.Prelude.{◌≡◌, List, IfOk, IfErr, MatchOption, Some, None};
 ghost use Rattle.ether_pcap.specs.Bodies.{IsInterface, RefusesInterface};
+ghost use Rattle.ether_pcap.specs.Options.{OptionValue, HasOptions, value_of, byte_of};
 ghost use Rattle.ether_pcap.specs.Views.{order_of};
 ghost use Rattle.ether_pcap.specs.PcapngViews.{interface_view, body_refusal_view};
 
+use crate::pcapng_option::option_value;
 use crate::{BodyError, ByteOrder, LinkType};
 
-/// A view of the body of an interface description: on what packets were captured.
+/// The code of the option with the resolution of times, `if_tsresol`.
+const TIME_RESOLUTION: u16 = 9;
+
+/// The code of the option with the length of the frame check sequence, `if_fcslen`.
+const FCS_LEN: u16 = 13;
+
+/// A view of the body of an interface description (draft-ietf-opsawg-pcapng, section 4.2): on what packets were captured.
 ///
 /// ```text
-///  0          2          4          8
-///  +----------+----------+----------+-- ..
-///  |link type | reserved | snap len | options
-///  +----------+----------+----------+-- ..
+///  0           2          4          8
+///  +-----------+----------+----------+-- ..
+///  | link type | reserved | snap len | options
+///  +-----------+----------+----------+-- ..
 /// ```
 ///
-/// The interfaces of a section are counted from 0 in the order of their blocks. The options are not read.
+/// The interfaces of a section are counted from 0 in the order of their blocks.
 ///
 /// ```
-/// let body = [0x00, 0x01, 0x00, 0x00, 0x00, 0x04, 0x00, 0x00];
+/// let body = [
+///     0x00, 0x01, 0x00, 0x00, 0x00, 0x04, 0x00, 0x00, // link type, snap length
+///     0x00, 0x0D, 0x00, 0x01, 0x04, 0x00, 0x00, 0x00, // if_fcslen
+/// ];
 /// let interface = InterfaceDescription::from_body(ByteOrder::BigEndian, &body)?;
 /// assert_eq!(rt; interface.link_type, LinkType::ETHERNET);
 /// assert_eq!(rt; interface.snap_len, 262_144);
+/// assert_eq!(rt; interface.fcs_len(ByteOrder::BigEndian), Some(4));
 /// ```
 #[derive(Clone, Copy, PartialEq, Eq, Debug)]
 pub struct InterfaceDescription<'a> {
@@ -58,5 +70,45 @@ impl<'a> InterfaceDescription<'a> {
             snap_len: byte_order.u32_at(body, 4),
             options: &body[8..],
         })
+    }
+
+    /// The value of the first option with a code. Options are read up to the end of options or to one that is cut.
+    pub fn option(&self, byte_order: ByteOrder, code: u16) -> Option<&'a [u8]>
+        ensures { (all : List OptionValue) → HasOptions (order_of byte_order) self.now.options.now all
+            → MatchOption result (value_of code all ≡ None) (λ value. value_of code all ≡ Some value.now) }
+    {
+        option_value(byte_order, self.options, code)
+    }
+
+    /// The number in the option `if_fcslen` of one byte: the length of the frame check sequence at the end of each packet, which
+    /// Wireshark reads and writes in bytes.
+    pub fn fcs_len(&self, byte_order: ByteOrder) -> Option<u8>
+        ensures { (all : List OptionValue) → HasOptions (order_of byte_order) self.now.options.now all
+            → result ≡ byte_of (value_of 13 all) }
+    {
+        byte_option(byte_order, self.options, FCS_LEN)
+    }
+
+    /// The number in the option `if_tsresol` of one byte, which gives the unit of the times of packets. If it is below 128, a
+    /// second has as many units as ten to the power of this number; else as two to the power of its seven lower bits.
+    pub fn time_resolution(&self, byte_order: ByteOrder) -> Option<u8>
+        ensures { (all : List OptionValue) → HasOptions (order_of byte_order) self.now.options.now all
+            → result ≡ byte_of (value_of 9 all) }
+    {
+        byte_option(byte_order, self.options, TIME_RESOLUTION)
+    }
+}
+
+/// The number in the first option with a code, if its value is one byte.
+fn byte_option(byte_order: ByteOrder, options: &[u8], code: u16) -> Option<u8>
+    ensures { (all : List OptionValue) → HasOptions (order_of byte_order) options.now all → result ≡ byte_of (value_of code all) }
+{
+    let Some(value) = option_value(byte_order, options, code) else {
+        return None;
+    };
+    if value.len() == 1 {
+        Some(value[0])
+    } else {
+        None
     }
 }

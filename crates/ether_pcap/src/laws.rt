@@ -1,5 +1,5 @@
 //! The laws of the format. Each is the contract of a function that does nothing.
-ghost use Rattle.ether_pcap.specs.Laws.{FileHeadersAreOne, RecordsAreOne, ContentsAreOne};
+ghost use Rattle.ether_pcap.specs.Laws.{FileHeadersAreOne, RecordsAreOne, ContentsAreOne, BlocksAreOne, BodiesAreOne, SectionsAreOne, OptionsAreOne};
 
 /// Bytes begin with at most one file header, or are refused for one reason.
 pub fn file_headers_are_one()
@@ -14,4 +14,24 @@ pub fn records_are_one()
 /// Any bytes have records, in one way: these, what is left after them, and why it is no record.
 pub fn contents_are_one()
     ensures { ContentsAreOne }
+{}
+
+/// Bytes begin with at most one block of a pcapng file, or are refused for one reason.
+pub fn blocks_are_one()
+    ensures { BlocksAreOne }
+{}
+
+/// The body of an interface description or of a packet has at most one value, or is refused for one reason.
+pub fn bodies_are_one()
+    ensures { BodiesAreOne }
+{}
+
+/// Bytes begin with at most one section header, or are refused for one reason.
+pub fn sections_are_one()
+    ensures { SectionsAreOne }
+{}
+
+/// Any bytes have options, in one way.
+pub fn options_are_one()
+    ensures { OptionsAreOne }
 {}

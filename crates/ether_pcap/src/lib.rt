@@ -14,6 +14,7 @@ mod link_type;
 mod pcap_record;
 mod pcap_records;
 mod pcapng_block;
+mod pcapng_option;
 mod record_error;
 mod record_fault;
 mod section_error;

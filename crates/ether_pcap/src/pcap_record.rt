@@ -5,13 +5,14 @@ ghost use Rattle.ether_pcap.specs.Views.{order_of, resolution_of, record_view, r
 
 use crate::{FileHeader, RecordError, TimeUnit};
 
-/// A view of a record of a classic pcap file: a captured packet, with a header of 16 bytes before it.
+/// A view of a record of a classic pcap file (draft-ietf-opsawg-pcap, section 5): a captured packet, with a header of 16 bytes
+/// before it.
 ///
 /// ```text
-///  0          4          8             12            16
-///  +----------+----------+-------------+-------------+-- ..
-///  | seconds  | fraction |captured len |original len | packet
-///  +----------+----------+-------------+-------------+-- ..
+///  0         4          8              12             16
+///  +---------+----------+--------------+--------------+-- ..
+///  | seconds | fraction | captured len | original len | packet
+///  +---------+----------+--------------+--------------+-- ..
 /// ```
 ///
 /// Each number is in the byte order of the file.

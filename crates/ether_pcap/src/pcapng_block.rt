@@ -6,13 +6,14 @@ ghost use Rattle.ether_pcap.specs.PcapngViews.{block_view, block_refusal_view};
 
 use crate::{BlockError, ByteOrder};
 
-/// A view of a block of a pcapng file. A file is a list of them; those of unknown types are to be skipped.
+/// A view of a block of a pcapng file (draft-ietf-opsawg-pcapng, section 3.1). A file is a list of them; those of unknown types
+/// are to be skipped.
 ///
 /// ```text
-///  0          4          8                 n - 4        n
-///  +----------+----------+-- .. --+---------+-----------+
-///  |   type   | length n |  body  | padding |  length n |
-///  +----------+----------+-- .. --+---------+-----------+
+///  0      4          8                  n - 4      n
+///  +------+----------+-- .. --+---------+----------+
+///  | type | length n |  body  | padding | length n |
+///  +------+----------+-- .. --+---------+----------+
 /// ```
 ///
 /// The padding, if there is any, is part of `body`: where it begins depends on the type of the block.

@@ -7,7 +7,7 @@ ghost use Rattle.ether_pcap.specs.PcapngViews.{block_view, section_refusal_view}
 
 use crate::{ByteOrder, PcapngBlock, SectionError};
 
-/// A view of a section header, the block with which a pcapng file begins: it says the order of the bytes of the numbers in its
+/// A view of a section header (draft-ietf-opsawg-pcapng, section 4.1), the block with which a pcapng file begins: it says the order of the bytes of the numbers in its
 /// section, which reaches to the next section header. The length of the section is not read.
 ///
 /// ```

@@ -6,7 +6,8 @@ ghost use Rattle.ether_pcap.specs.PcapngViews.{simple_packet_view, body_refusal_
 
 use crate::{BodyError, ByteOrder, PcapRecord};
 
-/// A view of the body of a simple packet: a packet with no time, captured on the first interface of its section.
+/// A view of the body of a simple packet (draft-ietf-opsawg-pcapng, section 4.4): a packet with no time, captured on the first
+/// interface of its section.
 ///
 /// ```
 /// let body = [0x00, 0x00, 0x00, 0x3C, 0xFF, 0xFF, 0x00, 0x00];

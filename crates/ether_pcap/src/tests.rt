@@ -4,6 +4,7 @@ mod cuts;
 mod derived_traits;
 mod examples;
 mod file_headers;
+mod options;
 mod pcapng;
 mod pcapng_captures;
 mod records;

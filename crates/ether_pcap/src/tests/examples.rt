@@ -129,10 +129,14 @@ fn of_a_block(rt: HostRuntime) -> Result<(), Fail> {
 
 #[test]
 fn of_an_interface_description(rt: HostRuntime) -> Result<(), Fail> {
-    let body = [0x00, 0x01, 0x00, 0x00, 0x00, 0x04, 0x00, 0x00];
+    let body = [
+        0x00, 0x01, 0x00, 0x00, 0x00, 0x04, 0x00, 0x00, // link type, snap length
+        0x00, 0x0D, 0x00, 0x01, 0x04, 0x00, 0x00, 0x00, // if_fcslen
+    ];
     let interface = InterfaceDescription::from_body(ByteOrder::BigEndian, &body)?;
     check_eq!(rt; interface.link_type, LinkType::ETHERNET);
     check_eq!(rt; interface.snap_len, 262_144);
+    check_eq!(rt; interface.fcs_len(ByteOrder::BigEndian), Some(4));
     Ok(())
 }
 

@@ -1,0 +1,72 @@
+//! The options at the end of a block of a pcapng file.
+ghost use Rattle.std.specs.Prelude.{◌≡◌, ◌+◌, List, length, drop, MatchOption, Some, None};
+ghost use Rattle.ether_pcap.specs.Options.{OptionValue, BeginsOption, HasOptions, padded, value_of};
+ghost use Rattle.ether_pcap.specs.Views.{order_of};
+ghost use Rattle.ether_pcap.specs.PcapngViews.{option_view};
+
+use crate::ByteOrder;
+
+/// A view of an option of a block: its code and its value, without the padding.
+#[derive(Clone, Copy)]
+pub(crate) struct PcapngOption<'a> {
+    pub code: u16,
+    pub value: &'a [u8],
+}
+
+impl<'a> PcapngOption<'a> {
+    /// The option at the front of a slice. Returns `None` if the slice begins with the end of the options, or ends within an option.
+    pub fn first(byte_order: ByteOrder, slice: &'a [u8]) -> Option<PcapngOption<'a>>
+        ensures { MatchOption result
+            ((o : OptionValue) → BeginsOption (order_of byte_order) slice.now o → ⊥)
+            (λ o. BeginsOption (order_of byte_order) slice.now (option_view o)) }
+    {
+        if slice.len() < 4 {
+            return None;
+        }
+        let code = byte_order.u16_at(slice, 0);
+        if code == 0 {
+            return None;
+        }
+        let end = 4 + usize::from(byte_order.u16_at(slice, 2));
+        if slice.len() < end {
+            return None;
+        }
+        Some(PcapngOption {
+            code,
+            value: &slice[4..end],
+        })
+    }
+
+    /// The length of the option in bytes, with its padding.
+    pub fn option_len(&self) -> usize
+        ensures { result ≡ 4 + padded (length self.now.value.now) }
+    {
+        4 + (self.value.len() + 3) / 4 * 4
+    }
+}
+
+/// The bytes from a place on, none if there are fewer.
+pub(crate) fn bytes_from(bytes: &[u8], place: usize) -> &[u8]
+    ensures { result.now ≡ drop place bytes.now }
+{
+    if bytes.len() < place {
+        &bytes[bytes.len()..]
+    } else {
+        &bytes[place..]
+    }
+}
+
+/// The value of the first option with a code.
+pub(crate) fn option_value(byte_order: ByteOrder, options: &[u8], code: u16) -> Option<&[u8]>
+    ensures { (all : List OptionValue) → HasOptions (order_of byte_order) options.now all
+        → MatchOption result (value_of code all ≡ None) (λ value. value_of code all ≡ Some value.now) }
+{
+    let mut rest = options;
+    while let Some(option) = PcapngOption::first(byte_order, rest) {
+        if option.code == code {
+            return Some(option.value);
+        }
+        rest = bytes_from(rest, option.option_len());
+    }
+    None
+}
