@@ -2,7 +2,7 @@
 use Rattle.std.specs.Prelude.{◌≡◌, ◌≢◌, ℕ, ◌+◌, ◌-◌, ◌%◌, ◌<◌, ◌≤◌, List, length, slice_range}
 use Rattle.ether_pcap.specs.Numbers.{Order, field}
 
--- the greatest length of a block that is read, which is libpcap's
+-- the greatest length of a block that is read, the limit that libpcap starts with
 abbrev pub max_block_len : ℕ
 max_block_len = 16777216
 

@@ -4,7 +4,7 @@ use Rattle.std.specs.Prelude.{◌≡◌, ◌≢◌, ℕ, ◌+◌, ◌*◌, ◌^�
 use Rattle.ether_pcap.specs.Numbers.{Order, field}
 use Rattle.ether_pcap.specs.FileHeader.{Resolution, Microseconds, Nanoseconds}
 
--- the greatest number of captured bytes, which is the greatest snap length of libpcap
+-- the greatest number of captured bytes, which is libpcap's greatest snap length for Ethernet and cooked captures
 abbrev pub max_captured_len : ℕ
 max_captured_len = 262144
 

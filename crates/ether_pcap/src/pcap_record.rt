@@ -50,7 +50,7 @@ impl<'a> PcapRecord<'a> {
     /// The length of a record's header in bytes.
     pub const HEADER_LEN: usize = 16;
 
-    /// The greatest number of captured bytes that is read, 262,144: the greatest snap length that libpcap writes.
+    /// The greatest number of captured bytes that is read, 262,144: libpcap's greatest snap length for Ethernet and cooked captures.
     pub const MAX_CAPTURED_LEN: u32 = 262_144;
 
     /// The record at the front of a slice. Bytes after it are not part of the view.

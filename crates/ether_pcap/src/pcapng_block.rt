@@ -51,7 +51,8 @@ impl<'a> PcapngBlock<'a> {
     /// The length in bytes of a block with an empty body.
     pub const MIN_LEN: usize = 12;
 
-    /// The greatest length in bytes of a block that is read, 16 MiB: libpcap reads none that is longer.
+    /// The greatest length in bytes of a block that is read, 16 MiB, the limit that libpcap starts with. It has room for every packet
+    /// that is read.
     pub const MAX_LEN: u32 = 16_777_216;
 
     /// The block at the front of a slice. The order of the bytes is that of the section.
