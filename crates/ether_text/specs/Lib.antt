@@ -3,3 +3,5 @@ pub mod Lines
 pub mod ViewLines
 pub mod WalkText
 pub mod OutputBuffer
+pub mod InputReader
+pub mod Verdict

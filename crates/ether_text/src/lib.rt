@@ -2,19 +2,27 @@
 //! allocates memory.
 //!
 //! [`write_walk`] writes the lines of the walk of `ether_peel`, and [`write_feed`] those of feeding it. Both write to
-//! an [`OutputBuffer`], which gathers the text for a writer and remembers whether the writer has failed.
+//! an [`OutputBuffer`], which gathers the text for a writer and remembers whether the writer has failed. An
+//! [`InputReader`] does the same for a reader.
 #![tactic(auto)]
 
 mod feed_lines;
+mod input_fault;
+mod input_reader;
 mod output_buffer;
 mod output_fault;
 #[cfg(test)]
 mod tests;
+mod verdict;
 mod walk_lines;
 mod write_hex;
 mod write_lines;
 
 pub use feed_lines::write_feed;
+pub use input_fault::InputFault;
+pub use input_reader::InputReader;
 pub use output_buffer::OutputBuffer;
 pub use output_fault::OutputFault;
+pub use verdict::Verdict;
 pub use walk_lines::write_walk;
+pub use write_lines::write_decimal;

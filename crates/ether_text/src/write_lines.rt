@@ -337,8 +337,16 @@ fn write_number<W: Write>(out: &mut OutputBuffer<'_, W>, word: &[u8], number: us
 }
 
 /// Writes a number in decimal digits.
+///
+/// ```
+/// let mut written = ArrayVec::<u8, 8>::new();
+/// let mut out = OutputBuffer::new(&mut written);
+/// write_decimal(&mut out, 1_024);
+/// assert_eq!(rt; out.flush(), Ok(()));
+/// assert_eq!(rt; written.as_slice(), b"1024".as_slice());
+/// ```
 #[inline(always)]
-fn write_decimal<W: Write>(out: &mut OutputBuffer<'_, W>, number: usize)
+pub fn write_decimal<W: Write>(out: &mut OutputBuffer<'_, W>, number: usize)
     ensures { Takes W.contents out.old (decimal number) out.new }
 {
     if number < 10 {
@@ -397,5 +405,20 @@ fn source_of(source: LenSource) -> &'static str
         LenSource::UdpHeaderLen => "udp_len",
         LenSource::TcpHeaderLen => "tcp_len",
         LenSource::ArpAddrLengths => "arp_addr_lengths",
+    }
+}
+
+#[cfg(test)]
+mod tests {
+    use super::*;
+    use arrayvec::ArrayVec;
+
+    #[test]
+    fn the_example(rt: HostRuntime) {
+        let mut written = ArrayVec::<u8, 8>::new();
+        let mut out = OutputBuffer::new(&mut written);
+        write_decimal(&mut out, 1_024);
+        assert_eq!(rt; out.flush(), Ok(()));
+        assert_eq!(rt; written.as_slice(), b"1024".as_slice());
     }
 }

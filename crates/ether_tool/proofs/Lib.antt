@@ -1,4 +1,3 @@
-pub mod KnownBytesLemmas
 pub mod InputLinesLemmas
 pub mod ParseFrameLemmas
 pub mod LineLoopLemmas

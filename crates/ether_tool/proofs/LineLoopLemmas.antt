@@ -5,19 +5,20 @@ use Rattle.std.proofs.lemmas.List.{length-append}
 use Rattle.std.specs.Str.Lines.{lines, strip_carriage_return}
 use Rattle.std.specs.Io.KnownBytes.{Appends}
 use Rattle.ether_text.specs.OutputBuffer.{contents_of, WritesOut}
-use Rattle.ether_tool.specs.Run.{HasNoLineFeed, IsLineAnswered, AreAnswered, StopsAtLine, OnBadLine, verdict_of, verdict_with}
+use Rattle.ether_tool.specs.Run.{HasNoLineFeed, IsLineAnswered, AreAnswered, StopsAtLine, OnBadLine}
 use Rattle.ether_tool.specs.Frame.{IsBadLine}
 use Rattle.ether_tool.specs.LineBuffer.{KeepsLine, without_end}
 use Rattle.ether_tool.specs.LineLoop.{Reached, JudgesLine, RefusesLine, Advances, StopsWithin, Finishes, IsStart}
 use Rattle.ether_tool.specs.declared.command.Command.{Command}
-use Rattle.ether_tool.specs.declared.outcome.Verdict.{Verdict}
+use Rattle.ether_text.specs.Verdict.{verdict_of, verdict_with}
+use Rattle.ether_text.specs.declared.verdict.Verdict.{Verdict}
 use Rattle.ether_tool.specs.declared.outcome.ToolFault.{ToolFault}
 use Rattle.ether_tool.specs.declared.outcome.ToolFault.TheVariants.{BadLine, Input, Output}
 use Rattle.ether_text.specs.declared.output_buffer.OutputBuffer.{OutputBuffer}
 use Rattle.ether_tool.specs.declared.line_buffer.LineEnd.TheVariants.{LineFeed, InputEnd}
 use Rattle.ether_tool.specs.declared.line_loop.LineLoop.{LineLoop}
 use Rattle.ether_text.proofs.KnownBytesLemmas.{Appends-none, Appends-then}
-use Rattle.ether_tool.proofs.KnownBytesLemmas.{Appends-written_out}
+use Rattle.ether_text.proofs.KnownBytesLemmas.{Appends-written_out}
 use Rattle.ether_tool.proofs.InputLinesLemmas.{lines-line, lines-last, lines-nothing, HasNoLineFeed-nil, HasNoLineFeed-append}
 
 -- what is said of a bad line, from another fact

@@ -1,17 +1,17 @@
 -- What a run has read and written, one read after another.
-use Rattle.std.proofs.Common.{◌≡◌, ℕ, List, [], ◌++◌, Option, Some, None, true, unwrap_or, Result, Ok, Err, IfOk, IfErr, refl, sym, subst, append-nil}
+use Rattle.std.proofs.Common.{◌≡◌, ℕ, List, [], ◌++◌, Option, Some, None, true, unwrap_or, Result, Ok, Err, IfOk, IfErr, IsErrAnd, refl, sym, subst, append-nil}
 use Rattle.std.specs.Str.Lines.{lines}
 use Rattle.std.specs.Io.KnownBytes.{Consumes, IsAtEnd, Keeps}
 use Rattle.ether_text.specs.OutputBuffer.{contents_of, WritesOut}
 use Rattle.ether_tool.specs.Run.{AreAnswered, IsLeft, HasRun, OnBadLine, OnStreamFault}
 use Rattle.ether_tool.specs.LineLoop.{Reached, StopsWithin, Finishes}
 use Rattle.ether_tool.specs.declared.command.Command.{Command}
-use Rattle.ether_tool.specs.declared.outcome.Verdict.{Verdict}
+use Rattle.ether_text.specs.declared.verdict.Verdict.{Verdict}
 use Rattle.ether_tool.specs.declared.outcome.ToolFault.{ToolFault}
 use Rattle.ether_tool.specs.declared.outcome.ToolFault.TheVariants.{BadLine, Input, Output}
 use Rattle.ether_text.specs.declared.output_buffer.OutputBuffer.{OutputBuffer}
 use Rattle.ether_tool.specs.declared.line_loop.LineLoop.{LineLoop}
-use Rattle.ether_tool.proofs.KnownBytesLemmas.{Consumes-then, Consumes-kept}
+use Rattle.ether_text.proofs.KnownBytesLemmas.{Consumes-then, Consumes-kept}
 use Rattle.ether_tool.proofs.LineLoopLemmas.{Reached-written_out}
 
 -- what a reader has left, or nothing if that is unknown
@@ -85,10 +85,11 @@ module _ {W : Type 0} (command : Command) (contents : W → Option (List ℕ)) (
   stopped Output input chunk at old from to read last drains so_far bad failed = tt
 
   -- a read fails
-  pub broken_off : (fault : ToolFault) (input : List ℕ) (at : LineLoop) (old from : OutputBuffer W)
+  pub broken_off : (r : Result Verdict ToolFault) (input : List ℕ) (at : LineLoop) (old from : OutputBuffer W)
       → Consumes before mid input → Keeps mid after → WritesOut contents old from → Reached command contents held input at old
-      → fault ≡ Input → HasRun command before after held (contents_of contents from) (Err fault)
-  broken_off fault input at old from read kept drains so_far is =
+      → IsErrAnd r (λ fault. fault ≡ Input) → HasRun command before after held (contents_of contents from) r
+  broken_off (Ok verdict) input at old from read kept drains so_far is = absurd is
+  broken_off (Err fault) input at old from read kept drains so_far is =
       let reached = Reached-written_out command contents held input at old from drains so_far in
       subst (λ (f : ToolFault). HasRun command before after held (contents_of contents from) (Err f)) (sym is) (record {
         taken = input;

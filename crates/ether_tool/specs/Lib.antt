@@ -1,7 +1,6 @@
 pub mod Mode
 pub mod Command
 pub mod Answer
-pub mod InputReader
 pub mod Frame
 pub mod LineBuffer
 pub mod Run

@@ -3,12 +3,13 @@ use Rattle.std.specs.Prelude.{◌≡◌, ℕ, ◌-◌, ◌^◌, min, List, [], �
 use Rattle.std.specs.Str.Lines.{lines}
 use Rattle.std.specs.Io.KnownBytes.{Appends}
 use Rattle.ether_text.specs.OutputBuffer.{contents_of}
-use Rattle.ether_tool.specs.Run.{HasNoLineFeed, IsLineAnswered, AreAnswered, StopsAtLine, verdict_of, verdict_with, number_after}
+use Rattle.ether_tool.specs.Run.{HasNoLineFeed, IsLineAnswered, AreAnswered, StopsAtLine, number_after}
 use Rattle.ether_tool.specs.Frame.{IsBadLine}
 use Rattle.ether_tool.specs.LineBuffer.{KeepsLine, without_end}
 use Rattle.ether_tool.specs.declared.command.Command.{Command}
-use Rattle.ether_tool.specs.declared.outcome.Verdict.{Verdict}
-use Rattle.ether_tool.specs.declared.outcome.Verdict.TheVariants.{AllAccepted}
+use Rattle.ether_text.specs.Verdict.{verdict_of, verdict_with}
+use Rattle.ether_text.specs.declared.verdict.Verdict.{Verdict}
+use Rattle.ether_text.specs.declared.verdict.Verdict.TheVariants.{AllAccepted}
 use Rattle.ether_text.specs.declared.output_buffer.OutputBuffer.{OutputBuffer}
 use Rattle.ether_tool.specs.declared.line_buffer.LineEnd.{LineEnd}
 use Rattle.ether_tool.specs.declared.line_loop.LineLoop.{LineLoop}

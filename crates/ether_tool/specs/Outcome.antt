@@ -4,8 +4,8 @@ use Rattle.std.specs.Fmt.{decimal}
 use Rattle.ether_tool.specs.declared.mode.Usage.{Usage}
 use Rattle.ether_tool.specs.declared.outcome.LastLine.{LastLine}
 use Rattle.ether_tool.specs.declared.outcome.LastLine.TheVariants as last_lines
-use Rattle.ether_tool.specs.declared.outcome.Verdict.{Verdict}
-use Rattle.ether_tool.specs.declared.outcome.Verdict.TheVariants.{AllAccepted, SomeRefused}
+use Rattle.ether_text.specs.declared.verdict.Verdict.{Verdict}
+use Rattle.ether_text.specs.declared.verdict.Verdict.TheVariants.{AllAccepted, SomeRefused}
 use Rattle.ether_tool.specs.declared.outcome.ToolFault.{ToolFault}
 use Rattle.ether_tool.specs.declared.outcome.ToolFault.TheVariants.{BadLine, Input, Output}
 

@@ -8,7 +8,7 @@ use Rattle.ether_tool.specs.Run.{HasRun}
 use Rattle.ether_tool.specs.Outcome.{last_text, status_of_program}
 use Rattle.ether_tool.specs.declared.mode.Mode.{Mode}
 use Rattle.ether_tool.specs.declared.mode.Usage.{Usage}
-use Rattle.ether_tool.specs.declared.outcome.Verdict.{Verdict}
+use Rattle.ether_text.specs.declared.verdict.Verdict.{Verdict}
 use Rattle.ether_tool.specs.declared.outcome.ToolFault.{ToolFault}
 use Rattle.ether_tool.specs.declared.outcome.ToolFault.TheVariants.{Input}
 

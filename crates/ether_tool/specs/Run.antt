@@ -6,8 +6,8 @@ use Rattle.std.specs.Io.KnownBytes.{Appends, Consumes, IsAtEnd}
 use Rattle.ether_tool.specs.Answer.{Answers}
 use Rattle.ether_tool.specs.Frame.{IsFrame, IsBadLine}
 use Rattle.ether_tool.specs.declared.command.Command.{Command}
-use Rattle.ether_tool.specs.declared.outcome.Verdict.{Verdict}
-use Rattle.ether_tool.specs.declared.outcome.Verdict.TheVariants.{AllAccepted, SomeRefused}
+use Rattle.ether_text.specs.declared.verdict.Verdict.{Verdict}
+use Rattle.ether_text.specs.Verdict.{verdict_of}
 use Rattle.ether_tool.specs.declared.outcome.ToolFault.{ToolFault}
 use Rattle.ether_tool.specs.declared.outcome.ToolFault.TheVariants.{BadLine, Input, Output}
 
@@ -28,16 +28,6 @@ AreAnswered command (line ∷ others) text all =
 -- no byte of the line is an LF
 abbrev pub HasNoLineFeed : List ℕ → Type 0
 HasNoLineFeed line = All (λ byte. (byte == 10) ≡ false) line
-
--- the verdict on frames, of which all says that each is accepted
-abbrev pub verdict_of : Bool → Verdict
-verdict_of true = AllAccepted
-verdict_of false = SomeRefused
-
--- the verdict with one frame more
-abbrev pub verdict_with : Verdict → Bool → Verdict
-verdict_with AllAccepted accepted = verdict_of accepted
-verdict_with SomeRefused accepted = SomeRefused
 
 -- the number of the line after this many lines: counted from 1, it stays at its greatest value
 abbrev pub number_after : ℕ → ℕ

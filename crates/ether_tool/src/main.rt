@@ -5,7 +5,6 @@
 #![tactic(auto)]
 
 pub mod command;
-mod input_reader;
 pub mod laws;
 mod line_buffer;
 mod line_loop;

@@ -4,29 +4,10 @@ ghost use Rattle.std.specs.Option.{option_map};
 ghost use Rattle.ether_tool.specs.Outcome.{exit_status, last_line_text, last_text, status_of_program};
 
 use crate::mode::Usage;
-use ether_text::OutputFault;
+pub use ether_text::Verdict;
+use ether_text::{InputFault, OutputFault};
 use std::fmt;
 use thiserror::Error;
-
-/// What a run that read all its input found.
-#[derive(Clone, Copy, PartialEq, Eq, Debug)]
-pub enum Verdict {
-    /// Each frame was accepted, or there was no frame.
-    AllAccepted,
-    /// Some frame was refused.
-    SomeRefused,
-}
-
-impl Verdict {
-    ghost use Rattle.ether_tool.specs.Run.{verdict_with};
-
-    /// The verdict with one frame more.
-    pub fn with(self, accepted: bool) -> Verdict
-        ensures { result ≡ verdict_with self accepted }
-    {
-        if accepted { self } else { Verdict::SomeRefused }
-    }
-}
 
 /// Why a run stopped before the end of its input.
 #[derive(PartialEq, Eq, Debug, Drop, Error)]
@@ -41,6 +22,16 @@ pub enum ToolFault {
     /// The writer failed.
     #[error("output failed")]
     Output,
+}
+
+impl From<InputFault> for ToolFault {
+    ghost use Rattle.ether_tool.specs.declared.outcome.ToolFault.TheVariants.{Input};
+
+    ghost from_gives = { λ _ fault. fault ≡ Input };
+
+    fn from(_fault: InputFault) -> ToolFault {
+        ToolFault::Input
+    }
 }
 
 impl From<OutputFault> for ToolFault {

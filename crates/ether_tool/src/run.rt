@@ -5,11 +5,10 @@ ghost use Rattle.ether_tool.specs.Command.{limited_to, unlimited};
 ghost use Rattle.ether_tool.specs.Run.{HasRun, IfSettled, OnInput, OnStreamFault};
 
 use crate::command::Command;
-use crate::input_reader::InputReader;
 use crate::line_loop::LineLoop;
 use crate::mode::Mode;
 use crate::outcome::{ToolFault, Verdict};
-use ether_text::OutputBuffer;
+use ether_text::{InputReader, OutputBuffer};
 use std::io::{Read, Write};
 
 /// The room for one read.

@@ -1,7 +1,7 @@
 //! What callers learn of the derived traits, at each type of this crate. These functions are proved and never run.
 ghost use Rattle.std.specs.Prelude.{◌≡◌, ◌↔◌, IsTrue};
 
-use crate::OutputFault;
+use crate::{InputFault, OutputFault};
 use std::alloc::AllocError;
 
 pub fn clone_of_output_fault(value: &OutputFault) -> Result<OutputFault, AllocError>
@@ -17,6 +17,24 @@ pub fn copy_of_output_fault(value: OutputFault) -> (OutputFault, OutputFault)
 }
 
 pub fn same_output_fault(a: &OutputFault, b: &OutputFault) -> bool
+    ensures { IsTrue result ↔ (a.now ≡ b.now) }
+{
+    *a == *b
+}
+
+pub fn clone_of_input_fault(value: &InputFault) -> Result<InputFault, AllocError>
+    ensures { result ≡ Ok value.now }
+{
+    value.clone()
+}
+
+pub fn copy_of_input_fault(value: InputFault) -> (InputFault, InputFault)
+    ensures { result ≡ (value, value) }
+{
+    (value, value)
+}
+
+pub fn same_input_fault(a: &InputFault, b: &InputFault) -> bool
     ensures { IsTrue result ↔ (a.now ≡ b.now) }
 {
     *a == *b

@@ -1,6 +1,6 @@
 use Rattle.std.proofs.Common.{rules, ℕ, List, [], ◌++◌, take, refl, ap, ◌∙◌, arith}
 use Rattle.ether_text.specs.OutputBuffer.{contents_of}
-use Rattle.ether_tool.proofs.KnownBytesLemmas.{Consumes-none, Consumes-then}
+use Rattle.ether_text.proofs.KnownBytesLemmas.{Consumes-none, Consumes-then}
 use Rattle.ether_tool.proofs.LineLoopLemmas.{Reached-written_out, Reached-start}
 use Rattle.ether_tool.proofs.RunLemmas.{broken_off, finished, stopped}
 use Rattle.ether_tool.proofs.run.read_lines.Goals as goal
@@ -20,8 +20,8 @@ pub returns-in_err-count-clause-run : goal.returns-in_err-count-clause-run
 returns-in_err-count-clause-run g c =
     let (taken, so_far) = c.loop-input.invariant in
     let h = broken_off c.args.command g.W.Write.contents (g.R.Read.remaining c.args.input.now.inner.now) (g.R.Read.remaining c.loop-input.input.inner.now) (g.R.Read.remaining c.read.new.self.inner.now)
-    (contents_of g.W.Write.contents c.args.out.now) c.in_err-count.field-0.0 taken c.loop-input.lines c.loop-input.out c.write_out.new.self
-    so_far.read c.in_err-count.ensures.kept c.in_ok-write_out.ensures.ok so_far.reached c.in_err-count.ensures.fault in
+    (contents_of g.W.Write.contents c.args.out.now) c.from_residual-in_err-count.result taken c.loop-input.lines c.loop-input.out c.write_out.new.self
+    so_far.read c.in_err-count.ensures.kept c.in_ok-write_out.ensures.ok so_far.reached c.from_residual-in_err-count.ensures.1 in
     search (rules, h)
 
 pub returns-then-count-eq0-clause-same_reader : goal.returns-then-count-eq0-clause-same_reader

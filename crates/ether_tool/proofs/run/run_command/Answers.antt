@@ -1,6 +1,6 @@
 use Rattle.std.proofs.Common.{rules, ap, ◌∙◌, List, ℕ}
 use Rattle.std.specs.Io.KnownBytes.{append_known}
-use Rattle.ether_tool.proofs.KnownBytesLemmas.{append_known_nil}
+use Rattle.ether_text.proofs.KnownBytesLemmas.{append_known_nil}
 use Rattle.ether_tool.proofs.RunLemmas.{HasRun-same}
 use Rattle.ether_tool.proofs.run.run_command.Goals as goal
 

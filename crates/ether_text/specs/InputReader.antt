@@ -1,6 +1,6 @@
 -- A reader that is read a bounded number of times.
 use Rattle.std.specs.Prelude.{◌≡◌, ◌+◌, true}
-use Rattle.ether_tool.specs.declared.input_reader.InputReader.{InputReader}
+use Rattle.ether_text.specs.declared.input_reader.InputReader.{InputReader}
 
 -- why a read returns a fault: there was one before, or no read was left, or one more read was made
 pub data HasCause {R : Type 0} (old new : InputReader R) : Type 0 where

@@ -1,12 +1,23 @@
 //! The reader of a run, which remembers that it failed.
 ghost use Rattle.std.specs.Io.KnownBytes.{Consumes, IsAtEnd, Keeps};
-ghost use Rattle.ether_tool.specs.InputReader.{HasCause};
+ghost use Rattle.ether_text.specs.InputReader.{HasCause};
 
-use crate::outcome::ToolFault;
-use ether_text::OutputBuffer;
+use crate::{InputFault, OutputBuffer};
 use std::io::Read;
 
-/// The reader of a run. During a run nothing else calls it, and after a fault nothing does.
+/// A reader that is read a bounded number of times. After a fault it is not called again.
+///
+/// ```
+/// let mut bytes = [1, 2, 3].as_slice();
+/// let mut written = ArrayVec::<u8, 4>::new();
+/// let mut input = InputReader::new(&mut bytes);
+/// let out = OutputBuffer::new(&mut written);
+/// let mut chunk = [0; 2];
+/// assert_eq!(rt; input.read(&mut chunk, &out), Ok(2));
+/// assert_eq!(rt; chunk, [1, 2]);
+/// assert_eq!(rt; input.read(&mut chunk, &out), Ok(1));
+/// assert_eq!(rt; input.read(&mut chunk, &out), Ok(0));
+/// ```
 #[derive(Drop)]
 pub struct InputReader<'a, R> {
     inner: &'a mut R,
@@ -15,7 +26,7 @@ pub struct InputReader<'a, R> {
 }
 
 impl<'a, R: Read> InputReader<'a, R> {
-    ghost use Rattle.std.specs.Prelude.{◌≡◌, ◌+◌, ◌-◌, ◌^◌, ◌≤◌, ◌<◌, [], length, take, true, false, IfOk, OnOk, OnErr, IfErr};
+    ghost use Rattle.std.specs.Prelude.{◌≡◌, ◌+◌, ◌-◌, ◌^◌, ◌≤◌, ◌<◌, [], length, take, true, false, IfOk, OnOk, OnErr};
 
     /// A reader that has not failed, for up to `u64::MAX` reads.
     pub fn new(reader: &'a mut R) -> Self
@@ -34,12 +45,12 @@ impl<'a, R: Read> InputReader<'a, R> {
     /// Reads some bytes to the front of `chunk`, and returns their number: 0 at the end of the input.
     ///
     /// No text may wait in `out`, so that whoever reads the output has the lines for all that was read so far.
-    /// Returns [`ToolFault::Input`] if the read fails, if an earlier one failed, or after `u64::MAX` reads.
+    /// Returns [`InputFault`] if the read fails, if an earlier one failed, or after `u64::MAX` reads.
     pub fn read<W>(
         &mut self,
         chunk: &mut [u8],
         _out: &OutputBuffer<'_, W>,
-    ) -> Result<usize, ToolFault>
+    ) -> Result<usize, InputFault>
         requires { _out.now.waiting.items ≡ [] }
         ensures same_reader { self.new.inner.ghost_name ≡ self.old.inner.ghost_name }
         ensures bound { IfOk result (λ count. count ≤ length chunk.new) }
@@ -50,23 +61,41 @@ impl<'a, R: Read> InputReader<'a, R> {
             (λ count. count ≡ 0 → 0 < length chunk.new → IsAtEnd (R.remaining self.new.inner.now)) }
         ensures left { OnOk result (self.new.reads_left + 1 ≡ self.old.reads_left) }
         ensures going { OnOk result (self.new.has_failed ≡ false) }
-        ensures fault { IfErr result (λ fault. fault ≡ ToolFault.Input) }
-        ensures failed { IfErr result (λ fault. self.new.has_failed ≡ true) }
+        ensures failed { OnErr result (self.new.has_failed ≡ true) }
         ensures cause { OnErr result (HasCause self.old self.new) }
-        ensures kept { IfErr result
-            (λ fault. Keeps (R.remaining self.old.inner.now) (R.remaining self.new.inner.now)) }
+        ensures kept { OnErr result
+            (Keeps (R.remaining self.old.inner.now) (R.remaining self.new.inner.now)) }
     {
         if self.has_failed || self.reads_left == 0 {
             self.has_failed = true;
-            return Err(ToolFault::Input);
+            return Err(InputFault);
         }
         self.reads_left -= 1;
         match self.inner.read(chunk) {
             Ok(count) => Ok(count),
             Err(_) => {
                 self.has_failed = true;
-                Err(ToolFault::Input)
+                Err(InputFault)
             }
         }
+    }
+}
+
+#[cfg(test)]
+mod tests {
+    use super::*;
+    use arrayvec::ArrayVec;
+
+    #[test]
+    fn the_example(rt: HostRuntime) {
+        let mut bytes = [1, 2, 3].as_slice();
+        let mut written = ArrayVec::<u8, 4>::new();
+        let mut input = InputReader::new(&mut bytes);
+        let out = OutputBuffer::new(&mut written);
+        let mut chunk = [0; 2];
+        assert_eq!(rt; input.read(&mut chunk, &out), Ok(2));
+        assert_eq!(rt; chunk, [1, 2]);
+        assert_eq!(rt; input.read(&mut chunk, &out), Ok(1));
+        assert_eq!(rt; input.read(&mut chunk, &out), Ok(0));
     }
 }
