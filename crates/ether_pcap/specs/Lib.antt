@@ -11,3 +11,6 @@ pub mod Options
 pub mod PcapngViews
 pub mod Texts
 pub mod PcapngTexts
+pub mod Capture
+pub mod CaptureViews
+pub mod CaptureTexts

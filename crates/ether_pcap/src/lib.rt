@@ -4,6 +4,9 @@
 mod block_error;
 mod body_error;
 mod byte_order;
+mod capture_error;
+mod capture_unit;
+mod captured_packet;
 mod enhanced_packet;
 mod file_header;
 mod file_header_error;
@@ -25,10 +28,14 @@ mod test_asserts;
 #[cfg(test)]
 mod tests;
 mod time_unit;
+mod timestamp;
 
 pub use block_error::BlockError;
 pub use body_error::BodyError;
 pub use byte_order::ByteOrder;
+pub use capture_error::CaptureError;
+pub use capture_unit::CaptureUnit;
+pub use captured_packet::CapturedPacket;
 pub use enhanced_packet::EnhancedPacket;
 pub use file_header::FileHeader;
 pub use file_header_error::FileHeaderError;
@@ -43,3 +50,4 @@ pub use section_error::SectionError;
 pub use section_header::SectionHeader;
 pub use simple_packet::SimplePacket;
 pub use time_unit::TimeUnit;
+pub use timestamp::Timestamp;

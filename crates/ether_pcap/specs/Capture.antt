@@ -1,0 +1,190 @@
+-- A capture file of either format, from its beginning to its end: the file header and the records of a classic file, or the blocks
+-- of a pcapng file (draft-ietf-opsawg-pcap, section 3; draft-ietf-opsawg-pcapng, section 3).
+use Rattle.std.specs.Prelude.{◌≡◌, ◌≢◌, ℕ, ◌+◌, ◌-◌, ◌*◌, ◌/◌, ◌%◌, ◌^◌, ◌<◌, ◌≤◌, List, [], ◌∷◌, ◌++◌, length, take, drop, Bool, Option, Some, None, is_some, nat_lt, nat_eq, if◌then◌else◌}
+use Rattle.ether_pcap.specs.Numbers.{Order}
+use Rattle.ether_pcap.specs.FileHeader.{FileHeaderValue, IsFileHeader, FileRefusal, RefusesFile}
+use Rattle.ether_pcap.specs.FileHeader as file
+use Rattle.ether_pcap.specs.Record.{RecordValue, RecordRefusal, BeginsRecord, RefusesRecord, record_len, nanoseconds_of}
+use Rattle.ether_pcap.specs.Record as record_rows
+use Rattle.ether_pcap.specs.Block.{BlockValue, BlockRefusal, BeginsBlock, RefusesBlock}
+use Rattle.ether_pcap.specs.Block as block_rows
+use Rattle.ether_pcap.specs.Section.{SectionRefusal, HasSectionType, IsSection, RefusesSection}
+use Rattle.ether_pcap.specs.Section as section_rows
+use Rattle.ether_pcap.specs.Options.{OptionValue, HasOptions, value_of, byte_of}
+use Rattle.ether_pcap.specs.Bodies.{BodyRefusal, InterfaceValue, IsInterface, RefusesInterface, EnhancedPacketValue, IsEnhancedPacket, RefusesEnhancedPacket, SimplePacketValue, IsSimplePacket, RefusesSimplePacket}
+
+-- ---- packets
+
+-- a time since the beginning of 1970, UTC, in seconds and nanoseconds below a second
+pub record TimeValue : Type 0 where
+  pub seconds : ℕ
+  pub nanoseconds : ℕ
+
+abbrev pub time_of : (nanoseconds : ℕ) → TimeValue
+time_of n = record { seconds = n / 10 ^ 9; nanoseconds = n % 10 ^ 9 }
+
+-- a captured packet: its time if the file gives it, its length before it was cut, the link type and the length of the frame check
+-- sequence that the file gives for it, and its captured bytes
+pub record PacketValue : Type 0 where
+  pub time : Option TimeValue
+  pub original_len : ℕ
+  pub link_type : ℕ
+  pub fcs_len : Option ℕ
+  pub packet : List ℕ
+
+abbrev pub packet_of_record : FileHeaderValue → RecordValue → PacketValue
+packet_of_record h r = record {
+  time = Some (time_of (nanoseconds_of h.resolution r.seconds r.fraction));
+  original_len = r.original_len;
+  link_type = h.link_type;
+  fcs_len = h.fcs_len;
+  packet = r.packet;
+}
+
+-- ---- interfaces of a section
+
+-- what a section says of an interface: link type, snap length, length of the frame check sequence, the number that gives the unit of
+-- time, and whether times are shifted by an offset
+pub record CaptureInterfaceValue : Type 0 where
+  pub link_type : ℕ
+  pub snap_len : ℕ
+  pub fcs_len : Option ℕ
+  pub resolution : Option ℕ
+  pub is_shifted : Bool
+
+-- the options if_fcslen (13), if_tsresol (9) and if_tsoffset (14) of an interface description (4.2)
+abbrev pub described_by : InterfaceValue → List OptionValue → CaptureInterfaceValue
+described_by i options = record {
+  link_type = i.link_type;
+  snap_len = i.snap_len;
+  fcs_len = byte_of (value_of 13 options);
+  resolution = byte_of (value_of 9 options);
+  is_shifted = is_some (value_of 14 options);
+}
+
+-- the body of an interface description
+pub record Describes (order : Order) (body : List ℕ) (v : CaptureInterfaceValue) : Type 0 where
+  pub interface : InterfaceValue
+  pub options : List OptionValue
+  pub is_interface : IsInterface order body interface
+  pub has_options : HasOptions order interface.options options
+  pub value : described_by interface options ≡ v
+
+-- how many units of time a second has: if the number is below 128, ten to its power; else two to the power of its seven lower bits;
+-- a million if there is none
+abbrev pub units_of : Option ℕ → ℕ
+units_of None = 10 ^ 6
+units_of (Some n) = if nat_lt n 128 then 10 ^ n else 2 ^ (n - 128)
+
+-- the time that a number of units is on an interface, rounded down to a nanosecond; none if times are shifted
+abbrev pub time_on : CaptureInterfaceValue → ℕ → Option TimeValue
+time_on i n = if i.is_shifted then None else Some (time_of (n * 10 ^ 9 / units_of i.resolution))
+
+-- the interface of a number, counted from 0
+pub record IsAt (interfaces : List CaptureInterfaceValue) (n : ℕ) (i : CaptureInterfaceValue) : Type 0 where
+  pub before : List CaptureInterfaceValue
+  pub after : List CaptureInterfaceValue
+  pub parts : interfaces ≡ before ++ i ∷ after
+  pub number : length before ≡ n
+
+-- the greatest number of interfaces of a section that is read
+abbrev pub max_interfaces : ℕ
+max_interfaces = 256
+
+-- ---- units
+
+-- what is expected at a place of a file: its beginning; a record after this header; a block of a section of this byte order that
+-- has described these interfaces
+pub data Expectation : Type 0 where
+  Beginning : Expectation
+  Records : FileHeaderValue → Expectation
+  Blocks : Order → List CaptureInterfaceValue → Expectation
+
+-- what is read of a block, by its type; nothing of the packet block of type 2, which is obsolete (appendix A)
+pub data BlockKind : Type 0 where
+  InterfaceDescription : BlockKind
+  SimplePacket : BlockKind
+  EnhancedPacket : BlockKind
+  Other : BlockKind
+
+abbrev pub kind_of_block : ℕ → BlockKind
+kind_of_block n = if nat_eq n 1 then InterfaceDescription else (if nat_eq n 3 then SimplePacket else (if nat_eq n 6 then EnhancedPacket else Other))
+
+-- the body of a block in a section that has described these interfaces: the packet, if it is one, and the interfaces after it
+abbrev pub IsBody : BlockKind → Order → (before : List CaptureInterfaceValue) → (body : List ℕ) → Option PacketValue → (after : List CaptureInterfaceValue) → Type 0
+IsBody InterfaceDescription order before body packet after =
+    (i : CaptureInterfaceValue) × Describes order body i × (length before < max_interfaces) × (packet ≡ None) × (after ≡ before ++ i ∷ [])
+IsBody SimplePacket order before body packet after =
+    (i : CaptureInterfaceValue) × (p : SimplePacketValue) × IsAt before 0 i × IsSimplePacket order i.snap_len body p
+    × (packet ≡ Some (record { time = None; original_len = p.original_len; link_type = i.link_type; fcs_len = i.fcs_len; packet = p.packet })) × (after ≡ before)
+IsBody EnhancedPacket order before body packet after =
+    (i : CaptureInterfaceValue) × (p : EnhancedPacketValue) × IsEnhancedPacket order body p × IsAt before p.interface i
+    × (packet ≡ Some (record { time = time_on i p.time; original_len = p.original_len; link_type = i.link_type; fcs_len = i.fcs_len; packet = p.packet })) × (after ≡ before)
+IsBody Other order before body packet after = (packet ≡ None) × (after ≡ before)
+
+-- why a unit is refused: a row of its format; a packet of an interface that the section has not described, by its number; one more
+-- interface than there may be
+pub data CaptureRefusal : Type 0 where
+  File : FileRefusal → CaptureRefusal
+  Record : RecordRefusal → CaptureRefusal
+  Section : SectionRefusal → CaptureRefusal
+  Block : BlockRefusal → CaptureRefusal
+  Body : BodyRefusal → CaptureRefusal
+  NoInterface : ℕ → CaptureRefusal
+  TooManyInterfaces : CaptureRefusal
+
+abbrev pub HasNoInterface : List CaptureInterfaceValue → ℕ → Type 0
+HasNoInterface interfaces n = length interfaces ≤ n
+
+pub data RefusesBody (order : Order) (before : List CaptureInterfaceValue) (body : List ℕ) : BlockKind → CaptureRefusal → Type 0 where
+  interface : (r : BodyRefusal) → RefusesInterface body r → RefusesBody order before body InterfaceDescription (Body r)
+  too_many : (i : CaptureInterfaceValue) → Describes order body i → max_interfaces ≤ length before → RefusesBody order before body InterfaceDescription TooManyInterfaces
+  simple_alone : HasNoInterface before 0 → RefusesBody order before body SimplePacket (NoInterface 0)
+  simple : (i : CaptureInterfaceValue) (r : BodyRefusal) → IsAt before 0 i → RefusesSimplePacket order i.snap_len body r → RefusesBody order before body SimplePacket (Body r)
+  enhanced : (r : BodyRefusal) → RefusesEnhancedPacket order body r → RefusesBody order before body EnhancedPacket (Body r)
+  enhanced_alone : (p : EnhancedPacketValue) → IsEnhancedPacket order body p → HasNoInterface before p.interface → RefusesBody order before body EnhancedPacket (NoInterface p.interface)
+
+-- Bytes begin with a unit of so many bytes, which is this packet if it is one, and after which this is expected.
+pub data Begins (bytes : List ℕ) : Expectation → (len : ℕ) → Option PacketValue → Expectation → Type 0 where
+  file_header : (h : FileHeaderValue) → ¬ (HasSectionType bytes) → IsFileHeader bytes h → Begins bytes Beginning 24 None (Records h)
+  file_record : (h : FileHeaderValue) (r : RecordValue) → BeginsRecord h.order bytes r → Begins bytes (Records h) (record_len r) (Some (packet_of_record h r)) (Records h)
+  first_section : (order : Order) (b : BlockValue) → IsSection bytes order b → Begins bytes Beginning (12 + length b.body) None (Blocks order [])
+  section : (order next : Order) (interfaces : List CaptureInterfaceValue) (b : BlockValue) → IsSection bytes next b
+      → Begins bytes (Blocks order interfaces) (12 + length b.body) None (Blocks next [])
+  block : (order : Order) (interfaces after : List CaptureInterfaceValue) (packet : Option PacketValue) (b : BlockValue) → ¬ (HasSectionType bytes) → BeginsBlock order bytes b
+      → IsBody (kind_of_block b.block_type) order interfaces b.body packet after → Begins bytes (Blocks order interfaces) (12 + length b.body) packet (Blocks order after)
+
+-- Bytes do not begin with the unit that is expected.
+pub data Refuses (bytes : List ℕ) : Expectation → CaptureRefusal → Type 0 where
+  file_header_refused : (r : FileRefusal) → ¬ (HasSectionType bytes) → RefusesFile bytes r → Refuses bytes Beginning (File r)
+  file_record_refused : (h : FileHeaderValue) (r : RecordRefusal) → RefusesRecord h.order bytes r → Refuses bytes (Records h) (Record r)
+  first_section_refused : (r : SectionRefusal) → HasSectionType bytes → RefusesSection bytes r → Refuses bytes Beginning (Section r)
+  section_refused : (order : Order) (interfaces : List CaptureInterfaceValue) (r : SectionRefusal) → HasSectionType bytes → RefusesSection bytes r → Refuses bytes (Blocks order interfaces) (Section r)
+  block_refused : (order : Order) (interfaces : List CaptureInterfaceValue) (r : BlockRefusal) → ¬ (HasSectionType bytes) → RefusesBlock order bytes r → Refuses bytes (Blocks order interfaces) (Block r)
+  body_refused : (order : Order) (interfaces : List CaptureInterfaceValue) (b : BlockValue) (r : CaptureRefusal) → ¬ (HasSectionType bytes) → BeginsBlock order bytes b
+      → RefusesBody order interfaces b.body (kind_of_block b.block_type) r → Refuses bytes (Blocks order interfaces) r
+
+-- how many bytes a unit needs that was refused because the bytes end within it
+abbrev pub required_len : CaptureRefusal → Option ℕ
+required_len (File (file.Short required len)) = Some required
+required_len (Record (record_rows.Short required len)) = Some required
+required_len (Section (section_rows.Short required len)) = Some required
+required_len (Section (section_rows.Block (block_rows.Short required len))) = Some required
+required_len (Block (block_rows.Short required len)) = Some required
+required_len _ = None
+
+-- ---- a whole file
+
+-- nothing is left of a file that has begun
+abbrev pub IsEnd : Expectation → List ℕ → Type 0
+IsEnd x bytes = (x ≢ Beginning) × (bytes ≡ [])
+
+-- The packets of the bytes from a place on, where this is expected, if each unit is read from no more bytes than there is room for;
+-- what is left after them is nothing, or refused.
+pub data HasPackets (room : ℕ) : Expectation → List ℕ → List PacketValue → (rest : List ℕ) → Option CaptureRefusal → Type 0 where
+  ended : (x : Expectation) (bytes : List ℕ) → IsEnd x bytes → HasPackets room x bytes [] [] None
+  refused : (x : Expectation) (bytes : List ℕ) (r : CaptureRefusal) → ¬ (IsEnd x bytes) → Refuses (take room bytes) x r → HasPackets room x bytes [] bytes (Some r)
+  unit : (x y : Expectation) (bytes : List ℕ) (len : ℕ) (packets : List PacketValue) (rest : List ℕ) (fault : Option CaptureRefusal) → Begins (take room bytes) x len None y
+      → HasPackets room y (drop len bytes) packets rest fault → HasPackets room x bytes packets rest fault
+  packet : (x y : Expectation) (bytes : List ℕ) (len : ℕ) (p : PacketValue) (packets : List PacketValue) (rest : List ℕ) (fault : Option CaptureRefusal) → Begins (take room bytes) x len (Some p) y
+      → HasPackets room y (drop len bytes) packets rest fault → HasPackets room x bytes (p ∷ packets) rest fault

@@ -1,0 +1,30 @@
+-- What is read of a capture file of either format, and why it is refused, as values of the formats.
+use Rattle.std.specs.Option.{option_map}
+use Rattle.ether_pcap.specs.Capture.{TimeValue, PacketValue, CaptureRefusal, File, Record, Section, Block, Body, NoInterface, TooManyInterfaces}
+use Rattle.ether_pcap.specs.Views.{file_refusal_view, record_refusal_view}
+use Rattle.ether_pcap.specs.PcapngViews.{section_refusal_view, block_refusal_view, body_refusal_view}
+use Rattle.ether_pcap.specs.declared.timestamp.Timestamp.{Timestamp}
+use Rattle.ether_pcap.specs.declared.captured_packet.CapturedPacket.{CapturedPacket}
+use Rattle.ether_pcap.specs.declared.capture_error.CaptureError.{CaptureError}
+use Rattle.ether_pcap.specs.declared.capture_error.CaptureError.TheVariants as errors
+
+abbrev pub timestamp_view : Timestamp → TimeValue
+timestamp_view t = record { seconds = t.seconds; nanoseconds = t.nanoseconds }
+
+abbrev pub captured_packet_view : CapturedPacket → PacketValue
+captured_packet_view p = record {
+  time = option_map timestamp_view p.time;
+  original_len = p.original_len;
+  link_type = p.link_type.0;
+  fcs_len = p.fcs_len;
+  packet = p.packet.now;
+}
+
+abbrev pub capture_refusal_view : CaptureError → CaptureRefusal
+capture_refusal_view (errors.File error) = File (file_refusal_view error)
+capture_refusal_view (errors.Record error) = Record (record_refusal_view error)
+capture_refusal_view (errors.Section error) = Section (section_refusal_view error)
+capture_refusal_view (errors.Block error) = Block (block_refusal_view error)
+capture_refusal_view (errors.Body error) = Body (body_refusal_view error)
+capture_refusal_view (errors.NoInterface number) = NoInterface number
+capture_refusal_view errors.TooManyInterfaces = TooManyInterfaces

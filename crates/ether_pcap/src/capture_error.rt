@@ -1,0 +1,83 @@
+//! Why a unit of a capture file can't be read.
+ghost use Rattle.std.specs.Prelude.{◌≡◌, Some};
+ghost use Rattle.ether_pcap.specs.Capture.{required_len as required_len_of};
+ghost use Rattle.ether_pcap.specs.CaptureViews.{capture_refusal_view};
+ghost use Rattle.ether_pcap.specs.CaptureTexts.{capture_error_text};
+
+use crate::{BlockError, BodyError, FileHeaderError, RecordError, SectionError};
+use std::error::Error;
+use std::fmt;
+
+/// Why a unit of a capture file can't be read.
+///
+/// ```
+/// let error = CaptureError::Record(RecordError::Len {
+///     required_len: 76,
+///     len: 20,
+/// });
+/// assert_eq!(rt; error.required_len(), Some(76));
+/// assert_eq!(rt;
+///     format!(in rt.alloc(); "{}", CaptureError::NoInterface(3))?.as_str(),
+///     "A packet of a pcapng file names interface 3, which its section does not describe."
+/// );
+/// ```
+#[derive(Clone, PartialEq, Eq, Debug, Drop)]
+pub enum CaptureError {
+    /// The file begins neither with the header of a classic file nor with the type of a section header.
+    File(FileHeaderError),
+    /// A record of a classic file can't be read.
+    Record(RecordError),
+    /// A section header can't be read.
+    Section(SectionError),
+    /// Another block can't be read.
+    Block(BlockError),
+    /// The body of an interface description or of a packet can't be read.
+    Body(BodyError),
+    /// A packet names this interface, counted from 0, which its section does not describe before it. A simple packet is one of
+    /// interface 0.
+    NoInterface(u32),
+    /// A section describes more than [`CaptureReader::MAX_INTERFACES`](crate::CaptureReader::MAX_INTERFACES) interfaces.
+    TooManyInterfaces,
+}
+
+impl CaptureError {
+    /// How many bytes the unit needs at least, if it was refused because the bytes end within it. The error is final if this is
+    /// `None`: the unit is refused with more bytes too.
+    pub fn required_len(&self) -> Option<usize>
+        ensures { result ≡ required_len_of (capture_refusal_view self.now) }
+    {
+        match self {
+            CaptureError::File(FileHeaderError::Len { required_len, .. }) => Some(*required_len),
+            CaptureError::Record(RecordError::Len { required_len, .. }) => Some(*required_len),
+            CaptureError::Section(SectionError::Len { required_len, .. }) => Some(*required_len),
+            CaptureError::Section(SectionError::Block(BlockError::Len { required_len, .. })) => {
+                Some(*required_len)
+            }
+            CaptureError::Block(BlockError::Len { required_len, .. }) => Some(*required_len),
+            _ => None,
+        }
+    }
+}
+
+impl fmt::Display for CaptureError {
+    ghost output = { λ error. Some (capture_error_text error) };
+
+    fn fmt<W: fmt::Write>(&self, f: &mut fmt::Formatter<W>) -> fmt::Result {
+        match self {
+            CaptureError::File(error) => error.fmt(f),
+            CaptureError::Record(error) => error.fmt(f),
+            CaptureError::Section(error) => error.fmt(f),
+            CaptureError::Block(error) => error.fmt(f),
+            CaptureError::Body(error) => error.fmt(f),
+            CaptureError::NoInterface(number) => write!(
+                f,
+                "A packet of a pcapng file names interface {number}, which its section does not describe."
+            ),
+            CaptureError::TooManyInterfaces => {
+                f.write_str("A section of a pcapng file describes more than 256 interfaces.")
+            }
+        }
+    }
+}
+
+impl Error for CaptureError {}
