@@ -5,3 +5,4 @@ pub mod OutputBufferLemmas
 pub mod ViewLinesLemmas
 pub mod WalkLinesLemmas
 pub mod FeedLinesLemmas
+pub mod ArgumentsLemmas

@@ -5,3 +5,4 @@ pub mod WalkText
 pub mod OutputBuffer
 pub mod InputReader
 pub mod Verdict
+pub mod Arguments

@@ -10,7 +10,7 @@ use Rattle.std.specs.Option.{is_some}
 use Rattle.std.specs.Vec.Iter.{into_iter_items, into_iter_len, into_iter_steps}
 use Rattle.std.specs.Prelude.{String, string_bytes}
 use Rattle.ether_tool.specs.Mode.{NamesMode, NamesNoMode, no_word, eth, fcs, sll, feed, ether_type}
-use Rattle.ether_tool.specs.Command.{NamesLimit, NamesCommand, NamesNoCommand, plain, limited, words_after}
+use Rattle.ether_tool.specs.Command.{NamesLimit, NamesCommand, NamesNoCommand, plain, limited}
 use Rattle.ether_tool.specs.declared.mode.Mode.{Mode}
 
 -- the words of a mode are at most two
@@ -143,24 +143,3 @@ pub names_no_number : (word : List ℕ) → ((rest : List ℕ) → word ≡ 43 �
     → (limit : ℕ) → ¬ (NamesLimit word limit)
 names_no_number word unsigned none limit names =
     subst (λ (l : List ℕ). ¬ (IsNumeral 10 l × (digits_value 10 l < 2 ^ 64))) (no_plus word unsigned) none (names.digits, limit_fits word limit names)
-
--- ---- the arguments
-
-none_left : {X Z : Type 0} (it : IntoIter X Z) → into_iter_len it ≡ 0 → into_iter_items it ≡ []
-none_left it none = same_nil (into_iter_items it) (sym it.rest.ok.0 ∙ none)
-  where
-    same_nil : {X : Type 0} (l : List X) → length l ≡ 0 → l ≡ []
-    same_nil [] is = refl
-    same_nil (x ∷ l) is = absurd (omega (arith, is))
-
--- the words are those after the program's name
-pub words_after-name : {A : Type 0} (args others : IntoIter (String A) A) (name : Option (String A)) → into_iter_steps args name others
-    → words_after (into_iter_items args) ≡ map string_bytes (into_iter_items others)
-words_after-name args others None ended =
-    ap words_after (none_left args ended.0) ∙ ap (map string_bytes) (sym (none_left others ended.1))
-words_after-name args others (Some name) next = ap words_after next.0
-
--- no word is left
-pub words_end : {A : Type 0} (args others : IntoIter (String A) A) (word : Option (String A)) → into_iter_steps args word others → is_some word ≡ false → into_iter_items args ≡ []
-words_end args others None ended none = none_left args ended.0
-words_end args others (Some word) next none = absurd (cc)

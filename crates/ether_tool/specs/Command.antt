@@ -21,10 +21,6 @@ pub data NamesCommand : List (List ℕ) → Mode × Option ℕ → Type 0 where
 abbrev pub NamesNoCommand : List (List ℕ) → Type 0
 NamesNoCommand words = (command : Mode × Option ℕ) → ¬ (NamesCommand words command)
 
--- the words of the arguments, of which the first is the program's own name
-abbrev pub words_after : {A : Type 0} → List (String A) → List (List ℕ)
-words_after args = drop 1 (map string_bytes args)
-
 -- the command of a mode with a limit, and of a mode alone
 abbrev pub limited_to : Mode → ℕ → Command
 limited_to mode limit = record { mode = mode; limit = Some limit }

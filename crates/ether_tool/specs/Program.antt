@@ -3,7 +3,7 @@ use Rattle.std.specs.Prelude.{◌≡◌, ℕ, List, [], ◌++◌, codes, Option,
 use Rattle.std.specs.Io.KnownBytes.{Appends}
 use Rattle.std.specs.Vec.Iter.{into_iter_items}
 use Rattle.std.specs.declared.vec.IntoIter.{IntoIter}
-use Rattle.ether_tool.specs.Command.{NamesCommand, NamesNoCommand, words_after}
+use Rattle.ether_tool.specs.Command.{NamesCommand, NamesNoCommand}
 use Rattle.ether_tool.specs.Run.{HasRun}
 use Rattle.ether_tool.specs.Outcome.{last_text, status_of_program}
 use Rattle.ether_tool.specs.declared.mode.Mode.{Mode}
@@ -11,11 +11,6 @@ use Rattle.ether_tool.specs.declared.mode.Usage.{Usage}
 use Rattle.ether_text.specs.declared.verdict.Verdict.{Verdict}
 use Rattle.ether_tool.specs.declared.outcome.ToolFault.{ToolFault}
 use Rattle.ether_tool.specs.declared.outcome.ToolFault.TheVariants.{Input}
-
--- the words of the arguments after the program's own name, if they can be read
-abbrev pub words_of : {A E : Type 0} → Result (IntoIter (String A) A) E → Option (List (List ℕ))
-words_of (Ok args) = Some (words_after (into_iter_items args))
-words_of (Err error) = None
 
 -- The words name a command, and it has run. Or they name none, or can't be read, which is a fault of the input: then nothing is read or written.
 abbrev pub HasObeyed : Option (List (List ℕ)) → (before after held holds : Option (List ℕ)) → Result (Result Verdict ToolFault) Usage → Type 0

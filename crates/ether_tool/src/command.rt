@@ -1,7 +1,8 @@
 //! A command: a mode with its limit, if it has one, and the words that name it.
 ghost use Rattle.std.specs.Prelude.{map, IfOk, OnErr, ℕ};
 ghost use Rattle.std.specs.Vec.Iter.{into_iter_items};
-ghost use Rattle.ether_tool.specs.Command.{NamesCommand, NamesLimit, NamesNoCommand, words_after};
+ghost use Rattle.ether_tool.specs.Command.{NamesCommand, NamesLimit, NamesNoCommand};
+ghost use Rattle.ether_text.specs.Arguments.{words_after};
 
 use crate::mode::{Mode, Usage, named_mode};
 use std::env;

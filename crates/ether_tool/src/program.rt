@@ -1,5 +1,6 @@
 //! The program, over any arguments, reader and writer.
-ghost use Rattle.ether_tool.specs.Program.{HasObeyed, HasServed, PrintsLast, words_of};
+ghost use Rattle.ether_tool.specs.Program.{HasObeyed, HasServed, PrintsLast};
+ghost use Rattle.ether_text.specs.Arguments.{words_of};
 
 use crate::command::command_of_args;
 use crate::outcome::{Outcome, ToolFault, last_line, program_status};

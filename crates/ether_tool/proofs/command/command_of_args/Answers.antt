@@ -2,8 +2,9 @@ use Rattle.std.proofs.Common.{◌≡◌, ℕ, List, [], ◌∷◌, map, OnErr, a
 use Rattle.std.specs.Prelude.{String, string_bytes}
 use Rattle.std.specs.Option.{is_some}
 use Rattle.std.specs.Vec.Iter.{into_iter_items}
-use Rattle.ether_tool.specs.Command.{NamesNoCommand, words_after}
-use Rattle.ether_tool.proofs.CommandLemmas.{words_after-name, words_end}
+use Rattle.ether_text.specs.Arguments.{words_after}
+use Rattle.ether_tool.specs.Command.{NamesNoCommand}
+use Rattle.ether_text.proofs.ArgumentsLemmas.{words_after-name, words_end}
 use Rattle.ether_tool.proofs.command.command_of_args.Goals as goal
 
 pub returns-in_default-clause-err : goal.returns-in_default-clause-err

@@ -1,0 +1,26 @@
+-- The words of a program's arguments, one after the other.
+use Rattle.std.proofs.Common.{◌≡◌, ℕ, List, [], ◌∷◌, length, map, Option, Some, None, false, refl, sym, ap, ◌∙◌, arith}
+use Rattle.std.specs.Prelude.{String, string_bytes}
+use Rattle.std.specs.Option.{is_some}
+use Rattle.std.specs.Vec.Iter.{into_iter_items, into_iter_len, into_iter_steps}
+use Rattle.std.specs.declared.vec.IntoIter.{IntoIter}
+use Rattle.ether_text.specs.Arguments.{words_after}
+
+none_left : {X Z : Type 0} (it : IntoIter X Z) → into_iter_len it ≡ 0 → into_iter_items it ≡ []
+none_left it none = same_nil (into_iter_items it) (sym it.rest.ok.0 ∙ none)
+  where
+    same_nil : {X : Type 0} (l : List X) → length l ≡ 0 → l ≡ []
+    same_nil [] is = refl
+    same_nil (x ∷ l) is = absurd (omega (arith, is))
+
+-- the words are those after the program's name
+pub words_after-name : {A : Type 0} (args others : IntoIter (String A) A) (name : Option (String A)) → into_iter_steps args name others
+    → words_after (into_iter_items args) ≡ map string_bytes (into_iter_items others)
+words_after-name args others None ended =
+    ap words_after (none_left args ended.0) ∙ ap (map string_bytes) (sym (none_left others ended.1))
+words_after-name args others (Some name) next = ap words_after next.0
+
+-- no word is left
+pub words_end : {A : Type 0} (args others : IntoIter (String A) A) (word : Option (String A)) → into_iter_steps args word others → is_some word ≡ false → into_iter_items args ≡ []
+words_end args others None ended none = none_left args ended.0
+words_end args others (Some word) next none = absurd (cc)
