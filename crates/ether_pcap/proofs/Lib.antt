@@ -4,3 +4,6 @@ mod Blocks
 mod Bodies
 mod Sections
 mod Options
+mod Captures
+mod CaptureTimes
+pub mod CaptureLengths

@@ -1,10 +1,14 @@
 -- What is read of a capture file of either format, and why it is refused, as values of the formats.
+use Rattle.std.specs.Prelude.{List, map}
 use Rattle.std.specs.Option.{option_map}
-use Rattle.ether_pcap.specs.Capture.{TimeValue, PacketValue, CaptureRefusal, File, Record, Section, Block, Body, NoInterface, TooManyInterfaces}
-use Rattle.ether_pcap.specs.Views.{file_refusal_view, record_refusal_view}
+use Rattle.ether_pcap.specs.Capture.{TimeValue, PacketValue, CaptureInterfaceValue, Expectation, Beginning, Records, Blocks, CaptureRefusal, File, Record, Section, Block, Body, NoInterface, TooManyInterfaces}
+use Rattle.ether_pcap.specs.Views.{order_of, file_header_view, file_refusal_view, record_refusal_view}
 use Rattle.ether_pcap.specs.PcapngViews.{section_refusal_view, block_refusal_view, body_refusal_view}
 use Rattle.ether_pcap.specs.declared.timestamp.Timestamp.{Timestamp}
 use Rattle.ether_pcap.specs.declared.captured_packet.CapturedPacket.{CapturedPacket}
+use Rattle.ether_pcap.specs.declared.capture_interface.CaptureInterface.{CaptureInterface}
+use Rattle.ether_pcap.specs.declared.capture_reader.Progress.{Progress}
+use Rattle.ether_pcap.specs.declared.capture_reader.Progress.TheVariants as progress
 use Rattle.ether_pcap.specs.declared.capture_error.CaptureError.{CaptureError}
 use Rattle.ether_pcap.specs.declared.capture_error.CaptureError.TheVariants as errors
 
@@ -28,3 +32,21 @@ capture_refusal_view (errors.Block error) = Block (block_refusal_view error)
 capture_refusal_view (errors.Body error) = Body (body_refusal_view error)
 capture_refusal_view (errors.NoInterface number) = NoInterface number
 capture_refusal_view errors.TooManyInterfaces = TooManyInterfaces
+
+abbrev pub capture_interface_view : CaptureInterface → CaptureInterfaceValue
+capture_interface_view i = record {
+  link_type = i.link_type.0;
+  snap_len = i.snap_len;
+  fcs_len = i.fcs_len;
+  resolution = i.time_resolution;
+  is_shifted = i.is_shifted;
+}
+
+abbrev pub interfaces_view : List CaptureInterface → List CaptureInterfaceValue
+interfaces_view interfaces = map capture_interface_view interfaces
+
+-- what a reader expects that has read this and keeps these interfaces
+abbrev pub expectation_of : Progress → List CaptureInterface → Expectation
+expectation_of progress.Nothing interfaces = Beginning
+expectation_of (progress.Classic header) interfaces = Records (file_header_view header)
+expectation_of (progress.Section order) interfaces = Blocks (order_of order) (interfaces_view interfaces)

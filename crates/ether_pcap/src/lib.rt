@@ -4,7 +4,10 @@
 mod block_error;
 mod body_error;
 mod byte_order;
+mod capture_blocks;
 mod capture_error;
+mod capture_interface;
+mod capture_reader;
 mod capture_unit;
 mod captured_packet;
 mod enhanced_packet;
@@ -34,6 +37,7 @@ pub use block_error::BlockError;
 pub use body_error::BodyError;
 pub use byte_order::ByteOrder;
 pub use capture_error::CaptureError;
+pub use capture_reader::CaptureReader;
 pub use capture_unit::CaptureUnit;
 pub use captured_packet::CapturedPacket;
 pub use enhanced_packet::EnhancedPacket;

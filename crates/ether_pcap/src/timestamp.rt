@@ -1,4 +1,7 @@
 //! The time of a capture.
+ghost use Rattle.std.specs.Prelude.{◌≡◌};
+ghost use Rattle.ether_pcap.specs.Capture.{time_of};
+ghost use Rattle.ether_pcap.specs.CaptureViews.{timestamp_view};
 
 /// The time of a capture since the beginning of 1970, UTC.
 ///
@@ -15,4 +18,16 @@ pub struct Timestamp {
     pub seconds: u64,
     /// The nanoseconds after them, less than 1,000,000,000 in each time that is read.
     pub nanoseconds: u32,
+}
+
+impl Timestamp {
+    /// The time of a number of nanoseconds since the beginning of 1970, UTC.
+    pub(crate) fn from_nanoseconds(nanoseconds: u64) -> Timestamp
+        ensures { timestamp_view result ≡ time_of nanoseconds }
+    {
+        Timestamp {
+            seconds: nanoseconds / 1_000_000_000,
+            nanoseconds: (nanoseconds % 1_000_000_000) as u32,
+        }
+    }
 }

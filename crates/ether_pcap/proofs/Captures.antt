@@ -1,0 +1,95 @@
+-- What a reader of capture files knows.
+use Rattle.std.proofs.Common.{◌≡◌, ℕ, zero, suc, ◌+◌, ◌^◌, ◌<◌, ◌≤◌, List, [], ◌∷◌, length, refl, sym, ap, subst, arith, inl, inr, Some, None, Bool, Bor}
+use Rattle.std.specs.Prelude.{is_some, slice_range, slice_index_or, MatchOption, Option}
+use Rattle.std.proofs.Math.Nat.{pow-le-pow_right}
+use Rattle.std.proofs.lemmas.Bool.{cases_lt}
+use Rattle.ether_base.specs.Bytes.{IsBytes, number}
+use Rattle.ether_base.proofs.Numbers.{number_below}
+use Rattle.ether_base.proofs.SubLists.{length-part-is, IsBytes-part}
+use Rattle.ether_pcap.specs.Numbers.{Order}
+use Rattle.ether_pcap.specs.Section.{HasSectionType, IsSection, SectionRefusal, RefusesSection}
+use Rattle.ether_pcap.specs.Options.{OptionValue, HasOptions, value_of, byte_of}
+use Rattle.ether_pcap.specs.Bodies.{IsInterface}
+use Rattle.ether_pcap.specs.FileHeader.{FileHeaderValue}
+use Rattle.ether_pcap.specs.Record.{RecordValue, BeginsRecord, record_len}
+use Rattle.ether_pcap.specs.Capture.{PacketValue, packet_of_record, Describes, CaptureInterfaceValue, IsAt, Beginning, Records, Blocks, Begins, Refuses, Section, file_record, first_section, section, first_section_refused, section_refused}
+use Rattle.ether_pcap.specs.PcapngViews.{interface_view}
+use Rattle.ether_pcap.specs.Block.{BlockValue}
+use Rattle.ether_pcap.specs.Views.{order_of}
+use Rattle.ether_pcap.specs.CaptureViews.{capture_interface_view, interfaces_view, expectation_of}
+use Rattle.ether_pcap.specs.declared.byte_order.ByteOrder.{ByteOrder}
+use Rattle.ether_pcap.specs.declared.file_header.FileHeader.{FileHeader}
+use Rattle.ether_pcap.specs.declared.capture_reader.Progress.{Progress}
+use Rattle.ether_pcap.specs.declared.capture_reader.Progress.TheVariants as progress
+use Rattle.ether_pcap.specs.declared.interface_description.InterfaceDescription.{InterfaceDescription}
+use Rattle.ether_pcap.specs.declared.capture_interface.CaptureInterface.{CaptureInterface}
+
+-- bytes that begin with a section's type are at least four
+pub section_len : (bytes : List ℕ) → IsBytes bytes → HasSectionType bytes → 4 ≤ length bytes
+section_len bytes ok is =
+    elim (cases_lt (length bytes) 4) [
+      | inl lt ↦
+          let part = slice_range bytes 0 4 in
+          let len : length part ≤ 3 = omega (arith, length-part-is bytes 0 4) in
+          let most : 256 ^ length part ≤ 16777216 = pow-le-pow_right {n = 256} (omega arith) {i = length part} {j = 3} len in
+          let below : number part < 256 ^ length part = number_below part (IsBytes-part 0 4 bytes ok) in
+          absurd (omega (arith, most, below, is))
+      | inr le ↦ le
+    ]
+
+-- the interface that an interface description describes
+pub describes : (order : Order) (body : List ℕ) (d : InterfaceDescription) (fcs_len resolution : Option ℕ) (shifted : Bool) (options : List OptionValue)
+    → IsInterface order body (interface_view d) → HasOptions order d.options.now options
+    → fcs_len ≡ byte_of (value_of 13 options) → resolution ≡ byte_of (value_of 9 options) → shifted ≡ is_some (value_of 14 options)
+    → Describes order body (record { link_type = d.link_type.0; snap_len = d.snap_len; fcs_len = fcs_len; resolution = resolution; is_shifted = shifted })
+describes order body d fcs_len resolution shifted options is has f r s =
+    record {
+      interface = interface_view d;
+      options = options;
+      is_interface = is;
+      has_options = has;
+      value = λ i. record { link_type = d.link_type.0; snap_len = d.snap_len; fcs_len = sym f i; resolution = sym r i; is_shifted = sym s i };
+    }
+
+pub same_some : (found : Option (Bor (List ℕ))) (value : Option (List ℕ)) → MatchOption found (value ≡ None) (λ v. value ≡ Some v.now) → is_some found ≡ is_some value
+same_some None value e = ap is_some (sym e)
+same_some (Some v) value e = ap is_some (sym e)
+
+-- the interface at a place
+pub is_at : (interfaces : List CaptureInterface) (n : ℕ) (other : CaptureInterface) → n < length interfaces → IsAt (interfaces_view interfaces) n (capture_interface_view (slice_index_or interfaces n other))
+is_at [] n other lt = absurd (omega arith)
+is_at (x ∷ xs) zero other lt = record { before = []; after = interfaces_view xs; parts = refl; number = refl }
+is_at (x ∷ xs) (suc n) other lt =
+    let at : IsAt (interfaces_view xs) n (capture_interface_view (slice_index_or xs n other)) = is_at xs n other (omega arith) in
+    record {
+      before = capture_interface_view x ∷ at.before;
+      after = at.after;
+      parts = ap (λ (l : List CaptureInterfaceValue). capture_interface_view x ∷ l) at.parts;
+      number = ap suc at.number;
+    }
+
+-- a record as a unit
+pub record_unit : (bytes : List ℕ) (h : FileHeaderValue) (r : RecordValue) (len : ℕ) (p : PacketValue) → BeginsRecord h.order bytes r → len ≡ record_len r → p ≡ packet_of_record h r
+    → Begins bytes (Records h) len (Some p) (Records h)
+record_unit bytes h r len p is n e =
+    subst (λ (m : ℕ). Begins bytes (Records h) m (Some p) (Records h)) (sym n)
+    (subst (λ (q : PacketValue). Begins bytes (Records h) (record_len r) (Some q) (Records h)) (sym e) (file_record h r is))
+
+-- ---- what is expected, by what a reader has read
+
+pub section_unit : (p : Progress) (interfaces : List CaptureInterface) (bytes : List ℕ) (order : Order) (b : BlockValue) (len : ℕ) → ((h : FileHeader) → p ≡ progress.Classic h → ⊥)
+    → IsSection bytes order b → len ≡ 12 + length b.body → Begins bytes (expectation_of p interfaces) len None (Blocks order [])
+section_unit progress.Nothing interfaces bytes order b len none is e = rw e (first_section order b is)
+section_unit (progress.Classic h) interfaces bytes order b len none is e = absurd (none h refl)
+section_unit (progress.Section old) interfaces bytes order b len none is e = rw e (section (order_of old) order (interfaces_view interfaces) b is)
+
+pub section_not_read : (p : Progress) (interfaces : List CaptureInterface) (bytes : List ℕ) (r : SectionRefusal) → ((h : FileHeader) → p ≡ progress.Classic h → ⊥)
+    → HasSectionType bytes → RefusesSection bytes r → Refuses bytes (expectation_of p interfaces) (Section r)
+section_not_read progress.Nothing interfaces bytes r none has is = first_section_refused r has is
+section_not_read (progress.Classic h) interfaces bytes r none has is = absurd (none h refl)
+section_not_read (progress.Section old) interfaces bytes r none has is = section_refused (order_of old) (interfaces_view interfaces) r has is
+
+pub nothing_read : (p : Progress) (interfaces : List CaptureInterface) → ((h : FileHeader) → p ≡ progress.Classic h → ⊥) → ((o : ByteOrder) → p ≡ progress.Section o → ⊥) → expectation_of p interfaces ≡ Beginning
+nothing_read progress.Nothing interfaces classic pcapng = refl
+nothing_read (progress.Classic h) interfaces classic pcapng = absurd (classic h refl)
+nothing_read (progress.Section o) interfaces classic pcapng = absurd (pcapng o refl)
