@@ -7,3 +7,5 @@ mod Options
 mod Captures
 mod CaptureTimes
 pub mod CaptureLengths
+pub mod CaptureLocality
+mod CapturesOne

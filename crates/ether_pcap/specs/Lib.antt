@@ -14,3 +14,4 @@ pub mod PcapngTexts
 pub mod Capture
 pub mod CaptureViews
 pub mod CaptureTexts
+pub mod CaptureLaws

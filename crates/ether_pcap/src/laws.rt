@@ -1,5 +1,6 @@
 //! The laws of the format. Each is the contract of a function that does nothing.
 ghost use Rattle.ether_pcap.specs.Laws.{FileHeadersAreOne, RecordsAreOne, ContentsAreOne, BlocksAreOne, BodiesAreOne, SectionsAreOne, OptionsAreOne};
+ghost use Rattle.ether_pcap.specs.CaptureLaws.{UnitsAreLocal, UnitLengths, UnitsAreOne};
 
 /// Bytes begin with at most one file header, or are refused for one reason.
 pub fn file_headers_are_one()
@@ -34,4 +35,20 @@ pub fn sections_are_one()
 /// Any bytes have options, in one way.
 pub fn options_are_one()
     ensures { OptionsAreOne }
+{}
+
+/// A unit of a capture file does not depend on the bytes after it. Nor does a refusal, unless the bytes end within the unit.
+pub fn units_are_local()
+    ensures { UnitsAreLocal }
+{}
+
+/// A unit of a capture file has a byte at least, and not more than there are. A length that is required is greater than that of the
+/// bytes.
+pub fn unit_lengths()
+    ensures { UnitLengths }
+{}
+
+/// Bytes begin with at most one unit of a capture file, or are refused for one reason.
+pub fn units_are_one()
+    ensures { UnitsAreOne }
 {}

@@ -1,0 +1,157 @@
+-- What a unit is, after it and why there is none: one for each list of bytes and each expectation.
+use Rattle.std.proofs.Common.{◌≡◌, ℕ, ◌+◌, ◌<◌, List, [], ◌∷◌, ◌++◌, length, length-append, refl, sym, ap, subst, ◌∙◌, arith, Some, None}
+use Rattle.std.specs.Prelude.{Option, slice_get}
+use Rattle.ether_base.specs.Bytes.{IsBytes}
+use Rattle.ether_pcap.specs.Numbers.{Order}
+use Rattle.ether_pcap.specs.Record.{RecordValue, record_len}
+use Rattle.ether_pcap.specs.Block.{BlockValue}
+use Rattle.ether_pcap.specs.Options.{HasOptions}
+use Rattle.ether_pcap.specs.Bodies.{InterfaceValue, EnhancedPacketValue, SimplePacketValue, IsSimplePacket, RefusesSimplePacket}
+use Rattle.ether_pcap.specs.Capture.{PacketValue, packet_of_record, CaptureInterfaceValue, described_by, Describes, IsAt, time_on, Expectation, Records, Blocks, BlockKind, InterfaceDescription, SimplePacket, EnhancedPacket, Other, kind_of_block, IsBody, CaptureRefusal, File, Record, Section, Block, Body, NoInterface, RefusesBody, interface, too_many, simple_alone, simple, enhanced, enhanced_alone, Begins, file_header, file_record, first_section, section, block, Refuses, file_header_refused, file_record_refused, first_section_refused, section_refused, block_refused, body_refused}
+use Rattle.ether_pcap.proofs.FileHeaders.{one_header, apart, refused_once}
+use Rattle.ether_pcap.proofs.Records.{record_one, record_apart, refusal_one}
+use Rattle.ether_pcap.proofs.Blocks.{block_one, block_apart, block_refusal_one}
+use Rattle.ether_pcap.proofs.Sections as sections
+use Rattle.ether_pcap.proofs.Options.{same_options}
+use Rattle.ether_pcap.proofs.Bodies.{interface_one, interface_apart, interface_refused, enhanced_one, enhanced_apart, enhanced_refused, simple_one, simple_apart, simple_refused}
+
+-- ---- interfaces
+
+get_middle : (before after : List CaptureInterfaceValue) (i : CaptureInterfaceValue) → slice_get (before ++ i ∷ after) (length before) ≡ Some i
+get_middle [] after i = refl
+get_middle (x ∷ before) after i = get_middle before after i
+
+get_at : (l : List CaptureInterfaceValue) (n : ℕ) (i : CaptureInterfaceValue) → IsAt l n i → slice_get l n ≡ Some i
+get_at l n i at =
+    ap (λ (m : List CaptureInterfaceValue). slice_get m n) at.parts ∙ ap (slice_get (at.before ++ i ∷ at.after)) (sym at.number) ∙ get_middle at.before at.after i
+
+at_one : (l : List CaptureInterfaceValue) (n : ℕ) (i j : CaptureInterfaceValue) → IsAt l n i → IsAt l n j → i ≡ j
+at_one l n i j a b = let e = get_at l n i a in let f = get_at l n j b in cc
+
+at_within : (l : List CaptureInterfaceValue) (n : ℕ) (i : CaptureInterfaceValue) → IsAt l n i → n < length l
+at_within l n i at =
+    let e : length l ≡ length at.before + length (i ∷ at.after) = ap length at.parts ∙ length-append at.before (i ∷ at.after) in
+    omega (arith, e, at.number)
+
+described_one : (order : Order) (body : List ℕ) (v w : CaptureInterfaceValue) → Describes order body v → Describes order body w → v ≡ w
+described_one order body v w d e =
+    let s : d.interface ≡ e.interface = interface_one order body d.interface e.interface d.is_interface e.is_interface in
+    let m : HasOptions order d.interface.options e.options = subst (λ (k : InterfaceValue). HasOptions order k.options e.options) (sym s) e.has_options in
+    let o : d.options ≡ e.options = same_options order d.interface.options d.options e.options d.has_options m in
+    let p : described_by d.interface d.options ≡ described_by e.interface e.options = λ i. described_by (s i) (o i) in
+    sym d.value ∙ p ∙ e.value
+
+-- ---- bodies
+
+simple_packet_of : CaptureInterfaceValue → SimplePacketValue → Option PacketValue
+simple_packet_of i p = Some (record { time = None; original_len = p.original_len; link_type = i.link_type; fcs_len = i.fcs_len; packet = p.packet })
+
+enhanced_packet_of : CaptureInterfaceValue → EnhancedPacketValue → Option PacketValue
+enhanced_packet_of i p = Some (record { time = time_on i p.time; original_len = p.original_len; link_type = i.link_type; fcs_len = i.fcs_len; packet = p.packet })
+
+body_one : (kind : BlockKind) (order : Order) (before : List CaptureInterfaceValue) (body : List ℕ) (p q : Option PacketValue) (after others : List CaptureInterfaceValue)
+    → IsBody kind order before body p after → IsBody kind order before body q others → (p ≡ q) × (after ≡ others)
+unfolding simple_packet_of enhanced_packet_of
+body_one InterfaceDescription order before body p q after others (i, d, lt, e, f) (j, d2, lt2, e2, f2) =
+    let s = described_one order body i j d d2 in
+    (e ∙ sym e2, f ∙ ap (λ (k : CaptureInterfaceValue). before ++ k ∷ []) s ∙ sym f2)
+body_one SimplePacket order before body p q after others (i, v, at, is, e, f) (j, w, at2, is2, e2, f2) =
+    let s = at_one before 0 i j at at2 in
+    let m : IsSimplePacket order i.snap_len body w = subst (λ (k : CaptureInterfaceValue). IsSimplePacket order k.snap_len body w) (sym s) is2 in
+    let o = simple_one order i.snap_len body v w is m in
+    let r : simple_packet_of i v ≡ simple_packet_of j w = λ k. simple_packet_of (s k) (o k) in
+    (e ∙ r ∙ sym e2, f ∙ sym f2)
+body_one EnhancedPacket order before body p q after others (i, v, is, at, e, f) (j, w, is2, at2, e2, f2) =
+    let o = enhanced_one order body v w is is2 in
+    let m : IsAt before v.interface j = subst (λ (k : EnhancedPacketValue). IsAt before k.interface j) (sym o) at2 in
+    let s = at_one before v.interface i j at m in
+    let r : enhanced_packet_of i v ≡ enhanced_packet_of j w = λ k. enhanced_packet_of (s k) (o k) in
+    (e ∙ r ∙ sym e2, f ∙ sym f2)
+body_one Other order before body p q after others (e, f) (e2, f2) = (e ∙ sym e2, f ∙ sym f2)
+
+body_apart : (kind : BlockKind) (order : Order) (before : List CaptureInterfaceValue) (body : List ℕ) (p : Option PacketValue) (after : List CaptureInterfaceValue) (r : CaptureRefusal)
+    → RefusesBody order before body kind r → IsBody kind order before body p after → ⊥
+body_apart kind order before body p after r (interface s refused) (i, d, lt, e, f) = interface_apart order body d.interface s d.is_interface refused
+body_apart kind order before body p after r (too_many j d2 most) (i, d, lt, e, f) = omega (arith, lt, most)
+body_apart kind order before body p after r (simple_alone none) (i, v, at, is, e, f) = omega (arith, at_within before 0 i at, none)
+body_apart kind order before body p after r (simple j s at2 refused) (i, v, at, is, e, f) =
+    let m = at_one before 0 i j at at2 in
+    simple_apart order i.snap_len body v s is (subst (λ (k : CaptureInterfaceValue). RefusesSimplePacket order k.snap_len body s) (sym m) refused)
+body_apart kind order before body p after r (enhanced s refused) (i, v, is, at, e, f) = enhanced_apart order body v s is refused
+body_apart kind order before body p after r (enhanced_alone w is2 none) (i, v, is, at, e, f) =
+    let n = ap (λ (k : EnhancedPacketValue). k.interface) (enhanced_one order body v w is is2) in
+    omega (arith, at_within before v.interface i at, none, n)
+
+body_refusal_one : (kind : BlockKind) (order : Order) (before : List CaptureInterfaceValue) (body : List ℕ) (r s : CaptureRefusal) → RefusesBody order before body kind r → RefusesBody order before body kind s → r ≡ s
+body_refusal_one kind order before body r s (interface a refused) (interface b refused2) = ap Body (interface_refused body a b refused refused2)
+body_refusal_one kind order before body r s (interface a refused) (too_many i d most) = absurd (interface_apart order body d.interface a d.is_interface refused)
+body_refusal_one kind order before body r s (too_many i d most) (interface a refused) = absurd (interface_apart order body d.interface a d.is_interface refused)
+body_refusal_one kind order before body r s (too_many i d most) (too_many j d2 most2) = refl
+body_refusal_one kind order before body r s (simple_alone none) (simple_alone none2) = refl
+body_refusal_one kind order before body r s (simple_alone none) (simple i a at refused) = absurd (omega (arith, at_within before 0 i at, none))
+body_refusal_one kind order before body r s (simple i a at refused) (simple_alone none) = absurd (omega (arith, at_within before 0 i at, none))
+body_refusal_one kind order before body r s (simple i a at refused) (simple j b at2 refused2) =
+    let m = at_one before 0 i j at at2 in
+    ap Body (simple_refused order i.snap_len body a b refused (subst (λ (k : CaptureInterfaceValue). RefusesSimplePacket order k.snap_len body b) (sym m) refused2))
+body_refusal_one kind order before body r s (enhanced a refused) (enhanced b refused2) = ap Body (enhanced_refused order body a b refused refused2)
+body_refusal_one kind order before body r s (enhanced a refused) (enhanced_alone v is none) = absurd (enhanced_apart order body v a is refused)
+body_refusal_one kind order before body r s (enhanced_alone v is none) (enhanced a refused) = absurd (enhanced_apart order body v a is refused)
+body_refusal_one kind order before body r s (enhanced_alone v is none) (enhanced_alone w is2 none2) = ap (λ (k : EnhancedPacketValue). NoInterface k.interface) (enhanced_one order body v w is is2)
+
+-- ---- units
+
+pub unit_one : (bytes : List ℕ) (x y z : Expectation) (len n : ℕ) (p q : Option PacketValue) → IsBytes bytes → Begins bytes x len p y → Begins bytes x n q z → (len ≡ n) × (p ≡ q) × (y ≡ z)
+unit_one bytes x y z len n p q ok (file_header h other is) (file_header k other2 is2) = (refl, refl, ap Records (one_header bytes h k ok is is2))
+unit_one bytes x y z len n p q ok (file_header h other is) (first_section order b is2) = absurd (other is2.section)
+unit_one bytes x y z len n p q ok (file_record h r is) (file_record k s is2) =
+    let e = record_one h.order bytes r s is is2 in
+    (ap record_len e, ap (λ (v : RecordValue). Some (packet_of_record h v)) e, refl)
+unit_one bytes x y z len n p q ok (first_section order b is) (file_header h other is2) = absurd (other is.section)
+unit_one bytes x y z len n p q ok (first_section order b is) (first_section order2 c is2) =
+    let e = sections.section_one bytes order order2 b c ok is is2 in
+    (ap (λ (v : BlockValue). 12 + length v.body) e.1, refl, ap (λ (o : Order). Blocks o []) e.0)
+unit_one bytes x y z len n p q ok (section order next interfaces b is) (section order2 next2 interfaces2 c is2) =
+    let e = sections.section_one bytes next next2 b c ok is is2 in
+    (ap (λ (v : BlockValue). 12 + length v.body) e.1, refl, ap (λ (o : Order). Blocks o []) e.0)
+unit_one bytes x y z len n p q ok (section order next interfaces b is) (block order2 interfaces2 after packet c other begins is2) = absurd (other is.section)
+unit_one bytes x y z len n p q ok (block order interfaces after packet b other begins is) (section order2 next interfaces2 c is2) = absurd (other is2.section)
+unit_one bytes x y z len n p q ok (block order interfaces after packet b other begins is) (block order2 interfaces2 after2 packet2 c other2 begins2 is2) =
+    let e = block_one order bytes b c begins begins2 in
+    let m : IsBody (kind_of_block b.block_type) order interfaces b.body packet2 after2 = subst (λ (v : BlockValue). IsBody (kind_of_block v.block_type) order interfaces v.body packet2 after2) (sym e) is2 in
+    let both = body_one (kind_of_block b.block_type) order interfaces b.body packet packet2 after after2 is m in
+    (ap (λ (v : BlockValue). 12 + length v.body) e, both.0, ap (Blocks order) both.1)
+
+pub unit_apart : (bytes : List ℕ) (x y : Expectation) (len : ℕ) (p : Option PacketValue) (r : CaptureRefusal) → IsBytes bytes → Begins bytes x len p y → Refuses bytes x r → ⊥
+unit_apart bytes x y len p r ok (file_header h other is) (file_header_refused s other2 refused) = apart bytes h s ok is refused
+unit_apart bytes x y len p r ok (file_header h other is) (first_section_refused s has refused) = other has
+unit_apart bytes x y len p r ok (file_record h v is) (file_record_refused k s refused) = record_apart h.order bytes v s is refused
+unit_apart bytes x y len p r ok (first_section order b is) (file_header_refused s other refused) = other is.section
+unit_apart bytes x y len p r ok (first_section order b is) (first_section_refused s has refused) = sections.section_apart bytes order b s ok is refused
+unit_apart bytes x y len p r ok (section order next interfaces b is) (section_refused order2 interfaces2 s has refused) = sections.section_apart bytes next b s ok is refused
+unit_apart bytes x y len p r ok (section order next interfaces b is) (block_refused order2 interfaces2 s other refused) = other is.section
+unit_apart bytes x y len p r ok (section order next interfaces b is) (body_refused order2 interfaces2 c s other begins refused) = other is.section
+unit_apart bytes x y len p r ok (block order interfaces after packet b other begins is) (section_refused order2 interfaces2 s has refused) = other has
+unit_apart bytes x y len p r ok (block order interfaces after packet b other begins is) (block_refused order2 interfaces2 s other2 refused) = block_apart order bytes b s begins refused
+unit_apart bytes x y len p r ok (block order interfaces after packet b other begins is) (body_refused order2 interfaces2 c s other2 begins2 refused) =
+    let e = block_one order bytes b c begins begins2 in
+    body_apart (kind_of_block b.block_type) order interfaces b.body packet after s
+    (subst (λ (v : BlockValue). RefusesBody order interfaces v.body (kind_of_block v.block_type) s) (sym e) refused) is
+
+pub unit_refusal_one : (bytes : List ℕ) (x : Expectation) (r s : CaptureRefusal) → IsBytes bytes → Refuses bytes x r → Refuses bytes x s → r ≡ s
+unit_refusal_one bytes x r s ok (file_header_refused a other refused) (file_header_refused b other2 refused2) = ap File (refused_once bytes a b ok refused refused2)
+unit_refusal_one bytes x r s ok (file_header_refused a other refused) (first_section_refused b has refused2) = absurd (other has)
+unit_refusal_one bytes x r s ok (file_record_refused h a refused) (file_record_refused k b refused2) = ap Record (refusal_one h.order bytes a b refused refused2)
+unit_refusal_one bytes x r s ok (first_section_refused a has refused) (file_header_refused b other refused2) = absurd (other has)
+unit_refusal_one bytes x r s ok (first_section_refused a has refused) (first_section_refused b has2 refused2) = ap Section (sections.section_refused bytes a b ok refused refused2)
+unit_refusal_one bytes x r s ok (section_refused order interfaces a has refused) (section_refused order2 interfaces2 b has2 refused2) = ap Section (sections.section_refused bytes a b ok refused refused2)
+unit_refusal_one bytes x r s ok (section_refused order interfaces a has refused) (block_refused order2 interfaces2 b other refused2) = absurd (other has)
+unit_refusal_one bytes x r s ok (section_refused order interfaces a has refused) (body_refused order2 interfaces2 c b other begins refused2) = absurd (other has)
+unit_refusal_one bytes x r s ok (block_refused order interfaces a other refused) (section_refused order2 interfaces2 b has refused2) = absurd (other has)
+unit_refusal_one bytes x r s ok (block_refused order interfaces a other refused) (block_refused order2 interfaces2 b other2 refused2) = ap Block (block_refusal_one order bytes a b refused refused2)
+unit_refusal_one bytes x r s ok (block_refused order interfaces a other refused) (body_refused order2 interfaces2 c b other2 begins refused2) = absurd (block_apart order bytes c a begins refused)
+unit_refusal_one bytes x r s ok (body_refused order interfaces c a other begins refused) (section_refused order2 interfaces2 b has refused2) = absurd (other has)
+unit_refusal_one bytes x r s ok (body_refused order interfaces c a other begins refused) (block_refused order2 interfaces2 b other2 refused2) = absurd (block_apart order bytes c b begins refused2)
+unit_refusal_one bytes x r s ok (body_refused order interfaces c a other begins refused) (body_refused order2 interfaces2 d b other2 begins2 refused2) =
+    let e = block_one order bytes c d begins begins2 in
+    body_refusal_one (kind_of_block c.block_type) order interfaces c.body r s refused
+    (subst (λ (v : BlockValue). RefusesBody order interfaces v.body (kind_of_block v.block_type) s) (sym e) refused2)

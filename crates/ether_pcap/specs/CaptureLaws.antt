@@ -1,0 +1,21 @@
+-- The laws of capture files of either format, read unit by unit.
+use Rattle.std.specs.Prelude.{◌≡◌, ℕ, ◌<◌, ◌≤◌, List, ◌++◌, length, Option, Some, None}
+use Rattle.ether_base.specs.Bytes.{IsBytes}
+use Rattle.ether_pcap.specs.Capture.{Expectation, PacketValue, CaptureRefusal, Begins, Refuses, required_len}
+
+-- a unit does not depend on the bytes after it; nor does a refusal, unless the bytes end within the unit
+pub record UnitsAreLocal : Type 0 where
+  pub unit : (bytes more : List ℕ) (x y : Expectation) (len : ℕ) (p : Option PacketValue) → Begins bytes x len p y → Begins (bytes ++ more) x len p y
+  pub refused : (bytes more : List ℕ) (x : Expectation) (r : CaptureRefusal) → Refuses bytes x r → required_len r ≡ None → Refuses (bytes ++ more) x r
+
+-- a unit has a byte and is within the bytes; a length that is required is above theirs
+pub record UnitLengths : Type 0 where
+  pub within : (bytes : List ℕ) (x y : Expectation) (len : ℕ) (p : Option PacketValue) → Begins bytes x len p y → len ≤ length bytes
+  pub some : (bytes : List ℕ) (x y : Expectation) (len : ℕ) (p : Option PacketValue) → Begins bytes x len p y → 0 < len
+  pub required : (bytes : List ℕ) (x : Expectation) (r : CaptureRefusal) (n : ℕ) → Refuses bytes x r → required_len r ≡ Some n → length bytes < n
+
+-- bytes begin with at most one unit, or are refused for one reason
+pub record UnitsAreOne : Type 0 where
+  pub one : (bytes : List ℕ) (x y z : Expectation) (len n : ℕ) (p q : Option PacketValue) → IsBytes bytes → Begins bytes x len p y → Begins bytes x n q z → (len ≡ n) × (p ≡ q) × (y ≡ z)
+  pub apart : (bytes : List ℕ) (x y : Expectation) (len : ℕ) (p : Option PacketValue) (r : CaptureRefusal) → IsBytes bytes → Begins bytes x len p y → Refuses bytes x r → ⊥
+  pub refused : (bytes : List ℕ) (x : Expectation) (r s : CaptureRefusal) → IsBytes bytes → Refuses bytes x r → Refuses bytes x s → r ≡ s
