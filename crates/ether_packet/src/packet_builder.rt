@@ -289,6 +289,20 @@ fn write_link(target: &mut [u8], link: &LinkHeader, ether_type: EtherType)
     }
 }
 
+/// Writes the header of a link as it is.
+pub(crate) fn write_link_header(target: &mut [u8], link: &LinkHeader)
+    requires { header_len (link_header link.now) ≤ length target.old }
+    ensures bytes { target.new
+        ≡ overwritten target.old 0 (header_bytes (link_header link.now)) }
+    ensures fits { FitsHeader (link_header link.now) }
+    ensures packet_type { HasPacketType link.now }
+{
+    match link {
+        LinkHeader::Ethernet2(header) => put_at(target, 0, header.to_bytes()),
+        LinkHeader::LinuxSll(header) => put_at(target, 0, header.to_bytes()),
+    }
+}
+
 /// Writes a tag from a place on.
 pub(crate) fn write_ext(target: &mut [u8], at: usize, ext: &LinkExtHeader)
     requires { at + header_len (ext_header_view ext.now) ≤ length target.old }
