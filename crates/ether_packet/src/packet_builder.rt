@@ -245,7 +245,8 @@ fn write_sec_tag(
     match tag.ptype {
         MacsecPType::Unmodified(_) => {
             let ptype = MacsecPType::Unmodified(ether_type);
-            write_sized_sec_tag(target, end, MacsecHeader { ptype, ..*tag }, following)
+            let tag = MacsecHeader { ptype, ..*tag };
+            write_sized_sec_tag::<16, 8>(target, end, tag, following)
         }
         _ => write_sealed_sec_tag(target, end, tag, following),
     }
@@ -266,12 +267,17 @@ fn write_sealed_sec_tag(
     ensures fits { FitsHeader (named_before (sec_tag_view tag.now) following) }
     ensures start { result + header_len (headers.Macsec (sec_tag_view tag.now)) ≡ end }
 {
-    write_sized_sec_tag(target, end, *tag, following)
+    write_sized_sec_tag::<14, 6>(target, end, *tag, following)
 }
 
-/// The same with a SecTag that has its ether type.
+/// The same with a SecTag that has its ether type, and whose length is mostly one of two.
 #[inline(always)]
-fn write_sized_sec_tag(target: &mut [u8], end: usize, tag: MacsecHeader, following: usize) -> usize
+fn write_sized_sec_tag<const LONG: usize, const SHORT: usize>(
+    target: &mut [u8],
+    end: usize,
+    tag: MacsecHeader,
+    following: usize,
+) -> usize
     requires start { header_len (headers.Macsec (sec_tag_view tag)) ≤ end }
     requires end { end ≤ length target.old }
     ensures bytes { target.new ≡ overwritten target.old result
@@ -283,7 +289,7 @@ fn write_sized_sec_tag(target: &mut [u8], end: usize, tag: MacsecHeader, followi
     sized.set_payload_len(following);
     let bytes = sized.to_bytes();
     let at = end - bytes.len();
-    write_sized(target, at, bytes.as_slice());
+    write_sized::<LONG, SHORT>(target, at, bytes.as_slice());
     at
 }
 
@@ -405,16 +411,18 @@ fn write_at(target: &mut [u8], at: usize, bytes: &[u8])
     target[at..at + bytes.len()].copy_from_slice(bytes);
 }
 
-/// The same with the bytes of a SecTag, which are written in one piece if they have one of the usual lengths.
+/// The same with the bytes of a SecTag, which are written in one piece if they have one of two lengths.
 #[inline(always)]
-fn write_sized(target: &mut [u8], at: usize, bytes: &[u8])
+fn write_sized<const LONG: usize, const SHORT: usize>(target: &mut [u8], at: usize, bytes: &[u8])
     requires { at + length bytes.now ≤ length target.old }
     ensures { target.new ≡ overwritten target.old at bytes.now }
 {
-    match bytes.len() {
-        16 => write_chunk::<16>(target, at, bytes),
-        8 => write_chunk::<8>(target, at, bytes),
-        _ => write_at(target, at, bytes),
+    if bytes.len() == LONG {
+        write_chunk::<LONG>(target, at, bytes)
+    } else if bytes.len() == SHORT {
+        write_chunk::<SHORT>(target, at, bytes)
+    } else {
+        write_at(target, at, bytes)
     }
 }
 
