@@ -10,4 +10,5 @@ pub mod Filling
 pub mod Snapping
 pub mod Replaced
 pub mod PacketExts
+pub mod Links
 pub mod VlanIds

@@ -102,7 +102,7 @@ pub nothing : (frame : List ℕ) (link : LinkPlace) (xs : List ExtPlace) (arp : 
 nothing frame places.Missing [] None e = (refl, refl, refl)
 nothing frame _ _ _ e = absurd cc
 
-whole_part : (frame : List ℕ) → slice_range frame 0 (length frame) ≡ frame
+pub whole_part : (frame : List ℕ) → slice_range frame 0 (length frame) ≡ frame
 whole_part frame = take_all (length frame - 0) frame (omega arith)
 
 first_is : (frame : List ℕ) (kind : Kind) (p : Place) → p.start ≡ 0 → p.end ≡ length frame → unit_at frame kind p ≡ link_unit frame kind

@@ -1,6 +1,6 @@
 -- A packet as it is built: headers one after the other, each of which announces the next one, and a payload.
 use Rattle.std.specs.Prelude.{◌≡◌, ℕ, List, [], ◌∷◌, ◌++◌, length, Bool, true, false}
-use Rattle.etherparse.specs.Macsec.{PayloadType, short_len_for}
+use Rattle.etherparse.specs.Macsec.{PayloadType, SecTagValue, short_len_for}
 use Rattle.etherparse.specs.Macsec as payloads
 use Rattle.etherparse.specs.Header.{Header, FitsHeader}
 use Rattle.etherparse.specs.Header as headers
@@ -36,6 +36,10 @@ before (headers.LinuxSll s) t n = headers.LinuxSll (record s { protocol = t })
 before (headers.Vlan v) t n = headers.Vlan (record v { ether_type = t })
 before (headers.Macsec m) t n = let p = retyped m.payload_type t in headers.Macsec (record m { payload_type = p; short_len = short_len_for p n })
 before h t n = h
+
+-- a SecTag before n bytes, whose payload's type stays
+abbrev pub named_before : SecTagValue → (n : ℕ) → Header
+named_before m n = headers.Macsec (record m { short_len = short_len_for m.payload_type n })
 
 -- headers before a payload of n bytes of type t
 abbrev pub built : List Header → (t n : ℕ) → List Header

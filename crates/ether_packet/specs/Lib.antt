@@ -7,5 +7,6 @@ pub mod Places
 pub mod Building
 pub mod Builder
 pub mod Replacing
+pub mod ReplacingLink
 pub mod VlanIds
 pub mod Texts

@@ -15,6 +15,7 @@ build_error_text (errors.Sealed i) =
 build_error_text (errors.Space error) = slice_write_space_error_text error
 
 abbrev pub replace_error_text : ReplaceError → List ℕ
+replace_error_text refusals.NoLink = codes "The frame does not begin with the header of a link."
 replace_error_text (refusals.NoLinkExt count) =
     codes "There is no VLAN tag or SecTag at this index: the frame has " ++ (decimal count ++ codes ".")
 replace_error_text refusals.SaysOther =

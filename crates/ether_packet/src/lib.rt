@@ -18,4 +18,4 @@ pub use packet_builder::{PacketBuilder, PacketContent};
 pub use packet_ext::PacketExt;
 pub use packet_slice::PacketSlice;
 pub use replace_error::ReplaceError;
-pub use replacing::replace_link_ext;
+pub use replacing::{replace_link, replace_link_ext};

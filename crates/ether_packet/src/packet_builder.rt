@@ -6,7 +6,7 @@ ghost use Rattle.etherparse.specs.Header as headers;
 ghost use Rattle.etherparse.specs.Header.{Header, FitsHeader, header_bytes, header_len};
 ghost use Rattle.etherparse.specs.Macsec.{sec_tag_view};
 ghost use Rattle.etherparse.specs.Arp.{arp_bytes};
-ghost use Rattle.ether_packet.specs.Building.{vlan_type as vlan_type_of, type_of, before as header_before, is_readable, IsChain, AllFit};
+ghost use Rattle.ether_packet.specs.Building.{vlan_type as vlan_type_of, type_of, before as header_before, named_before, is_readable, IsChain, AllFit};
 ghost use Rattle.ether_packet.specs.Builder.{link_header, content_headers, content_type, content_bytes, content_len as content_len_of, inner_headers, packet_len, IsEthernet, IsOtherLink, HasPacketType, IsSealedAt, IsWritten, RefusesPacket, RefusesSpace};
 
 use crate::BuildError;
@@ -242,23 +242,55 @@ fn write_sec_tag(
         (header_before (headers.Macsec (sec_tag_view tag.now)) ether_type.0 following) }
     ensures start { result + header_len (headers.Macsec (sec_tag_view tag.now)) ≡ end }
 {
-    let bytes = sec_tag_before(tag, ether_type, following).to_bytes();
-    let at = end - bytes.len();
-    write_at(target, at, bytes.as_slice());
-    at
+    match tag.ptype {
+        MacsecPType::Unmodified(_) => {
+            let ptype = MacsecPType::Unmodified(ether_type);
+            let tag = MacsecHeader { ptype, ..*tag };
+            write_sized_sec_tag::<16, 8>(target, end, tag, following)
+        }
+        _ => write_sealed_sec_tag(target, end, tag, following),
+    }
 }
 
-/// A SecTag before a number of bytes that an ether type announces.
-fn sec_tag_before(tag: &MacsecHeader, ether_type: EtherType, following: usize) -> MacsecHeader
-    ensures { headers.Macsec (sec_tag_view result)
-        ≡ header_before (headers.Macsec (sec_tag_view tag.now)) ether_type.0 following }
+/// The same with a SecTag whose payload can't be read. Inlined, it would take the registers of the others.
+#[inline(never)]
+fn write_sealed_sec_tag(
+    target: &mut [u8],
+    end: usize,
+    tag: &MacsecHeader,
+    following: usize,
+) -> usize
+    requires start { header_len (headers.Macsec (sec_tag_view tag.now)) ≤ end }
+    requires end { end ≤ length target.old }
+    ensures bytes { target.new ≡ overwritten target.old result
+        (header_bytes (named_before (sec_tag_view tag.now) following)) }
+    ensures fits { FitsHeader (named_before (sec_tag_view tag.now) following) }
+    ensures start { result + header_len (headers.Macsec (sec_tag_view tag.now)) ≡ end }
 {
-    let mut tag = *tag;
-    if let MacsecPType::Unmodified(_) = tag.ptype {
-        tag.ptype = MacsecPType::Unmodified(ether_type);
-    }
-    tag.set_payload_len(following);
-    tag
+    write_sized_sec_tag::<14, 6>(target, end, *tag, following)
+}
+
+/// The same with a SecTag that has its ether type, and whose length is mostly one of two.
+#[inline(always)]
+fn write_sized_sec_tag<const LONG: usize, const SHORT: usize>(
+    target: &mut [u8],
+    end: usize,
+    tag: MacsecHeader,
+    following: usize,
+) -> usize
+    requires start { header_len (headers.Macsec (sec_tag_view tag)) ≤ end }
+    requires end { end ≤ length target.old }
+    ensures bytes { target.new ≡ overwritten target.old result
+        (header_bytes (named_before (sec_tag_view tag) following)) }
+    ensures fits { FitsHeader (named_before (sec_tag_view tag) following) }
+    ensures start { result + header_len (headers.Macsec (sec_tag_view tag)) ≡ end }
+{
+    let mut sized = tag;
+    sized.set_payload_len(following);
+    let bytes = sized.to_bytes();
+    let at = end - bytes.len();
+    write_sized::<LONG, SHORT>(target, at, bytes.as_slice());
+    at
 }
 
 /// Writes the header of a link.
@@ -286,6 +318,20 @@ fn write_link(target: &mut [u8], link: &LinkHeader, ether_type: EtherType)
             };
             put_at(target, 0, header.to_bytes());
         }
+    }
+}
+
+/// Writes the header of a link as it is.
+pub(crate) fn write_link_header(target: &mut [u8], link: &LinkHeader)
+    requires { header_len (link_header link.now) ≤ length target.old }
+    ensures bytes { target.new
+        ≡ overwritten target.old 0 (header_bytes (link_header link.now)) }
+    ensures fits { FitsHeader (link_header link.now) }
+    ensures packet_type { HasPacketType link.now }
+{
+    match link {
+        LinkHeader::Ethernet2(header) => put_at(target, 0, header.to_bytes()),
+        LinkHeader::LinuxSll(header) => put_at(target, 0, header.to_bytes()),
     }
 }
 
@@ -363,6 +409,33 @@ fn write_at(target: &mut [u8], at: usize, bytes: &[u8])
     ensures { target.new ≡ overwritten target.old at bytes.now }
 {
     target[at..at + bytes.len()].copy_from_slice(bytes);
+}
+
+/// The same with the bytes of a SecTag, which are written in one piece if they have one of two lengths.
+#[inline(always)]
+fn write_sized<const LONG: usize, const SHORT: usize>(target: &mut [u8], at: usize, bytes: &[u8])
+    requires { at + length bytes.now ≤ length target.old }
+    ensures { target.new ≡ overwritten target.old at bytes.now }
+{
+    if bytes.len() == LONG {
+        write_chunk::<LONG>(target, at, bytes)
+    } else if bytes.len() == SHORT {
+        write_chunk::<SHORT>(target, at, bytes)
+    } else {
+        write_at(target, at, bytes)
+    }
+}
+
+/// The same with a number of bytes that is known.
+#[inline(always)]
+fn write_chunk<const N: usize>(target: &mut [u8], at: usize, bytes: &[u8])
+    requires len { length bytes.now ≡ N }
+    requires room { at + N ≤ length target.old }
+    ensures { target.new ≡ overwritten target.old at bytes.now }
+{
+    if let Some(whole) = bytes.first_chunk::<N>() {
+        put_at(target, at, *whole);
+    }
 }
 
 /// The same with a whole array, which is written in one piece.

@@ -15,6 +15,8 @@ use std::fmt;
 /// ```
 #[derive(Clone, PartialEq, Eq, Debug, Drop)]
 pub enum ReplaceError {
+    /// The frame does not begin with the header of a link.
+    NoLink,
     /// There is no VLAN tag or SecTag at the index. The frame has this many.
     NoLinkExt(usize),
     /// The header in the frame is of another kind, or says something else about what follows it.
@@ -26,6 +28,9 @@ impl fmt::Display for ReplaceError {
 
     fn fmt<W: fmt::Write>(&self, f: &mut fmt::Formatter<W>) -> fmt::Result {
         match self {
+            ReplaceError::NoLink => {
+                f.write_str("The frame does not begin with the header of a link.")
+            }
             ReplaceError::NoLinkExt(count) => write!(
                 f,
                 "There is no VLAN tag or SecTag at this index: the frame has {count}."

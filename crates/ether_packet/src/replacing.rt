@@ -1,15 +1,18 @@
 //! Headers of a frame that are replaced in place.
-ghost use Rattle.std.specs.Prelude.{◌≡◌, ◌↔◌, ◌+◌, ◌≤◌, List, length, IfOk, IfErr, OnErr, IsTrue};
+ghost use Rattle.std.specs.Prelude.{ℕ, ◌≡◌, ◌↔◌, ◌+◌, ◌≤◌, List, length, Option, None, IfSome, IfOk, IfErr, OnOk, OnErr, IsTrue, false};
 ghost use Rattle.etherparse.specs.LinkExt.{ext_header_view};
 ghost use Rattle.etherparse.specs.Header.{Header, header_len};
 ghost use Rattle.ether_peel.specs.Grammar.Stack.{Ending, Walk};
+ghost use Rattle.ether_peel.specs.Walker.Start.{start_with};
+ghost use Rattle.ether_packet.specs.Builder.{link_header};
 ghost use Rattle.ether_packet.specs.Packet.{packet_start};
 ghost use Rattle.ether_packet.specs.Replacing.{SayTheSame, TakesExt, ReplacesExt, RefusesExt};
+ghost use Rattle.ether_packet.specs.ReplacingLink.{has_link, BeginsWithLink, LinksSayTheSame, TakesLink, ReplacesLink, RefusesLink};
 
-use crate::packet_builder::write_ext;
+use crate::packet_builder::{write_ext, write_link_header};
 use crate::{PacketSlice, ReplaceError};
 use ether_peel::Start;
-use etherparse::LinkExtHeader;
+use etherparse::{Ethernet2Slice, LinkExtHeader, LinkHeader, LinuxSllSlice};
 
 /// Replaces a VLAN tag or SecTag of a frame in place by another one of the same length, which says the same about what
 /// follows it.
@@ -94,6 +97,106 @@ fn say_the_same(new: &LinkExtHeader, old: &LinkExtHeader) -> bool
             new.ptype == old.ptype
                 && new.short_len == old.short_len
                 && new.sci.is_some() == old.sci.is_some()
+        }
+        _ => false,
+    }
+}
+
+/// Replaces the header of a link that a frame begins with, in place by another one of the same kind, which says the same
+/// about what follows it.
+///
+/// No other byte changes, so the headers of the frame are those from before with this one replaced, also if a later
+/// header is refused. A frame check sequence stays as it was, and doesn't fit the new bytes.
+///
+/// # Errors
+///
+/// The frame then stays as it was:
+///
+/// - [`ReplaceError::NoLink`]: the frame begins with what an ether type announces, or its first header is refused.
+/// - [`ReplaceError::SaysOther`]: one header is of Ethernet II and the other of cooked capture, or the ether types of two
+///   Ethernet II headers differ, or the hardware types or the protocol types of two cooked captures.
+///
+/// # Examples
+///
+/// ```
+/// let mut frame = [
+///     0xFF, 0xFF, 0xFF, 0xFF, 0xFF, 0xFF, 0x02, 0x00, 0x00, 0x00, 0x00, 0x01, 0x81, 0x00, // Ethernet II
+///     0xB1, 0x23, 0x08, 0x00, // VLAN
+///     0x45,
+/// ];
+/// let header = LinkHeader::Ethernet2(Ethernet2Header {
+///     destination: [0x02, 0x00, 0x00, 0x00, 0x00, 0x02],
+///     source: [0x02, 0x00, 0x00, 0x00, 0x00, 0x03],
+///     ether_type: EtherType::VLAN_TAGGED_FRAME,
+/// });
+/// assert_eq!(rt; replace_link(Start::Ethernet2, &mut frame, &header), Ok(()));
+/// assert_eq!(rt; frame[..6], [0x02, 0x00, 0x00, 0x00, 0x00, 0x02]);
+/// assert_eq!(rt; frame[6..12], [0x02, 0x00, 0x00, 0x00, 0x00, 0x03]);
+/// assert_eq!(rt; frame[12..], [0x81, 0x00, 0xB1, 0x23, 0x08, 0x00, 0x45]);
+/// ```
+pub fn replace_link(start: Start, frame: &mut [u8], header: &LinkHeader) -> Result<(), ReplaceError>
+    ensures ok { IfOk result (λ _. (limit : Option ℕ) (hs : List Header) (e : Ending)
+        → Walk (start_with start limit) frame.old hs e
+        → ReplacesLink (start_with start limit) frame.old hs e header.now frame.new) }
+    ensures refused { IfErr result (λ error. (limit : Option ℕ) (hs : List Header) (e : Ending)
+        → Walk (start_with start limit) frame.old hs e → RefusesLink hs header.now error) }
+    ensures kept { OnErr result (frame.new ≡ frame.old) }
+{
+    require_link(start, frame, header)?;
+    write_link_header(frame, header);
+    Ok(())
+}
+
+/// Requires that a frame begins with the header of a link that another one can replace.
+fn require_link(start: Start, frame: &[u8], header: &LinkHeader) -> Result<(), ReplaceError>
+    ensures ok { IfOk result (λ _. (limit : Option ℕ) (hs : List Header) (e : Ending)
+        → Walk (start_with start limit) frame.now hs e → TakesLink hs header.now) }
+    ensures room { OnOk result (header_len (link_header header.now) ≤ length frame.now) }
+    ensures refused { IfErr result (λ error. (limit : Option ℕ) (hs : List Header) (e : Ending)
+        → Walk (start_with start limit) frame.now hs e → RefusesLink hs header.now error) }
+{
+    match link_of(start, frame) {
+        None => Err(ReplaceError::NoLink),
+        Some(old) if links_say_the_same(header, &old) => Ok(()),
+        Some(_) => Err(ReplaceError::SaysOther),
+    }
+}
+
+/// The header of a link that a frame begins with.
+fn link_of(start: Start, frame: &[u8]) -> Option<LinkHeader>
+    ensures found { IfSome result (λ link. (limit : Option ℕ) (hs : List Header) (e : Ending)
+        → Walk (start_with start limit) frame.now hs e → BeginsWithLink hs link) }
+    ensures room { IfSome result (λ link. header_len (link_header link) ≤ length frame.now) }
+    ensures none { result ≡ None → (limit : Option ℕ) (hs : List Header) (e : Ending)
+        → Walk (start_with start limit) frame.now hs e → has_link hs ≡ false }
+{
+    match start {
+        Start::Ethernet2 => match Ethernet2Slice::from_slice_without_fcs(frame) {
+            Ok(slice) => Some(LinkHeader::Ethernet2(slice.to_header())),
+            Err(_) => None,
+        },
+        Start::Ethernet2Fcs => match Ethernet2Slice::from_slice_with_crc32_fcs(frame) {
+            Ok(slice) => Some(LinkHeader::Ethernet2(slice.to_header())),
+            Err(_) => None,
+        },
+        Start::LinuxSll => match LinuxSllSlice::from_slice(frame) {
+            Ok(slice) => Some(LinkHeader::LinuxSll(slice.to_header())),
+            Err(_) => None,
+        },
+        Start::EtherType(_) => None,
+    }
+}
+
+/// Whether two headers of links are of one kind, and say the same about what follows them.
+fn links_say_the_same(new: &LinkHeader, old: &LinkHeader) -> bool
+    ensures { IsTrue result ↔ LinksSayTheSame new.now old.now }
+{
+    match (new, old) {
+        (LinkHeader::Ethernet2(new), LinkHeader::Ethernet2(old)) => {
+            new.ether_type == old.ether_type
+        }
+        (LinkHeader::LinuxSll(new), LinkHeader::LinuxSll(old)) => {
+            new.arp_hrd_type == old.arp_hrd_type && new.protocol_type == old.protocol_type
         }
         _ => false,
     }

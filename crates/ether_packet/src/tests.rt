@@ -5,3 +5,4 @@ mod derived_traits;
 mod frames;
 mod packets;
 mod replacing;
+mod replacing_links;

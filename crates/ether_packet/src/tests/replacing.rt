@@ -182,6 +182,10 @@ fn another_ether_type(rt: HostRuntime) {
 fn texts(rt: HostRuntime) -> Result<(), AllocError> {
     let texts = [
         (
+            ReplaceError::NoLink,
+            "The frame does not begin with the header of a link.",
+        ),
+        (
             ReplaceError::NoLinkExt(2),
             "There is no VLAN tag or SecTag at this index: the frame has 2.",
         ),

@@ -1,0 +1,90 @@
+-- The header of a link that is replaced in place.
+use Rattle.std.specs.Prelude.{◌≡◌, ℕ, List, [], ◌∷◌, length, Bool, true, false}
+use Rattle.etherparse.specs.Types.LinkHeader.{LinkHeader}
+use Rattle.etherparse.specs.Types.LinkHeader.TheVariants as links
+use Rattle.etherparse.specs.Bytes.{overwritten}
+use Rattle.etherparse.specs.Ethernet2.{ethernet2_view}
+use Rattle.etherparse.specs.LinuxSll.{LinuxSllValue, linux_sll_view}
+use Rattle.etherparse.specs.LinuxSllProtocolType.{protocol_of}
+use Rattle.etherparse.specs.Types.LinuxSllProtocolType.{LinuxSllProtocolType}
+use Rattle.etherparse.specs.Kind.{Kind}
+use Rattle.etherparse.specs.Kind as kinds
+use Rattle.etherparse.specs.Header.{Header, kind_of, header_bytes, FitsHeader}
+use Rattle.etherparse.specs.Header as headers
+use Rattle.ether_peel.specs.Grammar.Expectation.{Expectation}
+use Rattle.ether_peel.specs.Grammar.Stack.{Ending, Walk}
+use Rattle.ether_packet.specs.declared.replace_error.ReplaceError.{ReplaceError}
+use Rattle.ether_packet.specs.declared.replace_error.ReplaceError.TheVariants as errors
+use Rattle.ether_packet.specs.Builder.{link_header}
+
+-- the kinds of a link's header
+abbrev pub is_link : Kind → Bool
+is_link kinds.Ethernet2 = true
+is_link kinds.Ethernet2Fcs = true
+is_link kinds.LinuxSll = true
+is_link _ = false
+
+-- the first one of these headers is that of a link
+abbrev pub has_link : List Header → Bool
+has_link [] = false
+has_link (h ∷ hs) = is_link (kind_of h)
+
+-- the protocol type is the one that the hardware type of a cooked capture makes of its protocol number
+abbrev pub protocol_in : LinuxSllValue → LinuxSllProtocolType
+protocol_in s = protocol_of s.hardware_type s.protocol
+
+-- a link's header is of the same kind as the header of a walk, and says the same about what follows it
+abbrev pub LinkSaysTheSame : LinkHeader → Header → Type 0
+LinkSaysTheSame (links.Ethernet2 g) (headers.Ethernet2 h) = g.ether_type.0 ≡ h.ether_type
+LinkSaysTheSame (links.Ethernet2 g) (headers.Ethernet2Fcs h) = g.ether_type.0 ≡ h.ether_type
+LinkSaysTheSame (links.LinuxSll g) (headers.LinuxSll h) = (g.arp_hrd_type.0 ≡ h.hardware_type) × (g.protocol_type ≡ protocol_in h)
+LinkSaysTheSame g h = ⊥
+
+-- a link's header in the place of another one, as a walk finds it: of a frame with a check sequence if that one is
+abbrev pub in_place_of : LinkHeader → Header → Header
+in_place_of (links.Ethernet2 g) (headers.Ethernet2Fcs h) = headers.Ethernet2Fcs (ethernet2_view g)
+in_place_of g h = link_header g
+
+-- the first one of these headers can be replaced by a link's header
+pub record TakesLink (hs : List Header) (g : LinkHeader) : Type 0 where
+  pub replaced : Header
+  pub later : List Header
+  pub parts : hs ≡ replaced ∷ later
+  pub same : LinkSaysTheSame g replaced
+
+-- A list with headers hs and this ending becomes another one, in which g replaces the first header. Only the bytes of that header
+-- are others, and the walk has all other headers and the ending as before.
+pub record ReplacesLink (start : Expectation) (old : List ℕ) (hs : List Header) (e : Ending) (g : LinkHeader) (new : List ℕ) : Type 0 where
+  pub takes : TakesLink hs g
+  pub fits : FitsHeader (link_header g)
+  pub bytes : new ≡ overwritten old 0 (header_bytes (link_header g))
+  pub len : length new ≡ length old
+  pub walk : Walk start new (in_place_of g takes.replaced ∷ takes.later) e
+
+-- g does not replace the first header: there is none of a link, or it is of another kind or says something else
+pub data RefusesLink (hs : List Header) (g : LinkHeader) : ReplaceError → Type 0 where
+  no_link : has_link hs ≡ false → RefusesLink hs g errors.NoLink
+  other_link : (h : Header) (later : List Header)
+      → hs ≡ h ∷ later → is_link (kind_of h) ≡ true → (LinkSaysTheSame g h → ⊥) → RefusesLink hs g errors.SaysOther
+
+-- ---- how it is found
+
+-- a link's header is the header of a walk
+abbrev pub IsLinkOf : LinkHeader → Header → Type 0
+IsLinkOf (links.Ethernet2 g) (headers.Ethernet2 h) = ethernet2_view g ≡ h
+IsLinkOf (links.Ethernet2 g) (headers.Ethernet2Fcs h) = ethernet2_view g ≡ h
+IsLinkOf (links.LinuxSll g) (headers.LinuxSll h) = (linux_sll_view g ≡ h) × (g.protocol_type ≡ protocol_in h)
+IsLinkOf g h = ⊥
+
+-- it is the first one
+pub record BeginsWithLink (hs : List Header) (g : LinkHeader) : Type 0 where
+  pub header : Header
+  pub later : List Header
+  pub parts : hs ≡ header ∷ later
+  pub is : IsLinkOf g header
+
+-- two headers of links are of one kind, and say the same about what follows them
+abbrev pub LinksSayTheSame : LinkHeader → LinkHeader → Type 0
+LinksSayTheSame (links.Ethernet2 g) (links.Ethernet2 h) = g.ether_type ≡ h.ether_type
+LinksSayTheSame (links.LinuxSll g) (links.LinuxSll h) = (g.arp_hrd_type ≡ h.arp_hrd_type) × (g.protocol_type ≡ h.protocol_type)
+LinksSayTheSame g h = ⊥
