@@ -8,4 +8,5 @@ mod Captures
 mod CaptureTimes
 pub mod CaptureLengths
 pub mod CaptureLocality
-mod CapturesOne
+pub mod CapturesOne
+pub mod CapturePackets

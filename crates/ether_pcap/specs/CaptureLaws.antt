@@ -1,7 +1,7 @@
 -- The laws of capture files of either format, read unit by unit.
 use Rattle.std.specs.Prelude.{◌≡◌, ℕ, ◌<◌, ◌≤◌, List, ◌++◌, length, Option, Some, None}
 use Rattle.ether_base.specs.Bytes.{IsBytes}
-use Rattle.ether_pcap.specs.Capture.{Expectation, PacketValue, CaptureRefusal, Begins, Refuses, required_len}
+use Rattle.ether_pcap.specs.Capture.{Expectation, PacketValue, CaptureRefusal, Begins, Refuses, required_len, HasPackets}
 
 -- a unit does not depend on the bytes after it; nor does a refusal, unless the bytes end within the unit
 pub record UnitsAreLocal : Type 0 where
@@ -19,3 +19,8 @@ pub record UnitsAreOne : Type 0 where
   pub one : (bytes : List ℕ) (x y z : Expectation) (len n : ℕ) (p q : Option PacketValue) → IsBytes bytes → Begins bytes x len p y → Begins bytes x n q z → (len ≡ n) × (p ≡ q) × (y ≡ z)
   pub apart : (bytes : List ℕ) (x y : Expectation) (len : ℕ) (p : Option PacketValue) (r : CaptureRefusal) → IsBytes bytes → Begins bytes x len p y → Refuses bytes x r → ⊥
   pub refused : (bytes : List ℕ) (x : Expectation) (r s : CaptureRefusal) → IsBytes bytes → Refuses bytes x r → Refuses bytes x s → r ≡ s
+
+-- bytes have packets in one way, with each room for a unit
+pub record PacketsAreOne : Type 0 where
+  pub one : (room : ℕ) (x : Expectation) (bytes : List ℕ) (packets others : List PacketValue) (rest left : List ℕ) (fault other : Option CaptureRefusal) → IsBytes bytes
+      → HasPackets room x bytes packets rest fault → HasPackets room x bytes others left other → (packets ≡ others) × (rest ≡ left) × (fault ≡ other)

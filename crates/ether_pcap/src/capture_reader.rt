@@ -45,9 +45,14 @@ pub(crate) enum Progress {
 /// assert_eq!(rt; header.packet, None);
 /// let record = reader.read(&file[24..])?;
 /// assert_eq!(rt; record.len, 17);
-/// let packet = record.packet.unwrap();
-/// assert_eq!(rt; packet.time, Some(Timestamp { seconds: 1, nanoseconds: 2_000 }));
-/// assert_eq!(rt; packet.packet, [0xFF].as_slice());
+/// if let Some(packet) = record.packet {
+///     let time = Timestamp {
+///         seconds: 1,
+///         nanoseconds: 2_000,
+///     };
+///     assert_eq!(rt; packet.time, Some(time));
+///     assert_eq!(rt; packet.packet, [0xFF].as_slice());
+/// }
 /// ```
 #[derive(Drop)]
 pub struct CaptureReader {

@@ -1,6 +1,6 @@
 //! The laws of the format. Each is the contract of a function that does nothing.
 ghost use Rattle.ether_pcap.specs.Laws.{FileHeadersAreOne, RecordsAreOne, ContentsAreOne, BlocksAreOne, BodiesAreOne, SectionsAreOne, OptionsAreOne};
-ghost use Rattle.ether_pcap.specs.CaptureLaws.{UnitsAreLocal, UnitLengths, UnitsAreOne};
+ghost use Rattle.ether_pcap.specs.CaptureLaws.{UnitsAreLocal, UnitLengths, UnitsAreOne, PacketsAreOne};
 
 /// Bytes begin with at most one file header, or are refused for one reason.
 pub fn file_headers_are_one()
@@ -51,4 +51,9 @@ pub fn unit_lengths()
 /// Bytes begin with at most one unit of a capture file, or are refused for one reason.
 pub fn units_are_one()
     ensures { UnitsAreOne }
+{}
+
+/// A capture file has packets in one way: at most one list of them, one rest, and one reason why it is not read on.
+pub fn packets_are_one()
+    ensures { PacketsAreOne }
 {}

@@ -1,4 +1,5 @@
 //! Small captures, read and cut. Their fields were printed by Wireshark's `tshark`.
+mod capture_sections;
 mod capture_units;
 mod captures;
 mod cuts;

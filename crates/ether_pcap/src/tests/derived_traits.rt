@@ -4,8 +4,8 @@ ghost use Rattle.std.specs.Prelude.{◌≡◌, ◌↔◌, IsTrue, Ok, [], ◌∷
 ghost use Rattle.ether_pcap.specs.Views.{record_view};
 
 use crate::{
-    BlockError, BodyError, ByteOrder, FileHeader, FileHeaderError, LinkType, PcapRecord,
-    PcapngBlock, RecordError, RecordFault, SectionError, TimeUnit,
+    BlockError, BodyError, ByteOrder, CaptureError, CaptureReader, FileHeader, FileHeaderError,
+    LinkType, PcapRecord, PcapngBlock, RecordError, RecordFault, SectionError, TimeUnit, Timestamp,
 };
 use std::alloc::AllocError;
 
@@ -150,4 +150,28 @@ pub fn same_pcap_record(a: &PcapRecord<'_>, b: &PcapRecord<'_>) -> bool
     ensures { IsTrue result ↔ (record_view a.now ≡ record_view b.now) }
 {
     *a == *b
+}
+
+pub fn clone_of_capture_error(value: &CaptureError) -> Result<CaptureError, AllocError>
+    ensures { result ≡ Ok value.now }
+{
+    value.clone()
+}
+
+pub fn same_capture_error(a: &CaptureError, b: &CaptureError) -> bool
+    ensures { IsTrue result ↔ (a.now ≡ b.now) }
+{
+    *a == *b
+}
+
+pub fn same_timestamp(a: &Timestamp, b: &Timestamp) -> bool
+    ensures { IsTrue result ↔ (a.now ≡ b.now) }
+{
+    *a == *b
+}
+
+pub fn greatest_number_of_interfaces() -> usize
+    ensures { result ≡ 256 }
+{
+    CaptureReader::MAX_INTERFACES
 }

@@ -1,9 +1,9 @@
 //! The examples of the documentation.
 use crate::test_asserts::{assert_display, check_eq};
 use crate::{
-    ByteOrder, EnhancedPacket, FileHeader, FileHeaderError, InterfaceDescription, LinkType,
-    PcapRecord, PcapRecords, PcapngBlock, RecordError, RecordFault, SectionHeader, SimplePacket,
-    TimeUnit,
+    ByteOrder, CaptureError, CaptureReader, EnhancedPacket, FileHeader, FileHeaderError,
+    InterfaceDescription, LinkType, PcapRecord, PcapRecords, PcapngBlock, RecordError, RecordFault,
+    SectionHeader, SimplePacket, TimeUnit, Timestamp,
 };
 use std::test::Fail;
 
@@ -155,4 +155,53 @@ fn of_packets(rt: HostRuntime) -> Result<(), Fail> {
     check_eq!(rt; packet.original_len, 60);
     check_eq!(rt; packet.packet, [0xFF, 0xFF].as_slice());
     Ok(())
+}
+
+#[test]
+fn of_a_reader(rt: HostRuntime) -> Result<(), Fail> {
+    let file = [
+        0xA1, 0xB2, 0xC3, 0xD4, 0x00, 0x02, 0x00, 0x04, 0x00, 0x00, 0x00, 0x00, // file header
+        0x00, 0x00, 0x00, 0x00, 0x00, 0x00, 0xFF, 0xFF, 0x00, 0x00, 0x00, 0x01, //
+        0x00, 0x00, 0x00, 0x01, 0x00, 0x00, 0x00, 0x02, 0x00, 0x00, 0x00, 0x01, 0x00, 0x00, 0x00,
+        0x01, // record
+        0xFF,
+    ];
+    let mut reader = CaptureReader::new();
+    let header = reader.read(&file)?;
+    check_eq!(rt; header.len, 24);
+    check_eq!(rt; header.packet, None);
+    let record = reader.read(&file[24..])?;
+    check_eq!(rt; record.len, 17);
+    if let Some(packet) = record.packet {
+        let time = Timestamp {
+            seconds: 1,
+            nanoseconds: 2_000,
+        };
+        check_eq!(rt; packet.time, Some(time));
+        check_eq!(rt; packet.packet, [0xFF].as_slice());
+    }
+    Ok(())
+}
+
+#[test]
+fn of_errors_of_a_reader(rt: HostRuntime) -> Result<(), Fail> {
+    let error = CaptureError::Record(RecordError::Len {
+        required_len: 76,
+        len: 20,
+    });
+    check_eq!(rt; error.required_len(), Some(76));
+    assert_display(
+        &rt,
+        &CaptureError::NoInterface(3),
+        "A packet of a pcapng file names interface 3, which its section does not describe.",
+    )
+}
+
+#[test]
+fn of_a_time(rt: HostRuntime) {
+    let early = Timestamp {
+        seconds: 1_700_000_000,
+        nanoseconds: 5_000,
+    };
+    check_eq!(rt; early.nanoseconds, 5_000);
 }

@@ -1,0 +1,5 @@
+use Rattle.ether_pcap.proofs.CapturePackets.{packets_one}
+use Rattle.ether_pcap.proofs.laws.packets_are_one.Goals as goal
+
+pub returns : goal.returns
+returns c = record { one = packets_one }
