@@ -1,0 +1,5 @@
+pub mod InputBufferLemmas
+pub mod PacketsLemmas
+pub mod OptionsLemmas
+pub mod FrameLoopLemmas
+pub mod RunLemmas

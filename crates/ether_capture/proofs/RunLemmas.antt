@@ -1,0 +1,253 @@
+-- What a run has read and written, one read after another.
+use Rattle.std.proofs.Common.{◌≡◌, ◌≢◌, ℕ, ◌+◌, ◌-◌, ◌<◌, ◌≤◌, List, [], ◌∷◌, ◌++◌, length, take, drop, Bool, true, false, not, Option, Some, None, unwrap_or, Result, Ok, Err, IfOk, IfErr, IsErrAnd, OnOk, refl, sym, ap, subst, ◌∙◌, arith, append_assoc, append-nil}
+use Rattle.std.proofs.lemmas.List.{length-drop, length-append}
+use Rattle.std.specs.Option.{is_some}
+use Rattle.std.specs.Io.KnownBytes.{Appends, Consumes, IsAtEnd, Keeps, append_known}
+use Rattle.ether_pcap.specs.FileHeader as file
+use Rattle.ether_pcap.specs.Record as record_rows
+use Rattle.ether_pcap.specs.Block as block_rows
+use Rattle.ether_pcap.specs.Section as section_rows
+use Rattle.ether_pcap.specs.Capture.{PacketValue, Expectation, Beginning, CaptureRefusal, Refuses, file_header_refused, file_record_refused, first_section_refused, section_refused, block_refused, body_refused, required_len, IsEnd, HasPackets}
+use Rattle.ether_pcap.specs.CaptureViews.{capture_refusal_view}
+use Rattle.ether_pcap.specs.declared.capture_error.CaptureError.{CaptureError}
+use Rattle.ether_text.specs.OutputBuffer.{contents_of, WritesOut}
+use Rattle.ether_text.specs.declared.output_buffer.OutputBuffer.{OutputBuffer}
+use Rattle.ether_text.specs.declared.verdict.Verdict.{Verdict}
+use Rattle.ether_text.proofs.KnownBytesLemmas.{Appends-then, Appends-written_out, append_known_nil, Consumes-then, Consumes-kept}
+use Rattle.ether_capture.specs.FrameLines.{totals_line_if}
+use Rattle.ether_capture.specs.Packets.{room, counted, GoesOn}
+use Rattle.ether_capture.specs.Run.{IsLeft, StopsInput, HasRun, IsOutput, totals_of}
+use Rattle.ether_capture.specs.FrameLoop.{Reached, TakesUnits}
+use Rattle.ether_capture.specs.declared.outcome.CaptureFault.{CaptureFault}
+use Rattle.ether_capture.specs.declared.outcome.RunFault.{RunFault}
+use Rattle.ether_capture.specs.declared.outcome.RunFault.TheVariants.{Capture, Input, Output}
+use Rattle.ether_capture.specs.declared.frame_loop.FrameLoop.{FrameLoop}
+use Rattle.ether_capture.proofs.PacketsLemmas.{refused_for_good, GoesOn-ended, refused_at_last, all_that_is_left, as_much_as_fits}
+use Rattle.ether_capture.proofs.FrameLoopLemmas.{Reached-written_out}
+
+-- ---- what is left
+
+-- what a reader has left, or nothing if that is unknown
+pub IsLeft-left_of : (after : Option (List ℕ)) → IsLeft after (unwrap_or after [])
+IsLeft-left_of None = tt
+IsLeft-left_of (Some bytes) = refl
+
+pub IsLeft-end : (after : Option (List ℕ)) → IsAtEnd after → IsLeft after []
+IsLeft-end None h = tt
+IsLeft-end (Some bytes) h = sym h
+
+no_bytes : (l : List ℕ) → length l ≡ 0 → l ≡ []
+no_bytes [] e = refl
+no_bytes (b ∷ l) e = absurd (omega arith)
+
+-- the last read gave nothing
+pub consumed_all : (before mid after : Option (List ℕ)) (input more : List ℕ) → Consumes before mid input → Consumes mid after more → length more ≡ 0 → Consumes before after input
+consumed_all before mid after input more h k none =
+    subst (λ (bytes : List ℕ). Consumes before after bytes) (append-nil input)
+    (subst (λ (bytes : List ℕ). Consumes before after (input ++ bytes)) (no_bytes more none) (Consumes-then before mid after input more h k))
+
+pub none_of : (o : Option ℕ) (b : Bool) → is_some o ≡ not b → b ≡ true → o ≡ None
+none_of None b e f = refl
+none_of (Some n) b e f = absurd cc
+
+-- the capture that has begun
+pub begun_end : (x : Expectation) (bytes : List ℕ) → x ≡ Beginning → ¬ (IsEnd x bytes)
+begun_end x bytes is end = end.0 is
+
+pub some_left : (x : Expectation) (bytes : List ℕ) → 0 < length bytes → ¬ (IsEnd x (bytes ++ []))
+some_left x bytes some end = let n = ap length end.1 in let m = length-append bytes [] in omega (arith, some, n, m)
+
+-- what is left fits too
+pub shorter : (bytes buffered left : List ℕ) (n : ℕ) → bytes ≡ buffered → left ≡ drop n buffered → length bytes ≤ room → length left ≤ room
+shorter bytes buffered left n same is fits =
+    let a = ap length same in
+    let b = ap length is in
+    let d = length-drop n buffered in
+    omega (arith, a, b, d, fits)
+
+-- ---- no bytes are refused for good
+
+no_section : section_rows.HasSectionType [] → ⊥
+no_section h = omega (arith, h)
+
+nothing_of_blocks : (r : CaptureRefusal) (n : ℕ) → required_len r ≡ Some n → required_len r ≡ None → ⊥
+nothing_of_blocks r n some none = let e : Some n ≡ None = sym some ∙ none in absurd cc
+
+refused_nothing : (bytes : List ℕ) (x : Expectation) (r : CaptureRefusal) → bytes ≡ [] → Refuses bytes x r → required_len r ≡ None → ⊥
+refused_nothing bytes x r e (file_header_refused s other (file.short lt)) none = nothing_of_blocks r 24 refl none
+refused_nothing bytes x r e (file_header_refused s other (file.magic le never)) none = let n = ap length e in omega (arith, le, n)
+refused_nothing bytes x r e (file_header_refused s other (file.version order resolution le has never)) none = let n = ap length e in omega (arith, le, n)
+refused_nothing bytes x r e (file_record_refused h s (record_rows.header lt)) none = nothing_of_blocks r 16 refl none
+refused_nothing bytes x r e (file_record_refused h s (record_rows.too_long le lt)) none = let n = ap length e in omega (arith, le, n)
+refused_nothing bytes x r e (file_record_refused h s (record_rows.packet le small lt)) none = let n = ap length e in omega (arith, le, n)
+refused_nothing bytes x r e (first_section_refused s has refused) none = no_section (subst section_rows.HasSectionType e has)
+refused_nothing bytes x r e (section_refused order interfaces s has refused) none = no_section (subst section_rows.HasSectionType e has)
+refused_nothing bytes x r e (block_refused order interfaces s other (block_rows.front lt)) none = nothing_of_blocks r 12 refl none
+refused_nothing bytes x r e (block_refused order interfaces s other (block_rows.total_len le never)) none = let n = ap length e in omega (arith, le, n)
+refused_nothing bytes x r e (block_refused order interfaces s other (block_rows.body m le is sound lt)) none = let n = ap length e in omega (arith, le, n)
+refused_nothing bytes x r e (block_refused order interfaces s other (block_rows.trailer m k le is sound whole at never)) none = let n = ap length e in omega (arith, le, n)
+refused_nothing bytes x r e (body_refused order interfaces b s other begins refused) none = let n = ap length e in let w = begins.whole in omega (arith, w, n)
+
+-- ---- a run
+
+module _ {W : Type 0} (plain : Bool) (contents : W → Option (List ℕ)) where
+  -- the units of what was buffered are taken
+  pub after_units : (held : Option (List ℕ)) (input buffered bytes left : List ℕ) (old new : FrameLoop) (from to : OutputBuffer W) (n : ℕ) (error : CaptureError)
+      → bytes ≡ buffered → left ≡ drop n buffered → TakesUnits plain contents bytes old from n error new to → Reached plain contents held input buffered old from
+      → Reached plain contents held input left new to × Refuses left new.reader (capture_refusal_view error)
+  after_units held input buffered bytes left old new from to n error same is takes so_far =
+      let e : drop n bytes ≡ left = ap (drop n) same ∙ sym is in (
+        subst (λ (l : List ℕ). Reached plain contents held input l new to) e
+            (takes.reached held input (subst (λ (l : List ℕ). Reached plain contents held input l old from) (sym same) so_far)),
+        subst (λ (l : List ℕ). Refuses l new.reader (capture_refusal_view error)) e takes.refused,
+      )
+
+  module _ (before after held : Option (List ℕ)) where
+    stops : (input buffered left : List ℕ) (at : FrameLoop) (out : OutputBuffer W) (error : CaptureError) (fault : RunFault)
+        → fault ≡ Capture (record { offset = at.offset; error = error }) → Consumes before after input → IsLeft after left
+        → ((packets : List PacketValue) → GoesOn input packets at.reader buffered → HasPackets room Beginning (input ++ left) packets (buffered ++ left) (Some (capture_refusal_view error)))
+        → Reached plain contents held input buffered at out → HasRun plain before after held (contents_of contents out) (Err fault)
+    stops input buffered left at out error fault is read is_left has so_far =
+        subst (λ (f : RunFault). HasRun plain before after held (contents_of contents out) (Err f)) (sym is) (record {
+          taken = input;
+          left = left;
+          packets = so_far.packets;
+          front = so_far.front;
+          rest = buffered ++ left;
+          text = so_far.text;
+          all_accepted = so_far.all_accepted;
+          read = read;
+          is_left = is_left;
+          has = has so_far.packets so_far.parts;
+          place = ap (λ (l : List ℕ). l ++ left) so_far.place ∙ append_assoc so_far.front buffered left;
+          is_offset = so_far.is_offset;
+          answered = so_far.answered;
+          written = so_far.written;
+        })
+
+    -- a unit is refused, whatever follows
+    pub stopped_for_good : (input buffered : List ℕ) (at : FrameLoop) (out : OutputBuffer W) (error : CaptureError) (fault : RunFault)
+        → fault ≡ Capture (record { offset = at.offset; error = error }) → Consumes before after input → length buffered ≤ room
+        → Refuses buffered at.reader (capture_refusal_view error) → required_len (capture_refusal_view error) ≡ None
+        → Reached plain contents held input buffered at out → HasRun plain before after held (contents_of contents out) (Err fault)
+    stopped_for_good input buffered at out error fault is read fits refused none so_far =
+        let left : List ℕ = unwrap_or after [] in
+        stops input buffered left at out error fault is read (IsLeft-left_of after)
+        (λ packets go. refused_for_good input packets at.reader buffered left (capture_refusal_view error) fits (λ e. refused_nothing buffered at.reader (capture_refusal_view error) e refused none) refused none go) so_far
+
+    -- a unit needs more bytes than there is room for
+    pub stopped_for_room : (input buffered : List ℕ) (at : FrameLoop) (out : OutputBuffer W) (error : CaptureError) (fault : RunFault)
+        → fault ≡ Capture (record { offset = at.offset; error = error }) → Consumes before after input → length buffered ≡ room
+        → Refuses buffered at.reader (capture_refusal_view error)
+        → Reached plain contents held input buffered at out → HasRun plain before after held (contents_of contents out) (Err fault)
+    stopped_for_room input buffered at out error fault is read full refused so_far =
+        let left : List ℕ = unwrap_or after [] in
+        stops input buffered left at out error fault is read (IsLeft-left_of after)
+        (λ packets go. refused_at_last input packets at.reader buffered left (capture_refusal_view error) (as_much_as_fits buffered left full)
+        (λ end. let n = ap length end.1 in let m = length-append buffered left in omega (arith, full, n, m)) refused go) so_far
+
+    -- the capture ends within a unit
+    pub stopped_at_end : (input buffered : List ℕ) (at : FrameLoop) (out : OutputBuffer W) (error : CaptureError) (fault : RunFault)
+        → fault ≡ Capture (record { offset = at.offset; error = error }) → Consumes before after input → IsAtEnd after → length buffered ≤ room
+        → ¬ (IsEnd at.reader (buffered ++ [])) → Refuses buffered at.reader (capture_refusal_view error)
+        → Reached plain contents held input buffered at out → HasRun plain before after held (contents_of contents out) (Err fault)
+    stopped_at_end input buffered at out error fault is read end fits more refused so_far =
+        stops input buffered [] at out error fault is read (IsLeft-end after end)
+        (λ packets go. refused_at_last input packets at.reader buffered [] (capture_refusal_view error) (all_that_is_left buffered fits) more refused go) so_far
+
+    -- all packets are answered
+    pub finished : (input buffered : List ℕ) (at : FrameLoop) (from to : OutputBuffer W) (r : Result Verdict RunFault)
+        → Consumes before after input → IsAtEnd after → length buffered ≡ 0 → at.reader ≢ Beginning
+        → IfOk r (λ verdict. verdict ≡ at.verdict) → OnOk r (Appends (contents_of contents from) (contents_of contents to) (totals_line_if plain at.count at.skipped)) → IfErr r IsOutput
+        → Reached plain contents held input buffered at from → HasRun plain before after held (contents_of contents to) r
+    finished input buffered at from to (Ok verdict) read end none begun is written fault so_far =
+        let empty = no_bytes buffered none in
+        let totals : totals_line_if plain at.count at.skipped ≡ totals_of plain so_far.packets = (λ i. totals_line_if plain (so_far.is_count i) (so_far.is_skipped i)) in
+        record {
+          input = input;
+          packets = so_far.packets;
+          text = so_far.text;
+          all_accepted = so_far.all_accepted;
+          read = read;
+          at_end = end;
+          has = GoesOn-ended input so_far.packets at.reader begun (subst (λ (l : List ℕ). GoesOn input so_far.packets at.reader l) empty so_far.parts);
+          answered = so_far.answered;
+          is_verdict = is ∙ so_far.is_verdict;
+          written = Appends-then held (contents_of contents from) (contents_of contents to) so_far.text (totals_of plain so_far.packets) so_far.written
+              (subst (λ (t : List ℕ). Appends (contents_of contents from) (contents_of contents to) t) totals written);
+        }
+    finished input buffered at from to (Err fault) read end none begun is written failed so_far =
+        subst (λ (f : RunFault). HasRun plain before after held (contents_of contents to) (Err f)) (sym failed) tt
+
+    -- a read fails
+    pub broken_off : (mid : Option (List ℕ)) (r : Result Verdict RunFault) (input buffered : List ℕ) (at : FrameLoop) (out : OutputBuffer W)
+        → Consumes before mid input → Keeps mid after → IsErrAnd r (λ fault. fault ≡ Input)
+        → Reached plain contents held input buffered at out → HasRun plain before after held (contents_of contents out) r
+    broken_off mid (Ok verdict) input buffered at out read kept is so_far = absurd is
+    broken_off mid (Err fault) input buffered at out read kept is so_far =
+        subst (λ (f : RunFault). HasRun plain before after held (contents_of contents out) (Err f)) (sym is) (record {
+          taken = input;
+          packets = so_far.packets;
+          expected = at.reader;
+          buffered = buffered;
+          text = so_far.text;
+          all_accepted = so_far.all_accepted;
+          read = Consumes-kept before mid after input read kept;
+          parts = so_far.parts;
+          answered = so_far.answered;
+          written = so_far.written;
+        })
+
+    pub on_output : (to : OutputBuffer W) (fault : RunFault) → IsOutput fault → HasRun plain before after held (contents_of contents to) (Err fault)
+    on_output to fault is = subst (λ (f : RunFault). HasRun plain before after held (contents_of contents to) (Err f)) (sym is) tt
+
+-- ---- the closing flush
+
+appends_flushed : (held old new : Option (List ℕ)) (waited text : List ℕ) → Appends held (append_known old waited) text → Appends old new waited → Appends held new text
+appends_flushed held old new waited text h k =
+    subst (λ (o : Option (List ℕ)). Appends held o text) (append_known_nil new) (Appends-written_out held old new waited [] text h k refl)
+
+-- all that waited is passed to the writer
+pub HasRun-flushed : {W : Type 0} (plain : Bool) (contents : W → Option (List ℕ)) (before after held : Option (List ℕ)) (from to : OutputBuffer W) (r : Result Verdict RunFault)
+    → WritesOut contents from to → HasRun plain before after held (contents_of contents from) r → HasRun plain before after held (contents to.writer.now) r
+HasRun-flushed plain contents before after held from to (Ok verdict) drains h = record {
+  input = h.input;
+  packets = h.packets;
+  text = h.text;
+  all_accepted = h.all_accepted;
+  read = h.read;
+  at_end = h.at_end;
+  has = h.has;
+  answered = h.answered;
+  is_verdict = h.is_verdict;
+  written = appends_flushed held (contents from.writer.now) (contents to.writer.now) from.waiting.items (h.text ++ totals_of plain h.packets) h.written drains.written;
+}
+HasRun-flushed plain contents before after held from to (Err (Capture fault)) drains h = record {
+  taken = h.taken;
+  left = h.left;
+  packets = h.packets;
+  front = h.front;
+  rest = h.rest;
+  text = h.text;
+  all_accepted = h.all_accepted;
+  read = h.read;
+  is_left = h.is_left;
+  has = h.has;
+  place = h.place;
+  is_offset = h.is_offset;
+  answered = h.answered;
+  written = appends_flushed held (contents from.writer.now) (contents to.writer.now) from.waiting.items h.text h.written drains.written;
+}
+HasRun-flushed plain contents before after held from to (Err Input) drains h = record {
+  taken = h.taken;
+  packets = h.packets;
+  expected = h.expected;
+  buffered = h.buffered;
+  text = h.text;
+  all_accepted = h.all_accepted;
+  read = h.read;
+  parts = h.parts;
+  answered = h.answered;
+  written = appends_flushed held (contents from.writer.now) (contents to.writer.now) from.waiting.items h.text h.written drains.written;
+}
+HasRun-flushed plain contents before after held from to (Err Output) drains h = tt

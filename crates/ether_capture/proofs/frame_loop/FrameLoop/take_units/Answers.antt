@@ -1,0 +1,31 @@
+use Rattle.std.proofs.Common.{◌≡◌, ◌+◌, ◌≤◌, ℕ, List, length, drop, refl, sym, ap, subst, ◌∙◌, arith}
+use Rattle.std.proofs.lemmas.List.{drop-drop, length-drop}
+use Rattle.ether_capture.specs.Packets.{room}
+use Rattle.ether_capture.specs.FrameLoop.{Reached}
+use Rattle.ether_capture.proofs.FrameLoopLemmas.{Reached-unit, rest_is}
+use Rattle.ether_capture.proofs.frame_loop.FrameLoop.take_units.Goals as goal
+
+pub loop-unit-init : goal.loop-unit-init
+loop-unit-init g c = (0, record { same_writer = refl; within = omega arith; rest = refl; reached = λ held input so_far. so_far })
+
+pub loop-unit-preserved : goal.loop-unit-preserved
+loop-unit-preserved g c =
+    let (taken, so_far) = c.loop-unit.invariant in
+    let rest = c.loop-unit.rest.now in
+    let len = c.in-Ok.unit.len in
+    let within : len ≤ length rest = c.in-Ok.ensures.within in
+    let left : length rest ≡ length (drop taken c.args.bytes.now) = ap length so_far.rest in
+    let long = length-drop taken c.args.bytes.now in
+    let fits : length rest ≤ room = omega (arith, left, long, c.requires) in
+    let after = rest_is rest len in (
+      taken + len,
+      record {
+        same_writer = c.take_unit.ensures.same_writer ∙ so_far.same_writer;
+        within = omega (arith, within, left, long, so_far.within);
+        rest = after ∙ ap (drop len) so_far.rest ∙ drop-drop len taken c.args.bytes.now;
+        reached = λ held input begun.
+            subst (λ (l : List ℕ). Reached c.args.is_plain g.W.Write.contents held input l c.take_unit.new.self c.take_unit.new.out) (sym after)
+            (Reached-unit c.args.is_plain g.W.Write.contents held input rest c.loop-unit.self c.take_unit.new.self c.read.new.self c.loop-unit.out c.take_unit.new.out len _
+            fits within c.in-Ok.ensures.unit c.in_ok-take_unit-in-Ok.ensures.ok (so_far.reached held input begun));
+      },
+    )

@@ -1,0 +1,15 @@
+use Rattle.std.proofs.Common.{◌≡◌, ◌≤◌, ℕ, List, length, drop, Option}
+use Rattle.ether_capture.specs.FrameLoop.{Reached}
+use Rattle.ether_capture.proofs.frame_loop.FrameLoop.take_units.Given as goal
+
+abbrev pub invariant-loop-unit : goal.invariant-loop-unit
+invariant-loop-unit g l =
+    (taken : ℕ) × record {
+      same_writer : l.out.writer.ghost_name ≡ l.fn.out.writer.ghost_name;
+      within : taken ≤ length l.bytes;
+      rest : l.rest ≡ drop taken l.bytes;
+      reached : (held : Option (List ℕ)) (input : List ℕ) → Reached l.is_plain g.W.Write.contents held input l.bytes l.fn.self l.fn.out → Reached l.is_plain g.W.Write.contents held input l.rest l.self l.out;
+    }
+
+abbrev pub decreases-loop-unit : goal.decreases-loop-unit
+decreases-loop-unit g l = length l.rest

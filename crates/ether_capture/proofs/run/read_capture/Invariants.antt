@@ -1,0 +1,18 @@
+use Rattle.std.proofs.Common.{◌≡◌, ℕ, List}
+use Rattle.std.specs.Io.KnownBytes.{Consumes}
+use Rattle.ether_text.specs.OutputBuffer.{contents_of}
+use Rattle.ether_capture.specs.FrameLoop.{Reached}
+use Rattle.ether_capture.specs.InputBuffer.{items}
+use Rattle.ether_capture.proofs.run.read_capture.Given as goal
+
+abbrev pub invariant-loop-taken : goal.invariant-loop-taken
+invariant-loop-taken g l =
+    (taken : List ℕ) × record {
+      same_reader : l.input.inner.ghost_name ≡ l.fn.input.inner.ghost_name;
+      same_writer : l.out.writer.ghost_name ≡ l.fn.out.writer.ghost_name;
+      read : Consumes (g.R.Read.remaining l.fn.input.inner.now) (g.R.Read.remaining l.input.inner.now) taken;
+      reached : Reached l.is_plain g.W.Write.contents (contents_of g.W.Write.contents l.fn.out) taken (items l.buffer) l.frames l.out;
+    }
+
+abbrev pub decreases-loop-taken : goal.decreases-loop-taken
+decreases-loop-taken g l = l.input.reads_left

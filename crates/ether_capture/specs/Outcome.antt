@@ -1,0 +1,44 @@
+-- How the program ends: what it prints last, and its exit status.
+use Rattle.std.specs.Prelude.{ℕ, List, ◌++◌, codes, Option, Some, None, Result, Ok, Err, Bool, true, false}
+use Rattle.std.specs.Fmt.{decimal}
+use Rattle.ether_pcap.specs.CaptureTexts.{capture_error_text}
+use Rattle.ether_text.specs.declared.verdict.Verdict.{Verdict}
+use Rattle.ether_text.specs.declared.verdict.Verdict.TheVariants.{AllAccepted, SomeRefused}
+use Rattle.ether_capture.specs.declared.options.Usage.{Usage}
+use Rattle.ether_capture.specs.declared.outcome.CaptureFault.{CaptureFault}
+use Rattle.ether_capture.specs.declared.outcome.LastLine.{LastLine}
+use Rattle.ether_capture.specs.declared.outcome.LastLine.TheVariants as last_lines
+use Rattle.ether_capture.specs.declared.outcome.RunFault.{RunFault}
+use Rattle.ether_capture.specs.declared.outcome.RunFault.TheVariants.{Capture, Input, Output}
+
+-- the exit status of a run
+abbrev pub exit_status : Result Verdict RunFault → ℕ
+exit_status (Ok AllAccepted) = 0
+exit_status (Ok SomeRefused) = 1
+exit_status (Err (Capture fault)) = 3
+exit_status (Err Input) = 4
+exit_status (Err Output) = 4
+
+abbrev pub usage_text : List ℕ
+usage_text = codes "usage: ether_capture [--plain] < capture"
+
+abbrev pub capture_fault_text : CaptureFault → List ℕ
+capture_fault_text fault = codes "byte " ++ (decimal fault.offset ++ (codes ": " ++ capture_error_text fault.error))
+
+-- what the program prints last, without its line feed: the usage if the arguments are wrong
+abbrev pub last_text : Result (Result Verdict RunFault) Usage → Option (List ℕ)
+last_text (Err usage) = Some usage_text
+last_text (Ok (Ok verdict)) = None
+last_text (Ok (Err (Capture fault))) = Some (capture_fault_text fault)
+last_text (Ok (Err Input)) = None
+last_text (Ok (Err Output)) = None
+
+-- the exit status of the program, by whether its last line was printed: if not, output failed
+abbrev pub status_of_program : Result (Result Verdict RunFault) Usage → (printed : Bool) → ℕ
+status_of_program outcome false = exit_status (Err Output)
+status_of_program (Ok outcome) true = exit_status outcome
+status_of_program (Err usage) true = 2
+
+abbrev pub last_line_text : LastLine → List ℕ
+last_line_text last_lines.Usage = usage_text
+last_line_text (last_lines.Fault fault) = capture_fault_text fault.now

@@ -1,0 +1,185 @@
+//! Writes the lines of a captured packet.
+ghost use Rattle.std.specs.Prelude.{◌≡◌, ◌<◌, ◌+◌, ◌/◌, ◌%◌, ◌^◌, MatchOption, Some, None};
+ghost use Rattle.std.specs.Option.{option_map};
+ghost use Rattle.ether_pcap.specs.CaptureViews.{captured_packet_view, timestamp_view};
+ghost use Rattle.ether_text.specs.OutputBuffer.{Takes, TakesAnswer};
+ghost use Rattle.ether_capture.specs.FrameLines.{is_cut, is_skipped, fcs_len, has_fcs, without_fcs, frame_of, nine_digits, time_text, mark, packet_line_if, AnswersPacket, AnswersFrame, totals_line_if};
+ghost use Rattle.ether_peel.specs.Walker.Start.{next_of};
+
+use ether_pcap::{CapturedPacket, LinkType, Timestamp};
+use ether_peel::Start;
+use ether_text::{OutputBuffer, write_decimal, write_walk};
+use std::io::Write;
+
+/// The length in bytes of the frame check sequence of Ethernet.
+const FCS_LEN: usize = 4;
+
+/// Writes the line of a packet unless `is_plain`, and the lines of the walk through its headers. Returns whether the walk ends in no fault.
+///
+/// A packet of another link type than Ethernet and Linux cooked capture v1 is skipped: it has no lines of a walk.
+pub fn write_packet<W: Write>(
+    is_plain: bool,
+    number: usize,
+    packet: &CapturedPacket<'_>,
+    out: &mut OutputBuffer<'_, W>,
+) -> bool
+    ensures { TakesAnswer W.contents (AnswersPacket is_plain number (captured_packet_view packet.now))
+        out.old out.new result }
+{
+    let frame = frame(packet);
+    write_packet_line(is_plain, number, packet, frame.is_none(), out);
+    match frame {
+        Some((start, bytes)) => write_walk(start, None, bytes, out),
+        None => true,
+    }
+}
+
+/// Writes the line after those of all packets, unless `is_plain`: how many packets there are, and how many of them were skipped.
+pub fn write_totals<W: Write>(
+    is_plain: bool,
+    frames: usize,
+    skipped: usize,
+    out: &mut OutputBuffer<'_, W>,
+)
+    ensures { Takes W.contents out.old (totals_line_if is_plain frames skipped) out.new }
+{
+    if is_plain {
+        return;
+    }
+    out.append(b"total frames ");
+    write_decimal(out, frames);
+    out.append(b" skipped ");
+    write_decimal(out, skipped);
+    out.append(b"\n");
+}
+
+/// What the packet begins with and the bytes that are walked through. Returns `None` if the walk knows no such link type.
+fn frame<'a>(packet: &CapturedPacket<'a>) -> Option<(Start, &'a [u8])>
+    ensures { MatchOption result (frame_of (captured_packet_view packet.now) ≡ None)
+        (λ f. frame_of (captured_packet_view packet.now) ≡ Some (next_of f.0, f.1.now)) }
+{
+    if packet.link_type == LinkType::ETHERNET {
+        if has_fcs(packet) {
+            return Some((Start::Ethernet2Fcs, packet.packet));
+        }
+        return Some((Start::Ethernet2, without_fcs(packet)));
+    }
+    if packet.link_type == LinkType::LINUX_SLL {
+        return Some((Start::LinuxSll, without_fcs(packet)));
+    }
+    None
+}
+
+/// Whether the packet has no lines of a walk.
+pub fn is_skipped(packet: &CapturedPacket<'_>) -> bool
+    ensures { result ≡ is_skipped (captured_packet_view packet.now) }
+{
+    frame(packet).is_none()
+}
+
+/// Whether bytes of the packet were not captured.
+fn is_cut(packet: &CapturedPacket<'_>) -> bool
+    ensures { result ≡ is_cut (captured_packet_view packet.now) }
+{
+    packet.packet.len() < packet.original_len as usize
+}
+
+/// The length of the frame check sequence at the end of the packet before it was cut.
+fn fcs_len(packet: &CapturedPacket<'_>) -> usize
+    ensures { result ≡ fcs_len (captured_packet_view packet.now) }
+{
+    usize::from(packet.fcs_len.unwrap_or(0))
+}
+
+/// Whether the whole frame check sequence of Ethernet is there.
+fn has_fcs(packet: &CapturedPacket<'_>) -> bool
+    ensures { result ≡ has_fcs (captured_packet_view packet.now) }
+{
+    !is_cut(packet) && fcs_len(packet) == FCS_LEN
+}
+
+/// The captured bytes without those of the frame check sequence.
+fn without_fcs<'a>(packet: &CapturedPacket<'a>) -> &'a [u8]
+    ensures { result.now ≡ without_fcs (captured_packet_view packet.now) }
+{
+    let captured_len = packet.packet.len();
+    let whole_len = captured_len.max(packet.original_len as usize);
+    let end = whole_len.saturating_sub(fcs_len(packet));
+    &packet.packet[..end.min(captured_len)]
+}
+
+/// Writes the line of a packet, unless `is_plain`: its number, its time, its link type, its lengths, and whether it was cut or is skipped.
+fn write_packet_line<W: Write>(
+    is_plain: bool,
+    number: usize,
+    packet: &CapturedPacket<'_>,
+    skipped: bool,
+    out: &mut OutputBuffer<'_, W>,
+)
+    requires { skipped ≡ is_skipped (captured_packet_view packet.now) }
+    ensures { Takes W.contents out.old (packet_line_if is_plain number (captured_packet_view packet.now)) out.new }
+{
+    if is_plain {
+        return;
+    }
+    out.append(b"frame ");
+    write_decimal(out, number);
+    out.append(b" time ");
+    write_time(packet.time, out);
+    out.append(b" link ");
+    write_decimal(out, usize::from(packet.link_type.0));
+    out.append(b" captured ");
+    write_decimal(out, packet.packet.len());
+    out.append(b" original ");
+    write_decimal(out, packet.original_len as usize);
+    write_mark(is_cut(packet), b" cut", out);
+    write_mark(skipped, b" skipped", out);
+    out.append(b"\n");
+}
+
+/// Writes a word if it holds.
+fn write_mark<W: Write>(holds: bool, word: &[u8], out: &mut OutputBuffer<'_, W>)
+    ensures { Takes W.contents out.old (mark holds word.now) out.new }
+{
+    if holds {
+        out.append(word);
+    }
+}
+
+/// Writes the seconds of a time with nine decimals, or a hyphen if there is none.
+fn write_time<W: Write>(time: Option<Timestamp>, out: &mut OutputBuffer<'_, W>)
+    ensures { Takes W.contents out.old (time_text (option_map timestamp_view time)) out.new }
+{
+    match time {
+        Some(time) => {
+            write_decimal(out, time.seconds as usize);
+            out.append(b".");
+            out.append(&nine_digits(time.nanoseconds));
+        }
+        None => out.append(b"-"),
+    }
+}
+
+/// The nine lowest decimal digits of a number.
+fn nine_digits(number: u32) -> [u8; 9]
+    ensures { result ≡ nine_digits number }
+{
+    [
+        digit(number / 100_000_000),
+        digit(number / 10_000_000),
+        digit(number / 1_000_000),
+        digit(number / 100_000),
+        digit(number / 10_000),
+        digit(number / 1_000),
+        digit(number / 100),
+        digit(number / 10),
+        digit(number),
+    ]
+}
+
+/// The last decimal digit of a number.
+fn digit(number: u32) -> u8
+    ensures { result ≡ 48 + number % 10 }
+{
+    b'0' + (number % 10) as u8
+}

@@ -1,0 +1,22 @@
+//! Reads a capture file of the classic pcap format or of pcapng, and prints the lines of the walk of each packet.
+//!
+//! `main` calls [`program::program`] on the arguments and the standard streams. All that it prints goes to standard
+//! output.
+#![tactic(auto)]
+
+mod frame_lines;
+mod frame_loop;
+mod input_buffer;
+pub mod options;
+pub mod outcome;
+pub mod program;
+pub mod run;
+
+use std::process::ExitCode;
+use std::{env, io};
+
+/// The program on the standard streams.
+fn main(rt: HostRuntime) -> ExitCode {
+    let status = program::program(env::args(&rt), &mut rt.reader(), &mut io::writer(&rt));
+    ExitCode::from(status)
+}

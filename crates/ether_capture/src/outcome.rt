@@ -1,0 +1,128 @@
+//! How the program ends: what a run found or why it stopped, the exit status of each, and the last line.
+ghost use Rattle.std.specs.Prelude.{◌≡◌};
+ghost use Rattle.std.specs.Option.{option_map};
+ghost use Rattle.ether_capture.specs.Outcome.{exit_status, last_line_text, last_text, status_of_program};
+
+use crate::options::Usage;
+use ether_pcap::CaptureError;
+use ether_text::{InputFault, OutputFault, Verdict};
+use std::fmt;
+
+/// Why the packets of a capture end before its end, and where.
+#[derive(Clone, PartialEq, Eq, Debug, Drop)]
+pub struct CaptureFault {
+    /// The place of the file header, record or block that can't be read, from the start of the capture. It stays at `usize::MAX`.
+    pub offset: usize,
+    /// Why it can't be read.
+    pub error: CaptureError,
+}
+
+impl fmt::Display for CaptureFault {
+    ghost use Rattle.std.specs.Prelude.{Some};
+    ghost use Rattle.ether_capture.specs.Outcome.{capture_fault_text};
+
+    ghost output = { λ fault. Some (capture_fault_text fault) };
+
+    fn fmt<W: fmt::Write>(&self, f: &mut fmt::Formatter<W>) -> fmt::Result {
+        let offset = self.offset;
+        let error = &self.error;
+        write!(f, "byte {offset}: {error}")
+    }
+}
+
+/// Why a run stopped before the end of its input.
+#[derive(PartialEq, Eq, Debug, Drop)]
+pub enum RunFault {
+    /// The capture can't be read further.
+    Capture(CaptureFault),
+    /// The reader failed, or never came to an end.
+    Input,
+    /// The writer failed.
+    Output,
+}
+
+impl From<InputFault> for RunFault {
+    ghost use Rattle.ether_capture.specs.declared.outcome.RunFault.TheVariants.{Input};
+
+    ghost from_gives = { λ _ fault. fault ≡ Input };
+
+    fn from(_fault: InputFault) -> RunFault {
+        RunFault::Input
+    }
+}
+
+impl From<OutputFault> for RunFault {
+    ghost use Rattle.ether_capture.specs.declared.outcome.RunFault.TheVariants.{Output};
+
+    ghost from_gives = { λ _ fault. fault ≡ Output };
+
+    fn from(_fault: OutputFault) -> RunFault {
+        RunFault::Output
+    }
+}
+
+/// The exit status of a run.
+pub fn status_of(outcome: &Result<Verdict, RunFault>) -> u8
+    ensures { result ≡ exit_status outcome.now }
+{
+    match outcome {
+        Ok(Verdict::AllAccepted) => 0,
+        Ok(Verdict::SomeRefused) => 1,
+        Err(RunFault::Capture(_)) => 3,
+        Err(RunFault::Input | RunFault::Output) => 4,
+    }
+}
+
+/// The outcome of a run, or that the arguments are wrong.
+pub type Outcome = Result<Result<Verdict, RunFault>, Usage>;
+
+/// The line that is printed if the arguments are wrong, without its LF.
+pub const USAGE: &str = "usage: ether_capture [--plain] < capture";
+
+/// A line that the program prints after the lines of all packets.
+#[derive(Clone, Copy, PartialEq, Eq, Debug)]
+pub enum LastLine<'a> {
+    /// The arguments are wrong.
+    Usage,
+    /// The capture can't be read further.
+    Fault(&'a CaptureFault),
+}
+
+impl fmt::Display for LastLine<'_> {
+    ghost use Rattle.std.specs.Prelude.{Some};
+    ghost use Rattle.ether_capture.specs.Outcome.{last_line_text};
+
+    ghost output = { λ line. Some (last_line_text line) };
+
+    fn fmt<W: fmt::Write>(&self, f: &mut fmt::Formatter<W>) -> fmt::Result {
+        match self {
+            LastLine::Usage => write!(f, "{USAGE}"),
+            LastLine::Fault(fault) => write!(f, "{fault}"),
+        }
+    }
+}
+
+/// The line that the program prints last, if there is one.
+pub fn last_line(outcome: &Outcome) -> Option<LastLine<'_>>
+    ensures { option_map last_line_text result ≡ last_text outcome.now }
+{
+    match outcome {
+        Ok(Err(RunFault::Capture(fault))) => Some(LastLine::Fault(fault)),
+        Ok(_) => None,
+        Err(Usage) => Some(LastLine::Usage),
+    }
+}
+
+/// The exit status of the program, by its outcome and whether the last line was printed. It is that of failed output if
+/// there was a last line and it was not printed.
+pub fn program_status(outcome: &Outcome, is_printed: bool) -> u8
+    ensures { result ≡ status_of_program outcome.now is_printed }
+{
+    if !is_printed {
+        return status_of(&Err(RunFault::Output));
+    }
+    match outcome {
+        Ok(outcome) => status_of(outcome),
+        Err(Usage) => 2,
+    }
+}
