@@ -10,3 +10,4 @@ pub mod CaptureLengths
 pub mod CaptureLocality
 pub mod CapturesOne
 pub mod CapturePackets
+pub mod CaptureSome

@@ -1,5 +1,5 @@
 -- The laws of capture files of either format, read unit by unit.
-use Rattle.std.specs.Prelude.{◌≡◌, ℕ, ◌<◌, ◌≤◌, List, ◌++◌, length, Option, Some, None}
+use Rattle.std.specs.Prelude.{◌≡◌, ◌⊎◌, ℕ, ◌<◌, ◌≤◌, List, ◌++◌, length, Option, Some, None}
 use Rattle.ether_base.specs.Bytes.{IsBytes}
 use Rattle.ether_pcap.specs.Capture.{Expectation, PacketValue, CaptureRefusal, Begins, Refuses, required_len, HasPackets}
 
@@ -14,13 +14,22 @@ pub record UnitLengths : Type 0 where
   pub some : (bytes : List ℕ) (x y : Expectation) (len : ℕ) (p : Option PacketValue) → Begins bytes x len p y → 0 < len
   pub required : (bytes : List ℕ) (x : Expectation) (r : CaptureRefusal) (n : ℕ) → Refuses bytes x r → required_len r ≡ Some n → length bytes < n
 
--- bytes begin with at most one unit, or are refused for one reason
+-- any bytes begin with one unit, or are refused for one reason
 pub record UnitsAreOne : Type 0 where
+  pub some : (x : Expectation) (bytes : List ℕ) → ((len : ℕ) × (p : Option PacketValue) × (y : Expectation) × Begins bytes x len p y) ⊎ ((r : CaptureRefusal) × Refuses bytes x r)
   pub one : (bytes : List ℕ) (x y z : Expectation) (len n : ℕ) (p q : Option PacketValue) → IsBytes bytes → Begins bytes x len p y → Begins bytes x n q z → (len ≡ n) × (p ≡ q) × (y ≡ z)
   pub apart : (bytes : List ℕ) (x y : Expectation) (len : ℕ) (p : Option PacketValue) (r : CaptureRefusal) → IsBytes bytes → Begins bytes x len p y → Refuses bytes x r → ⊥
   pub refused : (bytes : List ℕ) (x : Expectation) (r s : CaptureRefusal) → IsBytes bytes → Refuses bytes x r → Refuses bytes x s → r ≡ s
 
--- bytes have packets in one way, with each room for a unit
+-- the packets of bytes if there is room for so many bytes of a unit, and what is left after them
+pub record Packets (room : ℕ) (x : Expectation) (bytes : List ℕ) : Type 0 where
+  pub packets : List PacketValue
+  pub rest : List ℕ
+  pub fault : Option CaptureRefusal
+  pub has : HasPackets room x bytes packets rest fault
+
+-- any bytes have packets, in one way, with each room for a unit
 pub record PacketsAreOne : Type 0 where
+  pub some : (room : ℕ) (x : Expectation) (bytes : List ℕ) → Packets room x bytes
   pub one : (room : ℕ) (x : Expectation) (bytes : List ℕ) (packets others : List PacketValue) (rest left : List ℕ) (fault other : Option CaptureRefusal) → IsBytes bytes
       → HasPackets room x bytes packets rest fault → HasPackets room x bytes others left other → (packets ≡ others) × (rest ≡ left) × (fault ≡ other)

@@ -26,9 +26,13 @@ pub(crate) fn read_block<'a>(
     bytes: &'a [u8],
 ) -> Result<CaptureUnit<'a>, CaptureError>
     requires { HasSectionType bytes.now → ⊥ }
-    ensures unit { IfOk result (λ u. Begins bytes.now (Blocks (order_of byte_order) (interfaces_view interfaces.old.items))
-        u.len (option_map captured_packet_view u.packet) (Blocks (order_of byte_order) (interfaces_view interfaces.new.items))) }
-    ensures refused { IfErr result (λ e. Refuses bytes.now (Blocks (order_of byte_order) (interfaces_view interfaces.old.items))
+    ensures unit { IfOk result (λ u. Begins bytes.now
+        (Blocks (order_of byte_order) (interfaces_view interfaces.old.items))
+        u.len
+        (option_map captured_packet_view u.packet)
+        (Blocks (order_of byte_order) (interfaces_view interfaces.new.items))) }
+    ensures refused { IfErr result (λ e. Refuses bytes.now
+        (Blocks (order_of byte_order) (interfaces_view interfaces.old.items))
         (capture_refusal_view e)) }
     ensures same { OnErr result (interfaces.new ≡ interfaces.old) }
 {
@@ -49,10 +53,16 @@ fn read_body<'a>(
     interfaces: &mut Interfaces,
     block: PcapngBlock<'a>,
 ) -> Result<Option<CapturedPacket<'a>>, CaptureError>
-    ensures body { IfOk result (λ p. IsBody (kind_of_block block.entry.block_type) (order_of byte_order) (interfaces_view interfaces.old.items)
-        block.entry.body.now (option_map captured_packet_view p) (interfaces_view interfaces.new.items)) }
-    ensures refused { IfErr result (λ e. RefusesBody (order_of byte_order) (interfaces_view interfaces.old.items) block.entry.body.now
-        (kind_of_block block.entry.block_type) (capture_refusal_view e)) }
+    ensures body { IfOk result (λ p. IsBody (kind_of_block block.entry.block_type) (order_of byte_order)
+        (interfaces_view interfaces.old.items)
+        block.entry.body.now
+        (option_map captured_packet_view p)
+        (interfaces_view interfaces.new.items)) }
+    ensures refused { IfErr result (λ e. RefusesBody (order_of byte_order)
+        (interfaces_view interfaces.old.items)
+        block.entry.body.now
+        (kind_of_block block.entry.block_type)
+        (capture_refusal_view e)) }
     ensures same { OnErr result (interfaces.new ≡ interfaces.old) }
 {
     match block.block_type {
@@ -79,10 +89,10 @@ fn add_interface(
     interfaces: &mut Interfaces,
     body: &[u8],
 ) -> Result<(), CaptureError>
-    ensures body { IfOk result (λ _. IsBody Description (order_of byte_order) (interfaces_view interfaces.old.items) body.now None
-        (interfaces_view interfaces.new.items)) }
-    ensures refused { IfErr result (λ e. RefusesBody (order_of byte_order) (interfaces_view interfaces.old.items) body.now Description
-        (capture_refusal_view e)) }
+    ensures body { IfOk result (λ _. IsBody Description (order_of byte_order)
+        (interfaces_view interfaces.old.items) body.now None (interfaces_view interfaces.new.items)) }
+    ensures refused { IfErr result (λ e. RefusesBody (order_of byte_order)
+        (interfaces_view interfaces.old.items) body.now Description (capture_refusal_view e)) }
     ensures same { OnErr result (interfaces.new ≡ interfaces.old) }
 {
     let interface = match CaptureInterface::from_body(byte_order, body) {
@@ -103,10 +113,10 @@ fn simple_packet<'a>(
     interfaces: &[CaptureInterface],
     body: &'a [u8],
 ) -> Result<CapturedPacket<'a>, CaptureError>
-    ensures packet { IfOk result (λ p. IsBody Simple (order_of byte_order) (interfaces_view interfaces.now) body.now
-        (Some (captured_packet_view p)) (interfaces_view interfaces.now)) }
-    ensures refused { IfErr result (λ e. RefusesBody (order_of byte_order) (interfaces_view interfaces.now) body.now Simple
-        (capture_refusal_view e)) }
+    ensures packet { IfOk result (λ p. IsBody Simple (order_of byte_order) (interfaces_view interfaces.now)
+        body.now (Some (captured_packet_view p)) (interfaces_view interfaces.now)) }
+    ensures refused { IfErr result (λ e. RefusesBody (order_of byte_order) (interfaces_view interfaces.now)
+        body.now Simple (capture_refusal_view e)) }
 {
     let Some(interface) = interface_at(interfaces, 0) else {
         return Err(CaptureError::NoInterface(0));
@@ -131,10 +141,10 @@ fn enhanced_packet<'a>(
     interfaces: &[CaptureInterface],
     body: &'a [u8],
 ) -> Result<CapturedPacket<'a>, CaptureError>
-    ensures packet { IfOk result (λ p. IsBody Enhanced (order_of byte_order) (interfaces_view interfaces.now) body.now
-        (Some (captured_packet_view p)) (interfaces_view interfaces.now)) }
-    ensures refused { IfErr result (λ e. RefusesBody (order_of byte_order) (interfaces_view interfaces.now) body.now Enhanced
-        (capture_refusal_view e)) }
+    ensures packet { IfOk result (λ p. IsBody Enhanced (order_of byte_order) (interfaces_view interfaces.now)
+        body.now (Some (captured_packet_view p)) (interfaces_view interfaces.now)) }
+    ensures refused { IfErr result (λ e. RefusesBody (order_of byte_order) (interfaces_view interfaces.now)
+        body.now Enhanced (capture_refusal_view e)) }
 {
     let packet = match EnhancedPacket::from_body(byte_order, body) {
         Ok(packet) => packet,

@@ -102,19 +102,22 @@ impl CaptureReader {
     /// least, more than the slice has: the unit can be read again with so many. Otherwise, the file can't be read on.
     #[tactic(auto, using(crate::proofs::CaptureLengths::unit_within, crate::proofs::CaptureLengths::unit_some, crate::proofs::CaptureLengths::required_above))]
     pub fn read<'a>(&mut self, bytes: &'a [u8]) -> Result<CaptureUnit<'a>, CaptureError>
-        ensures unit { IfOk result (λ u. Begins bytes.now self.old u.len (option_map captured_packet_view u.packet) self.new) }
+        ensures unit { IfOk result (λ u. Begins bytes.now
+            self.old u.len (option_map captured_packet_view u.packet) self.new) }
         ensures refused { IfErr result (λ e. Refuses bytes.now self.old (capture_refusal_view e)) }
         ensures same { OnErr result (self.new ≡ self.old) }
         ensures within { IfOk result (λ u. u.len ≤ length bytes.now) }
         ensures some { IfOk result (λ u. 0 < u.len) }
-        ensures short { IfErr result (λ e. (n : ℕ) → required_len (capture_refusal_view e) ≡ Some n → length bytes.now < n) }
+        ensures short { IfErr result (λ e. (n : ℕ)
+            → required_len (capture_refusal_view e) ≡ Some n → length bytes.now < n) }
     {
         self.read_unit(bytes)
     }
 
     /// The unit at the front of a slice.
     fn read_unit<'a>(&mut self, bytes: &'a [u8]) -> Result<CaptureUnit<'a>, CaptureError>
-        ensures unit { IfOk result (λ u. Begins bytes.now self.old u.len (option_map captured_packet_view u.packet) self.new) }
+        ensures unit { IfOk result (λ u. Begins bytes.now
+            self.old u.len (option_map captured_packet_view u.packet) self.new) }
         ensures refused { IfErr result (λ e. Refuses bytes.now self.old (capture_refusal_view e)) }
         ensures same { OnErr result (self.new ≡ self.old) }
     {
@@ -157,9 +160,14 @@ fn begins_section(bytes: &[u8]) -> bool
 /// The record at the front of a slice.
 #[tactic(auto, using(crate::specs::Capture::file_record_refused))]
 fn read_record<'a>(header: &FileHeader, bytes: &'a [u8]) -> Result<CaptureUnit<'a>, CaptureError>
-    ensures unit { IfOk result (λ u. Begins bytes.now (Records (file_header_view header.now)) u.len
-        (option_map captured_packet_view u.packet) (Records (file_header_view header.now))) }
-    ensures refused { IfErr result (λ e. Refuses bytes.now (Records (file_header_view header.now)) (capture_refusal_view e)) }
+    ensures unit { IfOk result (λ u. Begins bytes.now
+        (Records (file_header_view header.now))
+        u.len
+        (option_map captured_packet_view u.packet)
+        (Records (file_header_view header.now))) }
+    ensures refused { IfErr result (λ e. Refuses bytes.now
+        (Records (file_header_view header.now))
+        (capture_refusal_view e)) }
 {
     let record = match PcapRecord::from_slice(header, bytes) {
         Ok(record) => record,

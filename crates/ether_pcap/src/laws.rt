@@ -48,12 +48,12 @@ pub fn unit_lengths()
     ensures { UnitLengths }
 {}
 
-/// Bytes begin with at most one unit of a capture file, or are refused for one reason.
+/// Any bytes begin with one unit of a capture file, or are refused for one reason.
 pub fn units_are_one()
     ensures { UnitsAreOne }
 {}
 
-/// A capture file has packets in one way: at most one list of them, one rest, and one reason why it is not read on.
+/// Any bytes have packets, in one way: these, what is left after them, and why it is refused.
 pub fn packets_are_one()
     ensures { PacketsAreOne }
 {}
