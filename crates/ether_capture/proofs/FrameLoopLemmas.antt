@@ -1,11 +1,11 @@
 -- How far a run has come, one unit of the capture after another.
-use Rattle.std.proofs.Common.{◌≡◌, ◌≢◌, ℕ, suc, ◌+◌, ◌-◌, ◌<◌, ◌≤◌, List, [], ◌∷◌, ◌++◌, length, take, drop, Bool, true, false, ◌&&◌, Option, Some, None, refl, sym, ap, subst, ◌∙◌, arith, append_assoc, append-nil}
+use Rattle.std.proofs.Common.{◌≡◌, ℕ, ◌+◌, ◌-◌, ◌≤◌, List, [], ◌∷◌, ◌++◌, length, take, drop, Bool, true, false, ◌&&◌, Option, Some, None, refl, sym, ap, subst, ◌∙◌, arith, append_assoc, append-nil}
 use Rattle.std.proofs.Math.Bool.{and_assoc}
 use Rattle.std.proofs.lemmas.List.{length-append, length-drop, take-append-drop, take_all, length-take-le}
 use Rattle.std.proofs.lemmas.List.Sums.{sum_by-append}
 use Rattle.std.specs.List.{sum_by}
 use Rattle.std.specs.Io.KnownBytes.{Appends}
-use Rattle.ether_pcap.specs.Capture.{PacketValue, Expectation, Beginning, CaptureRefusal, Begins, Refuses, required_len}
+use Rattle.ether_pcap.specs.Capture.{PacketValue, Expectation, Begins}
 use Rattle.ether_text.specs.OutputBuffer.{contents_of, WritesOut}
 use Rattle.ether_text.specs.Verdict.{verdict_of, verdict_with}
 use Rattle.ether_text.specs.declared.output_buffer.OutputBuffer.{OutputBuffer}
@@ -14,7 +14,7 @@ use Rattle.ether_text.proofs.KnownBytesLemmas.{Appends-none, Appends-then, Appen
 use Rattle.ether_capture.specs.FrameLines.{AnswersPacket, skip_count}
 use Rattle.ether_capture.specs.Packets.{room, counted, GoesOn}
 use Rattle.ether_capture.specs.Run.{AreAnswered}
-use Rattle.ether_capture.specs.FrameLoop.{Reached, TakesPacket, TakesContent, TakesUnit, TakesUnits, IsStart}
+use Rattle.ether_capture.specs.FrameLoop.{Reached, TakesUnit, IsStart}
 use Rattle.ether_capture.specs.declared.frame_loop.FrameLoop.{FrameLoop}
 use Rattle.ether_capture.proofs.PacketsLemmas.{GoesOn-start, GoesOn-more, GoesOn-unit, GoesOn-packet}
 

@@ -1,5 +1,5 @@
 -- Words as references.
-use Rattle.std.proofs.Common.{◌≡◌, ℕ, ◌<◌, ◌≤◌, List, [], ◌∷◌, length, map, slice_index_or, Bor, refl, sym, ap, arith}
+use Rattle.std.proofs.Common.{◌≡◌, ℕ, ◌<◌, ◌≤◌, List, [], ◌∷◌, length, map, slice_index_or, Bor, refl, ap, arith}
 
 pub no_texts : (words : List (Bor (List ℕ))) → length words < 1 → map (λ word. word.now) words ≡ []
 no_texts [] few = refl

@@ -1,6 +1,6 @@
 -- The packets of a capture, as further units and further bytes are read.
-use Rattle.std.proofs.Common.{◌≡◌, ◌≢◌, ℕ, ◌+◌, ◌-◌, ◌<◌, ◌≤◌, List, [], ◌∷◌, ◌++◌, length, take, drop, Option, Some, None, refl, sym, ap, subst, ◌∙◌, arith, append_assoc, append-nil}
-use Rattle.std.proofs.lemmas.List.{drop-append-le, take_all, length-append}
+use Rattle.std.proofs.Common.{◌≡◌, ◌≢◌, ℕ, ◌+◌, ◌-◌, ◌≤◌, List, [], ◌∷◌, ◌++◌, length, take, drop, Option, Some, None, refl, sym, ap, subst, ◌∙◌, arith, append_assoc, append-nil}
+use Rattle.std.proofs.lemmas.List.{drop-append-le, take_all}
 use Rattle.std.proofs.Math.Seq.{take-append-add, take-append_seam}
 use Rattle.ether_pcap.specs.Capture.{PacketValue, Expectation, Beginning, CaptureRefusal, Begins, Refuses, required_len, IsEnd, HasPackets, ended, refused, unit, packet}
 use Rattle.ether_pcap.proofs.CaptureLocality.{unit_local, refusal_local}

@@ -1,5 +1,5 @@
 -- What a run has read and written, one read after another.
-use Rattle.std.proofs.Common.{◌≡◌, ◌≢◌, ℕ, ◌+◌, ◌-◌, ◌<◌, ◌≤◌, List, [], ◌∷◌, ◌++◌, length, take, drop, Bool, true, false, not, Option, Some, None, unwrap_or, Result, Ok, Err, IfOk, IfErr, IsErrAnd, OnOk, refl, sym, ap, subst, ◌∙◌, arith, append_assoc, append-nil}
+use Rattle.std.proofs.Common.{◌≡◌, ◌≢◌, ℕ, ◌<◌, ◌≤◌, List, [], ◌∷◌, ◌++◌, length, drop, Bool, true, not, Option, Some, None, unwrap_or, Result, Ok, Err, IfOk, IfErr, IsErrAnd, OnOk, refl, sym, ap, subst, ◌∙◌, arith, append_assoc, append-nil}
 use Rattle.std.proofs.lemmas.List.{length-drop, length-append}
 use Rattle.std.specs.Option.{is_some}
 use Rattle.std.specs.Io.KnownBytes.{Appends, Consumes, IsAtEnd, Keeps, append_known}
@@ -15,15 +15,13 @@ use Rattle.ether_text.specs.declared.output_buffer.OutputBuffer.{OutputBuffer}
 use Rattle.ether_text.specs.declared.verdict.Verdict.{Verdict}
 use Rattle.ether_text.proofs.KnownBytesLemmas.{Appends-then, Appends-written_out, append_known_nil, Consumes-then, Consumes-kept}
 use Rattle.ether_capture.specs.FrameLines.{totals_line_if}
-use Rattle.ether_capture.specs.Packets.{room, counted, GoesOn}
-use Rattle.ether_capture.specs.Run.{IsLeft, StopsInput, HasRun, IsOutput, totals_of}
+use Rattle.ether_capture.specs.Packets.{room, GoesOn}
+use Rattle.ether_capture.specs.Run.{IsLeft, HasRun, IsOutput, totals_of}
 use Rattle.ether_capture.specs.FrameLoop.{Reached, TakesUnits}
-use Rattle.ether_capture.specs.declared.outcome.CaptureFault.{CaptureFault}
 use Rattle.ether_capture.specs.declared.outcome.RunFault.{RunFault}
 use Rattle.ether_capture.specs.declared.outcome.RunFault.TheVariants.{Capture, Input, Output}
 use Rattle.ether_capture.specs.declared.frame_loop.FrameLoop.{FrameLoop}
 use Rattle.ether_capture.proofs.PacketsLemmas.{refused_for_good, GoesOn-ended, refused_at_last, all_that_is_left, as_much_as_fits}
-use Rattle.ether_capture.proofs.FrameLoopLemmas.{Reached-written_out}
 
 -- ---- what is left
 

@@ -1,4 +1,4 @@
-use Rattle.std.proofs.Common.{◌≡◌, ℕ, List, [], ◌++◌, Option, true, refl, sym, subst, append-nil}
+use Rattle.std.proofs.Common.{ℕ, List, [], ◌++◌, Option, true, refl, sym, subst, append-nil}
 use Rattle.ether_peel.specs.Grammar.Expectation.{Next}
 use Rattle.ether_pcap.specs.CaptureViews.{captured_packet_view}
 use Rattle.ether_text.proofs.OutputBufferLemmas.{Takes-then}
