@@ -1,6 +1,8 @@
 -- What a run has read and written, one read after another.
-use Rattle.std.proofs.Common.{◌≡◌, ◌≢◌, ℕ, ◌<◌, ◌≤◌, List, [], ◌∷◌, ◌++◌, length, drop, Bool, true, not, Option, Some, None, unwrap_or, Result, Ok, Err, IfOk, IfErr, IsErrAnd, OnOk, refl, sym, ap, subst, ◌∙◌, arith, append_assoc, append-nil}
+use Rattle.std.proofs.Common.{false, ◌≡◌, inl, inr, ℕ, ◌<◌, ◌≤◌, List, [], ◌∷◌, ◌++◌, length, drop, Bool, true, not, Option, Some, None, unwrap_or, Result, Ok, Err, IfOk, IfErr, IsErrAnd, OnOk, refl, sym, ap, subst, ◌∙◌, arith, append_assoc, append-nil}
 use Rattle.std.proofs.lemmas.List.{length-drop, length-append}
+use Rattle.std.proofs.lemmas.Bool.{cases_lt}
+use Rattle.std.specs.Prelude.{◌↔◌, IsTrue}
 use Rattle.std.specs.Option.{is_some}
 use Rattle.std.specs.Io.KnownBytes.{Appends, Consumes, IsAtEnd, Keeps, append_known}
 use Rattle.ether_pcap.specs.FileHeader as file
@@ -17,7 +19,7 @@ use Rattle.ether_text.proofs.KnownBytesLemmas.{Appends-then, Appends-written_out
 use Rattle.ether_capture.specs.FrameLines.{totals_line_if}
 use Rattle.ether_capture.specs.Packets.{room, GoesOn}
 use Rattle.ether_capture.specs.Run.{IsLeft, HasRun, IsOutput, totals_of}
-use Rattle.ether_capture.specs.FrameLoop.{Reached, TakesUnits}
+use Rattle.ether_capture.specs.FrameLoop.{Reached, TakesUnits, LeavesRest, IsFinal}
 use Rattle.ether_capture.specs.declared.outcome.RunFault.{RunFault}
 use Rattle.ether_capture.specs.declared.outcome.RunFault.TheVariants.{Capture, Input, Output}
 use Rattle.ether_capture.specs.declared.frame_loop.FrameLoop.{FrameLoop}
@@ -48,12 +50,9 @@ pub none_of : (o : Option ℕ) (b : Bool) → is_some o ≡ not b → b ≡ true
 none_of None b e f = refl
 none_of (Some n) b e f = absurd cc
 
--- the capture that has begun
-pub begun_end : (x : Expectation) (bytes : List ℕ) → x ≡ Beginning → ¬ (IsEnd x bytes)
-begun_end x bytes is end = end.0 is
-
-pub some_left : (x : Expectation) (bytes : List ℕ) → 0 < length bytes → ¬ (IsEnd x (bytes ++ []))
-some_left x bytes some end = let n = ap length end.1 in let m = length-append bytes [] in omega (arith, some, n, m)
+-- the last read gave nothing
+pub same_left : (left more : List ℕ) → length more ≡ 0 → left ++ more ≡ left
+same_left left more none = ap (λ (l : List ℕ). left ++ l) (no_bytes more none) ∙ append-nil left
 
 -- what is left fits too
 pub shorter : (bytes buffered left : List ℕ) (n : ℕ) → bytes ≡ buffered → left ≡ drop n buffered → length bytes ≤ room → length left ≤ room
@@ -62,6 +61,14 @@ shorter bytes buffered left n same is fits =
     let b = ap length is in
     let d = length-drop n buffered in
     omega (arith, a, b, d, fits)
+
+-- there is room for more
+pub not_full : (r : CaptureRefusal) (left : List ℕ) (b : Bool) → length left ≤ room → (IsTrue b ↔ IsFinal r left) → b ≡ false → length left < room
+not_full r left b fits means no_more =
+    elim (cases_lt (length left) room) [
+      | inl lt ↦ lt
+      | inr le ↦ let full : length left ≡ room = omega (arith, fits, le) in let t = means.1 (inr full) in absurd cc
+    ]
 
 -- ---- no bytes are refused for good
 
@@ -90,15 +97,17 @@ refused_nothing bytes x r e (body_refused order interfaces b s other begins refu
 
 module _ {W : Type 0} (plain : Bool) (contents : W → Option (List ℕ)) where
   -- the units of what was buffered are taken
-  pub after_units : (held : Option (List ℕ)) (input buffered bytes left : List ℕ) (old new : FrameLoop) (from to : OutputBuffer W) (n : ℕ) (error : CaptureError)
-      → bytes ≡ buffered → left ≡ drop n buffered → TakesUnits plain contents bytes old from n error new to → Reached plain contents held input buffered old from
-      → Reached plain contents held input left new to × Refuses left new.reader (capture_refusal_view error)
-  after_units held input buffered bytes left old new from to n error same is takes so_far =
-      let e : drop n bytes ≡ left = ap (drop n) same ∙ sym is in (
-        subst (λ (l : List ℕ). Reached plain contents held input l new to) e
-            (takes.reached held input (subst (λ (l : List ℕ). Reached plain contents held input l old from) (sym same) so_far)),
-        subst (λ (l : List ℕ). Refuses l new.reader (capture_refusal_view error)) e takes.refused,
-      )
+  pub units_left : (buffered bytes left : List ℕ) (old new : FrameLoop) (from to : OutputBuffer W) (n : ℕ) (error : CaptureError)
+      → bytes ≡ buffered → left ≡ drop n buffered → length bytes ≤ room → TakesUnits plain contents bytes old from n error new to → LeavesRest plain contents buffered old from left error new to
+  units_left buffered bytes left old new from to n error same is fits takes =
+      let e : drop n bytes ≡ left = ap (drop n) same ∙ sym is in
+      record {
+        reached = λ held input so_far.
+            subst (λ (l : List ℕ). Reached plain contents held input l new to) e
+            (takes.reached held input (subst (λ (l : List ℕ). Reached plain contents held input l old from) (sym same) so_far));
+        refused = subst (λ (l : List ℕ). Refuses l new.reader (capture_refusal_view error)) e takes.refused;
+        fits = shorter bytes buffered left n same is fits;
+      }
 
   module _ (before after held : Option (List ℕ)) where
     stops : (input buffered left : List ℕ) (at : FrameLoop) (out : OutputBuffer W) (error : CaptureError) (fault : RunFault)
@@ -124,7 +133,7 @@ module _ {W : Type 0} (plain : Bool) (contents : W → Option (List ℕ)) where
         })
 
     -- a unit is refused, whatever follows
-    pub stopped_for_good : (input buffered : List ℕ) (at : FrameLoop) (out : OutputBuffer W) (error : CaptureError) (fault : RunFault)
+    stopped_for_good : (input buffered : List ℕ) (at : FrameLoop) (out : OutputBuffer W) (error : CaptureError) (fault : RunFault)
         → fault ≡ Capture (record { offset = at.offset; error = error }) → Consumes before after input → length buffered ≤ room
         → Refuses buffered at.reader (capture_refusal_view error) → required_len (capture_refusal_view error) ≡ None
         → Reached plain contents held input buffered at out → HasRun plain before after held (contents_of contents out) (Err fault)
@@ -134,7 +143,7 @@ module _ {W : Type 0} (plain : Bool) (contents : W → Option (List ℕ)) where
         (λ packets go. refused_for_good input packets at.reader buffered left (capture_refusal_view error) fits (λ e. refused_nothing buffered at.reader (capture_refusal_view error) e refused none) refused none go) so_far
 
     -- a unit needs more bytes than there is room for
-    pub stopped_for_room : (input buffered : List ℕ) (at : FrameLoop) (out : OutputBuffer W) (error : CaptureError) (fault : RunFault)
+    stopped_for_room : (input buffered : List ℕ) (at : FrameLoop) (out : OutputBuffer W) (error : CaptureError) (fault : RunFault)
         → fault ≡ Capture (record { offset = at.offset; error = error }) → Consumes before after input → length buffered ≡ room
         → Refuses buffered at.reader (capture_refusal_view error)
         → Reached plain contents held input buffered at out → HasRun plain before after held (contents_of contents out) (Err fault)
@@ -144,22 +153,29 @@ module _ {W : Type 0} (plain : Bool) (contents : W → Option (List ℕ)) where
         (λ packets go. refused_at_last input packets at.reader buffered left (capture_refusal_view error) (as_much_as_fits buffered left full)
         (λ end. let n = ap length end.1 in let m = length-append buffered left in omega (arith, full, n, m)) refused go) so_far
 
+    -- more bytes do not help
+    pub stopped : (input buffered : List ℕ) (at : FrameLoop) (out : OutputBuffer W) (error : CaptureError) (fault : RunFault)
+        → fault ≡ Capture (record { offset = at.offset; error = error }) → Consumes before after input → length buffered ≤ room
+        → Refuses buffered at.reader (capture_refusal_view error) → IsFinal (capture_refusal_view error) buffered
+        → Reached plain contents held input buffered at out → HasRun plain before after held (contents_of contents out) (Err fault)
+    stopped input buffered at out error fault is read fits refused (inl none) so_far = stopped_for_good input buffered at out error fault is read fits refused none so_far
+    stopped input buffered at out error fault is read fits refused (inr full) so_far = stopped_for_room input buffered at out error fault is read full refused so_far
+
     -- the capture ends within a unit
     pub stopped_at_end : (input buffered : List ℕ) (at : FrameLoop) (out : OutputBuffer W) (error : CaptureError) (fault : RunFault)
         → fault ≡ Capture (record { offset = at.offset; error = error }) → Consumes before after input → IsAtEnd after → length buffered ≤ room
-        → ¬ (IsEnd at.reader (buffered ++ [])) → Refuses buffered at.reader (capture_refusal_view error)
+        → ¬ (IsEnd at.reader buffered) → Refuses buffered at.reader (capture_refusal_view error)
         → Reached plain contents held input buffered at out → HasRun plain before after held (contents_of contents out) (Err fault)
     stopped_at_end input buffered at out error fault is read end fits more refused so_far =
         stops input buffered [] at out error fault is read (IsLeft-end after end)
-        (λ packets go. refused_at_last input packets at.reader buffered [] (capture_refusal_view error) (all_that_is_left buffered fits) more refused go) so_far
+        (λ packets go. refused_at_last input packets at.reader buffered [] (capture_refusal_view error) (all_that_is_left buffered fits) (λ over. more (over.0, sym (append-nil buffered) ∙ over.1)) refused go) so_far
 
     -- all packets are answered
     pub finished : (input buffered : List ℕ) (at : FrameLoop) (from to : OutputBuffer W) (r : Result Verdict RunFault)
-        → Consumes before after input → IsAtEnd after → length buffered ≡ 0 → at.reader ≢ Beginning
+        → Consumes before after input → IsAtEnd after → IsEnd at.reader buffered
         → IfOk r (λ verdict. verdict ≡ at.verdict) → OnOk r (Appends (contents_of contents from) (contents_of contents to) (totals_line_if plain at.count at.skipped)) → IfErr r IsOutput
         → Reached plain contents held input buffered at from → HasRun plain before after held (contents_of contents to) r
-    finished input buffered at from to (Ok verdict) read end none begun is written fault so_far =
-        let empty = no_bytes buffered none in
+    finished input buffered at from to (Ok verdict) read end over is written fault so_far =
         let totals : totals_line_if plain at.count at.skipped ≡ totals_of plain so_far.packets = (λ i. totals_line_if plain (so_far.is_count i) (so_far.is_skipped i)) in
         record {
           input = input;
@@ -168,13 +184,13 @@ module _ {W : Type 0} (plain : Bool) (contents : W → Option (List ℕ)) where
           all_accepted = so_far.all_accepted;
           read = read;
           at_end = end;
-          has = GoesOn-ended input so_far.packets at.reader begun (subst (λ (l : List ℕ). GoesOn input so_far.packets at.reader l) empty so_far.parts);
+          has = GoesOn-ended input so_far.packets at.reader over.0 (subst (λ (l : List ℕ). GoesOn input so_far.packets at.reader l) over.1 so_far.parts);
           answered = so_far.answered;
           is_verdict = is ∙ so_far.is_verdict;
           written = Appends-then held (contents_of contents from) (contents_of contents to) so_far.text (totals_of plain so_far.packets) so_far.written
               (subst (λ (t : List ℕ). Appends (contents_of contents from) (contents_of contents to) t) totals written);
         }
-    finished input buffered at from to (Err fault) read end none begun is written failed so_far =
+    finished input buffered at from to (Err fault) read end over is written failed so_far =
         subst (λ (f : RunFault). HasRun plain before after held (contents_of contents to) (Err f)) (sym failed) tt
 
     -- a read fails

@@ -1,11 +1,16 @@
 //! A run: from a reader of a capture to a writer of the lines of its packets.
-ghost use Rattle.std.specs.Prelude.{◌≡◌, [], true, IfErr};
+ghost use Rattle.std.specs.Prelude.{◌≡◌, ◌↔◌, [], true, IfOk, IfErr, IsTrue};
+ghost use Rattle.ether_pcap.specs.Capture.{IsEnd};
+ghost use Rattle.ether_pcap.specs.CaptureViews.{capture_refusal_view};
 ghost use Rattle.ether_text.specs.OutputBuffer.{contents_of};
-ghost use Rattle.ether_capture.specs.Run.{HasRun, IfSettled, OnInput, OnStreamFault};
+ghost use Rattle.ether_capture.specs.FrameLoop.{IsFinal, LeavesRest};
+ghost use Rattle.ether_capture.specs.InputBuffer.{items};
+ghost use Rattle.ether_capture.specs.Run.{HasRun, IfSettled, IsOutput, OnInput, OnStreamFault};
 
 use crate::frame_loop::FrameLoop;
 use crate::input_buffer::{InputBuffer, ROOM};
 use crate::outcome::RunFault;
+use ether_pcap::CaptureError;
 use ether_text::{InputReader, OutputBuffer, Verdict};
 use std::io::{Read, Write};
 
@@ -68,17 +73,49 @@ fn read_capture<R: Read, W: Write>(
     let mut frames = FrameLoop::new();
     let mut buffer = InputBuffer::new();
     loop {
-        let (taken, error) = frames.take_units(is_plain, buffer.as_slice(), out)?;
-        buffer.consume(taken);
-        if error.required_len().is_none() || buffer.len() == ROOM {
+        let error = take_buffered(is_plain, &mut frames, &mut buffer, out)?;
+        if is_final(&error, &buffer) {
             return Err(frames.fault(error));
         }
         out.write_out()?;
         if buffer.read(input, out)? == 0 {
-            if buffer.len() > 0 || !frames.has_begun() {
-                return Err(frames.fault(error));
+            if is_over(&frames, &buffer) {
+                return frames.finish(is_plain, out);
             }
-            return frames.finish(is_plain, out);
+            return Err(frames.fault(error));
         }
     }
+}
+
+/// Takes the units at the front of the buffer, and writes the text for each packet. Returns why what is left does not begin with
+/// a unit.
+fn take_buffered<W: Write>(
+    is_plain: bool,
+    frames: &mut FrameLoop,
+    buffer: &mut InputBuffer,
+    out: &mut OutputBuffer<'_, W>,
+) -> Result<CaptureError, RunFault>
+    ensures same_writer { out.new.writer.ghost_name ≡ out.old.writer.ghost_name }
+    ensures ok { IfOk result (λ error. LeavesRest is_plain W.contents (items buffer.old) frames.old out.old
+        (items buffer.new) error frames.new out.new) }
+    ensures fault { IfErr result IsOutput }
+    ensures failed { IfErr result (λ fault. out.new.has_failed ≡ true) }
+{
+    let (taken, error) = frames.take_units(is_plain, buffer.as_slice(), out)?;
+    buffer.consume(taken);
+    Ok(error)
+}
+
+/// Tests that more bytes do not help: the unit is refused whatever follows, or the buffer has no room for more of it.
+fn is_final(error: &CaptureError, buffer: &InputBuffer) -> bool
+    ensures { IsTrue result ↔ IsFinal (capture_refusal_view error.now) (items buffer.now) }
+{
+    error.required_len().is_none() || buffer.len() == ROOM
+}
+
+/// Tests that the capture has begun, and that nothing of it is left.
+fn is_over(frames: &FrameLoop, buffer: &InputBuffer) -> bool
+    ensures { IsTrue result ↔ IsEnd frames.now.reader (items buffer.now) }
+{
+    frames.has_begun() && buffer.len() == 0
 }

@@ -1,14 +1,10 @@
 -- The words that name a command, as references.
-use Rattle.std.proofs.Common.{◌≡◌, ◌≢◌, ◌⊎◌, ℕ, ◌+◌, ◌-◌, ◌^◌, ◌<◌, ◌≤◌, List, [], ◌∷◌, ◌++◌, length, map, take, slice_index, slice_index_or, Option, Some, None, false, Bor, codes, inl, inr, refl, sym, ap, subst, ◌∙◌, append_assoc, arith}
+use Rattle.std.proofs.Common.{◌≡◌, ◌≢◌, ◌⊎◌, ℕ, ◌+◌, ◌-◌, ◌^◌, ◌<◌, ◌≤◌, List, [], ◌∷◌, ◌++◌, length, map, take, slice_index, slice_index_or, Option, Some, Bor, codes, inl, inr, refl, sym, ap, subst, ◌∙◌, append_assoc, arith}
 use Rattle.std.proofs.Math.ListN.{get_or-map}
 use Rattle.std.proofs.Math.Seq.{take-append_seam, get_or-append_seam}
 use Rattle.std.proofs.lemmas.List.{length-append, length-map, take-map, map_more, get_or-append-add, take_all, length-take-le}
 use Rattle.std.proofs.lemmas.Str.Parse.{numerals_by_value, tells_digits, digits_value_short, without_leading_plus_none}
 use Rattle.std.specs.Str.Parse.{AllDigits, IsNumeral, digits_value, without_leading_plus}
-use Rattle.std.specs.declared.vec.IntoIter.{IntoIter}
-use Rattle.std.specs.Option.{is_some}
-use Rattle.std.specs.Vec.Iter.{into_iter_items, into_iter_len, into_iter_steps}
-use Rattle.std.specs.Prelude.{String, string_bytes}
 use Rattle.ether_tool.specs.Mode.{NamesMode, NamesNoMode, no_word, eth, fcs, sll, feed, ether_type}
 use Rattle.ether_tool.specs.Command.{NamesLimit, NamesCommand, NamesNoCommand, plain, limited}
 use Rattle.ether_tool.specs.declared.mode.Mode.{Mode}

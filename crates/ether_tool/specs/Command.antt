@@ -1,6 +1,5 @@
 -- The words that name a command: those of a mode, alone or with a limit.
-use Rattle.std.specs.Prelude.{◌≡◌, ℕ, ◌≤◌, List, [], ◌∷◌, ◌++◌, length, codes, map, drop, string_bytes, Option, Some, None}
-use Rattle.std.specs.Prelude.{String}
+use Rattle.std.specs.Prelude.{◌≡◌, ℕ, ◌≤◌, List, [], ◌∷◌, ◌++◌, length, codes, Option, Some, None}
 use Rattle.std.specs.Str.Parse.{IsNumeral, digits_value}
 use Rattle.ether_tool.specs.Mode.{NamesMode}
 use Rattle.ether_tool.specs.declared.mode.Mode.{Mode}

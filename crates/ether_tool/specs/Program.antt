@@ -1,8 +1,6 @@
 -- What the program has read and written, and how it ends.
-use Rattle.std.specs.Prelude.{◌≡◌, ℕ, List, [], ◌++◌, codes, Option, Some, None, Result, Ok, Err, IfNone, Bool, true, String}
+use Rattle.std.specs.Prelude.{◌≡◌, ℕ, List, [], ◌++◌, codes, Option, Some, None, Result, Ok, Err, IfNone, Bool, true}
 use Rattle.std.specs.Io.KnownBytes.{Appends}
-use Rattle.std.specs.Vec.Iter.{into_iter_items}
-use Rattle.std.specs.declared.vec.IntoIter.{IntoIter}
 use Rattle.ether_tool.specs.Command.{NamesCommand, NamesNoCommand}
 use Rattle.ether_tool.specs.Run.{HasRun}
 use Rattle.ether_tool.specs.Outcome.{last_text, status_of_program}

@@ -5,8 +5,8 @@ use Rattle.ether_capture.specs.FrameLoop.{Reached}
 use Rattle.ether_capture.specs.InputBuffer.{items}
 use Rattle.ether_capture.proofs.run.read_capture.Given as goal
 
-abbrev pub invariant-loop-taken : goal.invariant-loop-taken
-invariant-loop-taken g l =
+abbrev pub invariant-loop-error : goal.invariant-loop-error
+invariant-loop-error g l =
     (taken : List ℕ) × record {
       same_reader : l.input.inner.ghost_name ≡ l.fn.input.inner.ghost_name;
       same_writer : l.out.writer.ghost_name ≡ l.fn.out.writer.ghost_name;
@@ -14,5 +14,5 @@ invariant-loop-taken g l =
       reached : Reached l.is_plain g.W.Write.contents (contents_of g.W.Write.contents l.fn.out) taken (items l.buffer) l.frames l.out;
     }
 
-abbrev pub decreases-loop-taken : goal.decreases-loop-taken
-decreases-loop-taken g l = l.input.reads_left
+abbrev pub decreases-loop-error : goal.decreases-loop-error
+decreases-loop-error g l = l.input.reads_left
