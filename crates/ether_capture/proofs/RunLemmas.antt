@@ -194,11 +194,11 @@ module _ {W : Type 0} (plain : Bool) (contents : W → Option (List ℕ)) where
         subst (λ (f : RunFault). HasRun plain before after held (contents_of contents to) (Err f)) (sym failed) tt
 
     -- a read fails
-    pub broken_off : (mid : Option (List ℕ)) (r : Result Verdict RunFault) (input buffered : List ℕ) (at : FrameLoop) (out : OutputBuffer W)
-        → Consumes before mid input → Keeps mid after → IsErrAnd r (λ fault. fault ≡ Input)
+    pub broken_off : (mid : Option (List ℕ)) (r : Result Verdict RunFault) (input buffered : List ℕ) (at : FrameLoop) (out : OutputBuffer W) (reason : CaptureRefusal) (b : Bool)
+        → Consumes before mid input → Keeps mid after → IsErrAnd r (λ fault. fault ≡ Input) → Refuses buffered at.reader reason → (IsTrue b ↔ IsFinal reason buffered) → b ≡ false
         → Reached plain contents held input buffered at out → HasRun plain before after held (contents_of contents out) r
-    broken_off mid (Ok verdict) input buffered at out read kept is so_far = absurd is
-    broken_off mid (Err fault) input buffered at out read kept is so_far =
+    broken_off mid (Ok verdict) input buffered at out reason b read kept is refused means no_more so_far = absurd is
+    broken_off mid (Err fault) input buffered at out reason b read kept is refused means no_more so_far =
         subst (λ (f : RunFault). HasRun plain before after held (contents_of contents out) (Err f)) (sym is) (record {
           taken = input;
           packets = so_far.packets;
@@ -206,8 +206,11 @@ module _ {W : Type 0} (plain : Bool) (contents : W → Option (List ℕ)) where
           buffered = buffered;
           text = so_far.text;
           all_accepted = so_far.all_accepted;
+          reason = reason;
           read = Consumes-kept before mid after input read kept;
           parts = so_far.parts;
+          begun = refused;
+          unfinished = λ none. let t = means.1 (inl none) in absurd cc;
           answered = so_far.answered;
           written = so_far.written;
         })
@@ -259,8 +262,11 @@ HasRun-flushed plain contents before after held from to (Err Input) drains h = r
   buffered = h.buffered;
   text = h.text;
   all_accepted = h.all_accepted;
+  reason = h.reason;
   read = h.read;
   parts = h.parts;
+  begun = h.begun;
+  unfinished = h.unfinished;
   answered = h.answered;
   written = appends_flushed held (contents from.writer.now) (contents to.writer.now) from.waiting.items h.text h.written drains.written;
 }

@@ -1,8 +1,8 @@
 -- What a run writes for a capture.
-use Rattle.std.specs.Prelude.{◌≡◌, ℕ, ◌+◌, List, [], ◌∷◌, ◌++◌, length, Bool, true, ◌&&◌, Option, Some, None, Result, Ok, Err, IfSome, ⊤}
+use Rattle.std.specs.Prelude.{◌≡◌, ◌≢◌, ℕ, ◌+◌, List, [], ◌∷◌, ◌++◌, length, Bool, true, ◌&&◌, Option, Some, None, Result, Ok, Err, IfSome, ⊤}
 use Rattle.std.specs.List.{sum_by}
 use Rattle.std.specs.Io.KnownBytes.{Appends, Consumes, IsAtEnd}
-use Rattle.ether_pcap.specs.Capture.{PacketValue, Expectation, Beginning, HasPackets}
+use Rattle.ether_pcap.specs.Capture.{PacketValue, Expectation, Beginning, CaptureRefusal, Refuses, required_len, HasPackets}
 use Rattle.ether_pcap.specs.CaptureViews.{capture_refusal_view}
 use Rattle.ether_text.specs.Verdict.{verdict_of}
 use Rattle.ether_text.specs.declared.verdict.Verdict.{Verdict}
@@ -59,8 +59,8 @@ pub record StopsInput (plain : Bool) (before after held holds : Option (List ℕ
   pub answered : AreAnswered plain 0 packets text all_accepted
   pub written : Appends held holds text
 
--- From before to after the reader gave some of its bytes. These packets come first in them, whatever follows, and the writer took the
--- text for them.
+-- From before to after the reader gave some of its bytes. These packets come first in them, whatever follows; what is left is not
+-- a whole unit, and more bytes may make it one. The writer took the text for the packets.
 pub record BreaksOff (plain : Bool) (before after held holds : Option (List ℕ)) : Type 0 where
   pub taken : List ℕ
   pub packets : List PacketValue
@@ -69,7 +69,10 @@ pub record BreaksOff (plain : Bool) (before after held holds : Option (List ℕ)
   pub text : List ℕ
   pub all_accepted : Bool
   pub read : Consumes before after taken
+  pub reason : CaptureRefusal
   pub parts : GoesOn taken packets expected buffered
+  pub begun : Refuses buffered expected reason
+  pub unfinished : required_len reason ≢ None
   pub answered : AreAnswered plain 0 packets text all_accepted
   pub written : Appends held holds text
 

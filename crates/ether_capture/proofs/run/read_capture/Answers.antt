@@ -51,7 +51,8 @@ returns-in_err-read-clause-run g c =
     let out = c.write_out.new.self in
     let after = g.R.Read.remaining c.read.new.input.inner.now in
     let flushed = Reached-written_out plain contents held taken left at c.take_buffered.new.out out c.in_ok-write_out.ensures.ok reached in
-    broken_off plain contents before after held mid c.from_residual-in_err-read.result taken left at out so_far.read c.in_err-read.ensures.kept c.from_residual-in_err-read.ensures.1 flushed
+    broken_off plain contents before after held mid c.from_residual-in_err-read.result taken left at out (capture_refusal_view c.in_ok-error.error) c.is_final.result
+    so_far.read c.in_err-read.ensures.kept c.from_residual-in_err-read.ensures.1 rest.refused c.is_final.ensures c.if-is_final.false flushed
 
 pub returns-then-is_over-clause-run : goal.returns-then-is_over-clause-run
 returns-then-is_over-clause-run g c =
