@@ -10,7 +10,7 @@ import sys
 ROOT = os.path.dirname(os.path.dirname(os.path.abspath(__file__)))
 NAME = r"[^\s(){}\[\],;.λ∀→=|]+"
 
-# The public calls that carry the main theorem and the tool's output. "ghost" means the ghost members of a file's impls that say what
+# The public calls that carry the main theorem and the output of the two programs. "ghost" means the ghost members of a file's impls that say what
 # its calls do: of a model that is its value, while its view and its invariant are the representation, which nobody outside sees.
 CALLS = {
     "ether_peel/src/peel.rt": ["new", "with_limit", "rest", "offset", "kind", "closed", "bound", "ghost"],
@@ -20,6 +20,7 @@ CALLS = {
     "ether_peel/src/feeding.rt": ["feed", "feed_limited"],
     "ether_peel/src/completing.rt": ["completion", "completion_limited"],
     "ether_tool/src/run.rt": ["run", "run_limited"],
+    "ether_capture/src/run.rt": ["run"],
 }
 
 
