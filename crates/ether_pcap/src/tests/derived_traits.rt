@@ -1,11 +1,16 @@
 //! What callers learn of the derived traits and of the constants, at each type of this crate. These functions are proved and
 //! never run.
 ghost use Rattle.std.specs.Prelude.{◌≡◌, ◌↔◌, IsTrue, Ok, [], ◌∷◌};
+ghost use Rattle.std.specs.Option.{option_map};
 ghost use Rattle.ether_pcap.specs.Views.{record_view};
+ghost use Rattle.ether_pcap.specs.PcapngViews.{block_view, interface_view, enhanced_packet_view, simple_packet_view};
+ghost use Rattle.ether_pcap.specs.CaptureViews.{captured_packet_view};
 
 use crate::{
-    BlockError, BodyError, ByteOrder, CaptureError, CaptureReader, FileHeader, FileHeaderError,
-    LinkType, PcapRecord, PcapngBlock, RecordError, RecordFault, SectionError, TimeUnit, Timestamp,
+    BlockError, BodyError, ByteOrder, CaptureError, CaptureReader, CaptureUnit, CapturedPacket,
+    EnhancedPacket, FileHeader, FileHeaderError, InterfaceDescription, LinkType, PcapRecord,
+    PcapngBlock, RecordError, RecordFault, SectionError, SectionHeader, SimplePacket, TimeUnit,
+    Timestamp,
 };
 use std::alloc::AllocError;
 
@@ -174,4 +179,101 @@ pub fn greatest_number_of_interfaces() -> usize
     ensures { result ≡ 256 }
 {
     CaptureReader::MAX_INTERFACES
+}
+
+pub fn same_pcapng_block(a: &PcapngBlock<'_>, b: &PcapngBlock<'_>) -> bool
+    ensures { IsTrue result ↔ (block_view a.now ≡ block_view b.now) }
+{
+    *a == *b
+}
+
+pub fn same_section_header(a: &SectionHeader<'_>, b: &SectionHeader<'_>) -> bool
+    ensures { IsTrue result ↔ ((a.now.byte_order ≡ b.now.byte_order)
+        × (block_view a.now.block ≡ block_view b.now.block)) }
+{
+    *a == *b
+}
+
+pub fn same_interface_description(
+    a: &InterfaceDescription<'_>,
+    b: &InterfaceDescription<'_>,
+) -> bool
+    ensures { IsTrue result ↔ (interface_view a.now ≡ interface_view b.now) }
+{
+    *a == *b
+}
+
+pub fn same_enhanced_packet(a: &EnhancedPacket<'_>, b: &EnhancedPacket<'_>) -> bool
+    ensures { IsTrue result ↔ (enhanced_packet_view a.now ≡ enhanced_packet_view b.now) }
+{
+    *a == *b
+}
+
+pub fn same_simple_packet(a: &SimplePacket<'_>, b: &SimplePacket<'_>) -> bool
+    ensures { IsTrue result ↔ (simple_packet_view a.now ≡ simple_packet_view b.now) }
+{
+    *a == *b
+}
+
+pub fn same_captured_packet(a: &CapturedPacket<'_>, b: &CapturedPacket<'_>) -> bool
+    ensures { IsTrue result ↔ (captured_packet_view a.now ≡ captured_packet_view b.now) }
+{
+    *a == *b
+}
+
+pub fn same_capture_unit(a: &CaptureUnit<'_>, b: &CaptureUnit<'_>) -> bool
+    ensures { IsTrue result ↔ ((a.now.len ≡ b.now.len)
+        × (option_map captured_packet_view a.now.packet ≡ option_map captured_packet_view b.now.packet)) }
+{
+    *a == *b
+}
+
+pub fn clone_of_pcapng_block<'a>(value: &PcapngBlock<'a>) -> Result<PcapngBlock<'a>, AllocError>
+    ensures { result ≡ Ok value.now }
+{
+    value.clone()
+}
+
+pub fn clone_of_section_header<'a>(
+    value: &SectionHeader<'a>,
+) -> Result<SectionHeader<'a>, AllocError>
+    ensures { result ≡ Ok value.now }
+{
+    value.clone()
+}
+
+pub fn clone_of_interface_description<'a>(
+    value: &InterfaceDescription<'a>,
+) -> Result<InterfaceDescription<'a>, AllocError>
+    ensures { result ≡ Ok value.now }
+{
+    value.clone()
+}
+
+pub fn clone_of_enhanced_packet<'a>(
+    value: &EnhancedPacket<'a>,
+) -> Result<EnhancedPacket<'a>, AllocError>
+    ensures { result ≡ Ok value.now }
+{
+    value.clone()
+}
+
+pub fn clone_of_simple_packet<'a>(value: &SimplePacket<'a>) -> Result<SimplePacket<'a>, AllocError>
+    ensures { result ≡ Ok value.now }
+{
+    value.clone()
+}
+
+pub fn clone_of_captured_packet<'a>(
+    value: &CapturedPacket<'a>,
+) -> Result<CapturedPacket<'a>, AllocError>
+    ensures { result ≡ Ok value.now }
+{
+    value.clone()
+}
+
+pub fn clone_of_capture_unit<'a>(value: &CaptureUnit<'a>) -> Result<CaptureUnit<'a>, AllocError>
+    ensures { result ≡ Ok value.now }
+{
+    value.clone()
 }
