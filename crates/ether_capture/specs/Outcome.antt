@@ -1,9 +1,13 @@
 -- How the program ends: what it prints last, and its exit status.
-use Rattle.std.specs.Prelude.{ℕ, List, ◌++◌, codes, Option, Some, None, Result, Ok, Err, Bool, true, false}
+use Rattle.std.specs.Prelude.{ℕ, List, [], ◌++◌, codes, nat_lt, Option, Some, None, unwrap_or, Result, Ok, Err, Bool, true, false}
 use Rattle.std.specs.Fmt.{decimal}
+use Rattle.ether_pcap.specs.Capture.{required_len}
+use Rattle.ether_pcap.specs.CaptureViews.{capture_refusal_view}
 use Rattle.ether_pcap.specs.CaptureTexts.{capture_error_text}
+use Rattle.ether_pcap.specs.declared.capture_error.CaptureError.{CaptureError}
 use Rattle.ether_text.specs.declared.verdict.Verdict.{Verdict}
 use Rattle.ether_text.specs.declared.verdict.Verdict.TheVariants.{AllAccepted, SomeRefused}
+use Rattle.ether_capture.specs.Packets.{room}
 use Rattle.ether_capture.specs.declared.options.Usage.{Usage}
 use Rattle.ether_capture.specs.declared.outcome.CaptureFault.{CaptureFault}
 use Rattle.ether_capture.specs.declared.outcome.LastLine.{LastLine}
@@ -22,8 +26,17 @@ exit_status (Err Output) = 4
 abbrev pub usage_text : List ℕ
 usage_text = codes "usage: ether_capture [--plain] < capture"
 
+-- a file header, record or block is longer than what is read at once
+abbrev pub is_above_room : CaptureError → Bool
+is_above_room error = nat_lt room (unwrap_or (required_len (capture_refusal_view error)) 0)
+
+-- .. which is said then
+abbrev pub room_text : Bool → List ℕ
+room_text true = codes " At most 73728 bytes are read at once."
+room_text false = []
+
 abbrev pub capture_fault_text : CaptureFault → List ℕ
-capture_fault_text fault = codes "byte " ++ (decimal fault.offset ++ (codes ": " ++ capture_error_text fault.error))
+capture_fault_text fault = codes "byte " ++ (decimal fault.offset ++ (codes ": " ++ (capture_error_text fault.error ++ room_text (is_above_room fault.error))))
 
 -- what the program prints last, without its line feed: the usage if the arguments are wrong
 abbrev pub last_text : Result (Result Verdict RunFault) Usage → Option (List ℕ)

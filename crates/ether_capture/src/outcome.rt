@@ -1,8 +1,9 @@
 //! How the program ends: what a run found or why it stopped, the exit status of each, and the last line.
 ghost use Rattle.std.specs.Prelude.{◌≡◌};
 ghost use Rattle.std.specs.Option.{option_map};
-ghost use Rattle.ether_capture.specs.Outcome.{exit_status, last_line_text, last_text, status_of_program};
+ghost use Rattle.ether_capture.specs.Outcome.{exit_status, is_above_room, last_line_text, last_text, status_of_program};
 
+use crate::input_buffer::ROOM;
 use crate::options::Usage;
 use ether_pcap::CaptureError;
 use ether_text::{InputFault, OutputFault, Verdict};
@@ -26,8 +27,22 @@ impl fmt::Display for CaptureFault {
     fn fmt<W: fmt::Write>(&self, f: &mut fmt::Formatter<W>) -> fmt::Result {
         let offset = self.offset;
         let error = &self.error;
-        write!(f, "byte {offset}: {error}")
+        if is_above_room(error) {
+            write!(
+                f,
+                "byte {offset}: {error} At most 73728 bytes are read at once."
+            )
+        } else {
+            write!(f, "byte {offset}: {error}")
+        }
     }
+}
+
+/// Whether a file header, record or block needs more bytes than are read at once.
+fn is_above_room(error: &CaptureError) -> bool
+    ensures { result ≡ is_above_room error.now }
+{
+    error.required_len().unwrap_or(0) > ROOM
 }
 
 /// Why a run stopped before the end of its input.
