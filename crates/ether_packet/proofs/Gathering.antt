@@ -1,8 +1,9 @@
 -- A packet that has gathered the headers of a walk so far, and its end.
-use Rattle.std.proofs.Common.{◌≡◌, ℕ, zero, suc, ◌+◌, ◌-◌, ◌<◌, List, [], ◌∷◌, ◌++◌, length, refl, sym, ap, subst, ◌∙◌, arith, inl, inr, Bool, true, false, cond, ◌⊎◌}
+use Rattle.std.proofs.Common.{◌≡◌, ℕ, zero, suc, ◌+◌, ◌-◌, ◌/◌, ◌<◌, List, [], ◌∷◌, ◌++◌, length, refl, sym, ap, subst, ◌∙◌, arith, inl, inr, Bool, true, false, cond, ◌⊎◌}
 use Rattle.std.specs.Prelude.{map, slice_get, slice_range, Option, Some, None, Result, Ok, Err, ◌&&◌}
 use Rattle.std.specs.List.{filter_map, cons_option}
-use Rattle.std.proofs.lemmas.List.{append_assoc, append-nil, length-append, map-append}
+use Rattle.std.specs.Iterator.{size, at_most}
+use Rattle.std.proofs.lemmas.List.{append_assoc, append-nil, length-append, map-append, take_all}
 use Rattle.std.proofs.lemmas.List.Elements.{filter-append, filter_map-append}
 use Rattle.etherparse.specs.Types.LenSource.{LenSource}
 use Rattle.etherparse.specs.Types.LinuxSllProtocolType.{LinuxSllProtocolType}
@@ -14,14 +15,14 @@ use Rattle.etherparse.specs.Kind as kinds
 use Rattle.etherparse.specs.Header.{Header, kind_of}
 use Rattle.etherparse.specs.Header as headers
 use Rattle.etherparse.specs.Refusal.{Accepts}
-use Rattle.etherparse.proofs.SubLists.{IsBytes-part, length-part}
+use Rattle.etherparse.proofs.SubLists.{IsBytes-part}
 use Rattle.ether_peel.specs.Grammar.Window.{Window, within, payload}
 use Rattle.ether_peel.specs.Grammar.Expectation.{Next, Start, EtherType, Sll, Sealed, AfterArp, Expectation, is_extension, permitted, announced_next, announced, after, next_after, after_payload, lowered}
 use Rattle.ether_peel.specs.Grammar.Stack.{Ending, Accepted, Fault, IsUnit, last_window, last_expected, whole, Walk}
 use Rattle.ether_peel.specs.Walker.State.{State}
 use Rattle.ether_peel.specs.Walker.Start.{kind_shown}
 use Rattle.ether_peel.specs.Walker.Fault.{fault_in}
-use Rattle.ether_peel.specs.Walker.Next.{Faces, ShowsUnit, GivesNext, Gives}
+use Rattle.ether_peel.specs.Walker.Next.{Faces, ShowsUnit, GivesNext, Gives, items_left}
 use Rattle.ether_peel.specs.Walker.Summary.{fault_of}
 use Rattle.ether_peel.specs.Walker.UnitHeader.{unit_header}
 use Rattle.ether_peel.specs.declared.peel_unit.PeelUnit.{PeelUnit}
@@ -100,8 +101,8 @@ no_arp r x kind (inl none) e = none
 no_arp r x kind (inr over) e = let a = announced_is x kind e in let b = ap announced_next over in absurd cc
 
 -- a link's header is the first
-place_first : (r : Read) (x : Expectation) (kind : Kind) (p : Place) (free : ℕ) → Ready r x free → announced x ≡ Some kind → is_first kind ≡ true → (r.units ≡ [] → (p.start ≡ 0) × (p.end ≡ length r.frame))
-    → (r.units ≡ []) × (p.start ≡ 0) × (p.end ≡ length r.frame)
+place_first : (r : Read) (x : Expectation) (kind : Kind) (p : Place) (free : ℕ) → Ready r x free → announced x ≡ Some kind → is_first kind ≡ true → (r.units ≡ [] → (p.start ≡ 0) × (p.bytes.now ≡ r.frame))
+    → (r.units ≡ []) × (p.start ≡ 0) × (p.bytes.now ≡ r.frame)
 place_first r x kind p free ready e first whole_frame =
     let start = starts x.next kind (announced_is x kind e) first in
     let none = ready.first start.0 start.1 in
@@ -112,7 +113,7 @@ place_ext : (r : Read) (x : Expectation) (kind : Kind) (free : ℕ) → Ready r 
 place_ext r x kind free ready e extends room = let lt = may_read x kind free ready.limit extends e in (omega arith, no_arp r x kind ready.arp e)
 
 pub has_place : (r : Read) (x : Expectation) (bytes rest : List ℕ) (h : Header) (u : PeelUnit) (p : Place) (free : ℕ) → Ready r x free → announced x ≡ Some (kind_of h) → ShowsUnit bytes rest h u → length (exts_of r.units) + free ≡ 3
-    → (r.units ≡ [] → (p.start ≡ 0) × (p.end ≡ length r.frame)) → HasPlace r u p
+    → (r.units ≡ [] → (p.start ≡ 0) × (p.bytes.now ≡ r.frame)) → HasPlace r u p
 has_place r x bytes rest (headers.Ethernet2 e) u p free ready known shows room first = subst (λ (v : PeelUnit). HasPlace r v p) (sym shows) (place_first r x kinds.Ethernet2 p free ready known refl first)
 has_place r x bytes rest (headers.Ethernet2Fcs e) u p free ready known shows room first = subst (λ (v : PeelUnit). HasPlace r v p) (sym shows) (place_first r x kinds.Ethernet2Fcs p free ready known refl first)
 has_place r x bytes rest (headers.LinuxSll s) u p free ready known shows room first = subst (λ (v : PeelUnit). HasPlace r v p) (sym shows) (place_first r x kinds.LinuxSll p free ready known refl first)
@@ -151,7 +152,7 @@ arp_or_over (headers.Arp a) bytes = inr refl
 
 -- ---- a packet so far
 
-pub record Gathered (start : Expectation) (list : List ℕ) (s : State) (r : Read) (p : Place) : Type 0 where
+pub record Gathered (start : Expectation) (list : List ℕ) (s : State) (r : Read) : Type 0 where
   -- the walk of the list, with the headers before the walker and those that it faces
   pub done : List Header
   pub left : List Header
@@ -165,28 +166,25 @@ pub record Gathered (start : Expectation) (list : List ℕ) (s : State) (r : Rea
   pub values : map header_of r.units ≡ done
   pub frame : r.frame ≡ list
   pub units : AreUnitsAt list (whole start list) done r.units
-  -- the place is that of the window
-  pub from : p.start ≡ window.start
-  pub to : p.end ≡ window.finish
   -- and there is room for more
   pub free : ℕ
   pub room : length (exts_of r.units) + free ≡ 3
   pub ready : Ready r s.expected free
 
--- where a walker's window ends
-window_end : (list : List ℕ) (w : Window) (s : State) (hs : List Header) (e : Ending) (end : ℕ) → Faces list w s hs e → end ≡ s.offset + length s.rest → end ≡ w.finish
-window_end list w s hs e end f is =
-    let at = f.offset in
-    let rest : length s.rest ≡ length (within list w) = ap length f.rest in
-    let len = length-part list w.start w.finish f.inside.inside in
-    let ordered = f.inside.ordered in
-    omega arith
+-- the items that are left of a walk that is not over
+pub items_of : (s : State) → s.over ≡ false → size (items_left s) ≡ length s.rest / 4 + 1
+items_of s going = ap (λ (b : Bool). size (at_most (cond b 0 (length s.rest / 4 + 1)))) going
+
+-- a place is the window that is left to read
+pub record IsAt (s : State) (p : Place) : Type 0 where
+  pub start : p.start ≡ s.offset
+  pub bytes : p.bytes.now ≡ s.rest
 
 -- a walker that has read nothing
-pub gathered_first : (start : Expectation) (list : List ℕ) (s : State) (r : Read) (p : Place) (hs : List Header) (e : Ending)
+pub gathered_first : (start : Expectation) (list : List ℕ) (s : State) (r : Read) (hs : List Header) (e : Ending)
     → start.limit ≡ Some 3 → Walk start list hs e → Faces list (whole start list) s hs e → s.over ≡ false → s.expected ≡ start
-    → r ≡ record { frame = list; units = [] } → p.start ≡ s.offset → p.end ≡ s.offset + length s.rest → Gathered start list s r p
-gathered_first start list s r p hs e limit walk faces going expected is from to =
+    → r ≡ record { frame = list; units = [] } → Gathered start list s r
+gathered_first start list s r hs e limit walk faces going expected is =
     let none = ap (λ (k : Read). k.units) is in
     record {
       done = [];
@@ -200,8 +198,6 @@ gathered_first start list s r p hs e limit walk faces going expected is from to 
       values = ap (map header_of) none;
       frame = ap (λ (k : Read). k.frame) is;
       units = subst (AreUnitsAt list (whole start list) []) (sym none) tt;
-      from = from ∙ faces.offset;
-      to = window_end list (whole start list) s hs e p.end faces to;
       free = 3;
       room = ap (λ (us : List PacketUnit). length (exts_of us) + 3) none;
       ready = record {
@@ -250,44 +246,39 @@ is_next list w left e s t u ok faces g =
       value = unit_header-shown (within list w) (within list (payload w h)) h u (IsBytes-part w.start w.finish list ok) unit.means shows;
     }
 
-abbrev pub NextOf : (start : Expectation) (list : List ℕ) (s t : State) (r : Read) (p : Place) (u : PeelUnit) → Gathered start list s r p → Type 0
-NextOf start list s t r p u a = IsNext list a.window a.left a.ending s t u
+abbrev pub NextOf : (start : Expectation) (list : List ℕ) (s t : State) (r : Read) (u : PeelUnit) → Gathered start list s r → Type 0
+NextOf start list s t r u a = IsNext list a.window a.left a.ending s t u
 
-pub next_of : (start : Expectation) (list : List ℕ) (s t : State) (r : Read) (p : Place) (u : PeelUnit) → IsBytes list → (a : Gathered start list s r p) → Gives s (Some (Ok u)) t → NextOf start list s t r p u a
-next_of start list s t r p u ok a gives = is_next list a.window a.left a.ending s t u ok a.faces (gives.next a.going list a.window a.left a.ending a.faces)
+pub next_of : (start : Expectation) (list : List ℕ) (s t : State) (r : Read) (u : PeelUnit) → IsBytes list → (a : Gathered start list s r) → Gives s (Some (Ok u)) t → NextOf start list s t r u a
+next_of start list s t r u ok a gives = is_next list a.window a.left a.ending s t u ok a.faces (gives.next a.going list a.window a.left a.ending a.faces)
 
 none_done : (list : List ℕ) (w : Window) (hs : List Header) (us : List PacketUnit) → AreUnitsAt list w hs us → us ≡ [] → hs ≡ []
 none_done list w [] us are none = refl
 none_done list w (h ∷ hs) [] are none = absurd are
 none_done list w (h ∷ hs) (u ∷ us) are none = absurd cc
 
-pub fits : (start : Expectation) (list : List ℕ) (s t : State) (r : Read) (p : Place) (u : PeelUnit) (a : Gathered start list s r p) → NextOf start list s t r p u a → HasPlace r u p
-fits start list s t r p u a n =
-    let first : (r.units ≡ []) → (p.start ≡ 0) × (p.end ≡ length r.frame) = λ none.
+-- the window of a whole list has all its bytes
+pub whole_part : (frame : List ℕ) → slice_range frame 0 (length frame) ≡ frame
+whole_part frame = take_all (length frame - 0) frame (omega arith)
+
+pub fits : (start : Expectation) (list : List ℕ) (s t : State) (r : Read) (p : Place) (u : PeelUnit) (a : Gathered start list s r) → NextOf start list s t r u a → IsAt s p → HasPlace r u p
+fits start list s t r p u a n at =
+    let first : (r.units ≡ []) → (p.start ≡ 0) × (p.bytes.now ≡ r.frame) = λ none.
     let window : a.window ≡ whole start list = a.comes_after ∙ ap (window_after (whole start list)) (none_done list (whole start list) a.done r.units a.units none) in
-    (a.from ∙ ap (λ (w : Window). w.start) window, a.to ∙ ap (λ (w : Window). w.finish) window ∙ sym (ap length a.frame)) in
+    (at.start ∙ a.faces.offset ∙ ap (λ (w : Window). w.start) window, at.bytes ∙ a.faces.rest ∙ ap (within list) window ∙ whole_part list ∙ sym a.frame) in
     has_place r s.expected (within list a.window) (within list (payload a.window n.given.header)) n.given.header u p a.free a.ready n.unit.announced n.shows a.room first
 
 -- no row holds of a slice that none holds of in a window with a bound
 unbounded : (bound : LenSource) (bytes : List ℕ) (kind : Kind) → Accepts bound bytes kind → Reads bytes kind
 unbounded bound bytes kind ok r row = ok (named bound r) (bounded_row bound bytes kind r row)
 
-part_is : (start : Expectation) (list : List ℕ) (s : State) (r : Read) (p : Place) (a : Gathered start list s r p) → slice_range r.frame p.start p.end ≡ within list a.window
-part_is start list s r p a = λ i. slice_range (a.frame i) (a.from i) (a.to i)
+part_is : (start : Expectation) (list : List ℕ) (s : State) (r : Read) (p : Place) (a : Gathered start list s r) → IsAt s p → p.bytes.now ≡ within list a.window
+part_is start list s r p a at = at.bytes ∙ a.faces.rest
 
-pub readable : (start : Expectation) (list : List ℕ) (s t : State) (r : Read) (p : Place) (u : PeelUnit) (a : Gathered start list s r p) → NextOf start list s t r p u a → IsReadable r.frame (kind_read u) p
-readable start list s t r p u a n =
-    let from = a.from in
-    let to = a.to in
-    let ordered = a.faces.inside.ordered in
-    let inside = a.faces.inside.inside in
-    let len : length r.frame ≡ length list = ap length a.frame in
+pub readable : (start : Expectation) (list : List ℕ) (s t : State) (r : Read) (p : Place) (u : PeelUnit) (a : Gathered start list s r) → NextOf start list s t r u a → IsAt s p → IsReadable (kind_read u) p
+readable start list s t r p u a n at =
     let own = unbounded a.window.bound (within list a.window) (kind_of n.given.header) n.unit.accepted in
-    record {
-      ordered = omega arith;
-      inside = omega arith;
-      accepted = subst (λ (l : List ℕ). Reads l (kind_read u)) (sym (part_is start list s r p a)) (subst (Reads (within list a.window)) (sym (ap kind_of n.value)) own);
-    }
+    subst (λ (l : List ℕ). Reads l (kind_read u)) (sym (part_is start list s r p a at)) (subst (Reads (within list a.window)) (sym (ap kind_of n.value)) own)
 
 -- no start is announced by a header
 no_start_capture : (b : Bool) (t : ℕ) (protocol : LinuxSllProtocolType) (kind : Kind) → cond b (EtherType t) (Sll protocol) ≡ Start kind → ⊥
@@ -312,16 +303,16 @@ lowered_limit : (b : Bool) (limit : Option ℕ) (free : ℕ) → limit ≡ Some 
 lowered_limit true limit free e = ap (lowered true) e
 lowered_limit false limit free e = e
 
-pub gathered_next : (start : Expectation) (list : List ℕ) (s t : State) (r q : Read) (p v : Place) (u : PeelUnit) (a : Gathered start list s r p) → IsBytes list → NextOf start list s t r p u a → q ≡ read_with r (kind_read u) p
-    → v.start ≡ t.offset → v.end ≡ t.offset + length t.rest → Gathered start list t q v
-gathered_next start list s t r q p v u a ok n is from to =
+pub gathered_next : (start : Expectation) (list : List ℕ) (s t : State) (r q : Read) (p : Place) (u : PeelUnit) (a : Gathered start list s r) → IsBytes list → NextOf start list s t r u a → IsAt s p → q ≡ read_with r (kind_read u) p
+    → Gathered start list t q
+gathered_next start list s t r q p u a ok n here is =
     let h = n.given.header in
     let w = a.window in
     let whole_list = whole start list in
-    let unit : PacketUnit = unit_at r.frame (kind_read u) p in
+    let unit : PacketUnit = unit_at (kind_read u) p in
     let kind : kind_read u ≡ kind_of h = ap kind_of n.value in
-    let bytes = part_is start list s r p a in
-    let at : IsUnitAt list w h unit = record { kind = kind; offset = a.from; bytes = bytes } in
+    let bytes = part_is start list s r p a here in
+    let at : IsUnitAt list w h unit = record { kind = kind; offset = here.start ∙ a.faces.offset; bytes = bytes } in
     let value : header_of unit ≡ h = (λ i. header_in (kind i) (bytes i)) ∙ header_shown (within list w) h (IsBytes-part w.start w.finish list ok) n.unit.means in
     let units : q.units ≡ r.units ++ unit ∷ [] = ap (λ (k : Read). k.units) is in
     let same : a.done ++ a.left ≡ (a.done ++ h ∷ []) ++ n.given.later = ap (λ (l : List Header). a.done ++ l) n.given.parts ∙ sym (append_assoc a.done (h ∷ []) n.given.later) in
@@ -339,8 +330,6 @@ gathered_next start list s t r q p v u a ok n is from to =
       values = ap (map header_of) units ∙ map-append header_of r.units (unit ∷ []) ∙ (λ i. a.values i ++ value i ∷ []);
       frame = ap (λ (k : Read). k.frame) is ∙ a.frame;
       units = subst (AreUnitsAt list whole_list (a.done ++ h ∷ [])) (sym units) (units-append list whole_list a.done r.units h unit a.units (subst (λ (k : Window). IsUnitAt list k h unit) a.comes_after at));
-      from = from ∙ n.given.faces.offset;
-      to = window_end list (payload w h) t n.given.later a.ending v.end n.given.faces to;
       free = cond (is_extension (kind_of h)) (a.free - 1) a.free;
       room = ap (λ (us : List PacketUnit). length (exts_of us) + cond (is_extension (kind_of h)) (a.free - 1) a.free) units ∙ room_for r.units unit (is_extension (kind_of h)) a.free extends more a.room;
       ready = record {
@@ -392,9 +381,9 @@ ended list w [] (Fault v y r) s t (Some x) f g =
 ended list w (h ∷ hs) e s t None f g = let some = g.1 in absurd cc
 ended list w (h ∷ hs) e s t (Some x) f g = let some = g.1 in absurd cc
 
-pub is_packet : (start : Expectation) (list : List ℕ) (s t : State) (r : Read) (p : Place) (packet : PacketSlice) (met : Option PeelFault) → Gathered start list s r p → Gives s (item_of met) t
+pub is_packet : (start : Expectation) (list : List ℕ) (s t : State) (r : Read) (packet : PacketSlice) (met : Option PeelFault) → Gathered start list s r → Gives s (item_of met) t
     → packet.read ≡ r → packet.rest.now ≡ t.rest → packet.rest_offset ≡ t.offset → packet.rest_kind ≡ kind_shown t.expected → packet.fault ≡ met → IsPacket start list packet
-is_packet start list s t r p packet met a gives read rest offset kind fault =
+is_packet start list s t r packet met a gives read rest offset kind fault =
     let n = ended list a.window a.left a.ending s t met a.faces (gives.next a.going list a.window a.left a.ending a.faces) in
     let walk = subst (λ (l : List Header). Walk start list l a.ending) (ap (λ (l : List Header). a.done ++ l) n.none_left ∙ append-nil a.done) a.walk in
     let values : a.done ≡ packet_headers packet = sym (ap (λ (k : Read). map header_of k.units) read ∙ a.values) in

@@ -25,7 +25,7 @@ use Rattle.ether_packet.specs.Views.{header_in}
 use Rattle.ether_packet.specs.Replacing.{SayTheSame}
 use Rattle.ether_packet.specs.ReplacingLink.{is_link, in_place_of, LinkSaysTheSame, LinksSayTheSame, IsLinkOf, BeginsWithLink, TakesLink, ReplacesLink, RefusesLink, other_link}
 use Rattle.ether_packet.proofs.HeadersIn.{header_shown}
-use Rattle.ether_packet.proofs.Places.{whole_part}
+use Rattle.ether_packet.proofs.Gathering.{whole_part}
 use Rattle.ether_packet.proofs.Replaced.{IsSendable, length-overwritten, replaced_walk}
 
 -- ---- the first header of a walk

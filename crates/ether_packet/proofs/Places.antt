@@ -1,8 +1,8 @@
 -- The headers at the places that a packet keeps.
-use Rattle.std.proofs.Common.{◌≡◌, ℕ, ◌-◌, ◌≤◌, List, [], ◌∷◌, ◌++◌, length, refl, sym, ap, subst, ◌∙◌, arith, append_assoc, inl, inr, Bool, true, false}
-use Rattle.std.specs.Prelude.{map, slice_range, slice_get, Option, Some, None, option_map, get_or, if◌then◌else◌}
+use Rattle.std.proofs.Common.{◌≡◌, ℕ, ◌≤◌, List, [], ◌∷◌, ◌++◌, length, refl, sym, ap, subst, ◌∙◌, arith, append_assoc, inl, inr, Bool, true, false}
+use Rattle.std.specs.Prelude.{map, slice_get, Option, Some, None, option_map, get_or, if◌then◌else◌}
 use Rattle.std.specs.List.{All, filter, filter_map, cons_option}
-use Rattle.std.proofs.lemmas.List.{append-nil, map-append, take_all}
+use Rattle.std.proofs.lemmas.List.{append-nil, map-append}
 use Rattle.std.proofs.lemmas.List.Elements.{filter-append, filter_map-append, All-append, All-get_or, All-from_get_or}
 use Rattle.std.proofs.lemmas.Option.{slice_get-map, slice_get_cases, slice_get_within, get_or_from_slice_get}
 use Rattle.etherparse.specs.Ethernet2.{Ethernet2Value}
@@ -43,47 +43,47 @@ ext_is tags.Macsec at bytes = (refl, refl)
 keep_first : (b : Bool) (u : PacketUnit) (us : List PacketUnit) → is_ext u ≡ true → filter is_ext (u ∷ us) ≡ u ∷ filter is_ext us
 keep_first b u us e = rw e refl
 
-exts_are : (frame : List ℕ) (xs : List ExtPlace) → (filter is_ext (map (ext_unit frame) xs) ≡ map (ext_unit frame) xs) × (filter_map arp_of_unit (map (ext_unit frame) xs) ≡ [])
-exts_are frame [] = (refl, refl)
-exts_are frame (x ∷ xs) =
-    let u = ext_unit frame x in
+exts_are : (xs : List ExtPlace) → (filter is_ext (map ext_unit xs) ≡ map ext_unit xs) × (filter_map arp_of_unit (map ext_unit xs) ≡ [])
+exts_are [] = (refl, refl)
+exts_are (x ∷ xs) =
+    let u = ext_unit x in
     let is = ext_is x.kind u.offset u.bytes in
-    let more = exts_are frame xs in (
-      keep_first true u (map (ext_unit frame) xs) is.0 ∙ ap (λ (l : List PacketUnit). u ∷ l) more.0,
-      ap (λ (a : Option (List ℕ)). cons_option a (filter_map arp_of_unit (map (ext_unit frame) xs))) is.1 ∙ more.1,
+    let more = exts_are xs in (
+      keep_first true u (map ext_unit xs) is.0 ∙ ap (λ (l : List PacketUnit). u ∷ l) more.0,
+      ap (λ (a : Option (List ℕ)). cons_option a (filter_map arp_of_unit (map ext_unit xs))) is.1 ∙ more.1,
     )
 
-arp_has : (frame : List ℕ) (arp : Option Place) → filter is_ext (arp_units frame arp) ≡ []
-arp_has frame None = refl
-arp_has frame (Some p) = refl
+arp_has : (arp : Option Place) → filter is_ext (arp_units arp) ≡ []
+arp_has None = refl
+arp_has (Some p) = refl
 
 -- the extensions
-pub exts_at : (frame : List ℕ) (link : LinkPlace) (xs : List ExtPlace) (arp : Option Place) → exts_of (units_at frame link xs arp) ≡ map (ext_unit frame) xs
+pub exts_at : (frame : List ℕ) (link : LinkPlace) (xs : List ExtPlace) (arp : Option Place) → exts_of (units_at frame link xs arp) ≡ map ext_unit xs
 exts_at frame link xs arp =
-    filter-append is_ext (link_units frame link ++ map (ext_unit frame) xs) (arp_units frame arp)
-    ∙ ap (λ (l : List PacketUnit). l ++ filter is_ext (arp_units frame arp)) (filter-append is_ext (link_units frame link) (map (ext_unit frame) xs))
-    ∙ (λ i. (link_is frame link).0 i ++ (exts_are frame xs).0 i ++ arp_has frame arp i)
+    filter-append is_ext (link_units frame link ++ map ext_unit xs) (arp_units arp)
+    ∙ ap (λ (l : List PacketUnit). l ++ filter is_ext (arp_units arp)) (filter-append is_ext (link_units frame link) (map ext_unit xs))
+    ∙ (λ i. (link_is frame link).0 i ++ (exts_are xs).0 i ++ arp_has arp i)
     ∙ append-nil _
 
 -- the ARP packet
-abbrev pub packet_at : List ℕ → Option Place → Option (List ℕ)
-packet_at frame None = None
-packet_at frame (Some p) = arp_in kinds.Arp (slice_range frame p.start p.end)
+abbrev pub packet_at : Option Place → Option (List ℕ)
+packet_at None = None
+packet_at (Some p) = arp_in kinds.Arp p.bytes.now
 
-only_arp : (frame : List ℕ) (arp : Option Place) → slice_get (filter_map arp_of_unit (arp_units frame arp)) 0 ≡ packet_at frame arp
-only_arp frame None = refl
-only_arp frame (Some p) = refl
+only_arp : (arp : Option Place) → slice_get (filter_map arp_of_unit (arp_units arp)) 0 ≡ packet_at arp
+only_arp None = refl
+only_arp (Some p) = refl
 
-pub arp_at : (frame : List ℕ) (link : LinkPlace) (xs : List ExtPlace) (arp : Option Place) → arp_view (units_at frame link xs arp) ≡ packet_at frame arp
+pub arp_at : (frame : List ℕ) (link : LinkPlace) (xs : List ExtPlace) (arp : Option Place) → arp_view (units_at frame link xs arp) ≡ packet_at arp
 arp_at frame link xs arp =
-    ap (λ l. slice_get l 0) (filter_map-append arp_of_unit (link_units frame link ++ map (ext_unit frame) xs) (arp_units frame arp)
-    ∙ ap (λ l. l ++ filter_map arp_of_unit (arp_units frame arp)) (filter_map-append arp_of_unit (link_units frame link) (map (ext_unit frame) xs))
-    ∙ (λ i. (link_is frame link).1 i ++ (exts_are frame xs).1 i ++ filter_map arp_of_unit (arp_units frame arp)))
-    ∙ only_arp frame arp
+    ap (λ l. slice_get l 0) (filter_map-append arp_of_unit (link_units frame link ++ map ext_unit xs) (arp_units arp)
+    ∙ ap (λ l. l ++ filter_map arp_of_unit (arp_units arp)) (filter_map-append arp_of_unit (link_units frame link) (map ext_unit xs))
+    ∙ (λ i. (link_is frame link).1 i ++ (exts_are xs).1 i ++ filter_map arp_of_unit (arp_units arp)))
+    ∙ only_arp arp
 
-pub no_packet : (frame : List ℕ) (arp : Option Place) → packet_at frame arp ≡ None → arp ≡ None
-no_packet frame None e = refl
-no_packet frame (Some p) e = absurd cc
+pub no_packet : (arp : Option Place) → packet_at arp ≡ None → arp ≡ None
+no_packet None e = refl
+no_packet (Some p) e = absurd cc
 
 -- the link's header
 later_link : (kind : ExtKind) (at : ℕ) (bytes : List ℕ) (us : List PacketUnit) → link_of (record { kind = ext_kind kind; offset = at; bytes = bytes } ∷ us) ≡ None
@@ -93,7 +93,7 @@ later_link tags.Macsec at bytes us = refl
 pub no_link : (frame : List ℕ) (xs : List ExtPlace) (arp : Option Place) → link_of (units_at frame places.Missing xs arp) ≡ None
 no_link frame [] None = refl
 no_link frame [] (Some p) = refl
-no_link frame (x ∷ xs) arp = later_link x.kind x.place.start (slice_range frame x.place.start x.place.end) (map (ext_unit frame) xs ++ arp_units frame arp)
+no_link frame (x ∷ xs) arp = later_link x.kind x.place.start x.place.bytes.now (map ext_unit xs ++ arp_units arp)
 
 -- ---- one header more
 
@@ -102,49 +102,42 @@ pub nothing : (frame : List ℕ) (link : LinkPlace) (xs : List ExtPlace) (arp : 
 nothing frame places.Missing [] None e = (refl, refl, refl)
 nothing frame _ _ _ e = absurd cc
 
-pub whole_part : (frame : List ℕ) → slice_range frame 0 (length frame) ≡ frame
-whole_part frame = take_all (length frame - 0) frame (omega arith)
-
-first_is : (frame : List ℕ) (kind : Kind) (p : Place) → p.start ≡ 0 → p.end ≡ length frame → unit_at frame kind p ≡ link_unit frame kind
-first_is frame kind p start end =
-    (λ i. record { kind = kind; offset = start i; bytes = slice_range frame (start i) (end i) })
-    ∙ ap (λ (l : List ℕ). record { kind = kind; offset = 0; bytes = l }) (whole_part frame)
+first_is : (frame : List ℕ) (kind : Kind) (p : Place) → p.start ≡ 0 → p.bytes.now ≡ frame → unit_at kind p ≡ link_unit frame kind
+first_is frame kind p start whole = λ i. record { kind = kind; offset = start i; bytes = whole i }
 
 -- the link's header comes first
-pub with_link : (frame : List ℕ) (old new : LinkPlace) (xs : List ExtPlace) (arp : Option Place) (kind : Kind) (p : Place) → units_at frame old xs arp ≡ [] → p.start ≡ 0 → p.end ≡ length frame
-    → link_units frame new ≡ link_unit frame kind ∷ [] → units_at frame new xs arp ≡ units_at frame old xs arp ++ unit_at frame kind p ∷ []
-with_link frame old new xs arp kind p none start end is =
+pub with_link : (frame : List ℕ) (old new : LinkPlace) (xs : List ExtPlace) (arp : Option Place) (kind : Kind) (p : Place) → units_at frame old xs arp ≡ [] → p.start ≡ 0 → p.bytes.now ≡ frame
+    → link_units frame new ≡ link_unit frame kind ∷ [] → units_at frame new xs arp ≡ units_at frame old xs arp ++ unit_at kind p ∷ []
+with_link frame old new xs arp kind p none start whole is =
     let parts = nothing frame old xs arp none in
     (λ i. units_at frame new (parts.1 i) (parts.2 i)) ∙ append-nil (link_units frame new ++ []) ∙ append-nil (link_units frame new) ∙ is
-    ∙ ap (λ (u : PacketUnit). u ∷ []) (sym (first_is frame kind p start end)) ∙ ap (λ (l : List PacketUnit). l ++ unit_at frame kind p ∷ []) (sym none)
+    ∙ ap (λ (u : PacketUnit). u ∷ []) (sym (first_is frame kind p start whole)) ∙ ap (λ (l : List PacketUnit). l ++ unit_at kind p ∷ []) (sym none)
 
 pub frame_unit : (frame : List ℕ) (b : Bool) (e : Ethernet2Value) → link_units frame (frame_link b) ≡ link_unit frame (kind_of (if b then headers.Ethernet2Fcs e else headers.Ethernet2 e)) ∷ []
 frame_unit frame true e = refl
 frame_unit frame false e = refl
 
-pub readable_whole : (frame : List ℕ) (kind : Kind) (p : Place) → p.start ≡ 0 → p.end ≡ length frame → IsReadable frame kind p → Reads frame kind
-readable_whole frame kind p start end r =
-    let same : slice_range frame p.start p.end ≡ frame = (λ i. slice_range frame (start i) (end i)) ∙ whole_part frame in
-    subst (λ (l : List ℕ). Reads l kind) same r.accepted
+pub readable_whole : (frame : List ℕ) (kind : Kind) (p : Place) → p.bytes.now ≡ frame → IsReadable kind p → Reads frame kind
+readable_whole frame kind p whole r = subst (λ (l : List ℕ). Reads l kind) whole r
 
 pub readable_frame : (frame : List ℕ) (b : Bool) (e : Ethernet2Value) → Reads frame (kind_of (if b then headers.Ethernet2Fcs e else headers.Ethernet2 e)) → IsReadableLink frame (frame_link b)
 readable_frame frame true e r = r
 readable_frame frame false e r = r
 
 -- an extension after the others
-pub with_ext : (frame : List ℕ) (link : LinkPlace) (xs : List ExtPlace) (arp : Option Place) (x : ExtPlace) → arp ≡ None → units_at frame link (xs ++ x ∷ []) arp ≡ units_at frame link xs arp ++ ext_unit frame x ∷ []
+pub with_ext : (frame : List ℕ) (link : LinkPlace) (xs : List ExtPlace) (arp : Option Place) (x : ExtPlace) → arp ≡ None → units_at frame link (xs ++ x ∷ []) arp ≡ units_at frame link xs arp ++ ext_unit x ∷ []
 with_ext frame link xs arp x none =
     let l = link_units frame link in
-    let m = map (ext_unit frame) xs in
-    let u = ext_unit frame x in
-    ap (units_at frame link (xs ++ x ∷ [])) none ∙ append-nil _ ∙ ap (λ (k : List PacketUnit). l ++ k) (map-append (ext_unit frame) xs (x ∷ [])) ∙ sym (append_assoc l m (u ∷ []))
+    let m = map ext_unit xs in
+    let u = ext_unit x in
+    ap (units_at frame link (xs ++ x ∷ [])) none ∙ append-nil _ ∙ ap (λ (k : List PacketUnit). l ++ k) (map-append ext_unit xs (x ∷ [])) ∙ sym (append_assoc l m (u ∷ []))
     ∙ ap (λ (k : List PacketUnit). k ++ u ∷ []) (sym (ap (units_at frame link xs) none ∙ append-nil (l ++ m)))
 
 -- an ARP packet after all
-pub with_arp : (frame : List ℕ) (link : LinkPlace) (xs : List ExtPlace) (arp : Option Place) (p : Place) → arp ≡ None → units_at frame link xs (Some p) ≡ units_at frame link xs arp ++ unit_at frame kinds.Arp p ∷ []
+pub with_arp : (frame : List ℕ) (link : LinkPlace) (xs : List ExtPlace) (arp : Option Place) (p : Place) → arp ≡ None → units_at frame link xs (Some p) ≡ units_at frame link xs arp ++ unit_at kinds.Arp p ∷ []
 with_arp frame link xs arp p none =
-    let u = unit_at frame kinds.Arp p in
-    ap (λ (k : List PacketUnit). k ++ u ∷ []) (sym (ap (units_at frame link xs) none ∙ append-nil (link_units frame link ++ map (ext_unit frame) xs)))
+    let u = unit_at kinds.Arp p in
+    ap (λ (k : List PacketUnit). k ++ u ∷ []) (sym (ap (units_at frame link xs) none ∙ append-nil (link_units frame link ++ map ext_unit xs)))
 
 pub all_with : {X : Type 0} (P : X → Type 0) (xs : List X) (x : X) → All P xs → P x → All P (xs ++ x ∷ [])
 all_with P xs x all p =
@@ -164,15 +157,15 @@ missing_past xs i none =
 pub all_get : {X : Type 0} (P : X → Type 0) (xs : List X) (i : ℕ) (x : X) → All P xs → slice_get xs i ≡ Some x → P x
 all_get P xs i x all e = subst P (get_or_from_slice_get xs i x x e) (All-get_or P xs i x (slice_get_within xs i x e) all)
 
-pub ext_got : (frame : List ℕ) (link : LinkPlace) (xs : List ExtPlace) (arp : Option Place) (i : ℕ) (x : ExtPlace) (ext : PacketExt) → slice_get xs i ≡ Some x → ViewsExt (ext_unit frame x) ext
+pub ext_got : (frame : List ℕ) (link : LinkPlace) (xs : List ExtPlace) (arp : Option Place) (i : ℕ) (x : ExtPlace) (ext : PacketExt) → slice_get xs i ≡ Some x → ViewsExt (ext_unit x) ext
     → ViewsExtIf (slice_get (exts_of (units_at frame link xs arp)) i) (Some ext)
 ext_got frame link xs arp i x ext got views =
-    let e : slice_get (exts_of (units_at frame link xs arp)) i ≡ Some (ext_unit frame x) =
-    ap (λ (l : List PacketUnit). slice_get l i) (exts_at frame link xs arp) ∙ slice_get-map (ext_unit frame) xs i ∙ ap (option_map (ext_unit frame)) got in
+    let e : slice_get (exts_of (units_at frame link xs arp)) i ≡ Some (ext_unit x) =
+    ap (λ (l : List PacketUnit). slice_get l i) (exts_at frame link xs arp) ∙ slice_get-map ext_unit xs i ∙ ap (option_map ext_unit) got in
     subst (λ (o : Option PacketUnit). ViewsExtIf o (Some ext)) (sym e) views
 
 pub ext_missing : (frame : List ℕ) (link : LinkPlace) (xs : List ExtPlace) (arp : Option Place) (i : ℕ) → slice_get xs i ≡ None → ViewsExtIf (slice_get (exts_of (units_at frame link xs arp)) i) None
 ext_missing frame link xs arp i none =
     let e : slice_get (exts_of (units_at frame link xs arp)) i ≡ None =
-    ap (λ (l : List PacketUnit). slice_get l i) (exts_at frame link xs arp) ∙ slice_get-map (ext_unit frame) xs i ∙ ap (option_map (ext_unit frame)) none in
+    ap (λ (l : List PacketUnit). slice_get l i) (exts_at frame link xs arp) ∙ slice_get-map ext_unit xs i ∙ ap (option_map ext_unit) none in
     subst (λ (o : Option PacketUnit). ViewsExtIf o None) (sym e) refl

@@ -1,5 +1,5 @@
--- How a packet keeps its headers: by places in the frame.
-use Rattle.std.specs.Prelude.{◌≡◌, ℕ, ◌<◌, ◌≤◌, List, [], ◌∷◌, ◌++◌, length, map, slice_range, Option, Some, None, IfSome, Bool, true, false}
+-- How a packet keeps its headers: by the windows of the frame in which they were read.
+use Rattle.std.specs.Prelude.{◌≡◌, ℕ, ◌<◌, List, [], ◌∷◌, ◌++◌, length, map, Option, Some, None, IfSome, Bool, true, false}
 use Rattle.std.specs.List.{All}
 use Rattle.etherparse.specs.Types.LenSource.TheVariants as sources
 use Rattle.etherparse.specs.Kind.{Kind}
@@ -20,8 +20,8 @@ use Rattle.ether_packet.specs.Views.{header_of, exts_of, arp_view}
 
 -- ---- the headers at these places
 
-abbrev pub unit_at : List ℕ → Kind → Place → PacketUnit
-unit_at frame kind p = record { kind = kind; offset = p.start; bytes = slice_range frame p.start p.end }
+abbrev pub unit_at : Kind → Place → PacketUnit
+unit_at kind p = record { kind = kind; offset = p.start; bytes = p.bytes.now }
 
 -- the link's header is that of the whole frame
 abbrev pub link_unit : List ℕ → Kind → PacketUnit
@@ -37,15 +37,15 @@ abbrev pub ext_kind : ExtKind → Kind
 ext_kind tags.Vlan = kinds.Vlan
 ext_kind tags.Macsec = kinds.Macsec
 
-abbrev pub ext_unit : List ℕ → ExtPlace → PacketUnit
-ext_unit frame e = unit_at frame (ext_kind e.kind) e.place
+abbrev pub ext_unit : ExtPlace → PacketUnit
+ext_unit e = unit_at (ext_kind e.kind) e.place
 
-abbrev pub arp_units : List ℕ → Option Place → List PacketUnit
-arp_units frame None = []
-arp_units frame (Some p) = unit_at frame kinds.Arp p ∷ []
+abbrev pub arp_units : Option Place → List PacketUnit
+arp_units None = []
+arp_units (Some p) = unit_at kinds.Arp p ∷ []
 
 abbrev pub units_at : List ℕ → LinkPlace → List ExtPlace → Option Place → List PacketUnit
-units_at frame link exts arp = link_units frame link ++ map (ext_unit frame) exts ++ arp_units frame arp
+units_at frame link exts arp = link_units frame link ++ map ext_unit exts ++ arp_units arp
 
 -- as values
 abbrev pub headers_at : List ℕ → LinkPlace → List ExtPlace → Option Place → List Header
@@ -57,10 +57,8 @@ headers_at frame link exts arp = map header_of (units_at frame link exts arp)
 abbrev pub Reads : List ℕ → Kind → Type 0
 Reads bytes kind = Accepts sources.Slice bytes kind
 
-pub record IsReadable (frame : List ℕ) (kind : Kind) (p : Place) : Type 0 where
-  pub ordered : p.start ≤ p.end
-  pub inside : p.end ≤ length frame
-  pub accepted : Reads (slice_range frame p.start p.end) kind
+abbrev pub IsReadable : Kind → Place → Type 0
+IsReadable kind p = Reads p.bytes.now kind
 
 abbrev pub IsReadableLink : List ℕ → LinkPlace → Type 0
 IsReadableLink frame links.Missing = Unit {0}
@@ -68,13 +66,13 @@ IsReadableLink frame links.Ethernet2 = Reads frame kinds.Ethernet2
 IsReadableLink frame links.Ethernet2Fcs = Reads frame kinds.Ethernet2Fcs
 IsReadableLink frame links.LinuxSll = Reads frame kinds.LinuxSll
 
-abbrev pub IsReadableExt : List ℕ → ExtPlace → Type 0
-IsReadableExt frame e = IsReadable frame (ext_kind e.kind) e.place
+abbrev pub IsReadableExt : ExtPlace → Type 0
+IsReadableExt e = IsReadable (ext_kind e.kind) e.place
 
 pub record AreReadable (frame : List ℕ) (first : LinkPlace) (tags : List ExtPlace) (last : Option Place) : Type 0 where
   pub link : IsReadableLink frame first
-  pub exts : All (IsReadableExt frame) tags
-  pub arp : IfSome last (IsReadable frame kinds.Arp)
+  pub exts : All IsReadableExt tags
+  pub arp : IfSome last (IsReadable kinds.Arp)
 
 -- the link's header with a frame check sequence or without
 abbrev pub frame_link : Bool → LinkPlace
@@ -94,12 +92,12 @@ HasPlaceForExt r = (length (exts_of r.units) < 3) × (arp_view r.units ≡ None)
 -- There is a place for it: nothing comes before the link's header, at most two extensions before another one, and nothing after an
 -- ARP packet.
 abbrev pub HasPlace : Read → PeelUnit → Place → Type 0
-HasPlace r (shown.Ethernet2 frame) p = (r.units ≡ []) × (p.start ≡ 0) × (p.end ≡ length r.frame)
-HasPlace r (shown.LinuxSll bytes) p = (r.units ≡ []) × (p.start ≡ 0) × (p.end ≡ length r.frame)
+HasPlace r (shown.Ethernet2 frame) p = (r.units ≡ []) × (p.start ≡ 0) × (p.bytes.now ≡ r.frame)
+HasPlace r (shown.LinuxSll bytes) p = (r.units ≡ []) × (p.start ≡ 0) × (p.bytes.now ≡ r.frame)
 HasPlace r (shown.Vlan bytes) p = HasPlaceForExt r
 HasPlace r (shown.Macsec packet) p = HasPlaceForExt r
 HasPlace r (shown.Arp bytes) p = arp_view r.units ≡ None
 
 -- with it
 abbrev pub read_with : Read → Kind → Place → Read
-read_with r kind p = record r { units = r.units ++ unit_at r.frame kind p ∷ [] }
+read_with r kind p = record r { units = r.units ++ unit_at kind p ∷ [] }

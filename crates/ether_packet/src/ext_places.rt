@@ -3,11 +3,11 @@ ghost use Rattle.std.specs.Prelude.{◌≡◌, ◌<◌, ◌≤◌, [], ◌∷◌
 
 use std::marker::Model;
 
-/// A window of a frame, from a start up to an end.
+/// A window of a frame: where it starts, and its bytes.
 #[derive(Clone, Copy, Debug)]
-pub(crate) struct Place {
+pub(crate) struct Place<'a> {
     pub start: usize,
-    pub end: usize,
+    pub bytes: &'a [u8],
 }
 
 /// Which link extension a tag is.
@@ -19,20 +19,20 @@ pub(crate) enum ExtKind {
 
 /// A tag, and the window in which it was read.
 #[derive(Clone, Copy, Debug)]
-pub(crate) struct ExtPlace {
+pub(crate) struct ExtPlace<'a> {
     pub kind: ExtKind,
-    pub place: Place,
+    pub place: Place<'a>,
 }
 
 /// Up to three tags in order. Three fields take fewer instructions than a list, whose unused places are filled.
 #[derive(Debug, Drop)]
-pub(crate) struct ExtPlaces {
-    first: Option<ExtPlace>,
-    second: Option<ExtPlace>,
-    third: Option<ExtPlace>,
+pub(crate) struct ExtPlaces<'a> {
+    first: Option<ExtPlace<'a>>,
+    second: Option<ExtPlace<'a>>,
+    third: Option<ExtPlace<'a>>,
 }
 
-impl Model for ExtPlaces {
+impl<'a> Model for ExtPlaces<'a> {
     ghost use Rattle.std.specs.Prelude.{List};
     ghost use Rattle.ether_packet.specs.declared.ext_places.ExtPlace.{ExtPlace as Placed};
     ghost use Rattle.ether_packet.specs.ExtPlaces.{listed, IsGapless};
@@ -44,10 +44,10 @@ impl Model for ExtPlaces {
     ghost invariant = { λ a. IsGapless a.first a.second a.third };
 }
 
-impl ExtPlaces {
+impl<'a> ExtPlaces<'a> {
     /// No tags.
     #[inline(always)]
-    pub fn new() -> ExtPlaces
+    pub fn new() -> ExtPlaces<'a>
         ensures { result ≡ [] }
     {
         ExtPlaces {
@@ -59,22 +59,20 @@ impl ExtPlaces {
 
     /// Adds a tag after the others.
     #[inline(always)]
-    pub fn push(&mut self, tag: ExtPlace)
+    pub fn push(&mut self, tag: ExtPlace<'a>)
         requires { length self.old < 3 }
-        ensures { self.new ≡ self.old ++ tag ∷ [] }
+        ensures { self.new ≡ self.old ++ tag.entry ∷ [] }
     {
-        if self.first.is_none() {
-            self.first = Some(tag);
-        } else if self.second.is_none() {
-            self.second = Some(tag);
-        } else {
-            self.third = Some(tag);
+        match self.len() {
+            0 => self.first = Some(tag),
+            1 => self.second = Some(tag),
+            _ => self.third = Some(tag),
         }
     }
 
     /// The tag at an index.
     #[inline(always)]
-    pub fn get(&self, index: usize) -> Option<ExtPlace>
+    pub fn get(&self, index: usize) -> Option<ExtPlace<'a>>
         ensures { result ≡ slice_get self.now index }
     {
         match index {

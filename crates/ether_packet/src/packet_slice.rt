@@ -73,17 +73,19 @@ impl<'a> PacketSlice<'a> {
     {
         let mut peel = Peel::with_limit(start, bytes, LINK_EXTS_CAP);
         let mut read = PacketUnits::new(bytes);
-        let mut window = window_of(&peel);
-        loop {
+        let mut fault = None;
+        for _count in 0..bytes.len() + 1 {
+            let place = place_of(&peel);
             match peel.next() {
-                Some(Ok(unit)) => {
-                    read.add(&unit, window);
-                    window = window_of(&peel);
+                Some(Ok(unit)) => read.add(&unit, place),
+                Some(Err(error)) => {
+                    fault = Some(error);
+                    break;
                 }
-                Some(Err(fault)) => return PacketSlice::ended(read, &peel, Some(fault)),
-                None => return PacketSlice::ended(read, &peel, None),
+                None => break,
             }
         }
+        PacketSlice::ended(read, &peel, fault)
     }
 
     /// The headers that were read, and what the walk leaves.
@@ -289,13 +291,12 @@ impl<'a> PacketSlice<'a> {
 
 /// The window left to read.
 #[inline(always)]
-fn window_of(peel: &Peel<'_>) -> Place
+fn place_of<'a>(peel: &Peel<'a>) -> Place<'a>
     ensures start { result.start ≡ peel.now.offset }
-    ensures end { result.end ≡ peel.now.offset + length peel.now.rest }
+    ensures bytes { result.bytes.now ≡ peel.now.rest }
 {
-    let start = peel.offset();
     Place {
-        start,
-        end: start + peel.rest().len(),
+        start: peel.offset(),
+        bytes: peel.rest(),
     }
 }

@@ -1,4 +1,4 @@
-//! The headers of a packet, kept as places in the frame: a view is made when it is asked for.
+//! The headers of a packet, kept as windows of the frame: a view is made when it is asked for.
 ghost use Rattle.std.specs.Prelude.{◌≡◌, ◌≤◌, ◌<◌, ℕ, List, [], map, unwrap_or, true, false, length, slice_get, slice_range, None as NoPlace};
 ghost use Rattle.std.specs.List.{All};
 ghost use Rattle.std.specs.Option.{option_and_then};
@@ -35,8 +35,8 @@ enum LinkPlace {
 pub(crate) struct PacketUnits<'a> {
     frame: &'a [u8],
     link: LinkPlace,
-    exts: ExtPlaces,
-    arp: Option<Place>,
+    exts: ExtPlaces<'a>,
+    arp: Option<Place<'a>>,
 }
 
 impl<'a> Model for PacketUnits<'a> {
@@ -66,10 +66,10 @@ impl<'a> PacketUnits<'a> {
 
     /// Adds a header that was read in a window.
     #[inline(always)]
-    pub fn add(&mut self, unit: &PeelUnit<'a>, place: Place)
+    pub fn add(&mut self, unit: &PeelUnit<'a>, place: Place<'a>)
         requires fits { HasPlace self.old unit.now place }
-        requires readable { IsReadable self.old.frame (kind_read unit.now) place }
-        ensures { self.new ≡ read_with self.old (kind_read unit.now) place }
+        requires readable { IsReadable (kind_read unit.now) place }
+        ensures { self.new ≡ read_with self.old (kind_read unit.now) place.entry }
     {
         match unit {
             PeelUnit::Ethernet2(slice) => self.link = frame_place(slice),
@@ -82,10 +82,10 @@ impl<'a> PacketUnits<'a> {
 
     /// Adds a VLAN tag or SecTag.
     #[inline(always)]
-    fn add_ext(&mut self, kind: ExtKind, place: Place)
+    fn add_ext(&mut self, kind: ExtKind, place: Place<'a>)
         requires fits { HasPlaceForExt self.old }
-        requires readable { IsReadable self.old.frame (ext_kind kind) place }
-        ensures { self.new ≡ read_with self.old (ext_kind kind) place }
+        requires readable { IsReadable (ext_kind kind) place }
+        ensures { self.new ≡ read_with self.old (ext_kind kind) place.entry }
     {
         self.exts.push(ExtPlace { kind, place });
     }
@@ -112,13 +112,26 @@ impl<'a> PacketUnits<'a> {
         self.exts.len()
     }
 
-    /// The VLAN tag or SecTag at an index.
+    /// The VLAN tag or SecTag at an index. A branch for each index takes fewer instructions than one that selects the place.
     #[inline(always)]
     pub fn ext(&self, index: usize) -> Option<PacketExt<'a>>
         ensures { ViewsExtIf (slice_get (exts_of self.now.units) index) result }
     {
+        match index {
+            0 => self.ext_at(0),
+            1 => self.ext_at(1),
+            2 => self.ext_at(2),
+            _ => self.ext_at(index),
+        }
+    }
+
+    /// The same.
+    #[inline(always)]
+    fn ext_at(&self, index: usize) -> Option<PacketExt<'a>>
+        ensures { ViewsExtIf (slice_get (exts_of self.now.units) index) result }
+    {
         match self.exts.get(index) {
-            Some(ext) => Some(ext_of(self.frame, ext)),
+            Some(ext) => Some(ext_of(ext)),
             None => None,
         }
     }
@@ -162,7 +175,7 @@ impl<'a> PacketUnits<'a> {
         ensures { result ≡ arp_view self.now.units }
     {
         match self.arp {
-            Some(place) => Some(packet_of(&self.frame[place.start..place.end])),
+            Some(place) => Some(packet_of(place.bytes)),
             None => None,
         }
     }
@@ -171,10 +184,10 @@ impl<'a> PacketUnits<'a> {
     pub fn min_snap_len(&self) -> usize
         ensures { result ≡ reach 0 (map header_of self.now.units) }
     {
-        let (at, end) = tags_reach(self.frame, self.link, &self.exts);
+        let (at, end) = tags_reach(self.link, &self.exts);
         match self.arp {
             Some(place) => {
-                let packet = packet_of(&self.frame[place.start..place.end]);
+                let packet = packet_of(place.bytes);
                 end.max(at + packet.slice().len())
             }
             None => end,
@@ -183,17 +196,19 @@ impl<'a> PacketUnits<'a> {
 }
 
 /// Where the headers of a link and of tags end, and how far they reach.
-fn tags_reach(frame: &[u8], link: LinkPlace, exts: &ExtPlaces) -> (usize, usize)
-    requires { All (IsReadableExt frame.now) exts.now }
-    ensures place { result.0 ≡ place_after 0 (headers_at frame.now link exts.now NoPlace) }
-    ensures reach { result.1 ≡ reach 0 (headers_at frame.now link exts.now NoPlace) }
+fn tags_reach(link: LinkPlace, exts: &ExtPlaces<'_>) -> (usize, usize)
+    requires { All IsReadableExt exts.now }
+    ensures place { (frame : List ℕ)
+        → result.0 ≡ place_after 0 (headers_at frame link exts.now NoPlace) }
+    ensures reach { (frame : List ℕ)
+        → result.1 ≡ reach 0 (headers_at frame link exts.now NoPlace) }
     ensures bound { result.0 ≤ 64 }
 {
     let mut at = link_len(link);
     let mut end = at;
     for index in 0..exts.len() {
         if let Some(ext) = exts.get(index) {
-            let slice = ext_of(frame, ext).slice;
+            let slice = ext_of(ext).slice;
             at += tag_len(&slice);
             end = end.max(at + named_len(&slice));
         }
@@ -285,13 +300,13 @@ fn capture_of(bytes: &[u8]) -> LinuxSllSlice<'_>
     }
 }
 
-/// A VLAN tag or SecTag that was read before in a frame.
+/// A VLAN tag or SecTag that was read before.
 #[inline(always)]
-fn ext_of<'a>(frame: &'a [u8], ext: ExtPlace) -> PacketExt<'a>
-    requires { IsReadableExt frame.now ext }
-    ensures { ViewsExt (ext_unit frame.now ext) result }
+fn ext_of<'a>(ext: ExtPlace<'a>) -> PacketExt<'a>
+    requires { IsReadableExt ext }
+    ensures { ViewsExt (ext_unit ext.entry) result }
 {
-    let bytes = &frame[ext.place.start..ext.place.end];
+    let bytes = ext.place.bytes;
     let slice = match ext.kind {
         ExtKind::Vlan => LinkExtSlice::Vlan(tag_of(bytes)),
         ExtKind::Macsec => LinkExtSlice::Macsec(sec_tag_of(bytes)),

@@ -9,5 +9,5 @@ use Rattle.ether_packet.proofs.packet_units.PacketUnits.ext_count.Goals as goal
 pub returns-clause-value : goal.returns-clause-value
 returns-clause-value c =
     let a = c.self.inside in
-    c.len.ensures.value ∙ sym (ap length (exts_at a.frame.now a.link a.exts a.arp) ∙ length-map a.exts (ext_unit a.frame.now))
+    c.len.ensures.value ∙ sym (ap length (exts_at a.frame.now a.link a.exts a.arp) ∙ length-map a.exts ext_unit)
     ∙ ap (λ (r : Read). length (exts_of r.units)) c.self.view_is

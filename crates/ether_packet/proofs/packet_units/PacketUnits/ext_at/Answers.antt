@@ -4,12 +4,12 @@ use Rattle.ether_packet.specs.PacketUnit.{Read}
 use Rattle.ether_packet.specs.Views.{exts_of, ViewsExtIf}
 use Rattle.ether_packet.specs.Places.{IsReadableExt}
 use Rattle.ether_packet.proofs.Places.{all_get, ext_got, ext_missing}
-use Rattle.ether_packet.proofs.packet_units.PacketUnits.ext.Goals as goal
+use Rattle.ether_packet.proofs.packet_units.PacketUnits.ext_at.Goals as goal
 
 pub ext_of-requires : goal.ext_of-requires
 ext_of-requires c =
     let a = c.self.inside in
-    all_get (IsReadableExt a.frame.now) a.exts c.args.index c.in-Some.ext c.self.invariant.exts (sym c.get.ensures ∙ c.in-Some.is)
+    all_get IsReadableExt a.exts c.args.index c.in-Some.ext c.self.invariant.exts (sym c.get.ensures ∙ c.in-Some.is)
 
 pub returns-in-Some : goal.returns-in-Some
 returns-in-Some c =
