@@ -94,7 +94,7 @@ impl FrameLoop {
         Ok(())
     }
 
-    /// The byte order of the section, if the bytes begin with a block that is passed over and that more bytes may make whole.
+    /// The byte order of the section, if the bytes begin with a block that is passed over, and more bytes may make it whole.
     pub fn passed_over(&self, error: &CaptureError, bytes: &[u8]) -> Option<ByteOrder>
         ensures { MatchOption result
             ((required_len (capture_refusal_view error.now) ≡ None) ⊎ (passes_over self.now.reader bytes.now ≡ false))

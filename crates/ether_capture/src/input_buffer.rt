@@ -6,7 +6,7 @@ ghost use Rattle.ether_capture.specs.Packets.{room};
 use ether_text::{InputFault, InputReader, OutputBuffer};
 use std::io::Read;
 
-/// The room for a file header, a record or a block.
+/// The room for a file header, a record or a block. A block that is passed over may be longer.
 pub const ROOM: usize = 73_728;
 
 /// Bytes of the input in a buffer of fixed size.
@@ -95,8 +95,8 @@ impl InputBuffer {
         Ok(count)
     }
 
-    /// Takes all of the next `len` bytes but the last four, and reads on until these are there. Returns how many of the `len` bytes
-    /// the input does not have.
+    /// Takes the next `len` bytes but for the last four, and reads on until these four are in the buffer. Returns how many of the `len`
+    /// bytes are missing if the input ends before, and else 0.
     ///
     /// No text may wait in `out`.
     pub fn pass_over<R: Read, W>(

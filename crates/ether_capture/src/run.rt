@@ -19,11 +19,12 @@ use std::io::{Read, Write};
 
 /// Reads a capture to its end, and writes the lines of its packets.
 ///
-/// A capture is a classic pcap file or a pcapng file, of which each file header, record and block has at most 73,728 bytes; a block of
-/// which nothing but its lengths is read has at most 16 MiB. At the first that can't be read the run stops with [`RunFault::Capture`]; the lines of the packets before it have been written and
-/// flushed. Before each read all lines so far have been written. Any fault of the reader, an interruption too, is
-/// [`RunFault::Input`], as is a reader that never ends. Any fault of the writer, also at the closing flush, is
-/// [`RunFault::Output`], and nothing is said of how much was written. After a fault neither is called again. No memory is taken.
+/// A capture is a classic pcap file or a pcapng file. Each file header, record and block has at most 73,728 bytes, except a block whose
+/// body is not read, which may have up to 16 MiB. At the first that can't be read the run stops with [`RunFault::Capture`]; the lines
+/// of the packets before it have been written and flushed. Before each read all lines so far have been written. Any fault of the
+/// reader, an interruption too, is [`RunFault::Input`], as is a reader that never ends. Any fault of the writer, also at the closing
+/// flush, is [`RunFault::Output`], and nothing is said of how much was written. After a fault neither is called again. No memory is
+/// taken.
 pub fn run<R: Read, W: Write>(
     is_plain: bool,
     reader: &mut R,
@@ -110,8 +111,8 @@ fn take_buffered<W: Write>(
     Ok(error)
 }
 
-/// Takes the block at the front of the buffer, which has no room for all of it, piece by piece, if it is one that is passed over. If
-/// not, or if its two lengths differ or the capture ends within it, the capture can't be read further.
+/// Skips the block at the front of the full buffer piece by piece, if it is one that is passed over. If it is not, if its two lengths
+/// differ, or if the capture ends within it, the capture can't be read further.
 fn pass_over<R: Read, W: Write>(
     error: CaptureError,
     frames: &mut FrameLoop,

@@ -49,8 +49,7 @@ type_is order interfaces bytes passed =
     let section = nat_eq (number (slice_range bytes 0 4)) section_type in
     let other = is_other (kind_of_block (field order bytes 0 4)) in
     let a = and_parts front (not section && other) passed in
-    let b = and_parts (not section) other a.1 in
-    (
+    let b = and_parts (not section) other a.1 in (
       λ has. let t : section ≡ true = eq-eqb (number (slice_range bytes 0 4)) section_type has in let f = not-true section b.0 in absurd (true≢false (sym t ∙ f)),
       other_kind (kind_of_block (field order bytes 0 4)) b.1,
     )
@@ -98,7 +97,7 @@ passed_whole order x bytes n is whole end =
     let (b, begins, kind, long) = whole_block order bytes n is.total is.sound whole end in
     let body : IsBody Other order is.interfaces b.body None is.interfaces = (refl, refl) in
     let read : IsBody (kind_of_block b.block_type) order is.interfaces b.body None is.interfaces =
-        subst (λ (k : BlockKind). IsBody k order is.interfaces b.body None is.interfaces) (sym (ap kind_of_block kind ∙ is.kind)) body in
+    subst (λ (k : BlockKind). IsBody k order is.interfaces b.body None is.interfaces) (sym (ap kind_of_block kind ∙ is.kind)) body in
     subst (λ (y : Expectation). Begins bytes y n None y) (sym is.is_section)
     (subst (λ (m : ℕ). Begins bytes (Blocks order is.interfaces) m None (Blocks order is.interfaces)) long
     (block order is.interfaces is.interfaces None b is.other begins read))

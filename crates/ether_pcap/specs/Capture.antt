@@ -186,23 +186,22 @@ required_len _ = None
 abbrev pub IsEnd : Expectation → List ℕ → Type 0
 IsEnd x bytes = (x ≢ Beginning) × (bytes ≡ [])
 
--- nothing is read of the body
+-- the body of the block is not read
 abbrev pub is_other : BlockKind → Bool
 is_other InterfaceDescription = false
 is_other SimplePacket = false
 is_other EnhancedPacket = false
 is_other Other = true
 
--- The bytes begin with a block that is passed over: one of a section, by its type, which is that of no section header and of no body
--- that is read.
+-- The bytes begin with a block of a section that is passed over: by its type it is no section header, and its body is not read.
 abbrev pub passes_over : Expectation → List ℕ → Bool
 passes_over Beginning bytes = false
 passes_over (Records h) bytes = false
 passes_over (Blocks order interfaces) bytes =
     nat_le 4 (length bytes) && (not (nat_eq (number (slice_range bytes 0 4)) section_type) && is_other (kind_of_block (field order bytes 0 4)))
 
--- What is seen of the bytes when a unit is read: no more than there is room for, but all of them if they begin with a block that is
--- passed over, whose length has no bound but that of all blocks.
+-- What is seen of the bytes when a unit is read: as many as there is room for, or all of them if they begin with a block that is
+-- passed over. Such a block may be as long as the format allows.
 abbrev pub seen : (room : ℕ) → Expectation → List ℕ → List ℕ
 seen room x bytes = if passes_over x bytes then bytes else take room bytes
 

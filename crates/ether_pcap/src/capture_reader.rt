@@ -92,7 +92,7 @@ impl CaptureReader {
         !matches!(self.progress, Progress::Nothing)
     }
 
-    /// The byte order of the section that is read: `None` before a section header, and in a classic file.
+    /// The byte order of the current section. It is `None` before the first section header, and in a classic file.
     pub fn byte_order(&self) -> Option<ByteOrder>
         ensures { option_map order_of result ≡ section_order self.now }
     {
@@ -102,10 +102,12 @@ impl CaptureReader {
         }
     }
 
-    /// Tests that a slice begins with a block that is passed over: by its first four bytes, a block of a section with another type
-    /// than those of section headers, interface descriptions, simple packets and enhanced packets. Nothing of its body is read, so a
-    /// program can take it piece by piece, without room for all of it, if it compares the length at the end with that at the front.
-    /// The reader is then where it was: it expects the next block.
+    /// Tests that a slice begins with a block whose body is not read: in a section, any but a section header, an interface
+    /// description, a simple packet or an enhanced packet. Only the first four bytes are looked at.
+    ///
+    /// A program without room for such a block can skip it piece by piece, up to [`PcapngBlock::MAX_LEN`] bytes. It has to compare the
+    /// length at the end with the one at the front itself, in the [byte order](Self::byte_order) of the section. The reader stays as it
+    /// is, and reads the next block.
     ///
     /// ```
     /// let section = [
@@ -196,7 +198,7 @@ fn begins_section(bytes: &[u8]) -> bool
     bytes.len() >= 4 && ByteOrder::BigEndian.u32_at(bytes, 0) == PcapngBlock::SECTION_HEADER
 }
 
-/// Tests that a slice begins with the type of a block of which nothing but its lengths is read.
+/// Tests that a slice begins with the type of a block whose body is not read.
 fn begins_other_block(byte_order: ByteOrder, bytes: &[u8]) -> bool
     ensures { result ≡ (nat_le 4 (length bytes.now)
         && (not (nat_eq (number (slice_range bytes.now 0 4)) section_type)
@@ -207,7 +209,7 @@ fn begins_other_block(byte_order: ByteOrder, bytes: &[u8]) -> bool
         && is_other_type(byte_order.u32_at(bytes, 0))
 }
 
-/// Tests that nothing but its lengths is read of a block of this type.
+/// Tests that the body of a block of this type is not read, if it is no section header.
 fn is_other_type(block_type: u32) -> bool
     ensures { result ≡ is_other (kind_of_block block_type) }
 {
