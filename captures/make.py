@@ -242,6 +242,12 @@ def pcapng_captures():
         file.packet(VLAN_ONE[:length], length, original=len(VLAN_ONE))
     yield file.capture
 
+    file = Pcapng("ng_long_skipped").section("<").interface().packet(VLAN_ONE, 1)
+    file.block(10, struct.pack("<II", 0x544C534B, 200_000) + b"# key log\n" * 20_000).packet(ARP, 2)
+    file.section(">").interface().packet(PLAIN, 3)
+    names = b"".join(struct.pack(">HH", 1, 6) + padded(bytes([192, 0, 2, 1]) + b"a\0") for _ in range(10_000))
+    yield file.block(4, names + bytes(4)).packet(VLAN_TWO, 4).capture
+
     file = Pcapng("ng_long").section("<").interface()
     yield file.packet(ethernet(0x88B5, bytes(65_521)), 1).packet(ARP, 2).packet(ethernet(0x8100, vlan(1, 0x88B5, bytes(65_517))), 3).capture
 

@@ -3,3 +3,4 @@ pub mod PacketsLemmas
 pub mod OptionsLemmas
 pub mod FrameLoopLemmas
 pub mod RunLemmas
+pub mod PassedBlocks

@@ -1,15 +1,15 @@
 -- What a run has read and written, one read after another.
-use Rattle.std.proofs.Common.{false, ◌≡◌, inl, inr, ℕ, ◌<◌, ◌≤◌, List, [], ◌∷◌, ◌++◌, length, drop, Bool, true, not, Option, Some, None, unwrap_or, Result, Ok, Err, IfOk, IfErr, IsErrAnd, OnOk, refl, sym, ap, subst, ◌∙◌, arith, append_assoc, append-nil}
+use Rattle.std.proofs.Common.{false, ◌≡◌, ◌≢◌, inl, inr, ℕ, ◌<◌, ◌≤◌, List, [], ◌∷◌, ◌++◌, length, drop, Bool, true, not, Option, Some, None, unwrap_or, Result, Ok, Err, IfOk, IfErr, IsErrAnd, OnOk, refl, sym, ap, subst, ◌∙◌, arith, append_assoc, append-nil}
 use Rattle.std.proofs.lemmas.List.{length-drop, length-append}
 use Rattle.std.proofs.lemmas.Bool.{cases_lt}
-use Rattle.std.specs.Prelude.{◌↔◌, IsTrue}
+use Rattle.std.specs.Prelude.{◌↔◌, ◌⊎◌, IsTrue}
 use Rattle.std.specs.Option.{is_some}
 use Rattle.std.specs.Io.KnownBytes.{Appends, Consumes, IsAtEnd, Keeps, append_known}
 use Rattle.ether_pcap.specs.FileHeader as file
 use Rattle.ether_pcap.specs.Record as record_rows
 use Rattle.ether_pcap.specs.Block as block_rows
 use Rattle.ether_pcap.specs.Section as section_rows
-use Rattle.ether_pcap.specs.Capture.{PacketValue, Expectation, Beginning, CaptureRefusal, Refuses, file_header_refused, file_record_refused, first_section_refused, section_refused, block_refused, body_refused, required_len, IsEnd, HasPackets}
+use Rattle.ether_pcap.specs.Capture.{PacketValue, Expectation, Beginning, CaptureRefusal, Refuses, file_header_refused, file_record_refused, first_section_refused, section_refused, block_refused, body_refused, required_len, IsEnd, passes_over, seen, HasPackets}
 use Rattle.ether_pcap.specs.CaptureViews.{capture_refusal_view}
 use Rattle.ether_pcap.specs.declared.capture_error.CaptureError.{CaptureError}
 use Rattle.ether_text.specs.OutputBuffer.{contents_of, WritesOut}
@@ -23,7 +23,7 @@ use Rattle.ether_capture.specs.FrameLoop.{Reached, TakesUnits, LeavesRest, IsFin
 use Rattle.ether_capture.specs.declared.outcome.RunFault.{RunFault}
 use Rattle.ether_capture.specs.declared.outcome.RunFault.TheVariants.{Capture, Input, Output}
 use Rattle.ether_capture.specs.declared.frame_loop.FrameLoop.{FrameLoop}
-use Rattle.ether_capture.proofs.PacketsLemmas.{refused_for_good, GoesOn-ended, refused_at_last, all_that_is_left, as_much_as_fits}
+use Rattle.ether_capture.proofs.PacketsLemmas.{IsSeen, IsSeen-fitting, refused_for_good, GoesOn-ended, refused_at_last, as_much_as_fits}
 
 -- ---- what is left
 
@@ -133,42 +133,47 @@ module _ {W : Type 0} (plain : Bool) (contents : W → Option (List ℕ)) where
         })
 
     -- a unit is refused, whatever follows
-    stopped_for_good : (input buffered : List ℕ) (at : FrameLoop) (out : OutputBuffer W) (error : CaptureError) (fault : RunFault)
-        → fault ≡ Capture (record { offset = at.offset; error = error }) → Consumes before after input → length buffered ≤ room
+    pub stopped_for_good : (input buffered : List ℕ) (at : FrameLoop) (out : OutputBuffer W) (error : CaptureError) (fault : RunFault)
+        → fault ≡ Capture (record { offset = at.offset; error = error }) → Consumes before after input → IsSeen at.reader buffered
         → Refuses buffered at.reader (capture_refusal_view error) → required_len (capture_refusal_view error) ≡ None
         → Reached plain contents held input buffered at out → HasRun plain before after held (contents_of contents out) (Err fault)
-    stopped_for_good input buffered at out error fault is read fits refused none so_far =
+    stopped_for_good input buffered at out error fault is read front refused none so_far =
         let left : List ℕ = unwrap_or after [] in
         stops input buffered left at out error fault is read (IsLeft-left_of after)
-        (λ packets go. refused_for_good input packets at.reader buffered left (capture_refusal_view error) fits (λ e. refused_nothing buffered at.reader (capture_refusal_view error) e refused none) refused none go) so_far
+        (λ packets go. refused_for_good input packets at.reader buffered left (capture_refusal_view error) front (λ e. refused_nothing buffered at.reader (capture_refusal_view error) e refused none) refused none go) so_far
 
-    -- a unit needs more bytes than there is room for
+    -- a unit that is not passed over needs more bytes than there is room for
     stopped_for_room : (input buffered : List ℕ) (at : FrameLoop) (out : OutputBuffer W) (error : CaptureError) (fault : RunFault)
         → fault ≡ Capture (record { offset = at.offset; error = error }) → Consumes before after input → length buffered ≡ room
-        → Refuses buffered at.reader (capture_refusal_view error)
+        → passes_over at.reader buffered ≡ false → Refuses buffered at.reader (capture_refusal_view error)
         → Reached plain contents held input buffered at out → HasRun plain before after held (contents_of contents out) (Err fault)
-    stopped_for_room input buffered at out error fault is read full refused so_far =
+    stopped_for_room input buffered at out error fault is read full other refused so_far =
         let left : List ℕ = unwrap_or after [] in
         stops input buffered left at out error fault is read (IsLeft-left_of after)
-        (λ packets go. refused_at_last input packets at.reader buffered left (capture_refusal_view error) (as_much_as_fits buffered left full)
+        (λ packets go. refused_at_last input packets at.reader buffered left (capture_refusal_view error) (as_much_as_fits at.reader buffered left full other)
         (λ end. let n = ap length end.1 in let m = length-append buffered left in omega (arith, full, n, m)) refused go) so_far
 
     -- more bytes do not help
     pub stopped : (input buffered : List ℕ) (at : FrameLoop) (out : OutputBuffer W) (error : CaptureError) (fault : RunFault)
         → fault ≡ Capture (record { offset = at.offset; error = error }) → Consumes before after input → length buffered ≤ room
         → Refuses buffered at.reader (capture_refusal_view error) → IsFinal (capture_refusal_view error) buffered
+        → (required_len (capture_refusal_view error) ≡ None) ⊎ (passes_over at.reader buffered ≡ false)
         → Reached plain contents held input buffered at out → HasRun plain before after held (contents_of contents out) (Err fault)
-    stopped input buffered at out error fault is read fits refused (inl none) so_far = stopped_for_good input buffered at out error fault is read fits refused none so_far
-    stopped input buffered at out error fault is read fits refused (inr full) so_far = stopped_for_room input buffered at out error fault is read full refused so_far
+    stopped input buffered at out error fault is read fits refused final (inl none) so_far =
+        stopped_for_good input buffered at out error fault is read (IsSeen-fitting at.reader buffered fits) refused none so_far
+    stopped input buffered at out error fault is read fits refused (inl none) (inr other) so_far =
+        stopped_for_good input buffered at out error fault is read (IsSeen-fitting at.reader buffered fits) refused none so_far
+    stopped input buffered at out error fault is read fits refused (inr full) (inr other) so_far =
+        stopped_for_room input buffered at out error fault is read full other refused so_far
 
     -- the capture ends within a unit
     pub stopped_at_end : (input buffered : List ℕ) (at : FrameLoop) (out : OutputBuffer W) (error : CaptureError) (fault : RunFault)
-        → fault ≡ Capture (record { offset = at.offset; error = error }) → Consumes before after input → IsAtEnd after → length buffered ≤ room
+        → fault ≡ Capture (record { offset = at.offset; error = error }) → Consumes before after input → IsAtEnd after → seen room at.reader (buffered ++ []) ≡ buffered
         → ¬ (IsEnd at.reader buffered) → Refuses buffered at.reader (capture_refusal_view error)
         → Reached plain contents held input buffered at out → HasRun plain before after held (contents_of contents out) (Err fault)
-    stopped_at_end input buffered at out error fault is read end fits more refused so_far =
+    stopped_at_end input buffered at out error fault is read end whole more refused so_far =
         stops input buffered [] at out error fault is read (IsLeft-end after end)
-        (λ packets go. refused_at_last input packets at.reader buffered [] (capture_refusal_view error) (all_that_is_left buffered fits) (λ over. more (over.0, sym (append-nil buffered) ∙ over.1)) refused go) so_far
+        (λ packets go. refused_at_last input packets at.reader buffered [] (capture_refusal_view error) whole (λ over. more (over.0, sym (append-nil buffered) ∙ over.1)) refused go) so_far
 
     -- all packets are answered
     pub finished : (input buffered : List ℕ) (at : FrameLoop) (from to : OutputBuffer W) (r : Result Verdict RunFault)
@@ -194,26 +199,32 @@ module _ {W : Type 0} (plain : Bool) (contents : W → Option (List ℕ)) where
         subst (λ (f : RunFault). HasRun plain before after held (contents_of contents to) (Err f)) (sym failed) tt
 
     -- a read fails
+    pub breaks_off : (input buffered : List ℕ) (at : FrameLoop) (out : OutputBuffer W) (reason : CaptureRefusal)
+        → Consumes before after input → Refuses buffered at.reader reason → required_len reason ≢ None
+        → Reached plain contents held input buffered at out → HasRun plain before after held (contents_of contents out) (Err Input)
+    breaks_off input buffered at out reason read refused unfinished so_far = record {
+      taken = input;
+      packets = so_far.packets;
+      expected = at.reader;
+      buffered = buffered;
+      text = so_far.text;
+      all_accepted = so_far.all_accepted;
+      reason = reason;
+      read = read;
+      parts = so_far.parts;
+      begun = refused;
+      unfinished = unfinished;
+      answered = so_far.answered;
+      written = so_far.written;
+    }
+
     pub broken_off : (mid : Option (List ℕ)) (r : Result Verdict RunFault) (input buffered : List ℕ) (at : FrameLoop) (out : OutputBuffer W) (reason : CaptureRefusal) (b : Bool)
         → Consumes before mid input → Keeps mid after → IsErrAnd r (λ fault. fault ≡ Input) → Refuses buffered at.reader reason → (IsTrue b ↔ IsFinal reason buffered) → b ≡ false
         → Reached plain contents held input buffered at out → HasRun plain before after held (contents_of contents out) r
     broken_off mid (Ok verdict) input buffered at out reason b read kept is refused means no_more so_far = absurd is
     broken_off mid (Err fault) input buffered at out reason b read kept is refused means no_more so_far =
-        subst (λ (f : RunFault). HasRun plain before after held (contents_of contents out) (Err f)) (sym is) (record {
-          taken = input;
-          packets = so_far.packets;
-          expected = at.reader;
-          buffered = buffered;
-          text = so_far.text;
-          all_accepted = so_far.all_accepted;
-          reason = reason;
-          read = Consumes-kept before mid after input read kept;
-          parts = so_far.parts;
-          begun = refused;
-          unfinished = λ none. let t = means.1 (inl none) in absurd cc;
-          answered = so_far.answered;
-          written = so_far.written;
-        })
+        subst (λ (f : RunFault). HasRun plain before after held (contents_of contents out) (Err f)) (sym is)
+        (breaks_off input buffered at out reason (Consumes-kept before mid after input read kept) refused (λ none. let t = means.1 (inl none) in absurd cc) so_far)
 
     pub on_output : (to : OutputBuffer W) (fault : RunFault) → IsOutput fault → HasRun plain before after held (contents_of contents to) (Err fault)
     on_output to fault is = subst (λ (f : RunFault). HasRun plain before after held (contents_of contents to) (Err f)) (sym is) tt

@@ -1,10 +1,12 @@
 -- How the program ends: what it prints last, and its exit status.
-use Rattle.std.specs.Prelude.{ℕ, List, [], ◌++◌, codes, nat_lt, Option, Some, None, unwrap_or, Result, Ok, Err, Bool, true, false}
+use Rattle.std.specs.Prelude.{ℕ, List, [], ◌++◌, codes, nat_eq, Option, Some, None, unwrap_or, Result, Ok, Err, Bool, true, false}
 use Rattle.std.specs.Fmt.{decimal}
-use Rattle.ether_pcap.specs.Capture.{required_len}
-use Rattle.ether_pcap.specs.CaptureViews.{capture_refusal_view}
 use Rattle.ether_pcap.specs.CaptureTexts.{capture_error_text}
 use Rattle.ether_pcap.specs.declared.capture_error.CaptureError.{CaptureError}
+use Rattle.ether_pcap.specs.declared.capture_error.CaptureError.TheVariants as errors
+use Rattle.ether_pcap.specs.declared.record_error.RecordError.TheVariants as record_errors
+use Rattle.ether_pcap.specs.declared.section_error.SectionError.TheVariants as section_errors
+use Rattle.ether_pcap.specs.declared.block_error.BlockError.TheVariants as block_errors
 use Rattle.ether_text.specs.declared.verdict.Verdict.{Verdict}
 use Rattle.ether_text.specs.declared.verdict.Verdict.TheVariants.{AllAccepted, SomeRefused}
 use Rattle.ether_capture.specs.Packets.{room}
@@ -26,9 +28,16 @@ exit_status (Err Output) = 4
 abbrev pub usage_text : List ℕ
 usage_text = codes "usage: ether_capture [--plain] < capture"
 
--- a file header, record or block is longer than what is read at once
+-- how many bytes of a record or block there were, if it is refused because they end within it
+abbrev pub len_there : CaptureError → Option ℕ
+len_there (errors.Record (record_errors.Len required len)) = Some len
+len_there (errors.Section (section_errors.Block (block_errors.Len required len))) = Some len
+len_there (errors.Block (block_errors.Len required len)) = Some len
+len_there _ = None
+
+-- as many as are read at once
 abbrev pub is_above_room : CaptureError → Bool
-is_above_room error = nat_lt room (unwrap_or (required_len (capture_refusal_view error)) 0)
+is_above_room error = nat_eq (unwrap_or (len_there error) 0) room
 
 -- .. which is said then
 abbrev pub room_text : Bool → List ℕ

@@ -2,7 +2,7 @@
 use Rattle.std.specs.Prelude.{ℕ, ◌-◌, ◌^◌, min, List, ◌++◌, Option}
 use Rattle.ether_pcap.specs.Capture.{PacketValue, Expectation, Beginning, CaptureRefusal, HasPackets}
 
--- how many bytes a file header, a record or a block may have
+-- how many bytes a file header, a record or a block may have; a block that is passed over may have more
 abbrev pub room : ℕ
 room = 73728
 

@@ -1,12 +1,12 @@
 //! The bytes of the capture that were read and are not taken yet.
-ghost use Rattle.std.specs.Prelude.{◌≡◌, ◌+◌, ◌≤◌, ◌<◌, List, ℕ, [], ◌++◌, length, drop, IfOk, OnOk, OnErr};
+ghost use Rattle.std.specs.Prelude.{◌≡◌, ◌+◌, ◌-◌, ◌≤◌, ◌<◌, List, ℕ, [], ◌++◌, length, drop, IfOk, OnOk, OnErr};
 ghost use Rattle.std.specs.Io.KnownBytes.{Keeps, Consumes, IsAtEnd};
 ghost use Rattle.ether_capture.specs.Packets.{room};
 
 use ether_text::{InputFault, InputReader, OutputBuffer};
 use std::io::Read;
 
-/// The room for a file header, a record or a block.
+/// The room for a file header, a record or a block. A block that is passed over may be longer.
 pub const ROOM: usize = 73_728;
 
 /// Bytes of the input in a buffer of fixed size.
@@ -93,5 +93,45 @@ impl InputBuffer {
         let count = input.read(&mut self.bytes[end..], out)?;
         self.end = end + count;
         Ok(count)
+    }
+
+    /// Takes the next `len` bytes but for the last four, and reads on until these four are in the buffer. Returns how many of the `len`
+    /// bytes are missing if the input ends before, and else 0.
+    ///
+    /// No text may wait in `out`.
+    pub fn pass_over<R: Read, W>(
+        &mut self,
+        len: usize,
+        input: &mut InputReader<'_, R>,
+        out: &OutputBuffer<'_, W>,
+    ) -> Result<usize, InputFault>
+        requires least { 4 ≤ len }
+        requires none_waits { out.now.waiting.items ≡ [] }
+        ensures same_reader { input.new.inner.ghost_name ≡ input.old.inner.ghost_name }
+        ensures ok { IfOk result (λ missing. (more : List ℕ)
+            × Consumes (R.remaining input.old.inner.now) (R.remaining input.new.inner.now) more
+            × (missing ≡ len - length (items self.old ++ more))
+            × (missing ≡ 0 → items self.new ≡ drop (len - 4) (items self.old ++ more))) }
+        ensures end { IfOk result (λ missing. 0 < missing → IsAtEnd (R.remaining input.new.inner.now)) }
+        ensures left { OnOk result
+            (length (items self.old) < len → input.new.reads_left < input.old.reads_left) }
+        ensures failed { OnErr result (input.new.has_failed ≡ true) }
+        ensures kept { OnErr result ((more : List ℕ)
+            × Consumes (R.remaining input.old.inner.now) (R.remaining input.new.inner.now) more
+            × (length (items self.old ++ more) < len)) }
+    {
+        let mut left = len - 4;
+        loop {
+            let count = left.min(self.len());
+            self.consume(count);
+            left -= count;
+            let missing = (left + 4).saturating_sub(self.len());
+            if missing == 0 {
+                return Ok(0);
+            }
+            if self.read(input, out)? == 0 {
+                return Ok(missing);
+            }
+        }
     }
 }

@@ -1,11 +1,11 @@
 //! How the program ends: what a run found or why it stopped, the exit status of each, and the last line.
 ghost use Rattle.std.specs.Prelude.{◌≡◌};
 ghost use Rattle.std.specs.Option.{option_map};
-ghost use Rattle.ether_capture.specs.Outcome.{exit_status, is_above_room, last_line_text, last_text, status_of_program};
+ghost use Rattle.ether_capture.specs.Outcome.{exit_status, is_above_room, last_line_text, last_text, len_there, status_of_program};
 
 use crate::input_buffer::ROOM;
 use crate::options::Usage;
-use ether_pcap::CaptureError;
+use ether_pcap::{BlockError, CaptureError, RecordError, SectionError};
 use ether_text::{InputFault, OutputFault, Verdict};
 use std::fmt;
 
@@ -38,11 +38,23 @@ impl fmt::Display for CaptureFault {
     }
 }
 
-/// Whether a file header, record or block needs more bytes than are read at once.
+/// How many bytes of a record or block there were, if it is refused because they end within it.
+fn len_there(error: &CaptureError) -> Option<usize>
+    ensures { result ≡ len_there error.now }
+{
+    match error {
+        CaptureError::Record(RecordError::Len { len, .. }) => Some(*len),
+        CaptureError::Section(SectionError::Block(BlockError::Len { len, .. })) => Some(*len),
+        CaptureError::Block(BlockError::Len { len, .. }) => Some(*len),
+        _ => None,
+    }
+}
+
+/// Whether a record or block is refused for the bytes that are read at once.
 fn is_above_room(error: &CaptureError) -> bool
     ensures { result ≡ is_above_room error.now }
 {
-    error.required_len().unwrap_or(0) > ROOM
+    len_there(error).unwrap_or(0) == ROOM
 }
 
 /// Why a run stopped before the end of its input.

@@ -3,5 +3,6 @@ mod captures;
 mod derived_traits;
 mod faults;
 mod lines;
+mod long_blocks;
 mod statuses;
 mod streams;

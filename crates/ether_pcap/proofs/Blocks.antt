@@ -1,6 +1,7 @@
--- Blocks: one for each list of bytes, or one refusal.
-use Rattle.std.proofs.Common.{◌≡◌, ℕ, ◌+◌, ◌-◌, List, length, refl, sym, ap, subst, ◌∙◌, arith}
+-- Blocks: one for each list of bytes, or one refusal; and one where the lengths are the same.
+use Rattle.std.proofs.Common.{◌≡◌, ℕ, ◌+◌, ◌-◌, ◌≤◌, List, length, refl, sym, ap, subst, ◌∙◌, arith}
 use Rattle.std.specs.Prelude.{slice_range}
+use Rattle.ether_base.proofs.SubLists.{length-part}
 use Rattle.ether_pcap.specs.Numbers.{Order, field}
 use Rattle.ether_pcap.specs.Block.{BlockValue, IsTotalLen, BeginsBlock, BlockRefusal, Trailer, Short, RefusesBlock, front, total_len, body, trailer}
 
@@ -44,3 +45,24 @@ block_refusal_one order bytes r s (trailer n k le is sound whole at other) (trai
     let e : n ≡ o = sym is ∙ is2 in
     let f : k ≡ l = sym at ∙ ap (λ (x : ℕ). field order bytes (x - 4) x) e ∙ at2 in
     λ i. Trailer (e i) (f i)
+
+-- a length that is the same at both places makes a block
+pub whole_block : (order : Order) (bytes : List ℕ) (n : ℕ) → field order bytes 4 8 ≡ n → IsTotalLen n → n ≤ length bytes → field order bytes (n - 4) n ≡ n
+    → (b : BlockValue) × BeginsBlock order bytes b × (b.block_type ≡ field order bytes 0 4) × (12 + length b.body ≡ n)
+whole_block order bytes n is sound whole same =
+    let least : 12 ≤ n = sound.least in
+    let len : length (slice_range bytes 8 (n - 4)) ≡ n - 12 = length-part bytes 8 (n - 4) (omega arith) ∙ omega arith in
+    let total : 12 + length (slice_range bytes 8 (n - 4)) ≡ n = omega (arith, len, least) in
+    let end : 8 + length (slice_range bytes 8 (n - 4)) ≡ n - 4 = omega (arith, len, least) in (
+      record { block_type = field order bytes 0 4; body = slice_range bytes 8 (n - 4) },
+      record {
+        block_type = refl;
+        total_len = is ∙ sym total;
+        sound = subst IsTotalLen (sym total) sound;
+        whole = omega (arith, total, whole);
+        body = ap (slice_range bytes 8) end;
+        trailer = ap (λ (k : ℕ). field order bytes k (12 + length (slice_range bytes 8 (n - 4)))) end ∙ ap (field order bytes (n - 4)) total ∙ same ∙ sym total;
+      },
+      refl,
+      total,
+    )

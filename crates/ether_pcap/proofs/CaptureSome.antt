@@ -1,8 +1,7 @@
 -- Bytes begin with a unit, or are refused; and so a file has packets.
-use Rattle.std.proofs.Common.{◌≡◌, ℕ, zero, suc, ◌+◌, ◌-◌, ◌*◌, ◌%◌, ◌^◌, ◌<◌, ◌≤◌, List, [], ◌∷◌, ◌++◌, length, take, drop, length-drop, refl, sym, ap, subst, ◌∙◌, arith, inl, inr, Some, None}
+use Rattle.std.proofs.Common.{◌≡◌, ℕ, zero, suc, ◌+◌, ◌-◌, ◌*◌, ◌%◌, ◌^◌, ◌<◌, ◌≤◌, List, [], ◌∷◌, ◌++◌, length, drop, length-drop, refl, sym, ap, ◌∙◌, arith, inl, inr, Some, None}
 use Rattle.std.specs.Prelude.{◌⊎◌, Option, slice_range}
 use Rattle.std.proofs.lemmas.Bool.{cases_lt, cases_eq}
-use Rattle.std.proofs.lemmas.List.{length-take}
 use Rattle.ether_base.specs.Bytes.{number}
 use Rattle.ether_base.proofs.SubLists.{length-part}
 use Rattle.ether_pcap.specs.Numbers.{Order, BigEndian, LittleEndian, field}
@@ -16,10 +15,12 @@ use Rattle.ether_pcap.specs.Section.{SectionRefusal, section_type, HasSectionTyp
 use Rattle.ether_pcap.specs.Section as section_rows
 use Rattle.ether_pcap.specs.Bodies.{BodyRefusal, InterfaceValue, IsInterface, RefusesInterface, EnhancedPacketValue, IsEnhancedPacket, RefusesEnhancedPacket, SimplePacketValue, IsSimplePacket, RefusesSimplePacket, captured_by}
 use Rattle.ether_pcap.specs.Bodies as body_rows
-use Rattle.ether_pcap.specs.Capture.{PacketValue, packet_of_record, CaptureInterfaceValue, described_by, Describes, IsAt, max_interfaces, Expectation, Beginning, Records, Blocks, BlockKind, InterfaceDescription, SimplePacket, EnhancedPacket, Other, kind_of_block, IsBody, CaptureRefusal, File, Record, Section, Block, Body, NoInterface, TooManyInterfaces, RefusesBody, interface, too_many, simple_alone, simple, enhanced, enhanced_alone, Begins, file_header, file_record, first_section, section, block, Refuses, file_header_refused, file_record_refused, first_section_refused, section_refused, block_refused, body_refused, IsEnd, ended, refused, unit, packet}
+use Rattle.ether_pcap.specs.Capture.{PacketValue, packet_of_record, CaptureInterfaceValue, described_by, Describes, IsAt, max_interfaces, Expectation, Beginning, Records, Blocks, BlockKind, InterfaceDescription, SimplePacket, EnhancedPacket, Other, kind_of_block, IsBody, CaptureRefusal, File, Record, Section, Block, Body, NoInterface, TooManyInterfaces, RefusesBody, interface, too_many, simple_alone, simple, enhanced, enhanced_alone, Begins, file_header, file_record, first_section, section, block, Refuses, file_header_refused, file_record_refused, first_section_refused, section_refused, block_refused, body_refused, IsEnd, seen, ended, refused, unit, packet}
 use Rattle.ether_pcap.specs.CaptureLaws.{Packets}
+use Rattle.ether_pcap.proofs.Blocks.{whole_block}
 use Rattle.ether_pcap.proofs.Options.{some_options}
 use Rattle.ether_pcap.proofs.CaptureLengths.{unit_within, unit_some}
+use Rattle.ether_pcap.proofs.CaptureSeen.{seen_within}
 
 -- ---- file headers
 
@@ -97,31 +98,13 @@ some_record order bytes =
 abbrev Block_of : Order → List ℕ → Type 0
 Block_of order bytes = ((b : BlockValue) × BeginsBlock order bytes b) ⊎ ((r : BlockRefusal) × RefusesBlock order bytes r)
 
-whole_block : (order : Order) (bytes : List ℕ) (n : ℕ) → field order bytes 4 8 ≡ n → IsTotalLen n → n ≤ length bytes → field order bytes (n - 4) n ≡ n → Block_of order bytes
-whole_block order bytes n is sound whole trailer =
-    let least : 12 ≤ n = sound.least in
-    let len : length (slice_range bytes 8 (n - 4)) ≡ n - 12 = length-part bytes 8 (n - 4) (omega arith) ∙ omega arith in
-    let total : 12 + length (slice_range bytes 8 (n - 4)) ≡ n = omega (arith, len, least) in
-    let end : 8 + length (slice_range bytes 8 (n - 4)) ≡ n - 4 = omega (arith, len, least) in
-    inl (
-      record { block_type = field order bytes 0 4; body = slice_range bytes 8 (n - 4) },
-      record {
-        block_type = refl;
-        total_len = is ∙ sym total;
-        sound = subst IsTotalLen (sym total) sound;
-        whole = omega (arith, total, whole);
-        body = ap (slice_range bytes 8) end;
-        trailer = ap (λ (k : ℕ). field order bytes k (12 + length (slice_range bytes 8 (n - 4)))) end ∙ ap (field order bytes (n - 4)) total ∙ trailer ∙ sym total;
-      },
-    )
-
 sound_block : (order : Order) (bytes : List ℕ) → 12 ≤ length bytes → IsTotalLen (field order bytes 4 8) → Block_of order bytes
 sound_block order bytes le sound =
     let n = field order bytes 4 8 in
     elim (cases_lt (length bytes) n) [
       | inl lt ↦ inr (block_rows.Short n (length bytes), block_rows.body n le refl sound lt)
       | inr whole ↦ elim (cases_eq (field order bytes (n - 4) n) n) [
-        | inl e ↦ whole_block order bytes n refl sound whole e
+        | inl e ↦ let w = whole_block order bytes n refl sound whole e in inl (w.0, w.1)
         | inr other ↦ inr (block_rows.Trailer n (field order bytes (n - 4) n), block_rows.trailer n (field order bytes (n - 4) n) le refl sound whole refl other)
       ]
     ]
@@ -347,7 +330,7 @@ at_end (Records h) (b ∷ bytes) = inr (λ e. let n = e.1 in absurd cc)
 at_end (Blocks order interfaces) [] = inl (λ e. absurd cc, refl)
 at_end (Blocks order interfaces) (b ∷ bytes) = inr (λ e. let n = e.1 in absurd cc)
 
-goes_on : (room : ℕ) (x y : Expectation) (bytes : List ℕ) (len : ℕ) (p : Option PacketValue) → Begins (take room bytes) x len p y → Packets room y (drop len bytes) → Packets room x bytes
+goes_on : (room : ℕ) (x y : Expectation) (bytes : List ℕ) (len : ℕ) (p : Option PacketValue) → Begins (seen room x bytes) x len p y → Packets room y (drop len bytes) → Packets room x bytes
 goes_on room x y bytes len None begins c = record { packets = c.packets; rest = c.rest; fault = c.fault; has = unit x y bytes len c.packets c.rest c.fault begins c.has }
 goes_on room x y bytes len (Some p) begins c = record { packets = p ∷ c.packets; rest = c.rest; fault = c.fault; has = packet x y bytes len p c.packets c.rest c.fault begins c.has }
 
@@ -356,11 +339,11 @@ step : (room : ℕ) (x : Expectation) (bytes : List ℕ)
 step room x bytes more =
     elim (at_end x bytes) [
       | inl end ↦ record { packets = []; rest = []; fault = None; has = ended x bytes end }
-      | inr some ↦ elim (some_unit x (take room bytes)) [
+      | inr some ↦ elim (some_unit x (seen room x bytes)) [
         | inr r ↦ record { packets = []; rest = bytes; fault = Some r.0; has = refused x bytes r.0 some r.1 }
         | inl u ↦
-            let w = unit_within (take room bytes) x u.2 u.0 u.1 u.3 in
-            goes_on room x u.2 bytes u.0 u.1 u.3 (more u.2 u.0 (unit_some (take room bytes) x u.2 u.0 u.1 u.3) (omega (arith, w, length-take room bytes)))
+            let w = unit_within (seen room x bytes) x u.2 u.0 u.1 u.3 in
+            goes_on room x u.2 bytes u.0 u.1 u.3 (more u.2 u.0 (unit_some (seen room x bytes) x u.2 u.0 u.1 u.3) (omega (arith, w, seen_within room x bytes)))
       ]
     ]
 

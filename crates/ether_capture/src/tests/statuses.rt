@@ -69,7 +69,7 @@ fn three_if_the_capture_breaks_off(rt: HostRuntime) -> Result<(), Fail> {
     ends(&rt, &[], &CLASSIC[4..], line, 3)
 }
 
-/// The line says that the record is longer than what is read at once.
+/// The line says that the record is longer than what is read at once, but not of a capture that ends within it.
 #[test]
 fn three_if_a_record_is_above_the_room(rt: HostRuntime) -> Result<(), Fail> {
     let mut capture = [0; 24 + 73_728];
@@ -78,11 +78,7 @@ fn three_if_a_record_is_above_the_room(rt: HostRuntime) -> Result<(), Fail> {
     let line = b"byte 24: A record of a pcap file needs 73729 byte(s); only 73728 are available. \
 At most 73728 bytes are read at once.\n";
     ends(&rt, &[], &capture, line, 3)?;
-    let line = b"byte 24: A record of a pcap file needs 73729 byte(s); only 100 are available. \
-At most 73728 bytes are read at once.\n";
-    ends(&rt, &[], &capture[..124], line, 3)?;
-    capture[35] = 0xF0;
-    let line = b"byte 24: A record of a pcap file needs 73728 byte(s); only 100 are available.\n";
+    let line = b"byte 24: A record of a pcap file needs 73729 byte(s); only 100 are available.\n";
     ends(&rt, &[], &capture[..124], line, 3)
 }
 

@@ -284,3 +284,25 @@ fn texts(rt: HostRuntime) -> Result<(), Fail> {
         "A block of a pcapng file cannot have 262145 captured byte(s), the maximum is 262144.",
     )
 }
+
+/// A section header, a description of an interface and packets are read; the block of type 2, which is obsolete, and those of types
+/// from 4 on are passed over, by their types alone.
+#[test]
+fn what_is_passed_over(rt: HostRuntime) -> Result<(), Fail> {
+    let big = read_to(&rt, &SECTIONS, 1)?;
+    let little = read_to(&rt, &SECTIONS, 6)?;
+    check_eq!(rt; big.passes_over(&SECTIONS), false);
+    check_eq!(rt; little.passes_over(&SECTIONS), false);
+    for block_type in [1, 3, 6] {
+        check_eq!(rt; big.passes_over(&[0, 0, 0, block_type]), false);
+        check_eq!(rt; little.passes_over(&[block_type, 0, 0, 0]), false);
+        check_eq!(rt; big.passes_over(&[block_type, 0, 0, 0]), true);
+        check_eq!(rt; little.passes_over(&[0, 0, 0, block_type]), true);
+    }
+    for block_type in [2, 4, 5, 10] {
+        check_eq!(rt; big.passes_over(&[0, 0, 0, block_type]), true);
+        check_eq!(rt; little.passes_over(&[block_type, 0, 0, 0]), true);
+    }
+    check_eq!(rt; big.passes_over(&[0, 0, 0]), false);
+    Ok(())
+}

@@ -184,6 +184,24 @@ fn of_a_reader(rt: HostRuntime) -> Result<(), Fail> {
 }
 
 #[test]
+fn of_blocks_that_are_passed_over(rt: HostRuntime) -> Result<(), Fail> {
+    let section = [
+        0x0A, 0x0D, 0x0D, 0x0A, 0x00, 0x00, 0x00, 0x1C, 0x1A, 0x2B, 0x3C, 0x4D, // section header
+        0x00, 0x01, 0x00, 0x00, 0xFF, 0xFF, 0xFF, 0xFF, 0xFF, 0xFF, 0xFF, 0xFF, 0x00, 0x00, 0x00,
+        0x1C,
+    ];
+    let secrets = [0x00, 0x00, 0x00, 0x0A, 0x00, 0x10, 0x00, 0x00];
+    let mut reader = CaptureReader::new();
+    check_eq!(rt; reader.byte_order(), None);
+    check_eq!(rt; reader.passes_over(&secrets), false);
+    reader.read(&section)?;
+    check_eq!(rt; reader.byte_order(), Some(ByteOrder::BigEndian));
+    check_eq!(rt; reader.passes_over(&secrets), true);
+    check_eq!(rt; reader.passes_over(&section), false);
+    Ok(())
+}
+
+#[test]
 fn of_errors_of_a_reader(rt: HostRuntime) -> Result<(), Fail> {
     let error = CaptureError::Record(RecordError::Len {
         required_len: 76,

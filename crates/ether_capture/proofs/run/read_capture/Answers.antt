@@ -4,9 +4,12 @@ use Rattle.ether_pcap.specs.CaptureViews.{capture_refusal_view}
 use Rattle.ether_text.specs.OutputBuffer.{contents_of}
 use Rattle.ether_text.proofs.KnownBytesLemmas.{Consumes-none, Consumes-then}
 use Rattle.ether_capture.specs.InputBuffer.{items}
+use Rattle.ether_capture.specs.Run.{HasRun}
 use Rattle.ether_capture.specs.FrameLoop.{Reached}
 use Rattle.ether_capture.proofs.FrameLoopLemmas.{Reached-start, Reached-more, Reached-written_out}
-use Rattle.ether_capture.proofs.RunLemmas.{broken_off, consumed_all, finished, not_full, same_left, stopped, stopped_at_end}
+use Rattle.ether_capture.proofs.PacketsLemmas.{all_that_is_left}
+use Rattle.ether_capture.proofs.RunLemmas.{broken_off, consumed_all, finished, not_full, same_left, stopped_at_end}
+use Rattle.ether_capture.proofs.PassedBlocks.{same_fault}
 use Rattle.ether_capture.proofs.run.read_capture.Goals as goal
 
 pub loop-error-init : goal.loop-error-init
@@ -21,20 +24,37 @@ loop-error-init g c = (
   },
 )
 
-pub returns-then-is_final-clause-run : goal.returns-then-is_final-clause-run
-returns-then-is_final-clause-run g c =
+pub returns-in_err-pass_over-clause-run : goal.returns-in_err-pass_over-clause-run
+returns-in_err-pass_over-clause-run g c =
     let (taken, so_far) = c.loop-error.invariant in
     let plain = c.args.is_plain in
     let contents = g.W.Write.contents in
     let held = contents_of contents c.args.out.now in
     let before = g.R.Read.remaining c.args.input.now.inner.now in
-    let mid = g.R.Read.remaining c.loop-error.input.inner.now in
-    let left = items c.take_buffered.new.buffer in
-    let at = c.take_buffered.new.frames in
+    let after = g.R.Read.remaining c.pass_over.new.input.inner.now in
     let rest = c.in_ok-error.ensures.ok in
     let reached = rest.reached held taken so_far.reached in
-    stopped plain contents before mid held taken left at c.take_buffered.new.out c.in_ok-error.error c.fault.result c.fault.ensures so_far.read rest.fits rest.refused
-    (c.is_final.ensures.0 (search rules)) reached
+    same_fault c.from_residual-in_err-pass_over.result _ (HasRun plain before after held (contents_of contents c.pass_over.new.out)) c.from_residual-in_err-pass_over.ensures.1
+    (c.in_err-pass_over.ensures.stopped plain before held (record { input = taken; read = so_far.read; reached = reached }))
+
+pub loop-error-preserved-then-is_final : goal.loop-error-preserved-then-is_final
+loop-error-preserved-then-is_final g c =
+    let (taken, so_far) = c.loop-error.invariant in
+    let plain = c.args.is_plain in
+    let contents = g.W.Write.contents in
+    let held = contents_of contents c.args.out.now in
+    let before = g.R.Read.remaining c.args.input.now.inner.now in
+    let rest = c.in_ok-error.ensures.ok in
+    let reached = rest.reached held taken so_far.reached in
+    let on = c.in_ok-pass_over.ensures.ok plain before held (record { input = taken; read = so_far.read; reached = reached }) in (
+      on.input,
+      record {
+        same_reader = c.pass_over.ensures.same_reader ∙ so_far.same_reader;
+        same_writer = c.pass_over.ensures.same_writer ∙ c.take_buffered.ensures.same_writer ∙ so_far.same_writer;
+        read = on.read;
+        reached = on.reached;
+      },
+    )
 
 pub returns-in_err-read-clause-run : goal.returns-in_err-read-clause-run
 returns-in_err-read-clause-run g c =
@@ -98,7 +118,7 @@ returns-then-branch-eq0-clause-run g c =
     let read = consumed_all before mid after taken more so_far.read consumed none in
     let same : items c.read.new.self ≡ left = grown ∙ same_left left more none in
     let more_left = λ (over : IsEnd at.reader left). let t = c.is_over.ensures.1 (subst (λ (l : List ℕ). IsEnd at.reader l) (sym same) over) in absurd cc in
-    stopped_at_end plain contents before after held taken left at out c.in_ok-error.error c.fault-then-branch-eq0.result c.fault-then-branch-eq0.ensures read end rest.fits more_left rest.refused flushed
+    stopped_at_end plain contents before after held taken left at out c.in_ok-error.error c.fault.result c.fault.ensures read end (all_that_is_left at.reader left rest.fits) more_left rest.refused flushed
 
 pub loop-error-preserved : goal.loop-error-preserved
 loop-error-preserved g c =

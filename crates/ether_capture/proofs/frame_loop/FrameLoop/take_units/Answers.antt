@@ -3,6 +3,7 @@ use Rattle.std.proofs.lemmas.List.{drop-drop, length-drop}
 use Rattle.ether_capture.specs.Packets.{room}
 use Rattle.ether_capture.specs.FrameLoop.{Reached}
 use Rattle.ether_capture.proofs.FrameLoopLemmas.{Reached-unit, rest_is}
+use Rattle.ether_capture.proofs.PacketsLemmas.{IsSeen-fitting}
 use Rattle.ether_capture.proofs.frame_loop.FrameLoop.take_units.Goals as goal
 
 pub loop-unit-init : goal.loop-unit-init
@@ -26,6 +27,6 @@ loop-unit-preserved g c =
         reached = λ held input begun.
             subst (λ (l : List ℕ). Reached c.args.is_plain g.W.Write.contents held input l c.take_unit.new.self c.take_unit.new.out) (sym after)
             (Reached-unit c.args.is_plain g.W.Write.contents held input rest c.loop-unit.self c.take_unit.new.self c.read.new.self c.loop-unit.out c.take_unit.new.out len _
-            fits within c.in-Ok.ensures.unit c.in_ok-take_unit-in-Ok.ensures.ok (so_far.reached held input begun));
+            (IsSeen-fitting c.loop-unit.self.reader rest fits) within c.in-Ok.ensures.unit c.in_ok-take_unit-in-Ok.ensures.ok (so_far.reached held input begun));
       },
     )
