@@ -22,17 +22,16 @@ const REPLY_BYTES: [u8; 28] = [
     0x02, 0x02, 0x02, 0x00, 0x5E, 0x10, 0x00, 0x01, 0xC0, 0x00, 0x02, 0x01,
 ];
 
-/// A packet with addresses of these lengths.
-fn sized(hardware: usize, protocol: usize) -> Result<ArpPacket, Fail> {
-    let zeros = [0; 16];
+/// A packet with the same addresses for the sender and the target.
+fn between(hardware: &[u8], protocol: &[u8]) -> Result<ArpPacket, Fail> {
     Ok(ArpPacket::new(
         ArpHardwareId::ETHERNET,
         EtherType::IPV4,
         ArpOperation::REPLY,
-        &zeros[..hardware],
-        &zeros[..protocol],
-        &zeros[..hardware],
-        &zeros[..protocol],
+        hardware,
+        protocol,
+        hardware,
+        protocol,
     )?)
 }
 
@@ -152,8 +151,14 @@ fn an_arp_packet_that_is_cut_short(rt: HostRuntime) {
 
 #[test]
 fn addresses_that_differ_in_length(rt: HostRuntime) -> Result<(), Fail> {
-    for (hardware, protocol) in [(8, 4), (6, 16), (4, 6)] {
-        let packet = sized(hardware, protocol)?;
+    let zeros = [0; 16];
+    let addresses = [
+        (&zeros[..8], &zeros[..4]),
+        (&zeros[..6], &zeros[..16]),
+        (&zeros[..4], &zeros[..6]),
+    ];
+    for (hardware, protocol) in addresses {
+        let packet = between(hardware, protocol)?;
         let mut frame = PADDED_ARP;
         assert_eq!(rt;
             replace_arp(Start::Ethernet2, &mut frame, &packet),
