@@ -11,4 +11,5 @@ pub mod Snapping
 pub mod Replaced
 pub mod PacketExts
 pub mod Links
+pub mod PacketArp
 pub mod VlanIds

@@ -8,5 +8,6 @@ pub mod Building
 pub mod Builder
 pub mod Replacing
 pub mod ReplacingLink
+pub mod ReplacingArp
 pub mod VlanIds
 pub mod Texts

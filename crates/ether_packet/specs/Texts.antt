@@ -18,5 +18,6 @@ abbrev pub replace_error_text : ReplaceError → List ℕ
 replace_error_text refusals.NoLink = codes "The frame does not begin with the header of a link."
 replace_error_text (refusals.NoLinkExt count) =
     codes "There is no VLAN tag or SecTag at this index: the frame has " ++ (decimal count ++ codes ".")
+replace_error_text refusals.NoArp = codes "The frame has no ARP packet."
 replace_error_text refusals.SaysOther =
-    codes "The header in the frame is of another kind, or says something else about what follows it."
+    codes "The header in the frame is of another kind, says something else about what follows it, or has addresses of other lengths."

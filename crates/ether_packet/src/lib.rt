@@ -10,6 +10,7 @@ mod packet_slice;
 mod packet_units;
 mod replace_error;
 mod replacing;
+mod replacing_arp;
 #[cfg(test)]
 mod tests;
 
@@ -19,3 +20,4 @@ pub use packet_ext::PacketExt;
 pub use packet_slice::PacketSlice;
 pub use replace_error::ReplaceError;
 pub use replacing::{replace_link, replace_link_ext};
+pub use replacing_arp::replace_arp;

@@ -391,7 +391,7 @@ fn write_content(target: &mut [u8], len: usize, content: &PacketContent<'_>) -> 
 }
 
 /// Writes an ARP packet so that it ends at a place, and returns where it starts.
-fn write_arp(target: &mut [u8], end: usize, packet: &ArpPacket) -> usize
+pub(crate) fn write_arp(target: &mut [u8], end: usize, packet: &ArpPacket) -> usize
     requires start { header_len (headers.Arp packet.now) ≤ end }
     requires end { end ≤ length target.old }
     ensures bytes { target.new ≡ overwritten target.old result (arp_bytes packet.now) }

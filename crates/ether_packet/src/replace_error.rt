@@ -19,7 +19,10 @@ pub enum ReplaceError {
     NoLink,
     /// There is no VLAN tag or SecTag at the index. The frame has this many.
     NoLinkExt(usize),
-    /// The header in the frame is of another kind, or says something else about what follows it.
+    /// The frame has no ARP packet.
+    NoArp,
+    /// The header in the frame is of another kind, says something else about what follows it, or has addresses of other
+    /// lengths.
     SaysOther,
 }
 
@@ -35,9 +38,10 @@ impl fmt::Display for ReplaceError {
                 f,
                 "There is no VLAN tag or SecTag at this index: the frame has {count}."
             ),
+            ReplaceError::NoArp => f.write_str("The frame has no ARP packet."),
             ReplaceError::SaysOther => write!(
                 f,
-                "The header in the frame is of another kind, or says something else about what follows it."
+                "The header in the frame is of another kind, says something else about what follows it, or has addresses of other lengths."
             ),
         }
     }

@@ -5,4 +5,5 @@ mod derived_traits;
 mod frames;
 mod packets;
 mod replacing;
+mod replacing_arp;
 mod replacing_links;

@@ -189,9 +189,10 @@ fn texts(rt: HostRuntime) -> Result<(), AllocError> {
             ReplaceError::NoLinkExt(2),
             "There is no VLAN tag or SecTag at this index: the frame has 2.",
         ),
+        (ReplaceError::NoArp, "The frame has no ARP packet."),
         (
             ReplaceError::SaysOther,
-            "The header in the frame is of another kind, or says something else about what follows it.",
+            "The header in the frame is of another kind, says something else about what follows it, or has addresses of other lengths.",
         ),
     ];
     for (error, text) in texts {
