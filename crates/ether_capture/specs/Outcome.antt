@@ -29,15 +29,15 @@ abbrev pub usage_text : List ℕ
 usage_text = codes "usage: ether_capture [--plain] < capture"
 
 -- how many bytes of a record or block there were, if it is refused because they end within it
-abbrev pub len_there : CaptureError → Option ℕ
-len_there (errors.Record (record_errors.Len required len)) = Some len
-len_there (errors.Section (section_errors.Block (block_errors.Len required len))) = Some len
-len_there (errors.Block (block_errors.Len required len)) = Some len
-len_there _ = None
+abbrev pub available_len : CaptureError → Option ℕ
+available_len (errors.Record (record_errors.Len required len)) = Some len
+available_len (errors.Section (section_errors.Block (block_errors.Len required len))) = Some len
+available_len (errors.Block (block_errors.Len required len)) = Some len
+available_len _ = None
 
 -- as many as are read at once
 abbrev pub is_above_room : CaptureError → Bool
-is_above_room error = nat_eq (unwrap_or (len_there error) 0) room
+is_above_room error = nat_eq (unwrap_or (available_len error) 0) room
 
 -- .. which is said then
 abbrev pub room_text : Bool → List ℕ

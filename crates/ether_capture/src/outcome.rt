@@ -1,7 +1,7 @@
 //! How the program ends: what a run found or why it stopped, the exit status of each, and the last line.
 ghost use Rattle.std.specs.Prelude.{◌≡◌};
 ghost use Rattle.std.specs.Option.{option_map};
-ghost use Rattle.ether_capture.specs.Outcome.{exit_status, is_above_room, last_line_text, last_text, len_there, status_of_program};
+ghost use Rattle.ether_capture.specs.Outcome.{exit_status, is_above_room, last_line_text, last_text, available_len, status_of_program};
 
 use crate::input_buffer::ROOM;
 use crate::options::Usage;
@@ -39,8 +39,8 @@ impl fmt::Display for CaptureFault {
 }
 
 /// How many bytes of a record or block there were, if it is refused because they end within it.
-fn len_there(error: &CaptureError) -> Option<usize>
-    ensures { result ≡ len_there error.now }
+fn available_len(error: &CaptureError) -> Option<usize>
+    ensures { result ≡ available_len error.now }
 {
     match error {
         CaptureError::Record(RecordError::Len { len, .. }) => Some(*len),
@@ -50,11 +50,11 @@ fn len_there(error: &CaptureError) -> Option<usize>
     }
 }
 
-/// Whether a record or block is refused for the bytes that are read at once.
+/// Whether a record or block is refused because no more bytes are read at once.
 fn is_above_room(error: &CaptureError) -> bool
     ensures { result ≡ is_above_room error.now }
 {
-    len_there(error).unwrap_or(0) == ROOM
+    available_len(error).unwrap_or(0) == ROOM
 }
 
 /// Why a run stopped before the end of its input.

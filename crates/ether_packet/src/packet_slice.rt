@@ -74,6 +74,7 @@ impl<'a> PacketSlice<'a> {
         let mut peel = Peel::with_limit(start, bytes, LINK_EXTS_CAP);
         let mut read = PacketUnits::new(bytes);
         let mut fault = None;
+        // The walk ends before the count. With `loop`, and a `return` for each end, this takes a fifth more instructions.
         for _count in 0..bytes.len() + 1 {
             let place = place_of(&peel);
             match peel.next() {

@@ -53,8 +53,8 @@ returns-clause-packet c =
     let a = c.loop-count.invariant in
     let e = c.ended.ensures in
     let packet = λ (t : State) (is : c.loop-count-test.peel ≡ t) (met : Option PeelFault) (has : c.loop-count-test.fault ≡ met) (gives : Gives c.loop-count.peel (item_of met) t).
-      is_packet (packet_start c.args.start) c.args.bytes.now c.loop-count.peel t c.loop-count.read c.ended.result met a.gathered gives
-      e.read (e.rest ∙ ap (λ (s : State). s.rest) is) (e.offset ∙ ap (λ (s : State). s.offset) is) (e.kind ∙ ap (λ (s : State). kind_shown s.expected) is) (e.fault ∙ has) in
+    is_packet (packet_start c.args.start) c.args.bytes.now c.loop-count.peel t c.loop-count.read c.ended.result met a.gathered gives
+    e.read (e.rest ∙ ap (λ (s : State). s.rest) is) (e.offset ∙ ap (λ (s : State). s.offset) is) (e.kind ∙ ap (λ (s : State). kind_shown s.expected) is) (e.fault ∙ has) in
     elim c.loop-count-test.branch [
       | else-loop-count-test w ↦
           let near = a.near in
