@@ -1,4 +1,4 @@
--- Blocks that are passed over, longer than the buffer: how a run comes to their end, or stops before.
+-- Blocks that are passed over, longer than the buffer: how a run reaches their end, or stops before.
 use Rattle.std.proofs.Common.{◌≡◌, ◌≢◌, inl, inr, ℕ, ◌+◌, ◌-◌, ◌<◌, ◌≤◌, List, ◌++◌, length, take, drop, Bool, false, Option, None, Result, Ok, Err, IfErr, IsErrAnd, refl, sym, ap, subst, ◌∙◌, arith}
 use Rattle.std.proofs.lemmas.List.{drop-drop}
 use Rattle.std.specs.Prelude.{◌⊎◌}

@@ -1,13 +1,24 @@
 //! Where the VLAN tags and SecTags of a packet lie in its frame.
 ghost use Rattle.std.specs.Prelude.{◌≡◌, ◌<◌, ◌≤◌, [], ◌∷◌, ◌++◌, length, slice_get};
 
+use std::fmt;
 use std::marker::Model;
 
 /// A window of a frame: where it starts, and its bytes.
-#[derive(Clone, Copy, Debug)]
+#[derive(Clone, Copy)]
 pub(crate) struct Place<'a> {
     pub start: usize,
     pub bytes: &'a [u8],
+}
+
+/// Shows the number of the bytes, which are shown with the frame.
+impl fmt::Debug for Place<'_> {
+    fn fmt<W: fmt::Write>(&self, f: &mut fmt::Formatter<W>) -> fmt::Result {
+        f.debug_struct("Place")
+            .field("start", &self.start)
+            .field("len", &self.bytes.len())
+            .finish()
+    }
 }
 
 /// Which link extension a tag is.

@@ -242,3 +242,17 @@ fn a_refused_link(rt: HostRuntime) {
     assert_eq!(rt; packet.rest, &TAGGED[..13]);
     assert_eq!(rt; packet.rest_kind, RestKind::Start);
 }
+
+/// The bytes of a tag are shown with the frame alone.
+#[test]
+fn shown_by_debug(rt: HostRuntime) -> Result<(), Fail> {
+    let tag = [0x00, 0x0A, 0x08, 0x00, 0x45];
+    let packet = PacketSlice::from_slice(Start::EtherType(EtherType::PROVIDER_BRIDGING), &tag);
+    assert_eq!(rt;
+        format!(in rt.alloc(); "{packet:?}")?.as_str(),
+        "PacketSlice { read: PacketUnits { frame: [0, 10, 8, 0, 69], link: Missing, exts: ExtPlaces { first: \
+Some(ExtPlace { kind: Vlan, place: Place { start: 0, len: 5 } }), second: None, third: None }, arp: None }, \
+rest: [69], rest_offset: 4, rest_kind: EtherType(0x0800 (Internet Protocol version 4 (IPv4))), fault: None }"
+    );
+    Ok(())
+}
