@@ -1,5 +1,5 @@
 # Compares the lines that tests/lines.c prints by calls from C with lines of captured frames that are known, and with
-# those of the tool on 10,000 drawn frames for each way in which a frame begins: lines.sh CC LIBRARY PYTHON FOLDER
+# those of the tool, which has been built, on 10,000 drawn frames for each way in which a frame begins: lines.sh CC LIBRARY PYTHON FOLDER
 cc=$1 library=$2 python=$3 work=$4
 tool=$PWD/../crates/ether_tool/out/ether_tool
 passed=0 failed=0
@@ -11,10 +11,6 @@ count() {
         echo "$2"
     fi
 }
-if ! (cd ../crates/ether_tool && rt run -- eth < /dev/null) > "$work/tool.log" 2>&1; then
-    cat "$work/tool.log"
-    exit 1
-fi
 "$cc" -std=c99 -O2 -Wall -Wextra -Wpedantic -Werror -o "$work/lines" tests/lines.c "$library" || exit 1
 
 # a captured frame, the word for what it begins with, and its lines

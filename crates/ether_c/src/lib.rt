@@ -18,8 +18,6 @@ pub mod missing_bytes;
 mod numbers;
 mod putting;
 pub mod summarizing;
-#[cfg(test)]
-mod tests;
 pub mod walking;
 pub mod writing_back;
 

@@ -26,10 +26,6 @@ mod record_fault;
 mod section_error;
 mod section_header;
 mod simple_packet;
-#[cfg(test)]
-mod test_asserts;
-#[cfg(test)]
-mod tests;
 mod time_unit;
 mod timestamp;
 

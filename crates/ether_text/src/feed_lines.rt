@@ -55,25 +55,3 @@ fn fed(start: Start, limit: Option<usize>, frame: &[u8]) -> Feed
         None => feed(start, frame),
     }
 }
-
-#[cfg(test)]
-mod tests {
-    use super::*;
-    use arrayvec::ArrayVec;
-
-    #[test]
-    fn the_example(rt: HostRuntime) {
-        let frame = [
-            0xFF, 0xFF, 0xFF, 0xFF, 0xFF, 0xFF, 0x02, 0x00, 0x00, 0x00, 0x00, 0x01, 0x81, 0x00,
-            0xB1, 0x23, 0x08, 0x00, 0x45,
-        ];
-        let mut written = ArrayVec::<u8, 128>::new();
-        let mut out = OutputBuffer::new(&mut written);
-        assert!(rt; write_feed(Start::Ethernet2, None, &frame, &mut out));
-        assert_eq!(rt; out.flush(), Ok(()));
-        assert_eq!(rt;
-            written.as_slice(),
-            b"feed refusals 2 taken 18\n".as_slice()
-        );
-    }
-}

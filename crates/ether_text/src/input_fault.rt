@@ -21,19 +21,3 @@ impl fmt::Display for InputFault {
 }
 
 impl Error for InputFault {}
-
-#[cfg(test)]
-mod tests {
-    use super::*;
-    use std::test::Fail;
-
-    #[test]
-    fn the_example(rt: HostRuntime) -> Result<(), Fail> {
-        let fault = InputFault;
-        assert_eq!(rt;
-            format!(in rt.alloc(); "{fault}")?.as_str(),
-            "The reader has failed."
-        );
-        Ok(())
-    }
-}

@@ -80,22 +80,3 @@ impl<'a, R: Read> InputReader<'a, R> {
         }
     }
 }
-
-#[cfg(test)]
-mod tests {
-    use super::*;
-    use arrayvec::ArrayVec;
-
-    #[test]
-    fn the_example(rt: HostRuntime) {
-        let mut bytes = [1, 2, 3].as_slice();
-        let mut written = ArrayVec::<u8, 4>::new();
-        let mut input = InputReader::new(&mut bytes);
-        let out = OutputBuffer::new(&mut written);
-        let mut chunk = [0; 2];
-        assert_eq!(rt; input.read(&mut chunk, &out), Ok(2));
-        assert_eq!(rt; chunk, [1, 2]);
-        assert_eq!(rt; input.read(&mut chunk, &out), Ok(1));
-        assert_eq!(rt; input.read(&mut chunk, &out), Ok(0));
-    }
-}

@@ -11,8 +11,6 @@ mod input_fault;
 mod input_reader;
 mod output_buffer;
 mod output_fault;
-#[cfg(test)]
-mod tests;
 mod verdict;
 mod walk_lines;
 mod write_hex;

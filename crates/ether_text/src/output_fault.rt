@@ -21,19 +21,3 @@ impl fmt::Display for OutputFault {
 }
 
 impl Error for OutputFault {}
-
-#[cfg(test)]
-mod tests {
-    use super::*;
-    use std::test::Fail;
-
-    #[test]
-    fn the_example(rt: HostRuntime) -> Result<(), Fail> {
-        let fault = OutputFault;
-        assert_eq!(rt;
-            format!(in rt.alloc(); "{fault}")?.as_str(),
-            "The writer has failed."
-        );
-        Ok(())
-    }
-}

@@ -23,13 +23,3 @@ impl Verdict {
         if accepted { self } else { Verdict::SomeRefused }
     }
 }
-
-#[cfg(test)]
-mod tests {
-    use super::*;
-
-    #[test]
-    fn the_example(rt: HostRuntime) {
-        assert_eq!(rt; Verdict::AllAccepted.with(false), Verdict::SomeRefused);
-    }
-}

@@ -72,28 +72,3 @@ fn walker(start: Start, limit: Option<usize>, frame: &[u8]) -> Peel<'_>
         None => Peel::new(start, frame),
     }
 }
-
-#[cfg(test)]
-mod tests {
-    use super::*;
-    use arrayvec::ArrayVec;
-
-    #[test]
-    fn the_example(rt: HostRuntime) {
-        let frame = [
-            0xFF, 0xFF, 0xFF, 0xFF, 0xFF, 0xFF, 0x02, 0x00, 0x00, 0x00, 0x00, 0x01, 0x81, 0x00,
-            0xB1, 0x23, 0x08, 0x00,
-        ];
-        let mut written = ArrayVec::<u8, 128>::new();
-        let mut out = OutputBuffer::new(&mut written);
-        assert!(rt; write_walk(Start::Ethernet2, None, &frame, &mut out));
-        assert_eq!(rt; out.flush(), Ok(()));
-        assert_eq!(rt;
-            written.as_slice(),
-            b"ethernet2 0 ffffffffffff 020000000001 0x8100\n\
-vlan 14 pcp 5 dei 1 vid 291 0x0800\n\
-rest 18 18 type 0x0800\n"
-                .as_slice()
-        );
-    }
-}

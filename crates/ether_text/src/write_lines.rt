@@ -407,18 +407,3 @@ fn source_of(source: LenSource) -> &'static str
         LenSource::ArpAddrLengths => "arp_addr_lengths",
     }
 }
-
-#[cfg(test)]
-mod tests {
-    use super::*;
-    use arrayvec::ArrayVec;
-
-    #[test]
-    fn the_example(rt: HostRuntime) {
-        let mut written = ArrayVec::<u8, 8>::new();
-        let mut out = OutputBuffer::new(&mut written);
-        write_decimal(&mut out, 1_024);
-        assert_eq!(rt; out.flush(), Ok(()));
-        assert_eq!(rt; written.as_slice(), b"1024".as_slice());
-    }
-}

@@ -81,81 +81,119 @@ pub fn command_of_args(mut args: env::Args) -> Result<(Mode, Option<usize>), Usa
 mod tests {
     use super::*;
     use etherparse::EtherType;
-    use std::process::Abort;
 
-    fn names(rt: &impl Abort, words: &[&str], mode: Mode, limit: Option<usize>) {
-        assert_eq!(rt; command_of(words), Ok((mode, limit)));
-    }
-
-    fn refuses(rt: &impl Abort, words: &[&str]) {
-        assert_eq!(rt; command_of(words), Err(Usage));
+    const fn ether_type(number: u16) -> Mode {
+        Mode::EtherType(EtherType(number))
     }
 
     #[test]
-    fn names_a_mode_without_a_limit(rt: HostRuntime) {
-        names(&rt, &[], Mode::Eth, None);
-        names(&rt, &["feed"], Mode::Feed, None);
-        let mode = Mode::EtherType(EtherType(0x88e5));
-        names(&rt, &["type", "88E5"], mode, None);
-        refuses(&rt, &["eth", "fcs"]);
-    }
-
-    #[test]
-    fn names_a_limit_after_any_mode(rt: HostRuntime) {
-        names(&rt, &["eth", "limit", "1"], Mode::Eth, Some(1));
-        names(&rt, &["fcs", "limit", "20"], Mode::Fcs, Some(20));
-        names(&rt, &["sll", "limit", "300"], Mode::Sll, Some(300));
-        names(&rt, &["feed", "limit", "4567"], Mode::Feed, Some(4567));
-        let mode = Mode::EtherType(EtherType(0x8100));
-        names(&rt, &["type", "8100", "limit", "8"], mode, Some(8));
-    }
-
-    #[test]
-    fn reads_one_to_four_digits(rt: HostRuntime) {
-        let limits = [
-            ("0", 0),
-            ("9", 9),
-            ("10", 10),
-            ("9999", 9999),
-            ("0000", 0),
-            ("0007", 7),
+    fn words_that_name_a_mode_and_a_limit(rt: HostRuntime) {
+        let examples: [(&[&str], Mode, Option<usize>); 26] = [
+            (&[], Mode::Eth, None),
+            (&["eth"], Mode::Eth, None),
+            (&["fcs"], Mode::Fcs, None),
+            (&["sll"], Mode::Sll, None),
+            (&["feed"], Mode::Feed, None),
+            (&["type", "0806"], ether_type(0x0806), None),
+            (&["type", "88E5"], ether_type(0x88e5), None),
+            (&["type", "88e5"], ether_type(0x88e5), None),
+            (&["type", "aBcD"], ether_type(0xabcd), None),
+            (&["type", "Ef01"], ether_type(0xef01), None),
+            (&["type", "0000"], ether_type(0), None),
+            (&["type", "FFFF"], ether_type(65535), None),
+            (&["type", "1000"], ether_type(4096), None),
+            (&["eth", "limit", "1"], Mode::Eth, Some(1)),
+            (&["fcs", "limit", "20"], Mode::Fcs, Some(20)),
+            (&["sll", "limit", "300"], Mode::Sll, Some(300)),
+            (&["feed", "limit", "4567"], Mode::Feed, Some(4567)),
+            (&["type", "8100", "limit", "8"], ether_type(0x8100), Some(8)),
+            (&["eth", "limit", "0"], Mode::Eth, Some(0)),
+            (&["eth", "limit", "9"], Mode::Eth, Some(9)),
+            (&["eth", "limit", "10"], Mode::Eth, Some(10)),
+            (&["eth", "limit", "999"], Mode::Eth, Some(999)),
+            (&["eth", "limit", "9999"], Mode::Eth, Some(9999)),
+            (&["eth", "limit", "0000"], Mode::Eth, Some(0)),
+            (&["eth", "limit", "0007"], Mode::Eth, Some(7)),
+            (
+                &["type", "FFFF", "limit", "0010"],
+                ether_type(65535),
+                Some(10),
+            ),
         ];
-        for (digits, limit) in limits {
-            names(&rt, &["eth", "limit", digits], Mode::Eth, Some(limit));
+        for (words, mode, limit) in examples {
+            assert_eq!(rt; command_of(words), Ok((mode, limit)), "{words:?}");
+        }
+    }
+
+    /// Words that name no mode, and a limit without a mode, without its number or with other words.
+    const REFUSED: &[&[&str]] = &[
+        &["Eth"],
+        &["et"],
+        &["eth "],
+        &[""],
+        &["FCS"],
+        &["fc"],
+        &["sll1"],
+        &["type"],
+        &["Feed"],
+        &["fee"],
+        &["feeds"],
+        &["88E5"],
+        &["eth", "eth"],
+        &["fcs", "88E5"],
+        &["sll", ""],
+        &["eth", "fcs"],
+        &["feed", "eth"],
+        &["feed", "88E5"],
+        &["Type", "88E5"],
+        &["types", "88E5"],
+        &["", "88E5"],
+        &["eth", "88E5"],
+        &["type", "88E5", "88E5"],
+        &["88E5", "type"],
+        &["limit"],
+        &["limit", "1"],
+        &["limit", "1", "eth"],
+        &["limit", "limit", "1"],
+        &["type", "limit", "1"],
+        &["et", "limit", "1"],
+        &["type", "88E", "limit", "1"],
+        &["eth", "fcs", "limit", "1"],
+        &["eth", "limit"],
+        &["type", "88E5", "limit"],
+        &["eth", "1"],
+        &["eth", "1", "limit"],
+        &["eth", "limits", "1"],
+        &["eth", "limit", "limit", "1"],
+        &["eth", "limit", "1", "limit"],
+        &["eth", "limit", "1", "limit", "1"],
+    ];
+
+    #[test]
+    fn other_words_are_refused(rt: HostRuntime) {
+        for words in REFUSED {
+            assert_eq!(rt; command_of(words), Err(Usage), "{words:?}");
         }
     }
 
     #[test]
-    fn refuses_a_limit_without_a_mode(rt: HostRuntime) {
-        refuses(&rt, &["limit"]);
-        refuses(&rt, &["limit", "1"]);
-        refuses(&rt, &["limit", "1", "eth"]);
-        refuses(&rt, &["limit", "limit", "1"]);
-        refuses(&rt, &["type", "limit", "1"]);
-        refuses(&rt, &["et", "limit", "1"]);
-        refuses(&rt, &["type", "88E", "limit", "1"]);
-        refuses(&rt, &["eth", "fcs", "limit", "1"]);
-    }
-
-    #[test]
-    fn refuses_a_limit_without_its_number(rt: HostRuntime) {
-        refuses(&rt, &["eth", "limit"]);
-        refuses(&rt, &["type", "88E5", "limit"]);
-        refuses(&rt, &["eth", "1"]);
-        refuses(&rt, &["eth", "1", "limit"]);
-        refuses(&rt, &["eth", "limits", "1"]);
-        refuses(&rt, &["eth", "limit", "limit", "1"]);
-        refuses(&rt, &["eth", "limit", "1", "limit"]);
-        refuses(&rt, &["eth", "limit", "1", "limit", "1"]);
-    }
-
-    #[test]
-    fn refuses_other_words_after_limit(rt: HostRuntime) {
-        let others = [
+    fn other_digits_are_refused(rt: HostRuntime) {
+        let types = [
+            "", "8", "88", "88E", "88E50", "088E5", "88E5 ", "88Eg", "88G5", "8/E5", "8:E5",
+            "0x88", " 88E", "+88E", "-806", "88_5", "88\u{e9}", "eth",
+        ];
+        let limits = [
             "", "12345", "00001", "+1", "-1", " 1", "1 ", "0x1", "F", "1.0", "\u{663}", "/", ":",
         ];
-        for digits in others {
-            refuses(&rt, &["eth", "limit", digits]);
+        for digits in types {
+            assert_eq!(rt; command_of(&["type", digits]), Err(Usage), "type {digits}");
+        }
+        for digits in limits {
+            assert_eq!(rt;
+                command_of(&["eth", "limit", digits]),
+                Err(Usage),
+                "limit {digits}"
+            );
         }
     }
 }

@@ -113,72 +113,73 @@ pub fn program_status(outcome: &Outcome, is_printed: bool) -> u8
 #[cfg(test)]
 mod tests {
     use super::*;
+    use crate::mode::Mode;
+    use etherparse::EtherType;
     use std::test::Fail;
-
-    #[test]
-    fn gives_each_outcome_its_status(rt: HostRuntime) {
-        assert_eq!(rt; status_of(&Ok(Verdict::AllAccepted)), 0);
-        assert_eq!(rt; status_of(&Ok(Verdict::SomeRefused)), 1);
-        assert_eq!(rt; status_of(&Err(ToolFault::BadLine(7))), 3);
-        assert_eq!(rt; status_of(&Err(ToolFault::Input)), 4);
-        assert_eq!(rt; status_of(&Err(ToolFault::Output)), 4);
-    }
 
     #[test]
     fn ends_with_a_line_and_a_status(rt: HostRuntime) -> Result<(), Fail> {
         let endings = [
+            (Ok(Ok(Verdict::AllAccepted)), "None", 0),
+            (Ok(Ok(Verdict::SomeRefused)), "None", 1),
+            (Ok(Err(ToolFault::Input)), "None", 4),
+            (Ok(Err(ToolFault::Output)), "None", 4),
             (
                 Err(Usage),
-                "usage: ether_tool eth | fcs | sll | type XXXX | feed [limit N]",
+                "Some(usage: ether_tool eth | fcs | sll | type XXXX | feed [limit N])",
                 2,
             ),
-            (Ok(Err(ToolFault::BadLine(12))), "line 12: bad line", 3),
+            (
+                Ok(Err(ToolFault::BadLine(12))),
+                "Some(line 12: bad line)",
+                3,
+            ),
         ];
         for (outcome, text, status) in endings {
-            let line = last_line(&outcome).ok_or("a line")?;
-            assert_eq!(rt; format!(in rt.alloc(); "{line}")?.as_str(), text);
-            assert_eq!(rt; program_status(&outcome, true), status);
-            assert_eq!(rt; program_status(&outcome, false), 4);
+            let line = match last_line(&outcome) {
+                Some(line) => format!(in rt.alloc(); "Some({line})")?,
+                None => format!(in rt.alloc(); "None")?,
+            };
+            assert_eq!(rt;
+                (
+                    line.as_str(),
+                    program_status(&outcome, true),
+                    program_status(&outcome, false),
+                    outcome.map_or(2, |outcome| status_of(&outcome))
+                ),
+                (text, status, 4, status)
+            );
         }
         Ok(())
     }
 
     #[test]
-    fn ends_with_a_status_alone(rt: HostRuntime) {
-        let silent = [
-            (Ok(Verdict::AllAccepted), 0),
-            (Ok(Verdict::SomeRefused), 1),
-            (Err(ToolFault::Input), 4),
-            (Err(ToolFault::Output), 4),
+    fn shown_texts(rt: HostRuntime) -> Result<(), Fail> {
+        let faults = [
+            (ToolFault::BadLine(12), "line 12: bad line", "BadLine(12)"),
+            (ToolFault::Input, "input failed", "Input"),
+            (ToolFault::Output, "output failed", "Output"),
         ];
-        for (outcome, status) in silent {
-            let outcome = Ok(outcome);
-            assert_eq!(rt; last_line(&outcome), None);
-            assert_eq!(rt; program_status(&outcome, true), status);
+        for (fault, text, debug) in faults {
+            let shown = format!(in rt.alloc(); "{fault}, {fault:?}")?;
+            assert_eq!(rt;
+                shown.as_str(),
+                format!(in rt.alloc(); "{text}, {debug}")?.as_str()
+            );
         }
-    }
-
-    #[test]
-    fn shows_faults(rt: HostRuntime) -> Result<(), Fail> {
-        let texts = [
-            (ToolFault::BadLine(12), "line 12: bad line"),
-            (ToolFault::Input, "input failed"),
-            (ToolFault::Output, "output failed"),
-        ];
-        for (fault, text) in texts {
-            assert_eq!(rt; format!(in rt.alloc(); "{fault}")?.as_str(), text);
-        }
+        let shown = format!(in rt.alloc();
+            "{:?}",
+            (
+                Verdict::SomeRefused,
+                Mode::EtherType(EtherType(0x0806)),
+                Mode::Feed,
+                Usage
+            )
+        )?;
+        assert_eq!(rt;
+            shown.as_str(),
+            "(SomeRefused, EtherType(0x0806 (Address Resolution Protocol (ARP))), Feed, Usage)"
+        );
         Ok(())
-    }
-
-    #[test]
-    fn faults_are_equal_where_their_lines_are(rt: HostRuntime) {
-        assert!(rt; ToolFault::BadLine(1) == ToolFault::BadLine(1));
-        assert!(rt; ToolFault::BadLine(1) != ToolFault::BadLine(2));
-        assert!(rt; ToolFault::BadLine(1) != ToolFault::Input);
-        assert!(rt; ToolFault::Input != ToolFault::Output);
-        assert!(rt; Verdict::AllAccepted != Verdict::SomeRefused);
-        assert!(rt; LastLine::BadLine(1) != LastLine::BadLine(2));
-        assert!(rt; LastLine::BadLine(1) != LastLine::Usage);
     }
 }

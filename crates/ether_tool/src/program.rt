@@ -65,33 +65,12 @@ mod tests {
         Ok(all.into_iter())
     }
 
-    /// Ends with this status after it has written this text.
-    fn ends<R: AllocGlobal + Abort>(
-        rt: &R,
-        words: &[&str],
-        input: &[u8],
-        text: &[u8],
-        status: u8,
-    ) -> Result<(), Fail> {
-        let mut left = input;
-        let mut output = ArrayVec::<u8, 1024>::new();
-        let ended = program(Ok(args(rt, words)?), &mut left, &mut output);
-        assert_eq!(rt; output.as_slice(), text);
-        assert_eq!(rt; ended, status);
-        Ok(())
-    }
-
-    #[test]
-    fn ends_with_0_after_accepted_frames(rt: HostRuntime) -> Result<(), Fail> {
-        ends(&rt, &[], PLAIN, PLAIN_ANSWER, 0)?;
-        ends(&rt, &["eth"], TAGGED, TAGGED_ANSWER, 0)?;
-        ends(&rt, &["fcs"], b"", b"", 0)
-    }
-
-    #[test]
-    fn ends_with_1_after_a_refused_frame(rt: HostRuntime) -> Result<(), Fail> {
-        ends(
-            &rt,
+    /// Words, a capture's lines, the text that is written and the exit status.
+    const RUNS: &[(&[&str], &[u8], &[u8], u8)] = &[
+        (&[], PLAIN, PLAIN_ANSWER, 0),
+        (&["eth"], TAGGED, TAGGED_ANSWER, 0),
+        (&["fcs"], b"", b"", 0),
+        (
             &["eth"],
             b"ffffffffffff3aeeb62ff6d788a80001810000\nffffffffffff0200000000010800\n",
             b"ethernet2 0 ffffffffffff 3aeeb62ff6d7 0x88A8\n\
@@ -100,65 +79,54 @@ fault 18 open length 4 1 slice\n\
 ethernet2 0 ffffffffffff 020000000001 0x0800\n\
 rest 14 14 type 0x0800\n",
             1,
-        )
-    }
-
-    #[test]
-    fn reads_no_more_tags_than_the_limit(rt: HostRuntime) -> Result<(), Fail> {
-        ends(
-            &rt,
+        ),
+        (
             &["eth", "limit", "1"],
             b"ffffffffffff3aeeb62ff6d788a80001810000",
             b"ethernet2 0 ffffffffffff 3aeeb62ff6d7 0x88A8\n\
 vlan 14 pcp 0 dei 0 vid 1 0x8100\n\
 rest 18 19 type 0x8100\n",
             0,
-        )
-    }
-
-    #[test]
-    fn ends_with_3_after_a_bad_line(rt: HostRuntime) -> Result<(), Fail> {
-        ends(&rt, &["eth"], b"abc", b"line 1: bad line\n", 3)?;
-        ends(
-            &rt,
+        ),
+        (&["eth"], b"abc", b"line 1: bad line\n", 3),
+        (
             &["type", "8100"],
             b"b1230800\n0g\nb1230800\n",
             b"vlan 0 pcp 5 dei 1 vid 291 0x0800\nrest 4 4 type 0x0800\nline 2: bad line\n",
             3,
-        )
+        ),
+        (&["ether"], PLAIN, USAGE_LINE, 2),
+        (&["type"], PLAIN, USAGE_LINE, 2),
+        (&["eth", "limit"], PLAIN, USAGE_LINE, 2),
+        (&["eth", "limit", "1", "eth"], PLAIN, USAGE_LINE, 2),
+        (&["eth", "limit", "1", "eth", "fcs"], PLAIN, USAGE_LINE, 2),
+    ];
+
+    const USAGE_LINE: &[u8] = b"usage: ether_tool eth | fcs | sll | type XXXX | feed [limit N]\n";
+
+    #[test]
+    fn texts_and_statuses(rt: HostRuntime) -> Result<(), Fail> {
+        for (words, input, text, status) in RUNS {
+            let mut left = *input;
+            let mut output = ArrayVec::<u8, 1024>::new();
+            let ended = program(Ok(args(&rt, words)?), &mut left, &mut output);
+            assert_eq!(rt; (output.as_slice(), ended), (*text, *status), "{words:?}");
+        }
+        Ok(())
     }
 
     #[test]
-    fn ends_with_2_after_wrong_words(rt: HostRuntime) -> Result<(), Fail> {
-        let usage = b"usage: ether_tool eth | fcs | sll | type XXXX | feed [limit N]\n";
-        ends(&rt, &["ether"], PLAIN, usage, 2)?;
-        ends(&rt, &["type"], PLAIN, usage, 2)?;
-        ends(&rt, &["eth", "limit"], PLAIN, usage, 2)?;
-        ends(&rt, &["eth", "limit", "1", "eth"], PLAIN, usage, 2)?;
-        ends(&rt, &["eth", "limit", "1", "eth", "fcs"], PLAIN, usage, 2)
-    }
-
-    #[test]
-    fn ends_with_4_if_the_arguments_cannot_be_read(rt: HostRuntime) {
+    fn status_4_without_arguments_or_without_room(rt: HostRuntime) -> Result<(), Fail> {
         let mut left = PLAIN;
-        let mut output = ArrayVec::<u8, 1024>::new();
-        let unread = Err(io::Error::from(ErrorKind::InvalidData));
-        assert_eq!(rt; program(unread, &mut left, &mut output), 4);
-        assert_eq!(rt; left, PLAIN);
-        assert!(rt; output.is_empty());
-    }
-
-    #[test]
-    fn ends_with_4_if_the_last_line_is_not_printed(rt: HostRuntime) -> Result<(), Fail> {
         let mut output = ArrayVec::<u8, 16>::new();
-        let ended = program(
-            Ok(args(&rt, &["eth"])?),
-            &mut b"abc".as_slice(),
-            &mut output,
-        );
-        assert_eq!(rt; ended, 4);
-        let ended = program(Ok(args(&rt, &["ether"])?), &mut b"".as_slice(), &mut output);
-        assert_eq!(rt; ended, 4);
+        let unread = Err(io::Error::from(ErrorKind::InvalidData));
+        let ended = program(unread, &mut left, &mut output);
+        assert_eq!(rt; (ended, left, output.is_empty()), (4, PLAIN, true));
+        // the last line is not printed
+        for words in [["eth"], ["ether"]] {
+            let ended = program(Ok(args(&rt, &words)?), &mut b"abc".as_slice(), &mut output);
+            assert_eq!(rt; ended, 4, "{words:?}");
+        }
         Ok(())
     }
 }

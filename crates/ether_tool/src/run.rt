@@ -118,6 +118,4 @@ mod format_tests;
 #[cfg(test)]
 mod limit_tests;
 #[cfg(test)]
-mod source_tests;
-#[cfg(test)]
 mod tests;

@@ -1,2 +1,4 @@
-//! Tests of the crate as a whole.
+//! Tests of the crate as a whole, and of the lines below it, which are proved without tests.
 mod derived_traits;
+mod text;
+mod text_traits;

@@ -5,88 +5,82 @@ use crate::outcome::{CaptureFault, RunFault};
 use crate::run::run;
 use arrayvec::ArrayVec;
 use ether_pcap::{BlockError, CaptureError, FileHeaderError, RecordError};
-use std::process::Abort;
-use std::test::Fail;
 
-/// Compares why a run stops, and where, and how much it wrote before.
-fn stops<R: Abort>(rt: &R, capture: &[u8], text: &[u8], offset: usize, error: CaptureError) {
-    let mut left = capture;
-    let mut output = ArrayVec::<u8, 2048>::new();
-    let fault = RunFault::Capture(CaptureFault { offset, error });
-    assert_eq!(*rt; run(false, &mut left, &mut output), Err(fault));
-    assert_eq!(*rt; output.as_slice(), text);
+const fn record(required_len: usize, len: usize) -> CaptureError {
+    CaptureError::Record(RecordError::Len { required_len, len })
 }
 
+/// Why a run stops, and where, and how much it wrote before.
 #[test]
-fn with_a_record_that_is_cut(rt: HostRuntime) {
+fn of_captures_that_break_off(rt: HostRuntime) {
     let lines = &CLASSIC_LINES[..178];
-    let error = RecordError::Len {
-        required_len: 62,
-        len: 61,
-    };
-    stops(&rt, &CLASSIC[..120], lines, 59, CaptureError::Record(error));
-    let error = RecordError::Len {
-        required_len: 16,
-        len: 1,
-    };
-    stops(&rt, &CLASSIC[..60], lines, 59, CaptureError::Record(error));
-}
-
-#[test]
-fn with_another_magic_number(rt: HostRuntime) {
-    let error = FileHeaderError::Magic(0x0002_0004);
-    stops(&rt, &CLASSIC[4..], b"", 0, CaptureError::File(error));
-}
-
-#[test]
-fn with_no_byte(rt: HostRuntime) {
-    let error = FileHeaderError::Len {
+    let mut unequal = SECTIONS;
+    unequal[44] = 0x18;
+    let mut no_interface = [0; 76];
+    no_interface[..28].copy_from_slice(&SECTIONS[..28]);
+    no_interface[28..].copy_from_slice(&SECTIONS[96..144]);
+    let mut long = [0; 24 + 73_729];
+    long[..24].copy_from_slice(&CLASSIC[..24]);
+    long[32..36].copy_from_slice(&[0x00, 0x01, 0x1F, 0xF1]);
+    let magic = CaptureError::File(FileHeaderError::Magic(0x0002_0004));
+    let none = CaptureError::File(FileHeaderError::Len {
         required_len: 24,
         len: 0,
-    };
-    stops(&rt, b"", b"", 0, CaptureError::File(error));
-}
-
-#[test]
-fn with_a_block_whose_lengths_differ(rt: HostRuntime) {
-    let mut capture = SECTIONS;
-    capture[44] = 0x18;
-    let error = BlockError::Trailer {
+    });
+    let trailer = CaptureError::Block(BlockError::Trailer {
         total_len: 20,
         trailer: 24,
-    };
-    stops(&rt, &capture, b"", 28, CaptureError::Block(error));
+    });
+    let examples: [(&str, &[u8], &[u8], usize, CaptureError); 7] = [
+        (
+            "a record that is cut",
+            &CLASSIC[..120],
+            lines,
+            59,
+            record(62, 61),
+        ),
+        (
+            "a record's header that is cut",
+            &CLASSIC[..60],
+            lines,
+            59,
+            record(16, 1),
+        ),
+        ("another magic number", &CLASSIC[4..], b"", 0, magic),
+        ("no byte", b"", b"", 0, none),
+        ("a block whose lengths differ", &unequal, b"", 28, trailer),
+        (
+            "a packet of no interface",
+            &no_interface,
+            b"",
+            28,
+            CaptureError::NoInterface(0),
+        ),
+        (
+            "a record above the room",
+            &long,
+            b"",
+            24,
+            record(73_729, 73_728),
+        ),
+    ];
+    for (name, mut capture, text, offset, error) in examples {
+        let mut output = ArrayVec::<u8, 2048>::new();
+        let ended = run(false, &mut capture, &mut output);
+        let fault = RunFault::Capture(CaptureFault { offset, error });
+        assert_eq!(rt; (output.as_slice(), ended), (text, Err(fault)), "{name}");
+    }
 }
 
 #[test]
-fn with_a_packet_of_no_interface(rt: HostRuntime) {
-    let mut capture = [0; 76];
-    capture[..28].copy_from_slice(&SECTIONS[..28]);
-    capture[28..].copy_from_slice(&SECTIONS[96..144]);
-    stops(&rt, &capture, b"", 28, CaptureError::NoInterface(0));
-}
-
-/// A record of 73,728 bytes is read, and one of 73,729 is not.
-#[test]
-fn with_a_record_above_the_room(rt: HostRuntime) -> Result<(), Fail> {
-    let error = RecordError::Len {
-        required_len: 73_729,
-        len: 73_728,
-    };
+fn of_a_record_as_long_as_the_room(rt: HostRuntime) {
     let mut capture = [0; 24 + 73_729];
     capture[..24].copy_from_slice(&CLASSIC[..24]);
-    capture[32..36].copy_from_slice(&[0x00, 0x01, 0x1F, 0xF1]);
-    stops(&rt, &capture, b"", 24, CaptureError::Record(error));
-    capture[35] = 0xF0;
+    capture[32..36].copy_from_slice(&[0x00, 0x01, 0x1F, 0xF0]);
     let mut output = ArrayVec::<u8, 256>::new();
-    let end = &mut capture.as_slice();
-    assert!(rt; run(false, end, &mut output).is_err());
-    assert_eq!(rt;
-        output.as_slice(),
-        b"frame 1 time 0.000000000 link 1 captured 73712 original 0\n\
+    let is_refused = run(false, &mut capture.as_slice(), &mut output).is_err();
+    let text = b"frame 1 time 0.000000000 link 1 captured 73712 original 0\n\
 ethernet2 0 000000000000 000000000000 0x0000\n\
-rest 14 73712 type 0x0000\n"
-            .as_slice()
-    );
-    Ok(())
+rest 14 73712 type 0x0000\n";
+    assert_eq!(rt; (output.as_slice(), is_refused), (text.as_slice(), true));
 }

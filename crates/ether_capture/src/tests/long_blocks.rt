@@ -7,7 +7,6 @@ use arrayvec::ArrayVec;
 use ether_pcap::{BlockError, CaptureError};
 use ether_text::Verdict;
 use std::io::{self, ErrorKind, Read};
-use std::process::Abort;
 
 /// The lines of the first packet, and of the second one with the totals.
 const FIRST: &[u8] = b"frame 1 time 1700000000.123456000 link 1 captured 14 original 46 cut\n\
@@ -97,86 +96,6 @@ impl Read for Long {
     }
 }
 
-/// Compares how a run ends, how much it wrote, and how much it read.
-fn ends<R: Abort>(
-    rt: &R,
-    capture: &mut Long,
-    text: &[u8],
-    ended: &Result<Verdict, RunFault>,
-    calls: Option<u64>,
-) {
-    let mut output = ArrayVec::<u8, 1024>::new();
-    assert_eq!(*rt; &run(false, capture, &mut output), ended);
-    assert_eq!(*rt; output.as_slice(), text);
-    if let Some(calls) = calls {
-        assert_eq!(*rt; capture.calls, calls);
-    }
-}
-
-#[test]
-fn above_the_room(rt: HostRuntime) {
-    for total_len in [73_728, 73_732, 100_000, 16_777_216] {
-        let mut capture = Long::new(total_len, total_len, usize::MAX);
-        ends(&rt, &mut capture, BOTH, &Ok(Verdict::SomeRefused), None);
-    }
-}
-
-#[test]
-fn in_pieces(rt: HostRuntime) {
-    for step in [1, 3, 7, 50] {
-        let mut capture = Long::new(100_000, 100_000, step);
-        ends(&rt, &mut capture, BOTH, &Ok(Verdict::SomeRefused), None);
-        let mut capture = Long::new(73_732, 73_732, step);
-        ends(&rt, &mut capture, BOTH, &Ok(Verdict::SomeRefused), None);
-    }
-}
-
-/// Why a run stops at the block.
-fn stops(error: BlockError) -> Result<Verdict, RunFault> {
-    Err(RunFault::Capture(CaptureFault {
-        offset: PLACE,
-        error: CaptureError::Block(error),
-    }))
-}
-
-#[test]
-fn whose_lengths_differ(rt: HostRuntime) {
-    for step in [1, 3, usize::MAX] {
-        let error = BlockError::Trailer {
-            total_len: 100_000,
-            trailer: 99_996,
-        };
-        let mut capture = Long::new(100_000, 99_996, step);
-        ends(&rt, &mut capture, FIRST, &stops(error), None);
-    }
-}
-
-#[test]
-fn above_the_greatest_length(rt: HostRuntime) {
-    let error = BlockError::TotalLen(16_777_220);
-    let mut capture = Long::new(16_777_220, 16_777_220, usize::MAX);
-    ends(&rt, &mut capture, FIRST, &stops(error), Some(2));
-}
-
-/// A capture of 80,000 bytes more than are before the block, and one of all but two bytes of the block.
-#[test]
-fn that_are_cut(rt: HostRuntime) {
-    for len in [80_000, 99_998] {
-        let capture = Long::new(100_000, 100_000, usize::MAX);
-        let mut front = Front {
-            capture,
-            left: PLACE + len,
-        };
-        let mut output = ArrayVec::<u8, 1024>::new();
-        let error = BlockError::Len {
-            required_len: 100_000,
-            len,
-        };
-        assert_eq!(rt; run(false, &mut front, &mut output), stops(error));
-        assert_eq!(rt; output.as_slice(), FIRST);
-    }
-}
-
 /// As many bytes of a capture.
 #[derive(Drop)]
 struct Front {
@@ -193,13 +112,81 @@ impl Read for Front {
     }
 }
 
-/// The line of the packet before has been written. The third read is the first one after the buffer was full of the block, the fourth
-/// one gives its end.
+/// Why a run stops at the block.
+fn stops(error: BlockError) -> Result<Verdict, RunFault> {
+    Err(RunFault::Capture(CaptureFault {
+        offset: PLACE,
+        error: CaptureError::Block(error),
+    }))
+}
+
+/// A block of these two lengths in a capture of which so many bytes are given from the block on, what is written and how the run ends.
 #[test]
-fn with_a_read_that_fails(rt: HostRuntime) {
-    for fault in [3, 4] {
-        let mut capture = Long::new(100_000, 100_000, usize::MAX);
+fn whole_cut_and_with_other_lengths(rt: HostRuntime) {
+    let whole = usize::MAX - PLACE;
+    let trailer = BlockError::Trailer {
+        total_len: 100_000,
+        trailer: 99_996,
+    };
+    let cut = |len: usize| BlockError::Len {
+        required_len: 100_000,
+        len,
+    };
+    for (total_len, trailer, len, text, wanted) in [
+        (73_728, 73_728, whole, BOTH, Ok(Verdict::SomeRefused)),
+        (73_732, 73_732, whole, BOTH, Ok(Verdict::SomeRefused)),
+        (100_000, 100_000, whole, BOTH, Ok(Verdict::SomeRefused)),
+        (
+            16_777_216,
+            16_777_216,
+            whole,
+            BOTH,
+            Ok(Verdict::SomeRefused),
+        ),
+        (100_000, 99_996, whole, FIRST, stops(trailer)),
+        (
+            16_777_220,
+            16_777_220,
+            whole,
+            FIRST,
+            stops(BlockError::TotalLen(16_777_220)),
+        ),
+        (100_000, 100_000, 80_000, FIRST, stops(cut(80_000))),
+        (100_000, 100_000, 99_998, FIRST, stops(cut(99_998))),
+    ] {
+        for step in [1, 3, 7, 50, usize::MAX] {
+            let mut front = Front {
+                capture: Long::new(total_len, trailer, step),
+                left: PLACE.saturating_add(len),
+            };
+            let mut output = ArrayVec::<u8, 1024>::new();
+            let ended = run(false, &mut front, &mut output);
+            assert_eq!(rt;
+                (output.as_slice(), &ended),
+                (text, &wanted),
+                "{total_len} and {trailer} in pieces of {step}"
+            );
+        }
+    }
+}
+
+/// The line of the packet before has been written. A block above the greatest length is refused after the second read. The third read is
+/// the first one after the buffer was full of a block, the fourth one gives its end.
+#[test]
+fn with_no_read_after_a_fault(rt: HostRuntime) {
+    let refused = stops(BlockError::TotalLen(16_777_220));
+    for (total_len, fault, calls, wanted) in [
+        (16_777_220, 0, 2, refused),
+        (100_000, 3, 3, Err(RunFault::Input)),
+        (100_000, 4, 4, Err(RunFault::Input)),
+    ] {
+        let mut capture = Long::new(total_len, total_len, usize::MAX);
         capture.fault = fault;
-        ends(&rt, &mut capture, FIRST, &Err(RunFault::Input), Some(fault));
+        let mut output = ArrayVec::<u8, 1024>::new();
+        let ended = run(false, &mut capture, &mut output);
+        assert_eq!(rt;
+            (output.as_slice(), ended, capture.calls),
+            (FIRST, wanted, calls)
+        );
     }
 }

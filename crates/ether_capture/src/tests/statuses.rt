@@ -4,7 +4,6 @@ use crate::program::program;
 use arrayvec::ArrayVec;
 use std::alloc::Global;
 use std::io::ErrorKind;
-use std::process::Abort;
 use std::test::Fail;
 use std::{env, io};
 
@@ -18,80 +17,82 @@ fn args<R: AllocGlobal>(rt: &R, words: &[&str]) -> Result<env::Args, Fail> {
     Ok(all.into_iter())
 }
 
-/// Ends with this status after it has written this text.
-fn ends<R: AllocGlobal + Abort>(
-    rt: &R,
-    words: &[&str],
-    capture: &[u8],
-    text: &[u8],
-    status: u8,
-) -> Result<(), Fail> {
-    let mut left = capture;
-    let mut output = ArrayVec::<u8, 1024>::new();
-    let ended = program(Ok(args(rt, words)?), &mut left, &mut output);
-    assert_eq!(*rt; output.as_slice(), text);
-    assert_eq!(*rt; ended, status);
+/// What is written for these words and captures, and the status.
+#[test]
+fn after_words_and_captures(rt: HostRuntime) -> Result<(), Fail> {
+    let usage = b"usage: ether_capture [--plain] < capture\n".as_slice();
+    let mut long = [0; 24 + 73_728];
+    long[..24].copy_from_slice(&CLASSIC[..24]);
+    long[32..36].copy_from_slice(&[0x00, 0x01, 0x1F, 0xF1]);
+    let examples: [(&[&str], &[u8], &[u8], u8); 10] = [
+        (
+            &["--plain"],
+            &WITH_FCS,
+            b"ethernet2 0 020000000001 020000000002 0x88B5 fcs e9c0cdc8\n\
+rest 14 16 type 0x88B5\n\
+ethernet2 0 020000000001 020000000002 0x88B5\n\
+rest 14 16 type 0x88B5\n",
+            0,
+        ),
+        (&[], &WITH_FCS[..24], b"total frames 0 skipped 0\n", 0),
+        (
+            &["--plain"],
+            &CLASSIC[..59],
+            b"ethernet2 0 ffffffffffff 3aeeb62ff6d7 0x88A8\n\
+vlan 14 pcp 0 dei 0 vid 1 0x8100\n\
+fault 18 open length 4 1 slice\n",
+            1,
+        ),
+        (&["plain"], &CLASSIC, usage, 2),
+        (&["--plain", "--plain"], &CLASSIC, usage, 2),
+        (&[""], &CLASSIC, usage, 2),
+        (
+            &["--plain"],
+            &CLASSIC[..58],
+            b"byte 24: A record of a pcap file needs 35 byte(s); only 34 are available.\n",
+            3,
+        ),
+        (
+            &[],
+            &CLASSIC[4..],
+            b"byte 0: The magic number 0x00020004 is not that of a pcap file.\n",
+            3,
+        ),
+        // The record is longer than what is read at once.
+        (
+            &[],
+            &long,
+            b"byte 24: A record of a pcap file needs 73729 byte(s); only 73728 are available. \
+At most 73728 bytes are read at once.\n",
+            3,
+        ),
+        // The capture ends within the record.
+        (
+            &[],
+            &long[..124],
+            b"byte 24: A record of a pcap file needs 73729 byte(s); only 100 are available.\n",
+            3,
+        ),
+    ];
+    for (words, capture, text, status) in examples {
+        let mut left = capture;
+        let mut output = ArrayVec::<u8, 1024>::new();
+        let ended = program(Ok(args(&rt, words)?), &mut left, &mut output);
+        assert_eq!(rt; (output.as_slice(), ended), (text, status), "{words:?}");
+    }
     Ok(())
 }
 
 #[test]
-fn zero_if_each_frame_is_accepted(rt: HostRuntime) -> Result<(), Fail> {
-    let lines = b"ethernet2 0 020000000001 020000000002 0x88B5 fcs e9c0cdc8\n\
-rest 14 16 type 0x88B5\n\
-ethernet2 0 020000000001 020000000002 0x88B5\n\
-rest 14 16 type 0x88B5\n";
-    ends(&rt, &["--plain"], &WITH_FCS, lines, 0)?;
-    let total = b"total frames 0 skipped 0\n";
-    ends(&rt, &[], &WITH_FCS[..24], total, 0)
-}
-
-#[test]
-fn one_if_a_frame_is_refused(rt: HostRuntime) -> Result<(), Fail> {
-    let lines = b"ethernet2 0 ffffffffffff 3aeeb62ff6d7 0x88A8\n\
-vlan 14 pcp 0 dei 0 vid 1 0x8100\n\
-fault 18 open length 4 1 slice\n";
-    ends(&rt, &["--plain"], &CLASSIC[..59], lines, 1)
-}
-
-#[test]
-fn two_after_wrong_words(rt: HostRuntime) -> Result<(), Fail> {
-    let usage = b"usage: ether_capture [--plain] < capture\n";
-    ends(&rt, &["plain"], &CLASSIC, usage, 2)?;
-    ends(&rt, &["--plain", "--plain"], &CLASSIC, usage, 2)?;
-    ends(&rt, &[""], &CLASSIC, usage, 2)
-}
-
-#[test]
-fn three_if_the_capture_breaks_off(rt: HostRuntime) -> Result<(), Fail> {
-    let line = b"byte 24: A record of a pcap file needs 35 byte(s); only 34 are available.\n";
-    ends(&rt, &["--plain"], &CLASSIC[..58], line, 3)?;
-    let line = b"byte 0: The magic number 0x00020004 is not that of a pcap file.\n";
-    ends(&rt, &[], &CLASSIC[4..], line, 3)
-}
-
-/// The line says that the record is longer than what is read at once, but not of a capture that ends within it.
-#[test]
-fn three_if_a_record_is_above_the_room(rt: HostRuntime) -> Result<(), Fail> {
-    let mut capture = [0; 24 + 73_728];
-    capture[..24].copy_from_slice(&CLASSIC[..24]);
-    capture[32..36].copy_from_slice(&[0x00, 0x01, 0x1F, 0xF1]);
-    let line = b"byte 24: A record of a pcap file needs 73729 byte(s); only 73728 are available. \
-At most 73728 bytes are read at once.\n";
-    ends(&rt, &[], &capture, line, 3)?;
-    let line = b"byte 24: A record of a pcap file needs 73729 byte(s); only 100 are available.\n";
-    ends(&rt, &[], &capture[..124], line, 3)
-}
-
-#[test]
-fn four_if_a_stream_fails(rt: HostRuntime) -> Result<(), Fail> {
+fn after_a_stream_that_fails(rt: HostRuntime) -> Result<(), Fail> {
     let mut left = CLASSIC.as_slice();
     let mut output = ArrayVec::<u8, 16>::new();
     let unread = Err(io::Error::from(ErrorKind::InvalidData));
-    assert_eq!(rt; program(unread, &mut left, &mut output), 4);
-    assert_eq!(rt; left.len(), CLASSIC.len());
-    let ended = program(Ok(args(&rt, &[])?), &mut left, &mut output);
-    assert_eq!(rt; ended, 4);
-    let ended = program(Ok(args(&rt, &["plain"])?), &mut left, &mut output);
-    assert_eq!(rt; ended, 4);
+    let ended = program(unread, &mut left, &mut output);
+    assert_eq!(rt; (ended, left), (4, CLASSIC.as_slice()));
+    for words in [[].as_slice(), &["plain"]] {
+        let ended = program(Ok(args(&rt, words)?), &mut left, &mut output);
+        assert_eq!(rt; ended, 4, "{words:?}");
+    }
     Ok(())
 }

@@ -156,121 +156,82 @@ fault 0 open length 14 0 slice\n\
 ethernet2 0 ffffffffffff 020000000001 0x0800\n\
 rest 14 15 type 0x0800\n";
 
-/// Runs over memory, with no allocator in reach, and returns the outcome and what was written.
-fn over_memory(mut input: &[u8]) -> (Result<Verdict, ToolFault>, ArrayVec<u8, 32768>) {
-    let mut output = ArrayVec::new();
-    let outcome = run(Mode::Eth, &mut input, &mut output);
-    (outcome, output)
-}
-
-/// Reads a line many times, and is answered as often.
-fn answers_each_line(rt: &impl Abort, line: &[u8], answer: &[u8], times: u64, step: usize) {
-    let mut reader = Repeated {
-        bytes: line,
-        next: 0,
-        times,
-        step,
-    };
-    let mut writer = Counter {
-        wanted: answer,
-        next: 0,
-        times: 0,
-    };
-    let outcome = run(Mode::Eth, &mut reader, &mut writer);
-    assert_eq!(rt; outcome, Ok(AllAccepted), "{step} bytes a read");
+/// Fails if the lines, in pieces of this size, don't have this outcome and text.
+fn answers(
+    rt: &impl Abort,
+    input: &[u8],
+    step: usize,
+    wanted: &Result<Verdict, ToolFault>,
+    text: &[u8],
+) {
+    let mut sink = Sink::new(0);
+    let outcome = run(Mode::Eth, &mut Source::new(input, step, 0), &mut sink);
     assert_eq!(rt;
-        (writer.times, writer.next),
-        (times, 0),
-        "{step} bytes a read"
+        (&outcome, sink.taken.as_slice()),
+        (wanted, text),
+        "{input:?} in pieces of {step}"
     );
 }
 
 #[test]
 fn answers_lines_in_any_pieces(rt: HostRuntime) {
-    for step in 1..40 {
-        let mut sink = Sink::new(0);
-        let outcome = run(Mode::Eth, &mut Source::new(LINES, step, 0), &mut sink);
-        assert_eq!(rt; outcome, Ok(SomeRefused), "in pieces of {step}");
-        assert_eq!(rt; sink.taken.as_slice(), LINES_ANSWER, "in pieces of {step}");
-    }
-}
-
-#[test]
-fn gives_verdicts(rt: HostRuntime) {
-    let examples: [(&[u8], Verdict, &[u8]); 7] = [
-        (b"", AllAccepted, b""),
-        (PLAIN, AllAccepted, PLAIN_ANSWER),
-        (TAGGED, AllAccepted, TAGGED_ANSWER),
-        (CAPTURED, AllAccepted, CAPTURED_ANSWER),
+    let examples: [(&[u8], Result<Verdict, ToolFault>, &[u8]); 17] = [
+        (LINES, Ok(SomeRefused), LINES_ANSWER),
+        (b"", Ok(AllAccepted), b""),
+        (PLAIN, Ok(AllAccepted), PLAIN_ANSWER),
+        (TAGGED, Ok(AllAccepted), TAGGED_ANSWER),
+        (CAPTURED, Ok(AllAccepted), CAPTURED_ANSWER),
         (
             b"ffffffffffff0200000000010800\r\n",
-            AllAccepted,
+            Ok(AllAccepted),
             PLAIN_ANSWER,
         ),
-        (b"\n", SomeRefused, EMPTY_ANSWER),
-        (b"00\r\n", SomeRefused, b"fault 0 open length 14 1 slice\n"),
-    ];
-    for (input, verdict, text) in examples {
-        let (outcome, output) = over_memory(input);
-        assert_eq!(rt; outcome, Ok(verdict));
-        assert_eq!(rt; output.as_slice(), text);
-    }
-}
-
-#[test]
-fn stops_at_a_bad_line(rt: HostRuntime) {
-    let examples: [(&[u8], u64, &[u8]); 9] = [
-        (b"abc", 1, b""),
-        (b"0g", 1, b""),
-        (b"41\r", 1, b""),
-        (b"41\r\r\n", 1, b""),
-        (b"\n0g\n42\n", 2, EMPTY_ANSWER),
-        (b"\r\n4 \n42\n", 2, EMPTY_ANSWER),
-        (b"\n43 ", 2, EMPTY_ANSWER),
-        (b"0x41\nabc\n", 1, b""),
+        (b"\n", Ok(SomeRefused), EMPTY_ANSWER),
+        (
+            b"00\r\n",
+            Ok(SomeRefused),
+            b"fault 0 open length 14 1 slice\n",
+        ),
+        (b"abc", Err(ToolFault::BadLine(1)), b""),
+        (b"0g", Err(ToolFault::BadLine(1)), b""),
+        (b"41\r", Err(ToolFault::BadLine(1)), b""),
+        (b"41\r\r\n", Err(ToolFault::BadLine(1)), b""),
+        (b"\n0g\n42\n", Err(ToolFault::BadLine(2)), EMPTY_ANSWER),
+        (b"\r\n4 \n42\n", Err(ToolFault::BadLine(2)), EMPTY_ANSWER),
+        (b"\n43 ", Err(ToolFault::BadLine(2)), EMPTY_ANSWER),
+        (b"0x41\nabc\n", Err(ToolFault::BadLine(1)), b""),
         (
             b"ffffffffffff0200000000018100b1230800\r\n0",
-            2,
+            Err(ToolFault::BadLine(2)),
             TAGGED_ANSWER,
         ),
     ];
-    for (input, number, text) in examples {
-        stops_at(&rt, input, number, text);
-    }
-}
-
-/// Stops at the bad line of this number, after the text for the lines before it, in chunks of any size.
-fn stops_at(rt: &impl Abort, input: &[u8], number: u64, text: &[u8]) {
-    for step in [1, 5, 4096] {
-        let mut sink = Sink::new(0);
-        let outcome = run(Mode::Eth, &mut Source::new(input, step, 0), &mut sink);
-        assert_eq!(rt; outcome, Err(ToolFault::BadLine(number)));
-        assert_eq!(rt; sink.taken.as_slice(), text);
+    for (input, wanted, text) in &examples {
+        for step in 1..40 {
+            answers(&rt, input, step, wanted, text);
+        }
+        answers(&rt, input, 4096, wanted, text);
     }
 }
 
 #[test]
 fn takes_lines_of_4096_digits(rt: HostRuntime) {
     let mut line = [b'a'; 4100];
-    let (outcome, _) = over_memory(&line[..4096]);
-    assert_eq!(rt; outcome, Ok(AllAccepted));
-    let (outcome, _) = over_memory(&line[..4098]);
-    assert_eq!(rt; outcome, Err(ToolFault::BadLine(1)));
+    let text = b"ethernet2 0 aaaaaaaaaaaa aaaaaaaaaaaa 0xAAAA\nrest 14 2048 type 0xAAAA\n";
+    let bad = Err(ToolFault::BadLine(1));
+    answers(&rt, &line[..4098], 4098, &bad, b"");
     line[4096] = b'\r';
-    let (outcome, _) = over_memory(&line[..4097]);
-    assert_eq!(rt; outcome, Err(ToolFault::BadLine(1)));
+    answers(&rt, &line[..4097], 4097, &bad, b"");
     line[4097] = b'\n';
-    let answer = b"ethernet2 0 aaaaaaaaaaaa aaaaaaaaaaaa 0xAAAA\nrest 14 2048 type 0xAAAA\n";
-    for step in [1, 1000, 4096, 4097, 4098] {
-        let mut sink = Sink::new(0);
-        let mut source = Source::new(&line[..4098], step, 0);
-        let outcome = run(Mode::Eth, &mut source, &mut sink);
-        assert_eq!(rt; outcome, Ok(AllAccepted), "in pieces of {step}");
-        assert_eq!(rt;
-            sink.taken.as_slice(),
-            answer.as_slice(),
-            "in pieces of {step}"
-        );
+    for (len, step) in [
+        (4096, 4096),
+        (4098, 1),
+        (4098, 1000),
+        (4098, 4096),
+        (4098, 4097),
+        (4098, 4098),
+    ] {
+        answers(&rt, &line[..len], step, &Ok(AllAccepted), text);
     }
 }
 
@@ -279,35 +240,57 @@ fn answers_each_length_of_a_frame(rt: HostRuntime) {
     let mut line = [b'0'; 2 * MAX_FRAME_LEN + 1];
     for len in 0..=MAX_FRAME_LEN {
         line[2 * len] = b'\n';
-        let (outcome, output) = over_memory(&line[..=2 * len]);
-        line[2 * len] = b'0';
-        let mut answer = ArrayString::<128>::new();
-        if len < 14 {
-            assert_eq!(rt; outcome, Ok(SomeRefused), "{len} bytes");
-            assert!(rt; writeln!(answer, "fault 0 open length 14 {len} slice").is_ok());
+        let mut text = ArrayString::<128>::new();
+        let (wanted, is_written) = if len < 14 {
+            let written = writeln!(text, "fault 0 open length 14 {len} slice");
+            (Ok(SomeRefused), written.is_ok())
         } else {
-            assert_eq!(rt; outcome, Ok(AllAccepted), "{len} bytes");
             let header = "ethernet2 0 000000000000 000000000000 0x0000";
-            assert!(rt; writeln!(answer, "{header}\nrest 14 {len} type 0x0000").is_ok());
-        }
-        assert_eq!(rt;
-            output.as_slice(),
-            answer.as_str().as_bytes(),
-            "{len} bytes"
+            let written = writeln!(text, "{header}\nrest 14 {len} type 0x0000");
+            (Ok(AllAccepted), written.is_ok())
+        };
+        assert!(rt; is_written, "{len} bytes");
+        answers(
+            &rt,
+            &line[..=2 * len],
+            4098,
+            &wanted,
+            text.as_str().as_bytes(),
         );
+        line[2 * len] = b'0';
     }
 }
 
 #[test]
 fn answers_many_lines_in_any_reads(rt: HostRuntime) {
-    let plain = b"ffffffffffff0200000000010800\n";
-    answers_each_line(&rt, plain, PLAIN_ANSWER, 2_000, 1);
-    answers_each_line(&rt, plain, PLAIN_ANSWER, 2_000, 29);
-    answers_each_line(&rt, plain, PLAIN_ANSWER, 20_000, 8_192);
-    answers_each_line(&rt, plain, PLAIN_ANSWER, 20_000, usize::MAX);
-    let tagged = b"ffffffffffff0200000000018100b1230800\r\n";
-    answers_each_line(&rt, tagged, TAGGED_ANSWER, 20_000, 4_097);
-    answers_each_line(&rt, tagged, TAGGED_ANSWER, 20_000, 70_000);
+    let plain = b"ffffffffffff0200000000010800\n".as_slice();
+    let tagged = b"ffffffffffff0200000000018100b1230800\r\n".as_slice();
+    for (line, answer, times, step) in [
+        (plain, PLAIN_ANSWER, 2_000, 1),
+        (plain, PLAIN_ANSWER, 2_000, 29),
+        (plain, PLAIN_ANSWER, 20_000, 8_192),
+        (plain, PLAIN_ANSWER, 20_000, usize::MAX),
+        (tagged, TAGGED_ANSWER, 20_000, 4_097),
+        (tagged, TAGGED_ANSWER, 20_000, 70_000),
+    ] {
+        let mut reader = Repeated {
+            bytes: line,
+            next: 0,
+            times,
+            step,
+        };
+        let mut writer = Counter {
+            wanted: answer,
+            next: 0,
+            times: 0,
+        };
+        let outcome = run(Mode::Eth, &mut reader, &mut writer);
+        assert_eq!(rt;
+            (outcome, writer.times, writer.next),
+            (Ok(AllAccepted), times, 0),
+            "{step} bytes a read"
+        );
+    }
 }
 
 #[test]
@@ -318,59 +301,75 @@ fn gathers_more_than_its_room(rt: HostRuntime) {
         line[24 + 8 * tag] = b'8';
         line[25 + 8 * tag] = b'1';
     }
-    let (outcome, output) = over_memory(&line);
-    assert_eq!(rt; outcome, Ok(SomeRefused));
-    assert_eq!(rt; output.iter().filter(|byte| **byte == b'\n').count(), 510);
-    let end = b"vlan 2042 pcp 0 dei 0 vid 0 0x8100\nfault 2046 open length 4 2 slice\n";
-    assert!(rt; output.as_slice().ends_with(end));
+    let fed = b"feed refusals 509 taken 2046\nfault 2046 open length 4 0 slice\n".as_slice();
+    let walked =
+        b"vlan 2042 pcp 0 dei 0 vid 0 0x8100\nfault 2046 open length 4 2 slice\n".as_slice();
+    for (mode, lines, end) in [(Mode::Eth, 510, walked), (Mode::Feed, 2, fed)] {
+        let mut output = ArrayVec::<u8, 32768>::new();
+        let outcome = run(mode, &mut line.as_slice(), &mut output);
+        assert_eq!(rt;
+            (
+                outcome,
+                output.iter().filter(|byte| **byte == b'\n').count(),
+                output.as_slice().ends_with(end)
+            ),
+            (Ok(SomeRefused), lines, true),
+            "{mode:?}"
+        );
+    }
 }
 
-/// A line for each mode, whose frame is accepted.
-const LINES_OF_MODES: [(Mode, &[u8]); 5] = [
-    (Mode::Eth, b"ffffffffffff0200000000018100b1230800\r\n"),
-    (Mode::Fcs, b"ffffffffffff020000000001080011223344\r\n"),
-    (Mode::Sll, b"0000000100ff02000000000100000001\r\n"),
+/// Lines in each mode, and the outcome.
+const LINES_OF_MODES: [(Mode, &[u8], Result<Verdict, ToolFault>); 8] = [
+    (Mode::Eth, LINES, Ok(SomeRefused)),
+    (Mode::Eth, b"\n42\n4\n", Err(ToolFault::BadLine(3))),
+    (Mode::Eth, b"", Ok(AllAccepted)),
+    (
+        Mode::Eth,
+        b"ffffffffffff0200000000018100b1230800\r\n",
+        Ok(AllAccepted),
+    ),
+    (
+        Mode::Fcs,
+        b"ffffffffffff020000000001080011223344\r\n",
+        Ok(AllAccepted),
+    ),
+    (
+        Mode::Sll,
+        b"0000000100ff02000000000100000001\r\n",
+        Ok(AllAccepted),
+    ),
     (
         Mode::EtherType(EtherType::MACSEC),
         b"0006000000018100aabbccddeeee\r\n",
+        Ok(AllAccepted),
     ),
     (
         Mode::Feed,
         b"ffffffffffff02000000000188e50006000000018100aabbccddeeee\r\n",
+        Ok(AllAccepted),
     ),
 ];
 
-/// A fault at each read of `input`, `step` bytes a read, and no read after it.
-fn reader_faults(rt: &impl Abort, mode: Mode, input: &[u8], step: usize) {
-    let mut source = Source::new(input, step, 0);
-    assert!(rt; run(mode, &mut source, &mut Sink::new(0)).is_ok());
-    let reads = source.calls;
-    for before in 0..reads {
-        let fault = before + 1;
-        let mut source = Source::new(input, step, fault);
-        let outcome = run(mode, &mut source, &mut Sink::new(0));
-        assert_eq!(rt;
-            outcome,
-            Err(ToolFault::Input),
-            "at read {fault} in {mode:?}"
-        );
-        assert_eq!(rt; source.calls, fault, "no read after read {fault}");
-    }
-}
-
 #[test]
 fn tells_a_fault_of_the_reader(rt: HostRuntime) {
-    for step in 1..6 {
-        reader_faults(&rt, Mode::Eth, LINES, step);
-    }
-}
-
-#[test]
-fn tells_a_fault_of_the_reader_in_each_mode(rt: HostRuntime) {
-    for (mode, line) in LINES_OF_MODES {
-        reader_faults(&rt, mode, line, 1);
-        reader_faults(&rt, mode, line, 4);
-        reader_faults(&rt, mode, line, usize::MAX);
+    for (mode, input, wanted) in &LINES_OF_MODES {
+        for step in [1, 2, 3, 4, 5, usize::MAX] {
+            let mut whole = Source::new(input, step, 0);
+            let outcome = run(*mode, &mut whole, &mut Sink::new(0));
+            assert_eq!(rt; &outcome, wanted, "{input:?} in {mode:?}");
+            for before in 0..whole.calls {
+                let fault = before + 1;
+                let mut source = Source::new(input, step, fault);
+                let outcome = run(*mode, &mut source, &mut Sink::new(0));
+                // there is no read after it
+                assert_eq!(rt;
+                    (outcome, source.calls),
+                    (Err(ToolFault::Input), fault),
+                    "at read {fault} in {mode:?}"
+                );
+            }
+        }
     }
 }
 
@@ -385,49 +384,36 @@ fault 0 open length 14 0 slice\n";
         let fault = before + 1;
         let mut sink = Sink::new(0);
         let outcome = run(Mode::Eth, &mut Source::new(lines, 10, fault), &mut sink);
-        assert_eq!(rt; outcome, Err(ToolFault::Input), "at read {fault}");
         let written: &[u8] = if fault > 3 { answers } else { &[] };
-        assert_eq!(rt; sink.taken.as_slice(), written, "at read {fault}");
-        assert!(rt; !sink.is_flushed, "at read {fault}");
-    }
-}
-
-/// A fault at each call of the writer for `input`, and no call after it. The last call is the flush.
-fn writer_faults(rt: &impl Abort, mode: Mode, input: &[u8], wanted: &Result<Verdict, ToolFault>) {
-    let mut whole = Sink::new(0);
-    assert_eq!(rt;
-        &run(mode, &mut Source::new(input, 4, 0), &mut whole),
-        wanted
-    );
-    assert!(rt; whole.is_flushed);
-    let calls = whole.calls;
-    for before in 0..calls {
-        let fault = before + 1;
-        let mut source = Source::new(input, 4, 0);
-        let mut sink = Sink::new(fault);
-        let outcome = run(mode, &mut source, &mut sink);
         assert_eq!(rt;
-            outcome,
-            Err(ToolFault::Output),
-            "at call {fault} in {mode:?}"
+            (outcome, sink.taken.as_slice(), sink.is_flushed),
+            (Err(ToolFault::Input), written, false),
+            "at read {fault}"
         );
-        assert_eq!(rt; sink.calls, fault, "no call after call {fault}");
-        assert!(rt; !sink.is_flushed, "at call {fault} in {mode:?}");
-        let is_whole = sink.taken.as_slice() == whole.taken.as_slice();
-        assert_eq!(rt; is_whole, fault == calls, "at call {fault} in {mode:?}");
     }
 }
 
 #[test]
 fn tells_a_fault_of_the_writer(rt: HostRuntime) {
-    writer_faults(&rt, Mode::Eth, LINES, &Ok(SomeRefused));
-    writer_faults(&rt, Mode::Eth, b"\n42\n4\n", &Err(ToolFault::BadLine(3)));
-    writer_faults(&rt, Mode::Eth, b"", &Ok(AllAccepted));
-}
-
-#[test]
-fn tells_a_fault_of_the_writer_in_each_mode(rt: HostRuntime) {
-    for (mode, line) in LINES_OF_MODES {
-        writer_faults(&rt, mode, line, &Ok(AllAccepted));
+    for (mode, input, wanted) in &LINES_OF_MODES {
+        let mut whole = Sink::new(0);
+        let outcome = run(*mode, &mut Source::new(input, 4, 0), &mut whole);
+        assert_eq!(rt;
+            (&outcome, whole.is_flushed),
+            (wanted, true),
+            "{input:?} in {mode:?}"
+        );
+        // the last call is the flush, and there is no call after a fault
+        for before in 0..whole.calls {
+            let fault = before + 1;
+            let mut sink = Sink::new(fault);
+            let outcome = run(*mode, &mut Source::new(input, 4, 0), &mut sink);
+            let is_whole = sink.taken.as_slice() == whole.taken.as_slice();
+            assert_eq!(rt;
+                (outcome, sink.calls, sink.is_flushed, is_whole),
+                (Err(ToolFault::Output), fault, false, fault == whole.calls),
+                "at call {fault} in {mode:?}"
+            );
+        }
     }
 }

@@ -1,0 +1,158 @@
+"""Runs the gate: the check of the documents, `rt ci`, and the tests of the calls from C. Stops at the first that fails.
+
+Each line of these is passed on. After each proof, and after the last wrong body of a crate, a line says how many minutes have
+passed and how many minutes of processor time the part took. The last line adds up what passed. With --table FILE the minutes of each part of each crate are
+written there as a table. Processor time is sampled each second, so the parts add up to a little less than the total, which
+the system counts. It is not said of a system without /proc.
+"""
+import argparse
+import collections
+import os
+import re
+import resource
+import subprocess
+import sys
+import threading
+import time
+
+TOP = os.path.dirname(os.path.dirname(os.path.dirname(os.path.abspath(__file__))))
+COMMANDS = {
+    "documents": [sys.executable, "docs/reading.py"],
+    "crates": ["rt", "ci"],
+    "C": ["sh", "c/test.sh", "proved"],
+}
+PARTS = ["proof", "with tests", "wrong bodies"]
+
+
+def stat_of(pid):
+    """The parent, the seconds of processor time and the start of a process."""
+    with open(f"/proc/{pid}/stat", encoding="utf-8", errors="replace") as file:
+        fields = file.read().rpartition(")")[2].split()
+    return int(fields[1]), (int(fields[11]) + int(fields[12])) / os.sysconf("SC_CLK_TCK"), fields[19]
+
+
+def part_of(pid):
+    """The crate and the part for which a process of the prover runs, or None."""
+    with open(f"/proc/{pid}/cmdline", encoding="utf-8", errors="replace") as file:
+        words = file.read().split("\0")
+    if "--crate-name" not in words or not os.path.basename(words[0]) == "rattle":
+        return None
+    crate = words[words.index("--crate-name") + 1]
+    if os.path.basename(os.readlink(f"/proc/{pid}/cwd")).startswith("rt-edit"):
+        return crate, "wrong bodies"
+    return crate, "with tests" if "--test" in words else "proof"
+
+
+class Clock:
+    """The processor time of all processes below this one, by crate and part."""
+
+    def __init__(self):
+        self.begin = time.monotonic()
+        self.seen = {}
+        self.parts = {}
+        self.lock = threading.Lock()
+        threading.Thread(target=self.run, daemon=True).start()
+
+    def run(self):
+        while os.path.isdir("/proc/self"):
+            self.sample()
+            time.sleep(1)
+
+    def sample(self):
+        found = {}
+        for pid in filter(str.isdigit, os.listdir("/proc")):
+            try:
+                found[int(pid)] = stat_of(pid)
+            except (OSError, ValueError, IndexError):
+                pass
+        mine = {os.getpid()}
+        for pid in sorted(found, key=lambda pid: int(found[pid][2])):
+            parent, seconds, start = found[pid]
+            if parent in mine:
+                mine.add(pid)
+                self.note(pid, start, seconds)
+
+    def note(self, pid, start, seconds):
+        with self.lock:
+            key = pid, start
+            if key not in self.parts or self.parts[key] is None:
+                try:
+                    self.parts[key] = part_of(pid)
+                except (OSError, ValueError, IndexError):
+                    self.parts.setdefault(key, None)
+            self.seen[key] = seconds
+
+    def minutes(self):
+        """The minutes of each part that has one."""
+        sums = collections.Counter()
+        with self.lock:
+            for key, seconds in self.seen.items():
+                if self.parts.get(key):
+                    sums[self.parts[key]] += seconds / 60
+        return sums
+
+    def passed(self):
+        return (time.monotonic() - self.begin) / 60
+
+
+def spent():
+    """The minutes of processor time of all that has ended below this process."""
+    usage = resource.getrusage(resource.RUSAGE_CHILDREN)
+    return (usage.ru_utime + usage.ru_stime) / 60
+
+
+def follow(line, clock):
+    """Says after a proof how long it took."""
+    told = re.match(r"rt: (\w+)(: its tests are)? proved$", line)
+    if told:
+        part = "with tests" if told[2] else "proof"
+        took = clock.minutes()[told[1], part]
+        print(f"gate: {clock.passed():.1f} min: {told[1]}, {part}: {took:.1f} CPU min", flush=True)
+
+
+def table(clock, ends):
+    """The minutes as a table of Markdown."""
+    minutes = clock.minutes()
+    with open(f"{TOP}/crates.txt", encoding="utf-8") as file:
+        crates = [line.split(":")[0].split()[0] for line in file if line.strip() and not line.startswith("#")]
+    rows = [f"| Crate | {' | '.join(PARTS)} | all |", "|---" * (len(PARTS) + 2) + "|"]
+    for crate in crates:
+        row = [minutes[crate, part] for part in PARTS]
+        rows.append(f"| `{crate}` | {' | '.join(f'{it:.1f}' if it else '' for it in row)} | {sum(row):.1f} |")
+    sums = [sum(minutes[crate, part] for crate in crates) for part in PARTS]
+    rows.append(f"| sum | {' | '.join(f'{it:.1f}' for it in sums)} | {sum(sums):.1f} |")
+    rows += ["", *(f"{name}: {cpu:.1f} CPU minutes, {wall:.1f} minutes" for name, cpu, wall in ends)]
+    return "\n".join(rows) + "\n"
+
+
+def main():
+    words = argparse.ArgumentParser(description=__doc__.split("\n")[0])
+    words.add_argument("--table", metavar="FILE", help="where the table is written")
+    given = words.parse_args()
+    os.chdir(TOP)
+    clock, ends, counts, status = Clock(), [], [0, 0], 0
+    for name, command in COMMANDS.items():
+        cpu, wall = spent(), clock.passed()
+        with subprocess.Popen(command, stdin=subprocess.DEVNULL, stdout=subprocess.PIPE, text=True, errors="replace") as run:
+            for line in run.stdout:
+                told = re.match(r"(\d+) passed, (\d+) failed$", line)
+                if told:
+                    counts = [one + int(other) for one, other in zip(counts, told.groups())]
+                print(f"gate: {line}" if told else line, end="", flush=True)
+                follow(line.rstrip("\n"), clock)
+        status = run.returncode
+        ends.append((name, spent() - cpu, clock.passed() - wall))
+        print(f"gate: {clock.passed():.1f} min: {name}: {ends[-1][1]:.1f} CPU min", flush=True)
+        if status:
+            break
+    if given.table:
+        with open(given.table, "w", encoding="utf-8") as file:
+            file.write(table(clock, ends))
+    if status and not counts[1]:
+        counts[1] = 1
+    print(f"{counts[0]} passed, {counts[1]} failed")
+    return status
+
+
+if __name__ == "__main__":
+    sys.exit(main())

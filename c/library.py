@@ -1,0 +1,48 @@
+"""Builds libether_c.a over the libraries that `rt ci` has proved and left in crates/*/out/rlib, so that only `ether_c` itself is
+proved again. Called after `rt ci`; `rt lib` in crates/ether_c proves all that is below it by itself."""
+import os
+import subprocess
+import sys
+
+TOP = os.path.dirname(os.path.dirname(os.path.abspath(__file__)))
+
+
+def crates():
+    """The libraries that each crate of crates.txt names."""
+    found = {}
+    with open(f"{TOP}/crates.txt", encoding="utf-8") as file:
+        for line in file:
+            name, _, below = line.partition("#")[0].partition(":")
+            if name.strip():
+                found[name.split()[0]] = below.split()
+    return found
+
+
+def words(kit, name):
+    """The words of the compiler for a static library."""
+    listed = crates()
+    rlib = lambda it: f"{TOP}/crates/{it}/out/rlib/{it}.rlib" if it in listed else f"{kit}/rlibs/{it}.rlib"
+    said = ["--crate-name", name, "src/lib.rt", "-L", f"dependency={kit}/rlibs"]
+    for it in ["std", *listed[name]]:
+        said += ["--extern", f"{it}={rlib(it)}"]
+    below = list(listed[name])
+    for it in below:
+        below += [lower for lower in listed.get(it, []) if lower not in below]
+    for it in below:
+        if it in listed:
+            said += ["-L", f"dependency={os.path.dirname(rlib(it))}"]
+    said += ["--antt-project", f"{kit}/rattle/logic/antt-project.json", "--logic-built", f"{kit}/logic_built"]
+    said += ["--links", f"{name}=", "--crate-type", "staticlib"]
+    return [*said, "--toolchain", f"{kit}/toolchain", "--backend", "llvm", "-o", f"out/lib{name}.a"]
+
+
+def main():
+    doc = subprocess.run(["rt", "doc"], stdout=subprocess.PIPE, text=True, check=True).stdout.strip()
+    kit = os.path.dirname(doc)
+    folder = f"{TOP}/crates/ether_c"
+    os.makedirs(f"{folder}/out", exist_ok=True)
+    return subprocess.run([f"{kit}/bin/rattle", "build", *words(kit, "ether_c")], cwd=folder).returncode
+
+
+if __name__ == "__main__":
+    sys.exit(main())

@@ -1,0 +1,25 @@
+//! Small captures, read and cut. Their fields were printed by Wireshark's `tshark`.
+mod blocks;
+mod captures;
+mod classic;
+mod examples;
+mod interfaces;
+mod pcapng_captures;
+mod sections;
+mod texts;
+mod units;
+
+use std::fmt::Debug;
+use std::process::Abort;
+
+/// Fails if `found` isn't what is wanted of the row `name`.
+fn equal<R: Abort, T: PartialEq + Debug>(rt: &R, name: &str, found: &T, wanted: &T) {
+    assert_eq!(rt; found, wanted, "{name}");
+}
+
+/// Puts bytes in the place of others, as many as have room.
+fn put(target: &mut [u8], place: usize, bytes: &[u8]) {
+    for (to, byte) in target.iter_mut().skip(place).zip(bytes) {
+        *to = *byte;
+    }
+}

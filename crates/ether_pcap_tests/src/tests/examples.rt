@@ -1,0 +1,221 @@
+//! The examples of the documentation.
+use super::equal;
+use ether_pcap::{
+    ByteOrder, CaptureError, CaptureReader, CaptureUnit, CapturedPacket, EnhancedPacket,
+    FileHeader, InterfaceDescription, LinkType, PcapRecord, PcapRecords, PcapngBlock, RecordError,
+    SectionHeader, SimplePacket, TimeUnit, Timestamp,
+};
+use std::test::Fail;
+
+#[test]
+fn of_numbers(rt: HostRuntime) {
+    let (big, little) = (ByteOrder::BigEndian, ByteOrder::LittleEndian);
+    equal(
+        &rt,
+        "byte orders",
+        &(
+            big.u16_of([0x02, 0x01]),
+            little.u16_of([0x02, 0x01]),
+            big.u32_of([0x04, 0x03, 0x02, 0x01]),
+            little.u32_of([0x04, 0x03, 0x02, 0x01]),
+        ),
+        &(513, 258, 0x0403_0201, 0x0102_0304),
+    );
+    let early = Timestamp {
+        seconds: 1_700_000_000,
+        nanoseconds: 5_000,
+    };
+    let error = CaptureError::Record(RecordError::Len {
+        required_len: 76,
+        len: 20,
+    });
+    equal(
+        &rt,
+        "units, times and errors",
+        &(
+            TimeUnit::of_magic(0xA1B2_3C4D),
+            early.nanoseconds,
+            error.required_len(),
+        ),
+        &(Some(TimeUnit::Nanoseconds), 5_000, Some(76)),
+    );
+}
+
+/// A file with one record of one byte.
+const FILE: [u8; 41] = [
+    0xA1, 0xB2, 0xC3, 0xD4, 0x00, 0x02, 0x00, 0x04, 0x00, 0x00, 0x00, 0x00, // file header
+    0x00, 0x00, 0x00, 0x00, 0x00, 0x00, 0xFF, 0xFF, 0x00, 0x00, 0x00, 0x01, //
+    0x00, 0x00, 0x00, 0x01, 0x00, 0x00, 0x00, 0x02, 0x00, 0x00, 0x00, 0x01, 0x00, 0x00, 0x00, 0x01, // record
+    0xFF,
+];
+
+#[test]
+fn of_classic_files(rt: HostRuntime) -> Result<(), Fail> {
+    let bytes = [
+        0xD4, 0xC3, 0xB2, 0xA1, 0x02, 0x00, 0x04, 0x00, 0x00, 0x00, 0x00, 0x00, //
+        0x00, 0x00, 0x00, 0x00, 0xFF, 0xFF, 0x00, 0x00, 0x01, 0x00, 0x00, 0x24,
+    ];
+    let header = FileHeader {
+        byte_order: ByteOrder::LittleEndian,
+        time_unit: TimeUnit::Microseconds,
+        snap_len: 65535,
+        link_type: LinkType::ETHERNET,
+        fcs_len: Some(4),
+    };
+    equal(
+        &rt,
+        "a file header",
+        &FileHeader::from_slice(&bytes),
+        &Ok(header),
+    );
+    let file = FileHeader {
+        byte_order: ByteOrder::BigEndian,
+        time_unit: TimeUnit::Microseconds,
+        snap_len: 2,
+        link_type: LinkType::ETHERNET,
+        fcs_len: None,
+    };
+    let bytes = [
+        0x65, 0x53, 0xF1, 0x00, 0x00, 0x00, 0x00, 0x05, 0x00, 0x00, 0x00, 0x02, 0x00, 0x00, 0x00,
+        0x3C, // header
+        0xFF, 0xFF, // packet
+    ];
+    let record = PcapRecord::from_slice(&file, &bytes)?;
+    let nanoseconds = record.nanoseconds(file.time_unit);
+    equal(
+        &rt,
+        "a record",
+        &(nanoseconds, record.original_len, record.packet),
+        &(1_700_000_000_000_005_000, 60, [0xFF, 0xFF].as_slice()),
+    );
+    let mut records = PcapRecords::from_slice(&FILE)?;
+    let link_type = records.header().link_type;
+    let packet = records
+        .next()
+        .and_then(|record| record.ok())
+        .map(|record| record.packet);
+    let is_over = records.next().is_none();
+    equal(
+        &rt,
+        "the records of a file",
+        &(link_type, packet, is_over, records.offset()),
+        &(LinkType::ETHERNET, Some([0xFF].as_slice()), true, 41),
+    );
+    Ok(())
+}
+
+/// The header of a section, most significant byte first.
+const SECTION: [u8; 28] = [
+    0x0A, 0x0D, 0x0D, 0x0A, 0x00, 0x00, 0x00, 0x1C, 0x1A, 0x2B, 0x3C, 0x4D, 0x00, 0x01, 0x00, 0x00,
+    0xFF, 0xFF, 0xFF, 0xFF, 0xFF, 0xFF, 0xFF, 0xFF, 0x00, 0x00, 0x00, 0x1C,
+];
+
+#[test]
+fn of_blocks(rt: HostRuntime) -> Result<(), Fail> {
+    let section = [
+        0x0A, 0x0D, 0x0D, 0x0A, 0x1C, 0x00, 0x00, 0x00, 0x4D, 0x3C, 0x2B, 0x1A, 0x01, 0x00, 0x00,
+        0x00, //
+        0xFF, 0xFF, 0xFF, 0xFF, 0xFF, 0xFF, 0xFF, 0xFF, 0x1C, 0x00, 0x00, 0x00, //
+    ];
+    let section = SectionHeader::from_slice(&section)?;
+    let bytes = [
+        0x00, 0x00, 0x00, 0x03, 0x00, 0x00, 0x00, 0x10, 0x00, 0x00, 0x00, 0x00, 0x00, 0x00, 0x00,
+        0x10, //
+    ];
+    let block = PcapngBlock::from_slice(ByteOrder::BigEndian, &bytes)?;
+    equal(
+        &rt,
+        "a section header and a block",
+        &(
+            section.byte_order,
+            section.block.block_len(),
+            block.block_type,
+            block.body,
+            block.block_len(),
+        ),
+        &(
+            ByteOrder::LittleEndian,
+            28,
+            PcapngBlock::SIMPLE_PACKET,
+            [0x00; 4].as_slice(),
+            16,
+        ),
+    );
+    Ok(())
+}
+
+#[test]
+fn of_bodies(rt: HostRuntime) -> Result<(), Fail> {
+    let order = ByteOrder::BigEndian;
+    let body = [
+        0x00, 0x01, 0x00, 0x00, 0x00, 0x04, 0x00, 0x00, // link type, snap length
+        0x00, 0x0D, 0x00, 0x01, 0x04, 0x00, 0x00, 0x00, // if_fcslen
+    ];
+    let interface = InterfaceDescription::from_body(order, &body)?;
+    let body = [
+        0x00, 0x00, 0x00, 0x00, 0x00, 0x00, 0x00, 0x01, 0x00, 0x00, 0x00, 0x02, //
+        0x00, 0x00, 0x00, 0x02, 0x00, 0x00, 0x00, 0x3C, 0xFF, 0xFF, 0x00, 0x00, //
+    ];
+    let packet = EnhancedPacket::from_body(order, &body)?;
+    let body = [0x00, 0x00, 0x00, 0x3C, 0xFF, 0xFF, 0x00, 0x00];
+    let simple = SimplePacket::from_body(order, 2, &body)?;
+    equal(
+        &rt,
+        "an interface description",
+        &(
+            interface.link_type,
+            interface.snap_len,
+            interface.fcs_len(order),
+        ),
+        &(LinkType::ETHERNET, 262_144, Some(4)),
+    );
+    equal(
+        &rt,
+        "packets",
+        &(
+            packet.time,
+            [packet.original_len, simple.original_len],
+            [packet.packet, simple.packet],
+        ),
+        &(4_294_967_298, [60, 60], [[0xFF, 0xFF].as_slice(); 2]),
+    );
+    Ok(())
+}
+
+#[test]
+fn of_a_reader(rt: HostRuntime) -> Result<(), Fail> {
+    let mut reader = CaptureReader::new();
+    let packet = CapturedPacket {
+        time: Some(Timestamp {
+            seconds: 1,
+            nanoseconds: 2_000,
+        }),
+        original_len: 1,
+        link_type: LinkType::ETHERNET,
+        fcs_len: None,
+        packet: &[0xFF],
+    };
+    let units = [(24, None), (17, Some(packet))].map(|(len, packet)| CaptureUnit { len, packet });
+    equal(
+        &rt,
+        "the units of a file",
+        &[reader.read(&FILE)?, reader.read(&FILE[24..])?],
+        &units,
+    );
+    let secrets = [0x00, 0x00, 0x00, 0x0A, 0x00, 0x10, 0x00, 0x00];
+    let mut reader = CaptureReader::new();
+    let before = (reader.byte_order(), reader.passes_over(&secrets));
+    reader.read(&SECTION)?;
+    equal(
+        &rt,
+        "a block that is passed over",
+        &(
+            before,
+            reader.byte_order(),
+            reader.passes_over(&secrets),
+            reader.passes_over(&SECTION),
+        ),
+        &((None, false), Some(ByteOrder::BigEndian), true, false),
+    );
+    Ok(())
+}

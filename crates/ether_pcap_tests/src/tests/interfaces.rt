@@ -1,0 +1,116 @@
+//! The options of interface descriptions.
+use super::equal;
+use super::pcapng_captures::{BIG, LITTLE};
+use ether_pcap::{ByteOrder, InterfaceDescription, LinkType};
+
+/// Options, and the length of the frame check sequence and the resolution of times that they name. Of both files Wireshark's `capinfos`
+/// shows 0 bytes and a resolution of 9.
+#[test]
+fn options(rt: HostRuntime) {
+    let (big, little) = (ByteOrder::BigEndian, ByteOrder::LittleEndian);
+    let named = [
+        0x00, 0x02, 0x00, 0x05, b'e', b't', b'h', b'1', b'0', 0x00, 0x00, 0x00, // if_name
+        0x00, 0x09, 0x00, 0x01, 0x86, 0x00, 0x00, 0x00, // if_tsresol
+    ];
+    let two = [
+        0x00, 0x0D, 0x00, 0x01, 0x04, 0x00, 0x00, 0x00, //
+        0x00, 0x0D, 0x00, 0x01, 0x00, 0x00, 0x00, 0x00, //
+    ];
+    let ended = [
+        0x00, 0x00, 0x00, 0x00, //
+        0x00, 0x0D, 0x00, 0x01, 0x04, 0x00, 0x00, 0x00, //
+    ];
+    let swapped = [0x0D, 0x00, 0x01, 0x00, 0x04, 0x00, 0x00, 0x00];
+    for (name, order, options, fcs_len, resolution) in [
+        (
+            "the most significant byte first",
+            big,
+            &BIG[44..64],
+            Some(0),
+            Some(9),
+        ),
+        (
+            "the least significant byte first",
+            little,
+            &LITTLE[44..64],
+            Some(0),
+            Some(9),
+        ),
+        ("after a padded name", big, &named, None, Some(0x86)),
+        ("the first of two", big, &two, Some(4), None),
+        ("not after the end", big, &ended, None, None),
+        (
+            "a number of no byte",
+            big,
+            &[0x00, 0x0D, 0x00, 0, 4, 4, 4, 4],
+            None,
+            None,
+        ),
+        (
+            "a number of two bytes",
+            big,
+            &[0x00, 0x0D, 0x00, 2, 4, 4, 4, 4],
+            None,
+            None,
+        ),
+        (
+            "a number of three bytes",
+            big,
+            &[0x00, 0x0D, 0x00, 3, 4, 4, 4, 4],
+            None,
+            None,
+        ),
+        (
+            "a number of four bytes",
+            big,
+            &[0x00, 0x0D, 0x00, 4, 4, 4, 4, 4],
+            None,
+            None,
+        ),
+        (
+            "in the order of the section",
+            little,
+            &swapped,
+            Some(4),
+            None,
+        ),
+        ("in the other order", big, &swapped, None, None),
+    ] {
+        let interface = InterfaceDescription {
+            link_type: LinkType::ETHERNET,
+            snap_len: 0,
+            options,
+        };
+        equal(
+            &rt,
+            name,
+            &(interface.fcs_len(order), interface.time_resolution(order)),
+            &(fcs_len, resolution),
+        );
+    }
+}
+
+/// The second option is read from 13 bytes on, of which its padding is no part. The first one is read from 5 bytes on.
+#[test]
+fn options_cut_at_each_byte(rt: HostRuntime) {
+    let options = [
+        0x00, 0x02, 0x00, 0x01, b'e', 0x00, 0x00, 0x00, //
+        0x00, 0x0D, 0x00, 0x01, 0x04, 0x00, 0x00, 0x00, //
+    ];
+    for len in 0..17 {
+        let interface = InterfaceDescription {
+            link_type: LinkType::ETHERNET,
+            snap_len: 0,
+            options: &options[..len],
+        };
+        let order = ByteOrder::BigEndian;
+        let fcs_len = if len < 13 { None } else { Some(4) };
+        let name = if len < 5 { None } else { Some(b"e".as_slice()) };
+        equal(
+            &rt,
+            "cut options",
+            &(interface.fcs_len(order), interface.option(order, 2)),
+            &(fcs_len, name),
+        );
+    }
+}

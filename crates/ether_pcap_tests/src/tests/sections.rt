@@ -1,0 +1,279 @@
+//! A file of two sections, read one unit at a time, and changed until it is refused. It was written with Python's `struct`; times,
+//! lengths and link types of its packets were printed by Wireshark's `tshark`.
+use super::{equal, put};
+use ether_pcap::{
+    BlockError, BodyError, CaptureError, CaptureReader, CapturedPacket, LinkType, Timestamp,
+};
+use std::test::Fail;
+
+/// A section most significant byte first with two interfaces, Ethernet in microseconds and cooked capture in nanoseconds, and a packet
+/// of each; and one least significant byte first with three, whose times count 1/1024 seconds, seconds, and microseconds from an
+/// hour later on.
+const SECTIONS: [u8; 508] = [
+    0x0A, 0x0D, 0x0D, 0x0A, 0x00, 0x00, 0x00, 0x1C, 0x1A, 0x2B, 0x3C, 0x4D, 0x00, 0x01, 0x00, 0x00, // section header
+    0xFF, 0xFF, 0xFF, 0xFF, 0xFF, 0xFF, 0xFF, 0xFF, 0x00, 0x00, 0x00, 0x1C, //
+    0x00, 0x00, 0x00, 0x01, 0x00, 0x00, 0x00, 0x28, 0x00, 0x01, 0x00, 0x00, 0x00, 0x00, 0x00, 0x00, // interface description
+    0x00, 0x09, 0x00, 0x01, 0x06, 0x00, 0x00, 0x00, 0x00, 0x0D, 0x00, 0x01, 0x04, 0x00, 0x00, 0x00, //
+    0x00, 0x00, 0x00, 0x00, 0x00, 0x00, 0x00, 0x28, //
+    0x00, 0x00, 0x00, 0x01, 0x00, 0x00, 0x00, 0x20, 0x00, 0x71, 0x00, 0x00, 0x00, 0x00, 0x00, 0x11, // interface description
+    0x00, 0x09, 0x00, 0x01, 0x09, 0x00, 0x00, 0x00, 0x00, 0x00, 0x00, 0x00, 0x00, 0x00, 0x00, 0x20, //
+    0x00, 0x00, 0x00, 0x06, 0x00, 0x00, 0x00, 0x34, 0x00, 0x00, 0x00, 0x01, 0x17, 0x97, 0x9C, 0xFE, // enhanced packet
+    0x3D, 0x85, 0xCD, 0x15, 0x00, 0x00, 0x00, 0x11, 0x00, 0x00, 0x00, 0x3C, 0x00, 0x04, 0x00, 0x01, //
+    0x00, 0x06, 0x02, 0x00, 0x00, 0x00, 0x00, 0x01, 0x00, 0x00, 0x08, 0x00, 0x45, 0x00, 0x00, 0x00, //
+    0x00, 0x00, 0x00, 0x34, //
+    0x00, 0x00, 0x00, 0x06, 0x00, 0x00, 0x00, 0x30, 0x00, 0x00, 0x00, 0x00, 0x00, 0x06, 0x0A, 0x24, // enhanced packet
+    0x18, 0x20, 0x22, 0x40, 0x00, 0x00, 0x00, 0x10, 0x00, 0x00, 0x00, 0x10, 0x02, 0x00, 0x00, 0x00, //
+    0x00, 0x01, 0x02, 0x00, 0x00, 0x00, 0x00, 0x02, 0x88, 0xB5, 0x01, 0x02, 0x00, 0x00, 0x00, 0x30, //
+    0x0A, 0x0D, 0x0D, 0x0A, 0x1C, 0x00, 0x00, 0x00, 0x4D, 0x3C, 0x2B, 0x1A, 0x01, 0x00, 0x00, 0x00, // section header
+    0xFF, 0xFF, 0xFF, 0xFF, 0xFF, 0xFF, 0xFF, 0xFF, 0x1C, 0x00, 0x00, 0x00, //
+    0x01, 0x00, 0x00, 0x00, 0x20, 0x00, 0x00, 0x00, 0x01, 0x00, 0x00, 0x00, 0x00, 0x00, 0x00, 0x00, // interface description
+    0x09, 0x00, 0x01, 0x00, 0x8A, 0x00, 0x00, 0x00, 0x00, 0x00, 0x00, 0x00, 0x20, 0x00, 0x00, 0x00, //
+    0x01, 0x00, 0x00, 0x00, 0x20, 0x00, 0x00, 0x00, 0x01, 0x00, 0x00, 0x00, 0x00, 0x00, 0x00, 0x00, // interface description
+    0x09, 0x00, 0x01, 0x00, 0x00, 0x00, 0x00, 0x00, 0x00, 0x00, 0x00, 0x00, 0x20, 0x00, 0x00, 0x00, //
+    0x01, 0x00, 0x00, 0x00, 0x24, 0x00, 0x00, 0x00, 0x71, 0x00, 0x00, 0x00, 0x00, 0x00, 0x00, 0x00, // interface description
+    0x0E, 0x00, 0x08, 0x00, 0x10, 0x0E, 0x00, 0x00, 0x00, 0x00, 0x00, 0x00, 0x00, 0x00, 0x00, 0x00, //
+    0x24, 0x00, 0x00, 0x00, //
+    0x06, 0x00, 0x00, 0x00, 0x30, 0x00, 0x00, 0x00, 0x00, 0x00, 0x00, 0x00, 0x95, 0x01, 0x00, 0x00, // enhanced packet
+    0x55, 0x01, 0xC4, 0x4F, 0x10, 0x00, 0x00, 0x00, 0x10, 0x00, 0x00, 0x00, 0x02, 0x00, 0x00, 0x00, //
+    0x00, 0x01, 0x02, 0x00, 0x00, 0x00, 0x00, 0x02, 0x88, 0xB5, 0x01, 0x02, 0x30, 0x00, 0x00, 0x00, //
+    0x06, 0x00, 0x00, 0x00, 0x30, 0x00, 0x00, 0x00, 0x01, 0x00, 0x00, 0x00, 0x00, 0x00, 0x00, 0x00, // enhanced packet
+    0x00, 0xF1, 0x53, 0x65, 0x10, 0x00, 0x00, 0x00, 0x10, 0x00, 0x00, 0x00, 0x02, 0x00, 0x00, 0x00, //
+    0x00, 0x01, 0x02, 0x00, 0x00, 0x00, 0x00, 0x02, 0x88, 0xB5, 0x01, 0x02, 0x30, 0x00, 0x00, 0x00, //
+    0x06, 0x00, 0x00, 0x00, 0x34, 0x00, 0x00, 0x00, 0x02, 0x00, 0x00, 0x00, 0x24, 0x0A, 0x06, 0x00, // enhanced packet
+    0x40, 0x22, 0x20, 0x18, 0x11, 0x00, 0x00, 0x00, 0x11, 0x00, 0x00, 0x00, 0x00, 0x04, 0x00, 0x01, //
+    0x00, 0x06, 0x02, 0x00, 0x00, 0x00, 0x00, 0x01, 0x00, 0x00, 0x08, 0x00, 0x45, 0x00, 0x00, 0x00, //
+    0x34, 0x00, 0x00, 0x00, //
+    0x03, 0x00, 0x00, 0x00, 0x20, 0x00, 0x00, 0x00, 0x10, 0x00, 0x00, 0x00, 0x02, 0x00, 0x00, 0x00, // simple packet
+    0x00, 0x01, 0x02, 0x00, 0x00, 0x00, 0x00, 0x02, 0x88, 0xB5, 0x01, 0x02, 0x20, 0x00, 0x00, 0x00, //
+];
+
+/// Where the units begin, and where the last one ends.
+const PLACES: [usize; 14] = [
+    0, 28, 68, 100, 152, 200, 228, 260, 292, 328, 376, 424, 476, 508,
+];
+
+/// A reader that has read the units up to a number.
+fn reader_at(file: &[u8; 508], number: usize) -> Result<CaptureReader, Fail> {
+    let mut reader = CaptureReader::new();
+    for start in PLACES.iter().take(number.min(13)) {
+        reader.read(&file[(*start).min(508)..])?;
+    }
+    Ok(reader)
+}
+
+/// The packets of the units of these numbers.
+#[test]
+fn packets_of_both_sections(rt: HostRuntime) -> Result<(), Fail> {
+    let (ethernet, sll) = (LinkType::ETHERNET, LinkType::LINUX_SLL);
+    for (name, number, time, original_len, link_type, fcs_len, start, end) in [
+        (
+            "the second interface",
+            3,
+            Some(123_456_789),
+            60,
+            sll,
+            None,
+            128,
+            145,
+        ),
+        (
+            "the first interface",
+            4,
+            Some(123_456_000),
+            16,
+            ethernet,
+            Some(4),
+            180,
+            196,
+        ),
+        (
+            "powers of two",
+            9,
+            Some(333_007_812),
+            16,
+            ethernet,
+            None,
+            356,
+            372,
+        ),
+        ("whole seconds", 10, Some(0), 16, ethernet, None, 404, 420),
+        ("shifted times", 11, None, 17, sll, None, 452, 469),
+        ("a simple packet", 12, None, 16, ethernet, None, 488, 504),
+    ] {
+        let mut reader = reader_at(&SECTIONS, number)?;
+        let unit = reader.read(&SECTIONS[PLACES[number]..])?;
+        let packet = CapturedPacket {
+            time: time.map(|nanoseconds| Timestamp {
+                seconds: 1_700_000_000,
+                nanoseconds,
+            }),
+            original_len,
+            link_type,
+            fcs_len,
+            packet: &SECTIONS[start..end],
+        };
+        equal(&rt, name, &unit.packet, &Some(packet));
+    }
+    Ok(())
+}
+
+/// The file is cut at each byte: its last unit needs more bytes, also if none of it is there.
+#[test]
+fn cuts(rt: HostRuntime) -> Result<(), Fail> {
+    for i in 0..13 {
+        let mut reader = reader_at(&SECTIONS, i)?;
+        let start = PLACES[i].min(508);
+        let len = PLACES[i + 1].saturating_sub(start);
+        for have in 0..=len {
+            let end = (start + have).min(508).max(start);
+            let least = if i == 0 && have < 4 { 24 } else { 12 };
+            let required = if have < 12 { least } else { len };
+            let found = reader
+                .read(&SECTIONS[start..end])
+                .map(|unit| unit.len)
+                .map_err(|error| error.required_len());
+            let wanted = if have == len {
+                Ok(have)
+            } else {
+                Err(Some(required))
+            };
+            equal(&rt, "a cut unit", &found, &wanted);
+        }
+    }
+    Ok(())
+}
+
+/// Changes a byte of the file, and reads at a place after the units before a number.
+#[test]
+fn refused_units(rt: HostRuntime) -> Result<(), Fail> {
+    let trailer = CaptureError::Block(BlockError::Trailer {
+        total_len: 40,
+        trailer: 41,
+    });
+    let body = |required_len, len| CaptureError::Body(BodyError::Len { required_len, len });
+    for (name, place, byte, number, start, error) in [
+        (
+            "an interface that is not described",
+            111,
+            2,
+            3,
+            100,
+            CaptureError::NoInterface(2),
+        ),
+        (
+            "one of the second section",
+            336,
+            3,
+            9,
+            328,
+            CaptureError::NoInterface(3),
+        ),
+        (
+            "an interface of the section before",
+            0,
+            0x0A,
+            7,
+            376,
+            CaptureError::NoInterface(1),
+        ),
+        (
+            "a simple packet without one",
+            0,
+            0x0A,
+            6,
+            476,
+            CaptureError::NoInterface(0),
+        ),
+        ("another length at the end", 67, 41, 1, 28, trailer),
+        (
+            "a captured length above the block",
+            122,
+            1,
+            3,
+            100,
+            body(293, 40),
+        ),
+        ("one of the first interface", 174, 1, 4, 152, body(292, 36)),
+    ] {
+        let mut file = SECTIONS;
+        put(&mut file, place, &[byte]);
+        let mut reader = reader_at(&file, number)?;
+        equal(
+            &rt,
+            name,
+            &reader.read(file.get(start..).unwrap_or(&[])),
+            &Err(error),
+        );
+    }
+    Ok(())
+}
+
+/// A section may describe 256 interfaces.
+#[test]
+fn too_many_interfaces(rt: HostRuntime) -> Result<(), Fail> {
+    let mut reader = reader_at(&SECTIONS, 1)?;
+    for number in 0..257 {
+        let found = reader.read(&SECTIONS[28..68]).map(|unit| unit.packet);
+        let wanted = if number < 256 {
+            Ok(None)
+        } else {
+            Err(CaptureError::TooManyInterfaces)
+        };
+        equal(&rt, "an interface", &found, &wanted);
+    }
+    let unit = reader.read(&SECTIONS[100..152])?;
+    equal(&rt, "a packet after them", &unit.packet.is_some(), &true);
+    Ok(())
+}
+
+/// A section header, a description of an interface and packets are read; the block of type 2, which is obsolete, and those of types
+/// from 4 on are passed over, by their types alone.
+#[test]
+fn what_is_passed_over(rt: HostRuntime) -> Result<(), Fail> {
+    let big = reader_at(&SECTIONS, 1)?;
+    let little = reader_at(&SECTIONS, 6)?;
+    for (name, bytes, wanted) in [
+        ("a section header", &SECTIONS[..4], (false, false)),
+        ("interfaces", &[0, 0, 0, 1], (false, true)),
+        ("simple packets", &[0, 0, 0, 3], (false, true)),
+        ("enhanced packets", &[0, 0, 0, 6], (false, true)),
+        (
+            "interfaces, in the other order",
+            &[1, 0, 0, 0],
+            (true, false),
+        ),
+        (
+            "simple packets, in the other order",
+            &[3, 0, 0, 0],
+            (true, false),
+        ),
+        (
+            "enhanced packets, in the other order",
+            &[6, 0, 0, 0],
+            (true, false),
+        ),
+        ("obsolete packets", &[0, 0, 0, 2], (true, true)),
+        ("names", &[0, 0, 0, 4], (true, true)),
+        ("statistics", &[5, 0, 0, 0], (true, true)),
+        ("secrets", &[10, 0, 0, 0], (true, true)),
+        ("three bytes", &[0, 0, 0], (false, false)),
+    ] {
+        equal(
+            &rt,
+            name,
+            &(big.passes_over(bytes), little.passes_over(bytes)),
+            &wanted,
+        );
+    }
+    let mut file = SECTIONS;
+    file[103] = 2;
+    let mut reader = reader_at(&file, 3)?;
+    let unit = reader.read(&file[100..])?;
+    equal(
+        &rt,
+        "an obsolete packet",
+        &(unit.len, unit.packet),
+        &(52, None),
+    );
+    Ok(())
+}

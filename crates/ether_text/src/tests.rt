@@ -1,2 +1,0 @@
-//! Tests of the crate as a whole.
-mod derived_traits;

@@ -1,0 +1,104 @@
+//! The examples of `ether_text`, text that is longer than the room, and a fault of the writer.
+use arrayvec::ArrayVec;
+use ether_peel::Start;
+use ether_text::{
+    InputFault, InputReader, OutputBuffer, OutputFault, Verdict, write_decimal, write_feed,
+    write_walk,
+};
+use std::test::Fail;
+
+/// An Ethernet II header, a VLAN tag and the first byte of an IPv4 packet.
+const FRAME: [u8; 19] = [
+    0xFF, 0xFF, 0xFF, 0xFF, 0xFF, 0xFF, 0x02, 0x00, 0x00, 0x00, 0x00, 0x01, 0x81, 0x00, 0xB1, 0x23,
+    0x08, 0x00, 0x45,
+];
+
+#[test]
+fn what_the_examples_write(rt: HostRuntime) {
+    let mut written = ArrayVec::<u8, 256>::new();
+    let mut out = OutputBuffer::new(&mut written);
+    out.append(b"rest 14 14 ");
+    out.append(b"sealed\n");
+    let is_accepted = write_walk(Start::Ethernet2, None, &FRAME[..18], &mut out);
+    let is_fed = write_feed(Start::Ethernet2, None, &FRAME, &mut out);
+    write_decimal(&mut out, 1_024);
+    let flushed = out.flush();
+    assert_eq!(rt;
+        (is_accepted, is_fed, flushed, written.as_slice()),
+        (
+            true,
+            true,
+            Ok(()),
+            b"rest 14 14 sealed\n\
+ethernet2 0 ffffffffffff 020000000001 0x8100\n\
+vlan 14 pcp 5 dei 1 vid 291 0x0800\n\
+rest 18 18 type 0x0800\n\
+feed refusals 2 taken 18\n\
+1024"
+                .as_slice()
+        )
+    );
+}
+
+#[test]
+fn what_the_examples_read_and_show(rt: HostRuntime) -> Result<(), Fail> {
+    let mut bytes = [1, 2, 3].as_slice();
+    let mut written = ArrayVec::<u8, 4>::new();
+    let mut input = InputReader::new(&mut bytes);
+    let out = OutputBuffer::new(&mut written);
+    let mut chunk = [0; 2];
+    let counts = [
+        input.read(&mut chunk, &out),
+        input.read(&mut chunk, &out),
+        input.read(&mut chunk, &out),
+    ];
+    assert_eq!(rt; (counts, chunk), ([Ok(2), Ok(1), Ok(0)], [3, 2]));
+    let verdict = Verdict::AllAccepted.with(false);
+    let shown = format!(in rt.alloc(); "{InputFault} {OutputFault} {verdict:?}")?;
+    assert_eq!(rt;
+        shown.as_str(),
+        "The reader has failed. The writer has failed. SomeRefused"
+    );
+    Ok(())
+}
+
+#[test]
+fn text_longer_than_the_room(rt: HostRuntime) {
+    let mut written = ArrayVec::<u8, 70000>::new();
+    let mut out = OutputBuffer::new(&mut written);
+    out.append(b"b");
+    out.append(&[b'a'; 65537]);
+    out.append(b"c");
+    let flushed = out.flush();
+    let text = written.as_slice();
+    assert_eq!(rt;
+        (
+            flushed,
+            text.len(),
+            text.first(),
+            text.get(1..65538),
+            text.last()
+        ),
+        (
+            Ok(()),
+            65539,
+            Some(&b'b'),
+            Some([b'a'; 65537].as_slice()),
+            Some(&b'c')
+        )
+    );
+}
+
+#[test]
+fn a_writer_that_is_full(rt: HostRuntime) {
+    let mut written = ArrayVec::<u8, 4>::new();
+    let mut out = OutputBuffer::new(&mut written);
+    out.append(b"rest ");
+    let before = out.check();
+    let fault = out.write_out();
+    out.append(b"14 ");
+    assert_eq!(rt;
+        (before, fault, out.check(), out.flush()),
+        (Ok(()), Err(OutputFault), Err(OutputFault), Err(OutputFault))
+    );
+}
