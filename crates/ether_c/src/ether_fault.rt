@@ -45,7 +45,7 @@ const _: () = prove!(size_of::<EtherFault>() == 56);
 
 impl EtherFault {
     /// No fault.
-    const NONE: EtherFault = EtherFault {
+    pub(crate) const NONE: EtherFault = EtherFault {
         offset: 0,
         required_len: 0,
         len: 0,
@@ -59,6 +59,7 @@ impl EtherFault {
     };
 
     /// How a walk ended: with this fault or with none.
+    #[inline(always)]
     pub(crate) fn of_end(fault: &Option<PeelFault>) -> EtherFault
         ensures { result ≡ told_end fault.now }
     {
@@ -69,7 +70,8 @@ impl EtherFault {
     }
 
     /// The fault of a walk.
-    fn of(fault: &PeelFault) -> EtherFault
+    #[inline(always)]
+    pub(crate) fn of(fault: &PeelFault) -> EtherFault
         ensures { result ≡ told_fault fault.now }
     {
         let placed = EtherFault {
@@ -105,6 +107,7 @@ impl EtherFault {
 
 /// The minimum number of further bytes that a unit needs that is refused for its length, 0 if more
 /// bytes would not help.
+#[inline(always)]
 #[tactic(auto, using(crate::proofs::Missing::missing_is))]
 fn missing(fault: &PeelFault, error: &LenError) -> usize
     requires { fault.now.error ≡ errors.Len error.now }

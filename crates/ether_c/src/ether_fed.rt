@@ -24,6 +24,7 @@ const _: () = prove!(size_of::<EtherFed>() == 72);
 
 impl EtherFed {
     /// The result of feeding a walk.
+    #[inline(always)]
     pub(crate) fn of(fed: &Feed) -> EtherFed
         ensures { result ≡ told_feed fed.now }
     {

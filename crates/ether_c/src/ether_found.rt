@@ -30,17 +30,21 @@ pub struct EtherFound {
 const _: () = prove!(size_of::<EtherFound>() == 88);
 
 impl EtherFound {
-    /// The result of a walk.
-    pub(crate) fn of(found: &Summary) -> EtherFound
-        ensures { result ≡ told_summary found.now }
+    /// Sets it to the result of a walk.
+    #[inline(always)]
+    pub(crate) fn set(&mut self, found: &Summary)
+        ensures { self.new ≡ told_summary found.now }
     {
-        EtherFound {
+        *self = EtherFound {
             units: found.units,
             rest_start: found.rest_start,
             rest_end: found.rest_end,
-            fault: EtherFault::of_end(&found.fault),
+            fault: EtherFault::NONE,
             rest_kind: numbers::rest_kind(found.kind),
             rest_protocol: numbers::rest_protocol(found.kind),
+        };
+        if let Some(fault) = &found.fault {
+            self.fault = EtherFault::of(fault);
         }
     }
 }

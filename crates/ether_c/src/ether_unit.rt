@@ -177,6 +177,7 @@ impl EtherUnit {
     };
 
     /// A unit at a place.
+    #[inline(always)]
     pub(crate) fn of(unit: &PeelUnit<'_>, place: Place) -> EtherUnit
         requires { place.offset + header_len (header_of unit.now) ≡ place.payload_start }
         ensures { result
@@ -228,6 +229,7 @@ impl EtherEthernet2 {
         has_fcs: 0,
     };
 
+    #[inline(always)]
     fn of(frame: &Ethernet2Slice<'_>) -> EtherEthernet2
         ensures { result ≡ told_ethernet2 (ethernet2_header frame.now) }
     {
@@ -249,6 +251,7 @@ impl EtherLinuxSll {
         protocol: 0,
     };
 
+    #[inline(always)]
     fn of(packet: &LinuxSllSlice<'_>) -> EtherLinuxSll
         ensures { result ≡ told_linux_sll (headers.LinuxSll (linux_sll_of packet.now)) }
     {
@@ -270,6 +273,7 @@ impl EtherVlan {
         dei: 0,
     };
 
+    #[inline(always)]
     fn of(tag: &SingleVlanSlice<'_>) -> EtherVlan
         ensures { result ≡ told_vlan (headers.Vlan (vlan_of tag.now)) }
     {
@@ -296,6 +300,7 @@ impl EtherMacsec {
         short_len: 0,
     };
 
+    #[inline(always)]
     fn of(tag: &MacsecHeaderSlice<'_>) -> EtherMacsec
         ensures { result ≡ told_macsec (headers.Macsec (sec_tag_of (tag_bytes tag.now))) }
     {
@@ -337,6 +342,7 @@ impl EtherArp {
         protocol_size: 0,
     };
 
+    #[inline(always)]
     fn of(packet: &ArpPacketSlice<'_>, offset: usize) -> EtherArp
         requires { offset + header_len (headers.Arp (arp_of packet.now)) < 2 ^ 64 }
         ensures { result ≡ told_arp offset (headers.Arp (arp_of packet.now)) }

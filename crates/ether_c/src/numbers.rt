@@ -19,6 +19,7 @@ pub(crate) const NO_ROOM: u32 = 2;
 pub(crate) const NO_TEXT: u32 = 3;
 
 /// The start with a number, if there is one. Only the fourth has the ether type.
+#[inline(always)]
 pub(crate) fn start_of(number: u32, ether_type: u16) -> Option<Start>
     ensures { result ≡ start_numbered number ether_type }
 {
@@ -32,6 +33,7 @@ pub(crate) fn start_of(number: u32, ether_type: u16) -> Option<Start>
 }
 
 /// The number of what is left of a frame.
+#[inline(always)]
 pub(crate) fn rest_kind(kind: RestKind) -> u32
     ensures { result ≡ rest_kind_number kind }
 {
@@ -49,6 +51,7 @@ pub(crate) fn rest_kind(kind: RestKind) -> u32
 }
 
 /// The ether type or protocol number of what is left of a frame, 0 if it has none.
+#[inline(always)]
 pub(crate) fn rest_protocol(kind: RestKind) -> u16
     ensures { result ≡ rest_protocol_of kind }
 {
@@ -60,6 +63,7 @@ pub(crate) fn rest_protocol(kind: RestKind) -> u16
 }
 
 /// The number of a layer that a walk names, 0 for any other.
+#[inline(always)]
 pub(crate) fn layer(layer: Layer) -> u32
     ensures { result ≡ layer_number layer }
 {
@@ -75,6 +79,7 @@ pub(crate) fn layer(layer: Layer) -> u32
 }
 
 /// The number of a source of a length that a walk names, 0 for any other.
+#[inline(always)]
 pub(crate) fn len_source(source: LenSource) -> u32
     ensures { result ≡ len_source_number source }
 {

@@ -24,7 +24,7 @@ pub extern "C" fn ether_summary(
     let Some(start) = start_of(start, ether_type) else {
         return UNKNOWN_START;
     };
-    *found = EtherFound::of(&summary(start, bytes));
+    found.set(&summary(start, bytes));
     DONE
 }
 
@@ -48,6 +48,6 @@ pub extern "C" fn ether_summary_limited(
     let Some(start) = start_of(start, ether_type) else {
         return UNKNOWN_START;
     };
-    *found = EtherFound::of(&summary_limited(start, bytes, limit));
+    found.set(&summary_limited(start, bytes, limit));
     DONE
 }

@@ -55,6 +55,7 @@ pub extern "C" fn ether_walk_limited(
 }
 
 /// The units of a walk with a limit on extensions or without, and how many there are in all.
+#[inline(always)]
 fn walked(start: Start, bytes: &[u8], limit: Option<usize>, units: &mut [EtherUnit]) -> usize
     ensures { TellsUnits (start_with start limit) bytes.now units.old units.new result }
 {
@@ -80,6 +81,7 @@ fn walked(start: Start, bytes: &[u8], limit: Option<usize>, units: &mut [EtherUn
 }
 
 /// A walk that has read nothing yet, with a limit on extensions or without.
+#[inline(always)]
 fn begun_walk<'a>(start: Start, bytes: &'a [u8], limit: Option<usize>) -> Peel<'a>
     ensures state { result ≡ begun (start_with start limit) bytes.now }
     ensures walk { FacesWalk (start_with start limit) bytes.now result }
@@ -91,6 +93,7 @@ fn begun_walk<'a>(start: Start, bytes: &'a [u8], limit: Option<usize>) -> Peel<'
 }
 
 /// Writes a unit to its place, if the array has it.
+#[inline(always)]
 fn put(units: &mut [EtherUnit], at: usize, unit: EtherUnit)
     ensures { units.new ≡ slice_set units.old at unit }
 {

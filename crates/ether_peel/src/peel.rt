@@ -73,7 +73,7 @@ impl<'a> Model for Peel<'a> {
 
     ghost view = { λ a. record { rest = slice_range a.frame.now a.start a.end; offset = a.start; closed = a.is_closed; bound = a.bound; expected = record { next = expected_of a.first a.kind; limit = a.limit }; over = a.is_over } };
 
-    ghost invariant = { λ a. (a.start ≤ a.end) × (a.end ≤ length a.frame.now) × Announces a.first a.limit a.announced.0 a.kind × IsShown a.first a.kind };
+    ghost invariant = { λ a. (a.start ≤ a.end) × (a.end ≤ length a.frame.now) × Announces a.first a.announced.0 a.kind × IsShown a.first a.kind };
 }
 
 impl<'a> Peel<'a> {
@@ -125,8 +125,7 @@ impl<'a> Peel<'a> {
             Start::Ethernet2Fcs => (First::Ethernet2Fcs, UNANNOUNCED, RestKind::Start),
             Start::LinuxSll => (First::LinuxSll, UNANNOUNCED, RestKind::Start),
             Start::EtherType(ether_type) => {
-                let announced = permitted(limit, ether_type);
-                (First::Read, announced, RestKind::EtherType(ether_type))
+                (First::Read, ether_type, RestKind::EtherType(ether_type))
             }
         };
         Peel {
@@ -204,7 +203,7 @@ impl<'a> Iterator for Peel<'a> {
             return None;
         }
         match self.first {
-            First::Read => match self.announced {
+            First::Read => match permitted(self.limit, self.announced) {
                 EtherType::VLAN_TAGGED_FRAME
                 | EtherType::PROVIDER_BRIDGING
                 | EtherType::VLAN_DOUBLE_TAGGED_FRAME => self.vlan(),
@@ -270,7 +269,7 @@ impl<'a> Peel<'a> {
                 let ether_type = slice.ether_type();
                 self.start += slice.header_len();
                 self.first = First::Read;
-                self.announced = permitted(self.limit, ether_type);
+                self.announced = ether_type;
                 self.kind = RestKind::EtherType(ether_type);
                 Some(Ok(PeelUnit::Ethernet2(slice)))
             }
@@ -293,7 +292,7 @@ impl<'a> Peel<'a> {
                 self.start += slice.header_len();
                 self.end = self.start + slice.payload_slice().len();
                 self.first = First::Read;
-                self.announced = permitted(self.limit, ether_type);
+                self.announced = ether_type;
                 self.kind = RestKind::EtherType(ether_type);
                 Some(Ok(PeelUnit::Ethernet2(slice)))
             }
@@ -315,7 +314,7 @@ impl<'a> Peel<'a> {
                 let (announced, kind) = announced_in(&slice);
                 self.start += slice.header_len();
                 self.first = First::Read;
-                self.announced = permitted(self.limit, announced);
+                self.announced = announced;
                 self.kind = kind;
                 Some(Ok(PeelUnit::LinuxSll(slice)))
             }
@@ -343,7 +342,7 @@ impl<'a> Peel<'a> {
                 self.start += slice.header_len();
                 self.first = First::Read;
                 self.limit = lowered(self.limit);
-                self.announced = permitted(self.limit, ether_type);
+                self.announced = ether_type;
                 self.kind = RestKind::EtherType(ether_type);
                 Some(Ok(PeelUnit::Vlan(slice)))
             }
@@ -370,7 +369,7 @@ impl<'a> Peel<'a> {
                 self.bound = bound_after(known, self.bound);
                 self.first = First::Read;
                 self.limit = lowered(self.limit);
-                self.announced = permitted(self.limit, announced);
+                self.announced = announced;
                 self.kind = kind;
                 Some(Ok(PeelUnit::Macsec(slice)))
             }

@@ -2,7 +2,7 @@
 use Rattle.std.specs.Prelude.{◌≡◌, ℕ, List, Bool, Option}
 use Rattle.etherparse.specs.Types.LenSource.{LenSource}
 use Rattle.etherparse.specs.Kind as kinds
-use Rattle.ether_peel.specs.Grammar.Expectation.{Next, Expectation, Start, EtherType, Sll, Sealed, AfterArp, announced_next, permitted, announced_by}
+use Rattle.ether_peel.specs.Grammar.Expectation.{Next, Expectation, Start, EtherType, Sll, Sealed, AfterArp, announced_next, announced_by}
 use Rattle.ether_peel.specs.Walker.Start.{next_shown}
 use Rattle.ether_peel.specs.declared.rest_kind.RestKind.{RestKind}
 use Rattle.ether_peel.specs.declared.rest_kind.RestKind.TheVariants as rests
@@ -36,9 +36,9 @@ expected_of firsts.Ethernet2Fcs kind = Start kinds.Ethernet2Fcs
 expected_of firsts.LinuxSll kind = Start kinds.LinuxSll
 
 -- once the first header was read, the ether type that is kept announces what is expected
-abbrev pub Announces : First → Option ℕ → ℕ → RestKind → Type 0
-Announces firsts.Read limit ether_type kind = permitted limit (announced_next (shown_of kind)) ≡ announced_by ether_type
-Announces _ limit ether_type kind = Unit {0}
+abbrev pub Announces : First → ℕ → RestKind → Type 0
+Announces firsts.Read ether_type kind = announced_next (shown_of kind) ≡ announced_by ether_type
+Announces _ ether_type kind = Unit {0}
 
 -- the kind that is kept is what is shown
 abbrev pub IsShown : First → RestKind → Type 0

@@ -5,7 +5,7 @@ use Rattle.etherparse.proofs.SubLists.{length-part}
 use Rattle.etherparse.specs.Macsec.{sec_tag_of, tag_bytes}
 use Rattle.etherparse.specs.Header as headers
 use Rattle.ether_peel.specs.Walker.State.{State, shown_of}
-use Rattle.ether_peel.specs.Grammar.Expectation.{announced, announced_next, permitted}
+use Rattle.ether_peel.specs.Grammar.Expectation.{announced, announced_next}
 use Rattle.ether_peel.specs.Walker.Start.{next_shown}
 use Rattle.ether_peel.proofs.Grammar.Windows.{payload_closed, payload_bound}
 use Rattle.ether_peel.specs.Walker.Next.{Gives, ShowsMacsec}
@@ -25,7 +25,7 @@ invariant_of-self c =
     let ordered = c.self.invariant.0 in
     let inside = c.self.invariant.1 in
     let following = c.announced_after-kind.ensures in
-    let announces = ap (λ y. permitted c.lowered-self-inside.result (announced_next y)) following.expected ∙ ap (permitted c.lowered-self-inside.result) following.announced ∙ c.permitted-self-inside.ensures in
+    let announces = ap announced_next following.expected ∙ following.announced in
     (omega arith, omega arith, announces, following.shown ∙ ap next_shown (sym following.expected))
 
 pub returns-in-Ok-clause-gives : goal.returns-in-Ok-clause-gives
