@@ -1,4 +1,5 @@
-/* Made frames, and the functions of packets.rt.txt over them: the loop alone, the walk, and the form that FORM names. `frames` compares
+/* Made frames, and the functions of packets.rt.txt over them: the loop alone, the walk, and the form that FORM names, over
+ * the cooked captures if IS_COOKED is 1, else over the other sets. `frames` compares
  * the sums of the walk and the form, `frames SET N` calls the function of this number once over one set, for counting, and
  * `frames time TURNS` prints nanoseconds per frame, the least of the turns. */
 #include <stdint.h>
@@ -12,7 +13,7 @@ typedef uint32_t u32;
 typedef uint8_t u8;
 
 /* a slice is a pointer and a length */
-typedef u64 Form(const u8 *bytes, size_t len, const u32 *ends, size_t count, u32 is_cooked);
+typedef u64 Form(const u8 *bytes, size_t len, const u32 *ends, size_t count);
 Form nothing, by_walk, FORM;
 
 enum { FORMS = 3, SETS = 7, COUNT = 4096 };
@@ -94,7 +95,7 @@ static void make(int set) {
   }
 }
 
-static u64 call(int form, int set) { return forms[form](bytes, len, ends, COUNT, set == COOKED); }
+static u64 call(int form) { return forms[form](bytes, len, ends, COUNT); }
 
 static double now(void) {
   struct timespec t;
@@ -106,7 +107,8 @@ static int compare(void) {
   int failed = 0;
   for (int set = 0; set < SETS; set++) {
     make(set);
-    if (call(2, set) != call(1, set)) {
+    if ((set == COOKED) != IS_COOKED) continue;
+    if (call(2) != call(1)) {
       printf("set %d: the sums differ\n", set);
       failed = 1;
     }
@@ -118,12 +120,13 @@ static void measure(int turns) {
   for (int set = 0; set < SETS; set++) {
     double best[FORMS];
     make(set);
+    if ((set == COOKED) != IS_COOKED) continue;
     for (int form = 0; form < FORMS; form++) best[form] = 1e18;
     for (int turn = 0; turn < turns; turn++) {
       for (int form = 0; form < FORMS; form++) {
         volatile u64 sum;
         double begun = now();
-        for (int i = 0; i < 16; i++) sum = call(form, set);
+        for (int i = 0; i < 16; i++) sum = call(form);
         double took = (now() - begun) / (16.0 * COUNT);
         (void)sum;
         if (took < best[form]) best[form] = took;
@@ -143,7 +146,7 @@ int main(int argc, char **argv) {
     int set = atoi(argv[1]);
     volatile u64 sum;
     for (int i = 0; i <= set; i++) make(i);
-    sum = call(atoi(argv[2]), set);
+    sum = call(atoi(argv[2]));
     (void)sum;
     return 0;
   }

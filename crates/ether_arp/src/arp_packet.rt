@@ -530,6 +530,3 @@ impl fmt::Debug for ArpPacket {
             .finish()
     }
 }
-
-#[cfg(test)]
-mod tests;

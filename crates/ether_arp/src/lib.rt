@@ -8,10 +8,6 @@ mod arp_front;
 mod arp_packet;
 mod arp_packet_slice;
 pub mod laws;
-#[cfg(test)]
-mod test_asserts;
-#[cfg(test)]
-mod tests;
 
 pub use arp_eth_ipv4_packet::ArpEthIpv4Packet;
 pub use arp_packet::ArpPacket;

@@ -453,6 +453,3 @@ impl fmt::Debug for ArpHardwareId {
         write!(f, "{}", ShownArpHardwareId(*self))
     }
 }
-
-#[cfg(test)]
-mod tests;

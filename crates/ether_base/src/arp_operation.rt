@@ -15,21 +15,3 @@ impl ArpOperation {
     /// The sender answers such a question.
     pub const REPLY: ArpOperation = ArpOperation(2);
 }
-
-#[cfg(test)]
-mod tests {
-    use super::*;
-    use crate::test_asserts::{assert_debug, check_eq};
-    use std::test::Fail;
-
-    #[test]
-    fn the_example(rt: HostRuntime) {
-        check_eq!(rt; ArpOperation(1), ArpOperation::REQUEST);
-        check_eq!(rt; ArpOperation(2), ArpOperation::REPLY);
-    }
-
-    #[test]
-    fn shown_in_debug(rt: HostRuntime) -> Result<(), Fail> {
-        assert_debug(&rt, &ArpOperation::REPLY, "ArpOperation(2)")
-    }
-}

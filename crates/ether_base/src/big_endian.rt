@@ -46,24 +46,3 @@ pub fn bytes_of_u64(number: u64) -> [u8; 8]
 {
     number.to_be_bytes()
 }
-
-#[cfg(test)]
-mod tests {
-    use super::*;
-    use crate::test_asserts::check_eq;
-
-    #[test]
-    fn the_first_byte_is_the_most_significant(rt: HostRuntime) {
-        check_eq!(rt; u16_of([0x88, 0xA8]), 0x88A8);
-        check_eq!(rt; u32_of([192, 0, 2, 1]), 3_221_225_985);
-        check_eq!(rt; u64_of([0, 0, 0, 0, 0, 0, 1, 2]), 258);
-        check_eq!(rt; u64_of([0xFF; 8]), 18_446_744_073_709_551_615);
-    }
-
-    #[test]
-    fn the_most_significant_byte_comes_first(rt: HostRuntime) {
-        check_eq!(rt; bytes_of_u16(0x88A8), [0x88, 0xA8]);
-        check_eq!(rt; bytes_of_u32(258), [0, 0, 1, 2]);
-        check_eq!(rt; bytes_of_u64(258), [0, 0, 0, 0, 0, 0, 1, 2]);
-    }
-}

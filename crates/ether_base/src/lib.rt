@@ -18,10 +18,6 @@ mod macsec_an;
 mod macsec_short_len;
 pub mod number_text;
 pub mod slice_len;
-#[cfg(test)]
-mod test_asserts;
-#[cfg(test)]
-mod tests;
 mod vlan_id;
 mod vlan_pcp;
 pub mod write_front;

@@ -61,31 +61,3 @@ impl fmt::Display for ShownArpHardwareId {
         }
     }
 }
-
-#[cfg(test)]
-mod tests {
-    use super::*;
-    use crate::test_asserts::assert_display;
-    use std::test::Fail;
-
-    #[test]
-    fn the_example(rt: HostRuntime) -> Result<(), Fail> {
-        let number = HexNumber(0x01AB);
-        assert_display(&rt, &number, "0x01AB")
-    }
-
-    #[test]
-    fn four_digits_in_upper_case(rt: HostRuntime) -> Result<(), Fail> {
-        let rows = [
-            (0, "0x0000"),
-            (0x01AB, "0x01AB"),
-            (0x88E5, "0x88E5"),
-            (65535, "0xFFFF"),
-        ];
-        for (number, shown) in rows {
-            let hex = HexNumber(number);
-            assert_display(&rt, &hex, shown)?;
-        }
-        Ok(())
-    }
-}

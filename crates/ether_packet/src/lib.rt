@@ -11,8 +11,6 @@ mod packet_units;
 mod replace_error;
 mod replacing;
 mod replacing_arp;
-#[cfg(test)]
-mod tests;
 
 pub use build_error::BuildError;
 pub use packet_builder::{PacketBuilder, PacketContent};

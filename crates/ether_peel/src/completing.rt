@@ -175,6 +175,3 @@ fn first_byte(begun: &[u8], ether_type_at: Option<usize>) -> u8
         _ => 0,
     }
 }
-
-#[cfg(test)]
-mod tests;

@@ -21,15 +21,9 @@ mod peel;
 mod peel_error;
 mod peel_fault;
 mod peel_unit;
-#[cfg(test)]
-mod plain;
 mod rest_kind;
 mod start;
 mod summarizing;
-#[cfg(test)]
-mod test_frames;
-#[cfg(test)]
-mod tests;
 mod walk_feed;
 mod walk_summary;
 mod writing_back;

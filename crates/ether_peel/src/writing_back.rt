@@ -144,6 +144,3 @@ fn write_at(target: &mut [u8], at: usize, bytes: &[u8])
 {
     target[at..at + bytes.len()].copy_from_slice(bytes);
 }
-
-#[cfg(test)]
-mod tests;

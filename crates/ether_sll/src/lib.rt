@@ -7,12 +7,6 @@ mod linux_sll_fields;
 mod linux_sll_header;
 mod linux_sll_header_slice;
 mod linux_sll_slice;
-#[cfg(test)]
-mod test_asserts;
-#[cfg(test)]
-mod test_frames;
-#[cfg(test)]
-mod tests;
 
 pub use link_header::LinkHeader;
 pub use link_slice::LinkSlice;

@@ -21,12 +21,6 @@ mod number_at;
 mod single_vlan_header;
 mod single_vlan_header_slice;
 mod single_vlan_slice;
-#[cfg(test)]
-mod test_asserts;
-#[cfg(test)]
-mod test_frames;
-#[cfg(test)]
-mod tests;
 mod vlan_fields;
 mod vlan_header;
 mod vlan_slice;

@@ -21,35 +21,3 @@ pub enum MacsecPType {
     /// Only E is set, which IEEE 802.1AE reserves for the key agreement entity.
     EncryptedUnmodified,
 }
-
-#[cfg(test)]
-mod tests {
-    use super::*;
-    use crate::MacsecHeader;
-    use crate::test_asserts::{check_eq, check_ne};
-    use std::test::Fail;
-
-    #[test]
-    fn the_example(rt: HostRuntime) -> Result<(), Fail> {
-        let readable = MacsecHeader::from_slice(&[0x00, 0x00, 0, 0, 0, 1, 0x08, 0x00])?;
-        check_eq!(rt; readable.ptype, MacsecPType::Unmodified(EtherType::IPV4));
-        let encrypted = MacsecHeader::from_slice(&[0x0C, 0x00, 0, 0, 0, 1])?;
-        check_eq!(rt; encrypted.ptype, MacsecPType::Encrypted);
-        Ok(())
-    }
-
-    #[test]
-    fn types_differ_by_variant_and_ether_type(rt: HostRuntime) {
-        let readable = MacsecPType::Unmodified(EtherType::IPV4);
-        let others = [
-            MacsecPType::Unmodified(EtherType::IPV6),
-            MacsecPType::Modified,
-            MacsecPType::Encrypted,
-            MacsecPType::EncryptedUnmodified,
-        ];
-        for other in others {
-            check_ne!(rt; other, readable);
-            check_eq!(rt; other, other);
-        }
-    }
-}

@@ -22,11 +22,6 @@
 //! ```
 #![tactic(auto)]
 
-#[cfg(test)]
-mod test_asserts;
-#[cfg(test)]
-mod tests;
-
 pub use ether_arp::{ArpEthIpv4Packet, ArpPacket, ArpPacketSlice};
 pub use ether_base::{
     ArpHardwareId, ArpOperation, EtherType, LenSource, LinuxNonstandardEtherType,

@@ -1,9 +1,6 @@
 //! A generator of ARP requests, as an example of a program over `ether_packet`. No call allocates memory.
 #![tactic(auto)]
 
-#[cfg(test)]
-mod tests;
-
 ghost use Rattle.std.specs.Prelude.{◌≡◌, ◌≤◌, length, take, drop, IfOk, IfErr, OnErr};
 ghost use Rattle.example_arp_generator.specs.Request.{IsRequest, IsTooShort};
 

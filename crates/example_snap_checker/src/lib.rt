@@ -1,9 +1,6 @@
 //! A test of snap lengths, as an example of a program over `ether_packet`. No call allocates memory.
 #![tactic(auto)]
 
-#[cfg(test)]
-mod tests;
-
 ghost use Rattle.std.specs.Prelude.{◌≡◌, ◌↔◌, ◌≤◌, List, IsTrue, false, take};
 ghost use Rattle.etherparse.specs.Header.{Header};
 ghost use Rattle.ether_peel.specs.Grammar.Cuts.{reach};

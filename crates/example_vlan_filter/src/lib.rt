@@ -1,9 +1,6 @@
 //! A filter of frames by VLAN and protocol, as an example of a program over `ether_packet`. No call allocates memory.
 #![tactic(auto)]
 
-#[cfg(test)]
-mod tests;
-
 ghost use Rattle.std.specs.Prelude.{◌≡◌, ◌↔◌, List, IsTrue};
 ghost use Rattle.etherparse.specs.Header.{Header};
 ghost use Rattle.ether_peel.specs.Grammar.Stack.{Ending, last_expected, Walk};

@@ -1,9 +1,6 @@
 //! A rewriter of VLAN identifiers, as an example of a program over `ether_packet`. No call allocates memory.
 #![tactic(auto)]
 
-#[cfg(test)]
-mod tests;
-
 ghost use Rattle.std.specs.Prelude.{◌≡◌, List, [], IsTrue, IsFalse};
 ghost use Rattle.etherparse.specs.Bytes.{IsBytes};
 ghost use Rattle.etherparse.specs.Header.{Header};

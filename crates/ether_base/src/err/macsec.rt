@@ -13,18 +13,3 @@ pub use header_error::HeaderError;
 /// assert_eq!(rt; error.clone()?.add_slice_offset(14), error);
 /// ```
 pub type HeaderSliceError = crate::header_slice_error::HeaderSliceError<HeaderError>;
-
-#[cfg(test)]
-mod tests {
-    use super::*;
-    use crate::test_asserts::check_eq;
-    use std::test::Fail;
-
-    #[test]
-    fn the_example(rt: HostRuntime) -> Result<(), Fail> {
-        let content = HeaderError::UnexpectedVersion;
-        let error = HeaderSliceError::Content(content);
-        check_eq!(rt; error.clone()?.add_slice_offset(14), error);
-        Ok(())
-    }
-}

@@ -40,38 +40,3 @@ impl fmt::Display for ArpHwAddrError {
 }
 
 impl Error for ArpHwAddrError {}
-
-#[cfg(test)]
-mod tests {
-    use super::*;
-    use crate::test_asserts::assert_display;
-    use std::test::Fail;
-
-    #[test]
-    fn the_example(rt: HostRuntime) -> Result<(), Fail> {
-        let error = ArpHwAddrError::LenTooBig(256);
-        assert_display(
-            &rt,
-            &error,
-            "ARP Hardware Address Error: Given hardware address has a length of 256 which is greater then the maximum of 255.",
-        )
-    }
-
-    #[test]
-    fn both_texts(rt: HostRuntime) -> Result<(), Fail> {
-        let rows = [
-            (
-                ArpHwAddrError::LenTooBig(256),
-                "ARP Hardware Address Error: Given hardware address has a length of 256 which is greater then the maximum of 255.",
-            ),
-            (
-                ArpHwAddrError::LenNonMatching(5, 6),
-                "ARP Hardware Address Error: Given sender & target hardware addresses have differing lengths of 5 & 6 (must be matching).",
-            ),
-        ];
-        for (error, text) in rows {
-            assert_display(&rt, &error, text)?;
-        }
-        Ok(())
-    }
-}

@@ -40,38 +40,3 @@ impl fmt::Display for ArpProtoAddrError {
 }
 
 impl Error for ArpProtoAddrError {}
-
-#[cfg(test)]
-mod tests {
-    use super::*;
-    use crate::test_asserts::assert_display;
-    use std::test::Fail;
-
-    #[test]
-    fn the_example(rt: HostRuntime) -> Result<(), Fail> {
-        let error = ArpProtoAddrError::LenTooBig(256);
-        assert_display(
-            &rt,
-            &error,
-            "ARP Protocol Address Error: Given protocol address has a length of 256 which is greater then the maximum of 255.",
-        )
-    }
-
-    #[test]
-    fn both_texts(rt: HostRuntime) -> Result<(), Fail> {
-        let rows = [
-            (
-                ArpProtoAddrError::LenTooBig(256),
-                "ARP Protocol Address Error: Given protocol address has a length of 256 which is greater then the maximum of 255.",
-            ),
-            (
-                ArpProtoAddrError::LenNonMatching(5, 6),
-                "ARP Protocol Address Error: Given sender & target protocol addresses have differing lengths of 5 & 6 (must be matching).",
-            ),
-        ];
-        for (error, text) in rows {
-            assert_display(&rt, &error, text)?;
-        }
-        Ok(())
-    }
-}

@@ -48,37 +48,3 @@ impl fmt::Display for HeaderError {
 }
 
 impl Error for HeaderError {}
-
-#[cfg(test)]
-mod tests {
-    use super::*;
-    use crate::LinuxSllPacketType;
-    use crate::test_asserts::{assert_display, check_eq};
-    use std::test::Fail;
-
-    #[test]
-    fn the_example(rt: HostRuntime) {
-        let refused = HeaderError::UnsupportedPacketTypeField { packet_type: 8 };
-        check_eq!(rt; LinuxSllPacketType::try_from(8), Err(refused));
-    }
-
-    #[test]
-    fn both_texts(rt: HostRuntime) -> Result<(), Fail> {
-        let rows = [
-            (
-                HeaderError::UnsupportedPacketTypeField { packet_type: 8 },
-                "Linux cooked capture v1 (SLL) Header Error: Encountered '8' as the packet type, but its not supported.",
-            ),
-            (
-                HeaderError::UnsupportedArpHardwareId {
-                    arp_hardware_type: ArpHardwareId::CSLIP,
-                },
-                "Linux cooked capture v1 (SLL)  Header Error:  Encountered '257 (CSLIP)' as the ARP harware type, but its not supported.",
-            ),
-        ];
-        for (error, text) in rows {
-            assert_display(&rt, &error, text)?;
-        }
-        Ok(())
-    }
-}

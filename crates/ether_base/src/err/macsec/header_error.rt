@@ -40,32 +40,3 @@ impl fmt::Display for HeaderError {
 }
 
 impl Error for HeaderError {}
-
-#[cfg(test)]
-mod tests {
-    use super::*;
-    use crate::test_asserts::assert_display;
-    use std::test::Fail;
-
-    #[test]
-    fn the_example(rt: HostRuntime) -> Result<(), Fail> {
-        let error = HeaderError::UnexpectedVersion;
-        let text =
-            "MACsec Header Error: Encountered '1' as MACsec version in the MACsec SecTag header (must be '0').";
-        assert_display(&rt, &error, text)
-    }
-
-    #[rattlefmt::skip]
-    const TEXTS: [(HeaderError, &str); 2] = [
-        (HeaderError::UnexpectedVersion, "MACsec Header Error: Encountered '1' as MACsec version in the MACsec SecTag header (must be '0')."),
-        (HeaderError::InvalidUnmodifiedShortLen, "MACsec Header Error: Encountered '1' as MACsec short len in an unmodified packet (must be '0' or '2' or greater)."),
-    ];
-
-    #[test]
-    fn both_texts(rt: HostRuntime) -> Result<(), Fail> {
-        for (error, text) in TEXTS {
-            assert_display(&rt, &error, text)?;
-        }
-        Ok(())
-    }
-}

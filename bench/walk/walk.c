@@ -1,0 +1,182 @@
+/* A walk of Ethernet II, VLAN, MACsec and ARP by hand in C, with each test that the table of refusals asks for and nothing else,
+ * beside the library's.
+ *
+ *   walk time ROUNDS   a line for each set: nanoseconds a frame of both, the least of ROUNDS turns, and their ratio
+ *   walk SET CALL      one call over a set, for callgrind: 0 walk, 1 with a limit of 64, 2 summary, 3 walk by hand, 4 summary by hand
+ *
+ * All sum up every unit's fields and payload length and the fault, and the sums are compared before anything is timed. */
+#include <stdint.h>
+#include <stdio.h>
+#include <stdlib.h>
+#include <string.h>
+#include <time.h>
+
+typedef uint64_t u64;
+typedef uint32_t u32;
+typedef uint8_t u8;
+
+/* the library, from libwalk_bench.a; a slice is a pointer and a length */
+u64 port_walks(const u8 *bytes, size_t len, const u32 *ends, size_t count);
+u64 port_limited_walks(const u8 *bytes, size_t len, const u32 *ends, size_t count);
+u64 port_summaries(const u8 *bytes, size_t len, const u32 *ends, size_t count);
+
+static inline u32 be16(const u8 *p) { uint16_t v; memcpy(&v, p, 2); return __builtin_bswap16(v); }
+static inline u32 be32(const u8 *p) { u32 v; memcpy(&v, p, 4); return __builtin_bswap32(v); }
+
+struct walked { u64 sum, units, rest, fault; };
+
+static inline __attribute__((always_inline)) struct walked walk(const u8 *list, size_t n) {
+  struct walked w = {0, 0, 0, 0};
+  size_t at = 0, end = n;
+  u32 type;
+#define FAULT(required, have) do { w.fault = 1; w.sum += at + (required) + (have); w.rest = at + end; return w; } while (0)
+  if (n < 14) FAULT(14, n);
+  type = be16(list + 12);
+  w.sum = type + (n - 14);
+  w.units = 1;
+  at = 14;
+  for (;;) {
+    const u8 *p = list + at;
+    size_t k = end - at;
+    if (type == 0x8100 || type == 0x88A8 || type == 0x9100) {
+      if (k < 4) FAULT(4, k);
+      type = be16(p + 2);
+      w.sum = w.sum * 31 + (be16(p) & 0xFFF) + type + (k - 4);
+      at += 4;
+    } else if (type == 0x88E5) {
+      u32 plain, h, s;
+      size_t payload;
+      if (k < 6) FAULT(6, k);
+      if (p[0] & 0x80) FAULT(1, 0);
+      plain = !(p[0] & 0x0C);
+      s = p[1] & 0x3F;
+      if (plain && s == 1) FAULT(2, 0);
+      h = 6 + (p[0] & 0x20 ? 8 : 0) + (plain ? 2 : 0);
+      if (k < h) FAULT(h, k);
+      payload = k - h;
+      if (s && !(plain && s < 2)) {
+        size_t known = plain ? s - 2 : s;
+        if (payload < known) FAULT(h + known, k);
+        payload = known;
+        end = at + h + known;
+      }
+      w.sum = w.sum * 31 + be32(p + 2) + s + payload;
+      at += h;
+      w.units++;
+      if (!plain) break;
+      type = be16(p + h - 2);
+      continue;
+    } else if (type == 0x0806) {
+      size_t len;
+      if (k < 8) FAULT(8, k);
+      len = 8 + 2 * (size_t)p[4] + 2 * (size_t)p[5];
+      if (k < len) FAULT(len, k);
+      w.sum = w.sum * 31 + be16(p) + be16(p + 6) + len;
+      at += len;
+      w.units++;
+      break;
+    } else {
+      break;
+    }
+    w.units++;
+  }
+  w.rest = at + end;
+  return w;
+}
+
+#define OVER(name, value)                                                              \
+  __attribute__((noinline)) static u64 name(const u8 *bytes, size_t len, const u32 *ends, size_t count) { \
+    u64 sum = 0;                                                                       \
+    size_t start = 0;                                                                  \
+    for (size_t i = 0; i < count; i++) {                                               \
+      size_t end = ends[i];                                                            \
+      if (end < start || end > len) return sum;                                        \
+      struct walked w = walk(bytes + start, end - start);                              \
+      sum += (value);                                                                  \
+      start = end;                                                                     \
+    }                                                                                  \
+    return sum;                                                                        \
+  }
+OVER(hand_walks, w.sum)
+OVER(hand_summaries, w.units * 3 + w.rest * 5 + w.fault * 7)
+
+/* ---- frames, made from a fixed seed */
+
+static u64 state = 0x9E3779B97F4A7C15u;
+static u32 below(u32 n) {
+  state ^= state << 13; state ^= state >> 7; state ^= state << 17;
+  return (u32)(state >> 33) % n;
+}
+static size_t put16(u8 *p, u32 v) { p[0] = v >> 8; p[1] = v; return 2; }
+
+enum { MIXED, PLAIN, TAGGED, SECURED, ADDRESSES, CUT };
+
+static size_t frame(u8 *p, int set) {
+  size_t n = 0;
+  u32 dice = set == MIXED ? below(100) : 0;
+  int tags = set == TAGGED ? 1 + below(3) : set == MIXED && dice < 20 ? 1 + (dice < 5) : 0;
+  int secure = set == SECURED ? 1 + below(2) : set == MIXED && dice >= 20 && dice < 26;
+  int arp = set == ADDRESSES || (set == MIXED && dice >= 26 && dice < 38);
+  for (; n < 12; n++) p[n] = below(256);
+  for (; tags; tags--) { n += put16(p + n, below(2) ? 0x8100 : 0x88A8); n += put16(p + n, below(65536)); }
+  for (; secure; secure--) {
+    n += put16(p + n, 0x88E5);
+    int sci = below(2);
+    p[n++] = sci ? 0x20 : 0; p[n++] = 0;
+    for (int i = 0; i < (sci ? 12 : 4); i++) p[n++] = below(256);
+  }
+  if (arp) {
+    n += put16(p + n, 0x0806); n += put16(p + n, 1); n += put16(p + n, 0x0800);
+    p[n++] = 6; p[n++] = 4; n += put16(p + n, 1 + below(2));
+    for (int i = 0; i < 20; i++) p[n++] = below(256);
+    while (n < 60) p[n++] = 0;
+  } else {
+    n += put16(p + n, below(4) ? 0x0800 : 0x86DD);
+    size_t more = 40 + below(200);
+    for (size_t i = 0; i < more; i++) p[n++] = (u8)i;
+  }
+  return set == CUT || (set == MIXED && dice >= 96) ? below((u32)n) : n;
+}
+
+static u64 now(void) { struct timespec t; clock_gettime(CLOCK_MONOTONIC, &t); return (u64)t.tv_sec * 1000000000u + t.tv_nsec; }
+typedef u64 (*over)(const u8 *, size_t, const u32 *, size_t);
+
+static int race(const char *name, over port, over hand, const u8 *bytes, size_t len, const u32 *ends, size_t count, int rounds) {
+  double best[2] = {1e18, 1e18};
+  volatile u64 sink;
+  u64 a = port(bytes, len, ends, count), b = hand(bytes, len, ends, count);
+  if (a != b) { printf("%-24s the sums differ: %llu and %llu\n", name, (unsigned long long)a, (unsigned long long)b); return 1; }
+  for (int r = 0; r < rounds; r++)
+    for (int which = 0; which < 2; which++) {
+      u64 begun = now();
+      for (int i = 0; i < 16; i++) sink = (which ? hand : port)(bytes, len, ends, count);
+      double t = (double)(now() - begun) / (16.0 * count);
+      if (t < best[which]) best[which] = t;
+    }
+  (void)sink;
+  printf("%-24s library %6.2f ns  by hand %6.2f ns  ratio %5.2f\n", name, best[0], best[1], best[0] / best[1]);
+  return 0;
+}
+
+int main(int argc, char **argv) {
+  static const char *names[] = {"mixed", "plain", "one to three tags", "one or two SecTags", "ARP", "cut short"};
+  static const over calls[] = {port_walks, port_limited_walks, port_summaries, hand_walks, hand_summaries};
+  int timed = argc > 2 && !strcmp(argv[1], "time"), bad = 0;
+  enum { COUNT = 4096 };
+  u8 *bytes = malloc(COUNT * 512);
+  u32 *ends = malloc(COUNT * sizeof *ends);
+  if (argc < 3) return 2;
+  for (int set = MIXED; set <= CUT; set++) {
+    char name[64];
+    size_t len = 0;
+    for (int i = 0; i < COUNT; i++) { len += frame(bytes + len, set); ends[i] = (u32)len; }
+    if (!timed && set == atoi(argv[1])) return calls[atoi(argv[2])](bytes, len, ends, COUNT) == 1;
+    if (!timed) continue;
+    bad += race(names[set], port_walks, hand_walks, bytes, len, ends, COUNT, atoi(argv[2]));
+    snprintf(name, sizeof name, "%s, limit", names[set]);
+    bad += race(name, port_limited_walks, hand_walks, bytes, len, ends, COUNT, atoi(argv[2]));
+    snprintf(name, sizeof name, "%s, summary", names[set]);
+    bad += race(name, port_summaries, hand_summaries, bytes, len, ends, COUNT, atoi(argv[2]));
+  }
+  return bad != 0;
+}

@@ -1,2 +1,0 @@
-//! What callers learn of the types of this crate.
-mod derived_traits;

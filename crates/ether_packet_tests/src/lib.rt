@@ -1,0 +1,7 @@
+//! Tests of `ether_packet`, and what callers learn of the derived traits of its types. They stand above it so that it is proved
+//! once.
+#![tactic(auto)]
+
+pub mod derived_traits;
+#[cfg(test)]
+mod tests;

@@ -1,0 +1,7 @@
+//! Packets of worked frames, read, built and changed.
+mod building;
+mod frames;
+mod packets;
+mod replacing;
+mod replacing_arp;
+mod replacing_links;

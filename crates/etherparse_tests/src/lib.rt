@@ -1,0 +1,9 @@
+//! Tests of `etherparse` and of the libraries that it re-exports, by its public paths, and what callers learn of the derived
+//! traits of their types. They stand above them so that each library is proved once.
+#![tactic(auto)]
+
+pub mod derived_traits;
+#[cfg(test)]
+mod test_frames;
+#[cfg(test)]
+mod tests;

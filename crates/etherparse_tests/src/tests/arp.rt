@@ -1,0 +1,366 @@
+//! ARP packets, read, made and written.
+use super::equal;
+use crate::test_frames::{REPLY, REQUEST};
+use etherparse::err::arp::ArpEthIpv4FromError;
+use etherparse::err::{Layer, LenError};
+use etherparse::{
+    ArpEthIpv4Packet, ArpHardwareId, ArpOperation, ArpPacket, ArpPacketSlice, EtherType, LenSource,
+};
+use std::net::Ipv4Addr;
+use std::test::Fail;
+
+/// [`REQUEST`] as a value.
+const QUESTION: ArpEthIpv4Packet = ArpEthIpv4Packet {
+    operation: ArpOperation::REQUEST,
+    sender_mac: [2, 0, 0, 0, 0, 1],
+    sender_ipv4: [10, 0, 0, 1],
+    target_mac: [0; 6],
+    target_ipv4: [10, 0, 0, 2],
+};
+
+/// [`REQUEST`] with 18 bytes after it, as Ethernet pads it.
+const PADDED: [u8; 46] = [
+    0x00, 0x01, 0x08, 0x00, 0x06, 0x04, 0x00, 0x01, 0x02, 0x00, 0x00, 0x00, 0x00, 0x01, 0x0A, 0x00,
+    0x00, 0x01, 0x00, 0x00, 0x00, 0x00, 0x00, 0x00, 0x0A, 0x00, 0x00, 0x02, 0x55, 0x55, 0x55, 0x55,
+    0x55, 0x55, 0x55, 0x55, 0x55, 0x55, 0x55, 0x55, 0x55, 0x55, 0x55, 0x55, 0x55, 0x55,
+];
+
+/// Addresses of two bytes, and of three.
+const SMALL: [u8; 18] = [
+    0x01, 0x02, 0x86, 0xDD, 2, 3, 0xAB, 0xCD, 1, 2, 3, 4, 5, 6, 7, 8, 9, 10,
+];
+
+/// A packet in bytes, and what it says.
+struct Row {
+    name: &'static str,
+    bytes: &'static [u8],
+    len: usize,
+    hardware_type: u16,
+    protocol_type: u16,
+    sizes: (u8, u8),
+    operation: u16,
+    /// Those of the sender, hardware before protocol, then those of the target.
+    addresses: [&'static [u8]; 4],
+}
+
+const ASKED: Row = Row {
+    name: "a request",
+    bytes: &REQUEST,
+    len: 28,
+    hardware_type: 1,
+    protocol_type: 0x0800,
+    sizes: (6, 4),
+    operation: 1,
+    addresses: [
+        &[2, 0, 0, 0, 0, 1],
+        &[10, 0, 0, 1],
+        &[0, 0, 0, 0, 0, 0],
+        &[10, 0, 0, 2],
+    ],
+};
+
+static ROWS: [Row; 5] = [
+    ASKED,
+    Row {
+        name: "padding is no part of the packet",
+        bytes: &PADDED,
+        ..ASKED
+    },
+    Row {
+        name: "the reply to the request",
+        bytes: &REPLY,
+        operation: 2,
+        addresses: [
+            &[2, 0, 0, 0, 0, 2],
+            &[10, 0, 0, 2],
+            &[2, 0, 0, 0, 0, 1],
+            &[10, 0, 0, 1],
+        ],
+        ..ASKED
+    },
+    Row {
+        name: "addresses of other sizes",
+        bytes: &SMALL,
+        len: 18,
+        hardware_type: 0x0102,
+        protocol_type: 0x86DD,
+        sizes: (2, 3),
+        operation: 0xABCD,
+        addresses: [&[1, 2], &[3, 4, 5], &[6, 7], &[8, 9, 10]],
+    },
+    Row {
+        name: "no addresses",
+        bytes: &[0, 1, 8, 0, 0, 0, 0, 1],
+        len: 8,
+        sizes: (0, 0),
+        addresses: [&[], &[], &[], &[]],
+        ..ASKED
+    },
+];
+
+#[test]
+fn views(rt: HostRuntime) -> Result<(), Fail> {
+    for row in &ROWS {
+        let view = ArpPacketSlice::from_slice(row.bytes)?;
+        equal(
+            &rt,
+            row.name,
+            &(
+                Some(view.slice()),
+                (view.hw_addr_type(), view.proto_addr_type()),
+                (view.hw_addr_size(), view.proto_addr_size()),
+                view.operation(),
+                [
+                    view.sender_hw_addr(),
+                    view.sender_protocol_addr(),
+                    view.target_hw_addr(),
+                    view.target_protocol_addr(),
+                ],
+            ),
+            &(
+                row.bytes.get(..row.len),
+                (
+                    ArpHardwareId(row.hardware_type),
+                    EtherType(row.protocol_type),
+                ),
+                row.sizes,
+                ArpOperation(row.operation),
+                row.addresses,
+            ),
+        );
+    }
+    Ok(())
+}
+
+#[test]
+fn values(rt: HostRuntime) -> Result<(), Fail> {
+    for row in &ROWS {
+        let packet = ArpPacket::from_slice(row.bytes)?;
+        equal(
+            &rt,
+            row.name,
+            &(
+                (packet.hw_addr_type, packet.proto_addr_type),
+                (packet.hw_addr_size(), packet.protocol_addr_size()),
+                packet.operation,
+                [
+                    packet.sender_hw_addr(),
+                    packet.sender_protocol_addr(),
+                    packet.target_hw_addr(),
+                    packet.target_protocol_addr(),
+                ],
+                packet.packet_len(),
+            ),
+            &(
+                (
+                    ArpHardwareId(row.hardware_type),
+                    EtherType(row.protocol_type),
+                ),
+                row.sizes,
+                ArpOperation(row.operation),
+                row.addresses,
+                row.len,
+            ),
+        );
+    }
+    Ok(())
+}
+
+/// What is made of the types and addresses, and what a view is as a value, is the packet that was read.
+#[test]
+fn made_and_written(rt: HostRuntime) -> Result<(), Fail> {
+    for row in &ROWS {
+        let read = ArpPacket::from_slice(row.bytes)?;
+        let [
+            sender_hardware,
+            sender_protocol,
+            target_hardware,
+            target_protocol,
+        ] = row.addresses;
+        let made = ArpPacket::new(
+            ArpHardwareId(row.hardware_type),
+            EtherType(row.protocol_type),
+            ArpOperation(row.operation),
+            sender_hardware,
+            sender_protocol,
+            target_hardware,
+            target_protocol,
+        )?;
+        let view = ArpPacketSlice::from_slice(row.bytes)?;
+        let packets = [read.clone()?, made, view.to_packet()];
+        for packet in &packets {
+            let bytes = packet.to_bytes();
+            equal(
+                &rt,
+                row.name,
+                &(Some(bytes.as_slice()), packet),
+                &(row.bytes.get(..row.len), &read),
+            );
+        }
+    }
+    Ok(())
+}
+
+#[test]
+fn the_greatest_sizes(rt: HostRuntime) -> Result<(), Fail> {
+    let mut bytes = [7; 1028];
+    bytes[4] = 255;
+    bytes[5] = 255;
+    let view = ArpPacketSlice::from_slice(&bytes)?;
+    let packet = ArpPacket::from_slice(&bytes)?;
+    let sevens = [7; 255];
+    equal(
+        &rt,
+        "of four addresses",
+        &(
+            view.slice(),
+            view.target_protocol_addr(),
+            packet.target_protocol_addr(),
+            (packet.packet_len(), ArpPacket::MAX_LEN),
+        ),
+        &(
+            bytes.as_slice(),
+            sevens.as_slice(),
+            sevens.as_slice(),
+            (1028, 1028),
+        ),
+    );
+    let mut bytes = [7; 518];
+    bytes[4] = 255;
+    bytes[5] = 0;
+    let view = ArpPacketSlice::from_slice(&bytes)?;
+    equal(
+        &rt,
+        "of hardware addresses alone",
+        &(
+            view.slice(),
+            view.target_hw_addr(),
+            view.target_protocol_addr(),
+        ),
+        &(bytes.as_slice(), sevens.as_slice(), [].as_slice()),
+    );
+    Ok(())
+}
+
+#[test]
+fn slices_that_are_too_short(rt: HostRuntime) {
+    let (mut one_kind, mut both_kinds) = ([7; 517], [7; 1027]);
+    (one_kind[4], one_kind[5]) = (255, 0);
+    (both_kinds[4], both_kinds[5]) = (255, 255);
+    let (slice, sizes) = (LenSource::Slice, LenSource::ArpAddrLengths);
+    for (name, bytes, required_len, len_source) in [
+        ("no byte", [].as_slice(), 8, slice),
+        ("the front alone", &REQUEST[..8], 28, sizes),
+        ("a byte less", &REQUEST[..27], 28, sizes),
+        // one byte of protocol address each, of which the front tells
+        (
+            "the front is asked for first",
+            &[0, 1, 8, 0, 0, 1, 0],
+            8,
+            slice,
+        ),
+        ("then the addresses", &[0, 1, 8, 0, 0, 1, 0, 1], 10, sizes),
+        ("hardware addresses alone", &one_kind, 518, sizes),
+        ("the greatest sizes", &both_kinds, 1028, sizes),
+    ] {
+        let refused = LenError {
+            required_len,
+            len: bytes.len(),
+            len_source,
+            layer: Layer::Arp,
+            layer_start_offset: 0,
+        };
+        let view = ArpPacketSlice::from_slice(bytes).err();
+        let alike = ArpPacket::from_slice(bytes).err() == view;
+        equal(&rt, name, &(view, alike), &(Some(refused), true));
+    }
+}
+
+#[test]
+fn of_ethernet_and_ipv4(rt: HostRuntime) -> Result<(), Fail> {
+    let packet = QUESTION.to_arp_packet();
+    equal(
+        &rt,
+        "the request",
+        &(
+            (QUESTION.to_bytes(), ArpEthIpv4Packet::LEN),
+            (QUESTION.sender_ipv4_addr(), QUESTION.target_ipv4_addr()),
+            packet.try_eth_ipv4(),
+            ArpPacket::from(QUESTION) == packet,
+            ArpPacket::from_slice(&REQUEST)? == packet,
+            ArpEthIpv4Packet::try_from(packet),
+        ),
+        &(
+            (REQUEST, 28),
+            (Ipv4Addr::new(10, 0, 0, 1), Ipv4Addr::new(10, 0, 0, 2)),
+            Ok(QUESTION),
+            true,
+            true,
+            Ok(QUESTION),
+        ),
+    );
+    Ok(())
+}
+
+/// Types are told before sizes.
+#[test]
+fn of_other_kinds(rt: HostRuntime) -> Result<(), Fail> {
+    let (ethernet, eether) = (ArpHardwareId::ETHERNET, ArpHardwareId::EETHER);
+    let (ipv4, ipv6) = (EtherType::IPV4, EtherType::IPV6);
+    for (hardware_type, protocol_type, hardware, wanted) in [
+        (
+            eether,
+            ipv6,
+            [0; 8].as_slice(),
+            ArpEthIpv4FromError::NonMatchingHwType(eether),
+        ),
+        (
+            ethernet,
+            ipv6,
+            &[0; 8],
+            ArpEthIpv4FromError::NonMatchingProtocolType(ipv6),
+        ),
+        (
+            ethernet,
+            ipv4,
+            &[0; 8],
+            ArpEthIpv4FromError::NonMatchingHwAddrSize(8),
+        ),
+        (
+            ethernet,
+            ipv4,
+            &[0; 6],
+            ArpEthIpv4FromError::NonMatchingProtoAddrSize(16),
+        ),
+    ] {
+        let packet = ArpPacket::new(
+            hardware_type,
+            protocol_type,
+            ArpOperation::REQUEST,
+            hardware,
+            &[0; 16],
+            hardware,
+            &[0; 16],
+        )?;
+        let refused = packet.try_eth_ipv4().err();
+        let alike = ArpEthIpv4Packet::try_from(packet).err() == refused;
+        equal(&rt, "a packet", &(refused, alike), &(Some(wanted), true));
+    }
+    Ok(())
+}
+
+#[test]
+fn shown_by_debug(rt: HostRuntime) -> Result<(), Fail> {
+    let packet = ArpPacket::from_slice(&REQUEST)?;
+    let view = ArpPacketSlice::from_slice(&REQUEST)?;
+    let shown = format!(in rt.alloc(); "{packet:?}\n{view:?}\n{QUESTION:?}")?;
+    equal(
+        &rt,
+        "a request, its view, and as one of Ethernet and IPv4",
+        &shown.as_str(),
+        &"ArpPacket { hw_addr_type: 1 (Ethernet), proto_addr_type: 0x0800 (Internet Protocol version 4 (IPv4)), hw_addr_size: 6, proto_addr_size: 4, operation: ArpOperation(1), sender_hw_addr: [2, 0, 0, 0, 0, 1], sender_protocol_addr: [10, 0, 0, 1], target_hw_addr: [0, 0, 0, 0, 0, 0], target_protocol_addr: [10, 0, 0, 2] }\n\
+ArpPacketSlice { slice: [0, 1, 8, 0, 6, 4, 0, 1, 2, 0, 0, 0, 0, 1, 10, 0, 0, 1, 0, 0, 0, 0, 0, 0, 10, 0, 0, 2] }\n\
+ArpEthIpv4Packet { operation: ArpOperation(1), sender_mac: [2, 0, 0, 0, 0, 1], sender_ipv4: [10, 0, 0, 1], target_mac: [0, 0, 0, 0, 0, 0], target_ipv4: [10, 0, 0, 2] }",
+    );
+    Ok(())
+}

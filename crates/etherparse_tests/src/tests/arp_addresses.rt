@@ -1,0 +1,251 @@
+//! Addresses of ARP packets, refused or put in the place of others.
+use super::equal;
+use crate::test_frames::{REPLY, REQUEST};
+use etherparse::err::arp::{ArpHwAddrError, ArpNewError, ArpProtoAddrError};
+use etherparse::{ArpHardwareId, ArpOperation, ArpPacket, EtherType};
+use std::hash::{DefaultHasher, Hash, Hasher};
+use std::test::Fail;
+
+/// A request of these addresses.
+fn request(addresses: [&[u8]; 4]) -> Result<ArpPacket, ArpNewError> {
+    let [
+        sender_hardware,
+        sender_protocol,
+        target_hardware,
+        target_protocol,
+    ] = addresses;
+    ArpPacket::new(
+        ArpHardwareId::ETHERNET,
+        EtherType::IPV4,
+        ArpOperation::REQUEST,
+        sender_hardware,
+        sender_protocol,
+        target_hardware,
+        target_protocol,
+    )
+}
+
+/// Lengths are compared before they are measured.
+#[test]
+fn addresses_that_are_refused(rt: HostRuntime) {
+    for (addresses, wanted) in [
+        (
+            [[0; 5].as_slice(), &[0; 4], &[0; 6], &[0; 3]],
+            ArpNewError::HwAddr(ArpHwAddrError::LenNonMatching(5, 6)),
+        ),
+        (
+            [&[0; 256], &[0; 4], &[0; 256], &[0; 3]],
+            ArpNewError::ProtoAddr(ArpProtoAddrError::LenNonMatching(4, 3)),
+        ),
+        (
+            [&[0; 256], &[0; 256], &[0; 256], &[0; 256]],
+            ArpNewError::HwAddr(ArpHwAddrError::LenTooBig(256)),
+        ),
+        (
+            [&[0; 6], &[0; 300], &[0; 6], &[0; 300]],
+            ArpNewError::ProtoAddr(ArpProtoAddrError::LenTooBig(300)),
+        ),
+    ] {
+        equal(&rt, "new", &request(addresses).err(), &Some(wanted));
+    }
+}
+
+fn hash_of(packet: &ArpPacket) -> u64 {
+    let mut state = DefaultHasher::new();
+    packet.hash(&mut state);
+    state.finish()
+}
+
+/// A packet, addresses of the sender and the target that are put in the place of its own, and the packet then.
+struct Change {
+    name: &'static str,
+    before: &'static [u8],
+    hardware: Option<[&'static [u8]; 2]>,
+    protocol: Option<[&'static [u8]; 2]>,
+    after: &'static [u8],
+}
+
+static CHANGES: [Change; 7] = [
+    Change {
+        name: "other hardware addresses",
+        before: &REQUEST,
+        hardware: Some([&[0xAA, 0xBB], &[0xCC, 0xDD]]),
+        protocol: None,
+        after: &[
+            0x00, 0x01, 0x08, 0x00, 0x02, 0x04, 0x00, 0x01, 0xAA, 0xBB, 0x0A, 0x00, 0x00, 0x01,
+            0xCC, 0xDD, 0x0A, 0x00, 0x00, 0x02,
+        ],
+    },
+    Change {
+        name: "other protocol addresses",
+        before: &REQUEST,
+        hardware: None,
+        protocol: Some([&[11, 12, 13, 14, 15, 16, 17], &[21, 22, 23, 24, 25, 26, 27]]),
+        after: &[
+            0, 1, 8, 0, 6, 7, 0, 1, 2, 0, 0, 0, 0, 1, 11, 12, 13, 14, 15, 16, 17, 0, 0, 0, 0, 0, 0,
+            21, 22, 23, 24, 25, 26, 27,
+        ],
+    },
+    Change {
+        name: "protocol addresses of one byte",
+        before: &REQUEST,
+        hardware: None,
+        protocol: Some([&[31], &[32]]),
+        after: &[
+            0, 1, 8, 0, 6, 1, 0, 1, 2, 0, 0, 0, 0, 1, 31, 0, 0, 0, 0, 0, 0, 32,
+        ],
+    },
+    Change {
+        name: "no protocol addresses",
+        before: &REQUEST,
+        hardware: None,
+        protocol: Some([&[], &[]]),
+        after: &[0, 1, 8, 0, 6, 0, 0, 1, 2, 0, 0, 0, 0, 1, 0, 0, 0, 0, 0, 0],
+    },
+    Change {
+        name: "hardware addresses that are a byte longer",
+        before: &[0, 1, 8, 0, 2, 3, 0, 1, 1, 2, 11, 12, 13, 3, 4, 14, 15, 16],
+        hardware: Some([&[5, 6, 7], &[8, 9, 10]]),
+        protocol: None,
+        after: &[
+            0, 1, 8, 0, 3, 3, 0, 1, 5, 6, 7, 11, 12, 13, 8, 9, 10, 14, 15, 16,
+        ],
+    },
+    Change {
+        name: "a byte shorter",
+        before: &[
+            0, 1, 8, 0, 3, 3, 0, 1, 5, 6, 7, 11, 12, 13, 8, 9, 10, 14, 15, 16,
+        ],
+        hardware: Some([&[1, 2], &[3, 4]]),
+        protocol: None,
+        after: &[0, 1, 8, 0, 2, 3, 0, 1, 1, 2, 11, 12, 13, 3, 4, 14, 15, 16],
+    },
+    Change {
+        name: "a request put together from nothing",
+        before: &[0, 1, 8, 0, 0, 0, 0, 1],
+        hardware: Some([&[2, 0, 0, 0, 0, 1], &[0, 0, 0, 0, 0, 0]]),
+        protocol: Some([&[10, 0, 0, 1], &[10, 0, 0, 2]]),
+        after: &REQUEST,
+    },
+];
+
+/// Addresses that are set are those of the packet that is read from its bytes, and are hashed as these are.
+#[test]
+fn other_addresses(rt: HostRuntime) -> Result<(), Fail> {
+    for change in &CHANGES {
+        let mut packet = ArpPacket::from_slice(change.before)?;
+        if let Some(addresses) = change.protocol {
+            packet.set_protocol_addrs(addresses[0], addresses[1])?;
+        }
+        if let Some(addresses) = change.hardware {
+            packet.set_hw_addrs(addresses[0], addresses[1])?;
+        }
+        let bytes = packet.to_bytes();
+        let read = ArpPacket::from_slice(change.after)?;
+        equal(
+            &rt,
+            change.name,
+            &(bytes.as_slice(), hash_of(&packet), &packet),
+            &(change.after, hash_of(&read), &read),
+        );
+    }
+    let mut packet = ArpPacket::from_slice(&REQUEST)?;
+    packet.operation = ArpOperation::REPLY;
+    packet.set_hw_addrs(&[2, 0, 0, 0, 0, 2], &[2, 0, 0, 0, 0, 1])?;
+    packet.set_protocol_addrs(&[10, 0, 0, 2], &[10, 0, 0, 1])?;
+    let bytes = packet.to_bytes();
+    equal(
+        &rt,
+        "the example, which is the reply",
+        &bytes.as_slice(),
+        &REPLY.as_slice(),
+    );
+    Ok(())
+}
+
+#[test]
+fn addresses_grow_and_shrink(rt: HostRuntime) -> Result<(), Fail> {
+    let mut packet = request([&[1; 255], &[2; 255], &[3; 255], &[4; 255]])?;
+    let full = packet.packet_len();
+    packet.set_hw_addrs(&[], &[])?;
+    equal(
+        &rt,
+        "no hardware addresses",
+        &(
+            full,
+            packet.packet_len(),
+            packet.sender_protocol_addr(),
+            packet.target_protocol_addr(),
+        ),
+        &(1028, 518, [2; 255].as_slice(), [4; 255].as_slice()),
+    );
+    packet.set_hw_addrs(&[5; 255], &[6; 255])?;
+    let made = request([&[5; 255], &[2; 255], &[6; 255], &[4; 255]])?;
+    equal(
+        &rt,
+        "the greatest ones again",
+        &(packet.packet_len(), packet.to_bytes().len(), packet),
+        &(1028, 1028, made),
+    );
+    let mut packet = ArpPacket::from_slice(&REQUEST)?;
+    packet.set_protocol_addrs(&[1; 16], &[2; 16])?;
+    let made = request([&[2, 0, 0, 0, 0, 1], &[1; 16], &[0; 6], &[2; 16]])?;
+    equal(
+        &rt,
+        "protocol addresses of 16 bytes",
+        &(packet.protocol_addr_size(), packet.packet_len(), packet),
+        &(16, 52, made),
+    );
+    Ok(())
+}
+
+#[test]
+fn refused_addresses_change_nothing(rt: HostRuntime) -> Result<(), Fail> {
+    let before = ArpPacket::from_slice(&REQUEST)?;
+    let mut packet = before.clone()?;
+    let hardware = [
+        packet.set_hw_addrs(&[1; 256], &[2; 255]),
+        packet.set_hw_addrs(&[1; 256], &[2; 256]),
+    ];
+    let protocol = [
+        packet.set_protocol_addrs(&[1; 3], &[2; 5]),
+        packet.set_protocol_addrs(&[1; 256], &[2; 256]),
+    ];
+    let bytes = packet.to_bytes();
+    equal(
+        &rt,
+        "addresses of two lengths, and of 256 bytes",
+        &(hardware, protocol, &packet, bytes.as_slice()),
+        &(
+            [
+                Err(ArpHwAddrError::LenNonMatching(256, 255)),
+                Err(ArpHwAddrError::LenTooBig(256)),
+            ],
+            [
+                Err(ArpProtoAddrError::LenNonMatching(3, 5)),
+                Err(ArpProtoAddrError::LenTooBig(256)),
+            ],
+            &before,
+            REQUEST.as_slice(),
+        ),
+    );
+    Ok(())
+}
+
+#[test]
+fn sizes_cut_the_same_bytes_differently(rt: HostRuntime) -> Result<(), Fail> {
+    let packet = request([&[1], &[2, 3], &[4], &[5, 6]])?;
+    let other = request([&[1, 2], &[3], &[4, 5], &[6]])?;
+    let mut cut = other.clone()?;
+    cut.set_hw_addrs(&[1], &[4])?;
+    cut.set_protocol_addrs(&[2, 3], &[5, 6])?;
+    let hardware = request([&[1, 2], &[], &[3, 4], &[]])?;
+    let protocol = request([&[], &[1, 2], &[], &[3, 4]])?;
+    equal(
+        &rt,
+        "which are equal",
+        &[packet == other, packet == cut, hardware == protocol],
+        &[false, true, false],
+    );
+    Ok(())
+}

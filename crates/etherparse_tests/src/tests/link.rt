@@ -1,0 +1,179 @@
+//! Links of either kind: their headers, and their packets or payloads.
+use super::{equal, ipv4};
+use crate::test_frames::{COOKED, COOKED_GRE, COOKED_OUTGOING, FRAME};
+use etherparse::{
+    ArpHardwareId, EtherPayloadSlice, EtherType, Ethernet2Header, Ethernet2Slice, LenSource,
+    LinkHeader, LinkSlice, LinuxSllHeader, LinuxSllPacketType, LinuxSllPayloadSlice,
+    LinuxSllProtocolType, LinuxSllSlice,
+};
+use std::test::Fail;
+
+const NETLINK: LinuxSllHeader = LinuxSllHeader {
+    packet_type: LinuxSllPacketType::OUTGOING,
+    arp_hrd_type: ArpHardwareId::NETLINK,
+    sender_address_valid_length: 0,
+    sender_address: [0; 8],
+    protocol_type: LinuxSllProtocolType::NetlinkProtocolType(1),
+};
+
+/// A byte with a VLAN tag, as a payload of cooked capture.
+const VLAN: LinuxSllPayloadSlice<'static> = LinuxSllPayloadSlice {
+    protocol_type: LinuxSllProtocolType::EtherType(EtherType(0x8100)),
+    payload: &[0xAA],
+};
+
+/// A payload of cooked capture, as an ether type names it.
+const fn sll(ether_type: EtherType, payload: &[u8]) -> LinuxSllPayloadSlice<'_> {
+    LinuxSllPayloadSlice {
+        protocol_type: LinuxSllProtocolType::EtherType(ether_type),
+        payload,
+    }
+}
+
+#[test]
+fn headers(rt: HostRuntime) {
+    for ether_type in [EtherType::IPV4, EtherType(0x0806)] {
+        let mut link = LinkHeader::Ethernet2(Ethernet2Header::default());
+        let parts = (link.ethernet2(), link.linux_sll(), link.header_len());
+        let lent = link.mut_linux_sll().is_some();
+        if let Some(header) = link.mut_ethernet2() {
+            header.ether_type = ether_type;
+        }
+        let changed = LinkHeader::Ethernet2(Ethernet2Header {
+            ether_type,
+            ..Ethernet2Header::default()
+        });
+        equal(
+            &rt,
+            "of a frame, and changed",
+            &(parts, lent, &link),
+            &(
+                (Some(Ethernet2Header::default()), None, 14),
+                false,
+                &changed,
+            ),
+        );
+    }
+    let mut link = LinkHeader::LinuxSll(NETLINK);
+    let parts = (link.ethernet2(), link.linux_sll(), link.header_len());
+    let lent = link.mut_ethernet2().is_some();
+    if let Some(header) = link.mut_linux_sll() {
+        header.packet_type = LinuxSllPacketType::HOST;
+    }
+    let changed = LinkHeader::LinuxSll(LinuxSllHeader {
+        packet_type: LinuxSllPacketType::HOST,
+        ..NETLINK
+    });
+    equal(
+        &rt,
+        "of a packet of cooked capture, and changed",
+        &(parts, lent, &link),
+        &((None, Some(NETLINK), 16), false, &changed),
+    );
+}
+
+#[test]
+fn packets_and_payloads(rt: HostRuntime) -> Result<(), Fail> {
+    let frame = Ethernet2Slice::from_slice_without_fcs(&FRAME)?;
+    let frame_header = frame.to_header();
+    let outgoing = LinuxSllSlice::from_slice(&COOKED_OUTGOING)?;
+    let outgoing_header = outgoing.to_header();
+    let gre = LinuxSllSlice::from_slice(&COOKED_GRE)?;
+    let gre_header = gre.to_header();
+    let gre_payload = LinuxSllPayloadSlice {
+        protocol_type: LinuxSllProtocolType::GenericRoutingEncapsulationProtocolType(0x0800),
+        payload: &[0x45],
+    };
+    let named = EtherPayloadSlice {
+        ether_type: EtherType(0x8100),
+        len_source: LenSource::MacsecShortLength,
+        payload: &[0xAA],
+    };
+    let unnamed = EtherPayloadSlice {
+        len_source: LenSource::Slice,
+        ..named
+    };
+    for (name, link, header, ether_payload, sll_payload) in [
+        (
+            "a frame",
+            LinkSlice::Ethernet2(frame),
+            Some(LinkHeader::Ethernet2(frame_header)),
+            Some(ipv4(&FRAME[14..])),
+            sll(EtherType::IPV4, &FRAME[14..]),
+        ),
+        (
+            "the example",
+            LinkSlice::LinuxSll(outgoing),
+            Some(LinkHeader::LinuxSll(outgoing_header)),
+            Some(ipv4(&[0x45])),
+            sll(EtherType::IPV4, &[0x45]),
+        ),
+        (
+            "a packet from a GRE tunnel",
+            LinkSlice::LinuxSll(gre),
+            Some(LinkHeader::LinuxSll(gre_header)),
+            None,
+            gre_payload,
+        ),
+        (
+            "a payload with its ether type",
+            LinkSlice::EtherPayload(named),
+            None,
+            Some(named),
+            VLAN,
+        ),
+        (
+            "a payload of cooked capture",
+            LinkSlice::LinuxSllPayload(VLAN),
+            None,
+            Some(unnamed),
+            VLAN,
+        ),
+    ] {
+        equal(
+            &rt,
+            name,
+            &(
+                link.to_header(),
+                link.ether_payload(),
+                link.sll_payload(),
+                link.clone()? == link,
+            ),
+            &(header, ether_payload, sll_payload, true),
+        );
+    }
+    Ok(())
+}
+
+/// Equality tells the variants apart, and of packets the bytes.
+#[test]
+fn that_differ(rt: HostRuntime) -> Result<(), Fail> {
+    let frame = LinkSlice::Ethernet2(Ethernet2Slice::from_slice_without_fcs(&FRAME)?);
+    let header = LinkSlice::Ethernet2(Ethernet2Slice::from_slice_without_fcs(&FRAME[..14])?);
+    let gre = LinkSlice::LinuxSll(LinuxSllSlice::from_slice(&COOKED_GRE)?);
+    let other = LinkSlice::LinuxSll(LinuxSllSlice::from_slice(&COOKED)?);
+    let ether = LinkSlice::EtherPayload(ipv4(&[0x45]));
+    let cooked = LinkSlice::LinuxSllPayload(sll(EtherType::IPV4, &[0x45]));
+    equal(
+        &rt,
+        "links",
+        &[frame == header, gre == other, frame == gre, ether == cooked],
+        &[false; 4],
+    );
+    Ok(())
+}
+
+#[test]
+fn shown_by_debug(rt: HostRuntime) -> Result<(), Fail> {
+    let header = LinkHeader::LinuxSll(NETLINK);
+    let payload = LinkSlice::LinuxSllPayload(VLAN);
+    let shown = format!(in rt.alloc(); "{header:?}\n{payload:?}")?;
+    equal(
+        &rt,
+        "a header and a payload",
+        &shown.as_str(),
+        &"LinuxSll(LinuxSllHeader { packet_type: 4 (Sent by us), arp_hrd_type: 824 (Netlink header), sender_address_valid_length: 0, sender_address: [0, 0, 0, 0, 0, 0, 0, 0], protocol_type: NetlinkProtocolType(1) })\n\
+LinuxSllPayload(LinuxSllPayloadSlice { protocol_type: EtherType(0x8100 (Customer VLAN Tag (C-TAG) as defined in IEEE Std 802.1Q)), payload: [170] })",
+    );
+    Ok(())
+}

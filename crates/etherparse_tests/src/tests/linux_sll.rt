@@ -1,0 +1,308 @@
+//! Packets of Linux cooked capture v1.
+use super::{cut_short, equal};
+use crate::test_frames::{
+    COOKED, COOKED_ARP_REQUEST, COOKED_GRE, COOKED_LOOPBACK, COOKED_OUTGOING, COOKED_SPANNING_TREE,
+};
+use etherparse::err::linux_sll::{HeaderError, HeaderSliceError};
+use etherparse::err::{Layer, SliceWriteSpaceError};
+use etherparse::{
+    ArpHardwareId, EtherType, LinuxNonstandardEtherType, LinuxSllHeader, LinuxSllHeaderSlice,
+    LinuxSllPacketType, LinuxSllPayloadSlice, LinuxSllProtocolType, LinuxSllSlice,
+};
+use std::test::Fail;
+
+/// The header of [`COOKED`].
+const HEADER: LinuxSllHeader = LinuxSllHeader {
+    packet_type: LinuxSllPacketType::HOST,
+    arp_hrd_type: ArpHardwareId::ETHERNET,
+    sender_address_valid_length: 255,
+    sender_address: [2, 0, 0, 0, 0, 1, 0, 0],
+    protocol_type: LinuxSllProtocolType::LinuxNonstandardEtherType(
+        LinuxNonstandardEtherType::N802_3,
+    ),
+};
+
+/// The header of [`COOKED_ARP_REQUEST`].
+const CAPTURED: LinuxSllHeader = LinuxSllHeader {
+    packet_type: LinuxSllPacketType::BROADCAST,
+    arp_hrd_type: ArpHardwareId::ETHERNET,
+    sender_address_valid_length: 6,
+    sender_address: [0x02, 0x00, 0x5E, 0x10, 0x00, 0x01, 0, 0],
+    protocol_type: LinuxSllProtocolType::EtherType(EtherType::ARP),
+};
+
+/// Name, packet, its header and the sender's address.
+const PACKETS: [(&str, &[u8], LinuxSllHeader, &[u8]); 5] = [
+    (
+        "the example",
+        &COOKED_OUTGOING,
+        LinuxSllHeader {
+            packet_type: LinuxSllPacketType::OUTGOING,
+            sender_address_valid_length: 6,
+            protocol_type: LinuxSllProtocolType::EtherType(EtherType::IPV4),
+            ..HEADER
+        },
+        &[2, 0, 0, 0, 0, 1],
+    ),
+    (
+        "an address length of 255",
+        &COOKED,
+        HEADER,
+        &[2, 0, 0, 0, 0, 1, 0, 0],
+    ),
+    (
+        "the hardware type decides the variant",
+        &COOKED_GRE,
+        LinuxSllHeader {
+            packet_type: LinuxSllPacketType::HOST,
+            arp_hrd_type: ArpHardwareId::IPGRE,
+            sender_address_valid_length: 0,
+            sender_address: [0; 8],
+            protocol_type: LinuxSllProtocolType::GenericRoutingEncapsulationProtocolType(0x0800),
+        },
+        &[],
+    ),
+    (
+        "a captured packet",
+        &COOKED_ARP_REQUEST,
+        CAPTURED,
+        &[0x02, 0x00, 0x5E, 0x10, 0x00, 0x01],
+    ),
+    (
+        "a captured 802.2 frame",
+        &COOKED_SPANNING_TREE,
+        LinuxSllHeader {
+            packet_type: LinuxSllPacketType::MULTICAST,
+            protocol_type: LinuxSllProtocolType::LinuxNonstandardEtherType(
+                LinuxNonstandardEtherType::N802_2,
+            ),
+            ..CAPTURED
+        },
+        &[0x02, 0x00, 0x5E, 0x10, 0x00, 0x01],
+    ),
+];
+
+#[test]
+fn headers(rt: HostRuntime) {
+    for (name, packet, header, _) in PACKETS {
+        let bytes = header.to_bytes();
+        let rest = packet.get(16..).unwrap_or(&[]);
+        equal(
+            &rt,
+            name,
+            &(
+                LinuxSllHeader::from_slice(packet),
+                LinuxSllHeader::from_bytes(bytes),
+                Some(bytes.as_slice()),
+                header.header_len(),
+            ),
+            &(
+                Ok((header, rest)),
+                Ok(header),
+                packet.get(..LinuxSllHeader::LEN),
+                16,
+            ),
+        );
+    }
+    // the hardware type is that of Ethernet, where 1 is the dummy type for 802.3 frames
+    let other = LinuxSllHeader {
+        protocol_type: LinuxSllProtocolType::EtherType(EtherType(1)),
+        ..HEADER
+    };
+    equal(
+        &rt,
+        "another variant is read back",
+        &LinuxSllHeader::from_bytes(other.to_bytes()),
+        &Ok(HEADER),
+    );
+}
+
+#[test]
+fn written_to_slices(rt: HostRuntime) -> Result<(), Fail> {
+    let mut target = [0x55; 18];
+    let rest = HEADER.write_to_slice(&mut target)?;
+    let len = rest.len();
+    for byte in rest {
+        *byte = 0xAA;
+    }
+    equal(
+        &rt,
+        "the front, and the rest lent",
+        &(len, &target[..17], target[17]),
+        &(2, COOKED.as_slice(), 0xAA),
+    );
+    let mut target = [0x55; 15];
+    let refused = SliceWriteSpaceError {
+        required_len: 16,
+        len: 15,
+        layer: Layer::LinuxSllHeader,
+        layer_start_offset: 0,
+    };
+    let error = HEADER.write_to_slice(&mut target).err();
+    equal(
+        &rt,
+        "fifteen bytes",
+        &(error, target),
+        &(Some(refused), [0x55; 15]),
+    );
+    Ok(())
+}
+
+#[test]
+fn views_of_headers(rt: HostRuntime) -> Result<(), Fail> {
+    for (name, packet, header, address) in PACKETS {
+        let view = LinuxSllHeaderSlice::from_slice(packet)?;
+        equal(
+            &rt,
+            name,
+            &(
+                (view.packet_type(), view.arp_hardware_type()),
+                (view.sender_address_valid_length(), view.sender_address()),
+                (view.sender_address_full(), view.protocol_type()),
+                (Some(view.slice()), view.to_header(), view.clone()? == view),
+            ),
+            &(
+                (header.packet_type, header.arp_hrd_type),
+                (header.sender_address_valid_length, address),
+                (header.sender_address, header.protocol_type),
+                (packet.get(..16), header, true),
+            ),
+        );
+    }
+    for (valid_len, address) in [
+        (0, [].as_slice()),
+        (6, &[1, 2, 3, 4, 5, 6]),
+        (8, &[1, 2, 3, 4, 5, 6, 7, 8]),
+        (9, &[1, 2, 3, 4, 5, 6, 7, 8]),
+        (255, &[1, 2, 3, 4, 5, 6, 7, 8]),
+    ] {
+        let bytes = [0, 0, 0, 1, 0, valid_len, 1, 2, 3, 4, 5, 6, 7, 8, 0x08, 0x00];
+        let view = LinuxSllHeaderSlice::from_slice(&bytes)?;
+        equal(
+            &rt,
+            "an address of another length",
+            &(view.sender_address_valid_length(), view.sender_address()),
+            &(u16::from(valid_len), address),
+        );
+    }
+    Ok(())
+}
+
+#[test]
+fn views_of_packets(rt: HostRuntime) -> Result<(), Fail> {
+    for (name, packet, header, address) in PACKETS {
+        let view = LinuxSllSlice::from_slice(packet)?;
+        let rest = packet.get(16..).unwrap_or(&[]);
+        let payload = LinuxSllPayloadSlice {
+            protocol_type: header.protocol_type,
+            payload: rest,
+        };
+        equal(
+            &rt,
+            name,
+            &(
+                (view.packet_type(), view.arp_hardware_type()),
+                (view.sender_address_valid_length(), view.sender_address()),
+                (view.sender_address_full(), view.protocol_type()),
+                (view.header_len(), view.to_header(), view.clone()? == view),
+                (view.slice(), Some(view.header_slice())),
+                (view.payload_slice(), view.payload()),
+            ),
+            &(
+                (header.packet_type, header.arp_hrd_type),
+                (header.sender_address_valid_length, address),
+                (header.sender_address, header.protocol_type),
+                (16, header, true),
+                (packet, packet.get(..16)),
+                (rest, payload),
+            ),
+        );
+    }
+    Ok(())
+}
+
+/// A header whose packet type and hardware type are not supported.
+const UNSUPPORTED: [u8; 16] = [0, 8, 1, 1, 0, 0, 0, 0, 0, 0, 0, 0, 0, 0, 0, 0];
+
+fn refusal(bytes: &[u8]) -> Option<HeaderSliceError> {
+    match LinuxSllHeader::from_slice(bytes) {
+        Ok(_) => None,
+        Err(error) => Some(error),
+    }
+}
+
+/// The length is told first, then the packet type.
+#[test]
+fn refusals(rt: HostRuntime) {
+    let short = || HeaderSliceError::Len(cut_short(16, 15, Layer::LinuxSllHeader));
+    let packet_type = |packet_type| {
+        HeaderSliceError::Content(HeaderError::UnsupportedPacketTypeField { packet_type })
+    };
+    let hardware_type = |number| {
+        HeaderSliceError::Content(HeaderError::UnsupportedArpHardwareId {
+            arp_hardware_type: ArpHardwareId(number),
+        })
+    };
+    for (name, bytes, wanted) in [
+        ("fifteen bytes", &COOKED[..15], short()),
+        (
+            "fifteen bytes of a refused header",
+            &UNSUPPORTED[..15],
+            short(),
+        ),
+        (
+            "a packet type",
+            &[0, 8, 0, 1, 0, 0xFF, 2, 0, 0, 0, 0, 1, 0, 0, 0, 1],
+            packet_type(8),
+        ),
+        (
+            "the greatest packet type",
+            &[0xFF, 0xFF, 0, 1, 0, 0, 0, 0, 0, 0, 0, 0, 0, 0, 0, 0],
+            packet_type(65535),
+        ),
+        ("both types", &UNSUPPORTED, packet_type(8)),
+        (
+            "a hardware type",
+            &[0, 0, 1, 1, 0, 0, 0, 0, 0, 0, 0, 0, 0, 0, 0x08, 0x00],
+            hardware_type(257),
+        ),
+        (
+            "a hardware type after the greatest packet type that is supported",
+            &[0, 7, 1, 1, 0, 0, 0, 0, 0, 0, 0, 0, 0, 0, 0, 0],
+            hardware_type(257),
+        ),
+        (
+            "a captured packet of the loopback device",
+            &COOKED_LOOPBACK,
+            hardware_type(772),
+        ),
+    ] {
+        let packet = LinuxSllSlice::from_slice(bytes).err();
+        let view = LinuxSllHeaderSlice::from_slice(bytes).err();
+        let alike = view == packet && refusal(bytes) == packet;
+        equal(&rt, name, &(packet, alike), &(Some(wanted), true));
+    }
+    let refused = HeaderError::UnsupportedPacketTypeField { packet_type: 8 };
+    equal(
+        &rt,
+        "sixteen bytes by value",
+        &LinuxSllHeader::from_bytes(UNSUPPORTED),
+        &Err(refused),
+    );
+}
+
+#[test]
+fn shown_by_debug(rt: HostRuntime) -> Result<(), Fail> {
+    let view = LinuxSllHeaderSlice::from_slice(&COOKED)?;
+    let packet = LinuxSllSlice::from_slice(&COOKED)?;
+    let shown = format!(in rt.alloc(); "{HEADER:?}\n{view:?}\n{packet:?}")?;
+    equal(
+        &rt,
+        "a header, its view and one with the payload",
+        &shown.as_str(),
+        &"LinuxSllHeader { packet_type: 0 (Sent to us), arp_hrd_type: 1 (Ethernet), sender_address_valid_length: 255, sender_address: [2, 0, 0, 0, 0, 1, 0, 0], protocol_type: LinuxNonstandardEtherType(0x0001 (Dummy type for 802.3 frames)) }\n\
+LinuxSllHeaderSlice { slice: [0, 0, 0, 1, 0, 255, 2, 0, 0, 0, 0, 1, 0, 0, 0, 1] }\n\
+LinuxSllSlice { header: LinuxSllHeader { packet_type: 0 (Sent to us), arp_hrd_type: 1 (Ethernet), sender_address_valid_length: 255, sender_address: [2, 0, 0, 0, 0, 1, 0, 0], protocol_type: LinuxNonstandardEtherType(0x0001 (Dummy type for 802.3 frames)) }, payload: LinuxSllPayloadSlice { protocol_type: LinuxNonstandardEtherType(0x0001 (Dummy type for 802.3 frames)), payload: [170] } }",
+    );
+    Ok(())
+}
