@@ -1,5 +1,5 @@
 -- Blocks that are passed over, longer than the buffer: how a run reaches their end, or stops before.
-use Rattle.std.proofs.Common.{◌≡◌, ◌≢◌, inl, inr, ℕ, ◌+◌, ◌-◌, ◌<◌, ◌≤◌, List, ◌++◌, length, take, drop, Bool, false, Option, None, Result, Ok, Err, IfErr, IsErrAnd, refl, sym, ap, subst, ◌∙◌, arith}
+use Rattle.std.proofs.Common.{◌≡◌, ◌≢◌, inl, inr, ℕ, ◌+◌, ◌-◌, ◌<◌, ◌≤◌, List, [], ◌++◌, length, take, drop, Bool, false, Option, None, Result, Ok, Err, IfErr, IsErrAnd, refl, sym, ap, subst, ◌∙◌, arith}
 use Rattle.std.proofs.lemmas.List.{drop-drop}
 use Rattle.std.specs.Prelude.{◌⊎◌}
 use Rattle.std.specs.Io.KnownBytes.{Consumes, IsAtEnd}
@@ -11,6 +11,8 @@ use Rattle.ether_pcap.specs.declared.capture_error.CaptureError.{CaptureError}
 use Rattle.ether_pcap.specs.declared.capture_error.CaptureError.TheVariants as errors
 use Rattle.ether_pcap.specs.declared.block_error.BlockError.TheVariants as block_errors
 use Rattle.ether_pcap.proofs.CapturePassed.{IsPassed, IsPassed-front, IsPassed-more, passed_whole, passed_unequal, passed_short}
+use Rattle.ether_pcap.proofs.CaptureSeen.{passes_local}
+use Rattle.std.specs.Option.{is_some}
 use Rattle.ether_text.specs.OutputBuffer.{contents_of, WritesOut}
 use Rattle.ether_text.specs.declared.output_buffer.OutputBuffer.{OutputBuffer}
 use Rattle.ether_text.proofs.KnownBytesLemmas.{Consumes-then}
@@ -70,12 +72,12 @@ module _ {W : Type 0} (plain : Bool) (contents : W → Option (List ℕ)) (befor
   }
 
   -- the unit can't be read
-  pub not_passed : (left : List ℕ) (at : FrameLoop) (out : OutputBuffer W) (error : CaptureError) (fault : RunFault)
-      → fault ≡ Capture (record { offset = at.offset; error = error }) → length left ≤ room → Refuses left at.reader (capture_refusal_view error) → IsFinal (capture_refusal_view error) left
+  pub not_passed : (left : List ℕ) (at : FrameLoop) (out : OutputBuffer W) (error : CaptureError) (b : Bool) (fault : RunFault)
+      → fault ≡ Capture (record { offset = at.offset; error = error; is_above_room = b }) → b ≡ is_some (required_len (capture_refusal_view error)) → length left ≤ room → Refuses left at.reader (capture_refusal_view error) → IsFinal (capture_refusal_view error) left
       → (required_len (capture_refusal_view error) ≡ None) ⊎ (passes_over at.reader left ≡ false)
       → HasReached plain contents before mid held left at out → HasRun plain before mid held (contents_of contents out) (Err fault)
-  not_passed left at out error fault is fits refused last other so_far =
-      stopped plain contents before mid held so_far.input left at out error fault is so_far.read fits refused last other so_far.reached
+  not_passed left at out error b fault is needs fits refused last other so_far =
+      stopped plain contents before mid held so_far.input left at out error b fault is needs so_far.read fits refused last other so_far.reached
 
   module _ (after : Option (List ℕ)) (left more : List ℕ) (order : Order) (at : FrameLoop) (out : OutputBuffer W) (n : ℕ) (consumed : Consumes mid after more) (front : IsPassed order at.reader left n)
       (so_far : HasReached plain contents before mid held left at out) where
@@ -113,20 +115,20 @@ module _ {W : Type 0} (plain : Bool) (contents : W → Option (List ℕ)) (befor
 
     -- its two lengths differ
     pub unequal : (rest : List ℕ) (m : ℕ) (fault : RunFault) → rest ≡ drop (n - 4) (left ++ more) → n ≤ length (left ++ more) → field order rest 0 4 ≡ m → m ≢ n
-        → fault ≡ Capture (record { offset = at.offset; error = errors.Block (block_errors.Trailer n m) }) → HasRun plain before after held (contents_of contents out) (Err fault)
+        → fault ≡ Capture (record { offset = at.offset; error = errors.Block (block_errors.Trailer n m); is_above_room = false }) → HasRun plain before after held (contents_of contents out) (Err fault)
     unequal rest m fault is within end differs is_fault =
         let least : 12 ≤ n = front.sound.least in
         let refused = passed_unequal order at.reader (left ++ more) n m whole within (last_number order (left ++ more) rest n (omega (arith, least)) is ∙ end) differs in
-        stopped_for_good plain contents before after held (so_far.input ++ more) (left ++ more) at out (errors.Block (block_errors.Trailer n m)) fault is_fault read
+        stopped_for_good plain contents before after held (so_far.input ++ more) (left ++ more) at out (errors.Block (block_errors.Trailer n m)) false fault is_fault refl read
         (IsSeen-passed at.reader (left ++ more) far whole.passed) refused refl reached
 
     -- the capture ends within it
     pub cut : (len : ℕ) (fault : RunFault) → length (left ++ more) < n → len ≡ length (left ++ more) → IsAtEnd after
-        → fault ≡ Capture (record { offset = at.offset; error = errors.Block (block_errors.Len n len) }) → HasRun plain before after held (contents_of contents out) (Err fault)
+        → fault ≡ Capture (record { offset = at.offset; error = errors.Block (block_errors.Len n len); is_above_room = false }) → HasRun plain before after held (contents_of contents out) (Err fault)
     cut len fault short is end is_fault =
         let refused : Refuses (left ++ more) at.reader (Block (Short n len)) =
         subst (λ (k : ℕ). Refuses (left ++ more) at.reader (Block (Short n k))) (sym is) (passed_short order at.reader (left ++ more) n whole short) in
-        stopped_at_end plain contents before after held (so_far.input ++ more) (left ++ more) at out (errors.Block (block_errors.Len n len)) fault is_fault read end
+        stopped_at_end plain contents before after held (so_far.input ++ more) (left ++ more) at out (errors.Block (block_errors.Len n len)) fault is_fault (inr (passes_local (left ++ more) [] at.reader far ∙ whole.passed)) read end
         (all_of_a_block at.reader (left ++ more) far whole.passed) (λ over. let none = ap length over.1 in let le = far in omega (arith, none, le)) refused reached
 
     -- a read fails

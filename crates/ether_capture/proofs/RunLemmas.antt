@@ -1,8 +1,8 @@
 -- What a run has read and written, one read after another.
-use Rattle.std.proofs.Common.{false, ◌≡◌, ◌≢◌, inl, inr, ℕ, ◌<◌, ◌≤◌, List, [], ◌∷◌, ◌++◌, length, drop, Bool, true, not, Option, Some, None, unwrap_or, Result, Ok, Err, IfOk, IfErr, IsErrAnd, OnOk, refl, sym, ap, subst, ◌∙◌, arith, append_assoc, append-nil}
+use Rattle.std.proofs.Common.{false, ◌⊎◌, ◌-◌, ◌^◌, ◌≡◌, ◌≢◌, inl, inr, ℕ, ◌<◌, ◌≤◌, List, [], ◌∷◌, ◌++◌, length, drop, Bool, true, not, ◌&&◌, nat_lt, Option, Some, None, unwrap_or, Result, Ok, Err, IfOk, IfErr, IsErrAnd, OnOk, refl, sym, ap, subst, ◌∙◌, arith, append_assoc, append-nil}
 use Rattle.std.proofs.lemmas.List.{length-drop, length-append}
-use Rattle.std.proofs.lemmas.Bool.{cases_lt}
-use Rattle.std.specs.Prelude.{◌↔◌, ◌⊎◌, IsTrue}
+use Rattle.std.proofs.lemmas.Bool.{cases_lt, lt-ltb, le-ltb}
+use Rattle.std.specs.Prelude.{◌↔◌, IsTrue}
 use Rattle.std.specs.Option.{is_some}
 use Rattle.std.specs.Io.KnownBytes.{Appends, Consumes, IsAtEnd, Keeps, append_known}
 use Rattle.ether_pcap.specs.FileHeader as file
@@ -12,18 +12,22 @@ use Rattle.ether_pcap.specs.Section as section_rows
 use Rattle.ether_pcap.specs.Capture.{PacketValue, Expectation, Beginning, CaptureRefusal, Refuses, file_header_refused, file_record_refused, first_section_refused, section_refused, block_refused, body_refused, required_len, IsEnd, passes_over, seen, HasPackets}
 use Rattle.ether_pcap.specs.CaptureViews.{capture_refusal_view}
 use Rattle.ether_pcap.specs.declared.capture_error.CaptureError.{CaptureError}
-use Rattle.ether_text.specs.OutputBuffer.{contents_of, WritesOut}
+use Rattle.ether_text.specs.InputReader.{ReadsOn, StopsReading, was_stopped, stopped as stopped_by, used_up}
+use Rattle.ether_text.specs.OutputBuffer.{contents_of, Marks, WritesOut}
+use Rattle.ether_text.specs.declared.input_reader.InputReader.{InputReader}
+use Rattle.ether_text.proofs.InputReaderLemmas.{stops_later}
 use Rattle.ether_text.specs.declared.output_buffer.OutputBuffer.{OutputBuffer}
 use Rattle.ether_text.specs.declared.verdict.Verdict.{Verdict}
 use Rattle.ether_text.proofs.KnownBytesLemmas.{Appends-then, Appends-written_out, append_known_nil, Consumes-then, Consumes-kept}
 use Rattle.ether_capture.specs.FrameLines.{totals_line_if}
-use Rattle.ether_capture.specs.Packets.{room, GoesOn}
-use Rattle.ether_capture.specs.Run.{IsLeft, HasRun, IsOutput, totals_of}
+use Rattle.ether_capture.specs.Packets.{room, GoesOn, lacks_room}
+use Rattle.ether_capture.specs.Run.{AnswersSlice, IsEndless, IsLeft, HasRun, IsOutput, OnInput, OnStreamFault, totals_of}
 use Rattle.ether_capture.specs.FrameLoop.{Reached, TakesUnits, LeavesRest, IsFinal}
 use Rattle.ether_capture.specs.declared.outcome.RunFault.{RunFault}
 use Rattle.ether_capture.specs.declared.outcome.RunFault.TheVariants.{Capture, Input, Output}
 use Rattle.ether_capture.specs.declared.frame_loop.FrameLoop.{FrameLoop}
-use Rattle.ether_capture.proofs.PacketsLemmas.{IsSeen, IsSeen-fitting, refused_for_good, GoesOn-ended, refused_at_last, as_much_as_fits}
+use Rattle.ether_capture.proofs.PacketsLemmas.{IsSeen, IsSeen-fitting, refused_for_good, GoesOn-more, GoesOn-ended, refused_at_last, as_much_as_fits}
+use Rattle.ether_pcap.proofs.CaptureSeen.{passes_local}
 
 -- ---- what is left
 
@@ -93,6 +97,35 @@ refused_nothing bytes x r e (block_refused order interfaces s other (block_rows.
 refused_nothing bytes x r e (block_refused order interfaces s other (block_rows.trailer m k le is sound whole at never)) none = let n = ap length e in omega (arith, le, n)
 refused_nothing bytes x r e (body_refused order interfaces b s other begins refused) none = let n = ap length e in let w = begins.whole in omega (arith, w, n)
 
+-- ---- whether there is room
+
+not_needed : (x : Expectation) (bytes : List ℕ) (r : CaptureRefusal) → required_len r ≡ None → is_some (required_len r) ≡ lacks_room x bytes r
+not_needed x bytes r none = ap is_some none ∙ ap (λ (n : Option ℕ). is_some n && (not (passes_over x bytes) && not (nat_lt (length bytes) room))) (sym none)
+
+needed : (b : Bool) (x : Bool) (n : ℕ) → x ≡ false → room ≤ n → b ≡ (b && (not x && not (nat_lt n room)))
+needed true x n other full =
+    let long : nat_lt n room ≡ false = le-ltb n room full in
+    ap (λ (t : Bool). not t && not false) (sym other) ∙ ap (λ (t : Bool). not x && not t) (sym long)
+needed false x n other full = refl
+
+all_room : (x : Expectation) (buffered later : List ℕ) (r : CaptureRefusal) → length buffered ≡ room → passes_over x buffered ≡ false → is_some (required_len r) ≡ lacks_room x (buffered ++ later) r
+all_room x buffered later r full other =
+    needed (is_some (required_len r)) (passes_over x (buffered ++ later)) (length (buffered ++ later)) (passes_local buffered later x (omega (arith, full)) ∙ other)
+    (let n = length-append buffered later in omega (arith, n, full))
+
+no_need : (b x lt : Bool) → (lt ≡ true) ⊎ (x ≡ true) → false ≡ (b && (not x && not lt))
+no_need true true lt h = refl
+no_need true false true h = refl
+no_need true false false (inl e) = absurd (cc)
+no_need true false false (inr e) = absurd (cc)
+no_need false x lt h = refl
+
+more_room : (x : Expectation) (buffered : List ℕ) (r : CaptureRefusal) → (length buffered < room) ⊎ (passes_over x (buffered ++ []) ≡ true) → false ≡ lacks_room x (buffered ++ []) r
+more_room x buffered r (inl lt) =
+    no_need (is_some (required_len r)) (passes_over x (buffered ++ [])) (nat_lt (length (buffered ++ [])) room)
+    (inl (lt-ltb (length (buffered ++ [])) room (let n = ap length (append-nil buffered) in omega (arith, n, lt))))
+more_room x buffered r (inr passed) = no_need (is_some (required_len r)) (passes_over x (buffered ++ [])) (nat_lt (length (buffered ++ [])) room) (inr passed)
+
 -- ---- a run
 
 module _ {W : Type 0} (plain : Bool) (contents : W → Option (List ℕ)) where
@@ -110,11 +143,11 @@ module _ {W : Type 0} (plain : Bool) (contents : W → Option (List ℕ)) where
       }
 
   module _ (before after held : Option (List ℕ)) where
-    stops : (input buffered left : List ℕ) (at : FrameLoop) (out : OutputBuffer W) (error : CaptureError) (fault : RunFault)
-        → fault ≡ Capture (record { offset = at.offset; error = error }) → Consumes before after input → IsLeft after left
+    stops : (input buffered left : List ℕ) (at : FrameLoop) (out : OutputBuffer W) (error : CaptureError) (b : Bool) (fault : RunFault)
+        → fault ≡ Capture (record { offset = at.offset; error = error; is_above_room = b }) → b ≡ lacks_room at.reader (buffered ++ left) (capture_refusal_view error) → Consumes before after input → IsLeft after left
         → ((packets : List PacketValue) → GoesOn input packets at.reader buffered → HasPackets room Beginning (input ++ left) packets (buffered ++ left) (Some (capture_refusal_view error)))
         → Reached plain contents held input buffered at out → HasRun plain before after held (contents_of contents out) (Err fault)
-    stops input buffered left at out error fault is read is_left has so_far =
+    stops input buffered left at out error b fault is no_room read is_left has so_far =
         subst (λ (f : RunFault). HasRun plain before after held (contents_of contents out) (Err f)) (sym is) (record {
           taken = input;
           left = left;
@@ -126,53 +159,58 @@ module _ {W : Type 0} (plain : Bool) (contents : W → Option (List ℕ)) where
           read = read;
           is_left = is_left;
           has = has so_far.packets so_far.parts;
+          expected = at.reader;
+          parts = GoesOn-more input so_far.packets at.reader buffered left so_far.parts;
           place = ap (λ (l : List ℕ). l ++ left) so_far.place ∙ append_assoc so_far.front buffered left;
           is_offset = so_far.is_offset;
+          is_room = no_room;
           answered = so_far.answered;
           written = so_far.written;
         })
 
     -- a unit is refused, whatever follows
-    pub stopped_for_good : (input buffered : List ℕ) (at : FrameLoop) (out : OutputBuffer W) (error : CaptureError) (fault : RunFault)
-        → fault ≡ Capture (record { offset = at.offset; error = error }) → Consumes before after input → IsSeen at.reader buffered
+    pub stopped_for_good : (input buffered : List ℕ) (at : FrameLoop) (out : OutputBuffer W) (error : CaptureError) (b : Bool) (fault : RunFault)
+        → fault ≡ Capture (record { offset = at.offset; error = error; is_above_room = b }) → b ≡ is_some (required_len (capture_refusal_view error)) → Consumes before after input → IsSeen at.reader buffered
         → Refuses buffered at.reader (capture_refusal_view error) → required_len (capture_refusal_view error) ≡ None
         → Reached plain contents held input buffered at out → HasRun plain before after held (contents_of contents out) (Err fault)
-    stopped_for_good input buffered at out error fault is read front refused none so_far =
+    stopped_for_good input buffered at out error b fault is needs read front refused none so_far =
         let left : List ℕ = unwrap_or after [] in
-        stops input buffered left at out error fault is read (IsLeft-left_of after)
+        let no_room : b ≡ lacks_room at.reader (buffered ++ left) (capture_refusal_view error) = needs ∙ not_needed at.reader (buffered ++ left) (capture_refusal_view error) none in
+        stops input buffered left at out error b fault is no_room read (IsLeft-left_of after)
         (λ packets go. refused_for_good input packets at.reader buffered left (capture_refusal_view error) front (λ e. refused_nothing buffered at.reader (capture_refusal_view error) e refused none) refused none go) so_far
 
     -- a unit that is not passed over needs more bytes than there is room for
-    stopped_for_room : (input buffered : List ℕ) (at : FrameLoop) (out : OutputBuffer W) (error : CaptureError) (fault : RunFault)
-        → fault ≡ Capture (record { offset = at.offset; error = error }) → Consumes before after input → length buffered ≡ room
+    stopped_for_room : (input buffered : List ℕ) (at : FrameLoop) (out : OutputBuffer W) (error : CaptureError) (b : Bool) (fault : RunFault)
+        → fault ≡ Capture (record { offset = at.offset; error = error; is_above_room = b }) → b ≡ is_some (required_len (capture_refusal_view error)) → Consumes before after input → length buffered ≡ room
         → passes_over at.reader buffered ≡ false → Refuses buffered at.reader (capture_refusal_view error)
         → Reached plain contents held input buffered at out → HasRun plain before after held (contents_of contents out) (Err fault)
-    stopped_for_room input buffered at out error fault is read full other refused so_far =
+    stopped_for_room input buffered at out error b fault is needs read full other refused so_far =
         let left : List ℕ = unwrap_or after [] in
-        stops input buffered left at out error fault is read (IsLeft-left_of after)
+        let no_room : b ≡ lacks_room at.reader (buffered ++ left) (capture_refusal_view error) = needs ∙ all_room at.reader buffered left (capture_refusal_view error) full other in
+        stops input buffered left at out error b fault is no_room read (IsLeft-left_of after)
         (λ packets go. refused_at_last input packets at.reader buffered left (capture_refusal_view error) (as_much_as_fits at.reader buffered left full other)
         (λ end. let n = ap length end.1 in let m = length-append buffered left in omega (arith, full, n, m)) refused go) so_far
 
     -- more bytes do not help
-    pub stopped : (input buffered : List ℕ) (at : FrameLoop) (out : OutputBuffer W) (error : CaptureError) (fault : RunFault)
-        → fault ≡ Capture (record { offset = at.offset; error = error }) → Consumes before after input → length buffered ≤ room
+    pub stopped : (input buffered : List ℕ) (at : FrameLoop) (out : OutputBuffer W) (error : CaptureError) (b : Bool) (fault : RunFault)
+        → fault ≡ Capture (record { offset = at.offset; error = error; is_above_room = b }) → b ≡ is_some (required_len (capture_refusal_view error)) → Consumes before after input → length buffered ≤ room
         → Refuses buffered at.reader (capture_refusal_view error) → IsFinal (capture_refusal_view error) buffered
         → (required_len (capture_refusal_view error) ≡ None) ⊎ (passes_over at.reader buffered ≡ false)
         → Reached plain contents held input buffered at out → HasRun plain before after held (contents_of contents out) (Err fault)
-    stopped input buffered at out error fault is read fits refused final (inl none) so_far =
-        stopped_for_good input buffered at out error fault is read (IsSeen-fitting at.reader buffered fits) refused none so_far
-    stopped input buffered at out error fault is read fits refused (inl none) (inr other) so_far =
-        stopped_for_good input buffered at out error fault is read (IsSeen-fitting at.reader buffered fits) refused none so_far
-    stopped input buffered at out error fault is read fits refused (inr full) (inr other) so_far =
-        stopped_for_room input buffered at out error fault is read full other refused so_far
+    stopped input buffered at out error b fault is needs read fits refused final (inl none) so_far =
+        stopped_for_good input buffered at out error b fault is needs read (IsSeen-fitting at.reader buffered fits) refused none so_far
+    stopped input buffered at out error b fault is needs read fits refused (inl none) (inr other) so_far =
+        stopped_for_good input buffered at out error b fault is needs read (IsSeen-fitting at.reader buffered fits) refused none so_far
+    stopped input buffered at out error b fault is needs read fits refused (inr full) (inr other) so_far =
+        stopped_for_room input buffered at out error b fault is needs read full other refused so_far
 
     -- the capture ends within a unit
     pub stopped_at_end : (input buffered : List ℕ) (at : FrameLoop) (out : OutputBuffer W) (error : CaptureError) (fault : RunFault)
-        → fault ≡ Capture (record { offset = at.offset; error = error }) → Consumes before after input → IsAtEnd after → seen room at.reader (buffered ++ []) ≡ buffered
+        → fault ≡ Capture (record { offset = at.offset; error = error; is_above_room = false }) → (length buffered < room) ⊎ (passes_over at.reader (buffered ++ []) ≡ true) → Consumes before after input → IsAtEnd after → seen room at.reader (buffered ++ []) ≡ buffered
         → ¬ (IsEnd at.reader buffered) → Refuses buffered at.reader (capture_refusal_view error)
         → Reached plain contents held input buffered at out → HasRun plain before after held (contents_of contents out) (Err fault)
-    stopped_at_end input buffered at out error fault is read end whole more refused so_far =
-        stops input buffered [] at out error fault is read (IsLeft-end after end)
+    stopped_at_end input buffered at out error fault is has_room read end whole more refused so_far =
+        stops input buffered [] at out error false fault is (more_room at.reader buffered (capture_refusal_view error) has_room) read (IsLeft-end after end)
         (λ packets go. refused_at_last input packets at.reader buffered [] (capture_refusal_view error) whole (λ over. more (over.0, sym (append-nil buffered) ∙ over.1)) refused go) so_far
 
     -- all packets are answered
@@ -261,8 +299,11 @@ HasRun-flushed plain contents before after held from to (Err (Capture fault)) dr
   read = h.read;
   is_left = h.is_left;
   has = h.has;
+  expected = h.expected;
+  parts = h.parts;
   place = h.place;
   is_offset = h.is_offset;
+  is_room = h.is_room;
   answered = h.answered;
   written = appends_flushed held (contents from.writer.now) (contents to.writer.now) from.waiting.items h.text h.written drains.written;
 }
@@ -282,3 +323,103 @@ HasRun-flushed plain contents before after held from to (Err Input) drains h = r
   written = appends_flushed held (contents from.writer.now) (contents to.writer.now) from.waiting.items h.text h.written drains.written;
 }
 HasRun-flushed plain contents before after held from to (Err Output) drains h = tt
+
+-- ---- when a stream has failed
+
+-- what holds of each fault of the reader
+pub on_input : (r : Result Verdict RunFault) (Q : Type 0) → Q → IfErr r (λ fault. OnInput fault Q)
+on_input (Ok verdict) Q h = tt
+on_input (Err (Capture found)) Q h = tt
+on_input (Err Input) Q h = h
+on_input (Err Output) Q h = tt
+
+never_marked : {P : Type 0} (old new : Bool) → old ≡ false → (new ≡ true → (old ≡ true) ⊎ P) → new ≡ true → P
+never_marked old new fresh marks set = elim (marks set) [ inl before ↦ let e : true ≡ false = sym before ∙ fresh in absurd (cc) | inr failed ↦ failed ]
+
+-- why a run with fresh streams ends with a fault of one of them
+pub run_fails : {R W : Type 0} (remaining : R → Option (List ℕ)) (can_read can_write : Type 0) (r : Result Verdict RunFault) (input input' : InputReader R) (out out' : OutputBuffer W) (before after : Option (List ℕ))
+    → remaining input.inner.now ≡ before → remaining input'.inner.now ≡ after → input.has_failed ≡ false → input.reads_left ≡ 2 ^ 64 - 1 → out.has_failed ≡ false
+    → IfErr r (λ fault. OnStreamFault fault (input'.has_failed ≡ true) (out'.has_failed ≡ true))
+    → IfErr r (λ fault. OnInput fault (StopsReading remaining can_read input input')) → Marks can_write out out'
+    → IfErr r (λ fault. OnStreamFault fault (can_read ⊎ IsEndless before after) can_write)
+run_fails remaining can_read can_write (Ok verdict) input input' out out' before after from to fresh most none failed cause marks = tt
+run_fails remaining can_read can_write (Err (Capture found)) input input' out out' before after from to fresh most none failed cause marks = tt
+run_fails remaining can_read can_write (Err Input) input input' out out' before after from to fresh most none failed cause marks = why cause
+  where
+    why : StopsReading remaining can_read input input' → can_read ⊎ IsEndless before after
+    why (was_stopped set) = let e : true ≡ false = sym set ∙ fresh in absurd (cc)
+    why (stopped_by failed) = inl failed
+    why (used_up taken read counted) = inr (record {
+      taken = taken;
+      read = subst (λ (o : Option (List ℕ)). Consumes o after taken) from (subst (λ (o : Option (List ℕ)). Consumes (remaining input.inner.now) o taken) to read);
+      long = omega (arith, most, counted);
+    })
+run_fails remaining can_read can_write (Err Output) input input' out out' before after from to fresh most none failed cause marks = never_marked out.has_failed out'.has_failed none marks.cause failed
+
+-- .. from a later place
+pub later_input : {R : Type 0} (remaining : R → Option (List ℕ)) (can_fail : Type 0) (r : Result Verdict RunFault) (f : RunFault) (old mid new : InputReader R)
+    → ReadsOn remaining old mid → IsErrAnd r (λ g. g ≡ f) → OnInput f (StopsReading remaining can_fail mid new) → IfErr r (λ fault. OnInput fault (StopsReading remaining can_fail old new))
+later_input remaining can_fail (Ok verdict) f old mid new on is why = tt
+later_input remaining can_fail (Err fault) (Capture found) old mid new on is why = subst (λ (g : RunFault). OnInput g (StopsReading remaining can_fail old new)) (sym is) tt
+later_input remaining can_fail (Err fault) Input old mid new on is why = subst (λ (g : RunFault). OnInput g (StopsReading remaining can_fail old new)) (sym is) (stops_later remaining can_fail old mid new on why)
+later_input remaining can_fail (Err fault) Output old mid new on is why = subst (λ (g : RunFault). OnInput g (StopsReading remaining can_fail old new)) (sym is) tt
+
+-- what is said of known bytes is said of the same bytes
+pub HasRun-same : (plain : Bool) (r : Result Verdict RunFault) (before after held holds before' after' held' holds' : Option (List ℕ))
+    → before ≡ before' → after ≡ after' → held ≡ held' → holds ≡ holds' → HasRun plain before after held holds r → HasRun plain before' after' held' holds' r
+HasRun-same plain r before after held holds before' after' held' holds' e f g h = subst (λ (t : Type 0). t) (λ i. HasRun plain (e i) (f i) (g i) (h i) r)
+
+-- ---- a run over a slice
+
+whole_slice : (bytes input : List ℕ) (after : Option (List ℕ)) → Consumes (Some bytes) after input → IsAtEnd after → input ≡ bytes
+whole_slice bytes input None read end = absurd read
+whole_slice bytes input (Some left) read end = sym (read ∙ ap (λ (l : List ℕ). input ++ l) end ∙ append-nil input)
+
+parts_of_slice : (bytes taken left : List ℕ) (after : Option (List ℕ)) → Consumes (Some bytes) after taken → IsLeft after left → taken ++ left ≡ bytes
+parts_of_slice bytes taken left None read is = absurd read
+parts_of_slice bytes taken left (Some known) read is = ap (λ (l : List ℕ). taken ++ l) is ∙ sym read
+
+not_endless : (bytes : List ℕ) (after : Option (List ℕ)) → length bytes < 2 ^ 64 - 1 → IsEndless (Some bytes) after → ⊥
+not_endless bytes None short endless = absurd endless.read
+not_endless bytes (Some left) short endless =
+    let n = ap length endless.read ∙ length-append endless.taken left in let long = endless.long in omega (arith, n, long, short)
+
+slice_answers : (plain : Bool) (can_fail : Type 0) (bytes : List ℕ) (after held holds : Option (List ℕ)) (r : Result Verdict RunFault) → length bytes < 2 ^ 64 - 1
+    → HasRun plain (Some bytes) after held holds r → IfErr r (λ fault. OnStreamFault fault (⊥ ⊎ IsEndless (Some bytes) after) can_fail) → AnswersSlice plain can_fail bytes held holds r
+slice_answers plain can_fail bytes after held holds (Ok verdict) short h failed = (
+  h.packets,
+  h.text,
+  h.all_accepted,
+  subst (λ (l : List ℕ). HasPackets room Beginning l h.packets [] None) (whole_slice bytes h.input after h.read h.at_end) h.has,
+  h.answered,
+  h.is_verdict,
+  h.written,
+)
+slice_answers plain can_fail bytes after held holds (Err (Capture fault)) short h failed =
+    let whole = parts_of_slice bytes h.taken h.left after h.read h.is_left in
+    record {
+      packets = h.packets;
+      front = h.front;
+      rest = h.rest;
+      text = h.text;
+      all_accepted = h.all_accepted;
+      has = subst (λ (l : List ℕ). HasPackets room Beginning l h.packets h.rest (Some (capture_refusal_view fault.error))) whole h.has;
+      expected = h.expected;
+      parts = subst (λ (l : List ℕ). GoesOn l h.packets h.expected h.rest) whole h.parts;
+      place = sym whole ∙ h.place;
+      is_offset = h.is_offset;
+      is_room = h.is_room;
+      answered = h.answered;
+      written = h.written;
+    }
+slice_answers plain can_fail bytes after held holds (Err Input) short h (inl never) = absurd never
+slice_answers plain can_fail bytes after held holds (Err Input) short h (inr endless) = absurd (not_endless bytes after short endless)
+slice_answers plain can_fail bytes after held holds (Err Output) short h failed = failed
+
+pub slice_answered : (plain : Bool) (can_fail : Type 0) (bytes : List ℕ) (before after held holds : Option (List ℕ)) (r : Result Verdict RunFault)
+    → before ≡ Some bytes → length bytes < 2 ^ 64 - 1 → HasRun plain before after held holds r
+    → IfErr r (λ fault. OnStreamFault fault (⊥ ⊎ IsEndless before after) can_fail) → AnswersSlice plain can_fail bytes held holds r
+slice_answered plain can_fail bytes before after held holds r is short h failed =
+    slice_answers plain can_fail bytes after held holds r short
+    (subst (λ (o : Option (List ℕ)). HasRun plain o after held holds r) is h)
+    (subst (λ (o : Option (List ℕ)). IfErr r (λ fault. OnStreamFault fault (⊥ ⊎ IsEndless o after) can_fail)) is failed)

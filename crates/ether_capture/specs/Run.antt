@@ -1,5 +1,5 @@
 -- What a run writes for a capture.
-use Rattle.std.specs.Prelude.{◌≡◌, ◌≢◌, ℕ, ◌+◌, List, [], ◌∷◌, ◌++◌, length, Bool, true, ◌&&◌, Option, Some, None, Result, Ok, Err, IfSome, ⊤}
+use Rattle.std.specs.Prelude.{◌≡◌, ◌≢◌, ℕ, ◌≤◌, ◌+◌, ◌-◌, ◌^◌, List, [], ◌∷◌, ◌++◌, length, Bool, true, ◌&&◌, Option, Some, None, Result, Ok, Err, IfSome, ⊤}
 use Rattle.std.specs.List.{sum_by}
 use Rattle.std.specs.Io.KnownBytes.{Appends, Consumes, IsAtEnd}
 use Rattle.ether_pcap.specs.Capture.{PacketValue, Expectation, Beginning, CaptureRefusal, Refuses, required_len, HasPackets}
@@ -7,7 +7,7 @@ use Rattle.ether_pcap.specs.CaptureViews.{capture_refusal_view}
 use Rattle.ether_text.specs.Verdict.{verdict_of}
 use Rattle.ether_text.specs.declared.verdict.Verdict.{Verdict}
 use Rattle.ether_capture.specs.FrameLines.{AnswersPacket, skip_count, totals_line_if}
-use Rattle.ether_capture.specs.Packets.{room, counted, GoesOn}
+use Rattle.ether_capture.specs.Packets.{room, counted, GoesOn, lacks_room}
 use Rattle.ether_capture.specs.declared.outcome.CaptureFault.{CaptureFault}
 use Rattle.ether_capture.specs.declared.outcome.RunFault.{RunFault}
 use Rattle.ether_capture.specs.declared.outcome.RunFault.TheVariants.{Capture, Input, Output}
@@ -42,7 +42,7 @@ abbrev pub IsLeft : Option (List ℕ) → List ℕ → Type 0
 IsLeft after bytes = IfSome after (λ known. bytes ≡ known)
 
 -- From before to after the reader gave some of its bytes. Of all of them these are the packets up to the fault, which is at this place,
--- and the writer took the text for them.
+-- where this was expected, and the writer took the text for them.
 pub record StopsInput (plain : Bool) (before after held holds : Option (List ℕ)) (fault : CaptureFault) : Type 0 where
   pub taken : List ℕ
   pub left : List ℕ
@@ -54,8 +54,11 @@ pub record StopsInput (plain : Bool) (before after held holds : Option (List ℕ
   pub read : Consumes before after taken
   pub is_left : IsLeft after left
   pub has : HasPackets room Beginning (taken ++ left) packets rest (Some (capture_refusal_view fault.error))
+  pub expected : Expectation
+  pub parts : GoesOn (taken ++ left) packets expected rest
   pub place : taken ++ left ≡ front ++ rest
   pub is_offset : fault.offset ≡ counted (length front)
+  pub is_room : fault.is_above_room ≡ lacks_room expected rest (capture_refusal_view fault.error)
   pub answered : AreAnswered plain 0 packets text all_accepted
   pub written : Appends held holds text
 
@@ -82,6 +85,37 @@ HasRun plain before after held holds (Ok verdict) = AnswersInput plain before af
 HasRun plain before after held holds (Err (Capture fault)) = StopsInput plain before after held holds fault
 HasRun plain before after held holds (Err Input) = BreaksOff plain before after held holds
 HasRun plain before after held holds (Err Output) = ⊤
+
+-- from before to after the reader gave at least as many bytes as a run may have reads
+pub record IsEndless (before after : Option (List ℕ)) : Type 0 where
+  pub taken : List ℕ
+  pub read : Consumes before after taken
+  pub long : 2 ^ 64 - 1 ≤ length taken
+
+-- Of these bytes these are the packets up to the fault, which is at this place, where this was expected, and the writer took the text for them.
+pub record StopsSlice (plain : Bool) (bytes : List ℕ) (held holds : Option (List ℕ)) (fault : CaptureFault) : Type 0 where
+  pub packets : List PacketValue
+  pub front : List ℕ
+  pub rest : List ℕ
+  pub text : List ℕ
+  pub all_accepted : Bool
+  pub has : HasPackets room Beginning bytes packets rest (Some (capture_refusal_view fault.error))
+  pub expected : Expectation
+  pub parts : GoesOn bytes packets expected rest
+  pub place : bytes ≡ front ++ rest
+  pub is_offset : fault.offset ≡ counted (length front)
+  pub is_room : fault.is_above_room ≡ lacks_room expected rest (capture_refusal_view fault.error)
+  pub answered : AreAnswered plain 0 packets text all_accepted
+  pub written : Appends held holds text
+
+-- What a run over a slice of these bytes has written, by its outcome. There is no fault of the reader, and one of the writer only if that can fail.
+abbrev pub AnswersSlice : (plain : Bool) → (can_fail : Type 0) → (bytes : List ℕ) → (held holds : Option (List ℕ)) → Result Verdict RunFault → Type 0
+AnswersSlice plain can_fail bytes held holds (Ok verdict) =
+    (packets : List PacketValue) × (text : List ℕ) × (all_accepted : Bool) × HasPackets room Beginning bytes packets [] None
+    × AreAnswered plain 0 packets text all_accepted × (verdict ≡ verdict_of all_accepted) × Appends held holds (text ++ totals_of plain packets)
+AnswersSlice plain can_fail bytes held holds (Err (Capture fault)) = StopsSlice plain bytes held holds fault
+AnswersSlice plain can_fail bytes held holds (Err Input) = ⊥
+AnswersSlice plain can_fail bytes held holds (Err Output) = can_fail
 
 -- ---- what is said of each outcome
 

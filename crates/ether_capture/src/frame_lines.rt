@@ -8,8 +8,7 @@ ghost use Rattle.ether_peel.specs.Walker.Start.{next_of};
 
 use ether_pcap::{CapturedPacket, LinkType, Timestamp};
 use ether_peel::Start;
-use ether_text::{OutputBuffer, write_decimal, write_walk};
-use std::io::Write;
+use ether_text::{OutputBuffer, Sink, write_decimal, write_walk};
 
 /// The length in bytes of the frame check sequence of Ethernet.
 const FCS_LEN: usize = 4;
@@ -17,13 +16,13 @@ const FCS_LEN: usize = 4;
 /// Writes the line of a packet unless `is_plain`, and the lines of the walk through its headers. Returns whether the walk ends in no fault.
 ///
 /// A packet of another link type than Ethernet and Linux cooked capture v1 is skipped: it has no lines of a walk.
-pub fn write_packet<W: Write>(
+pub fn write_packet<W: Sink>(
     is_plain: bool,
     number: usize,
     packet: &CapturedPacket<'_>,
     out: &mut OutputBuffer<'_, W>,
 ) -> bool
-    ensures { TakesAnswer W.contents (AnswersPacket is_plain number (captured_packet_view packet.now))
+    ensures { TakesAnswer W.contents W.can_fail (AnswersPacket is_plain number (captured_packet_view packet.now))
         out.old out.new result }
 {
     let frame = frame(packet);
@@ -35,13 +34,13 @@ pub fn write_packet<W: Write>(
 }
 
 /// Writes the line after those of all packets, unless `is_plain`: how many packets there are, and how many of them were skipped.
-pub fn write_totals<W: Write>(
+pub fn write_totals<W: Sink>(
     is_plain: bool,
     frames: usize,
     skipped: usize,
     out: &mut OutputBuffer<'_, W>,
 )
-    ensures { Takes W.contents out.old (totals_line_if is_plain frames skipped) out.new }
+    ensures { Takes W.contents W.can_fail out.old (totals_line_if is_plain frames skipped) out.new }
 {
     if is_plain {
         return;
@@ -109,7 +108,7 @@ fn without_fcs<'a>(packet: &CapturedPacket<'a>) -> &'a [u8]
 }
 
 /// Writes the line of a packet, unless `is_plain`: its number, its time, its link type, its lengths, and whether it was cut or is skipped.
-fn write_packet_line<W: Write>(
+fn write_packet_line<W: Sink>(
     is_plain: bool,
     number: usize,
     packet: &CapturedPacket<'_>,
@@ -117,7 +116,7 @@ fn write_packet_line<W: Write>(
     out: &mut OutputBuffer<'_, W>,
 )
     requires { skipped ≡ is_skipped (captured_packet_view packet.now) }
-    ensures { Takes W.contents out.old (packet_line_if is_plain number (captured_packet_view packet.now)) out.new }
+    ensures { Takes W.contents W.can_fail out.old (packet_line_if is_plain number (captured_packet_view packet.now)) out.new }
 {
     if is_plain {
         return;
@@ -138,8 +137,8 @@ fn write_packet_line<W: Write>(
 }
 
 /// Writes a word if it holds.
-fn write_mark<W: Write>(holds: bool, word: &[u8], out: &mut OutputBuffer<'_, W>)
-    ensures { Takes W.contents out.old (mark holds word.now) out.new }
+fn write_mark<W: Sink>(holds: bool, word: &[u8], out: &mut OutputBuffer<'_, W>)
+    ensures { Takes W.contents W.can_fail out.old (mark holds word.now) out.new }
 {
     if holds {
         out.append(word);
@@ -147,8 +146,8 @@ fn write_mark<W: Write>(holds: bool, word: &[u8], out: &mut OutputBuffer<'_, W>)
 }
 
 /// Writes the seconds of a time with nine decimals, or a hyphen if there is none.
-fn write_time<W: Write>(time: Option<Timestamp>, out: &mut OutputBuffer<'_, W>)
-    ensures { Takes W.contents out.old (time_text (option_map timestamp_view time)) out.new }
+fn write_time<W: Sink>(time: Option<Timestamp>, out: &mut OutputBuffer<'_, W>)
+    ensures { Takes W.contents W.can_fail out.old (time_text (option_map timestamp_view time)) out.new }
 {
     match time {
         Some(time) => {

@@ -2,8 +2,7 @@
 use crate::frame_lines::{is_skipped, write_packet, write_totals};
 use crate::outcome::{CaptureFault, RunFault};
 use ether_pcap::{ByteOrder, CaptureError, CaptureReader, CaptureUnit};
-use ether_text::{OutputBuffer, Verdict};
-use std::io::Write;
+use ether_text::{OutputBuffer, Sink, Verdict};
 
 /// Where the run is in the capture, and what the packets before gave.
 #[derive(Drop)]
@@ -22,7 +21,7 @@ impl FrameLoop {
     ghost use Rattle.ether_pcap.specs.CaptureViews.{captured_packet_view, capture_refusal_view};
     ghost use Rattle.std.specs.Io.KnownBytes.{Appends};
     ghost use Rattle.ether_pcap.specs.Capture.{Beginning, required_len, passes_over};
-    ghost use Rattle.ether_text.specs.OutputBuffer.{contents_of};
+    ghost use Rattle.ether_text.specs.OutputBuffer.{contents_of, Marks};
     ghost use Rattle.ether_capture.specs.FrameLoop.{IsStart, TakesUnit, TakesUnits, PassesOver};
     ghost use Rattle.ether_capture.specs.Packets.{room, counted};
     ghost use Rattle.ether_capture.specs.FrameLines.{totals_line_if};
@@ -43,7 +42,7 @@ impl FrameLoop {
 
     /// Takes the units at the front of `bytes`, and writes the text for each packet. Returns how many bytes that took, and why
     /// what is left does not begin with a unit.
-    pub fn take_units<W: Write>(
+    pub fn take_units<W: Sink>(
         &mut self,
         is_plain: bool,
         bytes: &[u8],
@@ -56,6 +55,7 @@ impl FrameLoop {
             self.old out.old found.0 found.1 self.new out.new) }
         ensures fault { IfErr result IsOutput }
         ensures failed { IfErr result (λ fault. out.new.has_failed ≡ true) }
+        ensures marks { Marks W.can_fail out.old out.new }
     {
         let mut rest = bytes;
         loop {
@@ -70,7 +70,7 @@ impl FrameLoop {
     }
 
     /// Counts a unit, and writes the text for its packet, if it is one.
-    fn take_unit<W: Write>(
+    fn take_unit<W: Sink>(
         &mut self,
         is_plain: bool,
         unit: &CaptureUnit<'_>,
@@ -81,6 +81,7 @@ impl FrameLoop {
             (option_map captured_packet_view unit.now.packet) self.old out.old self.new out.new) }
         ensures fault { IfErr result IsOutput }
         ensures failed { IfErr result (λ fault. out.new.has_failed ≡ true) }
+        ensures marks { Marks W.can_fail out.old out.new }
     {
         self.offset = self.offset.saturating_add(unit.len);
         let Some(packet) = &unit.packet else {
@@ -113,13 +114,15 @@ impl FrameLoop {
         self.offset = self.offset.saturating_add(len);
     }
 
-    /// Why the run stops if the unit at its place can't be read.
-    pub fn fault(&self, error: CaptureError) -> RunFault
-        ensures { result ≡ RunFault.Capture (record { offset = self.now.offset; error = error }) }
+    /// Why the run stops if the unit at its place can't be read, be it that there is no room for more of it.
+    pub fn fault(&self, error: CaptureError, is_above_room: bool) -> RunFault
+        ensures { result ≡ RunFault.Capture
+            (record { offset = self.now.offset; error = error; is_above_room = is_above_room }) }
     {
         RunFault::Capture(CaptureFault {
             offset: self.offset,
             error,
+            is_above_room,
         })
     }
 
@@ -131,7 +134,7 @@ impl FrameLoop {
     }
 
     /// Ends the run at the end of the capture: writes the line after those of all packets, unless `is_plain`, and returns the verdict.
-    pub fn finish<W: Write>(
+    pub fn finish<W: Sink>(
         &self,
         is_plain: bool,
         out: &mut OutputBuffer<'_, W>,
@@ -142,6 +145,7 @@ impl FrameLoop {
             (totals_line_if is_plain self.now.count self.now.skipped)) }
         ensures fault { IfErr result IsOutput }
         ensures failed { IfErr result (λ fault. out.new.has_failed ≡ true) }
+        ensures marks { Marks W.can_fail out.old out.new }
     {
         write_totals(is_plain, self.count, self.skipped, out);
         out.check()?;

@@ -1,10 +1,10 @@
 //! The bytes of the capture that were read and are not taken yet.
 ghost use Rattle.std.specs.Prelude.{◌≡◌, ◌+◌, ◌-◌, ◌≤◌, ◌<◌, List, ℕ, [], ◌++◌, length, drop, IfOk, OnOk, OnErr};
 ghost use Rattle.std.specs.Io.KnownBytes.{Keeps, Consumes, IsAtEnd};
+ghost use Rattle.ether_text.specs.InputReader.{HasCause, ReadsOn, StopsReading};
 ghost use Rattle.ether_capture.specs.Packets.{room};
 
-use ether_text::{InputFault, InputReader, OutputBuffer};
-use std::io::Read;
+use ether_text::{InputFault, InputReader, OutputBuffer, Sink, Source};
 
 /// The room for a file header, a record or a block. A block that is passed over may be longer.
 pub const ROOM: usize = 73_728;
@@ -71,7 +71,7 @@ impl InputBuffer {
     /// Reads some bytes after those that are there, and returns their number: 0 at the end of the input, and if there is no room.
     ///
     /// No text may wait in `out`.
-    pub fn read<R: Read, W>(
+    pub fn read<R: Source, W: Sink>(
         &mut self,
         input: &mut InputReader<'_, R>,
         out: &OutputBuffer<'_, W>,
@@ -87,6 +87,8 @@ impl InputBuffer {
         ensures kept { OnErr result
             (Keeps (R.remaining input.old.inner.now) (R.remaining input.new.inner.now)) }
         ensures same { OnErr result (items self.new ≡ items self.old) }
+        ensures on { IfOk result (λ n. 0 < n → ReadsOn R.remaining input.old input.new) }
+        ensures cause { OnErr result (HasCause R.can_fail out.now input.old input.new) }
     {
         self.move_to_front();
         let end = self.end;
@@ -99,7 +101,7 @@ impl InputBuffer {
     /// bytes are missing if the input ends before, and else 0.
     ///
     /// No text may wait in `out`.
-    pub fn pass_over<R: Read, W>(
+    pub fn pass_over<R: Source, W: Sink>(
         &mut self,
         len: usize,
         input: &mut InputReader<'_, R>,
@@ -119,6 +121,8 @@ impl InputBuffer {
         ensures kept { OnErr result ((more : List ℕ)
             × Consumes (R.remaining input.old.inner.now) (R.remaining input.new.inner.now) more
             × (length (items self.old ++ more) < len)) }
+        ensures on { IfOk result (λ missing. missing ≡ 0 → ReadsOn R.remaining input.old input.new) }
+        ensures cause { OnErr result (StopsReading R.remaining R.can_fail input.old input.new) }
     {
         let mut left = len - 4;
         loop {

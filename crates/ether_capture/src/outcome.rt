@@ -1,11 +1,10 @@
 //! How the program ends: what a run found or why it stopped, the exit status of each, and the last line.
 ghost use Rattle.std.specs.Prelude.{◌≡◌};
 ghost use Rattle.std.specs.Option.{option_map};
-ghost use Rattle.ether_capture.specs.Outcome.{exit_status, is_above_room, last_line_text, last_text, available_len, status_of_program};
+ghost use Rattle.ether_capture.specs.Outcome.{exit_status, last_line_text, last_text, status_of_program};
 
-use crate::input_buffer::ROOM;
 use crate::options::Usage;
-use ether_pcap::{BlockError, CaptureError, RecordError, SectionError};
+use ether_pcap::CaptureError;
 use ether_text::{InputFault, OutputFault, Verdict};
 use std::fmt;
 
@@ -16,6 +15,8 @@ pub struct CaptureFault {
     pub offset: usize,
     /// Why it can't be read.
     pub error: CaptureError,
+    /// Whether there was no room for more of it, which might have made it whole.
+    pub is_above_room: bool,
 }
 
 impl fmt::Display for CaptureFault {
@@ -27,7 +28,7 @@ impl fmt::Display for CaptureFault {
     fn fmt<W: fmt::Write>(&self, f: &mut fmt::Formatter<W>) -> fmt::Result {
         let offset = self.offset;
         let error = &self.error;
-        if is_above_room(error) {
+        if self.is_above_room {
             write!(
                 f,
                 "byte {offset}: {error} At most 73728 bytes are read at once."
@@ -36,25 +37,6 @@ impl fmt::Display for CaptureFault {
             write!(f, "byte {offset}: {error}")
         }
     }
-}
-
-/// How many bytes of a record or block there were, if it is refused because they end within it.
-fn available_len(error: &CaptureError) -> Option<usize>
-    ensures { result ≡ available_len error.now }
-{
-    match error {
-        CaptureError::Record(RecordError::Len { len, .. }) => Some(*len),
-        CaptureError::Section(SectionError::Block(BlockError::Len { len, .. })) => Some(*len),
-        CaptureError::Block(BlockError::Len { len, .. }) => Some(*len),
-        _ => None,
-    }
-}
-
-/// Whether a record or block is refused because no more bytes are read at once.
-fn is_above_room(error: &CaptureError) -> bool
-    ensures { result ≡ is_above_room error.now }
-{
-    available_len(error).unwrap_or(0) == ROOM
 }
 
 /// Why a run stopped before the end of its input.

@@ -1,20 +1,21 @@
 //! A run: from a reader of a capture to a writer of the lines of its packets.
-ghost use Rattle.std.specs.Prelude.{◌≡◌, ◌↔◌, ◌+◌, ◌<◌, ◌≤◌, ℕ, List, [], length, Bool, true, Option, Err, IfOk, IfErr, OnOk, IsTrue};
+ghost use Rattle.std.specs.Prelude.{◌≡◌, ◌⊎◌, ◌↔◌, ◌+◌, ◌<◌, ◌≤◌, ℕ, List, [], length, Bool, true, Option, Err, IfOk, IfErr, OnOk, IsTrue};
 ghost use Rattle.ether_pcap.specs.Numbers.{field};
 ghost use Rattle.ether_pcap.specs.Capture.{IsEnd, Refuses};
 ghost use Rattle.ether_pcap.specs.Views.{order_of};
 ghost use Rattle.ether_pcap.specs.CaptureViews.{capture_refusal_view};
-ghost use Rattle.ether_text.specs.OutputBuffer.{contents_of};
+ghost use Rattle.ether_text.specs.InputReader.{ReadsOn, StopsReading};
+ghost use Rattle.ether_text.specs.OutputBuffer.{contents_of, Marks};
 ghost use Rattle.ether_capture.specs.FrameLoop.{IsFinal, LeavesRest, HasReached};
 ghost use Rattle.ether_capture.specs.InputBuffer.{items};
 ghost use Rattle.ether_capture.specs.Packets.{room};
-ghost use Rattle.ether_capture.specs.Run.{HasRun, IfSettled, IsOutput, OnInput, OnStreamFault};
+ghost use Rattle.ether_capture.specs.Run.{AnswersSlice, HasRun, IfSettled, IsEndless, IsOutput, OnInput, OnStreamFault};
 
 use crate::frame_loop::FrameLoop;
 use crate::input_buffer::{InputBuffer, ROOM};
 use crate::outcome::RunFault;
 use ether_pcap::{BlockError, ByteOrder, CaptureError};
-use ether_text::{InputReader, OutputBuffer, Verdict};
+use ether_text::{InputReader, OutputBuffer, Sink, SliceSource, Source, Verdict};
 use std::io::{Read, Write};
 
 /// Reads a capture to its end, and writes the lines of its packets.
@@ -33,6 +34,34 @@ pub fn run<R: Read, W: Write>(
     ensures { HasRun is_plain (R.remaining reader.old) (R.remaining reader.new)
         (W.contents writer.old) (W.contents writer.new) result }
 {
+    run_source(is_plain, reader, writer)
+}
+
+/// Does as [`run`] on a capture that is a slice. No read can fail, so the outcome is never [`RunFault::Input`].
+pub fn run_slice<W: Sink>(
+    is_plain: bool,
+    capture: &[u8],
+    writer: &mut W,
+) -> Result<Verdict, RunFault>
+    ensures run { AnswersSlice is_plain W.can_fail capture.now (W.contents writer.old) (W.contents writer.new) result }
+    ensures flushed { IfSettled result (W.is_flushed writer.new) }
+{
+    let mut source = SliceSource::new(capture);
+    run_source(is_plain, &mut source, writer)
+}
+
+/// What [`run`] and [`run_slice`] do.
+fn run_source<R: Source, W: Sink>(
+    is_plain: bool,
+    reader: &mut R,
+    writer: &mut W,
+) -> Result<Verdict, RunFault>
+    ensures run { HasRun is_plain (R.remaining reader.old) (R.remaining reader.new)
+        (W.contents writer.old) (W.contents writer.new) result }
+    ensures failed { IfErr result (λ fault. OnStreamFault fault
+        (R.can_fail ⊎ IsEndless (R.remaining reader.old) (R.remaining reader.new)) W.can_fail) }
+    ensures flushed { IfSettled result (W.is_flushed writer.new) }
+{
     let mut input = InputReader::new(reader);
     let mut out = OutputBuffer::new(writer);
     answer_capture(is_plain, &mut input, &mut out)
@@ -40,7 +69,7 @@ pub fn run<R: Read, W: Write>(
 
 /// Reads the capture to its end, and writes the text and flushes it. After a fault of the reader or the writer neither is called
 /// again.
-fn answer_capture<R: Read, W: Write>(
+fn answer_capture<R: Source, W: Sink>(
     is_plain: bool,
     input: &mut InputReader<'_, R>,
     out: &mut OutputBuffer<'_, W>,
@@ -51,7 +80,9 @@ fn answer_capture<R: Read, W: Write>(
         (contents_of W.contents out.old) (W.contents out.new.writer.now) result }
     ensures failed { IfErr result
         (λ fault. OnStreamFault fault (input.new.has_failed ≡ true) (out.new.has_failed ≡ true)) }
-    ensures flushed { IfSettled result (out.new.is_flushed ≡ true) }
+    ensures cause { IfErr result (λ fault. OnInput fault (StopsReading R.remaining R.can_fail input.old input.new)) }
+    ensures marks { Marks W.can_fail out.old out.new }
+    ensures flushed { IfSettled result (W.is_flushed out.new.writer.now) }
 {
     let outcome = read_capture(is_plain, input, out);
     if let Ok(_) | Err(RunFault::Capture(_)) = outcome {
@@ -61,7 +92,7 @@ fn answer_capture<R: Read, W: Write>(
 }
 
 /// Reads the capture to its end, and gathers the text. What is gathered is written out before each read.
-fn read_capture<R: Read, W: Write>(
+fn read_capture<R: Source, W: Sink>(
     is_plain: bool,
     input: &mut InputReader<'_, R>,
     out: &mut OutputBuffer<'_, W>,
@@ -73,6 +104,8 @@ fn read_capture<R: Read, W: Write>(
     ensures none_waits { IfErr result (λ fault. OnInput fault (out.new.waiting.items ≡ [])) }
     ensures failed { IfErr result
         (λ fault. OnStreamFault fault (input.new.has_failed ≡ true) (out.new.has_failed ≡ true)) }
+    ensures cause { IfErr result (λ fault. OnInput fault (StopsReading R.remaining R.can_fail input.old input.new)) }
+    ensures marks { Marks W.can_fail out.old out.new }
 {
     let mut frames = FrameLoop::new();
     let mut buffer = InputBuffer::new();
@@ -87,14 +120,14 @@ fn read_capture<R: Read, W: Write>(
             if is_over(&frames, &buffer) {
                 return frames.finish(is_plain, out);
             }
-            return Err(frames.fault(error));
+            return Err(frames.fault(error, false));
         }
     }
 }
 
 /// Takes the units at the front of the buffer, and writes the text for each packet. Returns why what is left does not begin with
 /// a unit.
-fn take_buffered<W: Write>(
+fn take_buffered<W: Sink>(
     is_plain: bool,
     frames: &mut FrameLoop,
     buffer: &mut InputBuffer,
@@ -105,6 +138,7 @@ fn take_buffered<W: Write>(
         (items buffer.new) error frames.new out.new) }
     ensures fault { IfErr result IsOutput }
     ensures failed { IfErr result (λ fault. out.new.has_failed ≡ true) }
+    ensures marks { Marks W.can_fail out.old out.new }
 {
     let (taken, error) = frames.take_units(is_plain, buffer.as_slice(), out)?;
     buffer.consume(taken);
@@ -113,7 +147,7 @@ fn take_buffered<W: Write>(
 
 /// Skips the block at the front of the full buffer piece by piece, if it is one that is passed over. If it is not, if its two lengths
 /// differ, or if the capture ends within it, the capture can't be read further.
-fn pass_over<R: Read, W: Write>(
+fn pass_over<R: Source, W: Sink>(
     error: CaptureError,
     frames: &mut FrameLoop,
     buffer: &mut InputBuffer,
@@ -135,9 +169,13 @@ fn pass_over<R: Read, W: Write>(
     ensures none_waits { IfErr result (λ fault. OnInput fault (out.new.waiting.items ≡ [])) }
     ensures failed { IfErr result
         (λ fault. OnStreamFault fault (input.new.has_failed ≡ true) (out.new.has_failed ≡ true)) }
+    ensures on { OnOk result (ReadsOn R.remaining input.old input.new) }
+    ensures cause { IfErr result (λ fault. OnInput fault (StopsReading R.remaining R.can_fail input.old input.new)) }
+    ensures marks { Marks W.can_fail out.old out.new }
 {
     let Some(byte_order) = frames.passed_over(&error, buffer.as_slice()) else {
-        return Err(frames.fault(error));
+        let is_above_room = error.required_len().is_some();
+        return Err(frames.fault(error, is_above_room));
     };
     out.write_out()?;
     let total_len = number_at(byte_order, buffer.as_slice(), 4);
@@ -148,12 +186,12 @@ fn pass_over<R: Read, W: Write>(
             required_len: len,
             len: len - missing,
         };
-        return Err(frames.fault(CaptureError::Block(error)));
+        return Err(frames.fault(CaptureError::Block(error), false));
     }
     let trailer = number_at(byte_order, buffer.as_slice(), 0);
     if trailer != total_len {
         let error = BlockError::Trailer { total_len, trailer };
-        return Err(frames.fault(CaptureError::Block(error)));
+        return Err(frames.fault(CaptureError::Block(error), false));
     }
     buffer.consume(4);
     frames.pass_over(len);

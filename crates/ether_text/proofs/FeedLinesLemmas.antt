@@ -28,10 +28,10 @@ unfolding fault_line
 no_line (Accepted w x) is = (refl, refl)
 no_line (Fault w x r) is = absurd (cc)
 
-module _ {W : Type 0} (contents : W → Option (List ℕ)) (x : Expectation) (frame : List ℕ) where
+module _ {W : Type 0} (contents : W → Option (List ℕ)) (can_fail : Type 0) (x : Expectation) (frame : List ℕ) where
   -- what is written of a feed is the text for its frame
   answered : (feed : Feed) (old new : OutputBuffer W) (accepted : Bool) (last : List ℕ) → (is : IsFeed x frame feed) → (last ≡ fault_line is.ending) × (accepted ≡ is_accepted is.ending)
-      → Takes contents old ((feed_text feed.refusals feed.taken ++ codes "\n") ++ last) new → TakesAnswer contents (AnswersFeed x frame) old new accepted
+      → Takes contents can_fail old ((feed_text feed.refusals feed.taken ++ codes "\n") ++ last) new → TakesAnswer contents can_fail (AnswersFeed x frame) old new accepted
   answered feed old new accepted last is ending taken = record {
     text = (feed_text feed.refusals feed.taken ++ codes "\n") ++ last;
     answers = record {
@@ -48,13 +48,13 @@ module _ {W : Type 0} (contents : W → Option (List ℕ)) (x : Expectation) (fr
 
   -- with the line of a fault
   pub fed_fault : (feed : Feed) (old mid new : OutputBuffer W) (f : PeelFault) → IsFeed x frame feed → feed.fault ≡ Some f
-      → Takes contents old (feed_text feed.refusals feed.taken ++ codes "\n") mid → Takes contents mid (fault_view_text f ++ codes "\n") new → TakesAnswer contents (AnswersFeed x frame) old new false
+      → Takes contents can_fail old (feed_text feed.refusals feed.taken ++ codes "\n") mid → Takes contents can_fail mid (fault_view_text f ++ codes "\n") new → TakesAnswer contents can_fail (AnswersFeed x frame) old new false
   fed_fault feed old mid new f is shows counts line =
       answered feed old new false (fault_view_text f ++ codes "\n") is (line_of_fault is.ending f (sym is.fault ∙ shows)) (Takes-then counts line)
 
   -- without one
   pub fed_whole : (feed : Feed) (old new : OutputBuffer W) → IsFeed x frame feed → feed.fault ≡ None
-      → Takes contents old (feed_text feed.refusals feed.taken ++ codes "\n") new → TakesAnswer contents (AnswersFeed x frame) old new true
+      → Takes contents can_fail old (feed_text feed.refusals feed.taken ++ codes "\n") new → TakesAnswer contents can_fail (AnswersFeed x frame) old new true
   fed_whole feed old new is none counts =
       let (nothing, accepted) = no_line is.ending (sym is.fault ∙ none) in
       answered feed old new true [] is (sym nothing, accepted) (Takes-same (sym (append-nil _)) counts)

@@ -2,6 +2,7 @@ pub mod DecimalLemmas
 pub mod WriteHexLemmas
 pub mod KnownBytesLemmas
 pub mod OutputBufferLemmas
+pub mod InputReaderLemmas
 pub mod ViewLinesLemmas
 pub mod WalkLinesLemmas
 pub mod FeedLinesLemmas

@@ -97,7 +97,7 @@ rest_view_text-rest w x start end k at to shows =
 
 -- ---- the lines so far, and those that are left
 
-pub record WritesWalk {W : Type 0} (contents : W → Option (List ℕ)) (x : Expectation) (frame : List ℕ) (s : State) (old new : OutputBuffer W) : Type 0 where
+pub record WritesWalk {W : Type 0} (contents : W → Option (List ℕ)) (can_fail : Type 0) (x : Expectation) (frame : List ℕ) (s : State) (old new : OutputBuffer W) : Type 0 where
   pub all : List Header
   pub ending : Ending
   pub walk : Walk x frame all ending
@@ -106,12 +106,12 @@ pub record WritesWalk {W : Type 0} (contents : W → Option (List ℕ)) (x : Exp
   pub faces : Faces frame window s left ending
   pub going : s.over ≡ false
   pub text : List ℕ
-  pub taken : Takes contents old text new
+  pub taken : Takes contents can_fail old text new
   pub parts : frame_text frame (whole x frame) all ending ≡ text ++ frame_text frame window left ending
 
-module _ {W : Type 0} (contents : W → Option (List ℕ)) where
+module _ {W : Type 0} (contents : W → Option (List ℕ)) (can_fail : Type 0) where
   pub walk_starts : (x : Expectation) (frame : List ℕ) (s : State) (out : OutputBuffer W) (all : List Header) (ending : Ending) → Walk x frame all ending → Faces frame (whole x frame) s all ending → s.over ≡ false
-      → WritesWalk contents x frame s out out
+      → WritesWalk contents can_fail x frame s out out
   walk_starts x frame s out all ending walk faces going = record {
     all = all;
     ending = ending;
@@ -121,13 +121,13 @@ module _ {W : Type 0} (contents : W → Option (List ℕ)) where
     faces = faces;
     going = going;
     text = [];
-    taken = Takes-none contents out;
+    taken = Takes-none contents can_fail out;
     parts = refl;
   }
 
   -- a unit's line
-  pub walk_unit : (x : Expectation) (frame : List ℕ) (s t : State) (old mid new : OutputBuffer W) (u : PeelUnit) → IsBytes frame → WritesWalk contents x frame s old mid → Gives s (Some (Ok u)) t
-      → Takes contents mid (view_text s.offset (length t.rest) t.closed u ++ codes "\n") new → WritesWalk contents x frame t old new
+  pub walk_unit : (x : Expectation) (frame : List ℕ) (s t : State) (old mid new : OutputBuffer W) (u : PeelUnit) → IsBytes frame → WritesWalk contents can_fail x frame s old mid → Gives s (Some (Ok u)) t
+      → Takes contents can_fail mid (view_text s.offset (length t.rest) t.closed u ++ codes "\n") new → WritesWalk contents can_fail x frame t old new
   unfolding frame_text
   walk_unit x frame s t old mid new u ok a gives line =
       let n = unit_next frame a.window a.left a.ending s t u (gives.next a.going frame a.window a.left a.ending a.faces) in
@@ -148,12 +148,12 @@ module _ {W : Type 0} (contents : W → Option (List ℕ)) where
         faces = n.faces;
         going = n.going;
         text = a.text ++ written;
-        taken = Takes-then a.taken (subst (λ (l : List ℕ). Takes contents mid (l ++ codes "\n") new) is line);
+        taken = Takes-then a.taken (subst (λ (l : List ℕ). Takes contents can_fail mid (l ++ codes "\n") new) is line);
         parts = a.parts ∙ ap (λ (l : List Header). a.text ++ frame_text frame a.window l a.ending) n.parts ∙ sym (append_assoc a.text written (frame_text frame (payload a.window h) hs a.ending));
       }
 
-  answered : (x : Expectation) (frame : List ℕ) (s : State) (old mid new : OutputBuffer W) (accepted : Bool) (last : List ℕ) → (a : WritesWalk contents x frame s old mid) → a.left ≡ [] → last ≡ ending_text a.ending → accepted ≡ is_accepted a.ending
-      → Takes contents mid (last ++ codes "\n") new → TakesAnswer contents (AnswersWalk x frame) old new accepted
+  answered : (x : Expectation) (frame : List ℕ) (s : State) (old mid new : OutputBuffer W) (accepted : Bool) (last : List ℕ) → (a : WritesWalk contents can_fail x frame s old mid) → a.left ≡ [] → last ≡ ending_text a.ending → accepted ≡ is_accepted a.ending
+      → Takes contents can_fail mid (last ++ codes "\n") new → TakesAnswer contents can_fail (AnswersWalk x frame) old new accepted
   unfolding frame_text
   answered x frame s old mid new accepted last a none is verdict line = record {
     text = a.text ++ (last ++ codes "\n");
@@ -168,8 +168,8 @@ module _ {W : Type 0} (contents : W → Option (List ℕ)) where
   }
 
   -- the line of a fault
-  pub walk_fault : (x : Expectation) (frame : List ℕ) (s t : State) (old mid new : OutputBuffer W) (f : PeelFault) → WritesWalk contents x frame s old mid → Gives s (Some (Err f)) t
-      → Takes contents mid (fault_view_text f ++ codes "\n") new → TakesAnswer contents (AnswersWalk x frame) old new false
+  pub walk_fault : (x : Expectation) (frame : List ℕ) (s t : State) (old mid new : OutputBuffer W) (f : PeelFault) → WritesWalk contents can_fail x frame s old mid → Gives s (Some (Err f)) t
+      → Takes contents can_fail mid (fault_view_text f ++ codes "\n") new → TakesAnswer contents can_fail (AnswersWalk x frame) old new false
   unfolding ending_text
   walk_fault x frame s t old mid new f a gives line =
       let n = fault_next frame a.window a.left a.ending s t f (gives.next a.going frame a.window a.left a.ending a.faces) in
@@ -181,8 +181,8 @@ module _ {W : Type 0} (contents : W → Option (List ℕ)) where
       answered x frame s old mid new false (fault_view_text f) a n.none_left is (ap is_accepted (sym n.ending)) line
 
   -- the line of what is left
-  pub walk_rest : (x : Expectation) (frame : List ℕ) (s t : State) (old mid new : OutputBuffer W) (end : ℕ) (k : RestKind) → WritesWalk contents x frame s old mid → Gives s None t
-      → end ≡ s.offset + length t.rest → k ≡ kind_shown t.expected → Takes contents mid (rest_view_text s.offset end k ++ codes "\n") new → TakesAnswer contents (AnswersWalk x frame) old new true
+  pub walk_rest : (x : Expectation) (frame : List ℕ) (s t : State) (old mid new : OutputBuffer W) (end : ℕ) (k : RestKind) → WritesWalk contents can_fail x frame s old mid → Gives s None t
+      → end ≡ s.offset + length t.rest → k ≡ kind_shown t.expected → Takes contents can_fail mid (rest_view_text s.offset end k ++ codes "\n") new → TakesAnswer contents can_fail (AnswersWalk x frame) old new true
   unfolding ending_text
   walk_rest x frame s t old mid new end k a gives to kind line =
       let n = none_next frame a.window a.left a.ending s t (gives.next a.going frame a.window a.left a.ending a.faces) in

@@ -4,10 +4,9 @@ ghost use Rattle.ether_text.specs.WalkText.{AnswersFeed};
 ghost use Rattle.ether_peel.specs.Walker.Feeding.{IsFeed};
 ghost use Rattle.ether_peel.specs.Walker.Start.{start_with};
 
-use crate::OutputBuffer;
 use crate::write_lines::{write_counts, write_fault};
+use crate::{OutputBuffer, Sink};
 use ether_peel::{Feed, Start, feed, feed_limited};
-use std::io::Write;
 
 /// Writes how often a walk asks for more of the frame, how much it takes, and the fault of what it takes, if there is
 /// one. Returns whether there is none.
@@ -26,13 +25,13 @@ use std::io::Write;
 /// assert_eq!(rt; out.flush(), Ok(()));
 /// assert_eq!(rt; written.as_slice(), b"feed refusals 2 taken 18\n".as_slice());
 /// ```
-pub fn write_feed<W: Write>(
+pub fn write_feed<W: Sink>(
     start: Start,
     limit: Option<usize>,
     frame: &[u8],
     out: &mut OutputBuffer<'_, W>,
 ) -> bool
-    ensures { TakesAnswer W.contents (AnswersFeed (start_with start limit) frame.now)
+    ensures { TakesAnswer W.contents W.can_fail (AnswersFeed (start_with start limit) frame.now)
         out.old out.new result }
 {
     let outcome = fed(start, limit, frame);

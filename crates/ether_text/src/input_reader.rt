@@ -2,8 +2,7 @@
 ghost use Rattle.std.specs.Io.KnownBytes.{Consumes, IsAtEnd, Keeps};
 ghost use Rattle.ether_text.specs.InputReader.{HasCause};
 
-use crate::{InputFault, OutputBuffer};
-use std::io::Read;
+use crate::{InputFault, OutputBuffer, Sink, Source};
 
 /// A reader that is read a bounded number of times. After a fault it is not called again.
 ///
@@ -25,7 +24,7 @@ pub struct InputReader<'a, R> {
     has_failed: bool,
 }
 
-impl<'a, R: Read> InputReader<'a, R> {
+impl<'a, R: Source> InputReader<'a, R> {
     ghost use Rattle.std.specs.Prelude.{◌≡◌, ◌+◌, ◌-◌, ◌^◌, ◌≤◌, ◌<◌, [], length, take, true, false, IfOk, OnOk, OnErr};
 
     /// A reader that has not failed, for up to `u64::MAX` reads.
@@ -44,14 +43,13 @@ impl<'a, R: Read> InputReader<'a, R> {
 
     /// Reads some bytes to the front of `chunk`, and returns their number: 0 at the end of the input.
     ///
-    /// No text may wait in `out`, so that whoever reads the output has the lines for all that was read so far.
-    /// Returns [`InputFault`] if the read fails, if an earlier one failed, or after `u64::MAX` reads.
-    pub fn read<W>(
+    /// Returns [`InputFault`] if the read fails, if an earlier one failed, or after `u64::MAX` reads. Nothing is read either
+    /// while text waits in `out`: so whoever reads the output has the lines for all that was read so far.
+    pub fn read<W: Sink>(
         &mut self,
         chunk: &mut [u8],
-        _out: &OutputBuffer<'_, W>,
+        out: &OutputBuffer<'_, W>,
     ) -> Result<usize, InputFault>
-        requires { _out.now.waiting.items ≡ [] }
         ensures same_reader { self.new.inner.ghost_name ≡ self.old.inner.ghost_name }
         ensures bound { IfOk result (λ count. count ≤ length chunk.new) }
         ensures read { IfOk result
@@ -60,22 +58,24 @@ impl<'a, R: Read> InputReader<'a, R> {
         ensures end { IfOk result
             (λ count. count ≡ 0 → 0 < length chunk.new → IsAtEnd (R.remaining self.new.inner.now)) }
         ensures left { OnOk result (self.new.reads_left + 1 ≡ self.old.reads_left) }
+        ensures fresh { OnOk result (self.old.has_failed ≡ false) }
+        ensures none_waits { OnOk result (out.now.waiting.items ≡ []) }
         ensures going { OnOk result (self.new.has_failed ≡ false) }
         ensures failed { OnErr result (self.new.has_failed ≡ true) }
-        ensures cause { OnErr result (HasCause self.old self.new) }
+        ensures cause { OnErr result (HasCause R.can_fail out.now self.old self.new) }
         ensures kept { OnErr result
             (Keeps (R.remaining self.old.inner.now) (R.remaining self.new.inner.now)) }
     {
-        if self.has_failed || self.reads_left == 0 {
+        if self.has_failed || self.reads_left == 0 || out.has_waiting() {
             self.has_failed = true;
             return Err(InputFault);
         }
         self.reads_left -= 1;
-        match self.inner.read(chunk) {
+        match self.inner.read_some(chunk) {
             Ok(count) => Ok(count),
-            Err(_) => {
+            Err(fault) => {
                 self.has_failed = true;
-                Err(InputFault)
+                Err(fault)
             }
         }
     }

@@ -1,7 +1,6 @@
 //! A writer with a buffer of fixed size, which remembers that it failed.
-use crate::OutputFault;
+use crate::{OutputFault, Sink};
 use arrayvec::ArrayVec;
-use std::io::Write;
 
 /// The room for text that waits.
 const ROOM: usize = 65536;
@@ -25,12 +24,11 @@ pub struct OutputBuffer<'a, W> {
     writer: &'a mut W,
     waiting: ArrayVec<u8, ROOM>,
     has_failed: bool,
-    is_flushed: bool,
 }
 
-impl<'a, W: Write> OutputBuffer<'a, W> {
-    ghost use Rattle.std.specs.Prelude.{◌≡◌, ◌≤◌, [], length, true, false, OnOk, OnErr};
-    ghost use Rattle.ether_text.specs.OutputBuffer.{contents_of, Takes, WritesOut};
+impl<'a, W: Sink> OutputBuffer<'a, W> {
+    ghost use Rattle.std.specs.Prelude.{◌≡◌, ◌≤◌, ◌↔◌, [], length, true, false, OnOk, OnErr, IsFalse};
+    ghost use Rattle.ether_text.specs.OutputBuffer.{Grows, Marks, Takes, WritesOut};
 
     /// An empty buffer for `writer`.
     pub fn new(writer: &'a mut W) -> Self
@@ -43,7 +41,6 @@ impl<'a, W: Write> OutputBuffer<'a, W> {
             writer,
             waiting: ArrayVec::new(),
             has_failed: false,
-            is_flushed: false,
         }
     }
 
@@ -53,7 +50,7 @@ impl<'a, W: Write> OutputBuffer<'a, W> {
     /// is remembered, and [`check`](Self::check) returns it. How much was written is then unspecified.
     #[inline(always)]
     pub fn append(&mut self, bytes: &[u8])
-        ensures { Takes W.contents self.old bytes.now self.new }
+        ensures { Takes W.contents W.can_fail self.old bytes.now self.new }
     {
         if self.waiting.try_extend_from_slice(bytes).is_err() {
             self.append_slowly(bytes);
@@ -67,7 +64,7 @@ impl<'a, W: Write> OutputBuffer<'a, W> {
     #[cold]
     #[inline(never)]
     fn append_slowly(&mut self, bytes: &[u8])
-        ensures { Takes W.contents self.old bytes.now self.new }
+        ensures { Grows W.contents W.can_fail self.old bytes.now self.new }
     {
         let mut rest = bytes;
         while rest.len() > ROOM {
@@ -80,7 +77,7 @@ impl<'a, W: Write> OutputBuffer<'a, W> {
     /// Writes out the text that waits, and appends `bytes`.
     fn append_piece(&mut self, bytes: &[u8])
         requires { length bytes.now ≤ ROOM }
-        ensures { Takes W.contents self.old bytes.now self.new }
+        ensures { Grows W.contents W.can_fail self.old bytes.now self.new }
     {
         if self.write_out().is_err() {
             return;
@@ -101,24 +98,33 @@ impl<'a, W: Write> OutputBuffer<'a, W> {
         Ok(())
     }
 
+    /// Whether text waits to be written out.
+    pub(crate) fn has_waiting(&self) -> bool
+        ensures { IsFalse result ↔ (self.now.waiting.items ≡ []) }
+    {
+        !self.waiting.is_empty()
+    }
+
     /// Passes all that waits to the writer, which is not flushed.
     ///
-    /// Returns [`OutputFault`] if the writer fails, or has failed before.
+    /// Returns [`OutputFault`] if the writer fails, or has failed before. Then the same text waits.
     pub fn write_out(&mut self) -> Result<(), OutputFault>
         ensures same_writer { self.new.writer.ghost_name ≡ self.old.writer.ghost_name }
         ensures ok { OnOk result (WritesOut W.contents self.old self.new) }
         ensures failed { OnErr result (self.new.has_failed ≡ true) }
+        ensures marks { Marks W.can_fail self.old self.new }
+        ensures waiting { OnErr result (self.new.waiting.items ≡ self.old.waiting.items) }
+        ensures untouched { self.old.has_failed ≡ true → self.new.writer ≡ self.old.writer }
     {
         if self.has_failed {
             return Err(OutputFault);
         }
-        self.is_flushed = false;
-        match self.writer.write_all(self.waiting.as_slice()) {
+        match self.writer.put(self.waiting.as_slice()) {
             Ok(()) => {
                 self.waiting.clear();
                 Ok(())
             }
-            Err(_) => Err(self.fail()),
+            Err(fault) => Err(self.fail(fault)),
         }
     }
 
@@ -128,25 +134,25 @@ impl<'a, W: Write> OutputBuffer<'a, W> {
     pub fn flush(&mut self) -> Result<(), OutputFault>
         ensures same_writer { self.new.writer.ghost_name ≡ self.old.writer.ghost_name }
         ensures ok { OnOk result (WritesOut W.contents self.old self.new) }
-        ensures flushed { OnOk result (self.new.is_flushed ≡ true) }
+        ensures flushed { OnOk result (W.is_flushed self.new.writer.now) }
         ensures failed { OnErr result (self.new.has_failed ≡ true) }
+        ensures marks { Marks W.can_fail self.old self.new }
+        ensures untouched { self.old.has_failed ≡ true → self.new.writer ≡ self.old.writer }
     {
         self.write_out()?;
-        match self.writer.flush() {
-            Ok(()) => {
-                self.is_flushed = true;
-                Ok(())
-            }
-            Err(_) => Err(self.fail()),
+        match self.writer.flush_all() {
+            Ok(()) => Ok(()),
+            Err(fault) => Err(self.fail(fault)),
         }
     }
 
-    /// Gives the writer up: what it holds is no longer whole.
-    pub(crate) fn fail(&mut self) -> OutputFault
-        ensures same_writer { self.new.writer.ghost_name ≡ self.old.writer.ghost_name }
+    /// Remembers that the writer has failed.
+    fn fail(&mut self, fault: OutputFault) -> OutputFault
+        ensures waiting { self.new.waiting.items ≡ self.old.waiting.items }
+        ensures same_writer { self.new.writer ≡ self.old.writer }
         ensures failed { self.new.has_failed ≡ true }
     {
         self.has_failed = true;
-        OutputFault
+        fault
     }
 }

@@ -7,10 +7,9 @@ ghost use Rattle.ether_peel.specs.Grammar.Stack.{Ending, Walk, whole};
 ghost use Rattle.ether_peel.specs.Walker.Next.{Faces};
 ghost use Rattle.ether_peel.specs.Walker.Start.{start_with};
 
-use crate::OutputBuffer;
 use crate::write_lines::{write_fault, write_rest, write_unit};
+use crate::{OutputBuffer, Sink};
 use ether_peel::{Peel, Start};
-use std::io::Write;
 
 /// Writes the lines of a frame's walk, and returns whether the frame is accepted.
 ///
@@ -33,13 +32,13 @@ use std::io::Write;
 /// rest 18 18 type 0x0800\n".as_slice()
 /// );
 /// ```
-pub fn write_walk<W: Write>(
+pub fn write_walk<W: Sink>(
     start: Start,
     limit: Option<usize>,
     frame: &[u8],
     out: &mut OutputBuffer<'_, W>,
 ) -> bool
-    ensures { TakesAnswer W.contents (AnswersWalk (start_with start limit) frame.now)
+    ensures { TakesAnswer W.contents W.can_fail (AnswersWalk (start_with start limit) frame.now)
         out.old out.new result }
 {
     let mut peel = walker(start, limit, frame);

@@ -1,7 +1,7 @@
 //! Writes the lines of a walk: one for each unit and one for the ending, or one for the two counts of feeding it.
 //!
 //! Each is appended to the output piece by piece: through the formatter it would take twice as long.
-ghost use Rattle.std.specs.Prelude.{◌≡◌, ◌++◌, ◌+◌, ◌≤◌, ◌<◌, codes, decimal, length};
+ghost use Rattle.std.specs.Prelude.{◌≡◌, ◌++◌, ◌+◌, ◌/◌, ◌%◌, ◌≤◌, ◌<◌, [], ◌∷◌, codes, decimal, length};
 ghost use Rattle.etherparse.specs.Ethernet2.{ethernet2_of, fcs_of};
 ghost use Rattle.etherparse.specs.Vlan.{vlan_of};
 ghost use Rattle.etherparse.specs.LinuxSll.{linux_sll_of};
@@ -11,28 +11,25 @@ ghost use Rattle.ether_text.specs.Lines.{arp_text, feed_text, linux_sll_text, ma
 ghost use Rattle.ether_text.specs.OutputBuffer.{Takes};
 ghost use Rattle.ether_text.specs.ViewLines.{error_view_text, ethernet2_view_text, fault_view_text, fcs_text, kind_view_text, len_view_text, linux_sll_view_text, macsec_view_text, rest_view_text, view_text};
 
-use crate::OutputBuffer;
 use crate::write_hex::{hex_address, hex_fcs, hex_long, hex_type};
-use arrayvec::ArrayString;
+use crate::{OutputBuffer, Sink};
 use ether_peel::{PeelError, PeelFault, PeelUnit, RestKind};
 use etherparse::err::{self, LenError};
 use etherparse::{
     ArpPacketSlice, EtherType, Ethernet2Slice, LenSource, LinuxSllProtocolType, LinuxSllSlice,
     MacsecHeaderSlice, MacsecPType, SingleVlanSlice,
 };
-use std::fmt::Write as _;
-use std::io::Write;
 
 /// Writes the line of a unit that starts at a place of the frame. After the unit there is left a
 /// window of `len` bytes, which is closed or open.
-pub fn write_unit<W: Write>(
+pub fn write_unit<W: Sink>(
     out: &mut OutputBuffer<'_, W>,
     start: usize,
     len: usize,
     closed: bool,
     unit: &PeelUnit<'_>,
 )
-    ensures { Takes W.contents out.old (view_text start len closed unit.now ++ codes "\n") out.new }
+    ensures { Takes W.contents W.can_fail out.old (view_text start len closed unit.now ++ codes "\n") out.new }
 {
     match unit {
         PeelUnit::Ethernet2(slice) => write_ethernet2(out, start, slice),
@@ -46,12 +43,8 @@ pub fn write_unit<W: Write>(
 
 /// Writes the text of an Ethernet II header.
 #[inline(always)]
-fn write_ethernet2<W: Write>(
-    out: &mut OutputBuffer<'_, W>,
-    start: usize,
-    slice: &Ethernet2Slice<'_>,
-)
-    ensures { Takes W.contents out.old
+fn write_ethernet2<W: Sink>(out: &mut OutputBuffer<'_, W>, start: usize, slice: &Ethernet2Slice<'_>)
+    ensures { Takes W.contents W.can_fail out.old
         (ethernet2_view_text start (ethernet2_of slice.now.bytes) (fcs_of slice.now)) out.new }
 {
     // Bytes that were just written one by one are slow to copy, so the digits come first.
@@ -71,8 +64,8 @@ fn write_ethernet2<W: Write>(
 
 /// Writes what a frame check sequence adds to the text of an Ethernet II header.
 #[inline(always)]
-fn write_fcs<W: Write>(out: &mut OutputBuffer<'_, W>, fcs: Option<[u8; 4]>)
-    ensures { Takes W.contents out.old (fcs_text fcs) out.new }
+fn write_fcs<W: Sink>(out: &mut OutputBuffer<'_, W>, fcs: Option<[u8; 4]>)
+    ensures { Takes W.contents W.can_fail out.old (fcs_text fcs) out.new }
 {
     if let Some(fcs) = fcs {
         out.append(b" fcs ");
@@ -81,8 +74,8 @@ fn write_fcs<W: Write>(out: &mut OutputBuffer<'_, W>, fcs: Option<[u8; 4]>)
 }
 
 /// Writes the text of a header of Linux cooked capture.
-fn write_linux_sll<W: Write>(out: &mut OutputBuffer<'_, W>, start: usize, slice: &LinuxSllSlice<'_>)
-    ensures { Takes W.contents out.old (linux_sll_text start (linux_sll_of slice.now)) out.new }
+fn write_linux_sll<W: Sink>(out: &mut OutputBuffer<'_, W>, start: usize, slice: &LinuxSllSlice<'_>)
+    ensures { Takes W.contents W.can_fail out.old (linux_sll_text start (linux_sll_of slice.now)) out.new }
 {
     let header = slice.header_slice();
     write_number(out, b"linux_sll ", start);
@@ -117,8 +110,8 @@ fn protocol_of(header: &[u8]) -> u16
 
 /// Writes the text of a VLAN tag.
 #[inline(always)]
-fn write_vlan<W: Write>(out: &mut OutputBuffer<'_, W>, start: usize, slice: &SingleVlanSlice<'_>)
-    ensures { Takes W.contents out.old (vlan_text start (vlan_of slice.now)) out.new }
+fn write_vlan<W: Sink>(out: &mut OutputBuffer<'_, W>, start: usize, slice: &SingleVlanSlice<'_>)
+    ensures { Takes W.contents W.can_fail out.old (vlan_text start (vlan_of slice.now)) out.new }
 {
     let ether_type = hex_type(slice.ether_type());
     out.append(b"vlan ");
@@ -134,14 +127,14 @@ fn write_vlan<W: Write>(out: &mut OutputBuffer<'_, W>, start: usize, slice: &Sin
 }
 
 /// Writes the text of a MACsec SecTag, and of the window after it.
-fn write_macsec<W: Write>(
+fn write_macsec<W: Sink>(
     out: &mut OutputBuffer<'_, W>,
     start: usize,
     tag: &MacsecHeaderSlice<'_>,
     len: usize,
     closed: bool,
 )
-    ensures { Takes W.contents out.old
+    ensures { Takes W.contents W.can_fail out.old
         (macsec_text start (sec_tag_of (tag_bytes tag.now)) len closed) out.new }
 {
     write_number(out, b"macsec ", start);
@@ -160,8 +153,8 @@ fn write_macsec<W: Write>(
 }
 
 /// Writes the text of the payload type of a SecTag.
-fn write_payload_type<W: Write>(out: &mut OutputBuffer<'_, W>, ptype: MacsecPType)
-    ensures { Takes W.contents out.old (payload_type_text (payload_type_view ptype)) out.new }
+fn write_payload_type<W: Sink>(out: &mut OutputBuffer<'_, W>, ptype: MacsecPType)
+    ensures { Takes W.contents W.can_fail out.old (payload_type_text (payload_type_view ptype)) out.new }
 {
     match ptype {
         MacsecPType::Unmodified(ether_type) => {
@@ -175,8 +168,8 @@ fn write_payload_type<W: Write>(out: &mut OutputBuffer<'_, W>, ptype: MacsecPTyp
 }
 
 /// Writes the digits of a secure channel identifier, or a hyphen if there is none.
-fn write_sci<W: Write>(out: &mut OutputBuffer<'_, W>, sci: Option<u64>)
-    ensures { Takes W.contents out.old (sci_text sci) out.new }
+fn write_sci<W: Sink>(out: &mut OutputBuffer<'_, W>, sci: Option<u64>)
+    ensures { Takes W.contents W.can_fail out.old (sci_text sci) out.new }
 {
     match sci {
         Some(sci) => out.append(&hex_long(sci.to_be_bytes())),
@@ -185,8 +178,8 @@ fn write_sci<W: Write>(out: &mut OutputBuffer<'_, W>, sci: Option<u64>)
 }
 
 /// Writes the text of an ARP packet.
-fn write_arp<W: Write>(out: &mut OutputBuffer<'_, W>, start: usize, slice: &ArpPacketSlice<'_>)
-    ensures { Takes W.contents out.old (arp_text start (arp_of slice.now)) out.new }
+fn write_arp<W: Sink>(out: &mut OutputBuffer<'_, W>, start: usize, slice: &ArpPacketSlice<'_>)
+    ensures { Takes W.contents W.can_fail out.old (arp_text start (arp_of slice.now)) out.new }
 {
     write_number(out, b"arp ", start);
     write_number(out, b" hw ", usize::from(slice.hw_addr_type().0));
@@ -199,8 +192,8 @@ fn write_arp<W: Write>(out: &mut OutputBuffer<'_, W>, start: usize, slice: &ArpP
 
 /// Writes the line of what is left of a frame that was accepted: from a start to an end, and what it
 /// is announced as.
-pub fn write_rest<W: Write>(out: &mut OutputBuffer<'_, W>, start: usize, end: usize, kind: RestKind)
-    ensures { Takes W.contents out.old (rest_view_text start end kind ++ codes "\n") out.new }
+pub fn write_rest<W: Sink>(out: &mut OutputBuffer<'_, W>, start: usize, end: usize, kind: RestKind)
+    ensures { Takes W.contents W.can_fail out.old (rest_view_text start end kind ++ codes "\n") out.new }
 {
     out.append(b"rest ");
     write_decimal(out, start);
@@ -212,8 +205,8 @@ pub fn write_rest<W: Write>(out: &mut OutputBuffer<'_, W>, start: usize, end: us
 
 /// Writes a space, and what a window is announced as.
 #[inline(always)]
-fn write_kind<W: Write>(out: &mut OutputBuffer<'_, W>, kind: RestKind)
-    ensures { Takes W.contents out.old (codes " " ++ kind_view_text kind) out.new }
+fn write_kind<W: Sink>(out: &mut OutputBuffer<'_, W>, kind: RestKind)
+    ensures { Takes W.contents W.can_fail out.old (codes " " ++ kind_view_text kind) out.new }
 {
     match kind {
         RestKind::Start => out.append(b" "),
@@ -229,8 +222,8 @@ fn write_kind<W: Write>(out: &mut OutputBuffer<'_, W>, kind: RestKind)
 }
 
 /// Writes a space, and the protocol of a cooked capture that has no ether type.
-fn write_protocol<W: Write>(out: &mut OutputBuffer<'_, W>, protocol: LinuxSllProtocolType)
-    ensures { Takes W.contents out.old (codes " " ++ protocol_text protocol) out.new }
+fn write_protocol<W: Sink>(out: &mut OutputBuffer<'_, W>, protocol: LinuxSllProtocolType)
+    ensures { Takes W.contents W.can_fail out.old (codes " " ++ protocol_text protocol) out.new }
 {
     match protocol {
         LinuxSllProtocolType::Ignored(number) => {
@@ -251,8 +244,8 @@ fn write_protocol<W: Write>(out: &mut OutputBuffer<'_, W>, protocol: LinuxSllPro
 }
 
 /// Writes the line of a walk that is fed: how often it asks for more bytes, and how many it takes.
-pub fn write_counts<W: Write>(out: &mut OutputBuffer<'_, W>, refusals: usize, taken: usize)
-    ensures { Takes W.contents out.old (feed_text refusals taken ++ codes "\n") out.new }
+pub fn write_counts<W: Sink>(out: &mut OutputBuffer<'_, W>, refusals: usize, taken: usize)
+    ensures { Takes W.contents W.can_fail out.old (feed_text refusals taken ++ codes "\n") out.new }
 {
     write_number(out, b"feed refusals ", refusals);
     write_number(out, b" taken ", taken);
@@ -260,8 +253,8 @@ pub fn write_counts<W: Write>(out: &mut OutputBuffer<'_, W>, refusals: usize, ta
 }
 
 /// Writes the line of a frame's fault.
-pub fn write_fault<W: Write>(out: &mut OutputBuffer<'_, W>, fault: &PeelFault)
-    ensures { Takes W.contents out.old (fault_view_text fault.now ++ codes "\n") out.new }
+pub fn write_fault<W: Sink>(out: &mut OutputBuffer<'_, W>, fault: &PeelFault)
+    ensures { Takes W.contents W.can_fail out.old (fault_view_text fault.now ++ codes "\n") out.new }
 {
     out.append(b"fault ");
     write_decimal(out, fault.offset);
@@ -273,8 +266,8 @@ pub fn write_fault<W: Write>(out: &mut OutputBuffer<'_, W>, fault: &PeelFault)
 }
 
 /// Writes the text of what is wrong with a unit.
-fn write_error<W: Write>(out: &mut OutputBuffer<'_, W>, error: &PeelError)
-    ensures { Takes W.contents out.old (error_view_text error.now) out.new }
+fn write_error<W: Sink>(out: &mut OutputBuffer<'_, W>, error: &PeelError)
+    ensures { Takes W.contents W.can_fail out.old (error_view_text error.now) out.new }
 {
     match error {
         PeelError::Len(error) => write_len_error(out, error),
@@ -284,8 +277,8 @@ fn write_error<W: Write>(out: &mut OutputBuffer<'_, W>, error: &PeelError)
 }
 
 /// Writes the text of a length error.
-fn write_len_error<W: Write>(out: &mut OutputBuffer<'_, W>, error: &LenError)
-    ensures { Takes W.contents out.old (len_view_text error.now) out.new }
+fn write_len_error<W: Sink>(out: &mut OutputBuffer<'_, W>, error: &LenError)
+    ensures { Takes W.contents W.can_fail out.old (len_view_text error.now) out.new }
 {
     out.append(b"length ");
     write_decimal(out, error.required_len);
@@ -296,11 +289,11 @@ fn write_len_error<W: Write>(out: &mut OutputBuffer<'_, W>, error: &LenError)
 }
 
 /// Writes the text of what is wrong in a header of Linux cooked capture.
-fn write_linux_sll_error<W: Write>(
+fn write_linux_sll_error<W: Sink>(
     out: &mut OutputBuffer<'_, W>,
     error: &err::linux_sll::HeaderError,
 )
-    ensures { Takes W.contents out.old (linux_sll_view_text error.now) out.new }
+    ensures { Takes W.contents W.can_fail out.old (linux_sll_view_text error.now) out.new }
 {
     match error {
         err::linux_sll::HeaderError::UnsupportedPacketTypeField { packet_type } => {
@@ -317,8 +310,8 @@ fn write_linux_sll_error<W: Write>(
 }
 
 /// Writes the text of what is wrong in a MACsec SecTag.
-fn write_macsec_error<W: Write>(out: &mut OutputBuffer<'_, W>, error: &err::macsec::HeaderError)
-    ensures { Takes W.contents out.old (macsec_view_text error.now) out.new }
+fn write_macsec_error<W: Sink>(out: &mut OutputBuffer<'_, W>, error: &err::macsec::HeaderError)
+    ensures { Takes W.contents W.can_fail out.old (macsec_view_text error.now) out.new }
 {
     match error {
         err::macsec::HeaderError::UnexpectedVersion => out.append(b"content macsec_version"),
@@ -329,8 +322,8 @@ fn write_macsec_error<W: Write>(out: &mut OutputBuffer<'_, W>, error: &err::macs
 }
 
 /// Writes a word with the spaces around it, and a number in decimal digits.
-fn write_number<W: Write>(out: &mut OutputBuffer<'_, W>, word: &[u8], number: usize)
-    ensures { Takes W.contents out.old (word.now ++ decimal number) out.new }
+fn write_number<W: Sink>(out: &mut OutputBuffer<'_, W>, word: &[u8], number: usize)
+    ensures { Takes W.contents W.can_fail out.old (word.now ++ decimal number) out.new }
 {
     out.append(word);
     write_decimal(out, number);
@@ -346,21 +339,28 @@ fn write_number<W: Write>(out: &mut OutputBuffer<'_, W>, word: &[u8], number: us
 /// assert_eq!(rt; written.as_slice(), b"1024".as_slice());
 /// ```
 #[inline(always)]
-pub fn write_decimal<W: Write>(out: &mut OutputBuffer<'_, W>, number: usize)
-    ensures { Takes W.contents out.old (decimal number) out.new }
+pub fn write_decimal<W: Sink>(out: &mut OutputBuffer<'_, W>, number: usize)
+    ensures { Takes W.contents W.can_fail out.old (decimal number) out.new }
+{
+    if number < 1000 {
+        write_short_decimal(out, number);
+    } else {
+        write_long_decimal(out, number);
+    }
+}
+
+/// Writes a number of up to three digits.
+#[inline(always)]
+fn write_short_decimal<W: Sink>(out: &mut OutputBuffer<'_, W>, number: usize)
+    requires { number < 1000 }
+    ensures { Takes W.contents W.can_fail out.old (decimal number) out.new }
 {
     if number < 10 {
         out.append(&[digit(number)]);
     } else if number < 100 {
         out.append(&[digit(number / 10), digit(number % 10)]);
-    } else if number < 1000 {
-        out.append(&[
-            digit(number / 100),
-            digit(number / 10 % 10),
-            digit(number % 10),
-        ]);
     } else {
-        write_long_decimal(out, number);
+        out.append(&three_digits(number));
     }
 }
 
@@ -373,17 +373,30 @@ fn digit(number: usize) -> u8
     b'0' + number as u8
 }
 
-/// Writes a number of many digits.
-#[inline(never)]
-fn write_long_decimal<W: Write>(out: &mut OutputBuffer<'_, W>, number: usize)
-    ensures { Takes W.contents out.old (decimal number) out.new }
+/// The three digits of a number below 1,000, with leading zeros.
+#[inline(always)]
+fn three_digits(number: usize) -> [u8; 3]
+    requires { number < 1000 }
+    ensures { result ≡ (48 + number / 100) ∷ (48 + number / 10 % 10) ∷ (48 + number % 10) ∷ [] }
 {
-    let mut text = ArrayString::<20>::new();
-    if write!(text, "{number}").is_err() {
-        out.fail();
-        return;
+    [
+        digit(number / 100),
+        digit(number / 10 % 10),
+        digit(number % 10),
+    ]
+}
+
+/// Writes a number of any length: the digits before the last three, and these.
+#[inline(never)]
+fn write_long_decimal<W: Sink>(out: &mut OutputBuffer<'_, W>, number: usize)
+    ensures { Takes W.contents W.can_fail out.old (decimal number) out.new }
+{
+    if number < 1000 {
+        write_short_decimal(out, number);
+    } else {
+        write_long_decimal(out, number / 1000);
+        out.append(&three_digits(number % 1000));
     }
-    out.append(text.as_str().as_bytes());
 }
 
 /// The word for a window's mark.

@@ -1,5 +1,5 @@
 -- What a run writes for its input.
-use Rattle.std.specs.Prelude.{◌≡◌, ◌==◌, ℕ, ◌+◌, ◌-◌, ◌^◌, min, List, [], ◌∷◌, ◌++◌, length, Bool, true, false, ◌&&◌, Option, Result, Ok, Err, IfSome, ⊤}
+use Rattle.std.specs.Prelude.{◌≡◌, ◌==◌, ℕ, ◌≤◌, ◌+◌, ◌-◌, ◌^◌, min, List, [], ◌∷◌, ◌++◌, length, Bool, true, false, ◌&&◌, Option, Result, Ok, Err, IfSome, ⊤}
 use Rattle.std.specs.List.{All}
 use Rattle.std.specs.Str.Lines.{lines}
 use Rattle.std.specs.Io.KnownBytes.{Appends, Consumes, IsAtEnd}
@@ -90,6 +90,20 @@ HasRun command before after held holds (Ok verdict) = AnswersInput command befor
 HasRun command before after held holds (Err (BadLine number)) = StopsInput command before after held holds number
 HasRun command before after held holds (Err Input) = BreaksOff command before after held holds
 HasRun command before after held holds (Err Output) = ⊤
+
+-- from before to after the reader gave at least as many bytes as a run may have reads
+pub record IsEndless (before after : Option (List ℕ)) : Type 0 where
+  pub taken : List ℕ
+  pub read : Consumes before after taken
+  pub long : 2 ^ 64 - 1 ≤ length taken
+
+-- What a run over a slice of these bytes has written, by its outcome. There is no fault of the reader, and one of the writer only if that can fail.
+abbrev pub AnswersSlice : Command → (can_fail : Type 0) → (bytes : List ℕ) → (held holds : Option (List ℕ)) → Result Verdict ToolFault → Type 0
+AnswersSlice command can_fail bytes held holds (Ok verdict) =
+    (text : List ℕ) × (all_accepted : Bool) × AreAnswered command (lines bytes) text all_accepted × (verdict ≡ verdict_of all_accepted) × Appends held holds text
+AnswersSlice command can_fail bytes held holds (Err (BadLine number)) = (text : List ℕ) × StopsAtLine command bytes number text × Appends held holds text
+AnswersSlice command can_fail bytes held holds (Err Input) = ⊥
+AnswersSlice command can_fail bytes held holds (Err Output) = can_fail
 
 -- ---- what is said of each outcome
 

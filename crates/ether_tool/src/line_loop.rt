@@ -4,8 +4,7 @@ use crate::line_buffer::{LineBuffer, LineEnd};
 use crate::outcome::{ToolFault, Verdict};
 use crate::parse_frame::MAX_FRAME_LEN;
 use crate::write_answer::write_answer;
-use ether_text::OutputBuffer;
-use std::io::Write;
+use ether_text::{OutputBuffer, Sink};
 
 /// The line under way, and what the lines before it gave.
 #[derive(Drop)]
@@ -17,6 +16,7 @@ pub struct LineLoop {
 
 impl LineLoop {
     ghost use Rattle.std.specs.Prelude.{◌≡◌, ◌++◌, ℕ, List, [], Option, IfOk, IfErr, OnOk, true};
+    ghost use Rattle.ether_text.specs.OutputBuffer.{Marks};
     ghost use Rattle.ether_tool.specs.Run.{OnBadLine, OnStreamFault};
     ghost use Rattle.ether_tool.specs.LineBuffer.{KeepsLine, without_end};
     ghost use Rattle.ether_tool.specs.LineLoop.{Advances, Finishes, IsStart, JudgesLine, RefusesLine, StopsWithin};
@@ -34,7 +34,7 @@ impl LineLoop {
 
     /// Writes the text for the line under way, which ends with this piece, and begins the next. `frame` is
     /// room for the line's frame.
-    fn judge<W: Write>(
+    fn judge<W: Sink>(
         &mut self,
         command: Command,
         piece: &[u8],
@@ -48,6 +48,7 @@ impl LineLoop {
         ensures bad { IfErr result
             (λ fault. OnBadLine fault (RefusesLine piece.now end self.old out.old out.new)) }
         ensures failed { IfErr result (λ fault. OnStreamFault fault ⊥ (out.new.has_failed ≡ true)) }
+        ensures marks { Marks W.can_fail out.old out.new }
     {
         let number = self.count.saturating_add(1);
         let Some(len) = self.line.end(piece, end, frame) else {
@@ -61,7 +62,7 @@ impl LineLoop {
     }
 
     /// Takes the next bytes of the input, and writes the text for each line that ends in them.
-    pub fn take_chunk<W: Write>(
+    pub fn take_chunk<W: Sink>(
         &mut self,
         command: Command,
         chunk: &[u8],
@@ -73,6 +74,7 @@ impl LineLoop {
         ensures bad { IfErr result (λ fault. OnBadLine fault (λ number. (later : List ℕ)
             → StopsWithin command W.contents self.old out.old chunk.now later out.new number)) }
         ensures failed { IfErr result (λ fault. OnStreamFault fault ⊥ (out.new.has_failed ≡ true)) }
+        ensures marks { Marks W.can_fail out.old out.new }
     {
         let mut frame = [0; MAX_FRAME_LEN];
         let mut rest = chunk;
@@ -85,7 +87,7 @@ impl LineLoop {
     }
 
     /// Writes the text for the last line, if the input ends in one without an LF, and returns the verdict.
-    pub fn finish<W: Write>(
+    pub fn finish<W: Sink>(
         mut self,
         command: Command,
         out: &mut OutputBuffer<'_, W>,
@@ -95,6 +97,7 @@ impl LineLoop {
         ensures bad { IfErr result (λ fault. OnBadLine fault
             (StopsWithin command W.contents self out.old [] [] out.new)) }
         ensures failed { IfErr result (λ fault. OnStreamFault fault ⊥ (out.new.has_failed ≡ true)) }
+        ensures marks { Marks W.can_fail out.old out.new }
     {
         if !self.line.is_empty() {
             let mut frame = [0; MAX_FRAME_LEN];

@@ -168,17 +168,19 @@ mod tests {
             );
         }
         let shown = format!(in rt.alloc();
-            "{:?}",
+            "{:?} {:?}",
             (
+                Verdict::AllAccepted,
                 Verdict::SomeRefused,
                 Mode::EtherType(EtherType(0x0806)),
-                Mode::Feed,
                 Usage
-            )
+            ),
+            [Mode::Eth, Mode::Fcs, Mode::Sll, Mode::Feed]
         )?;
         assert_eq!(rt;
             shown.as_str(),
-            "(SomeRefused, EtherType(0x0806 (Address Resolution Protocol (ARP))), Feed, Usage)"
+            "(AllAccepted, SomeRefused, EtherType(0x0806 (Address Resolution Protocol (ARP))), Usage) \
+[Eth, Fcs, Sll, Feed]"
         );
         Ok(())
     }

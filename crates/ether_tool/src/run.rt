@@ -1,14 +1,15 @@
 //! A run: from a reader of lines to a writer of the text for each.
-ghost use Rattle.std.specs.Prelude.{◌≡◌, [], true, IfErr};
-ghost use Rattle.ether_text.specs.OutputBuffer.{contents_of};
+ghost use Rattle.std.specs.Prelude.{◌≡◌, ◌⊎◌, [], true, IfErr};
+ghost use Rattle.ether_text.specs.InputReader.{StopsReading};
+ghost use Rattle.ether_text.specs.OutputBuffer.{contents_of, Marks};
 ghost use Rattle.ether_tool.specs.Command.{limited_to, unlimited};
-ghost use Rattle.ether_tool.specs.Run.{HasRun, IfSettled, OnInput, OnStreamFault};
+ghost use Rattle.ether_tool.specs.Run.{AnswersSlice, HasRun, IfSettled, IsEndless, OnInput, OnStreamFault};
 
 use crate::command::Command;
 use crate::line_loop::LineLoop;
 use crate::mode::Mode;
 use crate::outcome::{ToolFault, Verdict};
-use ether_text::{InputReader, OutputBuffer};
+use ether_text::{InputReader, OutputBuffer, Sink, SliceSource, Source};
 use std::io::{Read, Write};
 
 /// The room for one read.
@@ -48,14 +49,34 @@ pub fn run_limited<R: Read, W: Write>(
     run_command(Command { mode, limit }, reader, writer)
 }
 
-/// What [`run`] and [`run_limited`] do.
-fn run_command<R: Read, W: Write>(
+/// Does as [`run`] on the lines of a slice, or as [`run_limited`] if there is a limit.
+///
+/// No read can fail, so the outcome is never [`ToolFault::Input`].
+pub fn run_slice<W: Sink>(
+    mode: Mode,
+    limit: Option<usize>,
+    lines: &[u8],
+    writer: &mut W,
+) -> Result<Verdict, ToolFault>
+    ensures run { AnswersSlice (record { mode = mode; limit = limit }) W.can_fail lines.now
+        (W.contents writer.old) (W.contents writer.new) result }
+    ensures flushed { IfSettled result (W.is_flushed writer.new) }
+{
+    let mut source = SliceSource::new(lines);
+    run_command(Command { mode, limit }, &mut source, writer)
+}
+
+/// What [`run`], [`run_limited`] and [`run_slice`] do.
+fn run_command<R: Source, W: Sink>(
     command: Command,
     reader: &mut R,
     writer: &mut W,
 ) -> Result<Verdict, ToolFault>
-    ensures { HasRun command (R.remaining reader.old) (R.remaining reader.new)
+    ensures run { HasRun command (R.remaining reader.old) (R.remaining reader.new)
         (W.contents writer.old) (W.contents writer.new) result }
+    ensures failed { IfErr result (λ fault. OnStreamFault fault
+        (R.can_fail ⊎ IsEndless (R.remaining reader.old) (R.remaining reader.new)) W.can_fail) }
+    ensures flushed { IfSettled result (W.is_flushed writer.new) }
 {
     let mut input = InputReader::new(reader);
     let mut out = OutputBuffer::new(writer);
@@ -64,7 +85,7 @@ fn run_command<R: Read, W: Write>(
 
 /// Reads the input to its end, and writes the text and flushes it. After a fault of the
 /// reader or the writer neither is called again.
-fn answer_input<R: Read, W: Write>(
+fn answer_input<R: Source, W: Sink>(
     command: Command,
     input: &mut InputReader<'_, R>,
     out: &mut OutputBuffer<'_, W>,
@@ -75,7 +96,9 @@ fn answer_input<R: Read, W: Write>(
         (contents_of W.contents out.old) (W.contents out.new.writer.now) result }
     ensures failed { IfErr result
         (λ fault. OnStreamFault fault (input.new.has_failed ≡ true) (out.new.has_failed ≡ true)) }
-    ensures flushed { IfSettled result (out.new.is_flushed ≡ true) }
+    ensures cause { IfErr result (λ fault. OnInput fault (StopsReading R.remaining R.can_fail input.old input.new)) }
+    ensures marks { Marks W.can_fail out.old out.new }
+    ensures flushed { IfSettled result (W.is_flushed out.new.writer.now) }
 {
     let outcome = read_lines(command, input, out);
     if let Ok(_) | Err(ToolFault::BadLine(_)) = outcome {
@@ -86,7 +109,7 @@ fn answer_input<R: Read, W: Write>(
 
 /// Reads the input to its end, and gathers the text. What is gathered is written out before
 /// each read.
-fn read_lines<R: Read, W: Write>(
+fn read_lines<R: Source, W: Sink>(
     command: Command,
     input: &mut InputReader<'_, R>,
     out: &mut OutputBuffer<'_, W>,
@@ -98,6 +121,8 @@ fn read_lines<R: Read, W: Write>(
     ensures none_waits { IfErr result (λ fault. OnInput fault (out.new.waiting.items ≡ [])) }
     ensures failed { IfErr result
         (λ fault. OnStreamFault fault (input.new.has_failed ≡ true) (out.new.has_failed ≡ true)) }
+    ensures cause { IfErr result (λ fault. OnInput fault (StopsReading R.remaining R.can_fail input.old input.new)) }
+    ensures marks { Marks W.can_fail out.old out.new }
 {
     let mut lines = LineLoop::new();
     let mut chunk = [0; CHUNK_LEN];

@@ -7,15 +7,14 @@ ghost use Rattle.ether_tool.specs.Answer.{start_of_mode, Answers};
 use crate::command::Command;
 use crate::mode::Mode;
 use ether_peel::Start;
-use ether_text::{OutputBuffer, write_feed, write_walk};
-use std::io::Write;
+use ether_text::{OutputBuffer, Sink, write_feed, write_walk};
 
 /// Writes the lines for a frame, and returns whether the frame is accepted.
 ///
 /// Inlined into the loop over the lines, it would make the decoding of their digits slower.
 #[inline(never)]
-pub fn write_answer<W: Write>(command: Command, frame: &[u8], out: &mut OutputBuffer<'_, W>) -> bool
-    ensures { TakesAnswer W.contents (Answers command frame.now) out.old out.new result }
+pub fn write_answer<W: Sink>(command: Command, frame: &[u8], out: &mut OutputBuffer<'_, W>) -> bool
+    ensures { TakesAnswer W.contents W.can_fail (Answers command frame.now) out.old out.new result }
 {
     let start = start_of(command.mode);
     match command.mode {

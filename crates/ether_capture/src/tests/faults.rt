@@ -2,7 +2,7 @@
 use super::captures::{CLASSIC, SECTIONS};
 use super::lines::CLASSIC_LINES;
 use crate::outcome::{CaptureFault, RunFault};
-use crate::run::run;
+use crate::run::{run, run_slice};
 use arrayvec::ArrayVec;
 use ether_pcap::{BlockError, CaptureError, FileHeaderError, RecordError};
 
@@ -64,10 +64,15 @@ fn of_captures_that_break_off(rt: HostRuntime) {
             record(73_729, 73_728),
         ),
     ];
-    for (name, mut capture, text, offset, error) in examples {
+    for (name, capture, text, offset, error) in examples {
         let mut output = ArrayVec::<u8, 2048>::new();
-        let ended = run(false, &mut capture, &mut output);
-        let fault = RunFault::Capture(CaptureFault { offset, error });
+        let ended = run_slice(false, capture, &mut output);
+        let is_above_room = error == record(73_729, 73_728);
+        let fault = RunFault::Capture(CaptureFault {
+            offset,
+            error,
+            is_above_room,
+        });
         assert_eq!(rt; (output.as_slice(), ended), (text, Err(fault)), "{name}");
     }
 }

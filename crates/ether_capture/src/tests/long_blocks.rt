@@ -117,6 +117,7 @@ fn stops(error: BlockError) -> Result<Verdict, RunFault> {
     Err(RunFault::Capture(CaptureFault {
         offset: PLACE,
         error: CaptureError::Block(error),
+        is_above_room: false,
     }))
 }
 
@@ -151,6 +152,8 @@ fn whole_cut_and_with_other_lengths(rt: HostRuntime) {
             FIRST,
             stops(BlockError::TotalLen(16_777_220)),
         ),
+        // As much as there is room for: the block is passed over, so that no room is missing.
+        (100_000, 100_000, 73_728, FIRST, stops(cut(73_728))),
         (100_000, 100_000, 80_000, FIRST, stops(cut(80_000))),
         (100_000, 100_000, 99_998, FIRST, stops(cut(99_998))),
     ] {

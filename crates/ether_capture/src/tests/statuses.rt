@@ -1,5 +1,5 @@
 //! The words after the program's name, the last line and the exit status.
-use super::captures::{CLASSIC, WITH_FCS};
+use super::captures::{CLASSIC, SECTIONS, WITH_FCS};
 use crate::program::program;
 use arrayvec::ArrayVec;
 use std::alloc::Global;
@@ -80,6 +80,21 @@ At most 73728 bytes are read at once.\n",
         let ended = program(Ok(args(&rt, words)?), &mut left, &mut output);
         assert_eq!(rt; (output.as_slice(), ended), (text, status), "{words:?}");
     }
+    Ok(())
+}
+
+/// A block of decryption secrets needs no room, since it is passed over. It ends after as many bytes as there is room for.
+#[test]
+fn after_a_block_that_is_cut(rt: HostRuntime) -> Result<(), Fail> {
+    let mut cut = [0; 28 + 73_728];
+    cut[..28].copy_from_slice(&SECTIONS[..28]);
+    cut[28] = 10;
+    cut[32..36].copy_from_slice(&[0xA0, 0x86, 0x01, 0x00]);
+    let mut output = ArrayVec::<u8, 128>::new();
+    let ended = program(Ok(args(&rt, &[])?), &mut cut.as_slice(), &mut output);
+    let text =
+        b"byte 28: A block of a pcapng file needs 100000 byte(s); only 73728 are available.\n";
+    assert_eq!(rt; (output.as_slice(), ended), (text.as_slice(), 3));
     Ok(())
 }
 

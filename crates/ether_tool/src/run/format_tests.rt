@@ -29,9 +29,16 @@ pub fn answers(rt: &impl Abort, example: &Example) -> Result<(), Fail> {
         Some(limit) => run_limited(mode, limit, &mut line, &mut output),
         None => run(mode, &mut line, &mut output),
     };
+    let mut of_slice = ArrayVec::<u8, 4096>::new();
+    let same = run_slice(mode, limit, example.line, &mut of_slice);
     assert_eq!(rt;
-        (output.as_slice(), status_of(&outcome)),
-        (example.answer, example.status),
+        (
+            output.as_slice(),
+            status_of(&outcome),
+            of_slice.as_slice(),
+            same
+        ),
+        (example.answer, example.status, example.answer, outcome),
         "{}",
         example.name
     );

@@ -2,8 +2,8 @@
 use arrayvec::ArrayVec;
 use ether_peel::Start;
 use ether_text::{
-    InputFault, InputReader, OutputBuffer, OutputFault, Verdict, write_decimal, write_feed,
-    write_walk,
+    InputFault, InputReader, OutputBuffer, OutputFault, SliceSource, Source, Verdict,
+    write_decimal, write_feed, write_walk,
 };
 use std::test::Fail;
 
@@ -21,7 +21,10 @@ fn what_the_examples_write(rt: HostRuntime) {
     out.append(b"sealed\n");
     let is_accepted = write_walk(Start::Ethernet2, None, &FRAME[..18], &mut out);
     let is_fed = write_feed(Start::Ethernet2, None, &FRAME, &mut out);
-    write_decimal(&mut out, 1_024);
+    for number in [7, 42, 503, 1_024, 1_000_000, 20_065_010, usize::MAX] {
+        write_decimal(&mut out, number);
+        out.append(b" ");
+    }
     let flushed = out.flush();
     assert_eq!(rt;
         (is_accepted, is_fed, flushed, written.as_slice()),
@@ -34,7 +37,7 @@ ethernet2 0 ffffffffffff 020000000001 0x8100\n\
 vlan 14 pcp 5 dei 1 vid 291 0x0800\n\
 rest 18 18 type 0x0800\n\
 feed refusals 2 taken 18\n\
-1024"
+7 42 503 1024 1000000 20065010 18446744073709551615 "
                 .as_slice()
         )
     );
@@ -52,7 +55,27 @@ fn what_the_examples_read_and_show(rt: HostRuntime) -> Result<(), Fail> {
         input.read(&mut chunk, &out),
         input.read(&mut chunk, &out),
     ];
-    assert_eq!(rt; (counts, chunk), ([Ok(2), Ok(1), Ok(0)], [3, 2]));
+    let mut source = SliceSource::new(&[1, 2, 3]);
+    let of_slice = [
+        source.read_some(&mut chunk),
+        source.read_some(&mut chunk),
+        source.read_some(&mut chunk),
+    ];
+    // While text waits nothing is read.
+    let mut left = [1].as_slice();
+    let mut waiting = OutputBuffer::new(&mut written);
+    waiting.append(b"rest");
+    let unread = InputReader::new(&mut left).read(&mut chunk, &waiting);
+    assert_eq!(rt;
+        (counts, of_slice, chunk, unread, left.len()),
+        (
+            [Ok(2), Ok(1), Ok(0)],
+            [Ok(2), Ok(1), Ok(0)],
+            [3, 2],
+            Err(InputFault),
+            1
+        )
+    );
     let verdict = Verdict::AllAccepted.with(false);
     let shown = format!(in rt.alloc(); "{InputFault} {OutputFault} {verdict:?}")?;
     assert_eq!(rt;

@@ -1,4 +1,5 @@
 use Rattle.std.proofs.Common.{◌≡◌, ◌⊎◌, ◌-◌, ◌<◌, ℕ, List, Bool, false, Option, None, Err, sym, ap, subst, ◌∙◌, arith}
+use Rattle.std.specs.Option.{is_some}
 use Rattle.ether_pcap.specs.Numbers.{field}
 use Rattle.ether_pcap.specs.Capture.{passes_over, required_len}
 use Rattle.ether_pcap.specs.Views.{order_of}
@@ -16,8 +17,8 @@ returns-in_default-clause-stopped g c plain before held so_far =
     let at = c.args.frames.now in
     let r = capture_refusal_view c.args.error in
     let other = subst (λ (l : List ℕ). (required_len r ≡ None) ⊎ (passes_over at.reader l ≡ false)) c.as_slice.ensures.value c.in_default.ensures in
-    not_passed plain g.W.Write.contents before (g.R.Read.remaining c.args.input.now.inner.now) held (items c.args.buffer.now) at c.args.out.now c.args.error c.fault.result
-    c.fault.ensures c.requires.fits c.requires.refused c.requires.last other so_far
+    not_passed plain g.W.Sink.contents before (g.R.Source.remaining c.args.input.now.inner.now) held (items c.args.buffer.now) at c.args.out.now c.args.error c.is_some-is_above_room.result c.fault.result
+    c.fault.ensures (c.is_some-is_above_room.ensures ∙ ap is_some c.required_len.ensures) c.requires.fits c.requires.refused c.requires.last other so_far
 
 pub pass_over-requires-clause-least : goal.pass_over-requires-clause-least
 pass_over-requires-clause-least g c =
@@ -28,11 +29,11 @@ pass_over-requires-clause-least g c =
 
 pub returns-in_err-missing-clause-stopped : goal.returns-in_err-missing-clause-stopped
 returns-in_err-missing-clause-stopped g c =
-    let contents = g.W.Write.contents in
+    let contents = g.W.Sink.contents in
     let left = items c.args.buffer.now in
     let at = c.args.frames.now in
-    let mid = g.R.Read.remaining c.args.input.now.inner.now in
-    let after = g.R.Read.remaining c.pass_over.new.input.inner.now in
+    let mid = g.R.Source.remaining c.args.input.now.inner.now in
+    let after = g.R.Source.remaining c.pass_over.new.input.inner.now in
     let order = order_of c.in-Some.byte_order in
     let front = named_block order at.reader left c.as_slice.result.now c.as_slice-2.result.now (capture_refusal_view c.args.error) c.number_at-total_len.result
     c.as_slice.ensures.value c.as_slice-2.ensures.value c.number_at-total_len.ensures c.in-Some.ensures c.requires.last c.requires.refused in
@@ -46,11 +47,11 @@ returns-in_err-missing-clause-stopped g c =
 
 pub returns-then-missing-gt0-clause-stopped : goal.returns-then-missing-gt0-clause-stopped
 returns-then-missing-gt0-clause-stopped g c plain before held so_far =
-    let contents = g.W.Write.contents in
+    let contents = g.W.Sink.contents in
     let left = items c.args.buffer.now in
     let at = c.args.frames.now in
-    let mid = g.R.Read.remaining c.args.input.now.inner.now in
-    let after = g.R.Read.remaining c.pass_over.new.input.inner.now in
+    let mid = g.R.Source.remaining c.args.input.now.inner.now in
+    let after = g.R.Source.remaining c.pass_over.new.input.inner.now in
     let order = order_of c.in-Some.byte_order in
     let n = c.number_at-total_len.result in
     let front = named_block order at.reader left c.as_slice.result.now c.as_slice-2.result.now (capture_refusal_view c.args.error) n
@@ -64,11 +65,11 @@ returns-then-missing-gt0-clause-stopped g c plain before held so_far =
 pub returns-then-trailer-total_len-clause-stopped :
     goal.returns-then-trailer-total_len-clause-stopped
 returns-then-trailer-total_len-clause-stopped g c plain before held so_far =
-    let contents = g.W.Write.contents in
+    let contents = g.W.Sink.contents in
     let left = items c.args.buffer.now in
     let at = c.args.frames.now in
-    let mid = g.R.Read.remaining c.args.input.now.inner.now in
-    let after = g.R.Read.remaining c.pass_over.new.input.inner.now in
+    let mid = g.R.Source.remaining c.args.input.now.inner.now in
+    let after = g.R.Source.remaining c.pass_over.new.input.inner.now in
     let order = order_of c.in-Some.byte_order in
     let n = c.number_at-total_len.result in
     let front = named_block order at.reader left c.as_slice.result.now c.as_slice-2.result.now (capture_refusal_view c.args.error) n
@@ -84,11 +85,11 @@ returns-then-trailer-total_len-clause-stopped g c plain before held so_far =
 
 pub returns-clause-ok : goal.returns-clause-ok
 returns-clause-ok g c plain before held so_far =
-    let contents = g.W.Write.contents in
+    let contents = g.W.Sink.contents in
     let left = items c.args.buffer.now in
     let at = c.args.frames.now in
-    let mid = g.R.Read.remaining c.args.input.now.inner.now in
-    let after = g.R.Read.remaining c.pass_over.new.input.inner.now in
+    let mid = g.R.Source.remaining c.args.input.now.inner.now in
+    let after = g.R.Source.remaining c.pass_over.new.input.inner.now in
     let order = order_of c.in-Some.byte_order in
     let n = c.number_at-total_len.result in
     let front = named_block order at.reader left c.as_slice.result.now c.as_slice-2.result.now (capture_refusal_view c.args.error) n
@@ -107,3 +108,6 @@ returns-clause-left g c =
     let front = named_block (order_of c.in-Some.byte_order) c.args.frames.now.reader (items c.args.buffer.now) c.as_slice.result.now c.as_slice-2.result.now (capture_refusal_view c.args.error) c.number_at-total_len.result
     c.as_slice.ensures.value c.as_slice-2.ensures.value c.number_at-total_len.ensures c.in-Some.ensures c.requires.last c.requires.refused in
     c.in_ok-missing.ensures.left front.1
+
+pub returns-clause-on : goal.returns-clause-on
+returns-clause-on g c = c.in_ok-missing.ensures.on (omega (arith, c.if-missing-gt0.false))

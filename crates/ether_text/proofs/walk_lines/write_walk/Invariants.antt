@@ -5,7 +5,7 @@ use Rattle.ether_text.proofs.WalkLinesLemmas.{WritesWalk}
 use Rattle.ether_text.proofs.walk_lines.write_walk.Given as goal
 
 abbrev pub invariant-loop-unit : goal.invariant-loop-unit
-invariant-loop-unit g l = WritesWalk g.W.Write.contents (start_with l.fn.start l.fn.limit) l.frame l.peel l.fn.out l.out
+invariant-loop-unit g l = WritesWalk g.W.Sink.contents g.W.Sink.can_fail (start_with l.fn.start l.fn.limit) l.frame l.peel l.fn.out l.out
 
 abbrev pub decreases-loop-unit : goal.decreases-loop-unit
 decreases-loop-unit g l = size (items_left l.peel)

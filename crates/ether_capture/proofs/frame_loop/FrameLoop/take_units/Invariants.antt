@@ -1,4 +1,5 @@
 use Rattle.std.proofs.Common.{◌≡◌, ◌≤◌, ℕ, List, length, drop, Option}
+use Rattle.ether_text.specs.OutputBuffer.{Marks}
 use Rattle.ether_capture.specs.FrameLoop.{Reached}
 use Rattle.ether_capture.proofs.frame_loop.FrameLoop.take_units.Given as goal
 
@@ -6,9 +7,10 @@ abbrev pub invariant-loop-unit : goal.invariant-loop-unit
 invariant-loop-unit g l =
     (taken : ℕ) × record {
       same_writer : l.out.writer.ghost_name ≡ l.fn.out.writer.ghost_name;
+      marks : Marks g.W.Sink.can_fail l.fn.out l.out;
       within : taken ≤ length l.bytes;
       rest : l.rest ≡ drop taken l.bytes;
-      reached : (held : Option (List ℕ)) (input : List ℕ) → Reached l.is_plain g.W.Write.contents held input l.bytes l.fn.self l.fn.out → Reached l.is_plain g.W.Write.contents held input l.rest l.self l.out;
+      reached : (held : Option (List ℕ)) (input : List ℕ) → Reached l.is_plain g.W.Sink.contents held input l.bytes l.fn.self l.fn.out → Reached l.is_plain g.W.Sink.contents held input l.rest l.self l.out;
     }
 
 abbrev pub decreases-loop-unit : goal.decreases-loop-unit

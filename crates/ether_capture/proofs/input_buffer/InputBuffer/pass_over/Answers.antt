@@ -1,6 +1,8 @@
 use Rattle.std.proofs.Common.{◌≡◌, ◌+◌, List, ℕ, [], ◌++◌, length, refl, sym, ap, ◌∙◌, arith, append-nil, append_assoc, length-append}
 use Rattle.std.proofs.lemmas.List.{length-drop}
+use Rattle.std.proofs.lemmas.Result.{err_from_is_err_and}
 use Rattle.ether_text.proofs.KnownBytesLemmas.{Consumes-none, Consumes-then}
+use Rattle.ether_text.proofs.InputReaderLemmas.{ReadsOn-none, ReadsOn-then, read_stops}
 use Rattle.ether_capture.specs.InputBuffer.{items}
 use Rattle.ether_capture.proofs.InputBufferLemmas.{passed_on}
 use Rattle.ether_capture.proofs.input_buffer.InputBuffer.pass_over.Goals as goal
@@ -12,6 +14,7 @@ loop-len-init g c = (
   record {
     same_reader = refl;
     read = Consumes-none _;
+    on = ReadsOn-none g.R.Source.remaining _;
     parts = omega (arith, c.requires.least);
     within = omega arith;
     rest = sym (append-nil (items c.args.self.now));
@@ -58,6 +61,7 @@ loop-len-preserved g c =
       record {
         same_reader = c.read.ensures.same_reader ∙ so_far.same_reader;
         read = Consumes-then _ _ _ more others so_far.read consumed;
+        on = ReadsOn-then g.R.Source.remaining _ _ _ so_far.on (c.in_ok-read.ensures.on (omega (arith, c.if-branch-eq0.false)));
         parts = omega (arith, so_far.parts, count);
         within = on.0;
         rest = on.1;
@@ -65,3 +69,15 @@ loop-len-preserved g c =
         less = λ some. omega (arith, so_far.most, c.in_ok-read.ensures.left);
       },
     )
+
+pub returns-then-missing-eq0-clause-on : goal.returns-then-missing-eq0-clause-on
+returns-then-missing-eq0-clause-on g c none =
+    let (more, passed, so_far) = c.loop-len.invariant in so_far.on
+
+pub returns-in_err-read-clause-cause : goal.returns-in_err-read-clause-cause
+returns-in_err-read-clause-cause g c =
+    let (more, passed, so_far) = c.loop-len.invariant in
+    let why = read_stops g.R.Source.remaining g.R.Source.can_fail c.args.out.now c.args.input.now c.loop-len.input c.read.new.input
+    so_far.on c.requires.none_waits c.in_err-read.ensures.cause c.in_err-read.ensures.kept in
+    let p = err_from_is_err_and c.from_residual.result c.from_residual.ensures.1 in
+    rw p.1 why

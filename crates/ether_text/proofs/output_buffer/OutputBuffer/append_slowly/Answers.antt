@@ -1,6 +1,6 @@
 use Rattle.std.proofs.Common.{◌≡◌, ℕ, ◌-◌, List, ◌++◌, length, take, drop, sym, ap, ◌∙◌, append_assoc, arith}
 use Rattle.std.proofs.lemmas.List.{take-append-drop, take_all, length-take-le, length-drop}
-use Rattle.ether_text.proofs.OutputBufferLemmas.{Takes-then}
+use Rattle.ether_text.proofs.OutputBufferLemmas.{Grows-then}
 use Rattle.ether_text.proofs.output_buffer.OutputBuffer.append_slowly.Goals as goal
 
 pub slice_bounds-append_piece-end : goal.slice_bounds-append_piece-end
@@ -22,5 +22,5 @@ loop-rest-preserved g c =
     let parts : xs ≡ piece ++ take (length xs - 65536) (drop 65536 xs) = sym (take-append-drop 65536 xs) ∙ ap (λ (l : List ℕ). piece ++ l) (sym after) in (
       front ++ piece,
       whole ∙ ap (λ (l : List ℕ). front ++ l) parts ∙ sym (append_assoc front piece (take (length xs - 65536) (drop 65536 xs))),
-      Takes-then taken c.append_piece.ensures,
+      Grows-then taken c.append_piece.ensures,
     )

@@ -7,7 +7,7 @@ returns-else-not-is_empty-clause-ok g c = Finishes-nothing _ _ _ _ (λ line kept
 
 pub returns-in_err-judge-clause-bad : goal.returns-in_err-judge-clause-bad
 returns-in_err-judge-clause-bad g c =
-    let h = end_fault c.args.command g.W.Write.contents c.in_err-judge.field-0.0 c.args.self c.args.out.now c.judge.new.out
+    let h = end_fault c.args.command g.W.Sink.contents c.in_err-judge.field-0.0 c.args.self c.args.out.now c.judge.new.out
     (λ line kept. sym (c.is_empty.ensures line kept) ∙ c.if-not-is_empty.true) c.in_err-judge.ensures.bad in
     search (rules, h)
 

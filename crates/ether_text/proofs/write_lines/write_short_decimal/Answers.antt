@@ -1,6 +1,7 @@
+use Rattle.std.proofs.Common.{refl, ◌∙◌}
 use Rattle.ether_text.proofs.DecimalLemmas.{one_digit, two_digits, three_digits}
 use Rattle.ether_text.proofs.OutputBufferLemmas.{Takes-same}
-use Rattle.ether_text.proofs.write_lines.write_decimal.Goals as goal
+use Rattle.ether_text.proofs.write_lines.write_short_decimal.Goals as goal
 
 pub returns-then-number-lt10 : goal.returns-then-number-lt10
 returns-then-number-lt10 g c =
@@ -12,7 +13,7 @@ returns-then-number-lt100 g c =
     let digits = two_digits c.args.number _ _ c.if-number-lt10.false c.if-number-lt100.true c.digit-then-number-lt100.ensures c.digit-then-number-lt100-2.ensures in
     Takes-same digits c.append-then-number-lt100.ensures
 
-pub returns-then-number-lt1000 : goal.returns-then-number-lt1000
-returns-then-number-lt1000 g c =
-    let digits = three_digits c.args.number _ _ _ c.if-number-lt100.false c.if-number-lt1000.true c.digit-then-number-lt1000.ensures c.digit-then-number-lt1000-2.ensures c.digit-then-number-lt1000-3.ensures in
-    Takes-same digits c.append-then-number-lt1000.ensures
+pub returns-else-number-lt100 : goal.returns-else-number-lt100
+returns-else-number-lt100 g c =
+    let digits = three_digits c.args.number _ _ _ c.if-number-lt100.false c.requires refl refl refl in
+    Takes-same (c.three_digits.ensures ∙ digits) c.append-else-number-lt100.ensures

@@ -1,0 +1,54 @@
+//! What a run writes to.
+ghost use Rattle.std.specs.Prelude.{ℕ, List, Option, OnOk, OnErr, ⊤};
+ghost use Rattle.std.specs.Io.KnownBytes.{Appends, Keeps};
+
+use crate::OutputFault;
+use std::io::Write;
+
+/// What a run writes to: any [`Write`].
+///
+/// What is proved for every sink is proved for one that can't fail, too. So whoever reports a fault has seen one, and
+/// whoever reports a flush has called it.
+pub trait Sink {
+    // The bytes that the sink holds, where they are known.
+    ghost contents: { Self → Option (List ℕ) };
+
+    // What holds if a call fails.
+    ghost can_fail: { Type 0 };
+
+    // What holds of a sink that was flushed last.
+    ghost is_flushed: { Self → Type 0 };
+
+    /// Writes all of `bytes`.
+    fn put(&mut self, bytes: &[u8]) -> Result<(), OutputFault>
+        ensures ok { OnOk result (Appends (contents self.old) (contents self.new) bytes.now) }
+        ensures failed { OnErr result can_fail };
+
+    /// Flushes the sink.
+    fn flush_all(&mut self) -> Result<(), OutputFault>
+        ensures kept { Keeps (contents self.old) (contents self.new) }
+        ensures flushed { OnOk result (is_flushed self.new) }
+        ensures failed { OnErr result can_fail };
+}
+
+impl<W: Write> Sink for W {
+    ghost contents = { λ w. W.Write.contents w };
+
+    ghost can_fail = { ⊤ };
+
+    ghost is_flushed = { λ _. ⊤ };
+
+    fn put(&mut self, bytes: &[u8]) -> Result<(), OutputFault> {
+        match self.write_all(bytes) {
+            Ok(()) => Ok(()),
+            Err(_) => Err(OutputFault),
+        }
+    }
+
+    fn flush_all(&mut self) -> Result<(), OutputFault> {
+        match self.flush() {
+            Ok(()) => Ok(()),
+            Err(_) => Err(OutputFault),
+        }
+    }
+}

@@ -1,0 +1,77 @@
+//! What a run reads from.
+ghost use Rattle.std.specs.Prelude.{◌≡◌, ◌≤◌, ◌<◌, ℕ, List, Option, Some, length, take, IfOk, OnErr, ⊤};
+ghost use Rattle.std.specs.Io.KnownBytes.{Consumes, IsAtEnd, Keeps};
+
+use crate::InputFault;
+use std::io::Read;
+
+/// What a run reads from: any [`Read`], or a [`SliceSource`].
+///
+/// What is proved for every source is proved for one that can't fail, too. So whoever reports a fault has seen one.
+pub trait Source {
+    // The bytes that reads will give from here on, where they are known.
+    ghost remaining: { Self → Option (List ℕ) };
+
+    // What holds if a read fails.
+    ghost can_fail: { Type 0 };
+
+    /// Reads some bytes to the front of `chunk`, and returns their number: 0 at the end of the input.
+    fn read_some(&mut self, chunk: &mut [u8]) -> Result<usize, InputFault>
+        ensures bound { IfOk result (λ count. count ≤ length chunk.new) }
+        ensures read { IfOk result
+            (λ count. Consumes (remaining self.old) (remaining self.new) (take count chunk.new)) }
+        ensures end { IfOk result
+            (λ count. count ≡ 0 → 0 < length chunk.new → IsAtEnd (remaining self.new)) }
+        ensures kept { OnErr result (Keeps (remaining self.old) (remaining self.new)) }
+        ensures failed { OnErr result can_fail };
+}
+
+impl<R: Read> Source for R {
+    ghost remaining = { λ r. R.Read.remaining r };
+
+    ghost can_fail = { ⊤ };
+
+    fn read_some(&mut self, chunk: &mut [u8]) -> Result<usize, InputFault> {
+        match self.read(chunk) {
+            Ok(count) => Ok(count),
+            Err(_) => Err(InputFault),
+        }
+    }
+}
+
+/// The bytes of a slice, which can be read without a fault.
+///
+/// ```
+/// let mut source = SliceSource::new(&[1, 2, 3]);
+/// let mut chunk = [0; 2];
+/// assert_eq!(rt; source.read_some(&mut chunk), Ok(2));
+/// assert_eq!(rt; source.read_some(&mut chunk), Ok(1));
+/// assert_eq!(rt; source.read_some(&mut chunk), Ok(0));
+/// ```
+#[derive(Drop)]
+pub struct SliceSource<'a> {
+    left: &'a [u8],
+}
+
+impl<'a> SliceSource<'a> {
+    /// All of `bytes`.
+    pub fn new(bytes: &'a [u8]) -> Self
+        ensures { result.left.now ≡ bytes.now }
+    {
+        SliceSource { left: bytes }
+    }
+}
+
+impl Source for SliceSource<'_> {
+    ghost remaining = { λ source. Some source.left.now };
+
+    ghost can_fail = { ⊥ };
+
+    fn read_some(&mut self, chunk: &mut [u8]) -> Result<usize, InputFault> {
+        let count = self.left.len().min(chunk.len());
+        let (front, rest) = self.left.split_at(count);
+        chunk[..count].copy_from_slice(front);
+        self.left = rest;
+        Ok(count)
+    }
+}
