@@ -1,5 +1,6 @@
 pub mod InputLinesLemmas
 pub mod ParseFrameLemmas
+pub mod DigitTableLemmas
 pub mod LineLoopLemmas
 pub mod RunLemmas
 pub mod ModeLemmas

@@ -1,5 +1,5 @@
 -- Lines that name a frame, and lines that name none.
-use Rattle.std.proofs.Common.{◌≡◌, ℕ, zero, suc, ◌+◌, ◌*◌, ◌/◌, ◌%◌, ◌<◌, ◌≤◌, ◌⊎◌, inl, inr, false, List, [], ◌∷◌, ◌++◌, length, take, slice_index, Option, Some, None, is_some, Result, Ok, Err, refl, sym, ap, ◌∙◌, subst, arith}
+use Rattle.std.proofs.Common.{◌≡◌, ℕ, zero, suc, ◌+◌, ◌*◌, ◌/◌, ◌%◌, ◌<◌, ◌≤◌, ◌⊎◌, inl, inr, false, List, [], ◌∷◌, ◌++◌, length, take, slice_index, Option, Some, None, is_some, true, Result, Ok, Err, refl, sym, ap, ◌∙◌, subst, arith}
 use Rattle.std.specs.Prelude.{MatchResult, IsNone, IfNone, ◌↔◌}
 use Rattle.std.proofs.lemmas.Option.{same_Some}
 use Rattle.std.specs.Result.{result_unwrap_or}
@@ -177,3 +177,28 @@ one_frame line frame other x y =
     let right = y.pairs in
     let len : length frame ≡ length other = omega arith in
     same_lists frame other len (λ i h. one_byte _ _ _ _ (x.bytes i h) (y.bytes i (omega arith)))
+
+some_is : (o : Option ℕ) (v : ℕ) → o ≡ Some v → is_some o ≡ true
+some_is o v h = rw h refl
+
+-- each character of a line that names a frame is a digit
+pub frame_of_digits : (line frame : List ℕ) → IsFrame line frame → (i : ℕ) → i < length line → is_some (hex_digit_value (slice_index line i)) ≡ true
+frame_of_digits line frame is i lt =
+    let k = is.pairs in
+    let byte = is.bytes (i / 2) (omega arith) in
+    elim (cases_eq (i % 2) 0) [
+      | inl even ↦
+          let at : i ≡ 2 * (i / 2) = omega arith in
+          rw at (some_is _ byte.high byte.first_value)
+      | inr other ↦
+          let at : i ≡ 2 * (i / 2) + 1 = omega arith in
+          rw at (some_is _ byte.low byte.second_value)
+    ]
+
+-- a line with a character that is no digit is bad
+pub bad_of_digits : (line : List ℕ) → (((i : ℕ) → i < length line → is_some (hex_digit_value (slice_index line i)) ≡ true) → ⊥) → IsBadLine line
+bad_of_digits line other =
+    elim (frame_decided line) [
+      | inl named ↦ absurd (other (frame_of_digits line named.0 named.1))
+      | inr bad ↦ bad
+    ]

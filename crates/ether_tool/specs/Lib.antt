@@ -2,6 +2,7 @@ pub mod Mode
 pub mod Command
 pub mod Answer
 pub mod Frame
+pub mod DigitTable
 pub mod LineBuffer
 pub mod Run
 pub mod LineLoop

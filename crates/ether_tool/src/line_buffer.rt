@@ -1,5 +1,6 @@
 //! The line under way.
-use crate::parse_frame::{MAX_FRAME_LEN, MAX_LINE_DIGITS, frame_of};
+use crate::digit_table::DigitTable;
+use crate::parse_frame::{MAX_FRAME_LEN, MAX_LINE_DIGITS};
 use arrayvec::ArrayVec;
 
 /// What ended a line.
@@ -21,6 +22,7 @@ const ROOM: usize = MAX_LINE_DIGITS + 1;
 pub struct LineBuffer {
     bytes: ArrayVec<u8, ROOM>,
     is_long: bool,
+    digits: DigitTable,
 }
 
 impl LineBuffer {
@@ -35,6 +37,7 @@ impl LineBuffer {
         LineBuffer {
             bytes: ArrayVec::new(),
             is_long: false,
+            digits: DigitTable::new(),
         }
     }
 
@@ -81,7 +84,7 @@ impl LineBuffer {
         ensures next { (line : List ℕ) → KeepsLine self.old line → KeepsLine self.new [] }
     {
         if self.is_empty() {
-            return frame_of(without_end(piece, end), frame);
+            return self.digits.frame_of(without_end(piece, end), frame);
         }
         self.extend(piece);
         let len = self.frame(end, frame);
@@ -101,7 +104,8 @@ impl LineBuffer {
         if self.is_long {
             return None;
         }
-        frame_of(without_end(self.bytes.as_slice(), end), frame)
+        self.digits
+            .frame_of(without_end(self.bytes.as_slice(), end), frame)
     }
 }
 

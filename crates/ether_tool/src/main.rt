@@ -5,6 +5,7 @@
 #![tactic(auto)]
 
 pub mod command;
+mod digit_table;
 pub mod laws;
 mod line_buffer;
 mod line_loop;
