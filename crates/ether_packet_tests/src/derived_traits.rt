@@ -6,44 +6,44 @@ ghost use Rattle.ether_packet.specs.Packet.{link_exts_cap};
 use ether_packet::{BuildError, PacketExt, PacketSlice, ReplaceError};
 use std::alloc::AllocError;
 
-pub fn clone_of_packet_ext<'a>(value: &PacketExt<'a>) -> Result<PacketExt<'a>, AllocError>
+pub(crate) fn clone_of_packet_ext<'a>(value: &PacketExt<'a>) -> Result<PacketExt<'a>, AllocError>
     ensures { result ≡ Ok value.now }
 {
     value.clone()
 }
 
-pub fn clone_of_build_error(value: &BuildError) -> Result<BuildError, AllocError>
+pub(crate) fn clone_of_build_error(value: &BuildError) -> Result<BuildError, AllocError>
     ensures { result ≡ Ok value.now }
 {
     value.clone()
 }
 
-pub fn same_build_error(a: &BuildError, b: &BuildError) -> bool
+pub(crate) fn same_build_error(a: &BuildError, b: &BuildError) -> bool
     ensures { IsTrue result ↔ (a.now ≡ b.now) }
 {
     *a == *b
 }
 
-pub fn clone_of_replace_error(value: &ReplaceError) -> Result<ReplaceError, AllocError>
+pub(crate) fn clone_of_replace_error(value: &ReplaceError) -> Result<ReplaceError, AllocError>
     ensures { result ≡ Ok value.now }
 {
     value.clone()
 }
 
-pub fn same_replace_error(a: &ReplaceError, b: &ReplaceError) -> bool
+pub(crate) fn same_replace_error(a: &ReplaceError, b: &ReplaceError) -> bool
     ensures { IsTrue result ↔ (a.now ≡ b.now) }
 {
     *a == *b
 }
 
-pub fn same_packet_ext(a: &PacketExt<'_>, b: &PacketExt<'_>) -> bool
+pub(crate) fn same_packet_ext(a: &PacketExt<'_>, b: &PacketExt<'_>) -> bool
     ensures { IsTrue result
         ↔ ((a.now.offset ≡ b.now.offset) × SameExt a.now.slice b.now.slice) }
 {
     *a == *b
 }
 
-pub fn greatest_number_of_exts() -> usize
+pub(crate) fn greatest_number_of_exts() -> usize
     ensures { result ≡ link_exts_cap }
 {
     PacketSlice::LINK_EXTS_CAP

@@ -2,6 +2,6 @@
 //! once.
 #![tactic(auto)]
 
-pub mod derived_traits;
+mod derived_traits;
 #[cfg(test)]
 mod tests;

@@ -14,133 +14,135 @@ use ether_pcap::{
 };
 use std::alloc::AllocError;
 
-pub fn clone_of_file_header(value: &FileHeader) -> Result<FileHeader, AllocError>
+pub(crate) fn clone_of_file_header(value: &FileHeader) -> Result<FileHeader, AllocError>
     ensures { result ≡ Ok value.now }
 {
     value.clone()
 }
 
-pub fn clone_of_pcap_record<'a>(value: &PcapRecord<'a>) -> Result<PcapRecord<'a>, AllocError>
+pub(crate) fn clone_of_pcap_record<'a>(value: &PcapRecord<'a>) -> Result<PcapRecord<'a>, AllocError>
     ensures { result ≡ Ok value.now }
 {
     value.clone()
 }
 
-pub fn clone_of_file_header_error(value: &FileHeaderError) -> Result<FileHeaderError, AllocError>
+pub(crate) fn clone_of_file_header_error(
+    value: &FileHeaderError,
+) -> Result<FileHeaderError, AllocError>
     ensures { result ≡ Ok value.now }
 {
     value.clone()
 }
 
-pub fn clone_of_record_fault(value: &RecordFault) -> Result<RecordFault, AllocError>
+pub(crate) fn clone_of_record_fault(value: &RecordFault) -> Result<RecordFault, AllocError>
     ensures { result ≡ Ok value.now }
 {
     value.clone()
 }
 
-pub fn same_byte_order(a: &ByteOrder, b: &ByteOrder) -> bool
+pub(crate) fn same_byte_order(a: &ByteOrder, b: &ByteOrder) -> bool
     ensures { IsTrue result ↔ (a.now ≡ b.now) }
 {
     *a == *b
 }
 
-pub fn same_time_unit(a: &TimeUnit, b: &TimeUnit) -> bool
+pub(crate) fn same_time_unit(a: &TimeUnit, b: &TimeUnit) -> bool
     ensures { IsTrue result ↔ (a.now ≡ b.now) }
 {
     *a == *b
 }
 
-pub fn same_link_type(a: &LinkType, b: &LinkType) -> bool
+pub(crate) fn same_link_type(a: &LinkType, b: &LinkType) -> bool
     ensures { IsTrue result ↔ (a.now ≡ b.now) }
 {
     *a == *b
 }
 
-pub fn same_file_header(a: &FileHeader, b: &FileHeader) -> bool
+pub(crate) fn same_file_header(a: &FileHeader, b: &FileHeader) -> bool
     ensures { IsTrue result ↔ (a.now ≡ b.now) }
 {
     *a == *b
 }
 
-pub fn same_file_header_error(a: &FileHeaderError, b: &FileHeaderError) -> bool
+pub(crate) fn same_file_header_error(a: &FileHeaderError, b: &FileHeaderError) -> bool
     ensures { IsTrue result ↔ (a.now ≡ b.now) }
 {
     *a == *b
 }
 
-pub fn same_record_error(a: &RecordError, b: &RecordError) -> bool
+pub(crate) fn same_record_error(a: &RecordError, b: &RecordError) -> bool
     ensures { IsTrue result ↔ (a.now ≡ b.now) }
 {
     *a == *b
 }
 
-pub fn same_record_fault(a: &RecordFault, b: &RecordFault) -> bool
+pub(crate) fn same_record_fault(a: &RecordFault, b: &RecordFault) -> bool
     ensures { IsTrue result ↔ (a.now ≡ b.now) }
 {
     *a == *b
 }
 
-pub fn link_type_of_ethernet() -> u16
+pub(crate) fn link_type_of_ethernet() -> u16
     ensures { result ≡ 1 }
 {
     LinkType::ETHERNET.0
 }
 
-pub fn link_type_of_cooked_capture() -> u16
+pub(crate) fn link_type_of_cooked_capture() -> u16
     ensures { result ≡ 113 }
 {
     LinkType::LINUX_SLL.0
 }
 
-pub fn greatest_captured_len() -> u32
+pub(crate) fn greatest_captured_len() -> u32
     ensures { result ≡ 262144 }
 {
     PcapRecord::MAX_CAPTURED_LEN
 }
 
-pub fn clone_of_record_error(value: &RecordError) -> Result<RecordError, AllocError>
+pub(crate) fn clone_of_record_error(value: &RecordError) -> Result<RecordError, AllocError>
     ensures { result ≡ Ok value.now }
 {
     value.clone()
 }
 
-pub fn clone_of_block_error(value: &BlockError) -> Result<BlockError, AllocError>
+pub(crate) fn clone_of_block_error(value: &BlockError) -> Result<BlockError, AllocError>
     ensures { result ≡ Ok value.now }
 {
     value.clone()
 }
 
-pub fn same_block_error(a: &BlockError, b: &BlockError) -> bool
+pub(crate) fn same_block_error(a: &BlockError, b: &BlockError) -> bool
     ensures { IsTrue result ↔ (a.now ≡ b.now) }
 {
     *a == *b
 }
 
-pub fn clone_of_body_error(value: &BodyError) -> Result<BodyError, AllocError>
+pub(crate) fn clone_of_body_error(value: &BodyError) -> Result<BodyError, AllocError>
     ensures { result ≡ Ok value.now }
 {
     value.clone()
 }
 
-pub fn same_body_error(a: &BodyError, b: &BodyError) -> bool
+pub(crate) fn same_body_error(a: &BodyError, b: &BodyError) -> bool
     ensures { IsTrue result ↔ (a.now ≡ b.now) }
 {
     *a == *b
 }
 
-pub fn clone_of_section_error(value: &SectionError) -> Result<SectionError, AllocError>
+pub(crate) fn clone_of_section_error(value: &SectionError) -> Result<SectionError, AllocError>
     ensures { result ≡ Ok value.now }
 {
     value.clone()
 }
 
-pub fn same_section_error(a: &SectionError, b: &SectionError) -> bool
+pub(crate) fn same_section_error(a: &SectionError, b: &SectionError) -> bool
     ensures { IsTrue result ↔ (a.now ≡ b.now) }
 {
     *a == *b
 }
 
-pub fn block_types() -> [u32; 4]
+pub(crate) fn block_types() -> [u32; 4]
     ensures { result ≡ 0x0A0D0D0A ∷ 1 ∷ 3 ∷ 6 ∷ [] }
 {
     [
@@ -151,50 +153,50 @@ pub fn block_types() -> [u32; 4]
     ]
 }
 
-pub fn same_pcap_record(a: &PcapRecord<'_>, b: &PcapRecord<'_>) -> bool
+pub(crate) fn same_pcap_record(a: &PcapRecord<'_>, b: &PcapRecord<'_>) -> bool
     ensures { IsTrue result ↔ (record_view a.now ≡ record_view b.now) }
 {
     *a == *b
 }
 
-pub fn clone_of_capture_error(value: &CaptureError) -> Result<CaptureError, AllocError>
+pub(crate) fn clone_of_capture_error(value: &CaptureError) -> Result<CaptureError, AllocError>
     ensures { result ≡ Ok value.now }
 {
     value.clone()
 }
 
-pub fn same_capture_error(a: &CaptureError, b: &CaptureError) -> bool
+pub(crate) fn same_capture_error(a: &CaptureError, b: &CaptureError) -> bool
     ensures { IsTrue result ↔ (a.now ≡ b.now) }
 {
     *a == *b
 }
 
-pub fn same_timestamp(a: &Timestamp, b: &Timestamp) -> bool
+pub(crate) fn same_timestamp(a: &Timestamp, b: &Timestamp) -> bool
     ensures { IsTrue result ↔ (a.now ≡ b.now) }
 {
     *a == *b
 }
 
-pub fn greatest_number_of_interfaces() -> usize
+pub(crate) fn greatest_number_of_interfaces() -> usize
     ensures { result ≡ 256 }
 {
     CaptureReader::MAX_INTERFACES
 }
 
-pub fn same_pcapng_block(a: &PcapngBlock<'_>, b: &PcapngBlock<'_>) -> bool
+pub(crate) fn same_pcapng_block(a: &PcapngBlock<'_>, b: &PcapngBlock<'_>) -> bool
     ensures { IsTrue result ↔ (block_view a.now ≡ block_view b.now) }
 {
     *a == *b
 }
 
-pub fn same_section_header(a: &SectionHeader<'_>, b: &SectionHeader<'_>) -> bool
+pub(crate) fn same_section_header(a: &SectionHeader<'_>, b: &SectionHeader<'_>) -> bool
     ensures { IsTrue result ↔ ((a.now.byte_order ≡ b.now.byte_order)
         × (block_view a.now.block ≡ block_view b.now.block)) }
 {
     *a == *b
 }
 
-pub fn same_interface_description(
+pub(crate) fn same_interface_description(
     a: &InterfaceDescription<'_>,
     b: &InterfaceDescription<'_>,
 ) -> bool
@@ -203,38 +205,40 @@ pub fn same_interface_description(
     *a == *b
 }
 
-pub fn same_enhanced_packet(a: &EnhancedPacket<'_>, b: &EnhancedPacket<'_>) -> bool
+pub(crate) fn same_enhanced_packet(a: &EnhancedPacket<'_>, b: &EnhancedPacket<'_>) -> bool
     ensures { IsTrue result ↔ (enhanced_packet_view a.now ≡ enhanced_packet_view b.now) }
 {
     *a == *b
 }
 
-pub fn same_simple_packet(a: &SimplePacket<'_>, b: &SimplePacket<'_>) -> bool
+pub(crate) fn same_simple_packet(a: &SimplePacket<'_>, b: &SimplePacket<'_>) -> bool
     ensures { IsTrue result ↔ (simple_packet_view a.now ≡ simple_packet_view b.now) }
 {
     *a == *b
 }
 
-pub fn same_captured_packet(a: &CapturedPacket<'_>, b: &CapturedPacket<'_>) -> bool
+pub(crate) fn same_captured_packet(a: &CapturedPacket<'_>, b: &CapturedPacket<'_>) -> bool
     ensures { IsTrue result ↔ (captured_packet_view a.now ≡ captured_packet_view b.now) }
 {
     *a == *b
 }
 
-pub fn same_capture_unit(a: &CaptureUnit<'_>, b: &CaptureUnit<'_>) -> bool
+pub(crate) fn same_capture_unit(a: &CaptureUnit<'_>, b: &CaptureUnit<'_>) -> bool
     ensures { IsTrue result ↔ ((a.now.len ≡ b.now.len)
         × (option_map captured_packet_view a.now.packet ≡ option_map captured_packet_view b.now.packet)) }
 {
     *a == *b
 }
 
-pub fn clone_of_pcapng_block<'a>(value: &PcapngBlock<'a>) -> Result<PcapngBlock<'a>, AllocError>
+pub(crate) fn clone_of_pcapng_block<'a>(
+    value: &PcapngBlock<'a>,
+) -> Result<PcapngBlock<'a>, AllocError>
     ensures { result ≡ Ok value.now }
 {
     value.clone()
 }
 
-pub fn clone_of_section_header<'a>(
+pub(crate) fn clone_of_section_header<'a>(
     value: &SectionHeader<'a>,
 ) -> Result<SectionHeader<'a>, AllocError>
     ensures { result ≡ Ok value.now }
@@ -242,7 +246,7 @@ pub fn clone_of_section_header<'a>(
     value.clone()
 }
 
-pub fn clone_of_interface_description<'a>(
+pub(crate) fn clone_of_interface_description<'a>(
     value: &InterfaceDescription<'a>,
 ) -> Result<InterfaceDescription<'a>, AllocError>
     ensures { result ≡ Ok value.now }
@@ -250,7 +254,7 @@ pub fn clone_of_interface_description<'a>(
     value.clone()
 }
 
-pub fn clone_of_enhanced_packet<'a>(
+pub(crate) fn clone_of_enhanced_packet<'a>(
     value: &EnhancedPacket<'a>,
 ) -> Result<EnhancedPacket<'a>, AllocError>
     ensures { result ≡ Ok value.now }
@@ -258,13 +262,15 @@ pub fn clone_of_enhanced_packet<'a>(
     value.clone()
 }
 
-pub fn clone_of_simple_packet<'a>(value: &SimplePacket<'a>) -> Result<SimplePacket<'a>, AllocError>
+pub(crate) fn clone_of_simple_packet<'a>(
+    value: &SimplePacket<'a>,
+) -> Result<SimplePacket<'a>, AllocError>
     ensures { result ≡ Ok value.now }
 {
     value.clone()
 }
 
-pub fn clone_of_captured_packet<'a>(
+pub(crate) fn clone_of_captured_packet<'a>(
     value: &CapturedPacket<'a>,
 ) -> Result<CapturedPacket<'a>, AllocError>
     ensures { result ≡ Ok value.now }
@@ -272,7 +278,9 @@ pub fn clone_of_captured_packet<'a>(
     value.clone()
 }
 
-pub fn clone_of_capture_unit<'a>(value: &CaptureUnit<'a>) -> Result<CaptureUnit<'a>, AllocError>
+pub(crate) fn clone_of_capture_unit<'a>(
+    value: &CaptureUnit<'a>,
+) -> Result<CaptureUnit<'a>, AllocError>
     ensures { result ≡ Ok value.now }
 {
     value.clone()

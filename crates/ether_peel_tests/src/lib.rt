@@ -2,7 +2,7 @@
 //! once.
 #![tactic(auto)]
 
-pub mod derived_traits;
+mod derived_traits;
 #[cfg(test)]
 mod plain;
 #[cfg(test)]

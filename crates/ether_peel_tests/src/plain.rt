@@ -127,7 +127,7 @@ enum PlainStep<'a> {
 
 /// The walk of a frame that begins with `start`, of no more VLAN tags and SecTags than a limit. If memory runs out there
 /// is no result; there is no other error.
-pub fn walk<'a>(
+pub(crate) fn walk<'a>(
     alloc: Global,
     start: Start,
     frame: &'a [u8],

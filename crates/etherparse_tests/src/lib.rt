@@ -2,7 +2,7 @@
 //! traits of their types. They stand above them so that each library is proved once.
 #![tactic(auto)]
 
-pub mod derived_traits;
+mod derived_traits;
 #[cfg(test)]
 mod test_frames;
 #[cfg(test)]

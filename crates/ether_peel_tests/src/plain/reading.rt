@@ -6,7 +6,7 @@ use etherparse::LenSource;
 use etherparse::err::Layer;
 
 /// What they begin with, by what is expected.
-pub fn step(bytes: &[u8], expected: PlainExpected) -> PlainStep<'_> {
+pub(crate) fn step(bytes: &[u8], expected: PlainExpected) -> PlainStep<'_> {
     match expected {
         PlainExpected::Ethernet2 => ethernet2(bytes),
         PlainExpected::Ethernet2Fcs => ethernet2_fcs(bytes),

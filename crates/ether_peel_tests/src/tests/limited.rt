@@ -9,21 +9,21 @@ use ether_peel::{
 use etherparse::err::SliceWriteSpaceError;
 
 /// The walk with a limit, or the plain one.
-pub fn walker<'a>(start: Start, frame: &'a [u8], limit: Option<usize>) -> Peel<'a> {
+pub(crate) fn walker<'a>(start: Start, frame: &'a [u8], limit: Option<usize>) -> Peel<'a> {
     match limit {
         Some(limit) => Peel::with_limit(start, frame, limit),
         None => Peel::new(start, frame),
     }
 }
 
-pub fn summed(start: Start, frame: &[u8], limit: Option<usize>) -> Summary {
+pub(crate) fn summed(start: Start, frame: &[u8], limit: Option<usize>) -> Summary {
     match limit {
         Some(limit) => summary_limited(start, frame, limit),
         None => summary(start, frame),
     }
 }
 
-pub fn snapped(start: Start, frame: &[u8], n: usize, limit: Option<usize>) -> Summary
+pub(crate) fn snapped(start: Start, frame: &[u8], n: usize, limit: Option<usize>) -> Summary
     requires { n ≤ length frame.now }
 {
     match limit {
@@ -32,14 +32,14 @@ pub fn snapped(start: Start, frame: &[u8], n: usize, limit: Option<usize>) -> Su
     }
 }
 
-pub fn fed(start: Start, frame: &[u8], limit: Option<usize>) -> Feed {
+pub(crate) fn fed(start: Start, frame: &[u8], limit: Option<usize>) -> Feed {
     match limit {
         Some(limit) => feed_limited(start, frame, limit),
         None => feed(start, frame),
     }
 }
 
-pub fn written(
+pub(crate) fn written(
     start: Start,
     frame: &[u8],
     target: &mut [u8],
@@ -51,7 +51,11 @@ pub fn written(
     }
 }
 
-pub fn completed(start: Start, frame: &[u8], limit: Option<usize>) -> Option<ArrayVec<u8, 1028>> {
+pub(crate) fn completed(
+    start: Start,
+    frame: &[u8],
+    limit: Option<usize>,
+) -> Option<ArrayVec<u8, 1028>> {
     match limit {
         Some(limit) => completion_limited(start, frame, limit),
         None => completion(start, frame),

@@ -43,13 +43,15 @@ fn of_faults(rt: HostRuntime) -> Result<(), Fail> {
         (
             content(2048, true, PeelError::Macsec(version)),
             "at offset 2048: ",
-            "MACsec Header Error: Encountered '1' as MACsec version in the MACsec SecTag header (must be '0').",
+            "MACsec Header Error: \
+                Encountered '1' as MACsec version in the MACsec SecTag header (must be '0').",
             "PeelFault { offset: 2048, closed: true, error: Macsec(UnexpectedVersion) }",
         ),
         (
             content(22, true, PeelError::Macsec(short_len)),
             "at offset 22: ",
-            "MACsec Header Error: Encountered '1' as MACsec short len in an unmodified packet (must be '0' or '2' or greater).",
+            "MACsec Header Error: \
+                Encountered '1' as MACsec short len in an unmodified packet (must be '0' or '2' or greater).",
             "PeelFault { offset: 22, closed: true, error: Macsec(InvalidUnmodifiedShortLen) }",
         ),
     ] {

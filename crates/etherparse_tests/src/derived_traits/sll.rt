@@ -10,19 +10,21 @@ use ether_sll::{LinkHeader, LinkSlice, LinuxSllHeader, LinuxSllHeaderSlice, Linu
 use ether_tags::Ethernet2Header;
 use std::alloc::AllocError;
 
-pub fn clone_of_linux_sll_header(value: &LinuxSllHeader) -> Result<LinuxSllHeader, AllocError>
+pub(crate) fn clone_of_linux_sll_header(
+    value: &LinuxSllHeader,
+) -> Result<LinuxSllHeader, AllocError>
     ensures { result ≡ Ok value.now }
 {
     value.clone()
 }
 
-pub fn clone_of_link_header(value: &LinkHeader) -> Result<LinkHeader, AllocError>
+pub(crate) fn clone_of_link_header(value: &LinkHeader) -> Result<LinkHeader, AllocError>
     ensures { result ≡ Ok value.now }
 {
     value.clone()
 }
 
-pub fn clone_of_linux_sll_header_slice<'a>(
+pub(crate) fn clone_of_linux_sll_header_slice<'a>(
     value: &LinuxSllHeaderSlice<'a>,
 ) -> Result<LinuxSllHeaderSlice<'a>, AllocError>
     ensures { result ≡ Ok value.now }
@@ -30,7 +32,7 @@ pub fn clone_of_linux_sll_header_slice<'a>(
     value.clone()
 }
 
-pub fn clone_of_linux_sll_slice<'a>(
+pub(crate) fn clone_of_linux_sll_slice<'a>(
     value: &LinuxSllSlice<'a>,
 ) -> Result<LinuxSllSlice<'a>, AllocError>
     ensures { result ≡ Ok value.now }
@@ -38,49 +40,52 @@ pub fn clone_of_linux_sll_slice<'a>(
     value.clone()
 }
 
-pub fn clone_of_link_slice<'a>(value: &LinkSlice<'a>) -> Result<LinkSlice<'a>, AllocError>
+pub(crate) fn clone_of_link_slice<'a>(value: &LinkSlice<'a>) -> Result<LinkSlice<'a>, AllocError>
     ensures { result ≡ Ok value.now }
 {
     value.clone()
 }
 
-pub fn same_linux_sll_header(a: &LinuxSllHeader, b: &LinuxSllHeader) -> bool
+pub(crate) fn same_linux_sll_header(a: &LinuxSllHeader, b: &LinuxSllHeader) -> bool
     ensures { IsTrue result ↔ (a.now ≡ b.now) }
 {
     *a == *b
 }
 
-pub fn same_link_header(a: &LinkHeader, b: &LinkHeader) -> bool
+pub(crate) fn same_link_header(a: &LinkHeader, b: &LinkHeader) -> bool
     ensures { IsTrue result ↔ (a.now ≡ b.now) }
 {
     *a == *b
 }
 
-pub fn same_linux_sll_header_slice(a: &LinuxSllHeaderSlice<'_>, b: &LinuxSllHeaderSlice<'_>) -> bool
+pub(crate) fn same_linux_sll_header_slice(
+    a: &LinuxSllHeaderSlice<'_>,
+    b: &LinuxSllHeaderSlice<'_>,
+) -> bool
     ensures { IsTrue result ↔ (a.now ≡ b.now) }
 {
     *a == *b
 }
 
-pub fn same_linux_sll_slice(a: &LinuxSllSlice<'_>, b: &LinuxSllSlice<'_>) -> bool
+pub(crate) fn same_linux_sll_slice(a: &LinuxSllSlice<'_>, b: &LinuxSllSlice<'_>) -> bool
     ensures { IsTrue result ↔ (a.now ≡ b.now) }
 {
     *a == *b
 }
 
-pub fn len() -> usize
+pub(crate) fn len() -> usize
     ensures { result ≡ 16 }
 {
     LinuxSllHeader::LEN
 }
 
-pub fn read_back(header: LinuxSllHeader) -> Result<LinuxSllHeader, HeaderError>
+pub(crate) fn read_back(header: LinuxSllHeader) -> Result<LinuxSllHeader, HeaderError>
     ensures { (result ≡ Ok header) ↔ HasOwnType header }
 {
     LinuxSllHeader::from_bytes(header.to_bytes())
 }
 
-pub fn set_ether_type(link: &mut LinkHeader, ether_type: EtherType)
+pub(crate) fn set_ether_type(link: &mut LinkHeader, ether_type: EtherType)
     ensures { MatchOption (ethernet2_header link.old) (link.new ≡ link.old)
         (λ h. link.new ≡ LinkHeader.Ethernet2 (record h { ether_type = ether_type })) }
 {
@@ -89,7 +94,7 @@ pub fn set_ether_type(link: &mut LinkHeader, ether_type: EtherType)
     }
 }
 
-pub fn replace_ethernet2(link: &mut LinkHeader, header: Ethernet2Header)
+pub(crate) fn replace_ethernet2(link: &mut LinkHeader, header: Ethernet2Header)
     ensures { MatchOption (ethernet2_header link.old) (link.new ≡ link.old)
         (λ _. link.new ≡ LinkHeader.Ethernet2 header) }
 {
@@ -98,7 +103,7 @@ pub fn replace_ethernet2(link: &mut LinkHeader, header: Ethernet2Header)
     }
 }
 
-pub fn replace_linux_sll(link: &mut LinkHeader, header: LinuxSllHeader)
+pub(crate) fn replace_linux_sll(link: &mut LinkHeader, header: LinuxSllHeader)
     ensures { MatchOption (linux_sll_header link.old) (link.new ≡ link.old)
         (λ _. link.new ≡ LinkHeader.LinuxSll header) }
 {
@@ -107,7 +112,7 @@ pub fn replace_linux_sll(link: &mut LinkHeader, header: LinuxSllHeader)
     }
 }
 
-pub fn same_link_slice(a: &LinkSlice<'_>, b: &LinkSlice<'_>) -> bool
+pub(crate) fn same_link_slice(a: &LinkSlice<'_>, b: &LinkSlice<'_>) -> bool
     ensures { IsTrue result ↔ SameLink a.now b.now }
 {
     *a == *b

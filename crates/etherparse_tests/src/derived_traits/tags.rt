@@ -25,31 +25,37 @@ use std::alloc::AllocError;
 use std::cmp::Ordering;
 use std::hash::{DefaultHasher, Hash, Hasher};
 
-pub fn clone_of_ethernet2_header(value: &Ethernet2Header) -> Result<Ethernet2Header, AllocError>
+pub(crate) fn clone_of_ethernet2_header(
+    value: &Ethernet2Header,
+) -> Result<Ethernet2Header, AllocError>
     ensures { result ≡ Ok value.now }
 {
     value.clone()
 }
 
-pub fn clone_of_single_vlan_header(value: &SingleVlanHeader) -> Result<SingleVlanHeader, AllocError>
+pub(crate) fn clone_of_single_vlan_header(
+    value: &SingleVlanHeader,
+) -> Result<SingleVlanHeader, AllocError>
     ensures { result ≡ Ok value.now }
 {
     value.clone()
 }
 
-pub fn clone_of_double_vlan_header(value: &DoubleVlanHeader) -> Result<DoubleVlanHeader, AllocError>
+pub(crate) fn clone_of_double_vlan_header(
+    value: &DoubleVlanHeader,
+) -> Result<DoubleVlanHeader, AllocError>
     ensures { result ≡ Ok value.now }
 {
     value.clone()
 }
 
-pub fn clone_of_vlan_header(value: &VlanHeader) -> Result<VlanHeader, AllocError>
+pub(crate) fn clone_of_vlan_header(value: &VlanHeader) -> Result<VlanHeader, AllocError>
     ensures { result ≡ Ok value.now }
 {
     value.clone()
 }
 
-pub fn clone_of_ethernet2_header_slice<'a>(
+pub(crate) fn clone_of_ethernet2_header_slice<'a>(
     value: &Ethernet2HeaderSlice<'a>,
 ) -> Result<Ethernet2HeaderSlice<'a>, AllocError>
     ensures { result ≡ Ok value.now }
@@ -57,7 +63,7 @@ pub fn clone_of_ethernet2_header_slice<'a>(
     value.clone()
 }
 
-pub fn clone_of_ethernet2_slice<'a>(
+pub(crate) fn clone_of_ethernet2_slice<'a>(
     value: &Ethernet2Slice<'a>,
 ) -> Result<Ethernet2Slice<'a>, AllocError>
     ensures { result ≡ Ok value.now }
@@ -65,7 +71,7 @@ pub fn clone_of_ethernet2_slice<'a>(
     value.clone()
 }
 
-pub fn clone_of_single_vlan_header_slice<'a>(
+pub(crate) fn clone_of_single_vlan_header_slice<'a>(
     value: &SingleVlanHeaderSlice<'a>,
 ) -> Result<SingleVlanHeaderSlice<'a>, AllocError>
     ensures { result ≡ Ok value.now }
@@ -73,7 +79,7 @@ pub fn clone_of_single_vlan_header_slice<'a>(
     value.clone()
 }
 
-pub fn clone_of_single_vlan_slice<'a>(
+pub(crate) fn clone_of_single_vlan_slice<'a>(
     value: &SingleVlanSlice<'a>,
 ) -> Result<SingleVlanSlice<'a>, AllocError>
     ensures { result ≡ Ok value.now }
@@ -81,7 +87,7 @@ pub fn clone_of_single_vlan_slice<'a>(
     value.clone()
 }
 
-pub fn clone_of_double_vlan_slice<'a>(
+pub(crate) fn clone_of_double_vlan_slice<'a>(
     value: &DoubleVlanSlice<'a>,
 ) -> Result<DoubleVlanSlice<'a>, AllocError>
     ensures { result ≡ Ok value.now }
@@ -89,13 +95,13 @@ pub fn clone_of_double_vlan_slice<'a>(
     value.clone()
 }
 
-pub fn clone_of_vlan_slice<'a>(value: &VlanSlice<'a>) -> Result<VlanSlice<'a>, AllocError>
+pub(crate) fn clone_of_vlan_slice<'a>(value: &VlanSlice<'a>) -> Result<VlanSlice<'a>, AllocError>
     ensures { result ≡ Ok value.now }
 {
     value.clone()
 }
 
-pub fn clone_of_ether_payload_slice<'a>(
+pub(crate) fn clone_of_ether_payload_slice<'a>(
     value: &EtherPayloadSlice<'a>,
 ) -> Result<EtherPayloadSlice<'a>, AllocError>
     ensures { result ≡ Ok value.now }
@@ -103,25 +109,25 @@ pub fn clone_of_ether_payload_slice<'a>(
     value.clone()
 }
 
-pub fn clone_of_macsec_p_type(value: &MacsecPType) -> Result<MacsecPType, AllocError>
+pub(crate) fn clone_of_macsec_p_type(value: &MacsecPType) -> Result<MacsecPType, AllocError>
     ensures { result ≡ Ok value.now }
 {
     value.clone()
 }
 
-pub fn clone_of_macsec_header(value: &MacsecHeader) -> Result<MacsecHeader, AllocError>
+pub(crate) fn clone_of_macsec_header(value: &MacsecHeader) -> Result<MacsecHeader, AllocError>
     ensures { result ≡ Ok value.now }
 {
     value.clone()
 }
 
-pub fn clone_of_link_ext_header(value: &LinkExtHeader) -> Result<LinkExtHeader, AllocError>
+pub(crate) fn clone_of_link_ext_header(value: &LinkExtHeader) -> Result<LinkExtHeader, AllocError>
     ensures { result ≡ Ok value.now }
 {
     value.clone()
 }
 
-pub fn clone_of_macsec_header_slice<'a>(
+pub(crate) fn clone_of_macsec_header_slice<'a>(
     value: &MacsecHeaderSlice<'a>,
 ) -> Result<MacsecHeaderSlice<'a>, AllocError>
     ensures { result ≡ Ok value.now }
@@ -129,7 +135,7 @@ pub fn clone_of_macsec_header_slice<'a>(
     value.clone()
 }
 
-pub fn clone_of_macsec_payload_slice<'a>(
+pub(crate) fn clone_of_macsec_payload_slice<'a>(
     value: &MacsecPayloadSlice<'a>,
 ) -> Result<MacsecPayloadSlice<'a>, AllocError>
     ensures { result ≡ Ok value.now }
@@ -137,43 +143,47 @@ pub fn clone_of_macsec_payload_slice<'a>(
     value.clone()
 }
 
-pub fn clone_of_macsec_slice<'a>(value: &MacsecSlice<'a>) -> Result<MacsecSlice<'a>, AllocError>
+pub(crate) fn clone_of_macsec_slice<'a>(
+    value: &MacsecSlice<'a>,
+) -> Result<MacsecSlice<'a>, AllocError>
     ensures { result ≡ Ok value.now }
 {
     value.clone()
 }
 
-pub fn clone_of_link_ext_slice<'a>(value: &LinkExtSlice<'a>) -> Result<LinkExtSlice<'a>, AllocError>
+pub(crate) fn clone_of_link_ext_slice<'a>(
+    value: &LinkExtSlice<'a>,
+) -> Result<LinkExtSlice<'a>, AllocError>
     ensures { result ≡ Ok value.now }
 {
     value.clone()
 }
 
-pub fn same_ethernet2_header(a: &Ethernet2Header, b: &Ethernet2Header) -> bool
+pub(crate) fn same_ethernet2_header(a: &Ethernet2Header, b: &Ethernet2Header) -> bool
     ensures { IsTrue result ↔ (a.now ≡ b.now) }
 {
     *a == *b
 }
 
-pub fn same_single_vlan_header(a: &SingleVlanHeader, b: &SingleVlanHeader) -> bool
+pub(crate) fn same_single_vlan_header(a: &SingleVlanHeader, b: &SingleVlanHeader) -> bool
     ensures { IsTrue result ↔ (a.now ≡ b.now) }
 {
     *a == *b
 }
 
-pub fn same_double_vlan_header(a: &DoubleVlanHeader, b: &DoubleVlanHeader) -> bool
+pub(crate) fn same_double_vlan_header(a: &DoubleVlanHeader, b: &DoubleVlanHeader) -> bool
     ensures { IsTrue result ↔ (a.now ≡ b.now) }
 {
     *a == *b
 }
 
-pub fn same_vlan_header(a: &VlanHeader, b: &VlanHeader) -> bool
+pub(crate) fn same_vlan_header(a: &VlanHeader, b: &VlanHeader) -> bool
     ensures { IsTrue result ↔ (a.now ≡ b.now) }
 {
     *a == *b
 }
 
-pub fn same_ethernet2_header_slice(
+pub(crate) fn same_ethernet2_header_slice(
     a: &Ethernet2HeaderSlice<'_>,
     b: &Ethernet2HeaderSlice<'_>,
 ) -> bool
@@ -182,13 +192,13 @@ pub fn same_ethernet2_header_slice(
     *a == *b
 }
 
-pub fn same_ethernet2_slice(a: &Ethernet2Slice<'_>, b: &Ethernet2Slice<'_>) -> bool
+pub(crate) fn same_ethernet2_slice(a: &Ethernet2Slice<'_>, b: &Ethernet2Slice<'_>) -> bool
     ensures { IsTrue result ↔ (a.now ≡ b.now) }
 {
     *a == *b
 }
 
-pub fn same_single_vlan_header_slice(
+pub(crate) fn same_single_vlan_header_slice(
     a: &SingleVlanHeaderSlice<'_>,
     b: &SingleVlanHeaderSlice<'_>,
 ) -> bool
@@ -197,25 +207,25 @@ pub fn same_single_vlan_header_slice(
     *a == *b
 }
 
-pub fn same_single_vlan_slice(a: &SingleVlanSlice<'_>, b: &SingleVlanSlice<'_>) -> bool
+pub(crate) fn same_single_vlan_slice(a: &SingleVlanSlice<'_>, b: &SingleVlanSlice<'_>) -> bool
     ensures { IsTrue result ↔ (a.now ≡ b.now) }
 {
     *a == *b
 }
 
-pub fn same_double_vlan_slice(a: &DoubleVlanSlice<'_>, b: &DoubleVlanSlice<'_>) -> bool
+pub(crate) fn same_double_vlan_slice(a: &DoubleVlanSlice<'_>, b: &DoubleVlanSlice<'_>) -> bool
     ensures { IsTrue result ↔ (a.now ≡ b.now) }
 {
     *a == *b
 }
 
-pub fn same_vlan_slice(a: &VlanSlice<'_>, b: &VlanSlice<'_>) -> bool
+pub(crate) fn same_vlan_slice(a: &VlanSlice<'_>, b: &VlanSlice<'_>) -> bool
     ensures { IsTrue result ↔ (a.now ≡ b.now) }
 {
     *a == *b
 }
 
-pub fn same_ether_payload_slice(a: &EtherPayloadSlice<'_>, b: &EtherPayloadSlice<'_>) -> bool
+pub(crate) fn same_ether_payload_slice(a: &EtherPayloadSlice<'_>, b: &EtherPayloadSlice<'_>) -> bool
     ensures { IsTrue result
         ↔ ((a.now.ether_type ≡ b.now.ether_type) × (a.now.len_source ≡ b.now.len_source)
         × (a.now.payload.now ≡ b.now.payload.now)) }
@@ -223,25 +233,28 @@ pub fn same_ether_payload_slice(a: &EtherPayloadSlice<'_>, b: &EtherPayloadSlice
     *a == *b
 }
 
-pub fn same_macsec_p_type(a: &MacsecPType, b: &MacsecPType) -> bool
+pub(crate) fn same_macsec_p_type(a: &MacsecPType, b: &MacsecPType) -> bool
     ensures { IsTrue result ↔ (a.now ≡ b.now) }
 {
     *a == *b
 }
 
-pub fn same_macsec_header_slice(a: &MacsecHeaderSlice<'_>, b: &MacsecHeaderSlice<'_>) -> bool
+pub(crate) fn same_macsec_header_slice(a: &MacsecHeaderSlice<'_>, b: &MacsecHeaderSlice<'_>) -> bool
     ensures { IsTrue result ↔ (tag_bytes a.now ≡ tag_bytes b.now) }
 {
     *a == *b
 }
 
-pub fn same_macsec_payload_slice(a: &MacsecPayloadSlice<'_>, b: &MacsecPayloadSlice<'_>) -> bool
+pub(crate) fn same_macsec_payload_slice(
+    a: &MacsecPayloadSlice<'_>,
+    b: &MacsecPayloadSlice<'_>,
+) -> bool
     ensures { IsTrue result ↔ SamePayload a.now b.now }
 {
     *a == *b
 }
 
-pub fn order_of_ether_payload_slices(
+pub(crate) fn order_of_ether_payload_slices(
     a: &EtherPayloadSlice<'_>,
     b: &EtherPayloadSlice<'_>,
 ) -> Ordering
@@ -258,7 +271,7 @@ fn partial_order_of<T: Ord>(a: &T, b: &T) -> Option<Ordering>
     a.partial_cmp(b)
 }
 
-pub fn partial_order_of_ether_payload_slices(
+pub(crate) fn partial_order_of_ether_payload_slices(
     a: &EtherPayloadSlice<'_>,
     b: &EtherPayloadSlice<'_>,
 ) -> Option<Ordering>
@@ -270,19 +283,19 @@ pub fn partial_order_of_ether_payload_slices(
     partial_order_of(a, b)
 }
 
-pub fn default_ethernet2_header() -> Ethernet2Header
+pub(crate) fn default_ethernet2_header() -> Ethernet2Header
     ensures { ethernet2_view result ≡ record { destination = 0; source = 0; ether_type = 0 } }
 {
     Ethernet2Header::default()
 }
 
-pub fn default_single_vlan_header() -> SingleVlanHeader
+pub(crate) fn default_single_vlan_header() -> SingleVlanHeader
     ensures { vlan_view result ≡ record { pcp = 0; dei = 0; vid = 0; ether_type = 0 } }
 {
     SingleVlanHeader::default()
 }
 
-pub fn default_double_vlan_header() -> DoubleVlanHeader
+pub(crate) fn default_double_vlan_header() -> DoubleVlanHeader
     ensures outer { vlan_view result.outer
         ≡ record { pcp = 0; dei = 0; vid = 0; ether_type = 0x8100 } }
     ensures inner { vlan_view result.inner ≡ record { pcp = 0; dei = 0; vid = 0; ether_type = 0 } }
@@ -298,25 +311,25 @@ fn hash_of<T: Hash>(value: &T) -> u64
     state.finish()
 }
 
-pub fn hash_of_ether_payload_slice(value: &EtherPayloadSlice<'_>) -> u64
+pub(crate) fn hash_of_ether_payload_slice(value: &EtherPayloadSlice<'_>) -> u64
     ensures { result ≡ hashed (ether_payload_slice_fed value.now) }
 {
     hash_of(value)
 }
 
-pub fn hash_of_macsec_p_type(value: &MacsecPType) -> u64
+pub(crate) fn hash_of_macsec_p_type(value: &MacsecPType) -> u64
     ensures { result ≡ hashed (macsec_p_type_fed value.now) }
 {
     hash_of(value)
 }
 
-pub fn vlan_ether_types() -> [EtherType; 3]
+pub(crate) fn vlan_ether_types() -> [EtherType; 3]
     ensures { map (λ ether_type. ether_type.0) result ≡ vlan_ether_types }
 {
     VlanHeader::VLAN_ETHER_TYPES
 }
 
-pub fn lengths() -> (usize, usize, usize, usize, usize, usize)
+pub(crate) fn lengths() -> (usize, usize, usize, usize, usize, usize)
     ensures { result ≡ (14, 14, 4, 4, 6, 16) }
 {
     (
@@ -329,43 +342,43 @@ pub fn lengths() -> (usize, usize, usize, usize, usize, usize)
     )
 }
 
-pub fn same_macsec_header(a: &MacsecHeader, b: &MacsecHeader) -> bool
+pub(crate) fn same_macsec_header(a: &MacsecHeader, b: &MacsecHeader) -> bool
     ensures { IsTrue result ↔ (a.now ≡ b.now) }
 {
     *a == *b
 }
 
-pub fn same_link_ext_header(a: &LinkExtHeader, b: &LinkExtHeader) -> bool
+pub(crate) fn same_link_ext_header(a: &LinkExtHeader, b: &LinkExtHeader) -> bool
     ensures { IsTrue result ↔ (a.now ≡ b.now) }
 {
     *a == *b
 }
 
-pub fn same_macsec_slice(a: &MacsecSlice<'_>, b: &MacsecSlice<'_>) -> bool
+pub(crate) fn same_macsec_slice(a: &MacsecSlice<'_>, b: &MacsecSlice<'_>) -> bool
     ensures { IsTrue result ↔ SameTagged a.now b.now }
 {
     *a == *b
 }
 
-pub fn same_link_ext_slice(a: &LinkExtSlice<'_>, b: &LinkExtSlice<'_>) -> bool
+pub(crate) fn same_link_ext_slice(a: &LinkExtSlice<'_>, b: &LinkExtSlice<'_>) -> bool
     ensures { IsTrue result ↔ SameExt a.now b.now }
 {
     *a == *b
 }
 
-pub fn read_back_ethernet2_header(header: Ethernet2Header) -> Ethernet2Header
+pub(crate) fn read_back_ethernet2_header(header: Ethernet2Header) -> Ethernet2Header
     ensures { result ≡ header }
 {
     Ethernet2Header::from_bytes(header.to_bytes())
 }
 
-pub fn read_back_single_vlan_header(header: SingleVlanHeader) -> SingleVlanHeader
+pub(crate) fn read_back_single_vlan_header(header: SingleVlanHeader) -> SingleVlanHeader
     ensures { result ≡ header }
 {
     SingleVlanHeader::from_bytes(header.to_bytes())
 }
 
-pub fn clone_of_linux_sll_payload_slice<'a>(
+pub(crate) fn clone_of_linux_sll_payload_slice<'a>(
     value: &LinuxSllPayloadSlice<'a>,
 ) -> Result<LinuxSllPayloadSlice<'a>, AllocError>
     ensures { result ≡ Ok value.now }
@@ -373,7 +386,7 @@ pub fn clone_of_linux_sll_payload_slice<'a>(
     value.clone()
 }
 
-pub fn same_linux_sll_payload_slice(
+pub(crate) fn same_linux_sll_payload_slice(
     a: &LinuxSllPayloadSlice<'_>,
     b: &LinuxSllPayloadSlice<'_>,
 ) -> bool
@@ -383,7 +396,7 @@ pub fn same_linux_sll_payload_slice(
     *a == *b
 }
 
-pub fn order_of_linux_sll_payload_slices(
+pub(crate) fn order_of_linux_sll_payload_slices(
     a: &LinuxSllPayloadSlice<'_>,
     b: &LinuxSllPayloadSlice<'_>,
 ) -> Ordering
@@ -395,7 +408,7 @@ pub fn order_of_linux_sll_payload_slices(
     a.cmp(b)
 }
 
-pub fn partial_order_of_linux_sll_payload_slices(
+pub(crate) fn partial_order_of_linux_sll_payload_slices(
     a: &LinuxSllPayloadSlice<'_>,
     b: &LinuxSllPayloadSlice<'_>,
 ) -> Option<Ordering>
@@ -407,7 +420,7 @@ pub fn partial_order_of_linux_sll_payload_slices(
     partial_order_of(a, b)
 }
 
-pub fn hash_of_linux_sll_payload_slice(value: &LinuxSllPayloadSlice<'_>) -> u64
+pub(crate) fn hash_of_linux_sll_payload_slice(value: &LinuxSllPayloadSlice<'_>) -> u64
     ensures { result ≡ hashed (protocol_type_fed value.now.protocol_type
         ++ fed.slice fed.u8 value.now.payload.now) }
 {

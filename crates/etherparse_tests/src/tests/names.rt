@@ -97,42 +97,22 @@ fn of_layers(rt: HostRuntime) -> Result<(), Fail> {
     Ok(())
 }
 
+#[rattlefmt::skip]
 static VALUE_TYPES: [(ValueType, &str); 16] = [
     (ValueType::VlanId, "VLAN ID"),
     (ValueType::VlanPcp, "VLAN PCP (Priority Code Point)"),
     (ValueType::MacsecAn, "MACsec AN (Association Number)"),
     (ValueType::MacsecShortLen, "MACsec SL (Short Length)"),
     (ValueType::IpFragmentOffset, "IP Fragment Offset"),
-    (
-        ValueType::IpDscp,
-        "IPv4 DSCP (Differentiated Services Code Point)",
-    ),
-    (
-        ValueType::IpEcn,
-        "IPv4 ECN (Explicit Congestion Notification)",
-    ),
+    (ValueType::IpDscp, "IPv4 DSCP (Differentiated Services Code Point)"),
+    (ValueType::IpEcn, "IPv4 ECN (Explicit Congestion Notification)"),
     (ValueType::Ipv6FlowLabel, "IPv6 Flow Label"),
-    (
-        ValueType::Ipv4PayloadLength,
-        "IPv4 Header 'Payload Length' (sets 'Total Length')",
-    ),
+    (ValueType::Ipv4PayloadLength, "IPv4 Header 'Payload Length' (sets 'Total Length')"),
     (ValueType::Ipv6PayloadLength, "IPv6 Header 'Payload Length'"),
-    (
-        ValueType::UdpPayloadLengthIpv4,
-        "UDP Payload Length (in IPv4 checksum calculation)",
-    ),
-    (
-        ValueType::UdpPayloadLengthIpv6,
-        "UDP Payload Length (in IPv6 checksum calculation)",
-    ),
-    (
-        ValueType::TcpPayloadLengthIpv4,
-        "TCP Payload Length (in IPv4 checksum calculation)",
-    ),
-    (
-        ValueType::TcpPayloadLengthIpv6,
-        "TCP Payload Length (in IPv6 checksum calculation)",
-    ),
+    (ValueType::UdpPayloadLengthIpv4, "UDP Payload Length (in IPv4 checksum calculation)"),
+    (ValueType::UdpPayloadLengthIpv6, "UDP Payload Length (in IPv6 checksum calculation)"),
+    (ValueType::TcpPayloadLengthIpv4, "TCP Payload Length (in IPv4 checksum calculation)"),
+    (ValueType::TcpPayloadLengthIpv6, "TCP Payload Length (in IPv6 checksum calculation)"),
     (ValueType::Icmpv6PayloadLength, "ICMPv6 Payload Length"),
     (ValueType::LinuxSllType, "Linux Cooked Capture v1 (SLL)"),
 ];

@@ -138,11 +138,13 @@ fn of_headers(rt: HostRuntime) -> Result<(), Fail> {
         ),
         (
             version.add_slice_offset(14),
-            "MACsec Header Error: Encountered '1' as MACsec version in the MACsec SecTag header (must be '0').",
+            "MACsec Header Error: \
+                Encountered '1' as MACsec version in the MACsec SecTag header (must be '0').",
         ),
         (
             macsec::HeaderSliceError::Content(macsec::HeaderError::InvalidUnmodifiedShortLen),
-            "MACsec Header Error: Encountered '1' as MACsec short len in an unmodified packet (must be '0' or '2' or greater).",
+            "MACsec Header Error: \
+                Encountered '1' as MACsec short len in an unmodified packet (must be '0' or '2' or greater).",
         ),
     ] {
         equal(

@@ -11,49 +11,51 @@ use ether_base::{
 };
 use std::alloc::AllocError;
 
-pub fn clone_of_vlan_id(value: &VlanId) -> Result<VlanId, AllocError>
+pub(crate) fn clone_of_vlan_id(value: &VlanId) -> Result<VlanId, AllocError>
     ensures { result ≡ Ok value.now }
 {
     value.clone()
 }
 
-pub fn clone_of_vlan_pcp(value: &VlanPcp) -> Result<VlanPcp, AllocError>
+pub(crate) fn clone_of_vlan_pcp(value: &VlanPcp) -> Result<VlanPcp, AllocError>
     ensures { result ≡ Ok value.now }
 {
     value.clone()
 }
 
-pub fn clone_of_macsec_an(value: &MacsecAn) -> Result<MacsecAn, AllocError>
+pub(crate) fn clone_of_macsec_an(value: &MacsecAn) -> Result<MacsecAn, AllocError>
     ensures { result ≡ Ok value.now }
 {
     value.clone()
 }
 
-pub fn clone_of_macsec_short_len(value: &MacsecShortLen) -> Result<MacsecShortLen, AllocError>
+pub(crate) fn clone_of_macsec_short_len(
+    value: &MacsecShortLen,
+) -> Result<MacsecShortLen, AllocError>
     ensures { result ≡ Ok value.now }
 {
     value.clone()
 }
 
-pub fn clone_of_ether_type(value: &EtherType) -> Result<EtherType, AllocError>
+pub(crate) fn clone_of_ether_type(value: &EtherType) -> Result<EtherType, AllocError>
     ensures { result ≡ Ok value.now }
 {
     value.clone()
 }
 
-pub fn clone_of_arp_hardware_id(value: &ArpHardwareId) -> Result<ArpHardwareId, AllocError>
+pub(crate) fn clone_of_arp_hardware_id(value: &ArpHardwareId) -> Result<ArpHardwareId, AllocError>
     ensures { result ≡ Ok value.now }
 {
     value.clone()
 }
 
-pub fn clone_of_arp_operation(value: &ArpOperation) -> Result<ArpOperation, AllocError>
+pub(crate) fn clone_of_arp_operation(value: &ArpOperation) -> Result<ArpOperation, AllocError>
     ensures { result ≡ Ok value.now }
 {
     value.clone()
 }
 
-pub fn clone_of_linux_nonstandard_ether_type(
+pub(crate) fn clone_of_linux_nonstandard_ether_type(
     value: &LinuxNonstandardEtherType,
 ) -> Result<LinuxNonstandardEtherType, AllocError>
     ensures { result ≡ Ok value.now }
@@ -61,7 +63,7 @@ pub fn clone_of_linux_nonstandard_ether_type(
     value.clone()
 }
 
-pub fn clone_of_linux_sll_packet_type(
+pub(crate) fn clone_of_linux_sll_packet_type(
     value: &LinuxSllPacketType,
 ) -> Result<LinuxSllPacketType, AllocError>
     ensures { result ≡ Ok value.now }
@@ -69,7 +71,7 @@ pub fn clone_of_linux_sll_packet_type(
     value.clone()
 }
 
-pub fn clone_of_linux_sll_protocol_type(
+pub(crate) fn clone_of_linux_sll_protocol_type(
     value: &LinuxSllProtocolType,
 ) -> Result<LinuxSllProtocolType, AllocError>
     ensures { result ≡ Ok value.now }
@@ -77,31 +79,31 @@ pub fn clone_of_linux_sll_protocol_type(
     value.clone()
 }
 
-pub fn clone_of_len_source(value: &LenSource) -> Result<LenSource, AllocError>
+pub(crate) fn clone_of_len_source(value: &LenSource) -> Result<LenSource, AllocError>
     ensures { result ≡ Ok value.now }
 {
     value.clone()
 }
 
-pub fn clone_of_layer(value: &Layer) -> Result<Layer, AllocError>
+pub(crate) fn clone_of_layer(value: &Layer) -> Result<Layer, AllocError>
     ensures { result ≡ Ok value.now }
 {
     value.clone()
 }
 
-pub fn clone_of_value_type(value: &ValueType) -> Result<ValueType, AllocError>
+pub(crate) fn clone_of_value_type(value: &ValueType) -> Result<ValueType, AllocError>
     ensures { result ≡ Ok value.now }
 {
     value.clone()
 }
 
-pub fn clone_of_len_error(value: &LenError) -> Result<LenError, AllocError>
+pub(crate) fn clone_of_len_error(value: &LenError) -> Result<LenError, AllocError>
     ensures { result ≡ Ok value.now }
 {
     value.clone()
 }
 
-pub fn clone_of_slice_write_space_error(
+pub(crate) fn clone_of_slice_write_space_error(
     value: &SliceWriteSpaceError,
 ) -> Result<SliceWriteSpaceError, AllocError>
     ensures { result ≡ Ok value.now }
@@ -109,13 +111,15 @@ pub fn clone_of_slice_write_space_error(
     value.clone()
 }
 
-pub fn clone_of_arp_hw_addr_error(value: &ArpHwAddrError) -> Result<ArpHwAddrError, AllocError>
+pub(crate) fn clone_of_arp_hw_addr_error(
+    value: &ArpHwAddrError,
+) -> Result<ArpHwAddrError, AllocError>
     ensures { result ≡ Ok value.now }
 {
     value.clone()
 }
 
-pub fn clone_of_arp_proto_addr_error(
+pub(crate) fn clone_of_arp_proto_addr_error(
     value: &ArpProtoAddrError,
 ) -> Result<ArpProtoAddrError, AllocError>
     ensures { result ≡ Ok value.now }
@@ -123,13 +127,13 @@ pub fn clone_of_arp_proto_addr_error(
     value.clone()
 }
 
-pub fn clone_of_arp_new_error(value: &ArpNewError) -> Result<ArpNewError, AllocError>
+pub(crate) fn clone_of_arp_new_error(value: &ArpNewError) -> Result<ArpNewError, AllocError>
     ensures { result ≡ Ok value.now }
 {
     value.clone()
 }
 
-pub fn clone_of_arp_eth_ipv4_from_error(
+pub(crate) fn clone_of_arp_eth_ipv4_from_error(
     value: &ArpEthIpv4FromError,
 ) -> Result<ArpEthIpv4FromError, AllocError>
     ensures { result ≡ Ok value.now }
@@ -137,7 +141,7 @@ pub fn clone_of_arp_eth_ipv4_from_error(
     value.clone()
 }
 
-pub fn clone_of_linux_sll_header_error(
+pub(crate) fn clone_of_linux_sll_header_error(
     value: &linux_sll::HeaderError,
 ) -> Result<linux_sll::HeaderError, AllocError>
     ensures { result ≡ Ok value.now }
@@ -145,7 +149,7 @@ pub fn clone_of_linux_sll_header_error(
     value.clone()
 }
 
-pub fn clone_of_linux_sll_header_slice_error(
+pub(crate) fn clone_of_linux_sll_header_slice_error(
     value: &linux_sll::HeaderSliceError,
 ) -> Result<linux_sll::HeaderSliceError, AllocError>
     ensures { result ≡ Ok value.now }
@@ -153,7 +157,7 @@ pub fn clone_of_linux_sll_header_slice_error(
     value.clone()
 }
 
-pub fn clone_of_macsec_header_error(
+pub(crate) fn clone_of_macsec_header_error(
     value: &macsec::HeaderError,
 ) -> Result<macsec::HeaderError, AllocError>
     ensures { result ≡ Ok value.now }
@@ -161,7 +165,7 @@ pub fn clone_of_macsec_header_error(
     value.clone()
 }
 
-pub fn clone_of_macsec_header_slice_error(
+pub(crate) fn clone_of_macsec_header_slice_error(
     value: &macsec::HeaderSliceError,
 ) -> Result<macsec::HeaderSliceError, AllocError>
     ensures { result ≡ Ok value.now }
@@ -169,7 +173,7 @@ pub fn clone_of_macsec_header_slice_error(
     value.clone()
 }
 
-pub fn clone_of_value_too_big_error_of_u16(
+pub(crate) fn clone_of_value_too_big_error_of_u16(
     value: &ValueTooBigError<u16>,
 ) -> Result<ValueTooBigError<u16>, AllocError>
     ensures { result ≡ Ok value.now }
@@ -177,7 +181,7 @@ pub fn clone_of_value_too_big_error_of_u16(
     value.clone()
 }
 
-pub fn clone_of_value_too_big_error_of_u8(
+pub(crate) fn clone_of_value_too_big_error_of_u8(
     value: &ValueTooBigError<u8>,
 ) -> Result<ValueTooBigError<u8>, AllocError>
     ensures { result ≡ Ok value.now }

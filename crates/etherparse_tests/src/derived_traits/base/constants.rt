@@ -10,7 +10,7 @@ use ether_base::{
     LinuxSllProtocolType, MacsecAn, MacsecShortLen, VlanId, VlanPcp, ether_type,
 };
 
-pub fn ether_types() -> [EtherType; 8]
+pub(crate) fn ether_types() -> [EtherType; 8]
     ensures { map (λ ether_type. ether_type.0) result ≡ map (λ row. row.0) ether_type_descriptions }
 {
     [
@@ -25,7 +25,7 @@ pub fn ether_types() -> [EtherType; 8]
     ]
 }
 
-pub fn ether_types_by_module() -> [EtherType; 8]
+pub(crate) fn ether_types_by_module() -> [EtherType; 8]
     ensures { map (λ ether_type. ether_type.0) result ≡ map (λ row. row.0) ether_type_descriptions }
 {
     [
@@ -41,7 +41,7 @@ pub fn ether_types_by_module() -> [EtherType; 8]
 }
 
 #[tactic(auto, unfolding(ether_base::specs::Enumerations::ArpHardwareId::assigned_descriptions))]
-pub fn assigned_hardware_types() -> [ArpHardwareId; 39]
+pub(crate) fn assigned_hardware_types() -> [ArpHardwareId; 39]
     ensures { map (λ hardware. hardware.0) result ≡ map (λ row. row.0) assigned_descriptions }
 {
     [
@@ -88,7 +88,7 @@ pub fn assigned_hardware_types() -> [ArpHardwareId; 39]
 }
 
 #[tactic(auto, unfolding(ether_base::specs::Enumerations::ArpHardwareId::link_descriptions))]
-pub fn link_hardware_types() -> [ArpHardwareId; 16]
+pub(crate) fn link_hardware_types() -> [ArpHardwareId; 16]
     ensures { map (λ hardware. hardware.0) result ≡ map (λ row. row.0) link_descriptions }
 {
     [
@@ -112,7 +112,7 @@ pub fn link_hardware_types() -> [ArpHardwareId; 16]
 }
 
 #[tactic(auto, unfolding(ether_base::specs::Enumerations::ArpHardwareId::device_descriptions))]
-pub fn device_hardware_types() -> [ArpHardwareId; 35]
+pub(crate) fn device_hardware_types() -> [ArpHardwareId; 35]
     ensures { map (λ hardware. hardware.0) result ≡ map (λ row. row.0) device_descriptions }
 {
     [
@@ -155,7 +155,7 @@ pub fn device_hardware_types() -> [ArpHardwareId; 35]
 }
 
 /// Each under its second name.
-pub fn hardware_types_by_another_name() -> [ArpHardwareId; 3]
+pub(crate) fn hardware_types_by_another_name() -> [ArpHardwareId; 3]
     ensures { map (λ hardware. hardware.0) result ≡ 1 ∷ 8 ∷ 15 ∷ [] }
 {
     [
@@ -166,13 +166,13 @@ pub fn hardware_types_by_another_name() -> [ArpHardwareId; 3]
 }
 
 /// Netlink, GRE over IP, radiotap, frame relay and Ethernet, in this order.
-pub fn supported_hardware_types() -> [ArpHardwareId; 5]
+pub(crate) fn supported_hardware_types() -> [ArpHardwareId; 5]
     ensures { map (λ hardware. hardware.0) result ≡ 824 ∷ 778 ∷ 803 ∷ 770 ∷ 1 ∷ [] }
 {
     LinuxSllProtocolType::SUPPORTED_ARPHWD
 }
 
-pub fn nonstandard_ether_types() -> [LinuxNonstandardEtherType; 28]
+pub(crate) fn nonstandard_ether_types() -> [LinuxNonstandardEtherType; 28]
     ensures { result ≡ map (λ row. row.0) nonstandard_descriptions }
 {
     [
@@ -207,7 +207,7 @@ pub fn nonstandard_ether_types() -> [LinuxNonstandardEtherType; 28]
     ]
 }
 
-pub fn packet_types() -> [LinuxSllPacketType; 8]
+pub(crate) fn packet_types() -> [LinuxSllPacketType; 8]
     ensures { result ≡ map (λ row. row.0) packet_type_descriptions }
 {
     [
@@ -222,14 +222,14 @@ pub fn packet_types() -> [LinuxSllPacketType; 8]
     ]
 }
 
-pub fn operations() -> (ArpOperation, ArpOperation)
+pub(crate) fn operations() -> (ArpOperation, ArpOperation)
     ensures request { result.0.0 ≡ 1 }
     ensures reply { result.1.0 ≡ 2 }
 {
     (ArpOperation::REQUEST, ArpOperation::REPLY)
 }
 
-pub fn zeros() -> (VlanId, VlanPcp, MacsecAn, MacsecShortLen)
+pub(crate) fn zeros() -> (VlanId, VlanPcp, MacsecAn, MacsecShortLen)
     ensures { result ≡ (0, 0, 0, 0) }
 {
     (
@@ -241,7 +241,7 @@ pub fn zeros() -> (VlanId, VlanPcp, MacsecAn, MacsecShortLen)
 }
 
 /// Of a VLAN ID, a priority, an association number, a short length (as a byte and as a length) and a packet type.
-pub fn greatest_numbers() -> (u16, u8, u8, u8, usize, u16)
+pub(crate) fn greatest_numbers() -> (u16, u8, u8, u8, usize, u16)
     ensures { result ≡ (4095, 7, 3, 63, 63, 7) }
 {
     (

@@ -6,55 +6,55 @@ use ether_base::{
     MacsecAn, MacsecShortLen, VlanId, VlanPcp,
 };
 
-pub fn default_vlan_id() -> VlanId
+pub(crate) fn default_vlan_id() -> VlanId
     ensures { result ≡ 0 }
 {
     VlanId::default()
 }
 
-pub fn default_vlan_pcp() -> VlanPcp
+pub(crate) fn default_vlan_pcp() -> VlanPcp
     ensures { result ≡ 0 }
 {
     VlanPcp::default()
 }
 
-pub fn default_macsec_an() -> MacsecAn
+pub(crate) fn default_macsec_an() -> MacsecAn
     ensures { result ≡ 0 }
 {
     MacsecAn::default()
 }
 
-pub fn default_macsec_short_len() -> MacsecShortLen
+pub(crate) fn default_macsec_short_len() -> MacsecShortLen
     ensures { result ≡ 0 }
 {
     MacsecShortLen::default()
 }
 
-pub fn default_ether_type() -> EtherType
+pub(crate) fn default_ether_type() -> EtherType
     ensures { result.0 ≡ 0 }
 {
     EtherType::default()
 }
 
-pub fn default_arp_hardware_id() -> ArpHardwareId
+pub(crate) fn default_arp_hardware_id() -> ArpHardwareId
     ensures { result.0 ≡ 0 }
 {
     ArpHardwareId::default()
 }
 
-pub fn default_arp_operation() -> ArpOperation
+pub(crate) fn default_arp_operation() -> ArpOperation
     ensures { result.0 ≡ 0 }
 {
     ArpOperation::default()
 }
 
-pub fn default_linux_nonstandard_ether_type() -> LinuxNonstandardEtherType
+pub(crate) fn default_linux_nonstandard_ether_type() -> LinuxNonstandardEtherType
     ensures { result ≡ 1 }
 {
     LinuxNonstandardEtherType::default()
 }
 
-pub fn default_linux_sll_packet_type() -> LinuxSllPacketType
+pub(crate) fn default_linux_sll_packet_type() -> LinuxSllPacketType
     ensures { result ≡ 0 }
 {
     LinuxSllPacketType::default()

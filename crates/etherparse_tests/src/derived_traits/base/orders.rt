@@ -13,31 +13,31 @@ use ether_base::{
 };
 use std::cmp::Ordering;
 
-pub fn order_of_vlan_ids(a: VlanId, b: VlanId) -> Ordering
+pub(crate) fn order_of_vlan_ids(a: VlanId, b: VlanId) -> Ordering
     ensures { result ≡ nat_cmp a b }
 {
     a.cmp(&b)
 }
 
-pub fn order_of_vlan_pcps(a: VlanPcp, b: VlanPcp) -> Ordering
+pub(crate) fn order_of_vlan_pcps(a: VlanPcp, b: VlanPcp) -> Ordering
     ensures { result ≡ nat_cmp a b }
 {
     a.cmp(&b)
 }
 
-pub fn order_of_macsec_ans(a: MacsecAn, b: MacsecAn) -> Ordering
+pub(crate) fn order_of_macsec_ans(a: MacsecAn, b: MacsecAn) -> Ordering
     ensures { result ≡ nat_cmp a b }
 {
     a.cmp(&b)
 }
 
-pub fn order_of_macsec_short_lens(a: MacsecShortLen, b: MacsecShortLen) -> Ordering
+pub(crate) fn order_of_macsec_short_lens(a: MacsecShortLen, b: MacsecShortLen) -> Ordering
     ensures { result ≡ nat_cmp a b }
 {
     a.cmp(&b)
 }
 
-pub fn order_of_linux_nonstandard_ether_types(
+pub(crate) fn order_of_linux_nonstandard_ether_types(
     a: LinuxNonstandardEtherType,
     b: LinuxNonstandardEtherType,
 ) -> Ordering
@@ -46,43 +46,43 @@ pub fn order_of_linux_nonstandard_ether_types(
     a.cmp(&b)
 }
 
-pub fn order_of_ether_types(a: EtherType, b: EtherType) -> Ordering
+pub(crate) fn order_of_ether_types(a: EtherType, b: EtherType) -> Ordering
     ensures { result ≡ nat_cmp a.0 b.0 }
 {
     a.cmp(&b)
 }
 
-pub fn order_of_arp_hardware_ids(a: ArpHardwareId, b: ArpHardwareId) -> Ordering
+pub(crate) fn order_of_arp_hardware_ids(a: ArpHardwareId, b: ArpHardwareId) -> Ordering
     ensures { result ≡ nat_cmp a.0 b.0 }
 {
     a.cmp(&b)
 }
 
-pub fn order_of_arp_operations(a: ArpOperation, b: ArpOperation) -> Ordering
+pub(crate) fn order_of_arp_operations(a: ArpOperation, b: ArpOperation) -> Ordering
     ensures { result ≡ nat_cmp a.0 b.0 }
 {
     a.cmp(&b)
 }
 
-pub fn order_of_len_sources(a: LenSource, b: LenSource) -> Ordering
+pub(crate) fn order_of_len_sources(a: LenSource, b: LenSource) -> Ordering
     ensures { result ≡ on len_source_place nat_cmp a b }
 {
     a.cmp(&b)
 }
 
-pub fn order_of_layers(a: Layer, b: Layer) -> Ordering
+pub(crate) fn order_of_layers(a: Layer, b: Layer) -> Ordering
     ensures { result ≡ on layer_place nat_cmp a b }
 {
     a.cmp(&b)
 }
 
-pub fn order_of_value_types(a: ValueType, b: ValueType) -> Ordering
+pub(crate) fn order_of_value_types(a: ValueType, b: ValueType) -> Ordering
     ensures { result ≡ on value_type_place nat_cmp a b }
 {
     a.cmp(&b)
 }
 
-pub fn order_of_linux_sll_protocol_types(
+pub(crate) fn order_of_linux_sll_protocol_types(
     a: LinuxSllProtocolType,
     b: LinuxSllProtocolType,
 ) -> Ordering
