@@ -1,0 +1,146 @@
+/* The calls from C over made frames, beside a C function that fills the same struct.
+ *
+ *   calls compare     compares the structs of ether_summary with those of the function by hand
+ *   calls SET CALL    one call for each frame of a set, for callgrind: 0 the function by hand, 1 ether_summary, 2 ether_walk, 3 ether_write_back,
+ *                     4 ether_feed */
+#include "../walk/frames.h"
+#include "../../c/ether_c.h"
+
+enum { COUNT = 4096, SETS = 6 };
+
+static u8 bytes[COUNT * 512], target[512];
+static u32 ends[COUNT];
+
+/* A length that is required at a place of the frame. */
+static void needs(ether_found *f, size_t at, size_t end, int closed, size_t required, size_t have, u32 layer, u32 source) {
+  f->rest_start = at;
+  f->rest_end = end;
+  f->fault.offset = at;
+  f->fault.required_len = required;
+  f->fault.len = have;
+  f->fault.missing = closed ? 0 : required - have;
+  f->fault.kind = ETHER_FAULT_LENGTH;
+  f->fault.layer = layer;
+  f->fault.len_source = source;
+  f->fault.closed = (uint8_t)closed;
+}
+
+/* A value of a SecTag that is refused. */
+static void refuses(ether_found *f, size_t at, size_t end, int closed, u32 kind) {
+  f->rest_start = at;
+  f->rest_end = end;
+  f->fault.offset = at;
+  f->fault.kind = kind;
+  f->fault.closed = (uint8_t)closed;
+}
+
+/* What ether_summary fills of a frame of Ethernet II, by hand. */
+__attribute__((noinline)) static void by_hand(const u8 *p, size_t n, ether_found *f) {
+  size_t at = 14, end = n;
+  int closed = 0;
+  u32 type, bound = ETHER_LEN_SLICE;
+  memset(f, 0, sizeof *f);
+  if (n < 14) { needs(f, 0, n, 0, 14, n, ETHER_LAYER_ETHERNET2_HEADER, ETHER_LEN_SLICE); return; }
+  type = be16(p + 12);
+  f->units = 1;
+  for (;;) {
+    size_t have = end - at;
+    f->rest_kind = ETHER_REST_ETHER_TYPE;
+    f->rest_protocol = (uint16_t)type;
+    if (type == 0x8100 || type == 0x88A8 || type == 0x9100) {
+      if (have < 4) { needs(f, at, end, closed, 4, have, ETHER_LAYER_VLAN_HEADER, bound); return; }
+      type = be16(p + at + 2);
+      at += 4;
+    } else if (type == 0x88E5) {
+      u32 plain, header, named;
+      if (have < 6) { needs(f, at, end, closed, 6, have, ETHER_LAYER_MACSEC_HEADER, bound); return; }
+      if (p[at] & 0x80) { refuses(f, at, end, closed, ETHER_FAULT_MACSEC_VERSION); return; }
+      plain = !(p[at] & 0x0C);
+      named = p[at + 1] & 0x3F;
+      if (plain && named == 1) { refuses(f, at, end, closed, ETHER_FAULT_MACSEC_SHORT_LEN); return; }
+      header = 6 + (p[at] & 0x20 ? 8 : 0) + (plain ? 2 : 0);
+      if (have < header) { needs(f, at, end, closed, header, have, ETHER_LAYER_MACSEC_HEADER, bound); return; }
+      if (named) {
+        size_t whole = header + named - (plain ? 2 : 0);
+        if (have < whole) { needs(f, at, end, closed, whole, have, ETHER_LAYER_MACSEC_PACKET, ETHER_LEN_MACSEC_SHORT_LENGTH); return; }
+        end = at + whole;
+        closed = 1;
+        bound = ETHER_LEN_MACSEC_SHORT_LENGTH;
+      }
+      at += header;
+      f->units++;
+      if (!plain) { f->rest_kind = ETHER_REST_SEALED; f->rest_protocol = 0; break; }
+      type = be16(p + at - 2);
+      continue;
+    } else if (type == 0x0806) {
+      size_t whole;
+      if (have < 8) { needs(f, at, end, closed, 8, have, ETHER_LAYER_ARP, bound); return; }
+      whole = 8 + 2 * (size_t)p[at + 4] + 2 * (size_t)p[at + 5];
+      if (have < whole) { needs(f, at, end, closed, whole, have, ETHER_LAYER_ARP, ETHER_LEN_ARP_ADDRESSES); return; }
+      at += whole;
+      f->units++;
+      f->rest_kind = ETHER_REST_AFTER_ARP;
+      f->rest_protocol = 0;
+      break;
+    } else {
+      break;
+    }
+    f->units++;
+  }
+  f->rest_start = at;
+  f->rest_end = end;
+}
+
+static void call(int which, const u8 *frame, size_t len) {
+  static ether_found found;
+  static ether_fed fed;
+  static ether_unit units[8];
+  size_t count;
+  switch (which) {
+    case 0: by_hand(frame, len, &found); break;
+    case 1: ether_summary(ETHER_START_ETHERNET2, 0, frame, len, &found); break;
+    case 2: ether_walk(ETHER_START_ETHERNET2, 0, frame, len, units, 8, &count); break;
+    case 3: ether_write_back(ETHER_START_ETHERNET2, 0, frame, len, target, sizeof target, &count); break;
+    case 4: ether_feed(ETHER_START_ETHERNET2, 0, frame, len, &fed); break;
+  }
+}
+
+static int same(const ether_found *a, const ether_found *b) {
+  const ether_fault *f = &a->fault, *g = &b->fault;
+  return a->units == b->units && a->rest_start == b->rest_start && a->rest_end == b->rest_end && a->rest_kind == b->rest_kind &&
+         a->rest_protocol == b->rest_protocol && f->offset == g->offset && f->required_len == g->required_len && f->len == g->len &&
+         f->missing == g->missing && f->kind == g->kind && f->layer == g->layer && f->len_source == g->len_source && f->closed == g->closed;
+}
+
+static int compare(void) {
+  int failed = 0;
+  for (int set = 0; set < SETS; set++)
+    for (int i = 0; i < COUNT; i++) {
+      static u8 one[512];
+      ether_found a, b;
+      size_t len = frame(one, set);
+      by_hand(one, len, &a);
+      ether_summary(ETHER_START_ETHERNET2, 0, one, len, &b);
+      failed += !same(&a, &b);
+    }
+  printf("%d of %d differ\n", failed, SETS * COUNT);
+  return failed != 0;
+}
+
+int main(int argc, char **argv) {
+  size_t start = 0;
+  if (argc == 2 && !strcmp(argv[1], "compare")) return compare();
+  if (argc != 3) return 2;
+  for (int set = 0; set <= atoi(argv[1]); set++) {
+    size_t len = 0;
+    for (int i = 0; i < COUNT; i++) {
+      len += frame(bytes + len, set);
+      ends[i] = (u32)len;
+    }
+  }
+  for (int i = 0; i < COUNT; i++) {
+    call(atoi(argv[2]), bytes + start, ends[i] - start);
+    start = ends[i];
+  }
+  return 0;
+}

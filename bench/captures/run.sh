@@ -1,0 +1,31 @@
+#!/bin/sh
+# sh bench/captures/run.sh PROGRAM [MEGABYTES] [ROUNDS]: ether_capture beside `cat` and tcpdump, in turns, over captures that are made here: processor
+# time, time, and the ratio of the processor time to that of `tcpdump -w`. Without tcpdump that is left out. With valgrind it also counts
+# instructions per packet, of 10 MB.
+set -eu
+here=$(cd "$(dirname "$0")" && pwd)
+program=$(realpath "${1:?the built program}")
+work=$(mktemp -d)
+trap 'rm -rf "$work"' EXIT
+python3 "$here/make.py" "$work" "${2:-100}"
+for file in mixed small; do
+    echo "-- $file"
+    if command -v tcpdump > /dev/null 2>&1; then
+        python3 "$here/../tool/race.py" "$work/$file.pcap" "${3:-7}" -- "cat=$(command -v cat)" "plain=$program --plain" "lines=$program" \
+            "print=$(command -v tcpdump) -e -n -r -" "copy=$(command -v tcpdump) -r - -w /dev/null" 2> /dev/null
+    else
+        echo "left out: tcpdump, which is not installed"
+        python3 "$here/../tool/race.py" "$work/$file.pcap" "${3:-7}" -- "plain=$program --plain" "lines=$program" "cat=$(command -v cat)"
+    fi
+done
+
+if command -v valgrind > /dev/null 2>&1; then
+    python3 "$here/make.py" "$work" 10 > "$work/counts"
+    for file in mixed small; do
+        packets=$(sed -n "s/.*$file.pcap: \([0-9]*\) packets/\1/p" "$work/counts")
+        for words in --plain ''; do
+            valgrind --tool=callgrind --callgrind-out-file=/dev/null "$program" $words < "$work/$file.pcap" 2>&1 > /dev/null |
+                awk -v packets="$packets" -v name="$file $words" '/Collected/ { printf "%s: %.0f instructions a packet\n", name, $4 / packets }'
+        done
+    done
+fi
