@@ -31,7 +31,7 @@ def stored(crate, name):
 
 def try_tests(crate):
     """What is to be said of the tests of a crate, and how many passed and failed."""
-    ran = subprocess.run(["rt", "try", "--test"], cwd=f"{CRATES}/{crate}", stdin=subprocess.DEVNULL, capture_output=True, text=True)
+    ran = subprocess.run(["rt", "try", "--test", "--seconds", "600"], cwd=f"{CRATES}/{crate}", stdin=subprocess.DEVNULL, capture_output=True, text=True)
     told = re.search(r"^test result: .* (\d+) passed; (\d+) failed", ran.stdout, re.M)
     if not told:
         return f"{crate}: its tests did not run:\n{(ran.stdout + ran.stderr)[-2000:]}", 0, 1
