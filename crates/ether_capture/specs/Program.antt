@@ -1,9 +1,9 @@
 -- What the program has read and written, and how it ends.
-use Rattle.std.specs.Prelude.{◌≡◌, ℕ, List, [], ◌++◌, codes, Option, Some, None, Result, Ok, Err, IfNone, Bool, true}
+use Rattle.std.specs.Prelude.{◌≡◌, ℕ, List, [], ◌++◌, codes, Option, Some, None, Result, Ok, Err, IfNone, Bool, true, IfErr, ⊤}
 use Rattle.std.specs.Io.KnownBytes.{Appends}
 use Rattle.ether_text.specs.declared.verdict.Verdict.{Verdict}
 use Rattle.ether_capture.specs.Options.{NamesLines, NamesNothing}
-use Rattle.ether_capture.specs.Run.{HasRun}
+use Rattle.ether_capture.specs.Run.{HasRun, OnStreamFault}
 use Rattle.ether_capture.specs.Outcome.{last_text, status_of_program}
 use Rattle.ether_capture.specs.declared.options.Usage.{Usage}
 use Rattle.ether_capture.specs.declared.outcome.RunFault.{RunFault}
@@ -15,6 +15,11 @@ abbrev pub HasObeyed : Option (List (List ℕ)) → (before after held holds : O
 HasObeyed (Some words) before after held holds (Ok outcome) = (plain : Bool) × NamesLines words plain × HasRun plain before after held holds outcome
 HasObeyed (Some words) before after held holds (Err usage) = NamesNothing words × (after ≡ before) × (holds ≡ held)
 HasObeyed None before after held holds outcome = (outcome ≡ Ok (Err Input)) × (after ≡ before) × (holds ≡ held)
+
+-- what holds of a fault of the input, and of one of the output
+abbrev pub OnFailure : Result (Result Verdict RunFault) Usage → (input output : Type 0) → Type 0
+OnFailure (Ok outcome) input output = IfErr outcome (λ fault. OnStreamFault fault input output)
+OnFailure (Err usage) input output = ⊤
 
 -- the last line with its line feed, if there is one
 abbrev pub last_bytes : Option (List ℕ) → List ℕ

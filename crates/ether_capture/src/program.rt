@@ -1,10 +1,13 @@
 //! The program, over any arguments, reader and writer.
+ghost use Rattle.std.specs.Prelude.{◌≡◌, ◌⊎◌, None};
 ghost use Rattle.ether_text.specs.Arguments.{words_of};
-ghost use Rattle.ether_capture.specs.Program.{HasObeyed, HasServed, PrintsLast};
+ghost use Rattle.ether_capture.specs.Program.{HasObeyed, HasServed, OnFailure, PrintsLast};
+ghost use Rattle.ether_capture.specs.Run.{IsEndless};
 
 use crate::options::is_plain_by_args;
 use crate::outcome::{Outcome, RunFault, last_line, program_status};
 use crate::run::run;
+use ether_text::{Sink, Source};
 use std::io::{Read, Write};
 use std::{env, io};
 
@@ -21,9 +24,11 @@ pub fn program<R: Read, W: Write>(args: io::Result<env::Args>, reader: &mut R, w
 }
 
 /// Writes the lines of a capture as the arguments say.
-fn obey<R: Read, W: Write>(args: io::Result<env::Args>, reader: &mut R, writer: &mut W) -> Outcome
-    ensures { HasObeyed (words_of args) (R.remaining reader.old) (R.remaining reader.new)
+fn obey<R: Source, W: Sink>(args: io::Result<env::Args>, reader: &mut R, writer: &mut W) -> Outcome
+    ensures obeyed { HasObeyed (words_of args) (R.remaining reader.old) (R.remaining reader.new)
         (W.contents writer.old) (W.contents writer.new) result }
+    ensures failed { OnFailure result ((words_of args ≡ None)
+        ⊎ (R.can_fail ⊎ IsEndless (R.remaining reader.old) (R.remaining reader.new))) W.can_fail }
 {
     let Ok(args) = args else {
         return Ok(Err(RunFault::Input));

@@ -16,7 +16,6 @@ use crate::input_buffer::{InputBuffer, ROOM};
 use crate::outcome::RunFault;
 use ether_pcap::{BlockError, ByteOrder, CaptureError};
 use ether_text::{InputReader, OutputBuffer, Sink, SliceSource, Source, Verdict};
-use std::io::{Read, Write};
 
 /// Reads a capture to its end, and writes the lines of its packets.
 ///
@@ -26,32 +25,7 @@ use std::io::{Read, Write};
 /// reader, an interruption too, is [`RunFault::Input`], as is a reader that never ends. Any fault of the writer, also at the closing
 /// flush, is [`RunFault::Output`], and nothing is said of how much was written. After a fault neither is called again. No memory is
 /// taken.
-pub fn run<R: Read, W: Write>(
-    is_plain: bool,
-    reader: &mut R,
-    writer: &mut W,
-) -> Result<Verdict, RunFault>
-    ensures { HasRun is_plain (R.remaining reader.old) (R.remaining reader.new)
-        (W.contents writer.old) (W.contents writer.new) result }
-{
-    run_source(is_plain, reader, writer)
-}
-
-/// Does as [`run`] on a capture that is a slice. No read can fail, so the outcome is never [`RunFault::Input`].
-pub fn run_slice<W: Sink>(
-    is_plain: bool,
-    capture: &[u8],
-    writer: &mut W,
-) -> Result<Verdict, RunFault>
-    ensures run { AnswersSlice is_plain W.can_fail capture.now (W.contents writer.old) (W.contents writer.new) result }
-    ensures flushed { IfSettled result (W.is_flushed writer.new) }
-{
-    let mut source = SliceSource::new(capture);
-    run_source(is_plain, &mut source, writer)
-}
-
-/// What [`run`] and [`run_slice`] do.
-fn run_source<R: Source, W: Sink>(
+pub fn run<R: Source, W: Sink>(
     is_plain: bool,
     reader: &mut R,
     writer: &mut W,
@@ -65,6 +39,19 @@ fn run_source<R: Source, W: Sink>(
     let mut input = InputReader::new(reader);
     let mut out = OutputBuffer::new(writer);
     answer_capture(is_plain, &mut input, &mut out)
+}
+
+/// Does as [`run`] on a capture that is a slice. No read can fail, so the outcome is never [`RunFault::Input`].
+pub fn run_slice<W: Sink>(
+    is_plain: bool,
+    capture: &[u8],
+    writer: &mut W,
+) -> Result<Verdict, RunFault>
+    ensures run { AnswersSlice is_plain W.can_fail capture.now (W.contents writer.old) (W.contents writer.new) result }
+    ensures flushed { IfSettled result (W.is_flushed writer.new) }
+{
+    let mut source = SliceSource::new(capture);
+    run(is_plain, &mut source, writer)
 }
 
 /// Reads the capture to its end, and writes the text and flushes it. After a fault of the reader or the writer neither is called

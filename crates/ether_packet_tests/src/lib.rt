@@ -2,6 +2,7 @@
 //! once.
 #![tactic(auto)]
 
+#[cfg(test)]
 mod derived_traits;
 #[cfg(test)]
 mod tests;

@@ -1,8 +1,8 @@
 -- What the program has read and written, and how it ends.
-use Rattle.std.specs.Prelude.{◌≡◌, ℕ, List, [], ◌++◌, codes, Option, Some, None, Result, Ok, Err, IfNone, Bool, true}
+use Rattle.std.specs.Prelude.{◌≡◌, ℕ, List, [], ◌++◌, codes, Option, Some, None, Result, Ok, Err, IfNone, Bool, true, IfErr, ⊤}
 use Rattle.std.specs.Io.KnownBytes.{Appends}
 use Rattle.ether_tool.specs.Command.{NamesCommand, NamesNoCommand}
-use Rattle.ether_tool.specs.Run.{HasRun}
+use Rattle.ether_tool.specs.Run.{HasRun, OnStreamFault}
 use Rattle.ether_tool.specs.Outcome.{last_text, status_of_program}
 use Rattle.ether_tool.specs.declared.mode.Mode.{Mode}
 use Rattle.ether_tool.specs.declared.mode.Usage.{Usage}
@@ -16,6 +16,11 @@ HasObeyed (Some words) before after held holds (Ok outcome) =
     (command : Mode × Option ℕ) × NamesCommand words command × HasRun (record { mode = command.0; limit = command.1 }) before after held holds outcome
 HasObeyed (Some words) before after held holds (Err usage) = NamesNoCommand words × (after ≡ before) × (holds ≡ held)
 HasObeyed None before after held holds outcome = (outcome ≡ Ok (Err Input)) × (after ≡ before) × (holds ≡ held)
+
+-- what holds of a fault of the input, and of one of the output
+abbrev pub OnFailure : Result (Result Verdict ToolFault) Usage → (input output : Type 0) → Type 0
+OnFailure (Ok outcome) input output = IfErr outcome (λ fault. OnStreamFault fault input output)
+OnFailure (Err usage) input output = ⊤
 
 -- the last line with its line feed, if there is one
 abbrev pub last_bytes : Option (List ℕ) → List ℕ

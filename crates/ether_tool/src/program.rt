@@ -1,19 +1,29 @@
-//! The program, over any arguments, reader and writer.
-ghost use Rattle.ether_tool.specs.Program.{HasObeyed, HasServed, PrintsLast};
+//! The program, over any arguments, source and sink.
+ghost use Rattle.std.specs.Prelude.{◌≡◌, ◌++◌, ◌⊎◌, codes, false, None};
 ghost use Rattle.ether_text.specs.Arguments.{words_of};
+ghost use Rattle.ether_text.specs.OutputBuffer.{Takes};
+ghost use Rattle.ether_tool.specs.Outcome.{last_line_text};
+ghost use Rattle.ether_tool.specs.Program.{HasObeyed, HasServed, OnFailure, PrintsLast};
+ghost use Rattle.ether_tool.specs.Run.{IsEndless};
 
-use crate::command::command_of_args;
-use crate::outcome::{Outcome, ToolFault, last_line, program_status};
-use crate::run::{run, run_limited};
-use std::io::{Read, Write};
+use crate::command::{Command, command_of_args};
+use crate::outcome::{LastLine, Outcome, ToolFault, USAGE, last_line, program_status};
+use crate::run::run_command;
+use ether_text::{OutputBuffer, Sink, Source, write_decimal};
 use std::{env, io};
 
 /// Runs the command that the arguments name, prints the last line if there is one, and returns the exit status.
 ///
 /// If the arguments name no command, or can't be read, nothing is read. The latter is a fault of the input.
-pub fn program<R: Read, W: Write>(args: io::Result<env::Args>, reader: &mut R, writer: &mut W) -> u8
-    ensures { HasServed (words_of args) (R.remaining reader.old) (R.remaining reader.new)
+pub fn program<R: Source, W: Sink>(
+    args: io::Result<env::Args>,
+    reader: &mut R,
+    writer: &mut W,
+) -> u8
+    ensures served { HasServed (words_of args) (R.remaining reader.old) (R.remaining reader.new)
         (W.contents writer.old) (W.contents writer.new) result }
+    ensures failed { result ≡ 4 → ((words_of args ≡ None)
+        ⊎ (R.can_fail ⊎ IsEndless (R.remaining reader.old) (R.remaining reader.new))) ⊎ W.can_fail }
 {
     let outcome = obey(args, reader, writer);
     let is_printed = print_last_line(&outcome, writer);
@@ -21,28 +31,47 @@ pub fn program<R: Read, W: Write>(args: io::Result<env::Args>, reader: &mut R, w
 }
 
 /// Runs the command that the arguments name.
-fn obey<R: Read, W: Write>(args: io::Result<env::Args>, reader: &mut R, writer: &mut W) -> Outcome
-    ensures { HasObeyed (words_of args) (R.remaining reader.old) (R.remaining reader.new)
+fn obey<R: Source, W: Sink>(args: io::Result<env::Args>, reader: &mut R, writer: &mut W) -> Outcome
+    ensures obeyed { HasObeyed (words_of args) (R.remaining reader.old) (R.remaining reader.new)
         (W.contents writer.old) (W.contents writer.new) result }
+    ensures failed { OnFailure result ((words_of args ≡ None)
+        ⊎ (R.can_fail ⊎ IsEndless (R.remaining reader.old) (R.remaining reader.new))) W.can_fail }
 {
     let Ok(args) = args else {
         return Ok(Err(ToolFault::Input));
     };
     match command_of_args(args) {
-        Ok((mode, Some(limit))) => Ok(run_limited(mode, limit, reader, writer)),
-        Ok((mode, None)) => Ok(run(mode, reader, writer)),
+        Ok((mode, limit)) => Ok(run_command(Command { mode, limit }, reader, writer)),
         Err(usage) => Err(usage),
     }
 }
 
 /// Prints the last line, if there is one, and returns whether the writer took it.
-fn print_last_line<W: Write>(outcome: &Outcome, writer: &mut W) -> bool
-    ensures { PrintsLast outcome.now (W.contents writer.old) (W.contents writer.new) result }
+fn print_last_line<W: Sink>(outcome: &Outcome, writer: &mut W) -> bool
+    ensures printed { PrintsLast outcome.now (W.contents writer.old) (W.contents writer.new) result }
+    ensures failed { result ≡ false → W.can_fail }
 {
-    match last_line(outcome) {
-        Some(line) => writeln!(writer, "{line}").is_ok(),
-        None => true,
+    let Some(line) = last_line(outcome) else {
+        return true;
+    };
+    let mut out = OutputBuffer::new(writer);
+    write_last_line(line, &mut out);
+    out.flush().is_ok()
+}
+
+/// Writes the last line.
+fn write_last_line<W: Sink>(line: LastLine, out: &mut OutputBuffer<'_, W>)
+    ensures { Takes W.contents W.can_fail out.old (last_line_text line ++ codes "\n") out.new }
+{
+    match line {
+        LastLine::Usage => out.append(USAGE.as_bytes()),
+        LastLine::BadLine(number) => {
+            out.append(b"line ");
+            write_decimal(out, number as usize);
+            out.append(b": bad line");
+        }
     }
+    out.append(b"\n");
 }
 
 #[cfg(test)]

@@ -67,7 +67,7 @@ pub fn run_slice<W: Sink>(
 }
 
 /// What [`run`], [`run_limited`] and [`run_slice`] do.
-fn run_command<R: Source, W: Sink>(
+pub(crate) fn run_command<R: Source, W: Sink>(
     command: Command,
     reader: &mut R,
     writer: &mut W,

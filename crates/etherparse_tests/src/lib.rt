@@ -2,6 +2,7 @@
 //! traits of their types. They stand above them so that each library is proved once.
 #![tactic(auto)]
 
+#[cfg(test)]
 mod derived_traits;
 #[cfg(test)]
 mod test_frames;

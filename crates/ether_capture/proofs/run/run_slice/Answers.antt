@@ -4,5 +4,5 @@ use Rattle.ether_capture.proofs.run.run_slice.Goals as goal
 
 pub returns-clause-run : goal.returns-clause-run
 returns-clause-run g c =
-    slice_answered _ g.W.Sink.can_fail c.args.capture.now _ _ _ _ c.run_source.result (ap Some c.new-source.ensures)
-    (omega arith) c.run_source.ensures.run c.run_source.ensures.failed
+    slice_answered _ g.W.Sink.can_fail c.args.capture.now _ _ _ _ c.run.result (ap Some c.new-source.ensures)
+    (omega arith) c.run.ensures.run c.run.ensures.failed

@@ -2,7 +2,7 @@ use Rattle.std.proofs.Common.{rules, ap, ◌∙◌, List, ℕ}
 use Rattle.std.specs.Io.KnownBytes.{append_known}
 use Rattle.ether_text.proofs.KnownBytesLemmas.{append_known_nil}
 use Rattle.ether_capture.proofs.RunLemmas.{HasRun-same, run_fails}
-use Rattle.ether_capture.proofs.run.run_source.Goals as goal
+use Rattle.ether_capture.proofs.run.run.Goals as goal
 
 pub returns-clause-run : goal.returns-clause-run
 returns-clause-run g c =
