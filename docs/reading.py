@@ -226,20 +226,22 @@ def artefacts(found):
 
 
 def read_page(words_of_file):
-    """Returns the figures and the words by file of each section of the page; "all" means all words of a file.
+    """Returns the figures and the words by file of each section of the page; "all but" leaves these out.
 
     A row may go on in further lines, which are indented."""
     figures, rows, title = {}, {}, None
     page = open(f"{ROOT}/docs/READING.md", encoding="utf-8").read()
     for line in re.sub(r"\n +", " ", page).split("\n"):
         heading = re.match(r"## (.*)", line)
-        row = re.match(r"- `(\w+/specs/[\w/]+)` (all|`[^:]*`):", line)
+        row = re.match(r"- `(\w+/specs/[\w/]+)` (all(?: but)?)? ?(`[^:]*`)?:", line)
         if heading:
             title = heading[1]
         elif line.startswith("Adds "):
             figures[title] = line.strip()
         elif row:
-            names = words_of_file.get(row[1], ["all"]) if row[2] == "all" else re.findall(r"`([^`]+)`", row[2])
+            names = set(re.findall(r"`([^`]+)`", row[3] or ""))
+            if row[2]:
+                names ^= set(words_of_file.get(row[1], ["all"]))
             rows.setdefault(title, {}).setdefault(row[1], set()).update(names)
     return figures, rows
 
@@ -248,8 +250,10 @@ def print_list(found, words_of_file):
     for title, figures, by_file in artefacts(found):
         print(f"{title}: {figures}")
         for path, names in sorted(by_file.items()):
-            order = [it for it in words_of_file[path] if it in names]
-            print(f"    {path} {'all' if order == words_of_file[path] else ', '.join(order)}")
+            listed = [it for it in words_of_file[path] if it in names]
+            others = [it for it in words_of_file[path] if it not in names]
+            shown = ["all"] if not others else ["all but", *others] if len(others) < len(listed) // 2 else listed
+            print(f"    {path} {' '.join(shown)}")
 
 
 def check(found, words_of_file):
