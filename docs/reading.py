@@ -163,7 +163,7 @@ def cited(found, text, names, aliases, home=None, local=()):
 
 def contracts(found, path, calls):
     """Returns the definitions that the contracts of these functions cite."""
-    names, aliases, taken, on = {}, {}, [], False
+    names, aliases, taken, on, missing = {}, {}, [], False, set(calls) - {"ghost"}
     for line in open(f"{ROOT}/crates/{path}", encoding="utf-8"):
         used = re.match(r"\s*ghost use (Rattle\.[\w.]+?)(?:\.\{(.*)\})?(?: as (\w+))?;", line)
         if used:
@@ -177,10 +177,13 @@ def contracts(found, path, calls):
         made = re.match(r"\s*pub (?:extern \"C\" )?fn (\w+)", line)
         if made:
             on = made[1] in calls
+            missing.discard(made[1])
         elif re.match(r"\s*\{\s*$", line) or re.match(r"\s*(pub\(crate\) )?fn ", line):
             on = False
         if on or ("ghost" in calls and re.match(r"\s*ghost (?!view|invariant)\w+ = ", line)):
             taken.append(line)
+    if missing:
+        sys.exit(f"crates/{path} has no public function {', '.join(sorted(missing))}")
     return cited(found, "".join(taken), names, aliases)
 
 
