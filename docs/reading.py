@@ -236,7 +236,7 @@ def read_page(words_of_file):
     page = open(f"{ROOT}/docs/READING.md", encoding="utf-8").read()
     for line in re.sub(r"\n +", " ", page).split("\n"):
         heading = re.match(r"## (.*)", line)
-        row = re.match(r"- `(\w+/specs/[\w/]+)` (all(?: but)?)? ?(`[^:]*`)?:", line)
+        row = re.match(r"- `(\w+/specs/[\w/]+)` (all(?: but)?)? ?(`[^:]*`)?(?::|$)", line)
         if heading:
             title = heading[1]
         elif line.startswith("Adds "):
