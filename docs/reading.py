@@ -1,34 +1,64 @@
 #!/usr/bin/env python3
-"""Lists the definitions that the contracts of the calls below rest on, and compares them with docs/READING.md.
+"""Lists the definitions that the contracts of the calls below rest on, by artefact, and compares them with docs/READING.md.
 
-A word is a definition of a file in a crate's specs/ folder. Prints nothing if the page has exactly these words, each in the
-row of its file; else what is missing or too many, and ends with status 1. With --list prints the words by file instead."""
+A word is a definition of a file in a crate's specs/ folder; an artefact adds those that none before it reaches. Prints nothing
+if each section of the page has exactly these words, each in the row of its file, and the right figures; else what is wrong, and
+ends with status 1. With --list prints the figures and the words of each artefact instead."""
 import os
 import re
 import sys
 
 ROOT = os.path.dirname(os.path.dirname(os.path.abspath(__file__)))
 NAME = r"[^\s(){}\[\],;.λ∀→=|]+"
+LINES_A_MINUTE = 10
 
-# The public calls that carry the main theorem and the output of the two programs. "ghost" means the ghost members of a file's impls that say what
-# its calls do: of a model that is its value, while its view and its invariant are the representation, which nobody outside sees.
-CALLS = {
-    "ether_peel/src/peel.rt": ["new", "with_limit", "rest", "offset", "kind", "closed", "bound", "ghost"],
-    "ether_peel/src/peel_fault.rt": ["missing"],
-    "ether_peel/src/summarizing.rt": ["summary", "summary_limited", "snap", "snap_limited"],
-    "ether_peel/src/writing_back.rt": ["write_back", "write_back_limited"],
-    "ether_peel/src/feeding.rt": ["feed", "feed_limited"],
-    "ether_peel/src/completing.rt": ["completion", "completion_limited"],
-    "ether_tool/src/run.rt": ["run", "run_limited"],
-    "ether_capture/src/run.rt": ["run"],
+# The artefacts in the order of the page, each with its public calls by file. "ghost" means the ghost members of a file's impls that say
+# what its calls do: of a model that is its value, while its view and its invariant are the representation, which nobody outside sees.
+ARTEFACTS = {
+    "`Peel` alone": {
+        "ether_peel/src/peel.rt": ["new", "with_limit", "rest", "offset", "kind", "closed", "bound", "ghost"],
+        "ether_peel/src/peel_fault.rt": ["missing"],
+    },
+    "The calls of the walk": {
+        "ether_peel/src/summarizing.rt": ["summary", "summary_limited", "snap", "snap_limited"],
+        "ether_peel/src/writing_back.rt": ["write_back", "write_back_limited"],
+        "ether_peel/src/feeding.rt": ["feed", "feed_limited"],
+        "ether_peel/src/completing.rt": ["completion", "completion_limited"],
+    },
+    "The tool": {
+        "ether_tool/src/run.rt": ["run", "run_limited"],
+        "ether_tool/src/program.rt": ["program"],
+    },
+    "Captures": {
+        "ether_capture/src/run.rt": ["run"],
+        "ether_capture/src/program.rt": ["program"],
+    },
+    "Packets": {
+        "ether_packet/src/packet_units.rt": ["ghost"],
+        "ether_packet/src/packet_slice.rt": ["from_slice", "link", "link_ext_count", "link_ext", "link_exts", "arp", "vlan", "vlan_ids",
+                                             "outermost_vlan", "macsec", "ether_payload", "is_complete", "min_snap_len"],
+        "ether_packet/src/packet_builder.rt": ["size", "write"],
+        "ether_packet/src/replacing.rt": ["replace_link_ext", "replace_link"],
+        "ether_packet/src/replacing_arp.rt": ["replace_arp"],
+    },
+    "C": {
+        "ether_c/src/walking.rt": ["ether_walk", "ether_walk_limited"],
+        "ether_c/src/summarizing.rt": ["ether_summary", "ether_summary_limited"],
+        "ether_c/src/writing_back.rt": ["ether_write_back", "ether_write_back_limited"],
+        "ether_c/src/feeding.rt": ["ether_feed", "ether_feed_limited"],
+        "ether_c/src/completing.rt": ["ether_completion", "ether_completion_limited"],
+        "ether_c/src/missing_bytes.rt": ["ether_missing", "ether_missing_limited"],
+        "ether_c/src/fault_text.rt": ["ether_fault_text", "ether_fault_text_limited"],
+    },
 }
 
 
 class Module:
-    """A file of specs: its definitions with their lines, and what it imports."""
+    """A file of specs: its definitions with their lines, fields and bound names, and what it imports."""
 
     def __init__(self, crate, path):
-        self.path, self.words, self.parts, self.names, self.aliases, self.passed_on = path, {}, {}, {}, {}, []
+        self.path, self.words, self.local, self.parts = path, {}, {}, {}
+        self.names, self.aliases, self.passed_on = {}, {}, []
         current = None
         for line in open(path, encoding="utf-8"):
             code = line.split("--")[0].rstrip()
@@ -56,6 +86,9 @@ class Module:
                 part = re.match(rf"\s+(?:pub )?({NAME}) :", code)
                 if part:
                     self.parts.setdefault(part[1], current)
+                    self.local.setdefault(current, set()).add(part[1])
+            for bound in re.findall(r"[({]([^(){}:]+) : ", code) if current else []:
+                self.local.setdefault(current, set()).update(bound.split())
 
     def imports(self, used):
         public, source, names, alias = used.groups()
@@ -109,8 +142,8 @@ def resolve(found, source, name, seen=()):
     return None
 
 
-def cited(found, text, names, aliases, home=None):
-    """Returns the definitions that a text cites, by what is in scope."""
+def cited(found, text, names, aliases, home=None, local=()):
+    """Returns the definitions that a text cites, by what is in scope; local are the fields and bound names of the definition itself."""
     out = set()
     for token in re.findall(rf"[\w]+\.{NAME}|{NAME}", text):
         head, _, rest = token.partition(".")
@@ -120,7 +153,7 @@ def cited(found, text, names, aliases, home=None):
             if home and it in found[home].words:
                 out.add((home, it))
                 continue
-            if home and it in found[home].parts:
+            if home and it in found[home].parts and it not in local:
                 out.add((home, found[home].parts[it]))
             # a field of a record may have the name of an imported word
             if it in names:
@@ -130,7 +163,7 @@ def cited(found, text, names, aliases, home=None):
 
 def contracts(found, path, calls):
     """Returns the definitions that the contracts of these functions cite."""
-    names, aliases, taken, on, depth = {}, {}, [], False, 0
+    names, aliases, taken, on, missing = {}, {}, [], False, set(calls) - {"ghost"}
     for line in open(f"{ROOT}/crates/{path}", encoding="utf-8"):
         used = re.match(r"\s*ghost use (Rattle\.[\w.]+?)(?:\.\{(.*)\})?(?: as (\w+))?;", line)
         if used:
@@ -141,62 +174,120 @@ def contracts(found, path, calls):
                 for it in (it.strip().split(" as ") for it in listed.split(",")):
                     names[it[-1]] = (source, it[0])
             continue
-        made = re.match(r"\s*pub fn (\w+)", line)
+        made = re.match(r"\s*pub (?:extern \"C\" )?fn (\w+)", line)
         if made:
             on = made[1] in calls
+            missing.discard(made[1])
         elif re.match(r"\s*\{\s*$", line) or re.match(r"\s*(pub\(crate\) )?fn ", line):
             on = False
         if on or ("ghost" in calls and re.match(r"\s*ghost (?!view|invariant)\w+ = ", line)):
             taken.append(line)
+    if missing:
+        sys.exit(f"crates/{path} has no public function {', '.join(sorted(missing))}")
     return cited(found, "".join(taken), names, aliases)
 
 
-def closure(found):
+def closure(found, calls_by_file):
+    """Returns all definitions that the contracts of these calls rest on."""
     reached, waiting = set(), set()
-    for path, calls in CALLS.items():
+    for path, calls in calls_by_file.items():
         waiting |= contracts(found, path, calls)
     while waiting:
         it = waiting.pop()
         if it in reached:
             continue
         reached.add(it)
-        module = found[it[0]]
-        text = "\n".join(module.words[it[1]])
-        waiting |= cited(found, text, module.names, module.aliases, it[0]) - reached
+        source, name = it
+        module = found[source]
+        text = "\n".join(module.words[name])
+        waiting |= cited(found, text, module.names, module.aliases, source, module.local.get(name, ())) - reached
     return reached
+
+
+def file_of(found, source):
+    """Returns the file of a module as the page names it."""
+    return os.path.relpath(found[source].path, f"{ROOT}/crates")[: -len(".antt")]
+
+
+def count_lines(found, words):
+    return sum(len(found[source].words[name]) for source, name in words)
+
+
+def artefacts(found):
+    """Yields each artefact's title, its figures, and the words that it adds, by file."""
+    before = set()
+    for title, calls_by_file in ARTEFACTS.items():
+        reached = closure(found, calls_by_file)
+        added = reached - before
+        before |= reached
+        lines = count_lines(found, added)
+        by_file = {}
+        for source, name in added:
+            by_file.setdefault(file_of(found, source), set()).add(name)
+        figures = f"Adds {len(added)} definitions, {lines} lines, {round(lines / LINES_A_MINUTE)} minutes; {count_lines(found, reached)} lines in all."
+        yield title, figures, by_file
+
+
+def read_page(words_of_file):
+    """Returns the figures and the words by file of each section of the page; "all but" leaves these out.
+
+    A row may go on in further lines, which are indented."""
+    figures, rows, title = {}, {}, None
+    page = open(f"{ROOT}/docs/READING.md", encoding="utf-8").read()
+    for line in re.sub(r"\n +", " ", page).split("\n"):
+        heading = re.match(r"## (.*)", line)
+        row = re.match(r"- `(\w+/specs/[\w/]+)` (all(?: but)?)? ?(`[^:]*`)?(?::|$)", line)
+        if heading:
+            title = heading[1]
+        elif line.startswith("Adds "):
+            figures[title] = line.strip()
+        elif row:
+            names = set(re.findall(r"`([^`]+)`", row[3] or ""))
+            if row[2]:
+                names ^= set(words_of_file.get(row[1], ["all"]))
+            rows.setdefault(title, {}).setdefault(row[1], set()).update(names)
+    return figures, rows
+
+
+def print_list(found, words_of_file):
+    for title, figures, by_file in artefacts(found):
+        print(f"{title}: {figures}")
+        for path, names in sorted(by_file.items()):
+            listed = [it for it in words_of_file[path] if it in names]
+            others = [it for it in words_of_file[path] if it not in names]
+            shown = ["all"] if not others else ["all but", *others] if len(others) < len(listed) // 2 else listed
+            print(f"    {path} {' '.join(shown)}")
+
+
+def check(found, words_of_file):
+    """Prints what the page lacks or has too many of, and returns whether there is anything."""
+    page_figures, page_rows = read_page(words_of_file)
+    failed = False
+    for title, figures, by_file in artefacts(found):
+        rows = page_rows.get(title, {})
+        if page_figures.get(title) != figures:
+            print(f"docs/READING.md, {title}: the line of figures has to be\n{figures}")
+            failed = True
+        for path in sorted(set(by_file) | set(rows)):
+            for name in sorted(by_file.get(path, set()) - rows.get(path, set())):
+                print(f"docs/READING.md, {title}: lacks {name} of {path}")
+                failed = True
+            for name in sorted(rows.get(path, set()) - by_file.get(path, set())):
+                print(f"docs/READING.md, {title}: has {name} of {path}, which no contract reaches here first")
+                failed = True
+    for title in sorted(set(page_rows) - set(ARTEFACTS)):
+        print(f"docs/READING.md, {title}: lists definitions, but is no artefact")
+        failed = True
+    return failed
 
 
 def main():
     found = modules()
-    by_file, lines = {}, 0
-    for source, name in closure(found):
-        path = os.path.relpath(found[source].path, f"{ROOT}/crates")
-        by_file.setdefault(path, set()).add(name)
-        lines += len(found[source].words[name])
+    words_of_file = {file_of(found, source): list(module.words) for source, module in found.items()}
     if sys.argv[1:] == ["--list"]:
-        for path, names in sorted(by_file.items()):
-            order = [it for it in found_order(found, path) if it in names]
-            print(f"{path}: {', '.join(order)}")
-        print(f"{sum(map(len, by_file.values()))} definitions, {lines} lines, {len(by_file)} files")
+        print_list(found, words_of_file)
         return 0
-    page = {}
-    for line in open(f"{ROOT}/docs/READING.md", encoding="utf-8"):
-        row = re.match(r"\| `(\w+/specs/[\w/]+\.antt)` \|(.*)\|", line)
-        if row:
-            page.setdefault(row[1], set()).update(re.findall(r"`([^`]+)`", row[2]))
-    failed = 0
-    for path in sorted(set(by_file) | set(page)):
-        for name in sorted(by_file.get(path, set()) - page.get(path, set())):
-            print(f"docs/READING.md lacks {name} of {path}")
-            failed = 1
-        for name in sorted(page.get(path, set()) - by_file.get(path, set())):
-            print(f"docs/READING.md has {name} of {path}, which no contract of the calls reaches")
-            failed = 1
-    return failed
-
-
-def found_order(found, path):
-    return next(list(it.words) for it in found.values() if it.path.endswith(f"crates/{path}"))
+    return 1 if check(found, words_of_file) else 0
 
 
 if __name__ == "__main__":
