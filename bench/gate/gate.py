@@ -1,4 +1,5 @@
-"""Runs the gate: the check of the documents, `rt ci`, and the tests of the calls from C. Stops at the first that fails.
+"""Runs the gate: the check of the documents, `rt ci`, the tests of `ether_capture`, and those of the calls from C. Stops at the first
+that fails.
 
 Each line of these is passed on. After each proof, and after the last wrong body of a crate, a line says how many minutes have
 passed and how many minutes of processor time the part took. The last line adds up what passed. With --table FILE the minutes of each part of each crate are
@@ -19,6 +20,7 @@ TOP = os.path.dirname(os.path.dirname(os.path.dirname(os.path.abspath(__file__))
 COMMANDS = {
     "documents": [sys.executable, "docs/reading.py"],
     "crates": ["rt", "ci"],
+    "captures": [sys.executable, "captures/tests.py", "crates/ether_capture/out/ether_capture"],
     "C": ["sh", "c/test.sh", "proved"],
 }
 PARTS = ["proof", "with tests", "wrong bodies"]

@@ -11,8 +11,6 @@ pub mod options;
 pub mod outcome;
 pub mod program;
 pub mod run;
-#[cfg(test)]
-mod tests;
 
 use std::process::ExitCode;
 use std::{env, io};

@@ -7,7 +7,7 @@ ghost use Rattle.ether_capture.specs.Options.{NamesLines, NamesNothing};
 use std::env;
 
 /// The arguments are wrong.
-#[derive(Clone, Copy, PartialEq, Eq, Debug)]
+#[derive(Clone, Copy, Debug)]
 pub struct Usage;
 
 /// Whether the words ask for the lines of walks alone: no word, or `--plain`.

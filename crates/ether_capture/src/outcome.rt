@@ -9,7 +9,7 @@ use ether_text::{InputFault, OutputFault, Verdict};
 use std::fmt;
 
 /// Why the packets of a capture end before its end, and where.
-#[derive(Clone, PartialEq, Eq, Debug, Drop)]
+#[derive(Debug, Drop)]
 pub struct CaptureFault {
     /// The place of the file header, record or block that can't be read, from the start of the capture. It stays at `usize::MAX`.
     pub offset: usize,
@@ -40,7 +40,7 @@ impl fmt::Display for CaptureFault {
 }
 
 /// Why a run stopped before the end of its input.
-#[derive(PartialEq, Eq, Debug, Drop)]
+#[derive(Debug, Drop)]
 pub enum RunFault {
     /// The capture can't be read further.
     Capture(CaptureFault),
@@ -89,7 +89,7 @@ pub type Outcome = Result<Result<Verdict, RunFault>, Usage>;
 pub const USAGE: &str = "usage: ether_capture [--plain] < capture";
 
 /// A line that the program prints after the lines of all packets.
-#[derive(Clone, Copy, PartialEq, Eq, Debug)]
+#[derive(Clone, Copy, Debug)]
 pub enum LastLine<'a> {
     /// The arguments are wrong.
     Usage,

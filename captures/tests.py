@@ -1,0 +1,232 @@
+"""Tests what `ether_capture` prints and how it ends, with nothing but Python.
+
+    python3 captures/tests.py PROGRAM
+
+PROGRAM is the built program. The captures were written by hand and checked with tshark. The last line is 'N passed, M failed'.
+"""
+
+import os
+import socket
+import subprocess
+import sys
+import tempfile
+from dataclasses import dataclass
+
+USAGE = "usage: ether_capture [--plain] < capture\n"
+
+
+def joined(*parts):
+    return bytes.fromhex("".join(parts))
+
+
+# Most significant byte first, microseconds, Ethernet: a frame that breaks off within its second VLAN tag, and an IPv4 packet in VLAN 291.
+CLASSIC = joined(
+    "a1b2c3d4000200040000000000000000 0000ffff00000001",
+    "6553f100 0001e240 00000013 0000003c",  # 19 of 60 bytes
+    "ffffffffffff 3aeeb62ff6d7 88a8 0001 8100 00",
+    "6553f101 00000005 0000002e 0000002e",  # 46 bytes
+    "ffffffffffff 3aeeb62ff6d7 8100 b123 0800",
+    "4500001c00010000400100000a0900020a0900010800f7fd00010001",
+)
+
+# Least significant byte first, nanoseconds, Ethernet with a check sequence of four bytes: a whole frame, and one without its last two bytes.
+WITH_FCS = joined(
+    "4d3cb2a1020004000000000000000000 ffff000001000024",
+    "01000000 02000000 14000000 14000000",  # 20 bytes
+    "020000000001 020000000002 88b5 0102 e9c0cdc8",
+    "01000000 ffc99a3b 12000000 14000000",  # 18 of 20 bytes
+    "020000000001 020000000002 88b5 0102 e9c0",
+)
+
+# Pcapng: a section, least significant byte first, with two interfaces, a block of an unknown type and three packets; then one with the
+# most significant byte first.
+SECTION_HEADER = joined("0a0d0d0a 1c000000 4d3c2b1a 01000000 ffffffffffffffff 1c000000")
+ETHERNET = joined("01000000 14000000 01000000 00000000 14000000")
+COOKED = joined("01000000 20000000 71000000 00000000", "09000100 09000000 00000000 20000000")  # in nanoseconds
+UNKNOWN = joined("bc0a0000 10000000 00000000 10000000")
+CUT_PACKET = joined(
+    "06000000 30000000 00000000 240a0600 40222018 0e000000 2e000000",  # 14 of 46 bytes
+    "ffffffffffff 3aeeb62ff6d7 8100 0000 30000000",
+)
+SECTIONS = SECTION_HEADER + ETHERNET + COOKED + UNKNOWN + CUT_PACKET + joined(
+    "06000000 34000000 01000000 fe9c9717 15cd853d 11000000 11000000",
+    "0004 0001 0006 0200000000010000 0800 45 000000 34000000",
+    "03000000 24000000 12000000 ffffffffffff 3aeeb62ff6d7 8100 b123 0800 0000 24000000",  # a simple packet
+    "0a0d0d0a 0000001c 1a2b3c4d 00010000 ffffffffffffffff 0000001c",
+    "00000001 00000014 00650000 00000000 00000014",  # raw IP
+    "00000006 00000024 00000000 00000000 00000001 00000001 00000001 45 000000 00000024",
+)
+
+FIRST_WALK = "ethernet2 0 ffffffffffff 3aeeb62ff6d7 0x88A8\nvlan 14 pcp 0 dei 0 vid 1 0x8100\nfault 18 open length 4 1 slice\n"
+SECOND_WALK = "ethernet2 0 ffffffffffff 3aeeb62ff6d7 0x8100\nvlan 14 pcp 5 dei 1 vid 291 0x0800\nrest 18 46 type 0x0800\n"
+FIRST_LINES = "frame 1 time 1700000000.123456000 link 1 captured 19 original 60 cut\n" + FIRST_WALK
+CLASSIC_LINES = FIRST_LINES + (
+    "frame 2 time 1700000001.000005000 link 1 captured 46 original 46\n" + SECOND_WALK + "total frames 2 skipped 0\n"
+)
+# Of the frame that was cut within its check sequence the walk has the bytes before the sequence.
+FCS_LINES = (
+    "frame 1 time 1.000000002 link 1 captured 20 original 20\n"
+    "ethernet2 0 020000000001 020000000002 0x88B5 fcs e9c0cdc8\nrest 14 16 type 0x88B5\n"
+    "frame 2 time 1.999999999 link 1 captured 18 original 20 cut\n"
+    "ethernet2 0 020000000001 020000000002 0x88B5\nrest 14 16 type 0x88B5\ntotal frames 2 skipped 0\n"
+)
+CUT_WALK = "ethernet2 0 ffffffffffff 3aeeb62ff6d7 0x8100\nfault 14 open length 4 0 slice\n"
+SECTION_LINES = (
+    "frame 1 time 1700000000.123456000 link 1 captured 14 original 46 cut\n" + CUT_WALK
+    + "frame 2 time 1700000000.123456789 link 113 captured 17 original 17\n"
+    "linux_sll 0 packet 4 hw 1 alen 6 addr 0200000000010000 0x0800\nrest 16 17 type 0x0800\n"
+    "frame 3 time - link 1 captured 18 original 18\n"
+    "ethernet2 0 ffffffffffff 3aeeb62ff6d7 0x8100\nvlan 14 pcp 5 dei 1 vid 291 0x0800\nrest 18 18 type 0x0800\n"
+    "frame 4 time 0.000001000 link 101 captured 1 original 1 skipped\ntotal frames 4 skipped 1\n"
+)
+
+
+def plain(lines):
+    """The lines of the walks alone."""
+    return "".join(line for line in lines.splitlines(True) if not line.startswith(("frame", "total")))
+
+
+@dataclass
+class Case:
+    """A capture, the words after the program's name, what is printed and the exit status."""
+
+    name: str
+    words: list
+    capture: bytes
+    text: str
+    status: int
+
+
+def long_record(len_, captured):
+    """A classic capture of one record of zeros with this captured length, of which some bytes are there."""
+    return CLASSIC[:24] + bytes(8) + len_.to_bytes(4, "big") + bytes(4) + bytes(captured)
+
+
+def record_is_cut(place, required, found):
+    return f"byte {place}: A record of a pcap file needs {required} byte(s); only {found} are available.\n"
+
+
+UNEQUAL = bytearray(SECTIONS)
+UNEQUAL[44] = 0x18
+
+CASES = [
+    Case("a classic capture", [], CLASSIC, CLASSIC_LINES, 1),
+    Case("its walks alone", ["--plain"], CLASSIC, plain(CLASSIC_LINES), 1),
+    Case("frames with a check sequence", [], WITH_FCS, FCS_LINES, 0),
+    Case("their walks alone", ["--plain"], WITH_FCS, plain(FCS_LINES), 0),
+    Case("two sections", [], SECTIONS, SECTION_LINES, 1),
+    Case("no packet", [], CLASSIC[:24], "total frames 0 skipped 0\n", 0),
+    Case("the walks of no packet", ["--plain"], CLASSIC[:24], "", 0),
+    Case("a word that is none", ["plain"], CLASSIC, USAGE, 2),
+    Case("a word twice", ["--plain", "--plain"], CLASSIC, USAGE, 2),
+    Case("an empty word", [""], CLASSIC, USAGE, 2),
+    Case("a word that is no text", [b"\xff"], CLASSIC, "", 4),
+    Case("a record that is cut", [], CLASSIC[:120], FIRST_LINES + record_is_cut(59, 62, 61), 3),
+    Case("a record's header that is cut", [], CLASSIC[:60], FIRST_LINES + record_is_cut(59, 16, 1), 3),
+    Case("a cut record, its walks alone", ["--plain"], CLASSIC[:58], record_is_cut(24, 35, 34), 3),
+    Case("another magic number", [], CLASSIC[4:], "byte 0: The magic number 0x00020004 is not that of a pcap file.\n", 3),
+    Case("no byte", [], b"", "byte 0: The header of a pcap file needs 24 byte(s); only 0 are available.\n", 3),
+    Case("lengths that differ", [], bytes(UNEQUAL),
+         "byte 28: A block of a pcapng file begins with length 20 and ends with 24.\n", 3),
+    Case("a packet of no interface", [], SECTION_HEADER + CUT_PACKET,
+         "byte 28: A packet of a pcapng file names interface 0, which its section does not describe.\n", 3),
+    Case("a record as long as the room", [], long_record(73_712, 73_712),
+         "frame 1 time 0.000000000 link 1 captured 73712 original 0\n"
+         "ethernet2 0 000000000000 000000000000 0x0000\nrest 14 73712 type 0x0000\ntotal frames 1 skipped 0\n", 0),
+    Case("a record above the room", [], long_record(73_713, 73_713),
+         "byte 24: A record of a pcap file needs 73729 byte(s); only 73728 are available. "
+         "At most 73728 bytes are read at once.\n", 3),
+    Case("a cut record above the room", [], long_record(73_713, 84), record_is_cut(24, 73_729, 100), 3),
+]
+
+ONE_LINES = "frame 1 time 1700000000.123456000 link 1 captured 14 original 46 cut\n" + CUT_WALK
+TWO_LINES = ONE_LINES + ONE_LINES.replace("frame 1", "frame 2") + "total frames 2 skipped 0\n"
+
+
+def secrets(total_len, trailer, found=None):
+    """Two packets, and between them a block of decryption secrets, which is passed over, of zeros; or some bytes from the block on."""
+    block = (10).to_bytes(4, "little") + total_len.to_bytes(4, "little") + bytes(total_len - 12) + trailer.to_bytes(4, "little")
+    front = SECTION_HEADER + ETHERNET + CUT_PACKET
+    return front + (block + CUT_PACKET if found is None else block[:found])
+
+
+def block_is_cut(found):
+    return ONE_LINES + f"byte 96: A block of a pcapng file needs 100000 byte(s); only {found} are available.\n"
+
+
+CASES += [Case(f"a block of {length} bytes", [], secrets(length, length), TWO_LINES, 1)
+          for length in (73_728, 73_732, 100_000, 16_777_216)]
+CASES += [Case(f"a block that is cut after {found} bytes", [], secrets(100_000, 100_000, found), block_is_cut(found), 3)
+          for found in (73_728, 80_000, 99_998)]
+CASES += [
+    Case("a long block with another length", [], secrets(100_000, 99_996),
+         ONE_LINES + "byte 96: A block of a pcapng file begins with length 100000 and ends with 99996.\n", 3),
+    Case("a block above the format's greatest length", [], secrets(16_777_220, 16_777_220),
+         ONE_LINES + "byte 96: A block of a pcapng file cannot have 16777220 byte(s).\n", 3),
+]
+
+
+def run(program, case):
+    """What the program prints for a capture that is a file, and its status."""
+    with tempfile.TemporaryFile() as file:
+        file.write(case.capture)
+        file.seek(0)
+        done = subprocess.run([program, *case.words], stdin=file, stdout=subprocess.PIPE, check=False)
+    return done.stdout.decode(), done.returncode
+
+
+def run_in_pieces(program, case, step):
+    """The same of a capture that comes through a pipe, some bytes at a time."""
+    with subprocess.Popen([program, *case.words], stdin=subprocess.PIPE, stdout=subprocess.PIPE, bufsize=0) as child:
+        try:
+            for at in range(0, len(case.capture), step):
+                child.stdin.write(case.capture[at:at + step])
+            child.stdin.close()
+        except BrokenPipeError:
+            pass  # the program has ended
+        text = child.stdout.read().decode()
+    return text, child.returncode
+
+
+def run_until_a_fault(program):
+    """The same of a reader that fails after the first record."""
+    ours, theirs = socket.socketpair()
+    theirs.send(b"unread")  # so that closing our end is a fault of theirs
+    ours.sendall(CLASSIC[:59])
+    with subprocess.Popen([program], stdin=theirs, stdout=subprocess.PIPE) as child:
+        theirs.close()
+        ours.close()
+        text = child.stdout.read().decode()
+    return text, child.returncode
+
+
+def status_on_a_full_disk(program, words):
+    with open("/dev/full", "wb") as full:
+        return subprocess.run([program, *words], input=CLASSIC, stdout=full, check=False).returncode
+
+
+def main():
+    program = os.path.realpath(sys.argv[1])
+    tried = []
+    for case in CASES:
+        tried.append((case.name, run(program, case), (case.text, case.status)))
+    for case in CASES[:6]:
+        for step in (1, 2, 3, 7, 16, 59, 64):
+            tried.append((f"{case.name} in pieces of {step}", run_in_pieces(program, case, step), (case.text, case.status)))
+    for case in CASES[-9:]:
+        for step in (1_000, 65_537):
+            tried.append((f"{case.name} in pieces of {step}", run_in_pieces(program, case, step), (case.text, case.status)))
+    tried.append(("a reader that fails", run_until_a_fault(program), (FIRST_LINES, 4)))
+    for words in ([], ["--plain"], ["plain"]):
+        tried.append((f"a full disk, {words}", status_on_a_full_disk(program, words), 4))
+    failed = 0
+    for name, found, wanted in tried:
+        if found != wanted:
+            failed += 1
+            print(f"{name}: {found}, not {wanted}")
+    print(f"{len(tried) - failed} passed, {failed} failed")
+    return 1 if failed else 0
+
+
+if __name__ == "__main__":
+    sys.exit(main())
