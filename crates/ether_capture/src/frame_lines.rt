@@ -1,5 +1,5 @@
 //! Writes the lines of a captured packet.
-ghost use Rattle.std.specs.Prelude.{◌≡◌, ◌<◌, ◌+◌, ◌/◌, ◌%◌, ◌^◌, MatchOption, Some, None};
+ghost use Rattle.std.specs.Prelude.{◌≡◌, ◌<◌, ◌≤◌, ◌+◌, ◌/◌, ◌%◌, ◌^◌, ◌++◌, codes, MatchOption, Some, None};
 ghost use Rattle.std.specs.Option.{option_map};
 ghost use Rattle.ether_pcap.specs.CaptureViews.{captured_packet_view, timestamp_view};
 ghost use Rattle.ether_text.specs.OutputBuffer.{Takes, TakesAnswer};
@@ -8,7 +8,7 @@ ghost use Rattle.ether_peel.specs.Walker.Start.{next_of};
 
 use ether_pcap::{CapturedPacket, LinkType, Timestamp};
 use ether_peel::Start;
-use ether_text::{OutputBuffer, Sink, write_decimal, write_walk};
+use ether_text::{OutputBuffer, Sink, eight_digits, write_decimal, write_walk};
 
 /// The length in bytes of the frame check sequence of Ethernet.
 const FCS_LEN: usize = 4;
@@ -123,9 +123,7 @@ fn write_packet_line<W: Sink>(
     }
     out.append(b"frame ");
     write_decimal(out, number);
-    out.append(b" time ");
     write_time(packet.time, out);
-    out.append(b" link ");
     write_decimal(out, usize::from(packet.link_type.0));
     out.append(b" captured ");
     write_decimal(out, packet.packet.len());
@@ -145,40 +143,56 @@ fn write_mark<W: Sink>(holds: bool, word: &[u8], out: &mut OutputBuffer<'_, W>)
     }
 }
 
-/// Writes the seconds of a time with nine decimals, or a hyphen if there is none.
+/// Writes the seconds of a packet's time with nine decimals, or a hyphen if there is none, between the words around it.
+#[inline(always)]
 fn write_time<W: Sink>(time: Option<Timestamp>, out: &mut OutputBuffer<'_, W>)
-    ensures { Takes W.contents W.can_fail out.old (time_text (option_map timestamp_view time)) out.new }
+    ensures { Takes W.contents W.can_fail out.old
+        (codes " time " ++ (time_text (option_map timestamp_view time) ++ codes " link ")) out.new }
 {
     match time {
-        Some(time) => {
-            write_decimal(out, time.seconds as usize);
-            out.append(b".");
-            out.append(&nine_digits(time.nanoseconds));
-        }
-        None => out.append(b"-"),
+        Some(time) if time.seconds >= 1_000_000_000 && time.seconds < 10_000_000_000 =>
+            out.append_array(recent_time(time)),
+        Some(time) => write_other_time(time, out),
+        None => out.append(b" time - link "),
     }
 }
 
-/// The nine lowest decimal digits of a number.
-fn nine_digits(number: u32) -> [u8; 9]
-    ensures { result ≡ nine_digits number }
+/// The text of a time whose seconds have ten digits: from the year 2001 to 2286.
+#[inline(always)]
+fn recent_time(time: Timestamp) -> [u8; 32]
+    requires least { 10 ^ 9 ≤ time.seconds }
+    requires most { time.seconds < 10 ^ 10 }
+    ensures { result ≡ codes " time " ++ (time_text (Some (timestamp_view time)) ++ codes " link ") }
 {
+    let h = eight_digits(time.seconds / 100_000_000);
+    let s = eight_digits(time.seconds);
+    let n = nine_digits(time.nanoseconds);
     [
-        digit(number / 100_000_000),
-        digit(number / 10_000_000),
-        digit(number / 1_000_000),
-        digit(number / 100_000),
-        digit(number / 10_000),
-        digit(number / 1_000),
-        digit(number / 100),
-        digit(number / 10),
-        digit(number),
+        b' ', b't', b'i', b'm', b'e', b' ', h[6], h[7], s[0], s[1], s[2], s[3], s[4], s[5], s[6],
+        s[7], b'.', n[0], n[1], n[2], n[3], n[4], n[5], n[6], n[7], n[8], b' ', b'l', b'i', b'n',
+        b'k', b' ',
     ]
 }
 
-/// The last decimal digit of a number.
-fn digit(number: u32) -> u8
-    ensures { result ≡ 48 + number % 10 }
+/// Writes the text of a time whose seconds have any number of digits.
+#[inline(never)]
+fn write_other_time<W: Sink>(time: Timestamp, out: &mut OutputBuffer<'_, W>)
+    ensures { Takes W.contents W.can_fail out.old
+        (codes " time " ++ (time_text (Some (timestamp_view time)) ++ codes " link ")) out.new }
 {
-    b'0' + (number % 10) as u8
+    out.append(b" time ");
+    write_decimal(out, time.seconds as usize);
+    out.append(b".");
+    out.append(&nine_digits(time.nanoseconds));
+    out.append(b" link ");
+}
+
+/// The nine lowest decimal digits of a number.
+#[inline(always)]
+fn nine_digits(number: u32) -> [u8; 9]
+    ensures { result ≡ nine_digits number }
+{
+    let first = b'0' + (number / 100_000_000 % 10) as u8;
+    let d = eight_digits(u64::from(number));
+    [first, d[0], d[1], d[2], d[3], d[4], d[5], d[6], d[7]]
 }

@@ -1,10 +1,11 @@
 -- What the kit's hexadecimal text is in the formatter's digits.
-use Rattle.std.proofs.Common.{◌≡◌, ℕ, zero, suc, ◌/◌, ◌%◌, ◌<◌, ◌==◌, ◌&&◌, Bool, true, false, List, [], ◌∷◌, slice_index, refl, inl, inr, arith}
+use Rattle.std.proofs.Common.{◌≡◌, ℕ, zero, suc, ◌/◌, ◌%◌, ◌<◌, ◌==◌, ◌&&◌, Bool, true, false, List, [], ◌∷◌, ◌++◌, slice_index, slice_index_or, length, refl, inl, inr, arith}
 use Rattle.std.proofs.lemmas.Bool.{and_parts, cases_lt, eqb-true}
 use Rattle.std.specs.Fmt.{digit_glyph}
 use Rattle.hex.specs.Hex.{lower_digits, encode_with, encode_lower}
 use Rattle.etherparse.specs.Bytes.{IsBytes}
-use Rattle.ether_text.specs.HexText.{hex_text}
+use Rattle.ether_text.specs.HexText.{hex_byte, hex_text}
+use Rattle.ether_text.specs.declared.write_hex.TheConstants.{PAIRS}
 
 -- the test of one digit, which computes
 abbrev is_same : ℕ → Bool
@@ -38,3 +39,53 @@ encoded (b ∷ bytes) h =
     let low = same_digit (b % 16) (omega arith) in
     let more = encoded bytes (λ i. h (suc i)) in
     λ i. high i ∷ low i ∷ more i
+
+-- ---- the table of pairs
+
+-- the test of one entry, which computes
+abbrev is_pair : List ℕ → ℕ → Bool
+is_pair (a ∷ b ∷ []) n = (a == digit_glyph false (n / 16)) && (b == digit_glyph false (n % 16))
+is_pair _ n = false
+
+is_pair-same : (l : List ℕ) (n : ℕ) → is_pair l n ≡ true → l ≡ hex_byte false n
+is_pair-same [] n h = cc
+is_pair-same (a ∷ []) n h = cc
+is_pair-same (a ∷ b ∷ []) n h =
+    let parts = and_parts (a == digit_glyph false (n / 16)) (b == digit_glyph false (n % 16)) h in
+    let high = eqb-true a _ parts.0 in
+    let low = eqb-true b _ parts.1 in
+    λ i. high i ∷ low i ∷ []
+is_pair-same (a ∷ b ∷ c ∷ l) n h = cc
+
+abbrev are_pairs : ℕ → Bool
+are_pairs zero = true
+are_pairs (suc n) = is_pair (slice_index_or PAIRS n []) n && are_pairs n
+
+pair_below : (n k : ℕ) → are_pairs n ≡ true → k < n → slice_index_or PAIRS k [] ≡ hex_byte false k
+pair_below zero k h lt = absurd (omega arith)
+pair_below (suc n) k h lt =
+    let parts = and_parts (is_pair (slice_index_or PAIRS n []) n) (are_pairs n) h in
+    elim (cases_lt k n) [
+      | inl below ↦ pair_below n k parts.1 below
+      | inr top ↦
+          let e : k ≡ n = omega arith in
+          rw e (is_pair-same (slice_index_or PAIRS n []) n parts.0)
+    ]
+
+pub pair_at : (k : ℕ) → k < 256 → slice_index_or PAIRS k [] ≡ hex_byte false k
+pair_at k lt = pair_below 256 k refl lt
+
+-- the digits of six bytes
+pub of_six : (l : List ℕ) → length l ≡ 6
+    → hex_byte false (slice_index l 0) ++ (hex_byte false (slice_index l 1) ++ (hex_byte false (slice_index l 2)
+    ++ (hex_byte false (slice_index l 3) ++ (hex_byte false (slice_index l 4) ++ hex_byte false (slice_index l 5)))))
+    ≡ hex_text l
+unfolding hex_text
+of_six [] e = absurd (omega arith)
+of_six (a ∷ []) e = absurd (omega arith)
+of_six (a ∷ b ∷ []) e = absurd (omega arith)
+of_six (a ∷ b ∷ c ∷ []) e = absurd (omega arith)
+of_six (a ∷ b ∷ c ∷ d ∷ []) e = absurd (omega arith)
+of_six (a ∷ b ∷ c ∷ d ∷ f ∷ []) e = absurd (omega arith)
+of_six (a ∷ b ∷ c ∷ d ∷ f ∷ g ∷ []) e = refl
+of_six (a ∷ b ∷ c ∷ d ∷ f ∷ g ∷ h ∷ l) e = absurd (omega arith)

@@ -1,3 +1,4 @@
+pub mod Decimals
 pub mod HexText
 pub mod Lines
 pub mod ViewLines

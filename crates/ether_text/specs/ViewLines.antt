@@ -6,6 +6,7 @@ use Rattle.etherparse.specs.Types.LinuxSllHeaderError.{HeaderError as LinuxSllHe
 use Rattle.etherparse.specs.Types.LinuxSllHeaderError.TheVariants as linux_sll
 use Rattle.etherparse.specs.Types.MacsecHeaderError.{HeaderError as MacsecHeaderError}
 use Rattle.etherparse.specs.Types.MacsecHeaderError.TheVariants as macsec
+use Rattle.etherparse.specs.Bytes.{spelled}
 use Rattle.etherparse.specs.Ethernet2.{Ethernet2Value, ethernet2_of, fcs_of}
 use Rattle.etherparse.specs.Vlan.{vlan_of}
 use Rattle.etherparse.specs.LinuxSll.{linux_sll_of}
@@ -28,6 +29,12 @@ use Rattle.ether_text.specs.Lines.{spaced, mark_text, source_text, ethernet2_tex
 abbrev pub ethernet2_view_text : ℕ → Ethernet2Value → Option (List ℕ) → List ℕ
 ethernet2_view_text start e None = ethernet2_text start e
 ethernet2_view_text start e (Some fcs) = ethernet2_fcs_text start e fcs
+
+-- the addresses and the ether type, each after a space
+abbrev pub fields_text : Ethernet2Value → List ℕ
+fields_text e =
+    codes " "
+    ++ (hex_text (spelled 6 e.destination) ++ (codes " " ++ (hex_text (spelled 6 e.source) ++ (codes " " ++ hex_number e.ether_type))))
 
 -- what the frame check sequence adds to the line
 abbrev pub fcs_text : Option (List ℕ) → List ℕ

@@ -6,6 +6,7 @@
 //! [`InputReader`] does the same for a reader.
 #![tactic(auto)]
 
+mod decimals;
 mod feed_lines;
 mod input_fault;
 mod input_reader;
@@ -18,6 +19,7 @@ mod walk_lines;
 mod write_hex;
 mod write_lines;
 
+pub use decimals::{eight_digits, write_decimal};
 pub use feed_lines::write_feed;
 pub use input_fault::InputFault;
 pub use input_reader::InputReader;
@@ -27,4 +29,3 @@ pub use sink::Sink;
 pub use source::{SliceSource, Source};
 pub use verdict::Verdict;
 pub use walk_lines::write_walk;
-pub use write_lines::write_decimal;

@@ -57,6 +57,19 @@ impl<'a, W: Sink> OutputBuffer<'a, W> {
         }
     }
 
+    /// Appends the bytes of an array, as [`append`](Self::append) does. If it was just made, it is written to its place at
+    /// once.
+    #[inline(always)]
+    pub fn append_array<const N: usize>(&mut self, bytes: [u8; N])
+        ensures { Takes W.contents W.can_fail self.old bytes.entry self.new }
+    {
+        if self.waiting.try_extend_from_slice(&bytes).is_err() {
+            // Only a copy is stored for a call, so that the array itself can stay in registers.
+            let stored = bytes;
+            self.append_slowly(&stored);
+        }
+    }
+
     /// Appends `bytes` for which there is no room before the text that waits is written out, piece by piece if they
     /// are more than the room.
     ///

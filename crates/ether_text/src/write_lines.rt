@@ -1,7 +1,7 @@
 //! Writes the lines of a walk: one for each unit and one for the ending, or one for the two counts of feeding it.
 //!
 //! Each is appended to the output piece by piece: through the formatter it would take twice as long.
-ghost use Rattle.std.specs.Prelude.{◌≡◌, ◌++◌, ◌+◌, ◌/◌, ◌%◌, ◌≤◌, ◌<◌, [], ◌∷◌, codes, decimal, length};
+ghost use Rattle.std.specs.Prelude.{◌≡◌, ◌++◌, ◌≤◌, codes, decimal, length};
 ghost use Rattle.etherparse.specs.Ethernet2.{ethernet2_of, fcs_of};
 ghost use Rattle.etherparse.specs.Vlan.{vlan_of};
 ghost use Rattle.etherparse.specs.LinuxSll.{linux_sll_of};
@@ -9,8 +9,9 @@ ghost use Rattle.etherparse.specs.Macsec.{payload_type_view, sec_tag_of, tag_byt
 ghost use Rattle.etherparse.specs.Arp.{arp_of};
 ghost use Rattle.ether_text.specs.Lines.{arp_text, feed_text, linux_sll_text, macsec_text, mark_text, payload_type_text, protocol_text, sci_text, source_text, vlan_text};
 ghost use Rattle.ether_text.specs.OutputBuffer.{Takes};
-ghost use Rattle.ether_text.specs.ViewLines.{error_view_text, ethernet2_view_text, fault_view_text, fcs_text, kind_view_text, len_view_text, linux_sll_view_text, macsec_view_text, rest_view_text, view_text};
+ghost use Rattle.ether_text.specs.ViewLines.{error_view_text, ethernet2_view_text, fault_view_text, fcs_text, fields_text, kind_view_text, len_view_text, linux_sll_view_text, macsec_view_text, rest_view_text, view_text};
 
+use crate::decimals::write_decimal;
 use crate::write_hex::{hex_address, hex_fcs, hex_long, hex_type};
 use crate::{OutputBuffer, Sink};
 use ether_peel::{PeelError, PeelFault, PeelUnit, RestKind};
@@ -47,19 +48,25 @@ fn write_ethernet2<W: Sink>(out: &mut OutputBuffer<'_, W>, start: usize, slice: 
     ensures { Takes W.contents W.can_fail out.old
         (ethernet2_view_text start (ethernet2_of slice.now.bytes) (fcs_of slice.now)) out.new }
 {
-    // Bytes that were just written one by one are slow to copy, so the digits come first.
-    let destination = hex_address(slice.destination());
-    let source = hex_address(slice.source());
-    let ether_type = hex_type(slice.ether_type());
     out.append(b"ethernet2 ");
     write_decimal(out, start);
-    out.append(b" ");
-    out.append(&destination);
-    out.append(b" ");
-    out.append(&source);
-    out.append(b" ");
-    out.append(&ether_type);
+    out.append_array(ethernet2_fields(slice));
     write_fcs(out, slice.fcs());
+}
+
+/// The digits of both addresses and of the ether type, each after a space.
+#[inline(always)]
+fn ethernet2_fields(slice: &Ethernet2Slice<'_>) -> [u8; 33]
+    ensures { result ≡ fields_text (ethernet2_of slice.now.bytes) }
+{
+    let d = hex_address(slice.destination());
+    let s = hex_address(slice.source());
+    let t = hex_type(slice.ether_type());
+    [
+        b' ', d[0], d[1], d[2], d[3], d[4], d[5], d[6], d[7], d[8], d[9], d[10], d[11], b' ', s[0],
+        s[1], s[2], s[3], s[4], s[5], s[6], s[7], s[8], s[9], s[10], s[11], b' ', t[0], t[1], t[2],
+        t[3], t[4], t[5],
+    ]
 }
 
 /// Writes what a frame check sequence adds to the text of an Ethernet II header.
@@ -69,7 +76,7 @@ fn write_fcs<W: Sink>(out: &mut OutputBuffer<'_, W>, fcs: Option<[u8; 4]>)
 {
     if let Some(fcs) = fcs {
         out.append(b" fcs ");
-        out.append(&hex_fcs(fcs));
+        out.append_array(hex_fcs(fcs));
     }
 }
 
@@ -113,7 +120,6 @@ fn protocol_of(header: &[u8]) -> u16
 fn write_vlan<W: Sink>(out: &mut OutputBuffer<'_, W>, start: usize, slice: &SingleVlanSlice<'_>)
     ensures { Takes W.contents W.can_fail out.old (vlan_text start (vlan_of slice.now)) out.new }
 {
-    let ether_type = hex_type(slice.ether_type());
     out.append(b"vlan ");
     write_decimal(out, start);
     out.append(b" pcp ");
@@ -123,7 +129,7 @@ fn write_vlan<W: Sink>(out: &mut OutputBuffer<'_, W>, start: usize, slice: &Sing
     out.append(b" vid ");
     write_decimal(out, usize::from(slice.vlan_identifier().value()));
     out.append(b" ");
-    out.append(&ether_type);
+    out.append_array(hex_type(slice.ether_type()));
 }
 
 /// Writes the text of a MACsec SecTag, and of the window after it.
@@ -184,7 +190,7 @@ fn write_arp<W: Sink>(out: &mut OutputBuffer<'_, W>, start: usize, slice: &ArpPa
     write_number(out, b"arp ", start);
     write_number(out, b" hw ", usize::from(slice.hw_addr_type().0));
     out.append(b" proto ");
-    out.append(&hex_type(slice.proto_addr_type()));
+    out.append_array(hex_type(slice.proto_addr_type()));
     write_number(out, b" hlen ", usize::from(slice.hw_addr_size()));
     write_number(out, b" plen ", usize::from(slice.proto_addr_size()));
     write_number(out, b" op ", usize::from(slice.operation().0));
@@ -211,9 +217,8 @@ fn write_kind<W: Sink>(out: &mut OutputBuffer<'_, W>, kind: RestKind)
     match kind {
         RestKind::Start => out.append(b" "),
         RestKind::EtherType(ether_type) => {
-            let ether_type = hex_type(ether_type);
             out.append(b" type ");
-            out.append(&ether_type);
+            out.append_array(hex_type(ether_type));
         }
         RestKind::Sll(protocol) => write_protocol(out, protocol),
         RestKind::Sealed => out.append(b" sealed"),
@@ -327,76 +332,6 @@ fn write_number<W: Sink>(out: &mut OutputBuffer<'_, W>, word: &[u8], number: usi
 {
     out.append(word);
     write_decimal(out, number);
-}
-
-/// Writes a number in decimal digits.
-///
-/// ```
-/// let mut written = ArrayVec::<u8, 8>::new();
-/// let mut out = OutputBuffer::new(&mut written);
-/// write_decimal(&mut out, 1_024);
-/// assert_eq!(rt; out.flush(), Ok(()));
-/// assert_eq!(rt; written.as_slice(), b"1024".as_slice());
-/// ```
-#[inline(always)]
-pub fn write_decimal<W: Sink>(out: &mut OutputBuffer<'_, W>, number: usize)
-    ensures { Takes W.contents W.can_fail out.old (decimal number) out.new }
-{
-    if number < 1000 {
-        write_short_decimal(out, number);
-    } else {
-        write_long_decimal(out, number);
-    }
-}
-
-/// Writes a number of up to three digits.
-#[inline(always)]
-fn write_short_decimal<W: Sink>(out: &mut OutputBuffer<'_, W>, number: usize)
-    requires { number < 1000 }
-    ensures { Takes W.contents W.can_fail out.old (decimal number) out.new }
-{
-    if number < 10 {
-        out.append(&[digit(number)]);
-    } else if number < 100 {
-        out.append(&[digit(number / 10), digit(number % 10)]);
-    } else {
-        out.append(&three_digits(number));
-    }
-}
-
-/// The decimal digit of a number below 10.
-#[inline(always)]
-fn digit(number: usize) -> u8
-    requires { number < 10 }
-    ensures { result ≡ 48 + number }
-{
-    b'0' + number as u8
-}
-
-/// The three digits of a number below 1,000, with leading zeros.
-#[inline(always)]
-fn three_digits(number: usize) -> [u8; 3]
-    requires { number < 1000 }
-    ensures { result ≡ (48 + number / 100) ∷ (48 + number / 10 % 10) ∷ (48 + number % 10) ∷ [] }
-{
-    [
-        digit(number / 100),
-        digit(number / 10 % 10),
-        digit(number % 10),
-    ]
-}
-
-/// Writes a number of any length: the digits before the last three, and these.
-#[inline(never)]
-fn write_long_decimal<W: Sink>(out: &mut OutputBuffer<'_, W>, number: usize)
-    ensures { Takes W.contents W.can_fail out.old (decimal number) out.new }
-{
-    if number < 1000 {
-        write_short_decimal(out, number);
-    } else {
-        write_long_decimal(out, number / 1000);
-        out.append(&three_digits(number % 1000));
-    }
 }
 
 /// The word for a window's mark.
