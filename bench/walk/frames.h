@@ -1,4 +1,4 @@
-/* Made frames in six sets, and reading numbers: what the benchmarks of the walk and of the calls from C share. */
+/* Made frames in seven sets, and reading numbers: what the benchmarks of the walk and of the calls from C share. */
 #include <stdint.h>
 #include <stdio.h>
 #include <stdlib.h>
@@ -21,12 +21,15 @@ static u32 below(u32 n) {
 }
 static size_t put16(u8 *p, u32 v) { p[0] = v >> 8; p[1] = v; return 2; }
 
-enum { MIXED, PLAIN, TAGGED, SECURED, ADDRESSES, CUT };
+enum { MIXED, PLAIN, TAGGED, SECURED, ADDRESSES, CUT, STACKS };
+
+/* the greatest length of a frame */
+enum { STACK_LEN = 2304 };
 
 static size_t frame(u8 *p, int set) {
   size_t n = 0;
   u32 dice = set == MIXED ? below(100) : 0;
-  int tags = set == TAGGED ? 1 + below(3) : set == MIXED && dice < 20 ? 1 + (dice < 5) : 0;
+  int tags = set == STACKS ? 500 : set == TAGGED ? 1 + below(3) : set == MIXED && dice < 20 ? 1 + (dice < 5) : 0;
   int secure = set == SECURED ? 1 + below(2) : set == MIXED && dice >= 20 && dice < 26;
   int arp = set == ADDRESSES || (set == MIXED && dice >= 26 && dice < 38);
   for (; n < 12; n++) p[n] = below(256);

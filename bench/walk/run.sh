@@ -1,6 +1,6 @@
 #!/bin/sh
 # sh bench/walk/run.sh [FOLDER]: instructions per frame of the walk, of the walk with a limit and of `summary`, by callgrind, and their
-# ratio to a walk by hand in C, for six sets of made frames; below them nanoseconds. It works on a copy of the repository in FOLDER,
+# ratio to a walk by hand in C, for seven sets of made frames; below them nanoseconds. It works on a copy of the repository in FOLDER,
 # kept for later runs, with one crate more. Needs gcc and valgrind.
 set -eu
 here=$(cd "$(dirname "$0")" && pwd)
@@ -18,9 +18,9 @@ count() {
     valgrind --tool=callgrind --callgrind-out-file=/dev/null --toggle-collect="$1" "$room/walk" "$2" "$3" 2>&1 | awk '/Collected/ {print $4 / 4096}'
 }
 
-for set in 0 1 2 3 4 5; do
+for set in 0 1 2 3 4 5 6; do
     echo "$set $(count port_walks "$set" 0) $(count port_limited_walks "$set" 1) $(count port_summaries "$set" 2) $(count hand_walks "$set" 3) $(count hand_summaries "$set" 4)" |
-        awk '{ split("mixed,plain,one to three tags,one or two SecTags,ARP,cut short", name, ",")
+        awk '{ split("mixed,plain,one to three tags,one or two SecTags,ARP,cut short,500 tags", name, ",")
                printf "%s: walk %.1f (%.2f), limit %.1f (%.2f), summary %.1f (%.2f)\n", name[$1 + 1], $2, $2 / $5, $3, $3 / $5, $4, $4 / $6 }'
 done
 "$room/walk" time "${ROUNDS:-200}"

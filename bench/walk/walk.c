@@ -2,7 +2,7 @@
  * beside the library's.
  *
  *   walk time ROUNDS   a line for each set: nanoseconds a frame of both, the least of ROUNDS turns, and their ratio
- *   walk SET CALL      one call over a set, for callgrind: 0 walk, 1 with a limit of 64, 2 summary, 3 walk by hand, 4 summary by hand
+ *   walk SET CALL      one call over a set, for callgrind: 0 walk, 1 with a limit of 1,000, 2 summary, 3 walk by hand, 4 summary by hand
  *
  * All sum up every unit's fields and payload length and the fault, and the sums are compared before anything is timed. */
 #include "frames.h"
@@ -109,14 +109,14 @@ static int race(const char *name, over port, over hand, const u8 *bytes, size_t 
 }
 
 int main(int argc, char **argv) {
-  static const char *names[] = {"mixed", "plain", "one to three tags", "one or two SecTags", "ARP", "cut short"};
+  static const char *names[] = {"mixed", "plain", "one to three tags", "one or two SecTags", "ARP", "cut short", "500 tags"};
   static const over calls[] = {port_walks, port_limited_walks, port_summaries, hand_walks, hand_summaries};
   int timed = argc > 2 && !strcmp(argv[1], "time"), bad = 0;
   enum { COUNT = 4096 };
-  u8 *bytes = malloc(COUNT * 512);
+  u8 *bytes = malloc(COUNT * (size_t)STACK_LEN);
   u32 *ends = malloc(COUNT * sizeof *ends);
   if (argc < 3) return 2;
-  for (int set = MIXED; set <= CUT; set++) {
+  for (int set = MIXED; set <= STACKS; set++) {
     char name[64];
     size_t len = 0;
     for (int i = 0; i < COUNT; i++) { len += frame(bytes + len, set); ends[i] = (u32)len; }
