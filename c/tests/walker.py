@@ -21,12 +21,17 @@ def refuse_short(required, have, layer, source):
 class Walker:
     """The units of a frame as tuples, what is left, and the fault as a tuple or None."""
 
-    def __init__(self, frame, first=None, has_fcs=False, ether_type=None):
+    def __init__(self, frame, first=None, has_fcs=False, ether_type=None, limit=None):
         self.frame, self.at, self.end, self.closed, self.source = frame, 0, len(frame), has_fcs, SLICE
         self.has_fcs, self.units, self.fault = has_fcs, [], None
         self.rest = (0, 0) if first else (1, ether_type)
         self.next = first or self.announced(ether_type)
+        extensions = 0
         while self.next and self.fault is None:
+            if self.next in ("vlan", "macsec"):
+                if extensions == limit:
+                    break
+                extensions += 1
             try:
                 {ETHERNET2: self.ethernet2, LINUX_SLL: self.linux_sll, "vlan": self.vlan, "macsec": self.macsec,
                  "arp": self.arp}[self.next]()

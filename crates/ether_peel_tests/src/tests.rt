@@ -99,7 +99,6 @@ macro_rules! too_short {
 }
 
 mod captured;
-mod compared;
 mod completing;
 mod cuts;
 mod examples;
