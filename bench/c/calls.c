@@ -34,35 +34,77 @@ static void refuses(ether_found *f, size_t at, size_t end, int closed, u32 kind)
   f->fault.closed = (uint8_t)closed;
 }
 
-/* What ether_summary fills of a frame of Ethernet II, by hand. */
-__attribute__((noinline)) static void by_hand(const u8 *p, size_t n, ether_found *f) {
-  size_t at = 14, end = n;
-  int closed = 0;
-  u32 type, bound = ETHER_LEN_SLICE;
-  memset(f, 0, sizeof *f);
-  if (n < 14) { needs(f, 0, n, 0, 14, n, ETHER_LAYER_ETHERNET2_HEADER, ETHER_LEN_SLICE); return; }
-  type = be16(p + 12);
+/* What a frame begins with, by hand: where what follows it is, and its ether type. Says whether the walk goes on. */
+static inline int begins(u32 start, const u8 *p, size_t n, ether_found *f, size_t *at, size_t *end, int *closed, u32 *type) {
+  u32 hardware;
+  switch (start) {
+    case ETHER_START_ETHERNET2:
+      if (n < 14) { needs(f, 0, n, 0, 14, n, ETHER_LAYER_ETHERNET2_HEADER, ETHER_LEN_SLICE); return 0; }
+      *at = 14;
+      *type = be16(p + 12);
+      break;
+    case ETHER_START_ETHERNET2_FCS:
+      *closed = 1;
+      if (n < 18) { needs(f, 0, n, 1, 18, n, ETHER_LAYER_ETHERNET2_HEADER, ETHER_LEN_SLICE); return 0; }
+      *at = 14;
+      *end = n - 4;
+      *type = be16(p + 12);
+      break;
+    case ETHER_START_LINUX_SLL:
+      if (n < 16) { needs(f, 0, n, 0, 16, n, ETHER_LAYER_LINUX_SLL_HEADER, ETHER_LEN_SLICE); return 0; }
+      hardware = be16(p + 2);
+      if (be16(p) > 7) { refuses(f, 0, n, 0, ETHER_FAULT_PACKET_TYPE); f->fault.packet_type = (uint16_t)be16(p); return 0; }
+      *at = 16;
+      *type = be16(p + 14);
+      f->units = 1;
+      f->rest_start = 16;
+      f->rest_end = n;
+      f->rest_protocol = (uint16_t)*type;
+      switch (hardware) {
+        case 1: return 1;
+        case 824: f->rest_kind = ETHER_REST_NETLINK; return 0;
+        case 778: f->rest_kind = ETHER_REST_GRE; return 0;
+        case 770: case 803: f->rest_kind = ETHER_REST_IGNORED; return 0;
+      }
+      memset(f, 0, sizeof *f);
+      refuses(f, 0, n, 0, ETHER_FAULT_HARDWARE_TYPE);
+      f->fault.hardware_type = (uint16_t)hardware;
+      return 0;
+    default:
+      return 1;
+  }
   f->units = 1;
+  return 1;
+}
+
+/* What ether_summary fills, by hand. */
+__attribute__((noinline, noclone)) static u32 by_hand(u32 start, uint16_t ether_type, const u8 *p, size_t n, ether_found *f) {
+  size_t at = 0, end = n;
+  int closed = 0;
+  u32 type = ether_type, bound = ETHER_LEN_SLICE;
+  if (start < ETHER_START_ETHERNET2 || start > ETHER_START_ETHER_TYPE) return ETHER_UNKNOWN_START;
+  memset(f, 0, sizeof *f);
+  if (!begins(start, p, n, f, &at, &end, &closed, &type)) return ETHER_DONE;
   for (;;) {
     size_t have = end - at;
     f->rest_kind = ETHER_REST_ETHER_TYPE;
     f->rest_protocol = (uint16_t)type;
     if (type == 0x8100 || type == 0x88A8 || type == 0x9100) {
-      if (have < 4) { needs(f, at, end, closed, 4, have, ETHER_LAYER_VLAN_HEADER, bound); return; }
+      if (have < 4) { needs(f, at, end, closed, 4, have, ETHER_LAYER_VLAN_HEADER, bound); return ETHER_DONE; }
       type = be16(p + at + 2);
       at += 4;
     } else if (type == 0x88E5) {
       u32 plain, header, named;
-      if (have < 6) { needs(f, at, end, closed, 6, have, ETHER_LAYER_MACSEC_HEADER, bound); return; }
-      if (p[at] & 0x80) { refuses(f, at, end, closed, ETHER_FAULT_MACSEC_VERSION); return; }
+      if (have < 6) { needs(f, at, end, closed, 6, have, ETHER_LAYER_MACSEC_HEADER, bound); return ETHER_DONE; }
+      if (p[at] & 0x80) { refuses(f, at, end, closed, ETHER_FAULT_MACSEC_VERSION); return ETHER_DONE; }
       plain = !(p[at] & 0x0C);
       named = p[at + 1] & 0x3F;
-      if (plain && named == 1) { refuses(f, at, end, closed, ETHER_FAULT_MACSEC_SHORT_LEN); return; }
+      if (plain && named == 1) { refuses(f, at, end, closed, ETHER_FAULT_MACSEC_SHORT_LEN); return ETHER_DONE; }
       header = 6 + (p[at] & 0x20 ? 8 : 0) + (plain ? 2 : 0);
-      if (have < header) { needs(f, at, end, closed, header, have, ETHER_LAYER_MACSEC_HEADER, bound); return; }
+      if (have < header) { needs(f, at, end, closed, header, have, ETHER_LAYER_MACSEC_HEADER, bound); return ETHER_DONE; }
       if (named) {
         size_t whole = header + named - (plain ? 2 : 0);
-        if (have < whole) { needs(f, at, end, closed, whole, have, ETHER_LAYER_MACSEC_PACKET, ETHER_LEN_MACSEC_SHORT_LENGTH); return; }
+        if (have < whole) { needs(f, at, end, closed, whole, have, ETHER_LAYER_MACSEC_PACKET, ETHER_LEN_MACSEC_SHORT_LENGTH); return ETHER_DONE; }
         end = at + whole;
         closed = 1;
         bound = ETHER_LEN_MACSEC_SHORT_LENGTH;
@@ -74,9 +116,9 @@ __attribute__((noinline)) static void by_hand(const u8 *p, size_t n, ether_found
       continue;
     } else if (type == 0x0806) {
       size_t whole;
-      if (have < 8) { needs(f, at, end, closed, 8, have, ETHER_LAYER_ARP, bound); return; }
+      if (have < 8) { needs(f, at, end, closed, 8, have, ETHER_LAYER_ARP, bound); return ETHER_DONE; }
       whole = 8 + 2 * (size_t)p[at + 4] + 2 * (size_t)p[at + 5];
-      if (have < whole) { needs(f, at, end, closed, whole, have, ETHER_LAYER_ARP, ETHER_LEN_ARP_ADDRESSES); return; }
+      if (have < whole) { needs(f, at, end, closed, whole, have, ETHER_LAYER_ARP, ETHER_LEN_ARP_ADDRESSES); return ETHER_DONE; }
       at += whole;
       f->units++;
       f->rest_kind = ETHER_REST_AFTER_ARP;
@@ -89,6 +131,7 @@ __attribute__((noinline)) static void by_hand(const u8 *p, size_t n, ether_found
   }
   f->rest_start = at;
   f->rest_end = end;
+  return ETHER_DONE;
 }
 
 static void call(int which, const u8 *frame, size_t len) {
@@ -97,7 +140,7 @@ static void call(int which, const u8 *frame, size_t len) {
   static ether_unit units[8];
   size_t count;
   switch (which) {
-    case 0: by_hand(frame, len, &found); break;
+    case 0: by_hand(ETHER_START_ETHERNET2, 0, frame, len, &found); break;
     case 1: ether_summary(ETHER_START_ETHERNET2, 0, frame, len, &found); break;
     case 2: ether_walk(ETHER_START_ETHERNET2, 0, frame, len, units, 8, &count); break;
     case 3: ether_write_back(ETHER_START_ETHERNET2, 0, frame, len, target, sizeof target, &count); break;
@@ -109,7 +152,8 @@ static int same(const ether_found *a, const ether_found *b) {
   const ether_fault *f = &a->fault, *g = &b->fault;
   return a->units == b->units && a->rest_start == b->rest_start && a->rest_end == b->rest_end && a->rest_kind == b->rest_kind &&
          a->rest_protocol == b->rest_protocol && f->offset == g->offset && f->required_len == g->required_len && f->len == g->len &&
-         f->missing == g->missing && f->kind == g->kind && f->layer == g->layer && f->len_source == g->len_source && f->closed == g->closed;
+         f->missing == g->missing && f->kind == g->kind && f->layer == g->layer && f->len_source == g->len_source && f->closed == g->closed &&
+         f->packet_type == g->packet_type && f->hardware_type == g->hardware_type;
 }
 
 static int compare(void) {
@@ -119,11 +163,13 @@ static int compare(void) {
       static u8 one[512];
       ether_found a, b;
       size_t len = frame(one, set);
-      by_hand(one, len, &a);
-      ether_summary(ETHER_START_ETHERNET2, 0, one, len, &b);
-      failed += !same(&a, &b);
+      for (u32 start = 0; start <= ETHER_START_ETHER_TYPE; start++) {
+        memset(&a, 0, sizeof a);
+        memset(&b, 0, sizeof b);
+        failed += by_hand(start, 0x88E5, one, len, &a) != ether_summary(start, 0x88E5, one, len, &b) || !same(&a, &b);
+      }
     }
-  printf("%d of %d differ\n", failed, SETS * COUNT);
+  printf("%d of %d differ\n", failed, SETS * COUNT * 5);
   return failed != 0;
 }
 
