@@ -1,22 +1,28 @@
 #!/bin/sh
-# sh bench/captures/run.sh PROGRAM [MEGABYTES] [ROUNDS]: ether_capture beside `cat` and tcpdump, in turns, over captures that are made here: processor
-# time, time, and the ratio of the processor time to that of `tcpdump -w`. Without tcpdump that is left out. With valgrind it also counts
-# instructions per packet, of 10 MB.
+# sh bench/captures/run.sh PROGRAM [MEGABYTES] [ROUNDS]: ether_capture, `cat`, tcpdump and a program over libpcap that walks VLAN tags by hand, in
+# turns, over captures that are made here: processor time, time, and the ratio of the processor time to that of `tcpdump -w`. What is not installed
+# (tcpdump, gcc with libpcap's header) is left out. With valgrind it also counts instructions per packet, of 10 MB.
 set -eu
 here=$(cd "$(dirname "$0")" && pwd)
 program=$(realpath "${1:?the built program}")
 work=$(mktemp -d)
 trap 'rm -rf "$work"' EXIT
 python3 "$here/make.py" "$work" "${2:-100}"
+
+set -- "${3:-7}" -- "cat=$(command -v cat)" "plain=$program --plain" "lines=$program"
+if gcc -O2 -o "$work/walk" "$here/walk.c" -lpcap 2> /dev/null; then
+    set -- "$@" "libpcap=$work/walk"
+else
+    echo "left out: the program over libpcap, since gcc or libpcap's header is not installed"
+fi
+if command -v tcpdump > /dev/null 2>&1; then
+    set -- "$@" "print=$(command -v tcpdump) -e -n -r -" "copy=$(command -v tcpdump) -r - -w /dev/null"
+else
+    echo "left out: tcpdump, which is not installed"
+fi
 for file in mixed small; do
     echo "-- $file"
-    if command -v tcpdump > /dev/null 2>&1; then
-        python3 "$here/../tool/race.py" "$work/$file.pcap" "${3:-7}" -- "cat=$(command -v cat)" "plain=$program --plain" "lines=$program" \
-            "print=$(command -v tcpdump) -e -n -r -" "copy=$(command -v tcpdump) -r - -w /dev/null" 2> /dev/null
-    else
-        echo "left out: tcpdump, which is not installed"
-        python3 "$here/../tool/race.py" "$work/$file.pcap" "${3:-7}" -- "plain=$program --plain" "lines=$program" "cat=$(command -v cat)"
-    fi
+    python3 "$here/../tool/race.py" "$work/$file.pcap" "$@" 2> /dev/null
 done
 
 if command -v valgrind > /dev/null 2>&1; then
