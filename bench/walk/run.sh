@@ -1,6 +1,6 @@
 #!/bin/sh
 # sh bench/walk/run.sh [FOLDER]: instructions per frame of the walk, of the walk with a limit and of `summary`, by callgrind, and their
-# ratio to a walk by hand in C, for seven sets of made frames; below them nanoseconds. It works on a copy of the repository in FOLDER,
+# ratio to a walk by hand in C, and of `feed` with its ratio to the walk, for seven sets of made frames; below them nanoseconds. It works on a copy of the repository in FOLDER,
 # kept for later runs, with one crate more. Needs gcc and valgrind.
 set -eu
 here=$(cd "$(dirname "$0")" && pwd)
@@ -19,8 +19,8 @@ count() {
 }
 
 for set in 0 1 2 3 4 5 6; do
-    echo "$set $(count port_walks "$set" 0) $(count port_limited_walks "$set" 1) $(count port_summaries "$set" 2) $(count hand_walks "$set" 3) $(count hand_summaries "$set" 4)" |
+    echo "$set $(count port_walks "$set" 0) $(count port_limited_walks "$set" 1) $(count port_summaries "$set" 2) $(count hand_walks "$set" 3) $(count hand_summaries "$set" 4) $(count port_feeds "$set" 5)" |
         awk '{ split("mixed,plain,one to three tags,one or two SecTags,ARP,cut short,500 tags", name, ",")
-               printf "%s: walk %.1f (%.2f), limit %.1f (%.2f), summary %.1f (%.2f)\n", name[$1 + 1], $2, $2 / $5, $3, $3 / $5, $4, $4 / $6 }'
+               printf "%s: walk %.1f (%.2f), limit %.1f (%.2f), summary %.1f (%.2f), feed %.1f (%.2f)\n", name[$1 + 1], $2, $2 / $5, $3, $3 / $5, $4, $4 / $6, $7, $7 / $2 }'
 done
 "$room/walk" time "${ROUNDS:-200}"

@@ -2,7 +2,8 @@
  * beside the library's.
  *
  *   walk time ROUNDS   a line for each set: nanoseconds a frame of both, the least of ROUNDS turns, and their ratio
- *   walk SET CALL      one call over a set, for callgrind: 0 walk, 1 with a limit of 1,000, 2 summary, 3 walk by hand, 4 summary by hand
+ *   walk SET CALL      one call over a set, for callgrind: 0 walk, 1 with a limit of 1,000, 2 summary, 3 walk by hand, 4 summary by hand,
+ *                   5 feed
  *
  * All sum up every unit's fields and payload length and the fault, and the sums are compared before anything is timed. */
 #include "frames.h"
@@ -11,6 +12,7 @@
 u64 port_walks(const u8 *bytes, size_t len, const u32 *ends, size_t count);
 u64 port_limited_walks(const u8 *bytes, size_t len, const u32 *ends, size_t count);
 u64 port_summaries(const u8 *bytes, size_t len, const u32 *ends, size_t count);
+u64 port_feeds(const u8 *bytes, size_t len, const u32 *ends, size_t count);
 
 struct walked { u64 sum, units, rest, fault; };
 
@@ -110,7 +112,7 @@ static int race(const char *name, over port, over hand, const u8 *bytes, size_t 
 
 int main(int argc, char **argv) {
   static const char *names[] = {"mixed", "plain", "one to three tags", "one or two SecTags", "ARP", "cut short", "500 tags"};
-  static const over calls[] = {port_walks, port_limited_walks, port_summaries, hand_walks, hand_summaries};
+  static const over calls[] = {port_walks, port_limited_walks, port_summaries, hand_walks, hand_summaries, port_feeds};
   int timed = argc > 2 && !strcmp(argv[1], "time"), bad = 0;
   enum { COUNT = 4096 };
   u8 *bytes = malloc(COUNT * (size_t)STACK_LEN);
