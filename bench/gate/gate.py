@@ -1,10 +1,10 @@
 """Runs the gate: the check of the documents, `rt ci`, the tests of `ether_capture`, and those of the calls from C. Stops at the first
 that fails.
 
-Each line of these is passed on. After each proof, and after the last wrong body of a crate, a line says how many minutes have
-passed and how many minutes of processor time the part took. The last line adds up what passed. With --table FILE the minutes of each part of each crate are
-written there as a table. Processor time is sampled each second, so the parts add up to a little less than the total, which
-the system counts. It is not said of a system without /proc.
+Each line of these is passed on. After each proof a line says how many minutes have passed and how many minutes of processor time
+it took; where the wrong bodies of a crate begin, how many have passed. The last line adds up what passed. With --table FILE the
+minutes of each part of each crate are written there as a table. Processor time is sampled each second, so the parts add up to a
+little less than the total, which the system counts. It is not said of a system without /proc.
 """
 import argparse
 import collections
@@ -104,7 +104,9 @@ def spent():
 
 
 def follow(line, clock):
-    """Says after a proof how long it took."""
+    """Says after a proof how long it took, and when the wrong bodies of a crate begin."""
+    if re.match(r"rt: \w+: trying its must-fail edits", line):
+        print(f"gate: {clock.passed():.1f} min", flush=True)
     told = re.match(r"rt: (\w+)(: its tests are)? proved$", line)
     if told:
         part = "with tests" if told[2] else "proof"
