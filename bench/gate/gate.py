@@ -1,4 +1,4 @@
-"""Runs the gate: the check of the documents, `rt ci`, the tests of `ether_capture`, and those of the calls from C. Stops at the first
+"""Runs the gate: the check of the documents, `rt ci`, the tests of both programs, and those of the calls from C. Stops at the first
 that fails.
 
 Each line of these is passed on. After each proof a line says how many minutes have passed and how many minutes of processor time
@@ -20,7 +20,8 @@ TOP = os.path.dirname(os.path.dirname(os.path.dirname(os.path.abspath(__file__))
 COMMANDS = {
     "documents": [sys.executable, "docs/reading.py"],
     "crates": ["rt", "ci"],
-    "captures": [sys.executable, "captures/tests.py", "crates/ether_capture/out/ether_capture"],
+    "tool": [sys.executable, "tests/ether_tool.py", "crates/ether_tool/out/ether_tool"],
+    "captures": [sys.executable, "tests/ether_capture.py", "crates/ether_capture/out/ether_capture"],
     "C": ["sh", "c/test.sh", "proved"],
 }
 PARTS = ["proof", "with tests", "wrong bodies"]

@@ -15,8 +15,6 @@ pub mod parse_frame;
 pub mod program;
 pub mod run;
 #[cfg(test)]
-mod test_frames;
-#[cfg(test)]
 mod tests;
 mod write_answer;
 

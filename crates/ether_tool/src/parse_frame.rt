@@ -27,35 +27,3 @@ pub fn frame_of(line: &[u8], out: &mut [u8; MAX_FRAME_LEN]) -> Option<usize>
         Err(_) => None,
     }
 }
-
-#[cfg(test)]
-mod tests {
-    use super::*;
-    use crate::test_frames::{CAPTURED, CAPTURED_IN_A_VLAN};
-
-    #[test]
-    fn pairs_of_digits_up_to_4096(rt: HostRuntime) {
-        let examples: [(&[u8], Option<&[u8]>); 15] = [
-            (b"", Some(&[])),
-            (b"0aA9fF", Some(&[0x0a, 0xa9, 0xff])),
-            (CAPTURED, Some(&CAPTURED_IN_A_VLAN)),
-            (&[b'a'; 4096], Some(&[0xaa; 2048])),
-            (&[b'0'; 4097], None),
-            (&[b'0'; 4098], None),
-            (b"012", None),
-            (b"0g", None),
-            (b"g0", None),
-            (b"0 ", None),
-            (b"\r0", None),
-            (b"0/", None),
-            (b":0", None),
-            (b"@0", None),
-            (b"0`", None),
-        ];
-        for (line, wanted) in examples {
-            let mut frame = [0; MAX_FRAME_LEN];
-            let len = frame_of(line, &mut frame);
-            assert_eq!(rt; len.and_then(|len| frame.get(..len)), wanted, "{line:?}");
-        }
-    }
-}

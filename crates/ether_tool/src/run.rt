@@ -135,12 +135,3 @@ fn read_lines<R: Source, W: Sink>(
         lines.take_chunk(command, &chunk[..count], out)?;
     }
 }
-
-#[cfg(test)]
-mod feed_tests;
-#[cfg(test)]
-mod format_tests;
-#[cfg(test)]
-mod limit_tests;
-#[cfg(test)]
-mod tests;

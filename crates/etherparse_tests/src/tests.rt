@@ -17,12 +17,11 @@ mod write_front;
 
 use etherparse::err::{Layer, LenError};
 use etherparse::{EtherPayloadSlice, EtherType, LenSource};
-use std::fmt::Debug;
 use std::process::Abort;
 
 /// Fails if `found` isn't what is wanted of the row `name`.
-fn equal<R: Abort, T: PartialEq + Debug>(rt: &R, name: &str, found: &T, wanted: &T) {
-    assert_eq!(rt; found, wanted, "{name}");
+fn equal<R: Abort, T: PartialEq>(rt: &R, name: &str, found: &T, wanted: &T) {
+    assert!(rt; found == wanted, "{name}");
 }
 
 /// The error of a slice that is too short.

@@ -1,10 +1,13 @@
-//! The examples of `ether_text`, text that is longer than the room, and a fault of the writer.
+//! The examples of `ether_text`, a fault of the writer, and what is shown of the types of both crates.
+use crate::mode::{Mode, Usage};
+use crate::outcome::ToolFault;
 use arrayvec::ArrayVec;
 use ether_peel::Start;
 use ether_text::{
     InputFault, InputReader, OutputBuffer, OutputFault, SliceSource, Source, Verdict,
     write_decimal, write_feed, write_walk,
 };
+use etherparse::EtherType;
 use std::test::Fail;
 
 /// An Ethernet II header, a VLAN tag and the first byte of an IPv4 packet.
@@ -86,33 +89,6 @@ fn what_the_examples_read_and_show(rt: HostRuntime) -> Result<(), Fail> {
 }
 
 #[test]
-fn text_longer_than_the_room(rt: HostRuntime) {
-    let mut written = ArrayVec::<u8, 70000>::new();
-    let mut out = OutputBuffer::new(&mut written);
-    out.append(b"b");
-    out.append(&[b'a'; 65537]);
-    out.append(b"c");
-    let flushed = out.flush();
-    let text = written.as_slice();
-    assert_eq!(rt;
-        (
-            flushed,
-            text.len(),
-            text.first(),
-            text.get(1..65538),
-            text.last()
-        ),
-        (
-            Ok(()),
-            65539,
-            Some(&b'b'),
-            Some([b'a'; 65537].as_slice()),
-            Some(&b'c')
-        )
-    );
-}
-
-#[test]
 fn a_writer_that_is_full(rt: HostRuntime) {
     let mut written = ArrayVec::<u8, 4>::new();
     let mut out = OutputBuffer::new(&mut written);
@@ -124,4 +100,36 @@ fn a_writer_that_is_full(rt: HostRuntime) {
         (before, fault, out.check(), out.flush()),
         (Ok(()), Err(OutputFault), Err(OutputFault), Err(OutputFault))
     );
+}
+
+#[test]
+fn shown_texts(rt: HostRuntime) -> Result<(), Fail> {
+    let faults = [
+        (ToolFault::BadLine(12), "line 12: bad line", "BadLine(12)"),
+        (ToolFault::Input, "input failed", "Input"),
+        (ToolFault::Output, "output failed", "Output"),
+    ];
+    for (fault, text, debug) in faults {
+        let shown = format!(in rt.alloc(); "{fault}, {fault:?}")?;
+        assert_eq!(rt;
+            shown.as_str(),
+            format!(in rt.alloc(); "{text}, {debug}")?.as_str()
+        );
+    }
+    let shown = format!(in rt.alloc();
+        "{:?} {:?}",
+        (
+            Verdict::AllAccepted,
+            Verdict::SomeRefused,
+            Mode::EtherType(EtherType(0x0806)),
+            Usage
+        ),
+        [Mode::Eth, Mode::Fcs, Mode::Sll, Mode::Feed]
+    )?;
+    assert_eq!(rt;
+        shown.as_str(),
+        "(AllAccepted, SomeRefused, EtherType(0x0806 (Address Resolution Protocol (ARP))), Usage) \
+[Eth, Fcs, Sll, Feed]"
+    );
+    Ok(())
 }

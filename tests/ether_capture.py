@@ -1,16 +1,15 @@
 """Tests what `ether_capture` prints and how it ends, with nothing but Python.
 
-    python3 captures/tests.py PROGRAM
+    python3 tests/ether_capture.py PROGRAM
 
 PROGRAM is the built program. The captures were written by hand and checked with tshark. The last line is 'N passed, M failed'.
 """
 
 import os
-import socket
-import subprocess
 import sys
-import tempfile
 from dataclasses import dataclass
+
+from programs import count, run, run_in_pieces, run_until_a_fault, status_on_a_full_disk
 
 USAGE = "usage: ether_capture [--plain] < capture\n"
 
@@ -166,66 +165,18 @@ CASES += [
 ]
 
 
-def run(program, case):
-    """What the program prints for a capture that is a file, and its status."""
-    with tempfile.TemporaryFile() as file:
-        file.write(case.capture)
-        file.seek(0)
-        done = subprocess.run([program, *case.words], stdin=file, stdout=subprocess.PIPE, check=False)
-    return done.stdout.decode(), done.returncode
-
-
-def run_in_pieces(program, case, step):
-    """The same of a capture that comes through a pipe, some bytes at a time."""
-    with subprocess.Popen([program, *case.words], stdin=subprocess.PIPE, stdout=subprocess.PIPE, bufsize=0) as child:
-        try:
-            for at in range(0, len(case.capture), step):
-                child.stdin.write(case.capture[at:at + step])
-            child.stdin.close()
-        except BrokenPipeError:
-            pass  # the program has ended
-        text = child.stdout.read().decode()
-    return text, child.returncode
-
-
-def run_until_a_fault(program):
-    """The same of a reader that fails after the first record."""
-    ours, theirs = socket.socketpair()
-    theirs.send(b"unread")  # so that closing our end is a fault of theirs
-    ours.sendall(CLASSIC[:59])
-    with subprocess.Popen([program], stdin=theirs, stdout=subprocess.PIPE) as child:
-        theirs.close()
-        ours.close()
-        text = child.stdout.read().decode()
-    return text, child.returncode
-
-
-def status_on_a_full_disk(program, words):
-    with open("/dev/full", "wb") as full:
-        return subprocess.run([program, *words], input=CLASSIC, stdout=full, check=False).returncode
-
-
 def main():
     program = os.path.realpath(sys.argv[1])
-    tried = []
-    for case in CASES:
-        tried.append((case.name, run(program, case), (case.text, case.status)))
-    for case in CASES[:6]:
-        for step in (1, 2, 3, 7, 16, 59, 64):
-            tried.append((f"{case.name} in pieces of {step}", run_in_pieces(program, case, step), (case.text, case.status)))
-    for case in CASES[-9:]:
-        for step in (1_000, 65_537):
-            tried.append((f"{case.name} in pieces of {step}", run_in_pieces(program, case, step), (case.text, case.status)))
-    tried.append(("a reader that fails", run_until_a_fault(program), (FIRST_LINES, 4)))
+    tried = [(case.name, run(program, case.words, case.capture), (case.text, case.status)) for case in CASES]
+    for cases, steps in ((CASES[:6], (1, 2, 3, 7, 16, 59, 64)), (CASES[-9:], (1_000, 65_537))):
+        for case in cases:
+            for step in steps:
+                found = run_in_pieces(program, case.words, case.capture, step)
+                tried.append((f"{case.name} in pieces of {step}", found, (case.text, case.status)))
+    tried.append(("a reader that fails", run_until_a_fault(program, [], CLASSIC[:59]), (FIRST_LINES, 4)))
     for words in ([], ["--plain"], ["plain"]):
-        tried.append((f"a full disk, {words}", status_on_a_full_disk(program, words), 4))
-    failed = 0
-    for name, found, wanted in tried:
-        if found != wanted:
-            failed += 1
-            print(f"{name}: {found}, not {wanted}")
-    print(f"{len(tried) - failed} passed, {failed} failed")
-    return 1 if failed else 0
+        tried.append((f"a full disk, {words}", status_on_a_full_disk(program, words, CLASSIC), 4))
+    return count(tried)
 
 
 if __name__ == "__main__":

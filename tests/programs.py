@@ -1,0 +1,56 @@
+"""What the tests of both programs share: runs of a built program, and the count of those that end as they should."""
+
+import socket
+import subprocess
+import tempfile
+
+
+def run(program, words, given):
+    """What the program prints for input that is a file, and its status."""
+    with tempfile.TemporaryFile() as file:
+        file.write(given)
+        file.seek(0)
+        done = subprocess.run([program, *words], stdin=file, stdout=subprocess.PIPE, check=False)
+    return done.stdout.decode(), done.returncode
+
+
+def run_in_pieces(program, words, given, step):
+    """The same of input that comes through a pipe, some bytes at a time."""
+    with tempfile.TemporaryFile() as written:
+        with subprocess.Popen([program, *words], stdin=subprocess.PIPE, stdout=written, bufsize=0) as child:
+            try:
+                for at in range(0, len(given), step):
+                    child.stdin.write(given[at:at + step])
+                child.stdin.close()
+            except BrokenPipeError:
+                pass  # the program has ended
+        written.seek(0)
+        return written.read().decode(), child.returncode
+
+
+def run_until_a_fault(program, words, given):
+    """The same of a reader that fails after these bytes."""
+    ours, theirs = socket.socketpair()
+    theirs.send(b"unread")  # so that closing our end is a fault of theirs
+    ours.sendall(given)
+    with subprocess.Popen([program, *words], stdin=theirs, stdout=subprocess.PIPE) as child:
+        theirs.close()
+        ours.close()
+        text = child.stdout.read().decode()
+    return text, child.returncode
+
+
+def status_on_a_full_disk(program, words, given):
+    with open("/dev/full", "wb") as full:
+        return subprocess.run([program, *words], input=given, stdout=full, check=False).returncode
+
+
+def count(tried):
+    """Prints each run that ended otherwise than wanted, and how many there are of both kinds. Answers the exit status."""
+    failed = 0
+    for name, found, wanted in tried:
+        if found != wanted:
+            failed += 1
+            print(f"{name}: {found}, not {wanted}")
+    print(f"{len(tried) - failed} passed, {failed} failed")
+    return 1 if failed else 0
