@@ -16,7 +16,7 @@ use Rattle.ether_capture.specs.Packets.{counted, GoesOn}
 use Rattle.ether_capture.specs.Run.{AreAnswered}
 use Rattle.ether_capture.specs.FrameLoop.{Reached, TakesUnit, IsStart}
 use Rattle.ether_capture.specs.declared.frame_loop.FrameLoop.{FrameLoop}
-use Rattle.ether_capture.proofs.PacketsLemmas.{IsSeen, GoesOn-start, GoesOn-more, GoesOn-unit, GoesOn-packet}
+use Rattle.ether_capture.proofs.PacketsLemmas.{GoesOn-start, GoesOn-more, GoesOn-unit, GoesOn-packet}
 
 and_true : (b : Bool) → (true && b) ≡ (b && true)
 and_true true = refl
@@ -124,9 +124,9 @@ module _ {W : Type 0} (plain : Bool) (contents : W → Option (List ℕ)) where
 
   -- a unit is taken
   pub Reached-unit : (held : Option (List ℕ)) (input buffered : List ℕ) (old new : FrameLoop) (y : Expectation) (from to : OutputBuffer W) (len : ℕ) (packet : Option PacketValue)
-      → IsSeen old.reader buffered → len ≤ length buffered → Begins buffered old.reader len packet y → TakesUnit plain contents len packet (record old { reader = y }) from new to
+      → len ≤ length buffered → Begins buffered old.reader len packet y → TakesUnit plain contents len packet (record old { reader = y }) from new to
       → Reached plain contents held input buffered old from → Reached plain contents held input (drop len buffered) new to
-  Reached-unit held input buffered old new y from to len None front within begins takes so_far =
+  Reached-unit held input buffered old new y from to len None within begins takes so_far =
       let (same, verdict, count, skipped) = takes.content in
       let long = front_len so_far.front buffered len within in
       record {
@@ -135,7 +135,7 @@ module _ {W : Type 0} (plain : Bool) (contents : W → Option (List ℕ)) where
         text = so_far.text;
         all_accepted = so_far.all_accepted;
         parts = subst (λ (x : Expectation). GoesOn input so_far.packets x (drop len buffered)) (sym takes.same_reader)
-            (GoesOn-unit input so_far.packets old.reader y buffered len front within begins so_far.parts);
+            (GoesOn-unit input so_far.packets old.reader y buffered len within begins so_far.parts);
         place = front_after input so_far.front buffered len so_far.place;
         answered = so_far.answered;
         is_verdict = verdict ∙ so_far.is_verdict;
@@ -144,7 +144,7 @@ module _ {W : Type 0} (plain : Bool) (contents : W → Option (List ℕ)) where
         is_offset = let a = takes.is_offset in let b = so_far.is_offset in omega (arith, a, b, long);
         written = subst (λ (out : OutputBuffer W). Appends held (contents_of contents out) so_far.text) (sym same) so_far.written;
       }
-  Reached-unit held input buffered old new y from to len (Some p) front within begins takes so_far =
+  Reached-unit held input buffered old new y from to len (Some p) within begins takes so_far =
       let taken = takes.content in
       let long = front_len so_far.front buffered len within in
       let more = length-append so_far.packets (p ∷ []) in
@@ -156,7 +156,7 @@ module _ {W : Type 0} (plain : Bool) (contents : W → Option (List ℕ)) where
         text = so_far.text ++ taken.text;
         all_accepted = so_far.all_accepted && taken.accepted;
         parts = subst (λ (x : Expectation). GoesOn input (so_far.packets ++ p ∷ []) x (drop len buffered)) (sym takes.same_reader)
-            (GoesOn-packet input so_far.packets p old.reader y buffered len front within begins so_far.parts);
+            (GoesOn-packet input so_far.packets p old.reader y buffered len within begins so_far.parts);
         place = front_after input so_far.front buffered len so_far.place;
         answered = AreAnswered-push plain 0 so_far.packets so_far.text so_far.all_accepted p taken.text taken.accepted so_far.answered
             (subst (λ (n : ℕ). AnswersPacket plain n p taken.text taken.accepted) number taken.answered);

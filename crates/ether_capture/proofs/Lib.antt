@@ -4,4 +4,3 @@ pub mod OptionsLemmas
 pub mod FrameLinesLemmas
 pub mod FrameLoopLemmas
 pub mod RunLemmas
-pub mod PassedBlocks

@@ -1,16 +1,14 @@
 -- What a run has read and written, one read after another.
-use Rattle.std.proofs.Common.{false, ◌⊎◌, ◌-◌, ◌^◌, ◌≡◌, ◌≢◌, inl, inr, ℕ, ◌<◌, ◌≤◌, List, [], ◌∷◌, ◌++◌, length, drop, Bool, true, not, ◌&&◌, nat_lt, Option, Some, None, unwrap_or, Result, Ok, Err, IfOk, IfErr, IsErrAnd, OnOk, refl, sym, ap, subst, ◌∙◌, arith, append_assoc, append-nil}
-use Rattle.std.proofs.lemmas.List.{length-drop, length-append}
-use Rattle.std.proofs.lemmas.Bool.{cases_lt, lt-ltb, le-ltb}
-use Rattle.std.specs.Prelude.{◌↔◌, IsTrue}
-use Rattle.std.specs.Option.{is_some}
+use Rattle.std.proofs.Common.{false, ◌⊎◌, ◌-◌, ◌^◌, ◌≡◌, ◌≢◌, inl, inr, ℕ, ◌<◌, ◌≤◌, List, [], ◌∷◌, ◌++◌, length, drop, Bool, true, Option, Some, None, unwrap_or, Result, Ok, Err, IfOk, IfErr, IsErrAnd, OnOk, refl, sym, ap, subst, ◌∙◌, arith, append_assoc, append-nil}
+use Rattle.std.proofs.lemmas.List.{length-append}
 use Rattle.std.specs.Io.KnownBytes.{Appends, Consumes, IsAtEnd, Keeps, append_known}
 use Rattle.ether_pcap.specs.FileHeader as file
 use Rattle.ether_pcap.specs.Record as record_rows
 use Rattle.ether_pcap.specs.Block as block_rows
 use Rattle.ether_pcap.specs.Section as section_rows
-use Rattle.ether_pcap.specs.Capture.{PacketValue, Expectation, Beginning, CaptureRefusal, Refuses, file_header_refused, file_record_refused, first_section_refused, section_refused, block_refused, body_refused, required_len, IsEnd, passes_over, seen, HasPackets}
+use Rattle.ether_pcap.specs.Capture.{PacketValue, Expectation, Beginning, CaptureRefusal, Refuses, file_header_refused, file_record_refused, first_section_refused, section_refused, block_refused, body_refused, required_len, IsEnd, HasPackets}
 use Rattle.ether_pcap.specs.CaptureViews.{capture_refusal_view}
+use Rattle.ether_pcap.proofs.CaptureLengths.{required_above}
 use Rattle.ether_pcap.specs.declared.capture_error.CaptureError.{CaptureError}
 use Rattle.ether_text.specs.InputReader.{ReadsOn, StopsReading, was_stopped, stopped as stopped_by, used_up}
 use Rattle.ether_text.specs.OutputBuffer.{contents_of, Marks, WritesOut}
@@ -20,14 +18,13 @@ use Rattle.ether_text.specs.declared.output_buffer.OutputBuffer.{OutputBuffer}
 use Rattle.ether_text.specs.declared.verdict.Verdict.{Verdict}
 use Rattle.ether_text.proofs.KnownBytesLemmas.{Appends-then, Appends-written_out, append_known_nil, Consumes-then, Consumes-kept}
 use Rattle.ether_capture.specs.FrameLines.{totals_line_if}
-use Rattle.ether_capture.specs.Packets.{room, GoesOn, lacks_room}
-use Rattle.ether_capture.specs.Run.{AnswersSlice, IsEndless, IsLeft, HasRun, IsOutput, OnInput, OnStreamFault, totals_of}
-use Rattle.ether_capture.specs.FrameLoop.{Reached, TakesUnits, LeavesRest, IsFinal}
+use Rattle.ether_capture.specs.Packets.{GoesOn}
+use Rattle.ether_capture.specs.Run.{AnswersSlice, BreaksOff, NeedsMemory, IsEndless, IsLeft, HasRun, IsOutput, OnInput, OnStreamFault, totals_of}
+use Rattle.ether_capture.specs.FrameLoop.{Reached, TakesUnits, LeavesRest}
 use Rattle.ether_capture.specs.declared.outcome.RunFault.{RunFault}
-use Rattle.ether_capture.specs.declared.outcome.RunFault.TheVariants.{Capture, Input, Output}
+use Rattle.ether_capture.specs.declared.outcome.RunFault.TheVariants.{Capture, Input, Output, Memory}
 use Rattle.ether_capture.specs.declared.frame_loop.FrameLoop.{FrameLoop}
-use Rattle.ether_capture.proofs.PacketsLemmas.{IsSeen, IsSeen-fitting, refused_for_good, GoesOn-more, GoesOn-ended, refused_at_last, as_much_as_fits}
-use Rattle.ether_pcap.proofs.CaptureSeen.{passes_local}
+use Rattle.ether_capture.proofs.PacketsLemmas.{refused_for_good, GoesOn-ended, refused_at_last}
 
 -- ---- what is left
 
@@ -50,29 +47,17 @@ consumed_all before mid after input more h k none =
     subst (λ (bytes : List ℕ). Consumes before after bytes) (append-nil input)
     (subst (λ (bytes : List ℕ). Consumes before after (input ++ bytes)) (no_bytes more none) (Consumes-then before mid after input more h k))
 
-pub none_of : (o : Option ℕ) (b : Bool) → is_some o ≡ not b → b ≡ true → o ≡ None
-none_of None b e f = refl
-none_of (Some n) b e f = absurd cc
-
 -- the last read gave nothing
 pub same_left : (left more : List ℕ) → length more ≡ 0 → left ++ more ≡ left
 same_left left more none = ap (λ (l : List ℕ). left ++ l) (no_bytes more none) ∙ append-nil left
 
--- what is left fits too
-pub shorter : (bytes buffered left : List ℕ) (n : ℕ) → bytes ≡ buffered → left ≡ drop n buffered → length bytes ≤ room → length left ≤ room
-shorter bytes buffered left n same is fits =
-    let a = ap length same in
-    let b = ap length is in
-    let d = length-drop n buffered in
-    omega (arith, a, b, d, fits)
-
--- there is room for more
-pub not_full : (r : CaptureRefusal) (left : List ℕ) (b : Bool) → length left ≤ room → (IsTrue b ↔ IsFinal r left) → b ≡ false → length left < room
-not_full r left b fits means no_more =
-    elim (cases_lt (length left) room) [
-      | inl lt ↦ lt
-      | inr le ↦ let full : length left ≡ room = omega (arith, fits, le) in let t = means.1 (inr full) in absurd cc
-    ]
+-- there is room for more of a unit than is left
+pub has_room : (left : List ℕ) (x : Expectation) (r : CaptureRefusal) (n : ℕ) (held : List ℕ) (space : ℕ) → Refuses left x r → required_len r ≡ Some n
+    → held ≡ left → n ≤ space → length held < space
+has_room left x r n held space refused needs same fits =
+    let short = required_above left x r n refused needs in
+    let e = ap length same in
+    omega (arith, short, e, fits)
 
 -- ---- no bytes are refused for good
 
@@ -97,57 +82,27 @@ refused_nothing bytes x r e (block_refused order interfaces s other (block_rows.
 refused_nothing bytes x r e (block_refused order interfaces s other (block_rows.trailer m k le is sound whole at never)) none = let n = ap length e in omega (arith, le, n)
 refused_nothing bytes x r e (body_refused order interfaces b s other begins refused) none = let n = ap length e in let w = begins.whole in omega (arith, w, n)
 
--- ---- whether there is room
-
-not_needed : (x : Expectation) (bytes : List ℕ) (r : CaptureRefusal) → required_len r ≡ None → is_some (required_len r) ≡ lacks_room x bytes r
-not_needed x bytes r none = ap is_some none ∙ ap (λ (n : Option ℕ). is_some n && (not (passes_over x bytes) && not (nat_lt (length bytes) room))) (sym none)
-
-needed : (b : Bool) (x : Bool) (n : ℕ) → x ≡ false → room ≤ n → b ≡ (b && (not x && not (nat_lt n room)))
-needed true x n other full =
-    let long : nat_lt n room ≡ false = le-ltb n room full in
-    ap (λ (t : Bool). not t && not false) (sym other) ∙ ap (λ (t : Bool). not x && not t) (sym long)
-needed false x n other full = refl
-
-all_room : (x : Expectation) (buffered later : List ℕ) (r : CaptureRefusal) → length buffered ≡ room → passes_over x buffered ≡ false → is_some (required_len r) ≡ lacks_room x (buffered ++ later) r
-all_room x buffered later r full other =
-    needed (is_some (required_len r)) (passes_over x (buffered ++ later)) (length (buffered ++ later)) (passes_local buffered later x (omega (arith, full)) ∙ other)
-    (let n = length-append buffered later in omega (arith, n, full))
-
-no_need : (b x lt : Bool) → (lt ≡ true) ⊎ (x ≡ true) → false ≡ (b && (not x && not lt))
-no_need true true lt h = refl
-no_need true false true h = refl
-no_need true false false (inl e) = absurd (cc)
-no_need true false false (inr e) = absurd (cc)
-no_need false x lt h = refl
-
-more_room : (x : Expectation) (buffered : List ℕ) (r : CaptureRefusal) → (length buffered < room) ⊎ (passes_over x (buffered ++ []) ≡ true) → false ≡ lacks_room x (buffered ++ []) r
-more_room x buffered r (inl lt) =
-    no_need (is_some (required_len r)) (passes_over x (buffered ++ [])) (nat_lt (length (buffered ++ [])) room)
-    (inl (lt-ltb (length (buffered ++ [])) room (let n = ap length (append-nil buffered) in omega (arith, n, lt))))
-more_room x buffered r (inr passed) = no_need (is_some (required_len r)) (passes_over x (buffered ++ [])) (nat_lt (length (buffered ++ [])) room) (inr passed)
-
 -- ---- a run
 
 module _ {W : Type 0} (plain : Bool) (contents : W → Option (List ℕ)) where
   -- the units of what was buffered are taken
   pub units_left : (buffered bytes left : List ℕ) (old new : FrameLoop) (from to : OutputBuffer W) (n : ℕ) (error : CaptureError)
-      → bytes ≡ buffered → left ≡ drop n buffered → length bytes ≤ room → TakesUnits plain contents bytes old from n error new to → LeavesRest plain contents buffered old from left error new to
-  units_left buffered bytes left old new from to n error same is fits takes =
+      → bytes ≡ buffered → left ≡ drop n buffered → TakesUnits plain contents bytes old from n error new to → LeavesRest plain contents buffered old from left error new to
+  units_left buffered bytes left old new from to n error same is takes =
       let e : drop n bytes ≡ left = ap (drop n) same ∙ sym is in
       record {
         reached = λ held input so_far.
             subst (λ (l : List ℕ). Reached plain contents held input l new to) e
             (takes.reached held input (subst (λ (l : List ℕ). Reached plain contents held input l old from) (sym same) so_far));
         refused = subst (λ (l : List ℕ). Refuses l new.reader (capture_refusal_view error)) e takes.refused;
-        fits = shorter bytes buffered left n same is fits;
       }
 
   module _ (before after held : Option (List ℕ)) where
-    stops : (input buffered left : List ℕ) (at : FrameLoop) (out : OutputBuffer W) (error : CaptureError) (b : Bool) (fault : RunFault)
-        → fault ≡ Capture (record { offset = at.offset; error = error; is_above_room = b }) → b ≡ lacks_room at.reader (buffered ++ left) (capture_refusal_view error) → Consumes before after input → IsLeft after left
-        → ((packets : List PacketValue) → GoesOn input packets at.reader buffered → HasPackets room Beginning (input ++ left) packets (buffered ++ left) (Some (capture_refusal_view error)))
+    stops : (input buffered left : List ℕ) (at : FrameLoop) (out : OutputBuffer W) (error : CaptureError) (fault : RunFault)
+        → fault ≡ Capture (record { offset = at.offset; error = error }) → Consumes before after input → IsLeft after left
+        → ((packets : List PacketValue) → GoesOn input packets at.reader buffered → HasPackets Beginning (input ++ left) packets (buffered ++ left) (Some (capture_refusal_view error)))
         → Reached plain contents held input buffered at out → HasRun plain before after held (contents_of contents out) (Err fault)
-    stops input buffered left at out error b fault is no_room read is_left has so_far =
+    stops input buffered left at out error fault is read is_left has so_far =
         subst (λ (f : RunFault). HasRun plain before after held (contents_of contents out) (Err f)) (sym is) (record {
           taken = input;
           left = left;
@@ -159,59 +114,31 @@ module _ {W : Type 0} (plain : Bool) (contents : W → Option (List ℕ)) where
           read = read;
           is_left = is_left;
           has = has so_far.packets so_far.parts;
-          expected = at.reader;
-          parts = GoesOn-more input so_far.packets at.reader buffered left so_far.parts;
           place = ap (λ (l : List ℕ). l ++ left) so_far.place ∙ append_assoc so_far.front buffered left;
           is_offset = so_far.is_offset;
-          is_room = no_room;
           answered = so_far.answered;
           written = so_far.written;
         })
 
     -- a unit is refused, whatever follows
-    pub stopped_for_good : (input buffered : List ℕ) (at : FrameLoop) (out : OutputBuffer W) (error : CaptureError) (b : Bool) (fault : RunFault)
-        → fault ≡ Capture (record { offset = at.offset; error = error; is_above_room = b }) → b ≡ is_some (required_len (capture_refusal_view error)) → Consumes before after input → IsSeen at.reader buffered
+    pub stopped_for_good : (input buffered : List ℕ) (at : FrameLoop) (out : OutputBuffer W) (error : CaptureError) (fault : RunFault)
+        → fault ≡ Capture (record { offset = at.offset; error = error }) → Consumes before after input
         → Refuses buffered at.reader (capture_refusal_view error) → required_len (capture_refusal_view error) ≡ None
         → Reached plain contents held input buffered at out → HasRun plain before after held (contents_of contents out) (Err fault)
-    stopped_for_good input buffered at out error b fault is needs read front refused none so_far =
+    stopped_for_good input buffered at out error fault is read refused none so_far =
         let left : List ℕ = unwrap_or after [] in
-        let no_room : b ≡ lacks_room at.reader (buffered ++ left) (capture_refusal_view error) = needs ∙ not_needed at.reader (buffered ++ left) (capture_refusal_view error) none in
-        stops input buffered left at out error b fault is no_room read (IsLeft-left_of after)
-        (λ packets go. refused_for_good input packets at.reader buffered left (capture_refusal_view error) front (λ e. refused_nothing buffered at.reader (capture_refusal_view error) e refused none) refused none go) so_far
-
-    -- a unit that is not passed over needs more bytes than there is room for
-    stopped_for_room : (input buffered : List ℕ) (at : FrameLoop) (out : OutputBuffer W) (error : CaptureError) (b : Bool) (fault : RunFault)
-        → fault ≡ Capture (record { offset = at.offset; error = error; is_above_room = b }) → b ≡ is_some (required_len (capture_refusal_view error)) → Consumes before after input → length buffered ≡ room
-        → passes_over at.reader buffered ≡ false → Refuses buffered at.reader (capture_refusal_view error)
-        → Reached plain contents held input buffered at out → HasRun plain before after held (contents_of contents out) (Err fault)
-    stopped_for_room input buffered at out error b fault is needs read full other refused so_far =
-        let left : List ℕ = unwrap_or after [] in
-        let no_room : b ≡ lacks_room at.reader (buffered ++ left) (capture_refusal_view error) = needs ∙ all_room at.reader buffered left (capture_refusal_view error) full other in
-        stops input buffered left at out error b fault is no_room read (IsLeft-left_of after)
-        (λ packets go. refused_at_last input packets at.reader buffered left (capture_refusal_view error) (as_much_as_fits at.reader buffered left full other)
-        (λ end. let n = ap length end.1 in let m = length-append buffered left in omega (arith, full, n, m)) refused go) so_far
-
-    -- more bytes do not help
-    pub stopped : (input buffered : List ℕ) (at : FrameLoop) (out : OutputBuffer W) (error : CaptureError) (b : Bool) (fault : RunFault)
-        → fault ≡ Capture (record { offset = at.offset; error = error; is_above_room = b }) → b ≡ is_some (required_len (capture_refusal_view error)) → Consumes before after input → length buffered ≤ room
-        → Refuses buffered at.reader (capture_refusal_view error) → IsFinal (capture_refusal_view error) buffered
-        → (required_len (capture_refusal_view error) ≡ None) ⊎ (passes_over at.reader buffered ≡ false)
-        → Reached plain contents held input buffered at out → HasRun plain before after held (contents_of contents out) (Err fault)
-    stopped input buffered at out error b fault is needs read fits refused final (inl none) so_far =
-        stopped_for_good input buffered at out error b fault is needs read (IsSeen-fitting at.reader buffered fits) refused none so_far
-    stopped input buffered at out error b fault is needs read fits refused (inl none) (inr other) so_far =
-        stopped_for_good input buffered at out error b fault is needs read (IsSeen-fitting at.reader buffered fits) refused none so_far
-    stopped input buffered at out error b fault is needs read fits refused (inr full) (inr other) so_far =
-        stopped_for_room input buffered at out error b fault is needs read full other refused so_far
+        stops input buffered left at out error fault is read (IsLeft-left_of after)
+        (λ packets go. refused_for_good input packets at.reader buffered left (capture_refusal_view error)
+        (λ e. refused_nothing buffered at.reader (capture_refusal_view error) e refused none) refused none go) so_far
 
     -- the capture ends within a unit
     pub stopped_at_end : (input buffered : List ℕ) (at : FrameLoop) (out : OutputBuffer W) (error : CaptureError) (fault : RunFault)
-        → fault ≡ Capture (record { offset = at.offset; error = error; is_above_room = false }) → (length buffered < room) ⊎ (passes_over at.reader (buffered ++ []) ≡ true) → Consumes before after input → IsAtEnd after → seen room at.reader (buffered ++ []) ≡ buffered
+        → fault ≡ Capture (record { offset = at.offset; error = error }) → Consumes before after input → IsAtEnd after
         → ¬ (IsEnd at.reader buffered) → Refuses buffered at.reader (capture_refusal_view error)
         → Reached plain contents held input buffered at out → HasRun plain before after held (contents_of contents out) (Err fault)
-    stopped_at_end input buffered at out error fault is has_room read end whole more refused so_far =
-        stops input buffered [] at out error false fault is (more_room at.reader buffered (capture_refusal_view error) has_room) read (IsLeft-end after end)
-        (λ packets go. refused_at_last input packets at.reader buffered [] (capture_refusal_view error) whole (λ over. more (over.0, sym (append-nil buffered) ∙ over.1)) refused go) so_far
+    stopped_at_end input buffered at out error fault is read end more refused so_far =
+        stops input buffered [] at out error fault is read (IsLeft-end after end)
+        (λ packets go. refused_at_last input packets at.reader buffered (capture_refusal_view error) more refused go) so_far
 
     -- all packets are answered
     pub finished : (input buffered : List ℕ) (at : FrameLoop) (from to : OutputBuffer W) (r : Result Verdict RunFault)
@@ -236,11 +163,11 @@ module _ {W : Type 0} (plain : Bool) (contents : W → Option (List ℕ)) where
     finished input buffered at from to (Err fault) read end over is written failed so_far =
         subst (λ (f : RunFault). HasRun plain before after held (contents_of contents to) (Err f)) (sym failed) tt
 
-    -- a read fails
-    pub breaks_off : (input buffered : List ℕ) (at : FrameLoop) (out : OutputBuffer W) (reason : CaptureRefusal)
-        → Consumes before after input → Refuses buffered at.reader reason → required_len reason ≢ None
-        → Reached plain contents held input buffered at out → HasRun plain before after held (contents_of contents out) (Err Input)
-    breaks_off input buffered at out reason read refused unfinished so_far = record {
+    -- a unit is not whole
+    breaks_off : (Needs : Option ℕ → Type 0) (input buffered : List ℕ) (at : FrameLoop) (out : OutputBuffer W) (reason : CaptureRefusal)
+        → Consumes before after input → Refuses buffered at.reader reason → Needs (required_len reason)
+        → Reached plain contents held input buffered at out → BreaksOff Needs plain before after held (contents_of contents out)
+    breaks_off Needs input buffered at out reason read refused unfinished so_far = record {
       taken = input;
       packets = so_far.packets;
       expected = at.reader;
@@ -256,13 +183,23 @@ module _ {W : Type 0} (plain : Bool) (contents : W → Option (List ℕ)) where
       written = so_far.written;
     }
 
-    pub broken_off : (mid : Option (List ℕ)) (r : Result Verdict RunFault) (input buffered : List ℕ) (at : FrameLoop) (out : OutputBuffer W) (reason : CaptureRefusal) (b : Bool)
-        → Consumes before mid input → Keeps mid after → IsErrAnd r (λ fault. fault ≡ Input) → Refuses buffered at.reader reason → (IsTrue b ↔ IsFinal reason buffered) → b ≡ false
+    -- a read fails
+    pub broken_off : (mid : Option (List ℕ)) (r : Result Verdict RunFault) (input buffered : List ℕ) (at : FrameLoop) (out : OutputBuffer W) (reason : CaptureRefusal)
+        → Consumes before mid input → Keeps mid after → IsErrAnd r (λ fault. fault ≡ Input) → Refuses buffered at.reader reason → required_len reason ≢ None
         → Reached plain contents held input buffered at out → HasRun plain before after held (contents_of contents out) r
-    broken_off mid (Ok verdict) input buffered at out reason b read kept is refused means no_more so_far = absurd is
-    broken_off mid (Err fault) input buffered at out reason b read kept is refused means no_more so_far =
+    broken_off mid (Ok verdict) input buffered at out reason read kept is refused needed so_far = absurd is
+    broken_off mid (Err fault) input buffered at out reason read kept is refused needed so_far =
         subst (λ (f : RunFault). HasRun plain before after held (contents_of contents out) (Err f)) (sym is)
-        (breaks_off input buffered at out reason (Consumes-kept before mid after input read kept) refused (λ none. let t = means.1 (inl none) in absurd cc) so_far)
+        (breaks_off (λ n. n ≢ None) input buffered at out reason (Consumes-kept before mid after input read kept) refused needed so_far)
+
+    -- memory is refused
+    pub without_memory : (r : Result Verdict RunFault) (input buffered : List ℕ) (at : FrameLoop) (out : OutputBuffer W) (reason : CaptureRefusal) (n : ℕ)
+        → IsErrAnd r (λ fault. fault ≡ Memory) → Consumes before after input → Refuses buffered at.reader reason → required_len reason ≡ Some n → 65536 < n
+        → Reached plain contents held input buffered at out → HasRun plain before after held (contents_of contents out) r
+    without_memory (Ok verdict) input buffered at out reason n is read refused needs large so_far = absurd is
+    without_memory (Err fault) input buffered at out reason n is read refused needs large so_far =
+        subst (λ (f : RunFault). HasRun plain before after held (contents_of contents out) (Err f)) (sym is)
+        (breaks_off NeedsMemory input buffered at out reason read refused (subst NeedsMemory (sym needs) large) so_far)
 
     pub on_output : (to : OutputBuffer W) (fault : RunFault) → IsOutput fault → HasRun plain before after held (contents_of contents to) (Err fault)
     on_output to fault is = subst (λ (f : RunFault). HasRun plain before after held (contents_of contents to) (Err f)) (sym is) tt
@@ -272,6 +209,24 @@ module _ {W : Type 0} (plain : Bool) (contents : W → Option (List ℕ)) where
 appends_flushed : (held old new : Option (List ℕ)) (waited text : List ℕ) → Appends held (append_known old waited) text → Appends old new waited → Appends held new text
 appends_flushed held old new waited text h k =
     subst (λ (o : Option (List ℕ)). Appends held o text) (append_known_nil new) (Appends-written_out held old new waited [] text h k refl)
+
+BreaksOff-flushed : {W : Type 0} (Needs : Option ℕ → Type 0) (plain : Bool) (contents : W → Option (List ℕ)) (before after held : Option (List ℕ)) (from to : OutputBuffer W)
+    → WritesOut contents from to → BreaksOff Needs plain before after held (contents_of contents from) → BreaksOff Needs plain before after held (contents to.writer.now)
+BreaksOff-flushed Needs plain contents before after held from to drains h = record {
+  taken = h.taken;
+  packets = h.packets;
+  expected = h.expected;
+  buffered = h.buffered;
+  text = h.text;
+  all_accepted = h.all_accepted;
+  reason = h.reason;
+  read = h.read;
+  parts = h.parts;
+  begun = h.begun;
+  unfinished = h.unfinished;
+  answered = h.answered;
+  written = appends_flushed held (contents from.writer.now) (contents to.writer.now) from.waiting.items h.text h.written drains.written;
+}
 
 -- all that waited is passed to the writer
 pub HasRun-flushed : {W : Type 0} (plain : Bool) (contents : W → Option (List ℕ)) (before after held : Option (List ℕ)) (from to : OutputBuffer W) (r : Result Verdict RunFault)
@@ -299,30 +254,14 @@ HasRun-flushed plain contents before after held from to (Err (Capture fault)) dr
   read = h.read;
   is_left = h.is_left;
   has = h.has;
-  expected = h.expected;
-  parts = h.parts;
   place = h.place;
   is_offset = h.is_offset;
-  is_room = h.is_room;
   answered = h.answered;
   written = appends_flushed held (contents from.writer.now) (contents to.writer.now) from.waiting.items h.text h.written drains.written;
 }
-HasRun-flushed plain contents before after held from to (Err Input) drains h = record {
-  taken = h.taken;
-  packets = h.packets;
-  expected = h.expected;
-  buffered = h.buffered;
-  text = h.text;
-  all_accepted = h.all_accepted;
-  reason = h.reason;
-  read = h.read;
-  parts = h.parts;
-  begun = h.begun;
-  unfinished = h.unfinished;
-  answered = h.answered;
-  written = appends_flushed held (contents from.writer.now) (contents to.writer.now) from.waiting.items h.text h.written drains.written;
-}
+HasRun-flushed plain contents before after held from to (Err Input) drains h = BreaksOff-flushed _ plain contents before after held from to drains h
 HasRun-flushed plain contents before after held from to (Err Output) drains h = tt
+HasRun-flushed plain contents before after held from to (Err Memory) drains h = BreaksOff-flushed _ plain contents before after held from to drains h
 
 -- ---- when a stream has failed
 
@@ -332,6 +271,7 @@ on_input (Ok verdict) Q h = tt
 on_input (Err (Capture found)) Q h = tt
 on_input (Err Input) Q h = h
 on_input (Err Output) Q h = tt
+on_input (Err Memory) Q h = tt
 
 never_marked : {P : Type 0} (old new : Bool) → old ≡ false → (new ≡ true → (old ≡ true) ⊎ P) → new ≡ true → P
 never_marked old new fresh marks set = elim (marks set) [ inl before ↦ let e : true ≡ false = sym before ∙ fresh in absurd (cc) | inr failed ↦ failed ]
@@ -354,6 +294,7 @@ run_fails remaining can_read can_write (Err Input) input input' out out' before 
       read = subst (λ (o : Option (List ℕ)). Consumes o after taken) from (subst (λ (o : Option (List ℕ)). Consumes (remaining input.inner.now) o taken) to read);
       long = omega (arith, most, counted);
     })
+run_fails remaining can_read can_write (Err Memory) input input' out out' before after from to fresh most none failed cause marks = tt
 run_fails remaining can_read can_write (Err Output) input input' out out' before after from to fresh most none failed cause marks = never_marked out.has_failed out'.has_failed none marks.cause failed
 
 -- .. from a later place
@@ -362,6 +303,7 @@ pub later_input : {R : Type 0} (remaining : R → Option (List ℕ)) (can_fail :
 later_input remaining can_fail (Ok verdict) f old mid new on is why = tt
 later_input remaining can_fail (Err fault) (Capture found) old mid new on is why = subst (λ (g : RunFault). OnInput g (StopsReading remaining can_fail old new)) (sym is) tt
 later_input remaining can_fail (Err fault) Input old mid new on is why = subst (λ (g : RunFault). OnInput g (StopsReading remaining can_fail old new)) (sym is) (stops_later remaining can_fail old mid new on why)
+later_input remaining can_fail (Err fault) Memory old mid new on is why = subst (λ (g : RunFault). OnInput g (StopsReading remaining can_fail old new)) (sym is) tt
 later_input remaining can_fail (Err fault) Output old mid new on is why = subst (λ (g : RunFault). OnInput g (StopsReading remaining can_fail old new)) (sym is) tt
 
 -- what is said of known bytes is said of the same bytes
@@ -390,7 +332,7 @@ slice_answers plain can_fail bytes after held holds (Ok verdict) short h failed 
   h.packets,
   h.text,
   h.all_accepted,
-  subst (λ (l : List ℕ). HasPackets room Beginning l h.packets [] None) (whole_slice bytes h.input after h.read h.at_end) h.has,
+  subst (λ (l : List ℕ). HasPackets Beginning l h.packets [] None) (whole_slice bytes h.input after h.read h.at_end) h.has,
   h.answered,
   h.is_verdict,
   h.written,
@@ -403,18 +345,17 @@ slice_answers plain can_fail bytes after held holds (Err (Capture fault)) short 
       rest = h.rest;
       text = h.text;
       all_accepted = h.all_accepted;
-      has = subst (λ (l : List ℕ). HasPackets room Beginning l h.packets h.rest (Some (capture_refusal_view fault.error))) whole h.has;
-      expected = h.expected;
-      parts = subst (λ (l : List ℕ). GoesOn l h.packets h.expected h.rest) whole h.parts;
+      has = subst (λ (l : List ℕ). HasPackets Beginning l h.packets h.rest (Some (capture_refusal_view fault.error))) whole h.has;
       place = sym whole ∙ h.place;
       is_offset = h.is_offset;
-      is_room = h.is_room;
       answered = h.answered;
       written = h.written;
     }
 slice_answers plain can_fail bytes after held holds (Err Input) short h (inl never) = absurd never
 slice_answers plain can_fail bytes after held holds (Err Input) short h (inr endless) = absurd (not_endless bytes after short endless)
 slice_answers plain can_fail bytes after held holds (Err Output) short h failed = failed
+slice_answers plain can_fail bytes None held holds (Err Memory) short h failed = absurd h.read
+slice_answers plain can_fail bytes (Some left) held holds (Err Memory) short h failed = record { left = left; taken = h }
 
 pub slice_answered : (plain : Bool) (can_fail : Type 0) (bytes : List ℕ) (before after held holds : Option (List ℕ)) (r : Result Verdict RunFault)
     → before ≡ Some bytes → length bytes < 2 ^ 64 - 1 → HasRun plain before after held holds r

@@ -1,9 +1,8 @@
 -- How far a run has come.
-use Rattle.std.specs.Prelude.{◌≡◌, ◌≢◌, ◌⊎◌, true, ◌≤◌, ℕ, ◌+◌, List, ◌++◌, length, drop, Bool, Option, Some, None}
+use Rattle.std.specs.Prelude.{◌≡◌, ℕ, ◌+◌, List, ◌++◌, length, drop, Bool, Option, Some, None}
 use Rattle.std.specs.List.{sum_by}
-use Rattle.std.specs.Io.KnownBytes.{Appends, Consumes}
-use Rattle.ether_pcap.specs.Numbers.{Order}
-use Rattle.ether_pcap.specs.Capture.{PacketValue, Expectation, Beginning, section_order, passes_over, CaptureRefusal, Refuses, required_len}
+use Rattle.std.specs.Io.KnownBytes.{Appends}
+use Rattle.ether_pcap.specs.Capture.{PacketValue, Beginning, Refuses}
 use Rattle.ether_pcap.specs.CaptureViews.{capture_refusal_view}
 use Rattle.ether_pcap.specs.declared.capture_error.CaptureError.{CaptureError}
 use Rattle.ether_text.specs.OutputBuffer.{contents_of}
@@ -11,7 +10,7 @@ use Rattle.ether_text.specs.Verdict.{verdict_of, verdict_with}
 use Rattle.ether_text.specs.declared.output_buffer.OutputBuffer.{OutputBuffer}
 use Rattle.ether_text.specs.declared.verdict.Verdict.TheVariants.{AllAccepted}
 use Rattle.ether_capture.specs.FrameLines.{AnswersPacket, skip_count}
-use Rattle.ether_capture.specs.Packets.{room, counted, GoesOn}
+use Rattle.ether_capture.specs.Packets.{counted, GoesOn}
 use Rattle.ether_capture.specs.Run.{AreAnswered}
 use Rattle.ether_capture.specs.declared.frame_loop.FrameLoop.{FrameLoop}
 
@@ -60,23 +59,6 @@ pub record TakesUnits {W : Type 0} (plain : Bool) (contents : W → Option (List
 pub record LeavesRest {W : Type 0} (plain : Bool) (contents : W → Option (List ℕ)) (buffered : List ℕ) (old : FrameLoop) (from : OutputBuffer W) (left : List ℕ) (error : CaptureError) (new : FrameLoop) (to : OutputBuffer W) : Type 0 where
   pub reached : (held : Option (List ℕ)) (input : List ℕ) → Reached plain contents held input buffered old from → Reached plain contents held input left new to
   pub refused : Refuses left new.reader (capture_refusal_view error)
-  pub fits : length left ≤ room
-
--- more bytes do not help: the unit is refused whatever follows, or there is no room for more
-abbrev pub IsFinal : CaptureRefusal → (buffered : List ℕ) → Type 0
-IsFinal r buffered = (required_len r ≡ None) ⊎ (length buffered ≡ room)
-
--- a block of a section of this order is passed over that more bytes may make whole
-pub record PassesOver (order : Order) (x : Expectation) (buffered : List ℕ) (r : CaptureRefusal) : Type 0 where
-  pub section : section_order x ≡ Some order
-  pub passed : passes_over x buffered ≡ true
-  pub unfinished : required_len r ≢ None
-
--- From before to now the reader gave some bytes, of which the packets before the buffered ones are answered.
-pub record HasReached {W : Type 0} (plain : Bool) (contents : W → Option (List ℕ)) (before now held : Option (List ℕ)) (buffered : List ℕ) (at : FrameLoop) (out : OutputBuffer W) : Type 0 where
-  pub input : List ℕ
-  pub read : Consumes before now input
-  pub reached : Reached plain contents held input buffered at out
 
 -- nothing is read
 pub record IsStart (at : FrameLoop) : Type 0 where

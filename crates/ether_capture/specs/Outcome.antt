@@ -1,5 +1,5 @@
 -- How the program ends: what it prints last, and its exit status.
-use Rattle.std.specs.Prelude.{ℕ, List, [], ◌++◌, codes, Option, Some, None, Result, Ok, Err, Bool, true, false}
+use Rattle.std.specs.Prelude.{ℕ, List, ◌++◌, codes, Option, Some, None, Result, Ok, Err, Bool, true, false}
 use Rattle.std.specs.Fmt.{decimal}
 use Rattle.ether_pcap.specs.CaptureTexts.{capture_error_text}
 use Rattle.ether_text.specs.declared.verdict.Verdict.{Verdict}
@@ -9,7 +9,7 @@ use Rattle.ether_capture.specs.declared.outcome.CaptureFault.{CaptureFault}
 use Rattle.ether_capture.specs.declared.outcome.LastLine.{LastLine}
 use Rattle.ether_capture.specs.declared.outcome.LastLine.TheVariants as last_lines
 use Rattle.ether_capture.specs.declared.outcome.RunFault.{RunFault}
-use Rattle.ether_capture.specs.declared.outcome.RunFault.TheVariants.{Capture, Input, Output}
+use Rattle.ether_capture.specs.declared.outcome.RunFault.TheVariants.{Capture, Input, Output, Memory}
 
 -- the exit status of a run
 abbrev pub exit_status : Result Verdict RunFault → ℕ
@@ -18,17 +18,17 @@ exit_status (Ok SomeRefused) = 1
 exit_status (Err (Capture fault)) = 3
 exit_status (Err Input) = 4
 exit_status (Err Output) = 4
+exit_status (Err Memory) = 5
 
 abbrev pub usage_text : List ℕ
 usage_text = codes "usage: ether_capture [--plain] < capture"
 
--- what is said if there was no room for more of a unit
-abbrev pub room_text : Bool → List ℕ
-room_text true = codes " At most 73728 bytes are read at once."
-room_text false = []
+-- what is said if memory was refused
+abbrev pub memory_text : List ℕ
+memory_text = codes "out of memory"
 
 abbrev pub capture_fault_text : CaptureFault → List ℕ
-capture_fault_text fault = codes "byte " ++ (decimal fault.offset ++ (codes ": " ++ (capture_error_text fault.error ++ room_text fault.is_above_room)))
+capture_fault_text fault = codes "byte " ++ (decimal fault.offset ++ (codes ": " ++ capture_error_text fault.error))
 
 -- what the program prints last, without its line feed: the usage if the arguments are wrong
 abbrev pub last_text : Result (Result Verdict RunFault) Usage → Option (List ℕ)
@@ -37,6 +37,7 @@ last_text (Ok (Ok verdict)) = None
 last_text (Ok (Err (Capture fault))) = Some (capture_fault_text fault)
 last_text (Ok (Err Input)) = None
 last_text (Ok (Err Output)) = None
+last_text (Ok (Err Memory)) = Some memory_text
 
 -- the exit status of the program, by whether its last line was printed: if not, output failed
 abbrev pub status_of_program : Result (Result Verdict RunFault) Usage → (printed : Bool) → ℕ
@@ -47,3 +48,4 @@ status_of_program (Err usage) true = 2
 abbrev pub last_line_text : LastLine → List ℕ
 last_line_text last_lines.Usage = usage_text
 last_line_text (last_lines.Fault fault) = capture_fault_text fault.now
+last_line_text last_lines.Memory = memory_text

@@ -1,5 +1,5 @@
 -- What the program has read and written, and how it ends.
-use Rattle.std.specs.Prelude.{◌≡◌, ℕ, List, [], ◌++◌, codes, Option, Some, None, Result, Ok, Err, IfNone, Bool, true, IfErr, ⊤}
+use Rattle.std.specs.Prelude.{◌≡◌, ◌⊎◌, ℕ, List, [], ◌++◌, codes, Option, Some, None, Result, Ok, Err, IfNone, Bool, true, IfErr, ⊤}
 use Rattle.std.specs.Io.KnownBytes.{Appends}
 use Rattle.ether_text.specs.declared.verdict.Verdict.{Verdict}
 use Rattle.ether_capture.specs.Options.{NamesLines, NamesNothing}
@@ -7,12 +7,17 @@ use Rattle.ether_capture.specs.Run.{HasRun, OnStreamFault}
 use Rattle.ether_capture.specs.Outcome.{last_text, status_of_program}
 use Rattle.ether_capture.specs.declared.options.Usage.{Usage}
 use Rattle.ether_capture.specs.declared.outcome.RunFault.{RunFault}
-use Rattle.ether_capture.specs.declared.outcome.RunFault.TheVariants.{Input}
+use Rattle.ether_capture.specs.declared.outcome.RunFault.TheVariants.{Input, Memory}
+
+-- there is no memory to begin with
+abbrev pub HasNoMemory : (before after held holds : Option (List ℕ)) → Result Verdict RunFault → Type 0
+HasNoMemory before after held holds outcome = (outcome ≡ Err Memory) × (after ≡ before) × (holds ≡ held)
 
 -- The words say which lines are asked for, and these are written. Or they are wrong, or can't be read, which is a fault of the input: then
 -- nothing is read or written.
 abbrev pub HasObeyed : Option (List (List ℕ)) → (before after held holds : Option (List ℕ)) → Result (Result Verdict RunFault) Usage → Type 0
-HasObeyed (Some words) before after held holds (Ok outcome) = (plain : Bool) × NamesLines words plain × HasRun plain before after held holds outcome
+HasObeyed (Some words) before after held holds (Ok outcome) =
+    (plain : Bool) × NamesLines words plain × (HasRun plain before after held holds outcome ⊎ HasNoMemory before after held holds outcome)
 HasObeyed (Some words) before after held holds (Err usage) = NamesNothing words × (after ≡ before) × (holds ≡ held)
 HasObeyed None before after held holds outcome = (outcome ≡ Ok (Err Input)) × (after ≡ before) × (holds ≡ held)
 

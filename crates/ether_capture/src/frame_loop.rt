@@ -1,7 +1,7 @@
 //! How far a run has come.
 use crate::frame_lines::{is_skipped, write_packet, write_totals};
 use crate::outcome::{CaptureFault, RunFault};
-use ether_pcap::{ByteOrder, CaptureError, CaptureReader, CaptureUnit};
+use ether_pcap::{CaptureError, CaptureReader, CaptureUnit};
 use ether_text::{OutputBuffer, Sink, Verdict};
 
 /// Where the run is in the capture, and what the packets before gave.
@@ -15,15 +15,14 @@ pub struct FrameLoop {
 }
 
 impl FrameLoop {
-    ghost use Rattle.std.specs.Prelude.{◌≡◌, ◌≢◌, ◌+◌, ◌≤◌, ◌↔◌, IsTrue, length, IfOk, IfErr, OnOk, true, false, Option, None, ◌⊎◌, MatchOption};
+    ghost use Rattle.std.specs.Prelude.{◌≡◌, ◌≢◌, ◌≤◌, ◌↔◌, IsTrue, length, IfOk, IfErr, OnOk, true};
     ghost use Rattle.std.specs.Option.{option_map};
-    ghost use Rattle.ether_pcap.specs.Views.{order_of};
-    ghost use Rattle.ether_pcap.specs.CaptureViews.{captured_packet_view, capture_refusal_view};
+    ghost use Rattle.ether_pcap.specs.CaptureViews.{captured_packet_view};
     ghost use Rattle.std.specs.Io.KnownBytes.{Appends};
-    ghost use Rattle.ether_pcap.specs.Capture.{Beginning, required_len, passes_over};
+    ghost use Rattle.ether_pcap.specs.Capture.{Beginning};
     ghost use Rattle.ether_text.specs.OutputBuffer.{contents_of, Marks};
-    ghost use Rattle.ether_capture.specs.FrameLoop.{IsStart, TakesUnit, TakesUnits, PassesOver};
-    ghost use Rattle.ether_capture.specs.Packets.{room, counted};
+    ghost use Rattle.ether_capture.specs.FrameLoop.{IsStart, TakesUnit, TakesUnits};
+    ghost use Rattle.ether_capture.specs.Packets.{counted};
     ghost use Rattle.ether_capture.specs.FrameLines.{totals_line_if};
     ghost use Rattle.ether_capture.specs.Run.{IsOutput};
 
@@ -48,7 +47,6 @@ impl FrameLoop {
         bytes: &[u8],
         out: &mut OutputBuffer<'_, W>,
     ) -> Result<(usize, CaptureError), RunFault>
-        requires { length bytes.now ≤ room }
         ensures same_writer { out.new.writer.ghost_name ≡ out.old.writer.ghost_name }
         ensures within { IfOk result (λ found. found.0 ≤ length bytes.now) }
         ensures ok { IfOk result (λ found. TakesUnits is_plain W.contents bytes.now
@@ -95,34 +93,14 @@ impl FrameLoop {
         Ok(())
     }
 
-    /// The byte order of the section, if the bytes begin with a block that is passed over, and more bytes may make it whole.
-    pub fn passed_over(&self, error: &CaptureError, bytes: &[u8]) -> Option<ByteOrder>
-        ensures { MatchOption result
-            ((required_len (capture_refusal_view error.now) ≡ None) ⊎ (passes_over self.now.reader bytes.now ≡ false))
-            (λ order. PassesOver (order_of order) self.now.reader bytes.now (capture_refusal_view error.now)) }
-    {
-        if error.required_len().is_none() || !self.reader.passes_over(bytes) {
-            return None;
-        }
-        self.reader.byte_order()
-    }
-
-    /// Counts a block of this length that is passed over.
-    pub fn pass_over(&mut self, len: usize)
-        ensures { self.new ≡ record self.old { offset = counted (self.old.offset + len) } }
-    {
-        self.offset = self.offset.saturating_add(len);
-    }
-
-    /// Why the run stops if the unit at its place can't be read, be it that there is no room for more of it.
-    pub fn fault(&self, error: CaptureError, is_above_room: bool) -> RunFault
+    /// Why the run stops if the unit at its place can't be read.
+    pub fn fault(&self, error: CaptureError) -> RunFault
         ensures { result ≡ RunFault.Capture
-            (record { offset = self.now.offset; error = error; is_above_room = is_above_room }) }
+            (record { offset = self.now.offset; error = error }) }
     {
         RunFault::Capture(CaptureFault {
             offset: self.offset,
             error,
-            is_above_room,
         })
     }
 

@@ -1,45 +1,54 @@
 //! The bytes of the capture that were read and are not taken yet.
-ghost use Rattle.std.specs.Prelude.{◌≡◌, ◌+◌, ◌-◌, ◌≤◌, ◌<◌, List, ℕ, [], ◌++◌, length, drop, IfOk, OnOk, OnErr};
+ghost use Rattle.std.specs.Prelude.{◌≡◌, ◌+◌, ◌≤◌, ◌<◌, List, ℕ, [], ◌++◌, length, take, drop, slice_range, true, false, IfOk, OnOk, OnErr};
 ghost use Rattle.std.specs.Io.KnownBytes.{Keeps, Consumes, IsAtEnd};
-ghost use Rattle.ether_text.specs.InputReader.{HasCause, ReadsOn, StopsReading};
-ghost use Rattle.ether_capture.specs.Packets.{room};
+ghost use Rattle.ether_text.specs.InputReader.{HasCause, ReadsOn};
 
 use ether_text::{InputFault, InputReader, OutputBuffer, Sink, Source};
+use std::alloc::{AllocError, Global};
 
-/// The room for a file header, a record or a block. A block that is passed over may be longer.
-pub const ROOM: usize = 73_728;
+/// How many bytes an [`InputBuffer`] has room for at first.
+const FIRST_ROOM: usize = 65_536;
 
-/// Bytes of the input in a buffer of fixed size.
+/// Bytes of the input, in memory that grows to what a file header, a record or a block needs.
 #[derive(Drop)]
 pub struct InputBuffer {
-    bytes: [u8; ROOM],
+    bytes: Vec<u8>,
     start: usize,
     end: usize,
     ghost ordered: { start ≤ end },
-    ghost within: { end ≤ 73728 },
+    ghost within: { end ≤ length bytes.items },
+    ghost least: { 65536 ≤ length bytes.items },
 }
 
 impl InputBuffer {
-    ghost use Rattle.std.specs.Prelude.{true};
-    ghost use Rattle.ether_capture.specs.InputBuffer.{items};
+    ghost use Rattle.ether_capture.specs.InputBuffer.{items, room};
 
-    /// A buffer with no bytes.
-    pub fn new() -> Self
-        ensures { items result ≡ [] }
+    /// A buffer with no bytes, and room for 65,536.
+    pub fn new(alloc: Global) -> Result<Self, AllocError>
+        ensures { IfOk result (λ buffer. items buffer ≡ []) }
     {
-        InputBuffer {
-            bytes: [0; ROOM],
+        let mut bytes = Vec::new(alloc);
+        bytes.resize(FIRST_ROOM, 0)?;
+        Ok(InputBuffer {
+            bytes,
             start: 0,
             end: 0,
-        }
+        })
+    }
+
+    /// Takes all bytes.
+    pub fn clear(&mut self)
+        ensures { items self.new ≡ [] }
+    {
+        self.start = 0;
+        self.end = 0;
     }
 
     /// The bytes that are not taken yet.
     pub fn as_slice(&self) -> &[u8]
-        ensures value { result.now ≡ items self.now }
-        ensures fits { length result.now ≤ room }
+        ensures { result.now ≡ items self.now }
     {
-        &self.bytes[self.start..self.end]
+        &self.bytes.as_slice()[self.start..self.end]
     }
 
     /// The number of bytes that are not taken yet.
@@ -57,13 +66,26 @@ impl InputBuffer {
         self.start += count;
     }
 
+    /// Makes room for a unit of `len` bytes.
+    pub fn make_room(&mut self, len: usize) -> Result<(), AllocError>
+        ensures items { items self.new ≡ items self.old }
+        ensures room { OnOk result (len ≤ room self.new) }
+        ensures failed { OnErr result (65536 < len) }
+    {
+        if self.bytes.len() < len {
+            self.bytes.resize(len, 0)?;
+        }
+        Ok(())
+    }
+
     /// Moves the bytes to the front, so that all the room that is left is after them.
     fn move_to_front(&mut self)
         ensures items { items self.new ≡ items self.old }
         ensures start { self.new.start ≡ 0 }
+        ensures room { room self.new ≡ room self.old }
     {
         let (start, end) = (self.start, self.end);
-        self.bytes.copy_within(start..end, 0);
+        self.bytes.as_mut_slice().copy_within(start..end, 0);
         self.start = 0;
         self.end = end - start;
     }
@@ -81,7 +103,7 @@ impl InputBuffer {
         ensures ok { IfOk result (λ n. (more : List ℕ) × (length more ≡ n) × (items self.new ≡ items self.old ++ more)
             × Consumes (R.remaining input.old.inner.now) (R.remaining input.new.inner.now) more) }
         ensures end { IfOk result
-            (λ n. n ≡ 0 → length (items self.old) < room → IsAtEnd (R.remaining input.new.inner.now)) }
+            (λ n. n ≡ 0 → length (items self.old) < room self.old → IsAtEnd (R.remaining input.new.inner.now)) }
         ensures left { OnOk result (input.new.reads_left + 1 ≡ input.old.reads_left) }
         ensures failed { OnErr result (input.new.has_failed ≡ true) }
         ensures kept { OnErr result
@@ -92,50 +114,35 @@ impl InputBuffer {
     {
         self.move_to_front();
         let end = self.end;
-        let count = input.read(&mut self.bytes[end..], out)?;
+        let count = read_after(end, self.bytes.as_mut_slice(), input, out)?;
         self.end = end + count;
         Ok(count)
     }
+}
 
-    /// Takes the next `len` bytes but for the last four, and reads on until these four are in the buffer. Returns how many of the `len`
-    /// bytes are missing if the input ends before, and else 0.
-    ///
-    /// No text may wait in `out`.
-    pub fn pass_over<R: Source, W: Sink>(
-        &mut self,
-        len: usize,
-        input: &mut InputReader<'_, R>,
-        out: &OutputBuffer<'_, W>,
-    ) -> Result<usize, InputFault>
-        requires least { 4 ≤ len }
-        requires none_waits { out.now.waiting.items ≡ [] }
-        ensures same_reader { input.new.inner.ghost_name ≡ input.old.inner.ghost_name }
-        ensures ok { IfOk result (λ missing. (more : List ℕ)
-            × Consumes (R.remaining input.old.inner.now) (R.remaining input.new.inner.now) more
-            × (missing ≡ len - length (items self.old ++ more))
-            × (missing ≡ 0 → items self.new ≡ drop (len - 4) (items self.old ++ more))) }
-        ensures end { IfOk result (λ missing. 0 < missing → IsAtEnd (R.remaining input.new.inner.now)) }
-        ensures left { OnOk result
-            (length (items self.old) < len → input.new.reads_left < input.old.reads_left) }
-        ensures failed { OnErr result (input.new.has_failed ≡ true) }
-        ensures kept { OnErr result ((more : List ℕ)
-            × Consumes (R.remaining input.old.inner.now) (R.remaining input.new.inner.now) more
-            × (length (items self.old ++ more) < len)) }
-        ensures on { IfOk result (λ missing. missing ≡ 0 → ReadsOn R.remaining input.old input.new) }
-        ensures cause { OnErr result (StopsReading R.remaining R.can_fail input.old input.new) }
-    {
-        let mut left = len - 4;
-        loop {
-            let count = left.min(self.len());
-            self.consume(count);
-            left -= count;
-            let missing = (left + 4).saturating_sub(self.len());
-            if missing == 0 {
-                return Ok(0);
-            }
-            if self.read(input, out)? == 0 {
-                return Ok(missing);
-            }
-        }
-    }
+/// Reads some bytes to the place `end` of a slice, and returns their number. What stands before stays.
+fn read_after<R: Source, W: Sink>(
+    end: usize,
+    bytes: &mut [u8],
+    input: &mut InputReader<'_, R>,
+    out: &OutputBuffer<'_, W>,
+) -> Result<usize, InputFault>
+    requires within { end ≤ length bytes.old }
+    requires none_waits { out.now.waiting.items ≡ [] }
+    ensures same_reader { input.new.inner.ghost_name ≡ input.old.inner.ghost_name }
+    ensures len { length bytes.new ≡ length bytes.old }
+    ensures before { take end bytes.new ≡ take end bytes.old }
+    ensures bound { IfOk result (λ n. end + n ≤ length bytes.new) }
+    ensures read { IfOk result (λ n. Consumes (R.remaining input.old.inner.now) (R.remaining input.new.inner.now)
+        (slice_range bytes.new end (end + n))) }
+    ensures end { IfOk result
+        (λ n. n ≡ 0 → end < length bytes.new → IsAtEnd (R.remaining input.new.inner.now)) }
+    ensures left { OnOk result (input.new.reads_left + 1 ≡ input.old.reads_left) }
+    ensures going { OnOk result (input.new.has_failed ≡ false) }
+    ensures failed { OnErr result (input.new.has_failed ≡ true) }
+    ensures kept { OnErr result
+        (Keeps (R.remaining input.old.inner.now) (R.remaining input.new.inner.now)) }
+    ensures cause { OnErr result (HasCause R.can_fail out.now input.old input.new) }
+{
+    input.read(&mut bytes[end..], out)
 }

@@ -6,7 +6,7 @@
 
 mod frame_lines;
 mod frame_loop;
-mod input_buffer;
+pub mod input_buffer;
 pub mod options;
 pub mod outcome;
 pub mod program;
@@ -17,6 +17,11 @@ use std::{env, io};
 
 /// The program on the standard streams.
 fn main(rt: HostRuntime) -> ExitCode {
-    let status = program::program(env::args(&rt), &mut rt.reader(), &mut io::writer(&rt));
+    let status = program::program(
+        env::args(&rt),
+        rt.alloc(),
+        &mut rt.reader(),
+        &mut io::writer(&rt),
+    );
     ExitCode::from(status)
 }

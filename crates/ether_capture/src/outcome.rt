@@ -6,6 +6,7 @@ ghost use Rattle.ether_capture.specs.Outcome.{exit_status, last_line_text, last_
 use crate::options::Usage;
 use ether_pcap::CaptureError;
 use ether_text::{InputFault, OutputFault, Verdict};
+use std::alloc::AllocError;
 use std::fmt;
 
 /// Why the packets of a capture end before its end, and where.
@@ -15,8 +16,6 @@ pub struct CaptureFault {
     pub offset: usize,
     /// Why it can't be read.
     pub error: CaptureError,
-    /// Whether there was no room for more of it, which might have made it whole.
-    pub is_above_room: bool,
 }
 
 impl fmt::Display for CaptureFault {
@@ -28,14 +27,7 @@ impl fmt::Display for CaptureFault {
     fn fmt<W: fmt::Write>(&self, f: &mut fmt::Formatter<W>) -> fmt::Result {
         let offset = self.offset;
         let error = &self.error;
-        if self.is_above_room {
-            write!(
-                f,
-                "byte {offset}: {error} At most 73728 bytes are read at once."
-            )
-        } else {
-            write!(f, "byte {offset}: {error}")
-        }
+        write!(f, "byte {offset}: {error}")
     }
 }
 
@@ -48,6 +40,8 @@ pub enum RunFault {
     Input,
     /// The writer failed.
     Output,
+    /// Memory for a record or block was refused.
+    Memory,
 }
 
 impl From<InputFault> for RunFault {
@@ -70,6 +64,16 @@ impl From<OutputFault> for RunFault {
     }
 }
 
+impl From<AllocError> for RunFault {
+    ghost use Rattle.ether_capture.specs.declared.outcome.RunFault.TheVariants.{Memory};
+
+    ghost from_gives = { λ _ fault. fault ≡ Memory };
+
+    fn from(_fault: AllocError) -> RunFault {
+        RunFault::Memory
+    }
+}
+
 /// The exit status of a run.
 pub fn status_of(outcome: &Result<Verdict, RunFault>) -> u8
     ensures { result ≡ exit_status outcome.now }
@@ -79,6 +83,7 @@ pub fn status_of(outcome: &Result<Verdict, RunFault>) -> u8
         Ok(Verdict::SomeRefused) => 1,
         Err(RunFault::Capture(_)) => 3,
         Err(RunFault::Input | RunFault::Output) => 4,
+        Err(RunFault::Memory) => 5,
     }
 }
 
@@ -95,6 +100,8 @@ pub enum LastLine<'a> {
     Usage,
     /// The capture can't be read further.
     Fault(&'a CaptureFault),
+    /// Memory was refused.
+    Memory,
 }
 
 impl fmt::Display for LastLine<'_> {
@@ -107,6 +114,7 @@ impl fmt::Display for LastLine<'_> {
         match self {
             LastLine::Usage => write!(f, "{USAGE}"),
             LastLine::Fault(fault) => write!(f, "{fault}"),
+            LastLine::Memory => f.write_str("out of memory"),
         }
     }
 }
@@ -117,6 +125,7 @@ pub fn last_line(outcome: &Outcome) -> Option<LastLine<'_>>
 {
     match outcome {
         Ok(Err(RunFault::Capture(fault))) => Some(LastLine::Fault(fault)),
+        Ok(Err(RunFault::Memory)) => Some(LastLine::Memory),
         Ok(_) => None,
         Err(Usage) => Some(LastLine::Usage),
     }

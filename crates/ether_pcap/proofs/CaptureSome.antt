@@ -15,12 +15,11 @@ use Rattle.ether_pcap.specs.Section.{SectionRefusal, section_type, HasSectionTyp
 use Rattle.ether_pcap.specs.Section as section_rows
 use Rattle.ether_pcap.specs.Bodies.{BodyRefusal, InterfaceValue, IsInterface, RefusesInterface, EnhancedPacketValue, IsEnhancedPacket, RefusesEnhancedPacket, SimplePacketValue, IsSimplePacket, RefusesSimplePacket, captured_by}
 use Rattle.ether_pcap.specs.Bodies as body_rows
-use Rattle.ether_pcap.specs.Capture.{PacketValue, packet_of_record, CaptureInterfaceValue, described_by, Describes, IsAt, max_interfaces, Expectation, Beginning, Records, Blocks, BlockKind, InterfaceDescription, SimplePacket, EnhancedPacket, Other, kind_of_block, IsBody, CaptureRefusal, File, Record, Section, Block, Body, NoInterface, TooManyInterfaces, RefusesBody, interface, too_many, simple_alone, simple, enhanced, enhanced_alone, Begins, file_header, file_record, first_section, section, block, Refuses, file_header_refused, file_record_refused, first_section_refused, section_refused, block_refused, body_refused, IsEnd, seen, ended, refused, unit, packet}
+use Rattle.ether_pcap.specs.Capture.{PacketValue, packet_of_record, CaptureInterfaceValue, described_by, Describes, IsAt, max_interfaces, Expectation, Beginning, Records, Blocks, BlockKind, InterfaceDescription, SimplePacket, EnhancedPacket, Other, kind_of_block, IsBody, CaptureRefusal, File, Record, Section, Block, Body, NoInterface, TooManyInterfaces, RefusesBody, interface, too_many, simple_alone, simple, enhanced, enhanced_alone, Begins, file_header, file_record, first_section, section, block, Refuses, file_header_refused, file_record_refused, first_section_refused, section_refused, block_refused, body_refused, IsEnd, ended, refused, unit, packet}
 use Rattle.ether_pcap.specs.CaptureLaws.{Packets}
 use Rattle.ether_pcap.proofs.Blocks.{whole_block}
 use Rattle.ether_pcap.proofs.Options.{some_options}
 use Rattle.ether_pcap.proofs.CaptureLengths.{unit_within, unit_some}
-use Rattle.ether_pcap.proofs.CaptureSeen.{seen_within}
 
 -- ---- file headers
 
@@ -330,27 +329,27 @@ at_end (Records h) (b ∷ bytes) = inr (λ e. let n = e.1 in absurd cc)
 at_end (Blocks order interfaces) [] = inl (λ e. absurd cc, refl)
 at_end (Blocks order interfaces) (b ∷ bytes) = inr (λ e. let n = e.1 in absurd cc)
 
-goes_on : (room : ℕ) (x y : Expectation) (bytes : List ℕ) (len : ℕ) (p : Option PacketValue) → Begins (seen room x bytes) x len p y → Packets room y (drop len bytes) → Packets room x bytes
-goes_on room x y bytes len None begins c = record { packets = c.packets; rest = c.rest; fault = c.fault; has = unit x y bytes len c.packets c.rest c.fault begins c.has }
-goes_on room x y bytes len (Some p) begins c = record { packets = p ∷ c.packets; rest = c.rest; fault = c.fault; has = packet x y bytes len p c.packets c.rest c.fault begins c.has }
+goes_on : (x y : Expectation) (bytes : List ℕ) (len : ℕ) (p : Option PacketValue) → Begins bytes x len p y → Packets y (drop len bytes) → Packets x bytes
+goes_on x y bytes len None begins c = record { packets = c.packets; rest = c.rest; fault = c.fault; has = unit x y bytes len c.packets c.rest c.fault begins c.has }
+goes_on x y bytes len (Some p) begins c = record { packets = p ∷ c.packets; rest = c.rest; fault = c.fault; has = packet x y bytes len p c.packets c.rest c.fault begins c.has }
 
-step : (room : ℕ) (x : Expectation) (bytes : List ℕ)
-    → ((y : Expectation) (len : ℕ) → 0 < len → len ≤ length bytes → Packets room y (drop len bytes)) → Packets room x bytes
-step room x bytes more =
+step : (x : Expectation) (bytes : List ℕ)
+    → ((y : Expectation) (len : ℕ) → 0 < len → len ≤ length bytes → Packets y (drop len bytes)) → Packets x bytes
+step x bytes more =
     elim (at_end x bytes) [
       | inl end ↦ record { packets = []; rest = []; fault = None; has = ended x bytes end }
-      | inr some ↦ elim (some_unit x (seen room x bytes)) [
+      | inr some ↦ elim (some_unit x bytes) [
         | inr r ↦ record { packets = []; rest = bytes; fault = Some r.0; has = refused x bytes r.0 some r.1 }
         | inl u ↦
-            let w = unit_within (seen room x bytes) x u.2 u.0 u.1 u.3 in
-            goes_on room x u.2 bytes u.0 u.1 u.3 (more u.2 u.0 (unit_some (seen room x bytes) x u.2 u.0 u.1 u.3) (omega (arith, w, seen_within room x bytes)))
+            let w = unit_within bytes x u.2 u.0 u.1 u.3 in
+            goes_on x u.2 bytes u.0 u.1 u.3 (more u.2 u.0 (unit_some bytes x u.2 u.0 u.1 u.3) (omega (arith, w)))
       ]
     ]
 
-within : (fuel room : ℕ) (x : Expectation) (bytes : List ℕ) → length bytes ≤ fuel → Packets room x bytes
-within zero room x bytes le = step room x bytes (λ y len some small. absurd (omega arith))
-within (suc fuel) room x bytes le =
-    step room x bytes (λ y len some small. within fuel room y (drop len bytes) (let l = length-drop len bytes in omega (arith, l, le, some, small)))
+within : (fuel : ℕ) (x : Expectation) (bytes : List ℕ) → length bytes ≤ fuel → Packets x bytes
+within zero x bytes le = step x bytes (λ y len some small. absurd (omega arith))
+within (suc fuel) x bytes le =
+    step x bytes (λ y len some small. within fuel y (drop len bytes) (let l = length-drop len bytes in omega (arith, l, le, some, small)))
 
-pub some_packets : (room : ℕ) (x : Expectation) (bytes : List ℕ) → Packets room x bytes
-some_packets room x bytes = within (length bytes) room x bytes (omega arith)
+pub some_packets : (x : Expectation) (bytes : List ℕ) → Packets x bytes
+some_packets x bytes = within (length bytes) x bytes (omega arith)

@@ -8,8 +8,6 @@ mod Captures
 mod CaptureTimes
 pub mod CaptureLengths
 pub mod CaptureLocality
-pub mod CaptureSeen
-pub mod CapturePassed
 pub mod CapturesOne
 pub mod CapturePackets
 pub mod CaptureSome

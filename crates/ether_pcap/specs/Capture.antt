@@ -1,6 +1,6 @@
 -- A capture file of either format, from its beginning to its end: the file header and the records of a classic file, or the blocks
 -- of a pcapng file (draft-ietf-opsawg-pcap, section 3; draft-ietf-opsawg-pcapng, section 3).
-use Rattle.std.specs.Prelude.{◌≡◌, ◌≢◌, ℕ, ◌+◌, ◌-◌, ◌*◌, ◌/◌, ◌%◌, ◌^◌, ◌<◌, ◌≤◌, List, [], ◌∷◌, ◌++◌, length, take, drop, Bool, Option, Some, None, is_some, nat_lt, nat_le, nat_eq, not, ◌&&◌, true, false, slice_range, if◌then◌else◌}
+use Rattle.std.specs.Prelude.{◌≡◌, ◌≢◌, ℕ, ◌+◌, ◌-◌, ◌*◌, ◌/◌, ◌%◌, ◌^◌, ◌<◌, ◌≤◌, List, [], ◌∷◌, ◌++◌, length, drop, Bool, Option, Some, None, is_some, nat_lt, nat_eq, true, false, slice_range, if◌then◌else◌}
 use Rattle.ether_base.specs.Bytes.{number}
 use Rattle.ether_pcap.specs.Numbers.{Order, field}
 use Rattle.ether_pcap.specs.FileHeader.{FileHeaderValue, IsFileHeader, FileRefusal, RefusesFile}
@@ -101,12 +101,6 @@ pub data Expectation : Type 0 where
   Records : FileHeaderValue → Expectation
   Blocks : Order → List CaptureInterfaceValue → Expectation
 
--- the byte order of the section, if there is one
-abbrev pub section_order : Expectation → Option Order
-section_order Beginning = None
-section_order (Records h) = None
-section_order (Blocks order interfaces) = Some order
-
 -- what is read of a block, by its type; nothing of the packet block of type 2, which is obsolete (appendix A)
 pub data BlockKind : Type 0 where
   InterfaceDescription : BlockKind
@@ -186,31 +180,11 @@ required_len _ = None
 abbrev pub IsEnd : Expectation → List ℕ → Type 0
 IsEnd x bytes = (x ≢ Beginning) × (bytes ≡ [])
 
--- the body of the block is not read
-abbrev pub is_other : BlockKind → Bool
-is_other InterfaceDescription = false
-is_other SimplePacket = false
-is_other EnhancedPacket = false
-is_other Other = true
-
--- The bytes begin with a block of a section that is passed over: by its type it is no section header, and its body is not read.
-abbrev pub passes_over : Expectation → List ℕ → Bool
-passes_over Beginning bytes = false
-passes_over (Records h) bytes = false
-passes_over (Blocks order interfaces) bytes =
-    nat_le 4 (length bytes) && (not (nat_eq (number (slice_range bytes 0 4)) section_type) && is_other (kind_of_block (field order bytes 0 4)))
-
--- What is seen of the bytes when a unit is read: as many as there is room for, or all of them if they begin with a block that is
--- passed over. Such a block may be as long as the format allows.
-abbrev pub seen : (room : ℕ) → Expectation → List ℕ → List ℕ
-seen room x bytes = if passes_over x bytes then bytes else take room bytes
-
--- The packets of the bytes from a place on, where this is expected, if each unit is read from what is seen with this room; what is left
--- after them is nothing, or refused.
-pub data HasPackets (room : ℕ) : Expectation → List ℕ → List PacketValue → (rest : List ℕ) → Option CaptureRefusal → Type 0 where
-  ended : (x : Expectation) (bytes : List ℕ) → IsEnd x bytes → HasPackets room x bytes [] [] None
-  refused : (x : Expectation) (bytes : List ℕ) (r : CaptureRefusal) → ¬ (IsEnd x bytes) → Refuses (seen room x bytes) x r → HasPackets room x bytes [] bytes (Some r)
-  unit : (x y : Expectation) (bytes : List ℕ) (len : ℕ) (packets : List PacketValue) (rest : List ℕ) (fault : Option CaptureRefusal) → Begins (seen room x bytes) x len None y
-      → HasPackets room y (drop len bytes) packets rest fault → HasPackets room x bytes packets rest fault
-  packet : (x y : Expectation) (bytes : List ℕ) (len : ℕ) (p : PacketValue) (packets : List PacketValue) (rest : List ℕ) (fault : Option CaptureRefusal) → Begins (seen room x bytes) x len (Some p) y
-      → HasPackets room y (drop len bytes) packets rest fault → HasPackets room x bytes (p ∷ packets) rest fault
+-- The packets of the bytes from a place on, where this is expected; what is left after them is nothing, or refused.
+pub data HasPackets : Expectation → List ℕ → List PacketValue → (rest : List ℕ) → Option CaptureRefusal → Type 0 where
+  ended : (x : Expectation) (bytes : List ℕ) → IsEnd x bytes → HasPackets x bytes [] [] None
+  refused : (x : Expectation) (bytes : List ℕ) (r : CaptureRefusal) → ¬ (IsEnd x bytes) → Refuses bytes x r → HasPackets x bytes [] bytes (Some r)
+  unit : (x y : Expectation) (bytes : List ℕ) (len : ℕ) (packets : List PacketValue) (rest : List ℕ) (fault : Option CaptureRefusal) → Begins bytes x len None y
+      → HasPackets y (drop len bytes) packets rest fault → HasPackets x bytes packets rest fault
+  packet : (x y : Expectation) (bytes : List ℕ) (len : ℕ) (p : PacketValue) (packets : List PacketValue) (rest : List ℕ) (fault : Option CaptureRefusal) → Begins bytes x len (Some p) y
+      → HasPackets y (drop len bytes) packets rest fault → HasPackets x bytes (p ∷ packets) rest fault

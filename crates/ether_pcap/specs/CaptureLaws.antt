@@ -21,15 +21,15 @@ pub record UnitsAreOne : Type 0 where
   pub apart : (bytes : List ℕ) (x y : Expectation) (len : ℕ) (p : Option PacketValue) (r : CaptureRefusal) → IsBytes bytes → Begins bytes x len p y → Refuses bytes x r → ⊥
   pub refused : (bytes : List ℕ) (x : Expectation) (r s : CaptureRefusal) → IsBytes bytes → Refuses bytes x r → Refuses bytes x s → r ≡ s
 
--- the packets of bytes if there is room for so many bytes of a unit, and what is left after them
-pub record Packets (room : ℕ) (x : Expectation) (bytes : List ℕ) : Type 0 where
+-- the packets of bytes, and what is left after them
+pub record Packets (x : Expectation) (bytes : List ℕ) : Type 0 where
   pub packets : List PacketValue
   pub rest : List ℕ
   pub fault : Option CaptureRefusal
-  pub has : HasPackets room x bytes packets rest fault
+  pub has : HasPackets x bytes packets rest fault
 
--- any bytes have packets, in one way, with each room for a unit
+-- any bytes have packets, in one way
 pub record PacketsAreOne : Type 0 where
-  pub some : (room : ℕ) (x : Expectation) (bytes : List ℕ) → Packets room x bytes
-  pub one : (room : ℕ) (x : Expectation) (bytes : List ℕ) (packets others : List PacketValue) (rest left : List ℕ) (fault other : Option CaptureRefusal) → IsBytes bytes
-      → HasPackets room x bytes packets rest fault → HasPackets room x bytes others left other → (packets ≡ others) × (rest ≡ left) × (fault ≡ other)
+  pub some : (x : Expectation) (bytes : List ℕ) → Packets x bytes
+  pub one : (x : Expectation) (bytes : List ℕ) (packets others : List PacketValue) (rest left : List ℕ) (fault other : Option CaptureRefusal) → IsBytes bytes
+      → HasPackets x bytes packets rest fault → HasPackets x bytes others left other → (packets ≡ others) × (rest ≡ left) × (fault ≡ other)

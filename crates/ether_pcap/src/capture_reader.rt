@@ -1,12 +1,10 @@
 //! A reader of capture files of either format, one unit at a time.
-ghost use Rattle.std.specs.Prelude.{◌≡◌, ◌≢◌, ℕ, ◌<◌, ◌≤◌, ◌↔◌, length, not, ◌&&◌, nat_le, nat_eq, slice_range, Some, None, IfOk, IfErr, OnErr, IsTrue};
+ghost use Rattle.std.specs.Prelude.{◌≡◌, ◌≢◌, ℕ, ◌<◌, ◌≤◌, ◌↔◌, length, Some, IfOk, IfErr, OnErr, IsTrue};
 ghost use Rattle.std.specs.Option.{option_map};
 ghost use Rattle.ether_pcap.specs.FileHeader.{FileHeaderValue, IsFileHeader};
-ghost use Rattle.ether_pcap.specs.Capture.{Expectation, Beginning, Records, Begins, Refuses, required_len, section_order, passes_over, kind_of_block, is_other};
-ghost use Rattle.ether_base.specs.Bytes.{number};
-ghost use Rattle.ether_pcap.specs.Numbers.{field};
-ghost use Rattle.ether_pcap.specs.Section.{section_type, HasSectionType, IsSection, RefusesSection};
-ghost use Rattle.ether_pcap.specs.Views.{order_of, file_header_view};
+ghost use Rattle.ether_pcap.specs.Capture.{Expectation, Beginning, Records, Begins, Refuses, required_len};
+ghost use Rattle.ether_pcap.specs.Section.{HasSectionType, IsSection, RefusesSection};
+ghost use Rattle.ether_pcap.specs.Views.{file_header_view};
 ghost use Rattle.ether_pcap.specs.PcapngViews.{block_view, section_refusal_view};
 ghost use Rattle.ether_pcap.specs.CaptureViews.{captured_packet_view, capture_refusal_view};
 
@@ -92,45 +90,6 @@ impl CaptureReader {
         !matches!(self.progress, Progress::Nothing)
     }
 
-    /// The byte order of the current section. It is `None` before the first section header, and in a classic file.
-    pub fn byte_order(&self) -> Option<ByteOrder>
-        ensures { option_map order_of result ≡ section_order self.now }
-    {
-        match self.progress {
-            Progress::Section(byte_order) => Some(byte_order),
-            Progress::Nothing | Progress::Classic(_) => None,
-        }
-    }
-
-    /// Tests that a slice begins with a block whose body is not read: in a section, any but a section header, an interface
-    /// description, a simple packet or an enhanced packet. Only the first four bytes are looked at.
-    ///
-    /// A program without room for such a block can skip it piece by piece, up to [`PcapngBlock::MAX_LEN`] bytes. It has to compare the
-    /// length at the end with the one at the front itself, in the [byte order](Self::byte_order) of the section. The reader stays as it
-    /// is, and reads the next block.
-    ///
-    /// ```
-    /// let section = [
-    ///     0x0A, 0x0D, 0x0D, 0x0A, 0x00, 0x00, 0x00, 0x1C, 0x1A, 0x2B, 0x3C, 0x4D, // section header
-    ///     0x00, 0x01, 0x00, 0x00, 0xFF, 0xFF, 0xFF, 0xFF, 0xFF, 0xFF, 0xFF, 0xFF, 0x00, 0x00, 0x00, 0x1C,
-    /// ];
-    /// let secrets = [0x00, 0x00, 0x00, 0x0A, 0x00, 0x10, 0x00, 0x00]; // the front of 1 MiB of decryption secrets
-    /// let mut reader = CaptureReader::new();
-    /// assert_eq!(rt; reader.passes_over(&secrets), false);
-    /// reader.read(&section)?;
-    /// assert_eq!(rt; reader.byte_order(), Some(ByteOrder::BigEndian));
-    /// assert_eq!(rt; reader.passes_over(&secrets), true);
-    /// assert_eq!(rt; reader.passes_over(&section), false);
-    /// ```
-    pub fn passes_over(&self, bytes: &[u8]) -> bool
-        ensures { result ≡ passes_over self.now bytes.now }
-    {
-        match self.progress {
-            Progress::Section(byte_order) => begins_other_block(byte_order, bytes),
-            Progress::Nothing | Progress::Classic(_) => false,
-        }
-    }
-
     /// Reads the unit at the front of a slice. Bytes after it are not read.
     ///
     /// At the beginning a file whose first four bytes are the type of a section header is one of pcapng, and any other a classic
@@ -196,29 +155,6 @@ fn begins_section(bytes: &[u8]) -> bool
     ensures { IsTrue result ↔ HasSectionType bytes.now }
 {
     bytes.len() >= 4 && ByteOrder::BigEndian.u32_at(bytes, 0) == PcapngBlock::SECTION_HEADER
-}
-
-/// Tests that a slice begins with the type of a block whose body is not read.
-fn begins_other_block(byte_order: ByteOrder, bytes: &[u8]) -> bool
-    ensures { result ≡ (nat_le 4 (length bytes.now)
-        && (not (nat_eq (number (slice_range bytes.now 0 4)) section_type)
-        && is_other (kind_of_block (field (order_of byte_order) bytes.now 0 4)))) }
-{
-    bytes.len() >= 4
-        && ByteOrder::BigEndian.u32_at(bytes, 0) != PcapngBlock::SECTION_HEADER
-        && is_other_type(byte_order.u32_at(bytes, 0))
-}
-
-/// Tests that the body of a block of this type is not read, if it is no section header.
-fn is_other_type(block_type: u32) -> bool
-    ensures { result ≡ is_other (kind_of_block block_type) }
-{
-    !matches!(
-        block_type,
-        PcapngBlock::INTERFACE_DESCRIPTION
-            | PcapngBlock::SIMPLE_PACKET
-            | PcapngBlock::ENHANCED_PACKET
-    )
 }
 
 /// The record at the front of a slice.

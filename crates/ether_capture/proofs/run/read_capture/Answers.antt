@@ -1,4 +1,4 @@
-use Rattle.std.proofs.Common.{rules, ◌≡◌, ℕ, List, [], ◌++◌, length, refl, sym, subst, ◌∙◌, arith, inl}
+use Rattle.std.proofs.Common.{rules, ◌≡◌, ℕ, List, [], ◌++◌, length, refl, sym, ap, subst, ◌∙◌, arith}
 use Rattle.ether_pcap.specs.Capture.{IsEnd}
 use Rattle.ether_pcap.specs.CaptureViews.{capture_refusal_view}
 use Rattle.ether_text.specs.OutputBuffer.{contents_of}
@@ -6,16 +6,13 @@ use Rattle.ether_text.proofs.KnownBytesLemmas.{Consumes-none, Consumes-then}
 use Rattle.ether_text.proofs.InputReaderLemmas.{ReadsOn-none, ReadsOn-then, read_stops}
 use Rattle.ether_text.proofs.OutputBufferLemmas.{Marks-none, Marks-then}
 use Rattle.ether_capture.specs.InputBuffer.{items}
-use Rattle.ether_capture.specs.Run.{HasRun}
 use Rattle.ether_capture.specs.FrameLoop.{Reached}
 use Rattle.ether_capture.proofs.FrameLoopLemmas.{Reached-start, Reached-more, Reached-written_out}
-use Rattle.ether_capture.proofs.PacketsLemmas.{all_that_is_left}
-use Rattle.ether_capture.proofs.RunLemmas.{broken_off, consumed_all, finished, not_full, same_left, stopped_at_end, on_input, later_input}
-use Rattle.ether_capture.proofs.PassedBlocks.{same_fault}
+use Rattle.ether_capture.proofs.RunLemmas.{broken_off, has_room, consumed_all, finished, same_left, stopped_at_end, stopped_for_good, without_memory, on_input}
 use Rattle.ether_capture.proofs.run.read_capture.Goals as goal
 
-pub loop-error-init : goal.loop-error-init
-loop-error-init g c = (
+pub loop-buffer-init : goal.loop-buffer-init
+loop-buffer-init g c = (
   [],
   record {
     same_reader = refl;
@@ -23,53 +20,51 @@ loop-error-init g c = (
     read = Consumes-none _;
     on = ReadsOn-none g.R.Source.remaining _;
     marks = Marks-none g.W.Sink.can_fail _;
-    reached = subst (λ (l : List ℕ). Reached c.args.is_plain g.W.Sink.contents (contents_of g.W.Sink.contents c.args.out.now) [] l c.new-frames.result c.args.out.now) (sym c.new-buffer.ensures)
+    reached = subst (λ (l : List ℕ). Reached c.args.is_plain g.W.Sink.contents (contents_of g.W.Sink.contents c.args.out.now) [] l c.new-frames.result c.args.out.now) (sym c.clear.ensures)
         (Reached-start c.args.is_plain g.W.Sink.contents c.new-frames.result c.args.out.now c.new-frames.ensures);
   },
 )
 
-pub returns-in_err-pass_over-clause-run : goal.returns-in_err-pass_over-clause-run
-returns-in_err-pass_over-clause-run g c =
-    let (taken, so_far) = c.loop-error.invariant in
+pub returns-in_default-clause-run : goal.returns-in_default-clause-run
+returns-in_default-clause-run g c =
+    let (taken, so_far) = c.loop-buffer.invariant in
     let plain = c.args.is_plain in
     let contents = g.W.Sink.contents in
     let held = contents_of contents c.args.out.now in
     let before = g.R.Source.remaining c.args.input.now.inner.now in
-    let after = g.R.Source.remaining c.pass_over.new.input.inner.now in
+    let mid = g.R.Source.remaining c.loop-buffer.input.inner.now in
+    let left = items c.take_buffered.new.buffer in
+    let at = c.take_buffered.new.frames in
     let rest = c.in_ok-error.ensures.ok in
     let reached = rest.reached held taken so_far.reached in
-    same_fault c.from_residual-in_err-pass_over.result _ (HasRun plain before after held (contents_of contents c.pass_over.new.out)) c.from_residual-in_err-pass_over.ensures.1
-    (c.in_err-pass_over.ensures.stopped plain before held (record { input = taken; read = so_far.read; reached = reached }))
+    stopped_for_good plain contents before mid held taken left at c.take_buffered.new.out c.in_ok-error.error c.fault.result c.fault.ensures so_far.read
+    rest.refused (search rules) reached
 
-pub loop-error-preserved-then-is_final : goal.loop-error-preserved-then-is_final
-loop-error-preserved-then-is_final g c =
-    let (taken, so_far) = c.loop-error.invariant in
+pub returns-in_err-make_room-clause-run : goal.returns-in_err-make_room-clause-run
+returns-in_err-make_room-clause-run g c =
+    let (taken, so_far) = c.loop-buffer.invariant in
     let plain = c.args.is_plain in
     let contents = g.W.Sink.contents in
     let held = contents_of contents c.args.out.now in
     let before = g.R.Source.remaining c.args.input.now.inner.now in
+    let mid = g.R.Source.remaining c.loop-buffer.input.inner.now in
+    let left = items c.take_buffered.new.buffer in
+    let at = c.take_buffered.new.frames in
     let rest = c.in_ok-error.ensures.ok in
     let reached = rest.reached held taken so_far.reached in
-    let on = c.in_ok-pass_over.ensures.ok plain before held (record { input = taken; read = so_far.read; reached = reached }) in (
-      on.input,
-      record {
-        same_reader = c.pass_over.ensures.same_reader ∙ so_far.same_reader;
-        same_writer = c.pass_over.ensures.same_writer ∙ c.take_buffered.ensures.same_writer ∙ so_far.same_writer;
-        read = on.read;
-        on = ReadsOn-then g.R.Source.remaining _ _ _ so_far.on c.in_ok-pass_over.ensures.on;
-        marks = Marks-then _ _ _ (Marks-then _ _ _ so_far.marks c.take_buffered.ensures.marks) c.pass_over.ensures.marks;
-        reached = on.reached;
-      },
-    )
+    let out = c.write_out.new.self in
+    let flushed = Reached-written_out plain contents held taken left at c.take_buffered.new.out out c.in_ok-write_out.ensures.ok reached in
+    without_memory plain contents before mid held c.from_residual-in_err-make_room.result taken left at out (capture_refusal_view c.in_ok-error.error) c.in-Some.required_len
+    c.from_residual-in_err-make_room.ensures.1 so_far.read rest.refused (search rules) c.in_err-make_room.ensures.failed flushed
 
 pub returns-in_err-read-clause-run : goal.returns-in_err-read-clause-run
 returns-in_err-read-clause-run g c =
-    let (taken, so_far) = c.loop-error.invariant in
+    let (taken, so_far) = c.loop-buffer.invariant in
     let plain = c.args.is_plain in
     let contents = g.W.Sink.contents in
     let held = contents_of contents c.args.out.now in
     let before = g.R.Source.remaining c.args.input.now.inner.now in
-    let mid = g.R.Source.remaining c.loop-error.input.inner.now in
+    let mid = g.R.Source.remaining c.loop-buffer.input.inner.now in
     let left = items c.take_buffered.new.buffer in
     let at = c.take_buffered.new.frames in
     let rest = c.in_ok-error.ensures.ok in
@@ -77,17 +72,17 @@ returns-in_err-read-clause-run g c =
     let out = c.write_out.new.self in
     let after = g.R.Source.remaining c.read.new.input.inner.now in
     let flushed = Reached-written_out plain contents held taken left at c.take_buffered.new.out out c.in_ok-write_out.ensures.ok reached in
-    broken_off plain contents before after held mid c.from_residual-in_err-read.result taken left at out (capture_refusal_view c.in_ok-error.error) c.is_final.result
-    so_far.read c.in_err-read.ensures.kept c.from_residual-in_err-read.ensures.1 rest.refused c.is_final.ensures c.if-is_final.false flushed
+    broken_off plain contents before after held mid c.from_residual-in_err-read.result taken left at out (capture_refusal_view c.in_ok-error.error)
+    so_far.read c.in_err-read.ensures.kept c.from_residual-in_err-read.ensures.1 rest.refused (search rules) flushed
 
 pub returns-then-is_over-clause-run : goal.returns-then-is_over-clause-run
 returns-then-is_over-clause-run g c =
-    let (taken, so_far) = c.loop-error.invariant in
+    let (taken, so_far) = c.loop-buffer.invariant in
     let plain = c.args.is_plain in
     let contents = g.W.Sink.contents in
     let held = contents_of contents c.args.out.now in
     let before = g.R.Source.remaining c.args.input.now.inner.now in
-    let mid = g.R.Source.remaining c.loop-error.input.inner.now in
+    let mid = g.R.Source.remaining c.loop-buffer.input.inner.now in
     let left = items c.take_buffered.new.buffer in
     let at = c.take_buffered.new.frames in
     let rest = c.in_ok-error.ensures.ok in
@@ -95,9 +90,10 @@ returns-then-is_over-clause-run g c =
     let out = c.write_out.new.self in
     let after = g.R.Source.remaining c.read.new.input.inner.now in
     let flushed = Reached-written_out plain contents held taken left at c.take_buffered.new.out out c.in_ok-write_out.ensures.ok reached in
-    let (more, is_len, grown, consumed) = c.in_ok-read.ensures.ok in
+    let (more, is_len, added, consumed) = c.in_ok-read.ensures.ok in
+    let grown : items c.read.new.self ≡ left ++ more = added ∙ ap (λ (l : List ℕ). l ++ more) c.make_room.ensures.items in
     let none : length more ≡ 0 = is_len ∙ c.if-branch-eq0.true in
-    let end = c.in_ok-read.ensures.end c.if-branch-eq0.true (not_full (capture_refusal_view c.in_ok-error.error) left c.is_final.result rest.fits c.is_final.ensures c.if-is_final.false) in
+    let end = c.in_ok-read.ensures.end c.if-branch-eq0.true (has_room left at.reader (capture_refusal_view c.in_ok-error.error) c.in-Some.required_len _ _ rest.refused (search rules) c.make_room.ensures.items c.in_ok-make_room.ensures.room) in
     let read = consumed_all before mid after taken more so_far.read consumed none in
     let same : items c.read.new.self ≡ left = grown ∙ same_left left more none in
     let over = subst (λ (l : List ℕ). IsEnd at.reader l) same (c.is_over.ensures.0 (search rules)) in
@@ -105,12 +101,12 @@ returns-then-is_over-clause-run g c =
 
 pub returns-then-branch-eq0-clause-run : goal.returns-then-branch-eq0-clause-run
 returns-then-branch-eq0-clause-run g c =
-    let (taken, so_far) = c.loop-error.invariant in
+    let (taken, so_far) = c.loop-buffer.invariant in
     let plain = c.args.is_plain in
     let contents = g.W.Sink.contents in
     let held = contents_of contents c.args.out.now in
     let before = g.R.Source.remaining c.args.input.now.inner.now in
-    let mid = g.R.Source.remaining c.loop-error.input.inner.now in
+    let mid = g.R.Source.remaining c.loop-buffer.input.inner.now in
     let left = items c.take_buffered.new.buffer in
     let at = c.take_buffered.new.frames in
     let rest = c.in_ok-error.ensures.ok in
@@ -118,23 +114,23 @@ returns-then-branch-eq0-clause-run g c =
     let out = c.write_out.new.self in
     let after = g.R.Source.remaining c.read.new.input.inner.now in
     let flushed = Reached-written_out plain contents held taken left at c.take_buffered.new.out out c.in_ok-write_out.ensures.ok reached in
-    let (more, is_len, grown, consumed) = c.in_ok-read.ensures.ok in
+    let (more, is_len, added, consumed) = c.in_ok-read.ensures.ok in
+    let grown : items c.read.new.self ≡ left ++ more = added ∙ ap (λ (l : List ℕ). l ++ more) c.make_room.ensures.items in
     let none : length more ≡ 0 = is_len ∙ c.if-branch-eq0.true in
-    let has_room = not_full (capture_refusal_view c.in_ok-error.error) left c.is_final.result rest.fits c.is_final.ensures c.if-is_final.false in
-    let end = c.in_ok-read.ensures.end c.if-branch-eq0.true (not_full (capture_refusal_view c.in_ok-error.error) left c.is_final.result rest.fits c.is_final.ensures c.if-is_final.false) in
+    let end = c.in_ok-read.ensures.end c.if-branch-eq0.true (has_room left at.reader (capture_refusal_view c.in_ok-error.error) c.in-Some.required_len _ _ rest.refused (search rules) c.make_room.ensures.items c.in_ok-make_room.ensures.room) in
     let read = consumed_all before mid after taken more so_far.read consumed none in
     let same : items c.read.new.self ≡ left = grown ∙ same_left left more none in
     let more_left = λ (over : IsEnd at.reader left). let t = c.is_over.ensures.1 (subst (λ (l : List ℕ). IsEnd at.reader l) (sym same) over) in absurd cc in
-    stopped_at_end plain contents before after held taken left at out c.in_ok-error.error c.fault.result c.fault.ensures (inl has_room) read end (all_that_is_left at.reader left rest.fits) more_left rest.refused flushed
+    stopped_at_end plain contents before after held taken left at out c.in_ok-error.error c.fault-then-branch-eq0.result c.fault-then-branch-eq0.ensures read end more_left rest.refused flushed
 
-pub loop-error-preserved : goal.loop-error-preserved
-loop-error-preserved g c =
-    let (taken, so_far) = c.loop-error.invariant in
+pub loop-buffer-preserved : goal.loop-buffer-preserved
+loop-buffer-preserved g c =
+    let (taken, so_far) = c.loop-buffer.invariant in
     let plain = c.args.is_plain in
     let contents = g.W.Sink.contents in
     let held = contents_of contents c.args.out.now in
     let before = g.R.Source.remaining c.args.input.now.inner.now in
-    let mid = g.R.Source.remaining c.loop-error.input.inner.now in
+    let mid = g.R.Source.remaining c.loop-buffer.input.inner.now in
     let left = items c.take_buffered.new.buffer in
     let at = c.take_buffered.new.frames in
     let rest = c.in_ok-error.ensures.ok in
@@ -142,7 +138,8 @@ loop-error-preserved g c =
     let out = c.write_out.new.self in
     let after = g.R.Source.remaining c.read.new.input.inner.now in
     let flushed = Reached-written_out plain contents held taken left at c.take_buffered.new.out out c.in_ok-write_out.ensures.ok reached in
-    let (more, is_len, grown, consumed) = c.in_ok-read.ensures.ok in (
+    let (more, is_len, added, consumed) = c.in_ok-read.ensures.ok in
+    let grown : items c.read.new.self ≡ left ++ more = added ∙ ap (λ (l : List ℕ). l ++ more) c.make_room.ensures.items in (
       taken ++ more,
       record {
         same_reader = c.read.ensures.same_reader ∙ so_far.same_reader;
@@ -155,36 +152,27 @@ loop-error-preserved g c =
     )
 
 pub returns-in_err-error-clause-marks : goal.returns-in_err-error-clause-marks
-returns-in_err-error-clause-marks g c = Marks-then _ _ _ c.loop-error.invariant.1.marks c.take_buffered.ensures.marks
-
-pub returns-in_err-pass_over-clause-cause : goal.returns-in_err-pass_over-clause-cause
-returns-in_err-pass_over-clause-cause g c =
-    later_input g.R.Source.remaining g.R.Source.can_fail c.from_residual-in_err-pass_over.result _ c.args.input.now c.loop-error.input
-    c.pass_over.new.input c.loop-error.invariant.1.on c.from_residual-in_err-pass_over.ensures.1 c.in_err-pass_over.ensures.cause
-
-pub returns-in_err-pass_over-clause-marks : goal.returns-in_err-pass_over-clause-marks
-returns-in_err-pass_over-clause-marks g c =
-    Marks-then _ _ _ (Marks-then _ _ _ c.loop-error.invariant.1.marks c.take_buffered.ensures.marks) c.pass_over.ensures.marks
+returns-in_err-error-clause-marks g c = Marks-then _ _ _ c.loop-buffer.invariant.1.marks c.take_buffered.ensures.marks
 
 pub returns-in_err-write_out-clause-marks : goal.returns-in_err-write_out-clause-marks
 returns-in_err-write_out-clause-marks g c =
-    Marks-then _ _ _ (Marks-then _ _ _ c.loop-error.invariant.1.marks c.take_buffered.ensures.marks) c.write_out.ensures.marks
+    Marks-then _ _ _ (Marks-then _ _ _ c.loop-buffer.invariant.1.marks c.take_buffered.ensures.marks) c.write_out.ensures.marks
 
 pub returns-in_err-read-clause-cause : goal.returns-in_err-read-clause-cause
 returns-in_err-read-clause-cause g c =
-    let why = read_stops g.R.Source.remaining g.R.Source.can_fail c.write_out.new.self c.args.input.now c.loop-error.input c.read.new.input
-    c.loop-error.invariant.1.on c.in_ok-write_out.ensures.ok.none_waits c.in_err-read.ensures.cause c.in_err-read.ensures.kept in
+    let why = read_stops g.R.Source.remaining g.R.Source.can_fail c.write_out.new.self c.args.input.now c.loop-buffer.input c.read.new.input
+    c.loop-buffer.invariant.1.on c.in_ok-write_out.ensures.ok.none_waits c.in_err-read.ensures.cause c.in_err-read.ensures.kept in
     on_input c.from_residual-in_err-read.result _ why
 
 pub returns-in_err-read-clause-marks : goal.returns-in_err-read-clause-marks
 returns-in_err-read-clause-marks g c =
-    Marks-then _ _ _ (Marks-then _ _ _ c.loop-error.invariant.1.marks c.take_buffered.ensures.marks) c.write_out.ensures.marks
+    Marks-then _ _ _ (Marks-then _ _ _ c.loop-buffer.invariant.1.marks c.take_buffered.ensures.marks) c.write_out.ensures.marks
 
 pub returns-then-is_over-clause-marks : goal.returns-then-is_over-clause-marks
 returns-then-is_over-clause-marks g c =
-    Marks-then _ _ _ (Marks-then _ _ _ (Marks-then _ _ _ c.loop-error.invariant.1.marks c.take_buffered.ensures.marks) c.write_out.ensures.marks)
+    Marks-then _ _ _ (Marks-then _ _ _ (Marks-then _ _ _ c.loop-buffer.invariant.1.marks c.take_buffered.ensures.marks) c.write_out.ensures.marks)
     c.finish.ensures.marks
 
 pub returns-then-branch-eq0-clause-marks : goal.returns-then-branch-eq0-clause-marks
 returns-then-branch-eq0-clause-marks g c =
-    Marks-then _ _ _ (Marks-then _ _ _ c.loop-error.invariant.1.marks c.take_buffered.ensures.marks) c.write_out.ensures.marks
+    Marks-then _ _ _ (Marks-then _ _ _ c.loop-buffer.invariant.1.marks c.take_buffered.ensures.marks) c.write_out.ensures.marks

@@ -6,8 +6,8 @@ use Rattle.ether_capture.specs.FrameLoop.{Reached}
 use Rattle.ether_capture.specs.InputBuffer.{items}
 use Rattle.ether_capture.proofs.run.read_capture.Given as goal
 
-abbrev pub invariant-loop-error : goal.invariant-loop-error
-invariant-loop-error g l =
+abbrev pub invariant-loop-buffer : goal.invariant-loop-buffer
+invariant-loop-buffer g l =
     (taken : List ℕ) × record {
       same_reader : l.input.inner.ghost_name ≡ l.fn.input.inner.ghost_name;
       same_writer : l.out.writer.ghost_name ≡ l.fn.out.writer.ghost_name;
@@ -17,5 +17,5 @@ invariant-loop-error g l =
       reached : Reached l.is_plain g.W.Sink.contents (contents_of g.W.Sink.contents l.fn.out) taken (items l.buffer) l.frames l.out;
     }
 
-abbrev pub decreases-loop-error : goal.decreases-loop-error
-decreases-loop-error g l = l.input.reads_left
+abbrev pub decreases-loop-buffer : goal.decreases-loop-buffer
+decreases-loop-buffer g l = l.input.reads_left

@@ -1,10 +1,8 @@
 use Rattle.std.proofs.Common.{◌≡◌, ◌+◌, ◌≤◌, ℕ, List, length, drop, refl, sym, ap, subst, ◌∙◌, arith}
 use Rattle.std.proofs.lemmas.List.{drop-drop, length-drop}
 use Rattle.ether_text.proofs.OutputBufferLemmas.{Marks-none, Marks-then}
-use Rattle.ether_capture.specs.Packets.{room}
 use Rattle.ether_capture.specs.FrameLoop.{Reached}
 use Rattle.ether_capture.proofs.FrameLoopLemmas.{Reached-unit, rest_is}
-use Rattle.ether_capture.proofs.PacketsLemmas.{IsSeen-fitting}
 use Rattle.ether_capture.proofs.frame_loop.FrameLoop.take_units.Goals as goal
 
 pub loop-unit-init : goal.loop-unit-init
@@ -18,7 +16,6 @@ loop-unit-preserved g c =
     let within : len ≤ length rest = c.in-Ok.ensures.within in
     let left : length rest ≡ length (drop taken c.args.bytes.now) = ap length so_far.rest in
     let long = length-drop taken c.args.bytes.now in
-    let fits : length rest ≤ room = omega (arith, left, long, c.requires) in
     let after = rest_is rest len in (
       taken + len,
       record {
@@ -29,7 +26,7 @@ loop-unit-preserved g c =
         reached = λ held input begun.
             subst (λ (l : List ℕ). Reached c.args.is_plain g.W.Sink.contents held input l c.take_unit.new.self c.take_unit.new.out) (sym after)
             (Reached-unit c.args.is_plain g.W.Sink.contents held input rest c.loop-unit.self c.take_unit.new.self c.read.new.self c.loop-unit.out c.take_unit.new.out len _
-            (IsSeen-fitting c.loop-unit.self.reader rest fits) within c.in-Ok.ensures.unit c.in_ok-take_unit-in-Ok.ensures.ok (so_far.reached held input begun));
+            within c.in-Ok.ensures.unit c.in_ok-take_unit-in-Ok.ensures.ok (so_far.reached held input begun));
       },
     )
 

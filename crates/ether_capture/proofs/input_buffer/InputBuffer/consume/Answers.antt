@@ -6,4 +6,4 @@ use Rattle.ether_capture.proofs.input_buffer.InputBuffer.consume.Goals as goal
 pub returns : goal.returns
 returns c =
     let b = c.args.self.now in
-    consumed b.bytes b.start b.end c.args.count (omega (arith, length-take {A = ℕ}, length-drop {A = ℕ}))
+    consumed b.bytes.items b.start b.end c.args.count (omega (arith, length-take {A = ℕ}, length-drop {A = ℕ}))

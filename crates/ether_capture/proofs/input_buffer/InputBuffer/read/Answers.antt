@@ -1,32 +1,26 @@
-use Rattle.std.proofs.Common.{◌≤◌, ◌++◌, List, ℕ, length, take, ap, ◌∙◌, arith}
-use Rattle.std.proofs.lemmas.Result.{err_from_is_err_and}
-use Rattle.std.proofs.lemmas.List.{length-take-le}
-use Rattle.ether_text.proofs.InputReaderLemmas.{read_on}
-use Rattle.ether_capture.proofs.InputBufferLemmas.{grown, kept}
+use Rattle.std.proofs.Common.{◌≡◌, ◌+◌, ◌++◌, List, ℕ, ap, ◌∙◌, arith}
+use Rattle.std.specs.Prelude.{slice_range}
+use Rattle.std.specs.Vec.{with_items}
+use Rattle.std.proofs.lemmas.List.{with_items_is}
+use Rattle.ether_base.proofs.SubLists.{length-part}
+use Rattle.ether_capture.proofs.InputBufferLemmas.{grown}
 use Rattle.ether_capture.proofs.input_buffer.InputBuffer.read.Goals as goal
 
 pub returns-clause-ok : goal.returns-clause-ok
 returns-clause-ok g c =
     let b = c.move_to_front.new.self in
-    let within : b.end ≤ length b.bytes = omega arith in
     let n = c.in_ok-count.count in
-    let bound = c.in_ok-count.ensures.bound in (
-      take n c.read.new.chunk,
-      length-take-le n c.read.new.chunk bound,
-      grown b.bytes c.read.new.chunk _ b.start b.end n b.ordered within bound ∙ ap (λ (l : List ℕ). l ++ take n c.read.new.chunk) c.move_to_front.ensures.items,
+    let old = c.as_mut_slice.result.now in
+    let new = c.read_after.new.bytes in
+    let bound = c.in_ok-count.ensures.bound in
+    let part = slice_range new b.end (b.end + n) in
+    let same = c.as_mut_slice.ensures.value in
+    let whole : (with_items b.bytes new).items ≡ new = with_items_is b.bytes new (c.read_after.ensures.len ∙ c.as_mut_slice.ensures.len) in (
+      part,
+      (let l = length-part new b.end (b.end + n) bound in omega (arith, l)),
+      ap (λ (l : List ℕ). slice_range l b.start (b.end + n)) whole
+          ∙ grown old new b.start b.end n b.ordered c.read_after.ensures.before
+          ∙ ap (λ (l : List ℕ). slice_range l b.start b.end ++ part) same
+          ∙ ap (λ (l : List ℕ). l ++ part) c.move_to_front.ensures.items,
       c.in_ok-count.ensures.read,
     )
-
-pub returns-in_err-count-clause-same : goal.returns-in_err-count-clause-same
-returns-in_err-count-clause-same g c =
-    let b = c.move_to_front.new.self in
-    let within : b.end ≤ length b.bytes = omega arith in
-    let p = err_from_is_err_and c.from_residual.result c.from_residual.ensures.1 in
-    rw p.1 (kept b.bytes _ b.start b.end b.ordered within ∙ c.move_to_front.ensures.items)
-
-pub returns-clause-on : goal.returns-clause-on
-returns-clause-on g c some =
-    let n = c.in_ok-count.count in
-    let len = length-take-le n c.read.new.chunk c.in_ok-count.ensures.bound in
-    read_on g.R.Source.remaining c.args.input.now c.read.new.self (take n c.read.new.chunk) c.in_ok-count.ensures.read
-    c.in_ok-count.ensures.going c.in_ok-count.ensures.left (omega (arith, len, some))
