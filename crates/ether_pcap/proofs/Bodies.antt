@@ -1,7 +1,8 @@
 -- Bodies and section headers: one for each list of bytes, or one refusal.
-use Rattle.std.proofs.Common.{◌≡◌, ℕ, ◌+◌, List, length, refl, sym, ap, ◌∙◌, arith}
+use Rattle.std.proofs.Common.{◌≡◌, ℕ, ◌+◌, List, length, drop, refl, sym, ap, ◌∙◌, arith}
 use Rattle.std.specs.Prelude.{slice_range}
 use Rattle.ether_pcap.specs.Numbers.{Order}
+use Rattle.ether_pcap.specs.Options.{padded}
 use Rattle.ether_pcap.specs.Bodies.{BodyRefusal, InterfaceValue, IsInterface, RefusesInterface, interface, EnhancedPacketValue, IsEnhancedPacket, RefusesEnhancedPacket, enhanced, enhanced_too_long, enhanced_packet, SimplePacketValue, IsSimplePacket, RefusesSimplePacket, simple, simple_too_long, simple_packet, Short, TooLong}
 
 -- ---- interface descriptions
@@ -21,19 +22,20 @@ interface_refused body r s (interface lt) (interface m) = refl
 
 -- ---- enhanced packets
 
-pub enhanced_one : (order : Order) (body : List ℕ) (v w : EnhancedPacketValue) → IsEnhancedPacket order body v → IsEnhancedPacket order body w → v ≡ w
-enhanced_one order body v w h k =
+pub enhanced_one : (number_len : ℕ) (order : Order) (body : List ℕ) (v w : EnhancedPacketValue) → IsEnhancedPacket number_len order body v → IsEnhancedPacket number_len order body w → v ≡ w
+enhanced_one number_len order body v w h k =
     let n : length v.packet ≡ length w.packet = sym h.captured_len ∙ k.captured_len in
     let a : v.interface ≡ w.interface = sym h.interface ∙ k.interface in
     let b : v.time ≡ w.time = sym h.time ∙ k.time in
     let c : v.original_len ≡ w.original_len = sym h.original_len ∙ k.original_len in
     let p : v.packet ≡ w.packet = sym h.packet ∙ ap (λ (m : ℕ). slice_range body 20 (20 + m)) n ∙ k.packet in
-    λ i. record { interface = a i; time = b i; original_len = c i; packet = p i }
+    let o : v.options ≡ w.options = sym h.options ∙ ap (λ (m : ℕ). drop (20 + padded m) body) n ∙ k.options in
+    λ i. record { interface = a i; time = b i; original_len = c i; packet = p i; options = o i }
 
-pub enhanced_apart : (order : Order) (body : List ℕ) (v : EnhancedPacketValue) (r : BodyRefusal) → IsEnhancedPacket order body v → RefusesEnhancedPacket order body r → ⊥
-enhanced_apart order body v r h (enhanced lt) = omega (arith, h.whole, lt)
-enhanced_apart order body v r h (enhanced_too_long le lt) = omega (arith, h.room, h.captured_len, lt)
-enhanced_apart order body v r h (enhanced_packet le small lt) = omega (arith, h.whole, h.captured_len, lt)
+pub enhanced_apart : (number_len : ℕ) (order : Order) (body : List ℕ) (v : EnhancedPacketValue) (r : BodyRefusal) → IsEnhancedPacket number_len order body v → RefusesEnhancedPacket order body r → ⊥
+enhanced_apart number_len order body v r h (enhanced lt) = omega (arith, h.whole, lt)
+enhanced_apart number_len order body v r h (enhanced_too_long le lt) = omega (arith, h.room, h.captured_len, lt)
+enhanced_apart number_len order body v r h (enhanced_packet le small lt) = omega (arith, h.whole, h.captured_len, lt)
 
 pub enhanced_refused : (order : Order) (body : List ℕ) (r s : BodyRefusal) → RefusesEnhancedPacket order body r → RefusesEnhancedPacket order body s → r ≡ s
 enhanced_refused order body r s (enhanced lt) (enhanced m) = refl

@@ -51,8 +51,8 @@ body_final order before body kind r (interface s refused) = refl
 body_final order before body kind r (too_many i is most) = refl
 body_final order before body kind r (simple_alone none) = refl
 body_final order before body kind r (simple i s at refused) = refl
-body_final order before body kind r (enhanced s refused) = refl
-body_final order before body kind r (enhanced_alone p is none) = refl
+body_final order before body kind r (enhanced n s refused) = refl
+body_final order before body kind r (enhanced_alone n p is none) = refl
 
 pub required_above : (bytes : List ℕ) (x : Expectation) (r : CaptureRefusal) (n : ℕ) → Refuses bytes x r → required_len r ≡ Some n → length bytes < n
 required_above bytes x r n (file_header_refused s other (file.short lt)) e = above 24 n (length bytes) e lt

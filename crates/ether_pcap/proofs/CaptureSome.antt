@@ -13,6 +13,7 @@ use Rattle.ether_pcap.specs.Block.{BlockValue, BlockRefusal, BeginsBlock, Refuse
 use Rattle.ether_pcap.specs.Block as block_rows
 use Rattle.ether_pcap.specs.Section.{SectionRefusal, section_type, HasSectionType, HasOrder, IsSection, RefusesSection, IsVersion}
 use Rattle.ether_pcap.specs.Section as section_rows
+use Rattle.ether_pcap.specs.Options.{padded}
 use Rattle.ether_pcap.specs.Bodies.{BodyRefusal, InterfaceValue, IsInterface, RefusesInterface, EnhancedPacketValue, IsEnhancedPacket, RefusesEnhancedPacket, SimplePacketValue, IsSimplePacket, RefusesSimplePacket, captured_by}
 use Rattle.ether_pcap.specs.Bodies as body_rows
 use Rattle.ether_pcap.specs.Capture.{PacketValue, packet_of_record, CaptureInterfaceValue, described_by, Describes, IsAt, max_interfaces, Expectation, Beginning, Records, Blocks, BlockKind, InterfaceDescription, SimplePacket, EnhancedPacket, Other, kind_of_block, IsBody, CaptureRefusal, File, Record, Section, Block, Body, NoInterface, TooManyInterfaces, RefusesBody, interface, too_many, simple_alone, simple, enhanced, enhanced_alone, Begins, file_header, file_record, first_section, section, block, Refuses, file_header_refused, file_record_refused, first_section_refused, section_refused, block_refused, body_refused, IsEnd, ended, refused, unit, packet}
@@ -192,7 +193,7 @@ Body_of kind order before body = ((p : Option PacketValue) × (after : List Capt
 described : (order : Order) (body : List ℕ) (i : InterfaceValue) → IsInterface order body i → (i2 : CaptureInterfaceValue) × Describes order body i2
 described order body i is =
     let all = some_options order i.options in
-    (described_by i all.0, record { interface = i; options = all.0; is_interface = is; has_options = all.1; value = refl })
+    (described_by order i all.0, record { interface = i; options = all.0; is_interface = is; has_options = all.1; value = refl })
 
 some_interface : (order : Order) (before : List CaptureInterfaceValue) (body : List ℕ) → Body_of InterfaceDescription order before body
 some_interface order before body =
@@ -241,11 +242,11 @@ some_simple order before body =
           ]
     ]
 
-abbrev Enhanced_of : Order → List ℕ → Type 0
-Enhanced_of order body = ((v : EnhancedPacketValue) × IsEnhancedPacket order body v) ⊎ ((r : BodyRefusal) × RefusesEnhancedPacket order body r)
+abbrev Enhanced_of : ℕ → Order → List ℕ → Type 0
+Enhanced_of number_len order body = ((v : EnhancedPacketValue) × IsEnhancedPacket number_len order body v) ⊎ ((r : BodyRefusal) × RefusesEnhancedPacket order body r)
 
-some_enhanced_value : (order : Order) (body : List ℕ) → Enhanced_of order body
-some_enhanced_value order body =
+some_enhanced_value : (number_len : ℕ) (order : Order) (body : List ℕ) → Enhanced_of number_len order body
+some_enhanced_value number_len order body =
     let n = field order body 12 16 in
     elim (cases_lt (length body) 20) [
       | inl lt ↦ inr (body_rows.Short 20 (length body), body_rows.enhanced lt)
@@ -256,27 +257,36 @@ some_enhanced_value order body =
           | inr whole ↦
               let len : length (slice_range body 20 (20 + n)) ≡ n = length-part body 20 (20 + n) whole ∙ omega arith in
               inl (
-                record { interface = field order body 0 4; time = field order body 4 8 * 2 ^ 32 + field order body 8 12; original_len = field order body 16 20; packet = slice_range body 20 (20 + n) },
-                record { interface = refl; time = refl; captured_len = sym len; original_len = refl; packet = ap (λ (m : ℕ). slice_range body 20 (20 + m)) len; whole = omega (arith, len, whole); room = omega (arith, len, room) },
+                record {
+                  interface = field order body 0 number_len;
+                  time = field order body 4 8 * 2 ^ 32 + field order body 8 12;
+                  original_len = field order body 16 20;
+                  packet = slice_range body 20 (20 + n);
+                  options = drop (20 + padded n) body;
+                },
+                record { interface = refl; time = refl; captured_len = sym len; original_len = refl; packet = ap (λ (m : ℕ). slice_range body 20 (20 + m)) len; options = ap (λ (m : ℕ). drop (20 + padded m) body) len; whole = omega (arith, len, whole); room = omega (arith, len, room) },
               )
         ]
       ]
     ]
 
-some_enhanced : (order : Order) (before : List CaptureInterfaceValue) (body : List ℕ) → Body_of EnhancedPacket order before body
-some_enhanced order before body =
-    elim (some_enhanced_value order body) [
-      | inr r ↦ inr (Body r.0, enhanced r.0 r.1)
+some_enhanced : (number_len : ℕ) (order : Order) (before : List CaptureInterfaceValue) (body : List ℕ) → Body_of (EnhancedPacket number_len) order before body
+some_enhanced number_len order before body =
+    elim (some_enhanced_value number_len order body) [
+      | inr r ↦ inr (Body r.0, enhanced number_len r.0 r.1)
       | inl v ↦ elim (cases_lt v.0.interface (length before)) [
-        | inr none ↦ inr (NoInterface v.0.interface, enhanced_alone v.0 v.1 none)
-        | inl lt ↦ let found = lookup before v.0.interface lt in inl (_, before, (found.0, v.0, v.1, found.1, refl, refl))
+        | inr none ↦ inr (NoInterface v.0.interface, enhanced_alone number_len v.0 v.1 none)
+        | inl lt ↦
+            let found = lookup before v.0.interface lt in
+            let all = some_options order v.0.options in
+            inl (_, before, (found.0, v.0, all.0, v.1, found.1, all.1, refl, refl))
       ]
     ]
 
 some_body : (kind : BlockKind) (order : Order) (before : List CaptureInterfaceValue) (body : List ℕ) → Body_of kind order before body
 some_body InterfaceDescription order before body = some_interface order before body
 some_body SimplePacket order before body = some_simple order before body
-some_body EnhancedPacket order before body = some_enhanced order before body
+some_body (EnhancedPacket n) order before body = some_enhanced n order before body
 some_body Other order before body = inl (None, before, (refl, refl))
 
 -- ---- units

@@ -1,6 +1,7 @@
 -- What a reader of capture files knows.
-use Rattle.std.proofs.Common.{◌≡◌, ℕ, zero, suc, ◌+◌, ◌^◌, ◌<◌, ◌≤◌, List, [], ◌∷◌, length, refl, sym, ap, subst, arith, inl, inr, Some, None, Bool, Bor}
-use Rattle.std.specs.Prelude.{is_some, slice_range, slice_index_or, MatchOption, Option}
+use Rattle.std.proofs.Common.{◌≡◌, ℕ, zero, suc, ◌+◌, ◌^◌, ◌<◌, ◌≤◌, List, [], ◌∷◌, length, refl, sym, ap, subst, arith, inl, inr, Some, None}
+use Rattle.std.specs.Prelude.{slice_range, slice_index_or, Option, unwrap_or}
+use Rattle.std.specs.Option.{option_map}
 use Rattle.std.proofs.Math.Nat.{pow-le-pow_right}
 use Rattle.std.proofs.lemmas.Bool.{cases_lt}
 use Rattle.ether_base.specs.Bytes.{IsBytes, number}
@@ -8,11 +9,11 @@ use Rattle.ether_base.proofs.Numbers.{number_below}
 use Rattle.ether_base.proofs.SubLists.{length-part-is, IsBytes-part}
 use Rattle.ether_pcap.specs.Numbers.{Order}
 use Rattle.ether_pcap.specs.Section.{HasSectionType, IsSection, SectionRefusal, RefusesSection}
-use Rattle.ether_pcap.specs.Options.{OptionValue, HasOptions, value_of, byte_of}
+use Rattle.ether_pcap.specs.Options.{OptionValue, HasOptions, value_of, byte_of, number_of}
 use Rattle.ether_pcap.specs.Bodies.{IsInterface}
 use Rattle.ether_pcap.specs.FileHeader.{FileHeaderValue}
 use Rattle.ether_pcap.specs.Record.{RecordValue, BeginsRecord, record_len}
-use Rattle.ether_pcap.specs.Capture.{PacketValue, packet_of_record, Describes, CaptureInterfaceValue, IsAt, Beginning, Records, Blocks, Begins, Refuses, Section, file_record, first_section, section, first_section_refused, section_refused}
+use Rattle.ether_pcap.specs.Capture.{PacketValue, packet_of_record, fcs_bytes, Describes, CaptureInterfaceValue, IsAt, Beginning, Records, Blocks, Begins, Refuses, Section, file_record, first_section, section, first_section_refused, section_refused}
 use Rattle.ether_pcap.specs.PcapngViews.{interface_view}
 use Rattle.ether_pcap.specs.Block.{BlockValue}
 use Rattle.ether_pcap.specs.Views.{order_of}
@@ -38,22 +39,19 @@ section_len bytes ok is =
     ]
 
 -- the interface that an interface description describes
-pub describes : (order : Order) (body : List ℕ) (d : InterfaceDescription) (fcs_len resolution : Option ℕ) (shifted : Bool) (options : List OptionValue)
+pub describes : (order : Order) (body : List ℕ) (d : InterfaceDescription) (fcs_len resolution : Option ℕ) (offset : ℕ) (options : List OptionValue)
     → IsInterface order body (interface_view d) → HasOptions order d.options.now options
-    → fcs_len ≡ byte_of (value_of 13 options) → resolution ≡ byte_of (value_of 9 options) → shifted ≡ is_some (value_of 14 options)
-    → Describes order body (record { link_type = d.link_type.0; snap_len = d.snap_len; fcs_len = fcs_len; resolution = resolution; is_shifted = shifted })
-describes order body d fcs_len resolution shifted options is has f r s =
+    → fcs_len ≡ option_map fcs_bytes (byte_of (value_of 13 options)) → resolution ≡ byte_of (value_of 9 options)
+    → offset ≡ unwrap_or (number_of order 8 (value_of 14 options)) 0
+    → Describes order body (record { link_type = d.link_type.0; snap_len = d.snap_len; fcs_len = fcs_len; resolution = resolution; offset = offset })
+describes order body d fcs_len resolution offset options is has f r s =
     record {
       interface = interface_view d;
       options = options;
       is_interface = is;
       has_options = has;
-      value = λ i. record { link_type = d.link_type.0; snap_len = d.snap_len; fcs_len = sym f i; resolution = sym r i; is_shifted = sym s i };
+      value = λ i. record { link_type = d.link_type.0; snap_len = d.snap_len; fcs_len = sym f i; resolution = sym r i; offset = sym s i };
     }
-
-pub same_some : (found : Option (Bor (List ℕ))) (value : Option (List ℕ)) → MatchOption found (value ≡ None) (λ v. value ≡ Some v.now) → is_some found ≡ is_some value
-same_some None value e = ap is_some (sym e)
-same_some (Some v) value e = ap is_some (sym e)
 
 -- the interface at a place
 pub is_at : (interfaces : List CaptureInterface) (n : ℕ) (other : CaptureInterface) → n < length interfaces → IsAt (interfaces_view interfaces) n (capture_interface_view (slice_index_or interfaces n other))

@@ -5,9 +5,9 @@ use Rattle.ether_base.specs.Bytes.{IsBytes}
 use Rattle.ether_pcap.specs.Numbers.{Order}
 use Rattle.ether_pcap.specs.Record.{RecordValue, record_len}
 use Rattle.ether_pcap.specs.Block.{BlockValue}
-use Rattle.ether_pcap.specs.Options.{HasOptions}
+use Rattle.ether_pcap.specs.Options.{OptionValue, HasOptions}
 use Rattle.ether_pcap.specs.Bodies.{InterfaceValue, EnhancedPacketValue, SimplePacketValue, IsSimplePacket, RefusesSimplePacket}
-use Rattle.ether_pcap.specs.Capture.{PacketValue, packet_of_record, CaptureInterfaceValue, described_by, Describes, IsAt, time_on, Expectation, Records, Blocks, BlockKind, InterfaceDescription, SimplePacket, EnhancedPacket, Other, kind_of_block, IsBody, CaptureRefusal, File, Record, Section, Block, Body, NoInterface, RefusesBody, interface, too_many, simple_alone, simple, enhanced, enhanced_alone, Begins, file_header, file_record, first_section, section, block, Refuses, file_header_refused, file_record_refused, first_section_refused, section_refused, block_refused, body_refused}
+use Rattle.ether_pcap.specs.Capture.{PacketValue, packet_of_record, CaptureInterfaceValue, described_by, Describes, IsAt, packet_on, Expectation, Records, Blocks, BlockKind, InterfaceDescription, SimplePacket, EnhancedPacket, Other, kind_of_block, IsBody, CaptureRefusal, File, Record, Section, Block, Body, NoInterface, RefusesBody, interface, too_many, simple_alone, simple, enhanced, enhanced_alone, Begins, file_header, file_record, first_section, section, block, Refuses, file_header_refused, file_record_refused, first_section_refused, section_refused, block_refused, body_refused}
 use Rattle.ether_pcap.proofs.FileHeaders.{one_header, apart, refused_once}
 use Rattle.ether_pcap.proofs.Records.{record_one, record_apart, refusal_one}
 use Rattle.ether_pcap.proofs.Blocks.{block_one, block_apart, block_refusal_one}
@@ -38,7 +38,7 @@ described_one order body v w d e =
     let s : d.interface ≡ e.interface = interface_one order body d.interface e.interface d.is_interface e.is_interface in
     let m : HasOptions order d.interface.options e.options = subst (λ (k : InterfaceValue). HasOptions order k.options e.options) (sym s) e.has_options in
     let o : d.options ≡ e.options = same_options order d.interface.options d.options e.options d.has_options m in
-    let p : described_by d.interface d.options ≡ described_by e.interface e.options = λ i. described_by (s i) (o i) in
+    let p : described_by order d.interface d.options ≡ described_by order e.interface e.options = λ i. described_by order (s i) (o i) in
     sym d.value ∙ p ∙ e.value
 
 -- ---- bodies
@@ -46,8 +46,8 @@ described_one order body v w d e =
 simple_packet_of : CaptureInterfaceValue → SimplePacketValue → Option PacketValue
 simple_packet_of i p = Some (record { time = None; original_len = p.original_len; link_type = i.link_type; fcs_len = i.fcs_len; packet = p.packet })
 
-enhanced_packet_of : CaptureInterfaceValue → EnhancedPacketValue → Option PacketValue
-enhanced_packet_of i p = Some (record { time = time_on i p.time; original_len = p.original_len; link_type = i.link_type; fcs_len = i.fcs_len; packet = p.packet })
+enhanced_packet_of : Order → CaptureInterfaceValue → EnhancedPacketValue → List OptionValue → Option PacketValue
+enhanced_packet_of order i p options = Some (packet_on order i p options)
 
 body_one : (kind : BlockKind) (order : Order) (before : List CaptureInterfaceValue) (body : List ℕ) (p q : Option PacketValue) (after others : List CaptureInterfaceValue)
     → IsBody kind order before body p after → IsBody kind order before body q others → (p ≡ q) × (after ≡ others)
@@ -61,11 +61,13 @@ body_one SimplePacket order before body p q after others (i, v, at, is, e, f) (j
     let o = simple_one order i.snap_len body v w is m in
     let r : simple_packet_of i v ≡ simple_packet_of j w = λ k. simple_packet_of (s k) (o k) in
     (e ∙ r ∙ sym e2, f ∙ sym f2)
-body_one EnhancedPacket order before body p q after others (i, v, is, at, e, f) (j, w, is2, at2, e2, f2) =
-    let o = enhanced_one order body v w is is2 in
-    let m : IsAt before v.interface j = subst (λ (k : EnhancedPacketValue). IsAt before k.interface j) (sym o) at2 in
-    let s = at_one before v.interface i j at m in
-    let r : enhanced_packet_of i v ≡ enhanced_packet_of j w = λ k. enhanced_packet_of (s k) (o k) in
+body_one (EnhancedPacket n) order before body p q after others (i, v, l, is, at, has, e, f) (j, w, m, is2, at2, has2, e2, f2) =
+    let o = enhanced_one n order body v w is is2 in
+    let at3 : IsAt before v.interface j = subst (λ (k : EnhancedPacketValue). IsAt before k.interface j) (sym o) at2 in
+    let has3 : HasOptions order v.options m = subst (λ (k : EnhancedPacketValue). HasOptions order k.options m) (sym o) has2 in
+    let s = at_one before v.interface i j at at3 in
+    let t = same_options order v.options l m has has3 in
+    let r : enhanced_packet_of order i v l ≡ enhanced_packet_of order j w m = λ k. enhanced_packet_of order (s k) (o k) (t k) in
     (e ∙ r ∙ sym e2, f ∙ sym f2)
 body_one Other order before body p q after others (e, f) (e2, f2) = (e ∙ sym e2, f ∙ sym f2)
 
@@ -77,9 +79,9 @@ body_apart kind order before body p after r (simple_alone none) (i, v, at, is, e
 body_apart kind order before body p after r (simple j s at2 refused) (i, v, at, is, e, f) =
     let m = at_one before 0 i j at at2 in
     simple_apart order i.snap_len body v s is (subst (λ (k : CaptureInterfaceValue). RefusesSimplePacket order k.snap_len body s) (sym m) refused)
-body_apart kind order before body p after r (enhanced s refused) (i, v, is, at, e, f) = enhanced_apart order body v s is refused
-body_apart kind order before body p after r (enhanced_alone w is2 none) (i, v, is, at, e, f) =
-    let n = ap (λ (k : EnhancedPacketValue). k.interface) (enhanced_one order body v w is is2) in
+body_apart kind order before body p after r (enhanced n s refused) (i, v, l, is, at, has, e, f) = enhanced_apart n order body v s is refused
+body_apart kind order before body p after r (enhanced_alone m w is2 none) (i, v, l, is, at, has, e, f) =
+    let n = ap (λ (k : EnhancedPacketValue). k.interface) (enhanced_one m order body v w is is2) in
     omega (arith, at_within before v.interface i at, none, n)
 
 body_refusal_one : (kind : BlockKind) (order : Order) (before : List CaptureInterfaceValue) (body : List ℕ) (r s : CaptureRefusal) → RefusesBody order before body kind r → RefusesBody order before body kind s → r ≡ s
@@ -93,10 +95,10 @@ body_refusal_one kind order before body r s (simple i a at refused) (simple_alon
 body_refusal_one kind order before body r s (simple i a at refused) (simple j b at2 refused2) =
     let m = at_one before 0 i j at at2 in
     ap Body (simple_refused order i.snap_len body a b refused (subst (λ (k : CaptureInterfaceValue). RefusesSimplePacket order k.snap_len body b) (sym m) refused2))
-body_refusal_one kind order before body r s (enhanced a refused) (enhanced b refused2) = ap Body (enhanced_refused order body a b refused refused2)
-body_refusal_one kind order before body r s (enhanced a refused) (enhanced_alone v is none) = absurd (enhanced_apart order body v a is refused)
-body_refusal_one kind order before body r s (enhanced_alone v is none) (enhanced a refused) = absurd (enhanced_apart order body v a is refused)
-body_refusal_one kind order before body r s (enhanced_alone v is none) (enhanced_alone w is2 none2) = ap (λ (k : EnhancedPacketValue). NoInterface k.interface) (enhanced_one order body v w is is2)
+body_refusal_one kind order before body r s (enhanced n a refused) (enhanced n2 b refused2) = ap Body (enhanced_refused order body a b refused refused2)
+body_refusal_one kind order before body r s (enhanced n a refused) (enhanced_alone n2 v is none) = absurd (enhanced_apart n order body v a is refused)
+body_refusal_one kind order before body r s (enhanced_alone n v is none) (enhanced n2 a refused) = absurd (enhanced_apart n order body v a is refused)
+body_refusal_one kind order before body r s (enhanced_alone n v is none) (enhanced_alone n2 w is2 none2) = ap (λ (k : EnhancedPacketValue). NoInterface k.interface) (enhanced_one n order body v w is is2)
 
 -- ---- units
 

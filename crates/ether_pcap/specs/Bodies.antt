@@ -1,6 +1,7 @@
 -- The bodies of the blocks of a pcapng file that are read (draft-ietf-opsawg-pcapng, sections 4.1 to 4.4).
-use Rattle.std.specs.Prelude.{◌≡◌, ℕ, ◌+◌, ◌*◌, ◌^◌, ◌<◌, ◌≤◌, List, length, min, nat_eq, slice_range, if◌then◌else◌}
+use Rattle.std.specs.Prelude.{◌≡◌, ℕ, ◌+◌, ◌*◌, ◌^◌, ◌<◌, ◌≤◌, List, length, drop, min, nat_eq, slice_range, if◌then◌else◌}
 use Rattle.ether_pcap.specs.Numbers.{Order, field}
+use Rattle.ether_pcap.specs.Options.{padded}
 use Rattle.ether_pcap.specs.Record.{max_captured_len}
 
 -- too few bytes in a body; more captured bytes than there may be
@@ -24,20 +25,24 @@ pub record IsInterface (order : Order) (body : List ℕ) (v : InterfaceValue) : 
 pub data RefusesInterface (body : List ℕ) : BodyRefusal → Type 0 where
   interface : length body < 8 → RefusesInterface body (Short 8 (length body))
 
--- ---- enhanced packet (4.3): interface 4 bytes, time 8 bytes with the upper 4 first, captured and original length 4 bytes each, packet
+-- ---- enhanced packet (4.3) and the obsolete packet block (appendix A): interface 4 bytes, or 2 bytes and as many for a number of dropped
+-- packets; time 8 bytes with the upper 4 first, captured and original length 4 bytes each, packet, padding, options
 
 pub record EnhancedPacketValue : Type 0 where
   pub interface : ℕ
   pub time : ℕ
   pub original_len : ℕ
   pub packet : List ℕ
+  pub options : List ℕ
 
-pub record IsEnhancedPacket (order : Order) (body : List ℕ) (v : EnhancedPacketValue) : Type 0 where
-  pub interface : field order body 0 4 ≡ v.interface
+-- .. whose interface has so many bytes
+pub record IsEnhancedPacket (number_len : ℕ) (order : Order) (body : List ℕ) (v : EnhancedPacketValue) : Type 0 where
+  pub interface : field order body 0 number_len ≡ v.interface
   pub time : field order body 4 8 * 2 ^ 32 + field order body 8 12 ≡ v.time
   pub captured_len : field order body 12 16 ≡ length v.packet
   pub original_len : field order body 16 20 ≡ v.original_len
   pub packet : slice_range body 20 (20 + length v.packet) ≡ v.packet
+  pub options : drop (20 + padded (length v.packet)) body ≡ v.options
   pub whole : 20 + length v.packet ≤ length body
   pub room : length v.packet ≤ max_captured_len
 

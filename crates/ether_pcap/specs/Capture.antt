@@ -1,6 +1,7 @@
 -- A capture file of either format, from its beginning to its end: the file header and the records of a classic file, or the blocks
 -- of a pcapng file (draft-ietf-opsawg-pcap, section 3; draft-ietf-opsawg-pcapng, section 3).
-use Rattle.std.specs.Prelude.{◌≡◌, ◌≢◌, ℕ, ◌+◌, ◌-◌, ◌*◌, ◌/◌, ◌%◌, ◌^◌, ◌<◌, ◌≤◌, List, [], ◌∷◌, ◌++◌, length, drop, Bool, Option, Some, None, is_some, nat_lt, nat_eq, true, false, slice_range, if◌then◌else◌}
+use Rattle.std.specs.Prelude.{◌≡◌, ◌≢◌, ℕ, ◌+◌, ◌-◌, ◌*◌, ◌/◌, ◌%◌, ◌^◌, ◌<◌, ◌≤◌, List, [], ◌∷◌, ◌++◌, length, drop, Option, Some, None, unwrap_or, nat_lt, nat_eq, slice_range, if◌then◌else◌}
+use Rattle.std.specs.Option.{option_map}
 use Rattle.ether_base.specs.Bytes.{number}
 use Rattle.ether_pcap.specs.Numbers.{Order, field}
 use Rattle.ether_pcap.specs.FileHeader.{FileHeaderValue, IsFileHeader, FileRefusal, RefusesFile}
@@ -11,7 +12,7 @@ use Rattle.ether_pcap.specs.Block.{BlockValue, BlockRefusal, BeginsBlock, Refuse
 use Rattle.ether_pcap.specs.Block as block_rows
 use Rattle.ether_pcap.specs.Section.{SectionRefusal, section_type, HasSectionType, IsSection, RefusesSection}
 use Rattle.ether_pcap.specs.Section as section_rows
-use Rattle.ether_pcap.specs.Options.{OptionValue, HasOptions, value_of, byte_of}
+use Rattle.ether_pcap.specs.Options.{OptionValue, HasOptions, value_of, byte_of, number_of}
 use Rattle.ether_pcap.specs.Bodies.{BodyRefusal, InterfaceValue, IsInterface, RefusesInterface, EnhancedPacketValue, IsEnhancedPacket, RefusesEnhancedPacket, SimplePacketValue, IsSimplePacket, RefusesSimplePacket}
 
 -- ---- packets
@@ -45,22 +46,26 @@ packet_of_record h r = record {
 -- ---- interfaces of a section
 
 -- what a section says of an interface: link type, snap length, length of the frame check sequence, the number that gives the unit of
--- time, and whether times are shifted by an offset
+-- time, and the offset of times in seconds, as the number that its 64 bits are
 pub record CaptureInterfaceValue : Type 0 where
   pub link_type : ℕ
   pub snap_len : ℕ
   pub fcs_len : Option ℕ
   pub resolution : Option ℕ
-  pub is_shifted : Bool
+  pub offset : ℕ
+
+-- a length of the frame check sequence in bytes: the description counts its bits, and most writers its bytes
+abbrev pub fcs_bytes : ℕ → ℕ
+fcs_bytes n = if nat_eq n 32 then 4 else (if nat_eq n 16 then 2 else n)
 
 -- the options if_fcslen (13), if_tsresol (9) and if_tsoffset (14) of an interface description (4.2)
-abbrev pub described_by : InterfaceValue → List OptionValue → CaptureInterfaceValue
-described_by i options = record {
+abbrev pub described_by : Order → InterfaceValue → List OptionValue → CaptureInterfaceValue
+described_by order i options = record {
   link_type = i.link_type;
   snap_len = i.snap_len;
-  fcs_len = byte_of (value_of 13 options);
+  fcs_len = option_map fcs_bytes (byte_of (value_of 13 options));
   resolution = byte_of (value_of 9 options);
-  is_shifted = is_some (value_of 14 options);
+  offset = unwrap_or (number_of order 8 (value_of 14 options)) 0;
 }
 
 -- the body of an interface description
@@ -69,7 +74,7 @@ pub record Describes (order : Order) (body : List ℕ) (v : CaptureInterfaceValu
   pub options : List OptionValue
   pub is_interface : IsInterface order body interface
   pub has_options : HasOptions order interface.options options
-  pub value : described_by interface options ≡ v
+  pub value : described_by order interface options ≡ v
 
 -- how many units of time a second has: if the number is below 128, ten to its power; else two to the power of its seven lower bits;
 -- a million if there is none
@@ -77,9 +82,18 @@ abbrev pub units_of : Option ℕ → ℕ
 units_of None = 10 ^ 6
 units_of (Some n) = if nat_lt n 128 then 10 ^ n else 2 ^ (n - 128)
 
--- the time that a number of units is on an interface, rounded down to a nanosecond; none if times are shifted
+-- seconds and an offset, of which the upper half of the numbers of 64 bits are the negative ones; none if they are before 1970, or too
+-- many for 64 bits
+abbrev pub shifted : (offset seconds : ℕ) → Option ℕ
+shifted offset seconds =
+    if nat_lt offset (2 ^ 63) then (if nat_lt (seconds + offset) (2 ^ 64) then Some (seconds + offset) else None)
+    else (if nat_lt (seconds + offset) (2 ^ 64) then None else Some (seconds + offset - 2 ^ 64))
+
+-- the time that a number of units is on an interface, rounded down to a nanosecond
 abbrev pub time_on : CaptureInterfaceValue → ℕ → Option TimeValue
-time_on i n = if i.is_shifted then None else Some (time_of (n * 10 ^ 9 / units_of i.resolution))
+time_on i n =
+    let t = time_of (n * 10 ^ 9 / units_of i.resolution) in
+    option_map (λ seconds. record { seconds = seconds; nanoseconds = t.nanoseconds }) (shifted i.offset t.seconds)
 
 -- the interface of a number, counted from 0
 pub record IsAt (interfaces : List CaptureInterfaceValue) (n : ℕ) (i : CaptureInterfaceValue) : Type 0 where
@@ -90,7 +104,7 @@ pub record IsAt (interfaces : List CaptureInterfaceValue) (n : ℕ) (i : Capture
 
 -- the greatest number of interfaces of a section that is read
 abbrev pub max_interfaces : ℕ
-max_interfaces = 256
+max_interfaces = 4096
 
 -- ---- units
 
@@ -101,15 +115,37 @@ pub data Expectation : Type 0 where
   Records : FileHeaderValue → Expectation
   Blocks : Order → List CaptureInterfaceValue → Expectation
 
--- what is read of a block, by its type; nothing of the packet block of type 2, which is obsolete (appendix A)
+-- the length of the frame check sequence in the flags of a packet (4.3.1): bits 5 to 8, of which 0 is none that is known
+abbrev pub fcs_in_flags : Option ℕ → Option ℕ
+fcs_in_flags None = None
+fcs_in_flags (Some flags) = let n = flags / 2 ^ 5 % 2 ^ 4 in if nat_eq n 0 then None else Some n
+
+-- .. which goes before that of the interface
+abbrev pub fcs_of : (of_packet of_interface : Option ℕ) → Option ℕ
+fcs_of None n = n
+fcs_of (Some n) m = Some n
+
+-- what is said of a packet by its block, its interface and the option epb_flags or pack_flags (2)
+abbrev pub packet_on : Order → CaptureInterfaceValue → EnhancedPacketValue → List OptionValue → PacketValue
+packet_on order i p options = record {
+  time = time_on i p.time;
+  original_len = p.original_len;
+  link_type = i.link_type;
+  fcs_len = fcs_of (fcs_in_flags (number_of order 4 (value_of 2 options))) i.fcs_len;
+  packet = p.packet;
+}
+
+-- what is read of a block, by its type; a packet, whose interface has so many bytes, is an enhanced packet or an obsolete packet block
 pub data BlockKind : Type 0 where
   InterfaceDescription : BlockKind
   SimplePacket : BlockKind
-  EnhancedPacket : BlockKind
+  EnhancedPacket : (number_len : ℕ) → BlockKind
   Other : BlockKind
 
 abbrev pub kind_of_block : ℕ → BlockKind
-kind_of_block n = if nat_eq n 1 then InterfaceDescription else (if nat_eq n 3 then SimplePacket else (if nat_eq n 6 then EnhancedPacket else Other))
+kind_of_block n =
+    if nat_eq n 1 then InterfaceDescription
+    else (if nat_eq n 2 then EnhancedPacket 2 else (if nat_eq n 3 then SimplePacket else (if nat_eq n 6 then EnhancedPacket 4 else Other)))
 
 -- the body of a block in a section that has described these interfaces: the packet, if it is one, and the interfaces after it
 abbrev pub IsBody : BlockKind → Order → (before : List CaptureInterfaceValue) → (body : List ℕ) → Option PacketValue → (after : List CaptureInterfaceValue) → Type 0
@@ -118,9 +154,10 @@ IsBody InterfaceDescription order before body packet after =
 IsBody SimplePacket order before body packet after =
     (i : CaptureInterfaceValue) × (p : SimplePacketValue) × IsAt before 0 i × IsSimplePacket order i.snap_len body p
     × (packet ≡ Some (record { time = None; original_len = p.original_len; link_type = i.link_type; fcs_len = i.fcs_len; packet = p.packet })) × (after ≡ before)
-IsBody EnhancedPacket order before body packet after =
-    (i : CaptureInterfaceValue) × (p : EnhancedPacketValue) × IsEnhancedPacket order body p × IsAt before p.interface i
-    × (packet ≡ Some (record { time = time_on i p.time; original_len = p.original_len; link_type = i.link_type; fcs_len = i.fcs_len; packet = p.packet })) × (after ≡ before)
+IsBody (EnhancedPacket number_len) order before body packet after =
+    (i : CaptureInterfaceValue) × (p : EnhancedPacketValue) × (options : List OptionValue)
+    × IsEnhancedPacket number_len order body p × IsAt before p.interface i × HasOptions order p.options options
+    × (packet ≡ Some (packet_on order i p options)) × (after ≡ before)
 IsBody Other order before body packet after = (packet ≡ None) × (after ≡ before)
 
 -- why a unit is refused: a row of its format; a packet of an interface that the section has not described, by its number; one more
@@ -142,8 +179,9 @@ pub data RefusesBody (order : Order) (before : List CaptureInterfaceValue) (body
   too_many : (i : CaptureInterfaceValue) → Describes order body i → max_interfaces ≤ length before → RefusesBody order before body InterfaceDescription TooManyInterfaces
   simple_alone : HasNoInterface before 0 → RefusesBody order before body SimplePacket (NoInterface 0)
   simple : (i : CaptureInterfaceValue) (r : BodyRefusal) → IsAt before 0 i → RefusesSimplePacket order i.snap_len body r → RefusesBody order before body SimplePacket (Body r)
-  enhanced : (r : BodyRefusal) → RefusesEnhancedPacket order body r → RefusesBody order before body EnhancedPacket (Body r)
-  enhanced_alone : (p : EnhancedPacketValue) → IsEnhancedPacket order body p → HasNoInterface before p.interface → RefusesBody order before body EnhancedPacket (NoInterface p.interface)
+  enhanced : (n : ℕ) (r : BodyRefusal) → RefusesEnhancedPacket order body r → RefusesBody order before body (EnhancedPacket n) (Body r)
+  enhanced_alone : (n : ℕ) (p : EnhancedPacketValue) → IsEnhancedPacket n order body p → HasNoInterface before p.interface
+      → RefusesBody order before body (EnhancedPacket n) (NoInterface p.interface)
 
 -- Bytes begin with a unit of so many bytes, which is this packet if it is one, and after which this is expected.
 pub data Begins (bytes : List ℕ) : Expectation → (len : ℕ) → Option PacketValue → Expectation → Type 0 where

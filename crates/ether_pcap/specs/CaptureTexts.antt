@@ -14,4 +14,4 @@ capture_error_text (errors.Block error) = block_error_text error
 capture_error_text (errors.Body error) = body_error_text error
 capture_error_text (errors.NoInterface number) =
     codes "A packet of a pcapng file names interface " ++ (decimal number ++ codes ", which its section does not describe.")
-capture_error_text errors.TooManyInterfaces = codes "A section of a pcapng file describes more than 256 interfaces."
+capture_error_text errors.TooManyInterfaces = codes "A section of a pcapng file describes more than 4096 interfaces."

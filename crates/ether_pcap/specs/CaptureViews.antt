@@ -39,7 +39,7 @@ capture_interface_view i = record {
   snap_len = i.snap_len;
   fcs_len = i.fcs_len;
   resolution = i.time_resolution;
-  is_shifted = i.is_shifted;
+  offset = i.time_offset;
 }
 
 abbrev pub interfaces_view : List CaptureInterface → List CaptureInterfaceValue

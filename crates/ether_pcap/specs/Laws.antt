@@ -49,8 +49,8 @@ pub record BodiesAreOne : Type 0 where
   pub interface : (order : Order) (body : List ℕ) (v w : InterfaceValue) → IsInterface order body v → IsInterface order body w → v ≡ w
   pub interface_apart : (order : Order) (body : List ℕ) (v : InterfaceValue) (r : BodyRefusal) → IsInterface order body v → RefusesInterface body r → ⊥
   pub interface_refused : (body : List ℕ) (r s : BodyRefusal) → RefusesInterface body r → RefusesInterface body s → r ≡ s
-  pub enhanced : (order : Order) (body : List ℕ) (v w : EnhancedPacketValue) → IsEnhancedPacket order body v → IsEnhancedPacket order body w → v ≡ w
-  pub enhanced_apart : (order : Order) (body : List ℕ) (v : EnhancedPacketValue) (r : BodyRefusal) → IsEnhancedPacket order body v → RefusesEnhancedPacket order body r → ⊥
+  pub enhanced : (n : ℕ) (order : Order) (body : List ℕ) (v w : EnhancedPacketValue) → IsEnhancedPacket n order body v → IsEnhancedPacket n order body w → v ≡ w
+  pub enhanced_apart : (n : ℕ) (order : Order) (body : List ℕ) (v : EnhancedPacketValue) (r : BodyRefusal) → IsEnhancedPacket n order body v → RefusesEnhancedPacket order body r → ⊥
   pub enhanced_refused : (order : Order) (body : List ℕ) (r s : BodyRefusal) → RefusesEnhancedPacket order body r → RefusesEnhancedPacket order body s → r ≡ s
   pub simple : (order : Order) (snap_len : ℕ) (body : List ℕ) (v w : SimplePacketValue) → IsSimplePacket order snap_len body v → IsSimplePacket order snap_len body w → v ≡ w
   pub simple_apart : (order : Order) (snap_len : ℕ) (body : List ℕ) (v : SimplePacketValue) (r : BodyRefusal) → IsSimplePacket order snap_len body v → RefusesSimplePacket order snap_len body r → ⊥

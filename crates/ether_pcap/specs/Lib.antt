@@ -6,8 +6,8 @@ pub mod Reading
 pub mod Laws
 pub mod Block
 pub mod Section
-pub mod Bodies
 pub mod Options
+pub mod Bodies
 pub mod PcapngViews
 pub mod Texts
 pub mod PcapngTexts

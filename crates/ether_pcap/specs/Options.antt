@@ -28,6 +28,11 @@ abbrev pub value_of : ℕ → List OptionValue → Option (List ℕ)
 value_of code [] = None
 value_of code (o ∷ options) = if nat_eq o.code code then Some o.value else value_of code options
 
+-- a value of so many bytes as a number
+abbrev pub number_of : Order → ℕ → Option (List ℕ) → Option ℕ
+number_of order n None = None
+number_of order n (Some value) = if nat_eq (length value) n then Some (field order value 0 n) else None
+
 -- a value of one byte
 abbrev pub byte_of : Option (List ℕ) → Option ℕ
 byte_of (Some (b ∷ [])) = Some b

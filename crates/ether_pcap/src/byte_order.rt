@@ -1,8 +1,10 @@
 //! The order of the bytes of each number in a capture file.
 ghost use Rattle.std.specs.Prelude.{◌≡◌, ◌+◌, ◌≤◌, length};
 ghost use Rattle.ether_base.specs.Bytes.{IsBytes};
-ghost use Rattle.ether_pcap.specs.Numbers.{number_in, field};
+ghost use Rattle.ether_pcap.specs.Numbers.{number_in, number_from_low, field};
 ghost use Rattle.ether_pcap.specs.Views.{order_of};
+
+use ether_base::big_endian::u64_of;
 
 /// The order of the bytes of each number in a capture file: that of the machine that wrote it.
 ///
@@ -39,6 +41,16 @@ impl ByteOrder {
         }
     }
 
+    /// The number of eight bytes in this order.
+    pub fn u64_of(self, bytes: [u8; 8]) -> u64
+        ensures { result ≡ number_in (order_of self) bytes }
+    {
+        match self {
+            ByteOrder::BigEndian => u64_of(bytes),
+            ByteOrder::LittleEndian => u64_from_low(bytes),
+        }
+    }
+
     /// The number in the two bytes at a place.
     pub(crate) fn u16_at(self, bytes: &[u8], at: usize) -> u16
         requires { at + 2 ≤ length bytes.now }
@@ -54,4 +66,11 @@ impl ByteOrder {
     {
         self.u32_of([bytes[at], bytes[at + 1], bytes[at + 2], bytes[at + 3]])
     }
+}
+
+/// The number of eight bytes, the least significant one first.
+fn u64_from_low(bytes: [u8; 8]) -> u64
+    ensures { result ≡ number_from_low bytes }
+{
+    u64::from_le_bytes(bytes)
 }

@@ -1,19 +1,18 @@
 //! The blocks of a section of a pcapng file, read in the order of the file.
-ghost use Rattle.std.specs.Prelude.{◌≡◌, ◌≢◌, ◌+◌, length, Some, None, IfOk, IfErr, OnErr, MatchOption};
+ghost use Rattle.std.specs.Prelude.{◌≡◌, ◌≢◌, ◌+◌, length, Some, None, IfOk, IfErr, OnErr, MatchOption, if◌then◌else◌};
 ghost use Rattle.std.specs.Option.{option_map};
-ghost use Rattle.ether_pcap.specs.Capture.{InterfaceDescription as Description, SimplePacket as Simple, EnhancedPacket as Enhanced, Blocks, IsAt, HasNoInterface, IsBody, RefusesBody, kind_of_block, Begins, Refuses};
+ghost use Rattle.ether_pcap.specs.Capture.{InterfaceDescription as Description, SimplePacket as Simple, EnhancedPacket as Enhanced, Blocks, IsAt, HasNoInterface, IsBody, RefusesBody, kind_of_block, Begins, Refuses, fcs_of};
 ghost use Rattle.ether_pcap.specs.Section.{HasSectionType};
 ghost use Rattle.ether_pcap.specs.Views.{order_of};
 ghost use Rattle.ether_pcap.specs.CaptureViews.{captured_packet_view, capture_refusal_view, capture_interface_view, interfaces_view};
 
 use crate::capture_interface::CaptureInterface;
-use crate::{
-    ByteOrder, CaptureError, CaptureUnit, CapturedPacket, EnhancedPacket, PcapngBlock, SimplePacket,
-};
+use crate::enhanced_packet::packet_of_body;
+use crate::{ByteOrder, CaptureError, CaptureUnit, CapturedPacket, PcapngBlock, SimplePacket};
 use arrayvec::ArrayVec;
 
 /// The greatest number of interfaces of a section that is read.
-pub(crate) const MAX_INTERFACES: usize = 256;
+pub(crate) const MAX_INTERFACES: usize = 4_096;
 
 /// The interfaces that a section has described.
 pub(crate) type Interfaces = ArrayVec<CaptureInterface, MAX_INTERFACES>;
@@ -75,7 +74,11 @@ fn read_body<'a>(
             Ok(Some(packet))
         }
         PcapngBlock::ENHANCED_PACKET => {
-            let packet = enhanced_packet(byte_order, interfaces.as_slice(), block.body)?;
+            let packet = enhanced_packet(byte_order, interfaces.as_slice(), true, block.body)?;
+            Ok(Some(packet))
+        }
+        PcapngBlock::PACKET => {
+            let packet = enhanced_packet(byte_order, interfaces.as_slice(), false, block.body)?;
             Ok(Some(packet))
         }
         _ => Ok(None),
@@ -134,19 +137,20 @@ fn simple_packet<'a>(
     })
 }
 
-/// The packet in the body of an enhanced packet.
+/// The packet in the body of an enhanced packet, or of an obsolete packet block.
 #[tactic(auto, using(crate::specs::Capture::enhanced, crate::specs::Capture::enhanced_alone))]
 fn enhanced_packet<'a>(
     byte_order: ByteOrder,
     interfaces: &[CaptureInterface],
+    is_enhanced: bool,
     body: &'a [u8],
 ) -> Result<CapturedPacket<'a>, CaptureError>
-    ensures packet { IfOk result (λ p. IsBody Enhanced (order_of byte_order) (interfaces_view interfaces.now)
-        body.now (Some (captured_packet_view p)) (interfaces_view interfaces.now)) }
+    ensures packet { IfOk result (λ p. IsBody (Enhanced (if is_enhanced then 4 else 2)) (order_of byte_order)
+        (interfaces_view interfaces.now) body.now (Some (captured_packet_view p)) (interfaces_view interfaces.now)) }
     ensures refused { IfErr result (λ e. RefusesBody (order_of byte_order) (interfaces_view interfaces.now)
-        body.now Enhanced (capture_refusal_view e)) }
+        body.now (Enhanced (if is_enhanced then 4 else 2)) (capture_refusal_view e)) }
 {
-    let packet = match EnhancedPacket::from_body(byte_order, body) {
+    let packet = match packet_of_body(byte_order, is_enhanced, body) {
         Ok(packet) => packet,
         Err(error) => return Err(CaptureError::Body(error)),
     };
@@ -157,9 +161,19 @@ fn enhanced_packet<'a>(
         time: interface.time(packet.time),
         original_len: packet.original_len,
         link_type: interface.link_type,
-        fcs_len: interface.fcs_len,
+        fcs_len: first_of(packet.fcs_len(byte_order), interface.fcs_len),
         packet: packet.packet,
     })
+}
+
+/// The first of two lengths that is known.
+fn first_of(of_packet: Option<u8>, of_interface: Option<u8>) -> Option<u8>
+    ensures { result ≡ fcs_of of_packet of_interface }
+{
+    match of_packet {
+        Some(len) => Some(len),
+        None => of_interface,
+    }
 }
 
 /// The interface of a number, counted from 0.

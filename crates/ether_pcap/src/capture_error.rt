@@ -74,7 +74,7 @@ impl fmt::Display for CaptureError {
                 "A packet of a pcapng file names interface {number}, which its section does not describe."
             ),
             CaptureError::TooManyInterfaces => {
-                f.write_str("A section of a pcapng file describes more than 256 interfaces.")
+                f.write_str("A section of a pcapng file describes more than 4096 interfaces.")
             }
         }
     }

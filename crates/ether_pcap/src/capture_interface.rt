@@ -2,15 +2,12 @@
 ghost use Rattle.std.specs.Prelude.{◌≡◌, ℕ, ◌*◌, ◌/◌, ◌^◌, ◌<◌, Some, IfOk, IfErr};
 ghost use Rattle.std.specs.Option.{option_map};
 ghost use Rattle.ether_pcap.specs.Bodies.{RefusesInterface};
-ghost use Rattle.ether_pcap.specs.Capture.{Describes, time_of, time_on, units_of};
+ghost use Rattle.ether_pcap.specs.Capture.{Describes, fcs_bytes, shifted, time_of, time_on, units_of};
 ghost use Rattle.ether_pcap.specs.Views.{order_of};
 ghost use Rattle.ether_pcap.specs.PcapngViews.{body_refusal_view};
 ghost use Rattle.ether_pcap.specs.CaptureViews.{timestamp_view, capture_interface_view};
 
 use crate::{BodyError, ByteOrder, InterfaceDescription, LinkType, Timestamp};
-
-/// The code of the option with the offset of times, `if_tsoffset`.
-const TIME_OFFSET: u16 = 14;
 
 /// An interface of a section of a pcapng file, as far as its packets need it.
 #[derive(Clone, Copy)]
@@ -19,7 +16,7 @@ pub(crate) struct CaptureInterface {
     pub snap_len: u32,
     pub fcs_len: Option<u8>,
     pub time_resolution: Option<u8>,
-    pub is_shifted: bool,
+    pub time_offset: u64,
 }
 
 impl CaptureInterface {
@@ -32,21 +29,47 @@ impl CaptureInterface {
         Ok(CaptureInterface {
             link_type: description.link_type,
             snap_len: description.snap_len,
-            fcs_len: description.fcs_len(byte_order),
+            fcs_len: in_bytes(description.fcs_len(byte_order)),
             time_resolution: description.time_resolution(byte_order),
-            is_shifted: description.option(byte_order, TIME_OFFSET).is_some(),
+            time_offset: description.time_offset(byte_order).unwrap_or(0),
         })
     }
 
-    /// The time that a number of units is on the interface. `None` if its times are shifted.
+    /// The time that a number of units is on the interface. `None` if it is before 1970, or its seconds don't fit 64 bits.
     pub fn time(&self, ticks: u64) -> Option<Timestamp>
         ensures { option_map timestamp_view result ≡ time_on (capture_interface_view self.now) ticks }
     {
-        if self.is_shifted {
-            None
-        } else {
-            Some(time(units(self.time_resolution), ticks))
+        let time = time(units(self.time_resolution), ticks);
+        match shifted(self.time_offset, time.seconds) {
+            Some(seconds) => Some(Timestamp {
+                seconds,
+                nanoseconds: time.nanoseconds,
+            }),
+            None => None,
         }
+    }
+}
+
+/// A length of the frame check sequence in bytes, of a number that may be its bits.
+fn in_bytes(number: Option<u8>) -> Option<u8>
+    ensures { result ≡ option_map fcs_bytes number }
+{
+    match number {
+        Some(32) => Some(4),
+        Some(16) => Some(2),
+        _ => number,
+    }
+}
+
+/// Seconds and an offset whose bits are a signed number.
+fn shifted(offset: u64, seconds: u64) -> Option<u64>
+    ensures { result ≡ shifted offset seconds }
+{
+    let (sum, is_over) = seconds.overflowing_add(offset);
+    if is_over == (offset >= 1 << 63) {
+        Some(sum)
+    } else {
+        None
     }
 }
 
@@ -57,7 +80,7 @@ impl Default for CaptureInterface {
             snap_len: 0,
             fcs_len: None,
             time_resolution: None,
-            is_shifted: false,
+            time_offset: 0,
         }
     }
 }

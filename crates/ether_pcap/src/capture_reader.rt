@@ -30,7 +30,7 @@ pub(crate) enum Progress {
 /// A reader of capture files of the classic pcap format and of pcapng, one unit at a time.
 ///
 /// It keeps what it needs of the file header, or of the section header and the interfaces of the section, and no bytes: a program
-/// can read a file through a buffer of its own. The first bytes say which format it is.
+/// can read a file through a buffer of its own. The first bytes say which format it is. The table of interfaces takes 96 KiB.
 ///
 /// ```
 /// let file = [
@@ -70,7 +70,7 @@ impl Model for CaptureReader {
 }
 
 impl CaptureReader {
-    /// The greatest number of interfaces of a section that is read, 256.
+    /// The greatest number of interfaces of a section that is read, 4,096.
     pub const MAX_INTERFACES: usize = crate::capture_blocks::MAX_INTERFACES;
 
     /// A reader that has read nothing yet.
@@ -94,7 +94,7 @@ impl CaptureReader {
     ///
     /// At the beginning a file whose first four bytes are the type of a section header is one of pcapng, and any other a classic
     /// one. In a section a further section header begins another, which describes interfaces of its own. Blocks of other types than
-    /// interface descriptions, simple packets and enhanced packets are units without a packet.
+    /// interface descriptions, simple packets, enhanced packets and the obsolete packet blocks are units without a packet.
     ///
     /// # Errors
     ///

@@ -1,10 +1,17 @@
 //! The body of an enhanced packet.
-ghost use Rattle.std.specs.Prelude.{IfOk, IfErr};
+ghost use Rattle.std.specs.Prelude.{◌≡◌, ◌≤◌, List, length, IfOk, IfErr, if◌then◌else◌};
+ghost use Rattle.ether_pcap.specs.Numbers.{field};
 ghost use Rattle.ether_pcap.specs.Bodies.{IsEnhancedPacket, RefusesEnhancedPacket};
+ghost use Rattle.ether_pcap.specs.Options.{OptionValue, HasOptions, value_of, number_of};
+ghost use Rattle.ether_pcap.specs.Capture.{fcs_in_flags};
 ghost use Rattle.ether_pcap.specs.Views.{order_of};
 ghost use Rattle.ether_pcap.specs.PcapngViews.{enhanced_packet_view, body_refusal_view};
 
+use crate::pcapng_option::{bytes_from, u32_option};
 use crate::{BodyError, ByteOrder, PcapRecord};
+
+/// The code of the option with flags, `epb_flags` of an enhanced packet and `pack_flags` of the obsolete packet block.
+const FLAGS: u16 = 2;
 
 /// A view of the body of an enhanced packet (draft-ietf-opsawg-pcapng, section 4.3): a packet that was captured on one of several
 /// interfaces.
@@ -37,11 +44,12 @@ pub struct EnhancedPacket<'a> {
     pub original_len: u32,
     /// The bytes that were captured of the packet.
     pub packet: &'a [u8],
+    /// The bytes of the options.
+    pub options: &'a [u8],
 }
 
 impl<'a> EnhancedPacket<'a> {
-    /// Reads the body of a block of type [`PcapngBlock::ENHANCED_PACKET`](crate::PcapngBlock::ENHANCED_PACKET). Padding and options
-    /// after the packet are not read.
+    /// Reads the body of a block of type [`PcapngBlock::ENHANCED_PACKET`](crate::PcapngBlock::ENHANCED_PACKET).
     ///
     /// # Errors
     ///
@@ -50,35 +58,89 @@ impl<'a> EnhancedPacket<'a> {
     /// - `BodyError::Len`: the body has fewer than 20 bytes. `required_len` is 20, `len` the body's length.
     /// - `BodyError::CapturedLen`: the number of captured bytes, which the error names, is above 262,144.
     /// - `BodyError::Len`: the body ends within the packet. `required_len` is 20 more than the number of captured bytes.
-    #[tactic(auto, using(crate::specs::Bodies::enhanced, crate::specs::Bodies::enhanced_too_long, crate::specs::Bodies::enhanced_packet))]
     pub fn from_body(byte_order: ByteOrder, body: &'a [u8]) -> Result<EnhancedPacket<'a>, BodyError>
-        ensures packet { IfOk result (λ p. IsEnhancedPacket (order_of byte_order) body.now (enhanced_packet_view p)) }
+        ensures packet { IfOk result (λ p. IsEnhancedPacket 4 (order_of byte_order) body.now (enhanced_packet_view p)) }
         ensures refused { IfErr result (λ e. RefusesEnhancedPacket (order_of byte_order) body.now (body_refusal_view e)) }
     {
-        if body.len() < 20 {
-            return Err(BodyError::Len {
-                required_len: 20,
-                len: body.len(),
-            });
+        packet_of_body(byte_order, true, body)
+    }
+
+    /// Reads the body of a block of type [`PcapngBlock::PACKET`](crate::PcapngBlock::PACKET), which is obsolete (appendix A): its
+    /// first four bytes are a number of two bytes for the interface, and the number of packets that were dropped before this one.
+    ///
+    /// # Errors
+    ///
+    /// Those of [`from_body`](Self::from_body).
+    pub fn from_obsolete_body(
+        byte_order: ByteOrder,
+        body: &'a [u8],
+    ) -> Result<EnhancedPacket<'a>, BodyError>
+        ensures packet { IfOk result (λ p. IsEnhancedPacket 2 (order_of byte_order) body.now (enhanced_packet_view p)) }
+        ensures refused { IfErr result (λ e. RefusesEnhancedPacket (order_of byte_order) body.now (body_refusal_view e)) }
+    {
+        packet_of_body(byte_order, false, body)
+    }
+
+    /// The length in bytes of the frame check sequence at the end of the packet before it was cut, if the option with flags gives it.
+    pub fn fcs_len(&self, byte_order: ByteOrder) -> Option<u8>
+        ensures { (all : List OptionValue) → HasOptions (order_of byte_order) self.now.options.now all
+            → result ≡ fcs_in_flags (number_of (order_of byte_order) 4 (value_of 2 all)) }
+    {
+        let flags = u32_option(byte_order, self.options, FLAGS)?;
+        match (flags >> 5) % 16 {
+            0 => None,
+            len => Some(len as u8),
         }
-        let captured_len = byte_order.u32_at(body, 12);
-        if captured_len > PcapRecord::MAX_CAPTURED_LEN {
-            return Err(BodyError::CapturedLen(captured_len));
-        }
-        let end = 20 + captured_len as usize;
-        if body.len() < end {
-            return Err(BodyError::Len {
-                required_len: end,
-                len: body.len(),
-            });
-        }
-        let upper = u64::from(byte_order.u32_at(body, 4));
-        let lower = u64::from(byte_order.u32_at(body, 8));
-        Ok(EnhancedPacket {
-            interface: byte_order.u32_at(body, 0),
-            time: upper * 0x1_0000_0000 + lower,
-            original_len: byte_order.u32_at(body, 16),
-            packet: &body[20..end],
-        })
+    }
+}
+
+/// The packet in a body whose interface has four bytes if `is_enhanced`, and else two.
+#[tactic(auto, using(crate::specs::Bodies::enhanced, crate::specs::Bodies::enhanced_too_long, crate::specs::Bodies::enhanced_packet))]
+pub(crate) fn packet_of_body<'a>(
+    byte_order: ByteOrder,
+    is_enhanced: bool,
+    body: &'a [u8],
+) -> Result<EnhancedPacket<'a>, BodyError>
+    ensures packet { IfOk result (λ p. IsEnhancedPacket (if is_enhanced then 4 else 2) (order_of byte_order)
+        body.now (enhanced_packet_view p)) }
+    ensures refused { IfErr result (λ e. RefusesEnhancedPacket (order_of byte_order) body.now (body_refusal_view e)) }
+{
+    if body.len() < 20 {
+        return Err(BodyError::Len {
+            required_len: 20,
+            len: body.len(),
+        });
+    }
+    let captured_len = byte_order.u32_at(body, 12);
+    if captured_len > PcapRecord::MAX_CAPTURED_LEN {
+        return Err(BodyError::CapturedLen(captured_len));
+    }
+    let end = 20 + captured_len as usize;
+    if body.len() < end {
+        return Err(BodyError::Len {
+            required_len: end,
+            len: body.len(),
+        });
+    }
+    let upper = u64::from(byte_order.u32_at(body, 4));
+    let lower = u64::from(byte_order.u32_at(body, 8));
+    Ok(EnhancedPacket {
+        interface: interface_number(byte_order, is_enhanced, body),
+        time: upper * 0x1_0000_0000 + lower,
+        original_len: byte_order.u32_at(body, 16),
+        packet: &body[20..end],
+        options: bytes_from(body, 20 + (captured_len as usize + 3) / 4 * 4),
+    })
+}
+
+/// The number at the front of a body: four bytes if `is_enhanced`, and else two.
+fn interface_number(byte_order: ByteOrder, is_enhanced: bool, body: &[u8]) -> u32
+    requires { 4 ≤ length body.now }
+    ensures { result ≡ field (order_of byte_order) body.now 0 (if is_enhanced then 4 else 2) }
+{
+    if is_enhanced {
+        byte_order.u32_at(body, 0)
+    } else {
+        u32::from(byte_order.u16_at(body, 0))
     }
 }

@@ -1,11 +1,11 @@
 //! The body of an interface description.
 ghost use Rattle.std.specs.Prelude.{◌≡◌, List, IfOk, IfErr, MatchOption, Some, None};
 ghost use Rattle.ether_pcap.specs.Bodies.{IsInterface, RefusesInterface};
-ghost use Rattle.ether_pcap.specs.Options.{OptionValue, HasOptions, value_of, byte_of};
+ghost use Rattle.ether_pcap.specs.Options.{OptionValue, HasOptions, value_of, byte_of, number_of};
 ghost use Rattle.ether_pcap.specs.Views.{order_of};
 ghost use Rattle.ether_pcap.specs.PcapngViews.{interface_view, body_refusal_view};
 
-use crate::pcapng_option::option_value;
+use crate::pcapng_option::{option_value, u64_option};
 use crate::{BodyError, ByteOrder, LinkType};
 
 /// The code of the option with the resolution of times, `if_tsresol`.
@@ -13,6 +13,9 @@ const TIME_RESOLUTION: u16 = 9;
 
 /// The code of the option with the length of the frame check sequence, `if_fcslen`.
 const FCS_LEN: u16 = 13;
+
+/// The code of the option with the offset of times, `if_tsoffset`.
+const TIME_OFFSET: u16 = 14;
 
 /// A view of the body of an interface description (draft-ietf-opsawg-pcapng, section 4.2): on what packets were captured.
 ///
@@ -80,8 +83,8 @@ impl<'a> InterfaceDescription<'a> {
         option_value(byte_order, self.options, code)
     }
 
-    /// The number in the option `if_fcslen` of one byte: the length of the frame check sequence at the end of each packet, which
-    /// Wireshark reads and writes in bytes.
+    /// The number in the option `if_fcslen` of one byte: the length of the frame check sequence at the end of each packet, in bits by
+    /// the description. Wireshark reads and writes it in bytes.
     pub fn fcs_len(&self, byte_order: ByteOrder) -> Option<u8>
         ensures { (all : List OptionValue) → HasOptions (order_of byte_order) self.now.options.now all
             → result ≡ byte_of (value_of 13 all) }
@@ -96,6 +99,15 @@ impl<'a> InterfaceDescription<'a> {
             → result ≡ byte_of (value_of 9 all) }
     {
         byte_option(byte_order, self.options, TIME_RESOLUTION)
+    }
+
+    /// The number in the option `if_tsoffset` of eight bytes: the seconds that are added to the times of packets, whose 64 bits are a
+    /// signed number.
+    pub fn time_offset(&self, byte_order: ByteOrder) -> Option<u64>
+        ensures { (all : List OptionValue) → HasOptions (order_of byte_order) self.now.options.now all
+            → result ≡ number_of (order_of byte_order) 8 (value_of 14 all) }
+    {
+        u64_option(byte_order, self.options, TIME_OFFSET)
     }
 }
 

@@ -42,6 +42,9 @@ impl<'a> PcapngBlock<'a> {
     /// The type of an interface description.
     pub const INTERFACE_DESCRIPTION: u32 = 1;
 
+    /// The type of a packet block, which is obsolete.
+    pub const PACKET: u32 = 2;
+
     /// The type of a simple packet.
     pub const SIMPLE_PACKET: u32 = 3;
 

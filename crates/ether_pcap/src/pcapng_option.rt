@@ -1,6 +1,6 @@
 //! The options at the end of a block of a pcapng file.
 ghost use Rattle.std.specs.Prelude.{◌≡◌, ◌+◌, List, length, drop, MatchOption, Some, None};
-ghost use Rattle.ether_pcap.specs.Options.{OptionValue, BeginsOption, HasOptions, padded, value_of};
+ghost use Rattle.ether_pcap.specs.Options.{OptionValue, BeginsOption, HasOptions, padded, value_of, number_of};
 ghost use Rattle.ether_pcap.specs.Views.{order_of};
 ghost use Rattle.ether_pcap.specs.PcapngViews.{option_view};
 
@@ -69,4 +69,28 @@ pub(crate) fn option_value(byte_order: ByteOrder, options: &[u8], code: u16) -> 
         rest = bytes_from(rest, option.option_len());
     }
     None
+}
+
+/// The number in the first option with a code, if its value is four bytes.
+pub(crate) fn u32_option(byte_order: ByteOrder, options: &[u8], code: u16) -> Option<u32>
+    ensures { (all : List OptionValue) → HasOptions (order_of byte_order) options.now all
+        → result ≡ number_of (order_of byte_order) 4 (value_of code all) }
+{
+    match option_value(byte_order, options, code) {
+        Some([a, b, c, d]) => Some(byte_order.u32_of([*a, *b, *c, *d])),
+        _ => None,
+    }
+}
+
+/// The number in the first option with a code, if its value is eight bytes.
+pub(crate) fn u64_option(byte_order: ByteOrder, options: &[u8], code: u16) -> Option<u64>
+    ensures { (all : List OptionValue) → HasOptions (order_of byte_order) options.now all
+        → result ≡ number_of (order_of byte_order) 8 (value_of code all) }
+{
+    match option_value(byte_order, options, code) {
+        Some([a, b, c, d, e, f, g, h]) => {
+            Some(byte_order.u64_of([*a, *b, *c, *d, *e, *f, *g, *h]))
+        }
+        _ => None,
+    }
 }

@@ -178,7 +178,7 @@ pub(crate) fn same_timestamp(a: &Timestamp, b: &Timestamp) -> bool
 }
 
 pub(crate) fn greatest_number_of_interfaces() -> usize
-    ensures { result ≡ 256 }
+    ensures { result ≡ 4096 }
 {
     CaptureReader::MAX_INTERFACES
 }

@@ -202,20 +202,5 @@ fn of_a_reader(rt: HostRuntime) -> Result<(), Fail> {
         &[reader.read(&FILE)?, reader.read(&FILE[24..])?],
         &units,
     );
-    let secrets = [0x00, 0x00, 0x00, 0x0A, 0x00, 0x10, 0x00, 0x00];
-    let mut reader = CaptureReader::new();
-    let before = (reader.byte_order(), reader.passes_over(&secrets));
-    reader.read(&SECTION)?;
-    equal(
-        &rt,
-        "a block that is passed over",
-        &(
-            before,
-            reader.byte_order(),
-            reader.passes_over(&secrets),
-            reader.passes_over(&SECTION),
-        ),
-        &((None, false), Some(ByteOrder::BigEndian), true, false),
-    );
     Ok(())
 }

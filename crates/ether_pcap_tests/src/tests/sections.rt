@@ -97,7 +97,6 @@ fn packets_of_both_sections(rt: HostRuntime) -> Result<(), Fail> {
             372,
         ),
         ("whole seconds", 10, Some(0), 16, ethernet, None, 404, 420),
-        ("shifted times", 11, None, 17, sll, None, 452, 469),
         ("a simple packet", 12, None, 16, ethernet, None, 488, 504),
     ] {
         let mut reader = reader_at(&SECTIONS, number)?;
@@ -208,13 +207,13 @@ fn refused_units(rt: HostRuntime) -> Result<(), Fail> {
     Ok(())
 }
 
-/// A section may describe 256 interfaces.
+/// A section may describe 4,096 interfaces.
 #[test]
 fn too_many_interfaces(rt: HostRuntime) -> Result<(), Fail> {
     let mut reader = reader_at(&SECTIONS, 1)?;
-    for number in 0..257 {
+    for number in 0..4_097 {
         let found = reader.read(&SECTIONS[28..68]).map(|unit| unit.packet);
-        let wanted = if number < 256 {
+        let wanted = if number < 4_096 {
             Ok(None)
         } else {
             Err(CaptureError::TooManyInterfaces)
@@ -226,54 +225,52 @@ fn too_many_interfaces(rt: HostRuntime) -> Result<(), Fail> {
     Ok(())
 }
 
-/// A section header, a description of an interface and packets are read; the block of type 2, which is obsolete, and those of types
-/// from 4 on are passed over, by their types alone.
+/// A packet of an interface whose times are an hour later, and a second earlier; and a packet as an obsolete block of type 2, whose
+/// interface has two bytes. Wireshark's `tshark` shows these times.
 #[test]
-fn what_is_passed_over(rt: HostRuntime) -> Result<(), Fail> {
-    let big = reader_at(&SECTIONS, 1)?;
-    let little = reader_at(&SECTIONS, 6)?;
-    for (name, bytes, wanted) in [
-        ("a section header", &SECTIONS[..4], (false, false)),
-        ("interfaces", &[0, 0, 0, 1], (false, true)),
-        ("simple packets", &[0, 0, 0, 3], (false, true)),
-        ("enhanced packets", &[0, 0, 0, 6], (false, true)),
+fn shifted_times_and_an_obsolete_packet(rt: HostRuntime) -> Result<(), Fail> {
+    let mut earlier = SECTIONS;
+    earlier[312..320].copy_from_slice(&[0xFF; 8]);
+    let mut obsolete = SECTIONS;
+    obsolete[103] = 2;
+    obsolete[108..112].copy_from_slice(&[0, 1, 0xFF, 0xFF]);
+    for (name, file, number, start, seconds, nanoseconds) in [
         (
-            "interfaces, in the other order",
-            &[1, 0, 0, 0],
-            (true, false),
+            "an hour later",
+            &SECTIONS,
+            11,
+            424,
+            1_700_003_600,
+            123_456_000,
         ),
         (
-            "simple packets, in the other order",
-            &[3, 0, 0, 0],
-            (true, false),
+            "a second earlier",
+            &earlier,
+            11,
+            424,
+            1_699_999_999,
+            123_456_000,
         ),
         (
-            "enhanced packets, in the other order",
-            &[6, 0, 0, 0],
-            (true, false),
+            "an obsolete packet",
+            &obsolete,
+            3,
+            100,
+            1_700_000_000,
+            123_456_789,
         ),
-        ("obsolete packets", &[0, 0, 0, 2], (true, true)),
-        ("names", &[0, 0, 0, 4], (true, true)),
-        ("statistics", &[5, 0, 0, 0], (true, true)),
-        ("secrets", &[10, 0, 0, 0], (true, true)),
-        ("three bytes", &[0, 0, 0], (false, false)),
     ] {
+        let mut reader = reader_at(file, number)?;
+        let packet = reader.read(&file[start..])?.packet;
         equal(
             &rt,
             name,
-            &(big.passes_over(bytes), little.passes_over(bytes)),
-            &wanted,
+            &packet.and_then(|packet| packet.time),
+            &Some(Timestamp {
+                seconds,
+                nanoseconds,
+            }),
         );
     }
-    let mut file = SECTIONS;
-    file[103] = 2;
-    let mut reader = reader_at(&file, 3)?;
-    let unit = reader.read(&file[100..])?;
-    equal(
-        &rt,
-        "an obsolete packet",
-        &(unit.len, unit.packet),
-        &(52, None),
-    );
     Ok(())
 }

@@ -119,7 +119,7 @@ fn of_captures(rt: HostRuntime) -> Result<(), Fail> {
         ),
         (
             CaptureError::TooManyInterfaces,
-            "A section of a pcapng file describes more than 256 interfaces.",
+            "A section of a pcapng file describes more than 4096 interfaces.",
         ),
     ] {
         assert_eq!(rt; format!(in rt.alloc(); "{error}")?.as_str(), text);

@@ -8,6 +8,6 @@ use Rattle.ether_pcap.proofs.capture_blocks.add_interface.Goals as goal
 pub returns-then-is_full-clause-refused : goal.returns-then-is_full-clause-refused
 returns-then-is_full-clause-refused c =
     let items = c.args.interfaces.now.items in
-    let full : length items ≡ 256 = eqb-true (length items) 256 (sym c.is_full.ensures.value ∙ c.if-is_full.true) in
+    let full : length items ≡ 4096 = eqb-true (length items) 4096 (sym c.is_full.ensures.value ∙ c.if-is_full.true) in
     let most = length-map items capture_interface_view in
     too_many (capture_interface_view c.in-Ok.interface) c.in-Ok.ensures.interface (omega (arith, full, most))
