@@ -6,6 +6,8 @@ PROGRAM is the built program. The captures were written by hand and checked with
 """
 
 import os
+import resource
+import subprocess
 import sys
 from dataclasses import dataclass
 
@@ -129,13 +131,12 @@ CASES = [
          "byte 28: A block of a pcapng file begins with length 20 and ends with 24.\n", 3),
     Case("a packet of no interface", [], SECTION_HEADER + CUT_PACKET,
          "byte 28: A packet of a pcapng file names interface 0, which its section does not describe.\n", 3),
-    Case("a record as long as the room", [], long_record(73_712, 73_712),
-         "frame 1 time 0.000000000 link 1 captured 73712 original 0\n"
-         "ethernet2 0 000000000000 000000000000 0x0000\nrest 14 73712 type 0x0000\ntotal frames 1 skipped 0\n", 0),
-    Case("a record above the room", [], long_record(73_713, 73_713),
-         "byte 24: A record of a pcap file needs 73729 byte(s); only 73728 are available. "
-         "At most 73728 bytes are read at once.\n", 3),
-    Case("a cut record above the room", [], long_record(73_713, 84), record_is_cut(24, 73_729, 100), 3),
+    Case("the longest record", [], long_record(262_144, 262_144),
+         "frame 1 time 0.000000000 link 1 captured 262144 original 0\n"
+         "ethernet2 0 000000000000 000000000000 0x0000\nrest 14 262144 type 0x0000\ntotal frames 1 skipped 0\n", 0),
+    Case("a record above the format's greatest length", [], long_record(262_145, 262_145),
+         "byte 24: A record of a pcap file cannot have 262145 captured byte(s), the maximum is 262144.\n", 3),
+    Case("a long record that is cut", [], long_record(73_713, 84), record_is_cut(24, 73_729, 100), 3),
 ]
 
 ONE_LINES = "frame 1 time 1700000000.123456000 link 1 captured 14 original 46 cut\n" + CUT_WALK
@@ -143,7 +144,7 @@ TWO_LINES = ONE_LINES + ONE_LINES.replace("frame 1", "frame 2") + "total frames 
 
 
 def secrets(total_len, trailer, found=None):
-    """Two packets, and between them a block of decryption secrets, which is passed over, of zeros; or some bytes from the block on."""
+    """Two packets, and between them a block of decryption secrets, which is not read, of zeros; or some bytes from the block on."""
     block = (10).to_bytes(4, "little") + total_len.to_bytes(4, "little") + bytes(total_len - 12) + trailer.to_bytes(4, "little")
     front = SECTION_HEADER + ETHERNET + CUT_PACKET
     return front + (block + CUT_PACKET if found is None else block[:found])
@@ -165,15 +166,78 @@ CASES += [
 ]
 
 
+LONG = CASES[-9:]
+
+
+def block(number, *body):
+    """A block of this type, least significant byte first."""
+    body = joined(*body)
+    total_len = (12 + len(body)).to_bytes(4, "little")
+    return number.to_bytes(4, "little") + total_len + body + total_len
+
+
+# Options of an interface: times counted in microseconds, an hour later, at the same time and two hours earlier; check sequences of 32
+# and 16 bits; and flags of a packet that give it four bytes and none.
+OFFSETS = {"an hour later": ("0e000800 100e000000000000", 3600), "no offset": ("0e000800 0000000000000000", 0),
+           "two hours earlier": ("0e000800 e0e3ffffffffffff", -7200)}
+SHORT_FRAME = "020000000001 020000000002 88b5 0102 e9c0cdc8"  # 20 bytes, the last four of them a check sequence
+SHORT_LINES = "ethernet2 0 020000000001 020000000002 0x88B5"
+
+
+def interface(options):
+    """A section with an Ethernet interface of these options."""
+    return SECTION_HEADER + block(1, "01000000 00000000", options)
+
+
+def frame(number, front, options=""):
+    """A packet of 20 bytes at 1,700,000,000.123456 seconds, after what its type of block begins with."""
+    return block(number, front, "240a0600 40222018 14000000 14000000", SHORT_FRAME, options)
+
+
+def one(seconds, walk):
+    """The lines of one packet of 20 bytes."""
+    return f"frame 1 time {seconds}.123456000 link 1 captured 20 original 20\n{walk}total frames 1 skipped 0\n"
+
+
+WHOLE = f"{SHORT_LINES}\nrest 14 20 type 0x88B5\n"
+WITHOUT_FOUR = f"{SHORT_LINES} fcs e9c0cdc8\nrest 14 16 type 0x88B5\n"
+WITHOUT_TWO = f"{SHORT_LINES}\nrest 14 18 type 0x88B5\n"
+ENHANCED, OBSOLETE = (6, "00000000"), (2, "0000 0500")
+CASES += [Case(f"times of {name}", [], interface(option) + frame(*ENHANCED), one(1_700_000_000 + offset, WHOLE), 0)
+          for name, (option, offset) in OFFSETS.items()]
+CASES += [
+    Case("a time before 1970", [], interface("0e000800 00000000ffffffff") + frame(*ENHANCED),
+         one(0, WHOLE).replace("0.123456000", "-"), 0),
+    Case("an obsolete packet", [], interface("") + frame(*OBSOLETE), one(1_700_000_000, WHOLE), 0),
+    Case("a check sequence in bits", [], interface("0d000100 20000000") + frame(*ENHANCED), one(1_700_000_000, WITHOUT_FOUR), 0),
+    Case("one of two bytes in bits", [], interface("0d000100 10000000") + frame(*ENHANCED), one(1_700_000_000, WITHOUT_TWO), 0),
+    Case("a check sequence by the packet's flags", [], interface("") + frame(*ENHANCED, "02000400 80000000"),
+         one(1_700_000_000, WITHOUT_FOUR), 0),
+    Case("flags before the interface", [], interface("0d000100 04000000") + frame(*OBSOLETE, "02000400 40000000"),
+         one(1_700_000_000, WITHOUT_TWO), 0),
+    Case("flags that don't say it", [], interface("0d000100 04000000") + frame(*ENHANCED, "02000400 01000000"),
+         one(1_700_000_000, WITHOUT_FOUR), 0),
+    Case("257 interfaces", [], interface("") + block(1, "01000000 00000000") * 256 + frame(6, "00010000"), one(1_700_000_000, WHOLE), 0),
+]
+
+
+def without_memory(program, capture):
+    """What the program prints, and its status, if it may have 4 MiB."""
+    limit = lambda: resource.setrlimit(resource.RLIMIT_AS, (4 << 20, 4 << 20))  # noqa: E731
+    done = subprocess.run([program], input=capture, stdout=subprocess.PIPE, preexec_fn=limit, check=False)
+    return done.stdout.decode(), done.returncode
+
+
 def main():
     program = os.path.realpath(sys.argv[1])
     tried = [(case.name, run(program, case.words, case.capture), (case.text, case.status)) for case in CASES]
-    for cases, steps in ((CASES[:6], (1, 2, 3, 7, 16, 59, 64)), (CASES[-9:], (1_000, 65_537))):
+    for cases, steps in ((CASES[:6], (1, 2, 3, 7, 16, 59, 64)), (LONG, (1_000, 65_537))):
         for case in cases:
             for step in steps:
                 found = run_in_pieces(program, case.words, case.capture, step)
                 tried.append((f"{case.name} in pieces of {step}", found, (case.text, case.status)))
     tried.append(("a reader that fails", run_until_a_fault(program, [], CLASSIC[:59]), (FIRST_LINES, 4)))
+    tried.append(("no memory for a block", without_memory(program, secrets(16_777_216, 16_777_216)), (ONE_LINES + "out of memory\n", 5)))
     for words in ([], ["--plain"], ["plain"]):
         tried.append((f"a full disk, {words}", status_on_a_full_disk(program, words, CLASSIC), 4))
     return count(tried)
