@@ -5,6 +5,7 @@
 PROGRAM is the built program. The captures were written by hand and checked with tshark. The last line is 'N passed, M failed'.
 """
 
+import gzip
 import os
 import resource
 import subprocess
@@ -126,6 +127,12 @@ CASES = [
     Case("a record's header that is cut", [], CLASSIC[:60], FIRST_LINES + record_is_cut(59, 16, 1), 3),
     Case("a cut record, its walks alone", ["--plain"], CLASSIC[:58], record_is_cut(24, 35, 34), 3),
     Case("another magic number", [], CLASSIC[4:], "byte 0: The magic number 0x00020004 is not that of a pcap file.\n", 3),
+    Case("a packed capture", [], gzip.compress(CLASSIC, mtime=0),
+         "byte 0: The magic number 0x1F8B0800 is not that of a pcap file. This looks like gzip: zcat unpacks it.\n", 3),
+    Case("a variant of pcap", [], joined("a1b2cd34") + CLASSIC[4:],
+         "byte 0: The magic number 0xA1B2CD34 is not that of a pcap file. This is a variant of pcap: editcap converts it.\n", 3),
+    Case("an older version", [], joined("a1b2c3d4 0002 0003") + CLASSIC[8:],
+         "byte 0: Version 2.3 of the pcap format is not supported, only 2.4. editcap converts it.\n", 3),
     Case("no byte", [], b"", "byte 0: The header of a pcap file needs 24 byte(s); only 0 are available.\n", 3),
     Case("lengths that differ", [], bytes(UNEQUAL),
          "byte 28: A block of a pcapng file begins with length 20 and ends with 24.\n", 3),

@@ -1,7 +1,10 @@
 -- How the program ends: what it prints last, and its exit status.
-use Rattle.std.specs.Prelude.{ℕ, List, ◌++◌, codes, Option, Some, None, Result, Ok, Err, Bool, true, false}
+use Rattle.std.specs.Prelude.{ℕ, ◌/◌, ◌^◌, List, [], ◌++◌, codes, nat_eq, Option, Some, None, Result, Ok, Err, Bool, true, false, if◌then◌else◌}
 use Rattle.std.specs.Fmt.{decimal}
 use Rattle.ether_pcap.specs.CaptureTexts.{capture_error_text}
+use Rattle.ether_pcap.specs.declared.capture_error.CaptureError.{CaptureError}
+use Rattle.ether_pcap.specs.declared.capture_error.CaptureError.TheVariants as errors
+use Rattle.ether_pcap.specs.declared.file_header_error.FileHeaderError.TheVariants as file_errors
 use Rattle.ether_text.specs.declared.verdict.Verdict.{Verdict}
 use Rattle.ether_text.specs.declared.verdict.Verdict.TheVariants.{AllAccepted, SomeRefused}
 use Rattle.ether_capture.specs.declared.options.Usage.{Usage}
@@ -27,8 +30,22 @@ usage_text = codes "usage: ether_capture [--plain] < capture"
 abbrev pub memory_text : List ℕ
 memory_text = codes "out of memory"
 
+-- what reads a file with these first four bytes: gzip (RFC 1952), zstd (RFC 8878), xz, and the variant of pcap with longer records
+abbrev pub magic_hint_text : ℕ → List ℕ
+magic_hint_text n =
+    if nat_eq (n / 2 ^ 16) 8075 then codes " This looks like gzip: zcat unpacks it."
+    else (if nat_eq n 682962941 then codes " This looks like zstd: zstdcat unpacks it."
+    else (if nat_eq n 4248271448 then codes " This looks like xz: xzcat unpacks it."
+    else (if nat_eq n 2712849716 then codes " This is a variant of pcap: editcap converts it."
+    else (if nat_eq n 885895841 then codes " This is a variant of pcap: editcap converts it." else []))))
+
+abbrev pub hint_text : CaptureError → List ℕ
+hint_text (errors.File (file_errors.Magic n)) = magic_hint_text n
+hint_text (errors.File (file_errors.Version major minor)) = codes " editcap converts it."
+hint_text _ = []
+
 abbrev pub capture_fault_text : CaptureFault → List ℕ
-capture_fault_text fault = codes "byte " ++ (decimal fault.offset ++ (codes ": " ++ capture_error_text fault.error))
+capture_fault_text fault = codes "byte " ++ (decimal fault.offset ++ (codes ": " ++ (capture_error_text fault.error ++ hint_text fault.error)))
 
 -- what the program prints last, without its line feed: the usage if the arguments are wrong
 abbrev pub last_text : Result (Result Verdict RunFault) Usage → Option (List ℕ)

@@ -1,7 +1,7 @@
 //! Reads a capture file of the classic pcap format or of pcapng, and prints the lines of the walk of each packet.
 //!
 //! `main` calls [`program::program`] on the arguments and the standard streams. All that it prints goes to standard
-//! output.
+//! output, but that a stream failed, which `main` says on standard error.
 #![tactic(auto)]
 
 mod frame_lines;
@@ -23,5 +23,8 @@ fn main(rt: HostRuntime) -> ExitCode {
         &mut rt.reader(),
         &mut io::writer(&rt),
     );
+    if status == 4 {
+        let _ = eprintln!(rt; "ether_capture: input or output failed");
+    }
     ExitCode::from(status)
 }

@@ -1,10 +1,10 @@
 //! How the program ends: what a run found or why it stopped, the exit status of each, and the last line.
 ghost use Rattle.std.specs.Prelude.{◌≡◌};
 ghost use Rattle.std.specs.Option.{option_map};
-ghost use Rattle.ether_capture.specs.Outcome.{exit_status, last_line_text, last_text, status_of_program};
+ghost use Rattle.ether_capture.specs.Outcome.{exit_status, hint_text, magic_hint_text, last_line_text, last_text, status_of_program};
 
 use crate::options::Usage;
-use ether_pcap::CaptureError;
+use ether_pcap::{CaptureError, FileHeaderError};
 use ether_text::{InputFault, OutputFault, Verdict};
 use std::alloc::AllocError;
 use std::fmt;
@@ -27,7 +27,35 @@ impl fmt::Display for CaptureFault {
     fn fmt<W: fmt::Write>(&self, f: &mut fmt::Formatter<W>) -> fmt::Result {
         let offset = self.offset;
         let error = &self.error;
-        write!(f, "byte {offset}: {error}")
+        let hint = hint(error);
+        write!(f, "byte {offset}: {error}{hint}")
+    }
+}
+
+/// What reads a file that this crate can't read, by its first four bytes or its version.
+fn hint(error: &CaptureError) -> &'static str
+    ensures { result.now ≡ hint_text error.now }
+{
+    let CaptureError::File(error) = error else {
+        return "";
+    };
+    match error {
+        FileHeaderError::Len { .. } => "",
+        FileHeaderError::Magic(number) => magic_hint(*number),
+        FileHeaderError::Version { .. } => " editcap converts it.",
+    }
+}
+
+/// What reads a file with these first four bytes.
+fn magic_hint(number: u32) -> &'static str
+    ensures { result.now ≡ magic_hint_text number }
+{
+    match number {
+        0x1F8B_0000..=0x1F8B_FFFF => " This looks like gzip: zcat unpacks it.",
+        0x28B5_2FFD => " This looks like zstd: zstdcat unpacks it.",
+        0xFD37_7A58 => " This looks like xz: xzcat unpacks it.",
+        0xA1B2_CD34 | 0x34CD_B2A1 => " This is a variant of pcap: editcap converts it.",
+        _ => "",
     }
 }
 
