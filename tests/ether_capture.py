@@ -12,8 +12,9 @@ import subprocess
 import sys
 from dataclasses import dataclass
 
-from programs import count, run, run_in_pieces, run_until_a_fault, status_on_a_full_disk
+from programs import count, run, run_in_pieces, run_until_a_fault, on_a_full_disk
 
+FAILED = ("ether_capture: input or output failed\n", 4)
 USAGE = "usage: ether_capture [--plain] < capture\n"
 
 
@@ -246,7 +247,7 @@ def main():
     tried.append(("a reader that fails", run_until_a_fault(program, [], CLASSIC[:59]), (FIRST_LINES, 4)))
     tried.append(("no memory for a block", without_memory(program, secrets(16_777_216, 16_777_216)), (ONE_LINES + "out of memory\n", 5)))
     for words in ([], ["--plain"], ["plain"]):
-        tried.append((f"a full disk, {words}", status_on_a_full_disk(program, words, CLASSIC), 4))
+        tried.append((f"a full disk, {words}", on_a_full_disk(program, words, CLASSIC), FAILED))
     return count(tried)
 
 

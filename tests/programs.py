@@ -10,7 +10,7 @@ def run(program, words, given):
     with tempfile.TemporaryFile() as file:
         file.write(given)
         file.seek(0)
-        done = subprocess.run([program, *words], stdin=file, stdout=subprocess.PIPE, check=False)
+        done = subprocess.run([program, *words], stdin=file, stdout=subprocess.PIPE, stderr=subprocess.DEVNULL, check=False)
     return done.stdout.decode(), done.returncode
 
 
@@ -33,16 +33,18 @@ def run_until_a_fault(program, words, given):
     ours, theirs = socket.socketpair()
     theirs.send(b"unread")  # so that closing our end is a fault of theirs
     ours.sendall(given)
-    with subprocess.Popen([program, *words], stdin=theirs, stdout=subprocess.PIPE) as child:
+    with subprocess.Popen([program, *words], stdin=theirs, stdout=subprocess.PIPE, stderr=subprocess.DEVNULL) as child:
         theirs.close()
         ours.close()
         text = child.stdout.read().decode()
     return text, child.returncode
 
 
-def status_on_a_full_disk(program, words, given):
+def on_a_full_disk(program, words, given):
+    """What the program says on standard error if nothing can be written, and its status."""
     with open("/dev/full", "wb") as full:
-        return subprocess.run([program, *words], input=given, stdout=full, check=False).returncode
+        done = subprocess.run([program, *words], input=given, stdout=full, stderr=subprocess.PIPE, check=False)
+    return done.stderr.decode(), done.returncode
 
 
 def count(tried):
