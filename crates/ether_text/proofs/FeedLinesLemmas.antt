@@ -1,5 +1,5 @@
 -- A frame that a walk is fed, whose lines are written one by one.
-use Rattle.std.proofs.Common.{◌≡◌, ℕ, List, [], ◌++◌, take, Bool, true, false, refl, sym, ap, subst, ◌∙◌, append-nil}
+use Rattle.std.proofs.Common.{◌≡◌, ℕ, ◌+◌, List, [], ◌++◌, take, Bool, true, false, refl, sym, ap, subst, ◌∙◌, append-nil, arith}
 use Rattle.std.specs.Prelude.{Option, Some, None, codes}
 use Rattle.std.proofs.lemmas.Option.{same_Some}
 use Rattle.ether_peel.specs.Grammar.Expectation.{Expectation}
@@ -14,13 +14,16 @@ use Rattle.ether_text.specs.WalkText.{AnswersFeed}
 use Rattle.ether_text.specs.OutputBuffer.{Takes, TakesAnswer}
 use Rattle.ether_text.specs.declared.output_buffer.OutputBuffer.{OutputBuffer}
 use Rattle.ether_text.proofs.OutputBufferLemmas.{Takes-then, Takes-same}
-use Rattle.ether_text.proofs.WalkLinesLemmas.{fault_view_text-fault}
+use Rattle.ether_text.proofs.WalkLinesLemmas.{fault_after, fault_view_text-fault}
+
+no_place : (f : PeelFault) → fault_view_text f ≡ fault_view_text (fault_after 0 f)
+no_place f = ap (λ (n : ℕ). fault_view_text (record f { offset = n })) (omega arith)
 
 -- an ending with a fault has that fault's line, and is not accepted
 line_of_fault : (e : Ending) (f : PeelFault) → fault_of e ≡ Some f → (fault_view_text f ++ codes "\n" ≡ fault_line e) × (false ≡ is_accepted e)
 unfolding fault_line
 line_of_fault (Accepted w x) f is = absurd (cc)
-line_of_fault (Fault w x r) f is = (ap (λ (l : List ℕ). l ++ codes "\n") (ap fault_view_text (sym (same_Some _ _ is)) ∙ fault_view_text-fault w r), refl)
+line_of_fault (Fault w x r) f is = (ap (λ (l : List ℕ). l ++ codes "\n") (ap fault_view_text (sym (same_Some _ _ is)) ∙ no_place _ ∙ fault_view_text-fault 0 w r), refl)
 
 -- an ending without one has no line, and is accepted
 no_line : (e : Ending) → fault_of e ≡ None → (fault_line e ≡ []) × (true ≡ is_accepted e)

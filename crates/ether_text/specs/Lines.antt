@@ -1,5 +1,5 @@
 -- The lines that a walk is printed as, each ended by a line feed.
-use Rattle.std.specs.Prelude.{ℕ, ◌-◌, List, [], ◌∷◌, ◌++◌, length, slice_range, codes, Option, Some, None, Bool, true, false}
+use Rattle.std.specs.Prelude.{ℕ, ◌+◌, ◌-◌, List, [], ◌∷◌, ◌++◌, length, slice_range, codes, Option, Some, None, Bool, true, false}
 use Rattle.std.specs.Fmt.{decimal}
 use Rattle.etherparse.specs.Types.LenSource.{LenSource}
 use Rattle.etherparse.specs.Types.LenSource.TheVariants as sources
@@ -78,14 +78,15 @@ unfoldable pub arp_text : ℕ → ArpValue → List ℕ
 arp_text start a =
     spaced (codes "arp" ∷ decimal start ∷ codes "hw" ∷ decimal a.hardware_type ∷ codes "proto" ∷ hex_number a.protocol_type ∷ codes "hlen" ∷ decimal (length a.sender_hardware) ∷ codes "plen" ∷ decimal (length a.sender_protocol) ∷ codes "op" ∷ decimal a.operation ∷ [])
 
--- a unit of the list, with its window
-unfoldable pub unit_text : List ℕ → Window → Header → List ℕ
-unit_text list w (headers.Ethernet2 e) = ethernet2_text w.start e
-unit_text list w (headers.Ethernet2Fcs e) = ethernet2_fcs_text w.start e (slice_range list (w.finish - 4) w.finish)
-unit_text list w (headers.LinuxSll s) = linux_sll_text w.start s
-unit_text list w (headers.Vlan v) = vlan_text w.start v
-unit_text list w (headers.Macsec t) = let inner = payload w (headers.Macsec t) in macsec_text w.start t (inner.finish - inner.start) inner.closed
-unit_text list w (headers.Arp a) = arp_text w.start a
+-- a unit of the list, with its window; each place is counted from so many bytes before the list
+unfoldable pub unit_text : (at : ℕ) → List ℕ → Window → Header → List ℕ
+unit_text at list w (headers.Ethernet2 e) = ethernet2_text (at + w.start) e
+unit_text at list w (headers.Ethernet2Fcs e) = ethernet2_fcs_text (at + w.start) e (slice_range list (w.finish - 4) w.finish)
+unit_text at list w (headers.LinuxSll s) = linux_sll_text (at + w.start) s
+unit_text at list w (headers.Vlan v) = vlan_text (at + w.start) v
+unit_text at list w (headers.Macsec t) =
+    let inner = payload w (headers.Macsec t) in macsec_text (at + w.start) t (inner.finish - inner.start) inner.closed
+unit_text at list w (headers.Arp a) = arp_text (at + w.start) a
 
 -- ---- the ending
 
@@ -105,19 +106,19 @@ kind_text (Sll protocol) = protocol_text protocol
 kind_text Sealed = codes "sealed"
 kind_text AfterArp = codes "after_arp"
 
-unfoldable pub rest_text : Window → Expectation → List ℕ
-rest_text w x = spaced (codes "rest" ∷ decimal w.start ∷ decimal w.finish ∷ kind_text x.next ∷ [])
+unfoldable pub rest_text : (at : ℕ) → Window → Expectation → List ℕ
+rest_text at w x = spaced (codes "rest" ∷ decimal (at + w.start) ∷ decimal (at + w.finish) ∷ kind_text x.next ∷ [])
 
-unfoldable pub fault_text : Window → Refusal → List ℕ
-fault_text w (Length required len source layer) = spaced (codes "fault" ∷ decimal w.start ∷ mark_text w.closed ∷ codes "length" ∷ decimal required ∷ decimal len ∷ source_text source ∷ [])
-fault_text w (UnsupportedPacketType n) = spaced (codes "fault" ∷ decimal w.start ∷ mark_text w.closed ∷ codes "content" ∷ codes "sll_packet_type" ∷ decimal n ∷ [])
-fault_text w (UnsupportedHardwareType n) = spaced (codes "fault" ∷ decimal w.start ∷ mark_text w.closed ∷ codes "content" ∷ codes "sll_hardware_type" ∷ decimal n ∷ [])
-fault_text w UnexpectedVersion = spaced (codes "fault" ∷ decimal w.start ∷ mark_text w.closed ∷ codes "content" ∷ codes "macsec_version" ∷ [])
-fault_text w InvalidShortLen = spaced (codes "fault" ∷ decimal w.start ∷ mark_text w.closed ∷ codes "content" ∷ codes "macsec_short_len" ∷ [])
+unfoldable pub fault_text : (at : ℕ) → Window → Refusal → List ℕ
+fault_text at w (Length required len source layer) = spaced (codes "fault" ∷ decimal (at + w.start) ∷ mark_text w.closed ∷ codes "length" ∷ decimal required ∷ decimal len ∷ source_text source ∷ [])
+fault_text at w (UnsupportedPacketType n) = spaced (codes "fault" ∷ decimal (at + w.start) ∷ mark_text w.closed ∷ codes "content" ∷ codes "sll_packet_type" ∷ decimal n ∷ [])
+fault_text at w (UnsupportedHardwareType n) = spaced (codes "fault" ∷ decimal (at + w.start) ∷ mark_text w.closed ∷ codes "content" ∷ codes "sll_hardware_type" ∷ decimal n ∷ [])
+fault_text at w UnexpectedVersion = spaced (codes "fault" ∷ decimal (at + w.start) ∷ mark_text w.closed ∷ codes "content" ∷ codes "macsec_version" ∷ [])
+fault_text at w InvalidShortLen = spaced (codes "fault" ∷ decimal (at + w.start) ∷ mark_text w.closed ∷ codes "content" ∷ codes "macsec_short_len" ∷ [])
 
-unfoldable pub ending_text : Ending → List ℕ
-ending_text (Accepted w x) = rest_text w x
-ending_text (Fault w x r) = fault_text w r
+unfoldable pub ending_text : (at : ℕ) → Ending → List ℕ
+ending_text at (Accepted w x) = rest_text at w x
+ending_text at (Fault w x r) = fault_text at w r
 
 -- ---- a frame that is fed
 
@@ -128,14 +129,14 @@ feed_text refusals taken = spaced (codes "feed" ∷ codes "refusals" ∷ decimal
 -- the line of a fault, if there is one
 unfoldable pub fault_line : Ending → List ℕ
 fault_line (Accepted w x) = []
-fault_line (Fault w x r) = fault_text w r ++ codes "\n"
+fault_line (Fault w x r) = fault_text 0 w r ++ codes "\n"
 
 -- ---- a frame
 
 -- the lines of the units from a window on, each in the payload of the one before it, and the line of the ending
-unfoldable pub frame_text : List ℕ → Window → List Header → Ending → List ℕ
-frame_text list w [] e = ending_text e ++ codes "\n"
-frame_text list w (h ∷ hs) e = (unit_text list w h ++ codes "\n") ++ frame_text list (payload w h) hs e
+unfoldable pub frame_text : (at : ℕ) → List ℕ → Window → List Header → Ending → List ℕ
+frame_text at list w [] e = ending_text at e ++ codes "\n"
+frame_text at list w (h ∷ hs) e = (unit_text at list w h ++ codes "\n") ++ frame_text at list (payload w h) hs e
 
 abbrev pub is_accepted : Ending → Bool
 is_accepted (Accepted w x) = true

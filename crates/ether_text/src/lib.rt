@@ -28,4 +28,4 @@ pub use output_fault::OutputFault;
 pub use sink::Sink;
 pub use source::{SliceSource, Source};
 pub use verdict::Verdict;
-pub use walk_lines::write_walk;
+pub use walk_lines::{write_walk, write_walk_after};

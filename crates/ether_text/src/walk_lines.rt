@@ -1,7 +1,7 @@
 //! Writes the lines of a frame's walk.
-ghost use Rattle.std.specs.Prelude.{◌≡◌, List, false};
+ghost use Rattle.std.specs.Prelude.{◌≡◌, ◌+◌, ◌^◌, ◌<◌, List, false};
 ghost use Rattle.ether_text.specs.OutputBuffer.{TakesAnswer};
-ghost use Rattle.ether_text.specs.WalkText.{AnswersWalk};
+ghost use Rattle.ether_text.specs.WalkText.{AnswersWalk, AnswersWalkAfter};
 ghost use Rattle.etherparse.specs.Header.{Header};
 ghost use Rattle.ether_peel.specs.Grammar.Stack.{Ending, Walk, whole};
 ghost use Rattle.ether_peel.specs.Walker.Next.{Faces};
@@ -9,7 +9,7 @@ ghost use Rattle.ether_peel.specs.Walker.Start.{start_with};
 
 use crate::write_lines::{write_fault, write_rest, write_unit};
 use crate::{OutputBuffer, Sink};
-use ether_peel::{Peel, Start};
+use ether_peel::{Peel, PeelFault, Start};
 
 /// Writes the lines of a frame's walk, and returns whether the frame is accepted.
 ///
@@ -41,13 +41,29 @@ pub fn write_walk<W: Sink>(
     ensures { TakesAnswer W.contents W.can_fail (AnswersWalk (start_with start limit) frame.now)
         out.old out.new result }
 {
+    write_walk_after(0, start, limit, frame, out)
+}
+
+/// Does as [`write_walk`], with each place counted from `header_len` bytes before the frame: from the begin of a header that the walk
+/// does not know.
+pub fn write_walk_after<W: Sink>(
+    header_len: u8,
+    start: Start,
+    limit: Option<usize>,
+    frame: &[u8],
+    out: &mut OutputBuffer<'_, W>,
+) -> bool
+    ensures { TakesAnswer W.contents W.can_fail
+        (AnswersWalkAfter header_len (start_with start limit) frame.now) out.old out.new result }
+{
+    let at = usize::from(header_len);
     let mut peel = walker(start, limit, frame);
     loop {
-        let offset = peel.offset();
+        let offset = at + peel.offset();
         match peel.next() {
             Some(Ok(unit)) => write_unit(out, offset, peel.rest().len(), peel.closed(), &unit),
             Some(Err(fault)) => {
-                write_fault(out, &fault);
+                write_fault(out, &after(at, fault));
                 return false;
             }
             None => {
@@ -56,6 +72,18 @@ pub fn write_walk<W: Sink>(
                 return true;
             }
         }
+    }
+}
+
+/// A fault whose place is counted from `at` bytes before the frame.
+fn after(at: usize, fault: PeelFault) -> PeelFault
+    requires { at + fault.offset < 2 ^ 64 }
+    ensures { result ≡ record fault { offset = at + fault.offset } }
+{
+    PeelFault {
+        offset: at + fault.offset,
+        error: fault.error,
+        closed: fault.closed,
     }
 }
 
