@@ -11,6 +11,11 @@ returns c =
     let len : length b ≡ 20 = search rules in
     let value = subst (IsLinuxSll2 b) (sym h.view) (linux_sll2_whole b h.bytes len) in
     record {
-      answers = record { accepted = linux_sll2_accepted b h.bytes holds.0 holds.1; value = value; address = h.address; protocol = h.protocol };
+      answers = record {
+        accepted = linux_sll2_accepted b h.bytes holds.0 holds.1;
+        value = value;
+        address = h.address;
+        protocol = h.protocol;
+      };
       inverse = written_back b _ h.bytes len value;
     }

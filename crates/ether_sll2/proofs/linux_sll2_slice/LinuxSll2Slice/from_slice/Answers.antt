@@ -8,4 +8,5 @@ returns-clause-accepted c =
     linux_sll2_accepted c.args.slice.now (λ i. omega (arith, c.type_inv.slice i)) h.0 h.1
 
 pub returns-clause-value : goal.returns-clause-value
-returns-clause-value c = linux_sll2_begins c.args.slice.now (λ i. omega (arith, c.type_inv.slice i)) c.in_ok-require_header.ensures.holds.0
+returns-clause-value c =
+    linux_sll2_begins c.args.slice.now (λ i. omega (arith, c.type_inv.slice i)) c.in_ok-require_header.ensures.holds.0
