@@ -10,11 +10,11 @@ use std::fmt;
 /// ```
 /// let error = LinuxSll2Error::Len {
 ///     required_len: 20,
-///     len: 16,
+///     len: 19,
 /// };
 /// assert_eq!(rt;
 ///     format!(in rt.alloc(); "{error}")?.as_str(),
-///     "A header of Linux cooked capture v2 needs 20 byte(s); only 16 are available."
+///     "A header of Linux cooked capture v2 needs 20 byte(s); only 19 are available."
 /// );
 /// ```
 #[derive(Clone, PartialEq, Eq, Debug, Drop)]

@@ -23,11 +23,11 @@ use ether_base::{ArpHardwareId, LinuxSllPacketType, LinuxSllProtocolType};
 ///
 /// ```
 /// let bytes = [
-///     0x08, 0x00, 0x00, 0x00, 0x00, 0x00, 0x00, 0x03, 0x00, 0x01, 0x04, 0x06, // up to the address length
+///     0x81, 0x00, 0x00, 0x00, 0x00, 0x00, 0x00, 0x03, 0x00, 0x01, 0x04, 0x06, // up to the address length
 ///     0x02, 0x00, 0x00, 0x00, 0x00, 0x01, 0x00, 0x00, // sender's address
 /// ];
 /// let header = LinuxSll2Header {
-///     protocol_type: LinuxSllProtocolType::EtherType(EtherType::IPV4),
+///     protocol_type: LinuxSllProtocolType::EtherType(EtherType::VLAN_TAGGED_FRAME),
 ///     interface_index: 3,
 ///     arp_hrd_type: ArpHardwareId::ETHERNET,
 ///     packet_type: LinuxSllPacketType::OUTGOING,

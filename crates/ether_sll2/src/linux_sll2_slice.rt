@@ -16,7 +16,7 @@ use std::fmt;
 use std::marker::Model;
 
 /// A view of a packet of Linux cooked capture v2 (LINKTYPE_LINUX_SLL2): a header ([`LinuxSll2Header`] has a picture of it)
-/// and its payload. The packet type is supported.
+/// and its payload, which `ether_peel` walks. The packet type is supported.
 ///
 /// Two views are equal if their bytes are, the reserved ones included, wherever these are.
 ///
@@ -30,7 +30,10 @@ use std::marker::Model;
 /// let packet = LinuxSll2Slice::from_slice(&bytes)?;
 /// assert_eq!(rt; packet.interface_index(), 3);
 /// assert_eq!(rt; packet.payload_slice(), &bytes[20..]);
-/// assert_eq!(rt; packet.start(), Some(Start::EtherType(EtherType::VLAN_TAGGED_FRAME)));
+/// if let Some(start) = packet.start() {
+///     let mut peel = Peel::new(start, packet.payload_slice());
+///     assert!(rt; matches!(peel.next(), Some(Ok(PeelUnit::Vlan(_)))));
+/// }
 /// ```
 #[derive(Drop)]
 pub struct LinuxSll2Slice<'a> {
@@ -171,11 +174,11 @@ impl<'a> LinuxSll2Slice<'a> {
         &slice[LinuxSll2Header::LEN..]
     }
 
-    /// What a walk of the payload starts with, for `Peel::new` and its kin; `None` if the protocol type has no ether type,
-    /// as of netlink or GRE.
+    /// What a walk of [`payload_slice`](Self::payload_slice) starts with, for `Peel::new` and its kin; `None` if the protocol
+    /// type has no ether type, as of netlink or GRE.
     ///
-    /// A number that Linux has below the ether types is one here, and announces nothing. Offsets of the walk count from the
-    /// start of [`payload_slice`](Self::payload_slice).
+    /// A number that Linux has below the ether types is taken for one, as after cooked capture v1, and announces nothing.
+    /// Offsets of the walk count from the start of the payload.
     pub fn start(&self) -> Option<Start>
         ensures { result ≡ start_in self.now }
     {

@@ -2,7 +2,7 @@
 //! others were composed with scapy's CookedLinuxV2. The fields that are wanted are those that tshark prints of them, and
 //! scapy's where it prints none.
 use super::equal;
-use ether_peel::Start;
+use ether_peel::{Peel, PeelUnit, Start};
 use ether_sll2::{LinuxSll2Error, LinuxSll2Header, LinuxSll2HeaderSlice, LinuxSll2Slice};
 use etherparse::{
     ArpHardwareId, EtherType, LinuxNonstandardEtherType, LinuxSllPacketType, LinuxSllPayloadSlice,
@@ -39,6 +39,12 @@ const SPANNING_TREE: [u8; 23] = [
 const SENT: [u8; 23] = [
     0x00, 0x26, 0x00, 0x00, 0x00, 0x00, 0x00, 0x03, 0x00, 0x01, 0x04, 0x06, 0x02, 0x00, 0x5E, 0x10,
     0x00, 0x01, 0x00, 0x00, 0x42, 0x42, 0x03,
+];
+
+/// Composed: the example, a VLAN tag.
+const EXAMPLE: [u8; 25] = [
+    0x81, 0x00, 0x00, 0x00, 0x00, 0x00, 0x00, 0x03, 0x00, 0x01, 0x04, 0x06, 0x02, 0x00, 0x00, 0x00,
+    0x00, 0x01, 0x00, 0x00, 0xB1, 0x23, 0x08, 0x00, 0x45,
 ];
 
 /// Composed: a VLAN tag after a header with reserved bytes that are not 0.
@@ -92,7 +98,20 @@ const TO_US: LinuxSll2Header = LinuxSll2Header {
 };
 
 /// Name, packet, its header, the sender's address and the start of a walk.
-const PACKETS: [(&str, &[u8], LinuxSll2Header, &[u8], Option<Start>); 10] = [
+const PACKETS: [(&str, &[u8], LinuxSll2Header, &[u8], Option<Start>); 11] = [
+    (
+        "the example",
+        &EXAMPLE,
+        LinuxSll2Header {
+            protocol_type: LinuxSllProtocolType::EtherType(EtherType::VLAN_TAGGED_FRAME),
+            interface_index: 3,
+            packet_type: LinuxSllPacketType::OUTGOING,
+            sender_address: [2, 0, 0, 0, 0, 1, 0, 0],
+            ..CAPTURED
+        },
+        &[2, 0, 0, 0, 0, 1],
+        Some(Start::EtherType(EtherType::VLAN_TAGGED_FRAME)),
+    ),
     (
         "loopback",
         &LOOPBACK,
@@ -248,6 +267,15 @@ fn packets(rt: HostRuntime) -> Result<(), Fail> {
             ),
         );
     }
+    let packet = LinuxSll2Slice::from_slice(&EXAMPLE)?;
+    let mut found = None;
+    if let Some(start) = packet.start() {
+        let mut peel = Peel::new(start, packet.payload_slice());
+        if let Some(Ok(PeelUnit::Vlan(tag))) = peel.next() {
+            found = Some((tag.vlan_identifier().value(), peel.offset()));
+        }
+    }
+    equal(&rt, "the walk of the example", &found, &Some((291, 4)));
     let view = LinuxSll2HeaderSlice::from_slice(&GRE)?;
     let packet = LinuxSll2Slice::from_slice(&GRE)?;
     let shown = format!(in rt.alloc(); "{view:?}\n{packet:?}")?;
