@@ -2,4 +2,5 @@
 mod arp;
 mod base;
 mod sll;
+mod sll2;
 mod tags;

@@ -8,6 +8,7 @@ mod hardware_types;
 mod link;
 mod link_ext;
 mod linux_sll;
+mod linux_sll2;
 mod macsec;
 mod names;
 mod numbers;

@@ -1,0 +1,2 @@
+pub mod LinuxSll2Fields
+pub mod LinuxSll2Laws
