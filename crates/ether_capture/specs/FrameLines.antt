@@ -1,11 +1,12 @@
 -- The lines of a captured packet: one for the packet itself, and those of the walk through its headers.
-use Rattle.std.specs.Prelude.{◌≡◌, ℕ, ◌+◌, ◌-◌, ◌/◌, ◌%◌, ◌^◌, max, List, [], ◌∷◌, ◌++◌, length, take, codes, nat_eq, nat_lt, Bool, true, false, ◌&&◌, not, Option, Some, None, is_none, unwrap_or, if◌then◌else◌}
+use Rattle.std.specs.Prelude.{◌≡◌, ℕ, ◌+◌, ◌-◌, ◌/◌, ◌%◌, ◌^◌, max, List, [], ◌∷◌, ◌++◌, length, take, codes, nat_eq, nat_lt, Bool, true, false, ◌&&◌, not, Option, Some, None, unwrap_or, if◌then◌else◌}
 use Rattle.std.specs.Fmt.{decimal}
 use Rattle.etherparse.specs.Kind as kinds
 use Rattle.ether_peel.specs.Grammar.Expectation.{Next, Start}
 use Rattle.ether_text.specs.Lines.{spaced}
 use Rattle.ether_text.specs.WalkText.{AnswersWalk}
 use Rattle.ether_pcap.specs.Capture.{PacketValue, TimeValue}
+use Rattle.ether_capture.specs.LinuxSll2Lines.{AnswersLinuxSll2}
 
 -- ---- what is walked through
 
@@ -25,15 +26,27 @@ without_fcs p = take (max p.original_len (length p.packet) - fcs_len p) p.packet
 abbrev pub has_fcs : PacketValue → Bool
 has_fcs p = not (is_cut p) && nat_eq (fcs_len p) 4
 
--- What the packet begins with and the bytes that are walked through, by its link type: 1 is Ethernet, 113 is Linux cooked capture v1
--- (the list of link types of the tcpdump group). A frame check sequence of four bytes is part of a frame of Ethernet if it is all there.
-abbrev pub frame_of : PacketValue → Option (Next × List ℕ)
-frame_of p =
-    if nat_eq p.link_type 1 then (if has_fcs p then Some (Start kinds.Ethernet2Fcs, p.packet) else Some (Start kinds.Ethernet2, without_fcs p))
-    else (if nat_eq p.link_type 113 then Some (Start kinds.LinuxSll, without_fcs p) else None)
+-- what is walked of a packet: a frame, with what it begins with; a packet of Linux cooked capture v2; or nothing
+pub data ContentValue : Type 0 where
+  Frame : Next → List ℕ → ContentValue
+  LinuxSll2 : List ℕ → ContentValue
+  Unknown : ContentValue
+
+-- .. by its link type: 1 is Ethernet, 113 and 276 are Linux cooked capture v1 and v2 (the list of link types of the tcpdump group). A frame
+-- check sequence of four bytes is part of a frame of Ethernet if it is all there.
+abbrev pub content_of : PacketValue → ContentValue
+content_of p =
+    if nat_eq p.link_type 1 then (if has_fcs p then Frame (Start kinds.Ethernet2Fcs) p.packet else Frame (Start kinds.Ethernet2) (without_fcs p))
+    else (if nat_eq p.link_type 113 then Frame (Start kinds.LinuxSll) (without_fcs p)
+    else (if nat_eq p.link_type 276 then LinuxSll2 (without_fcs p) else Unknown))
+
+abbrev pub is_unknown : ContentValue → Bool
+is_unknown (Frame next bytes) = false
+is_unknown (LinuxSll2 bytes) = false
+is_unknown Unknown = true
 
 abbrev pub is_skipped : PacketValue → Bool
-is_skipped p = is_none (frame_of p)
+is_skipped p = is_unknown (content_of p)
 
 -- ---- the line of the packet
 
@@ -68,15 +81,16 @@ packet_line_if false number p = packet_line number p
 
 -- ---- all lines of a packet
 
--- the lines of the walk of a frame; a packet that is skipped has none
-abbrev pub AnswersFrame : Option (Next × List ℕ) → (text : List ℕ) → (accepted : Bool) → Type 0
-AnswersFrame None text accepted = (text ≡ []) × (accepted ≡ true)
-AnswersFrame (Some frame) text accepted = AnswersWalk (record { next = frame.0; limit = None }) frame.1 text accepted
+-- the lines of the walk; a packet that is skipped has none
+abbrev pub AnswersContent : ContentValue → (text : List ℕ) → (accepted : Bool) → Type 0
+AnswersContent (Frame next bytes) text accepted = AnswersWalk (record { next = next; limit = None }) bytes text accepted
+AnswersContent (LinuxSll2 bytes) text accepted = AnswersLinuxSll2 bytes text accepted
+AnswersContent Unknown text accepted = (text ≡ []) × (accepted ≡ true)
 
 -- the text for a packet of this number
 pub record AnswersPacket (plain : Bool) (number : ℕ) (p : PacketValue) (text : List ℕ) (accepted : Bool) : Type 0 where
   pub lines : List ℕ
-  pub frame : AnswersFrame (frame_of p) lines accepted
+  pub content : AnswersContent (content_of p) lines accepted
   pub whole : text ≡ packet_line_if plain number p ++ lines
 
 -- ---- the line after those of all packets

@@ -1,6 +1,8 @@
 pub mod InputBuffer
 pub mod Packets
+pub mod LinuxSll2Lines
 pub mod FrameLines
+pub mod ContentViews
 pub mod Options
 pub mod Run
 pub mod Outcome

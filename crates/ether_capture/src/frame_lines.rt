@@ -1,11 +1,12 @@
 //! Writes the lines of a captured packet.
-ghost use Rattle.std.specs.Prelude.{◌≡◌, ◌<◌, ◌≤◌, ◌+◌, ◌/◌, ◌%◌, ◌^◌, ◌++◌, codes, MatchOption, Some, None};
+ghost use Rattle.std.specs.Prelude.{◌≡◌, ◌<◌, ◌≤◌, ◌+◌, ◌/◌, ◌%◌, ◌^◌, ◌++◌, codes, Some};
 ghost use Rattle.std.specs.Option.{option_map};
 ghost use Rattle.ether_pcap.specs.CaptureViews.{captured_packet_view, timestamp_view};
 ghost use Rattle.ether_text.specs.OutputBuffer.{Takes, TakesAnswer};
-ghost use Rattle.ether_capture.specs.FrameLines.{is_cut, is_skipped, fcs_len, has_fcs, without_fcs, frame_of, nine_digits, time_text, mark, packet_line_if, AnswersPacket, AnswersFrame, totals_line_if};
-ghost use Rattle.ether_peel.specs.Walker.Start.{next_of};
+ghost use Rattle.ether_capture.specs.FrameLines.{is_cut, is_skipped, fcs_len, has_fcs, without_fcs, content_of, is_unknown, nine_digits, time_text, mark, packet_line_if, AnswersPacket, totals_line_if};
+ghost use Rattle.ether_capture.specs.ContentViews.{content_view};
 
+use crate::linux_sll2_lines::write_linux_sll2;
 use ether_pcap::{CapturedPacket, LinkType, Timestamp};
 use ether_peel::Start;
 use ether_text::{OutputBuffer, Sink, eight_digits, write_decimal, write_walk};
@@ -15,7 +16,7 @@ const FCS_LEN: usize = 4;
 
 /// Writes the line of a packet unless `is_plain`, and the lines of the walk through its headers. Returns whether the walk ends in no fault.
 ///
-/// A packet of another link type than Ethernet and Linux cooked capture v1 is skipped: it has no lines of a walk.
+/// A packet of another link type than Ethernet and Linux cooked capture is skipped: it has no lines of a walk.
 pub fn write_packet<W: Sink>(
     is_plain: bool,
     number: usize,
@@ -25,11 +26,12 @@ pub fn write_packet<W: Sink>(
     ensures { TakesAnswer W.contents W.can_fail (AnswersPacket is_plain number (captured_packet_view packet.now))
         out.old out.new result }
 {
-    let frame = frame(packet);
-    write_packet_line(is_plain, number, packet, frame.is_none(), out);
-    match frame {
-        Some((start, bytes)) => write_walk(start, None, bytes, out),
-        None => true,
+    let content = walked(packet);
+    write_packet_line(is_plain, number, packet, content, out);
+    match content {
+        Content::Frame(start, bytes) => write_walk(start, None, bytes, out),
+        Content::LinuxSll2(bytes) => write_linux_sll2(bytes, out),
+        Content::Unknown => true,
     }
 }
 
@@ -52,28 +54,48 @@ pub fn write_totals<W: Sink>(
     out.append(b"\n");
 }
 
-/// What the packet begins with and the bytes that are walked through. Returns `None` if the walk knows no such link type.
-fn frame<'a>(packet: &CapturedPacket<'a>) -> Option<(Start, &'a [u8])>
-    ensures { MatchOption result (frame_of (captured_packet_view packet.now) ≡ None)
-        (λ f. frame_of (captured_packet_view packet.now) ≡ Some (next_of f.0, f.1.now)) }
+/// What is walked of a packet.
+#[derive(Clone, Copy)]
+enum Content<'a> {
+    /// A frame, with what it begins with.
+    Frame(Start, &'a [u8]),
+    /// A packet of Linux cooked capture v2.
+    LinuxSll2(&'a [u8]),
+    /// Nothing: the walk knows no such link type.
+    Unknown,
+}
+
+/// What is walked of a packet, by its link type.
+fn walked<'a>(packet: &CapturedPacket<'a>) -> Content<'a>
+    ensures { content_view result ≡ content_of (captured_packet_view packet.now) }
 {
     if packet.link_type == LinkType::ETHERNET {
         if has_fcs(packet) {
-            return Some((Start::Ethernet2Fcs, packet.packet));
+            return Content::Frame(Start::Ethernet2Fcs, packet.packet);
         }
-        return Some((Start::Ethernet2, without_fcs(packet)));
+        return Content::Frame(Start::Ethernet2, without_fcs(packet));
     }
     if packet.link_type == LinkType::LINUX_SLL {
-        return Some((Start::LinuxSll, without_fcs(packet)));
+        return Content::Frame(Start::LinuxSll, without_fcs(packet));
     }
-    None
+    if packet.link_type == LinkType::LINUX_SLL2 {
+        return Content::LinuxSll2(without_fcs(packet));
+    }
+    Content::Unknown
 }
 
 /// Whether the packet has no lines of a walk.
 pub fn is_skipped(packet: &CapturedPacket<'_>) -> bool
     ensures { result ≡ is_skipped (captured_packet_view packet.now) }
 {
-    frame(packet).is_none()
+    is_unknown(walked(packet))
+}
+
+/// Whether nothing is walked.
+fn is_unknown(content: Content<'_>) -> bool
+    ensures { result ≡ is_unknown (content_view content.entry) }
+{
+    matches!(content, Content::Unknown)
 }
 
 /// Whether bytes of the packet were not captured.
@@ -112,10 +134,10 @@ fn write_packet_line<W: Sink>(
     is_plain: bool,
     number: usize,
     packet: &CapturedPacket<'_>,
-    skipped: bool,
+    content: Content<'_>,
     out: &mut OutputBuffer<'_, W>,
 )
-    requires { skipped ≡ is_skipped (captured_packet_view packet.now) }
+    requires { content_view content ≡ content_of (captured_packet_view packet.now) }
     ensures { Takes W.contents W.can_fail out.old (packet_line_if is_plain number (captured_packet_view packet.now)) out.new }
 {
     if is_plain {
@@ -130,7 +152,7 @@ fn write_packet_line<W: Sink>(
     out.append(b" original ");
     write_decimal(out, packet.original_len as usize);
     write_mark(is_cut(packet), b" cut", out);
-    write_mark(skipped, b" skipped", out);
+    write_mark(is_unknown(content), b" skipped", out);
     out.append(b"\n");
 }
 

@@ -7,6 +7,7 @@
 mod frame_lines;
 mod frame_loop;
 pub mod input_buffer;
+mod linux_sll2_lines;
 pub mod options;
 pub mod outcome;
 pub mod program;

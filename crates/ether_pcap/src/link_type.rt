@@ -10,4 +10,7 @@ impl LinkType {
 
     /// Linux cooked capture v1 (`LINKTYPE_LINUX_SLL`).
     pub const LINUX_SLL: LinkType = LinkType(113);
+
+    /// Linux cooked capture v2 (`LINKTYPE_LINUX_SLL2`), which `tcpdump -i any` writes.
+    pub const LINUX_SLL2: LinkType = LinkType(276);
 }

@@ -327,7 +327,7 @@ fn write_macsec_error<W: Sink>(out: &mut OutputBuffer<'_, W>, error: &err::macse
 }
 
 /// Writes a word with the spaces around it, and a number in decimal digits.
-fn write_number<W: Sink>(out: &mut OutputBuffer<'_, W>, word: &[u8], number: usize)
+pub fn write_number<W: Sink>(out: &mut OutputBuffer<'_, W>, word: &[u8], number: usize)
     ensures { Takes W.contents W.can_fail out.old (word.now ++ decimal number) out.new }
 {
     out.append(word);

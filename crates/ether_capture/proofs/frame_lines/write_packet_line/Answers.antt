@@ -1,8 +1,8 @@
-use Rattle.std.proofs.Common.{Bool, ℕ, List, length, ◌++◌, codes, sym, ap, append_assoc}
+use Rattle.std.proofs.Common.{Bool, ℕ, List, length, ◌++◌, codes, sym, ap, append_assoc, ◌∙◌}
 use Rattle.std.specs.Fmt.{decimal}
 use Rattle.ether_pcap.specs.CaptureViews.{captured_packet_view}
 use Rattle.ether_text.proofs.OutputBufferLemmas.{Takes-then, Takes-same}
-use Rattle.ether_capture.specs.FrameLines.{packet_line, packet_line_if, mark, time_text}
+use Rattle.ether_capture.specs.FrameLines.{is_unknown, packet_line, packet_line_if, mark, time_text}
 use Rattle.ether_capture.proofs.frame_lines.write_packet_line.Goals as goal
 
 pub returns : goal.returns
@@ -11,7 +11,7 @@ returns g c =
     let p = captured_packet_view c.args.packet.now in
     let link = Takes-same (ap decimal c.from.ensures) c.write_decimal-2.ensures in
     let cut = Takes-same (ap (λ (b : Bool). mark b (codes " cut")) c.is_cut.ensures) c.write_mark.ensures in
-    let skipped = Takes-same (ap (λ (b : Bool). mark b (codes " skipped")) c.requires) c.write_mark-2.ensures in
+    let skipped = Takes-same (ap (λ (b : Bool). mark b (codes " skipped")) (c.is_unknown.ensures ∙ ap is_unknown c.requires)) c.write_mark-2.ensures in
     let lengths =
     decimal p.link_type
     ++ (codes " captured " ++ (decimal (length p.packet) ++ (codes " original " ++ decimal p.original_len))) in

@@ -1,0 +1,103 @@
+//! Writes the lines of a packet of Linux cooked capture v2.
+ghost use Rattle.std.specs.Prelude.{◌≡◌, ◌≤◌, ◌++◌, length, codes};
+ghost use Rattle.etherparse.specs.LinuxSllProtocolType.{told_ether_type};
+ghost use Rattle.ether_sll2.specs.LinuxSll2.{linux_sll2_of, protocol_of_header};
+ghost use Rattle.ether_sll2.specs.Views.{refusal_view};
+ghost use Rattle.ether_text.specs.OutputBuffer.{Takes, TakesAnswer};
+ghost use Rattle.ether_capture.specs.LinuxSll2Lines.{AnswersLinuxSll2, AnswersPayload, linux_sll2_fault_text, linux_sll2_text};
+
+use ether_peel::RestKind;
+use ether_sll2::{LinuxSll2Error, LinuxSll2Header, LinuxSll2Slice};
+use ether_text::{
+    OutputBuffer, Sink, hex_long, hex_type, write_number, write_rest, write_walk_after,
+};
+use etherparse::EtherType;
+
+/// Writes the line of the header and those of the walk of the payload, or the line of the fault. Returns whether there is no fault.
+pub fn write_linux_sll2<W: Sink>(bytes: &[u8], out: &mut OutputBuffer<'_, W>) -> bool
+    ensures { TakesAnswer W.contents W.can_fail (AnswersLinuxSll2 bytes.now) out.old out.new result }
+{
+    match LinuxSll2Slice::from_slice(bytes) {
+        Ok(packet) => {
+            write_header(&packet, out);
+            write_payload(&packet, out)
+        }
+        Err(error) => {
+            write_refusal(&error, out);
+            out.append(b"\n");
+            false
+        }
+    }
+}
+
+/// Writes the line of the header.
+fn write_header<W: Sink>(packet: &LinuxSll2Slice<'_>, out: &mut OutputBuffer<'_, W>)
+    ensures { Takes W.contents W.can_fail out.old (linux_sll2_text (linux_sll2_of packet.now) ++ codes "\n") out.new }
+{
+    let header = packet.header_slice();
+    write_number(out, b"linux_sll2 ", 0);
+    write_number(out, b" packet ", packet_type_of(header));
+    write_number(out, b" hw ", usize::from(packet.arp_hardware_type().0));
+    write_number(out, b" if ", packet.interface_index() as usize);
+    write_number(
+        out,
+        b" alen ",
+        usize::from(packet.sender_address_valid_length()),
+    );
+    out.append(b" addr ");
+    out.append(&hex_long(packet.sender_address_full()));
+    out.append(b" ");
+    out.append(&hex_type(EtherType(protocol_of(header))));
+    out.append(b"\n");
+}
+
+/// The number of the packet type.
+fn packet_type_of(header: &[u8]) -> usize
+    requires { 20 ≤ length header.now }
+    ensures { result ≡ (linux_sll2_of header.now).packet_type }
+{
+    usize::from(header[10])
+}
+
+/// The number of the protocol type.
+fn protocol_of(header: &[u8]) -> u16
+    requires { 20 ≤ length header.now }
+    ensures { result ≡ (linux_sll2_of header.now).protocol }
+{
+    u16::from_be_bytes([header[0], header[1]])
+}
+
+/// Writes the lines of the walk of the payload, or the line of what is left if its protocol has no ether type. Returns whether there
+/// is no fault.
+fn write_payload<W: Sink>(packet: &LinuxSll2Slice<'_>, out: &mut OutputBuffer<'_, W>) -> bool
+    ensures { TakesAnswer W.contents W.can_fail
+        (AnswersPayload (told_ether_type (protocol_of_header packet.now)) packet.now) out.old out.new result }
+{
+    match packet.start() {
+        Some(start) => write_walk_after(20, start, None, packet.payload_slice(), out),
+        None => {
+            let kind = RestKind::Sll(packet.protocol_type());
+            write_rest(out, LinuxSll2Header::LEN, packet.slice().len(), kind);
+            true
+        }
+    }
+}
+
+/// Writes the text of the fault of a header.
+fn write_refusal<W: Sink>(error: &LinuxSll2Error, out: &mut OutputBuffer<'_, W>)
+    ensures { Takes W.contents W.can_fail out.old (linux_sll2_fault_text (refusal_view error.now)) out.new }
+{
+    write_number(out, b"fault ", 0);
+    match error {
+        LinuxSll2Error::Len { required_len, len } => {
+            write_number(out, b" open length ", *required_len);
+            write_number(out, b" ", *len);
+            out.append(b" slice");
+        }
+        LinuxSll2Error::PacketType(number) => write_number(
+            out,
+            b" open content sll_packet_type ",
+            usize::from(*number),
+        ),
+    }
+}
