@@ -229,6 +229,39 @@ CASES += [
 ]
 
 
+def cooked(packet):
+    """A classic capture of one packet of Linux cooked capture v2."""
+    packet = joined(packet)
+    length = len(packet).to_bytes(4, "big")
+    return CLASSIC[:20] + joined("00000114") + joined("6553f100 00000000") + length + length + packet
+
+
+def cooked_lines(captured, lines):
+    return (f"frame 1 time 1700000000.000000000 link 276 captured {captured} original {captured}\n{lines}"
+            "total frames 1 skipped 0\n")
+
+
+# What `tcpdump -i any` writes: protocol type, reserved, interface, hardware type, packet type, address length, address. tshark shows
+# the same fields.
+CASES += [
+    Case("cooked capture v2", [], cooked("0800 0000 00000001 0304 00 06 0000000000000000 45"),
+         cooked_lines(21, "linux_sll2 0 packet 0 hw 772 if 1 alen 6 addr 0000000000000000 0x0800\nrest 20 21 type 0x0800\n"), 0),
+    Case("a tag after it", [], cooked("8100 0000 00000003 0001 04 06 0200000000010000 b123 0800 45"),
+         cooked_lines(25, "linux_sll2 0 packet 4 hw 1 if 3 alen 6 addr 0200000000010000 0x8100\n"
+                          "vlan 20 pcp 5 dei 1 vid 291 0x0800\nrest 24 25 type 0x0800\n"), 0),
+    Case("a tag cut short after it", [], cooked("8100 0000 00000003 0001 04 06 0200000000010000 b123"),
+         cooked_lines(22, "linux_sll2 0 packet 4 hw 1 if 3 alen 6 addr 0200000000010000 0x8100\n"
+                          "fault 20 open length 4 2 slice\n"), 1),
+    Case("netlink in it", [], cooked("0010 0000 00000002 0338 04 00 0000000000000000 14000000"),
+         cooked_lines(24, "linux_sll2 0 packet 4 hw 824 if 2 alen 0 addr 0000000000000000 0x0010\n"
+                          "rest 20 24 sll netlink 0x0010\n"), 0),
+    Case("a header that is cut", [], cooked("0800 0000 00000001 0304 00 06 00000000000000"),
+         cooked_lines(19, "fault 0 open length 20 19 slice\n"), 1),
+    Case("packet type 8", [], cooked("0800 0000 00000001 0304 08 06 0000000000000000"),
+         cooked_lines(20, "fault 0 open content sll_packet_type 8\n"), 1),
+]
+
+
 def without_memory(program, capture):
     """What the program prints, and its status, if it may have 4 MiB."""
     limit = lambda: resource.setrlimit(resource.RLIMIT_AS, (4 << 20, 4 << 20))  # noqa: E731
