@@ -17,7 +17,6 @@ PROGRAM is `ether_capture`; TOOL, if given, is `ether_tool`. For each capture:
 
 Known differences from tshark, which are not counted as failures:
 
-- Times of an interface with `if_tsoffset`: tshark adds the offset, the program prints `-`.
 - Simple packets have no time: tshark prints nothing, the program prints `-`.
 - Custom blocks: tshark counts each as a frame, without an encapsulation; the program skips them, and does not number them.
 - Resolutions finer than a nanosecond are rounded down by both. But tshark 4.0 multiplies the ticks within the second by 10 to the
@@ -83,7 +82,7 @@ def time_text(nanoseconds):
 
 def packet_line(number, packet, skipped):
     """The line of a packet, from what is known of it."""
-    time = "-" if packet.time is None or packet.shifted else time_text(packet.time)
+    time = "-" if packet.time is None else time_text(packet.time)
     line = f"frame {number} time {time} link {packet.link} captured {len(packet.data)} original {packet.original}"
     return line + " cut" * (len(packet.data) < packet.original) + " skipped" * skipped
 
@@ -124,8 +123,6 @@ def compare_row(number, lines, packet, row):
     expect(words[1], str(number), what)
     if packet.time is None:
         expect((words[3], row["frame.time_epoch"]), ("-", ""), f"{what}, time")
-    elif packet.shifted:
-        expect(words[3], "-", f"{what}, time")
     elif not packet.overflows:
         expect(words[3], row["frame.time_epoch"], f"{what}, time")
     expect(int(words[5]), ENCAPSULATIONS[row["frame.encap_type"]], f"{what}, link type")

@@ -11,7 +11,7 @@ import struct
 import sys
 from dataclasses import dataclass, field
 
-ETHERNET, RAW_IP, LINUX_SLL = 1, 101, 113
+ETHERNET, RAW_IP, LINUX_SLL, LINUX_SLL2 = 1, 101, 113, 276
 NANOSECONDS = 10**9
 
 
@@ -24,7 +24,6 @@ class Packet:
     fcs_len: int
     data: bytes  # the bytes that were captured
     original: int
-    shifted: bool = False  # the interface has if_tsoffset
     overflows: bool = False  # the ticks within the second, times 10 to the power of 9, exceed 64 bits
 
 
@@ -161,17 +160,21 @@ class Pcapng:
             options.append((13, bytes([fcs_len])))
         if offset is not None:
             options.append((14, struct.pack(self.order + "q", offset)))
-        self.interfaces.append((link, snap_len, resolution, fcs_len or 0, offset is not None))
+        self.interfaces.append((link, snap_len, resolution, {32: 4, 16: 2}.get(fcs_len, fcs_len) or 0, offset or 0))
         return self.block(1, struct.pack(self.order + "HHI", link, 0, snap_len) + self.options(*options))
 
-    def packet(self, data, ticks, interface=0, original=None, options=()):
-        link, _, resolution, fcs_len, shifted = self.interfaces[interface]
+    def packet(self, data, ticks, interface=0, original=None, options=(), obsolete=False, flags=None):
+        link, _, resolution, fcs_len, offset = self.interfaces[interface]
         original = len(data) if original is None else original
         units = 10**6 if resolution is None else 10**resolution if resolution < 128 else 2 ** (resolution - 128)
-        fixed = struct.pack(self.order + "IIIII", interface, ticks >> 32, ticks & 0xFFFFFFFF, len(data), original)
+        if flags is not None:
+            options = [*options, (2, struct.pack(self.order + "I", flags))]
+            fcs_len = flags >> 5 & 15 or fcs_len
+        number = struct.pack(self.order + "HH", interface, 7) if obsolete else struct.pack(self.order + "I", interface)
+        fixed = number + struct.pack(self.order + "IIII", ticks >> 32, ticks & 0xFFFFFFFF, len(data), original)
         overflows = ticks % units * NANOSECONDS >= 2**64
-        known = Packet(ticks * NANOSECONDS // units, link, fcs_len, data, original, shifted, overflows)
-        return self.block(6, fixed + padded(data) + self.options(*options), known)
+        known = Packet(ticks * NANOSECONDS // units + offset * NANOSECONDS, link, fcs_len, data, original, overflows)
+        return self.block(2 if obsolete else 6, fixed + padded(data) + self.options(*options), known)
 
     def simple(self, data, original=None):
         link, _, _, fcs_len, _ = self.interfaces[0]
@@ -214,6 +217,22 @@ def pcapng_captures():
     file.packet(frame, 8, interface=1).packet(COOKED + CHECK_SEQUENCE, 9, interface=2).packet(frame, 10, interface=3)
     file.packet(b"", 11).packet(b"\x02", 12).packet(CHECK_SEQUENCE, 13)
     yield file.capture
+
+    file = Pcapng("ng_fcs_bits").section(">").interface(fcs_len=32).interface(fcs_len=16).interface()
+    for interface in (0, 1, 2):
+        for flags in (None, 1, 0x80, 0x40):
+            file.packet(frame, 20, interface=interface, flags=flags).packet(frame, 21, interface=interface, flags=flags, obsolete=True)
+    yield file.capture
+
+    for order, ending in (("<", "little"), (">", "big")):
+        file = Pcapng(f"ng_obsolete_{ending}").section(order).interface().interface(LINUX_SLL)
+        file.packet(VLAN_ONE, 10**15, obsolete=True).packet(COOKED, 10**15 + 1, interface=1, obsolete=True)
+        yield file.packet(ARP[:20], 10**15 + 2, original=60, obsolete=True).capture
+
+    file = Pcapng("ng_many_interfaces").section("<")
+    for _ in range(4_096):
+        file.interface()
+    yield file.packet(VLAN_ONE, 1, interface=4_095).packet(ARP, 2, interface=256).capture
 
     for offset in (0, 1_000_000_000, -5):
         file = Pcapng(f"ng_offset_{offset}").section(">").interface(offset=offset).interface()
@@ -268,6 +287,7 @@ def captures():
             made.append(classic(f"classic_{ending}_fcs_{fcs_len}", order, packets, fcs_len=fcs_len))
     made.append(classic("classic_empty", "<", []))
     made.append(classic("classic_empty_frames", "<", [(b"", 0), (b"", 60), (PLAIN[:14], 14), (b"", 0)]))
+    made.append(classic("classic_long", ">", whole([VLAN_ONE + bytes(262_100), ARP])))
     made.append(classic("classic_cooked_fcs", "<", whole([COOKED + CHECK_SEQUENCE]), LINUX_SLL, fcs_len=4))
     for name, frame in (("vlan", VLAN_TWO[:24]), ("macsec", MACSEC_SCI[:32]), ("short", MACSEC_SHORT_SCI), ("arp", ARP)):
         cuts = [(frame[:length], len(frame)) for length in range(len(frame) + 1)]
