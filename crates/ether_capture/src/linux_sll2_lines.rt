@@ -14,6 +14,7 @@ use ether_text::{
 use etherparse::EtherType;
 
 /// Writes the line of the header and those of the walk of the payload, or the line of the fault. Returns whether there is no fault.
+#[inline(never)]
 pub fn write_linux_sll2<W: Sink>(bytes: &[u8], out: &mut OutputBuffer<'_, W>) -> bool
     ensures { TakesAnswer W.contents W.can_fail (AnswersLinuxSll2 bytes.now) out.old out.new result }
 {

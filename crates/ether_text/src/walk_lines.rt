@@ -46,6 +46,7 @@ pub fn write_walk<W: Sink>(
 
 /// Does as [`write_walk`], with each place counted from `header_len` bytes before the frame: from the begin of a header that the walk
 /// does not know.
+#[inline(always)]
 pub fn write_walk_after<W: Sink>(
     header_len: u8,
     start: Start,

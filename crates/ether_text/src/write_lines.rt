@@ -198,6 +198,7 @@ fn write_arp<W: Sink>(out: &mut OutputBuffer<'_, W>, start: usize, slice: &ArpPa
 
 /// Writes the line of what is left of a frame that was accepted: from a start to an end, and what it
 /// is announced as.
+#[inline(always)]
 pub fn write_rest<W: Sink>(out: &mut OutputBuffer<'_, W>, start: usize, end: usize, kind: RestKind)
     ensures { Takes W.contents W.can_fail out.old (rest_view_text start end kind ++ codes "\n") out.new }
 {
