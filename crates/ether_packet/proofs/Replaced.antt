@@ -128,10 +128,10 @@ IsSound bytes (headers.LinuxSll s) = s.packet_type ≤ 7
 IsSound bytes (headers.Macsec t) = (reserved : ℕ) × BeginsSecTag bytes (sec_tag_front_of 0 reserved t)
 IsSound bytes h = Unit {0}
 
-packet_type_of : (bound : LenSource) (bytes : List ℕ) (s : LinuxSllValue) → Accepts bound bytes kinds.LinuxSll → Means bytes (headers.LinuxSll s) → s.packet_type ≤ 7
+pub packet_type_of : (bound : LenSource) (bytes : List ℕ) (s : LinuxSllValue) → Accepts bound bytes kinds.LinuxSll → Means bytes (headers.LinuxSll s) → s.packet_type ≤ 7
 packet_type_of bound bytes s ok m = at_least 7 s.packet_type (λ lt. ok _ (rows.linux_sll_packet_type s m.whole m.spells lt))
 
-supported : (bound : LenSource) (bytes : List ℕ) (s : LinuxSllValue) (b : Bool) → is_supported s.hardware_type ≡ b → Accepts bound bytes kinds.LinuxSll → Means bytes (headers.LinuxSll s) → is_supported s.hardware_type ≡ true
+pub supported : (bound : LenSource) (bytes : List ℕ) (s : LinuxSllValue) (b : Bool) → is_supported s.hardware_type ≡ b → Accepts bound bytes kinds.LinuxSll → Means bytes (headers.LinuxSll s) → is_supported s.hardware_type ≡ true
 supported bound bytes s true e ok m = e
 supported bound bytes s false e ok m = absurd (ok _ (rows.linux_sll_hardware_type s m.whole m.spells (packet_type_of bound bytes s ok m) e))
 

@@ -100,7 +100,7 @@ is_outermost us i bytes tag untagged is value = option_and_then_some vlan_of_uni
 -- ---- its bits
 
 -- a header of a stack is meant by its own bytes
-own_bytes : (list : List ℕ) (x : Expectation) (w : Window) (front : List Header) (h : Header) (later : List Header) (e : Ending) → IsIn list w → Stack list x w (front ++ h ∷ later) e
+pub own_bytes : (list : List ℕ) (x : Expectation) (w : Window) (front : List Header) (h : Header) (later : List Header) (e : Ending) → IsIn list w → Stack list x w (front ++ h ∷ later) e
     → Spells (slice_range list (place w.start front) (place w.start front + header_len h)) h
 own_bytes list x w [] h later e inside s =
     let whole = s.0.means.whole in

@@ -1,0 +1,49 @@
+use Rattle.std.proofs.Common.{ap, arith, ◌∙◌, refl}
+use Rattle.etherparse.specs.Ethernet2.{Frame, ethernet2_of}
+use Rattle.etherparse.specs.Kind as kinds
+use Rattle.ether_peel.specs.Grammar.Expectation.{announced}
+use Rattle.ether_peel.specs.Walker.Start.{start_of}
+use Rattle.ether_peel.specs.declared.start.Start.{Start}
+use Rattle.ether_packet.proofs.TypedLinks.{is_typed, is_captured, refused_link, refused_capture, other_capture, unlinked, with_fcs}
+use Rattle.ether_packet.proofs.typed_link.typed_link.Goals as goal
+
+pub returns-in-Ok-clause-ok : goal.returns-in-Ok-clause-ok
+returns-in-Ok-clause-ok c hs e walk =
+    let at = c.in-Ok in
+    let le = at.ensures.value.whole in
+    is_typed c.args.start kinds.Ethernet2 c.args.frame.now hs e _ (λ i. omega (arith, c.type_inv.frame i)) (ap (λ (s : Start). announced (start_of s)) c.in-Ethernet2.is) at.ensures.accepted refl refl refl (omega (arith, le))
+    (c.ether_type.ensures ∙ ap (λ (f : Frame). (ethernet2_of f.bytes).ether_type) at.ensures.frame) walk
+
+pub returns-in-Err-clause-refused : goal.returns-in-Err-clause-refused
+returns-in-Err-clause-refused c hs e walk =
+    refused_link c.args.start kinds.Ethernet2 c.args.frame.now _ hs e (ap (λ (s : Start). announced (start_of s)) c.in-Ethernet2.is) c.in-Err.ensures.refused.row walk
+
+pub returns-in-Ok-from_slice_with_crc32_fcs-clause-ok :
+    goal.returns-in-Ok-from_slice_with_crc32_fcs-clause-ok
+returns-in-Ok-from_slice_with_crc32_fcs-clause-ok c hs e walk =
+    let at = c.in-Ok-from_slice_with_crc32_fcs in
+    let le = with_fcs c.args.frame.now at.ensures.accepted in
+    is_typed c.args.start kinds.Ethernet2Fcs c.args.frame.now hs e _ (λ i. omega (arith, c.type_inv.frame i)) (ap (λ (s : Start). announced (start_of s)) c.in-Ethernet2Fcs.is) at.ensures.accepted refl refl refl (omega (arith, le))
+    (c.ether_type-in-Ok-from_slice_with_crc32_fcs.ensures ∙ ap (λ (f : Frame). (ethernet2_of f.bytes).ether_type) at.ensures.frame) walk
+
+pub returns-in-Err-from_slice_with_crc32_fcs-clause-refused :
+    goal.returns-in-Err-from_slice_with_crc32_fcs-clause-refused
+returns-in-Err-from_slice_with_crc32_fcs-clause-refused c hs e walk =
+    refused_link c.args.start kinds.Ethernet2Fcs c.args.frame.now _ hs e (ap (λ (s : Start). announced (start_of s)) c.in-Ethernet2Fcs.is) c.in-Err-from_slice_with_crc32_fcs.ensures.refused.row walk
+
+pub returns-in-Ok-from_slice-clause-ok : goal.returns-in-Ok-from_slice-clause-ok
+returns-in-Ok-from_slice-clause-ok c =
+    let at = c.in-Ok-from_slice in
+    is_captured c.args.start c.args.frame.now at.slice c.captured_link.result (λ i. omega (arith, c.type_inv.frame i)) (ap (λ (s : Start). announced (start_of s)) c.in-LinuxSll.is) at.ensures.accepted at.ensures.bytes at.ensures.value.whole c.captured_link.ensures.ok
+
+pub returns-in-Ok-from_slice-clause-refused : goal.returns-in-Ok-from_slice-clause-refused
+returns-in-Ok-from_slice-clause-refused c =
+    let at = c.in-Ok-from_slice in
+    other_capture c.args.start c.args.frame.now at.slice c.captured_link.result (λ i. omega (arith, c.type_inv.frame i)) (ap (λ (s : Start). announced (start_of s)) c.in-LinuxSll.is) at.ensures.accepted at.ensures.bytes c.captured_link.ensures.refused
+
+pub returns-in-Err-from_slice-clause-refused : goal.returns-in-Err-from_slice-clause-refused
+returns-in-Err-from_slice-clause-refused c hs e walk =
+    refused_capture c.args.start c.args.frame.now c.in-Err-from_slice.field-0 hs e (ap (λ (s : Start). announced (start_of s)) c.in-LinuxSll.is) c.in-Err-from_slice.ensures.refused walk
+
+pub returns-in-EtherType-clause-refused : goal.returns-in-EtherType-clause-refused
+returns-in-EtherType-clause-refused c hs e walk = unlinked c.args.start c.in-EtherType.field-0 c.args.frame.now hs e c.in-EtherType.is walk

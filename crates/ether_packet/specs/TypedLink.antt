@@ -1,0 +1,57 @@
+-- The header of a link whose type is the ether type of what follows.
+use Rattle.std.specs.Prelude.{◌≡◌, ℕ, ◌+◌, ◌-◌, List, ◌∷◌, length, true, false}
+use Rattle.etherparse.specs.LinuxSll.{LinuxSllValue, linux_sll_of}
+use Rattle.etherparse.specs.Header.{Header, kind_of, header_len, trailer_len}
+use Rattle.etherparse.specs.Header as headers
+use Rattle.ether_peel.specs.Grammar.Expectation.{EtherType, next_after}
+use Rattle.ether_packet.specs.declared.tag_error.TagError.{TagError}
+use Rattle.ether_packet.specs.declared.tag_error.TagError.TheVariants as errors
+use Rattle.ether_packet.specs.declared.typed_link.TypedLink.{TypedLink}
+use Rattle.ether_packet.specs.ReplacingLink.{is_link, has_link}
+
+-- the number in the last two bytes of a link's header: the type of Ethernet II, the protocol type of a cooked capture
+abbrev pub type_of_link : Header → ℕ
+type_of_link (headers.Ethernet2 e) = e.ether_type
+type_of_link (headers.Ethernet2Fcs e) = e.ether_type
+type_of_link (headers.LinuxSll s) = s.protocol
+type_of_link _ = 0
+
+-- a link's header with another number there
+abbrev pub with_type : Header → ℕ → Header
+with_type (headers.Ethernet2 e) t = headers.Ethernet2 (record e { ether_type = t })
+with_type (headers.Ethernet2Fcs e) t = headers.Ethernet2Fcs (record e { ether_type = t })
+with_type (headers.LinuxSll s) t = headers.LinuxSll (record s { protocol = t })
+with_type h t = h
+
+-- Headers begin with that of a link, whose type is an ether type.
+pub record BeginsTyped (hs : List Header) (link : Header) (later : List Header) : Type 0 where
+  pub parts : hs ≡ link ∷ later
+  pub is_link : is_link (kind_of link) ≡ true
+  pub typed : next_after link ≡ EtherType (type_of_link link)
+
+-- They don't: there is no header of a link, or it is that of a cooked capture of another hardware type than 1, Ethernet.
+pub data RefusesTyped (hs : List Header) : TagError → Type 0 where
+  no_link : has_link hs ≡ false → RefusesTyped hs errors.NoLink
+  hardware_type : (s : LinuxSllValue) (later : List Header)
+      → hs ≡ headers.LinuxSll s ∷ later → (s.hardware_type ≡ 1 → ⊥) → RefusesTyped hs (errors.HardwareType (record { 0 = s.hardware_type }))
+
+-- ---- how it is read
+
+-- the lengths of the header and of its payload in a list, and the type
+pub record IsTypedLink (list : List ℕ) (hs : List Header) (l : TypedLink) : Type 0 where
+  pub link : Header
+  pub later : List Header
+  pub begins : BeginsTyped hs link later
+  pub len : l.len ≡ header_len link
+  pub payload : l.len + l.payload_len + trailer_len link ≡ length list
+  pub ether_type : l.ether_type.0 ≡ type_of_link link
+
+-- the same of a list that begins with a header of cooked capture
+pub record IsCapturedLink (list : List ℕ) (l : TypedLink) : Type 0 where
+  pub ethernet : (linux_sll_of list).hardware_type ≡ 1
+  pub len : l.len ≡ 16
+  pub payload : l.payload_len ≡ length list - 16
+  pub ether_type : l.ether_type.0 ≡ (linux_sll_of list).protocol
+
+abbrev pub IsOtherCapture : List ℕ → TagError → Type 0
+IsOtherCapture list e = (e ≡ errors.HardwareType (record { 0 = (linux_sll_of list).hardware_type })) × ((linux_sll_of list).hardware_type ≡ 1 → ⊥)

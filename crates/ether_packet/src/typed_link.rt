@@ -1,0 +1,99 @@
+//! The header of a link that a frame begins with, and the ether type of what follows it.
+ghost use Rattle.std.specs.Prelude.{◌≡◌, ◌+◌, ◌≤◌, ◌⊎◌, List, length, slice_range, IfOk, IfErr};
+ghost use Rattle.etherparse.specs.Header.{Header};
+ghost use Rattle.etherparse.specs.Vlan.{is_vlan_ether_type};
+ghost use Rattle.ether_peel.specs.Grammar.Stack.{Ending, Walk};
+ghost use Rattle.ether_peel.specs.Walker.Start.{start_of};
+ghost use Rattle.ether_packet.specs.TypedLink.{IsTypedLink, IsCapturedLink, IsOtherCapture, RefusesTyped};
+
+use crate::TagError;
+use ether_peel::Start;
+use etherparse::{
+    ArpHardwareId, EtherType, Ethernet2Header, Ethernet2Slice, LinuxSllHeader, LinuxSllSlice,
+};
+
+/// The header of a link.
+#[derive(Clone, Copy)]
+pub(crate) struct TypedLink {
+    /// The length of the header: its last two bytes are the type.
+    pub len: usize,
+    /// The length of the payload, without a frame check sequence.
+    pub payload_len: usize,
+    /// The ether type of the payload.
+    pub ether_type: EtherType,
+}
+
+/// The header of a link that a frame begins with.
+#[inline(always)]
+pub(crate) fn typed_link(start: Start, frame: &[u8]) -> Result<TypedLink, TagError>
+    ensures ok { IfOk result (λ link. (hs : List Header) (e : Ending)
+        → Walk (start_of start) frame.now hs e → IsTypedLink frame.now hs link) }
+    ensures room { IfOk result (λ link. link.len + link.payload_len ≤ length frame.now) }
+    ensures len { IfOk result (λ link. (link.len ≡ 14) ⊎ (link.len ≡ 16)) }
+    ensures refused { IfErr result (λ error. (hs : List Header) (e : Ending)
+        → Walk (start_of start) frame.now hs e → RefusesTyped hs error) }
+{
+    match start {
+        Start::Ethernet2 => match Ethernet2Slice::from_slice_without_fcs(frame) {
+            Ok(slice) => Ok(TypedLink {
+                len: Ethernet2Header::LEN,
+                payload_len: frame.len() - Ethernet2Header::LEN,
+                ether_type: slice.ether_type(),
+            }),
+            Err(_) => Err(TagError::NoLink),
+        },
+        Start::Ethernet2Fcs => match Ethernet2Slice::from_slice_with_crc32_fcs(frame) {
+            Ok(slice) => Ok(TypedLink {
+                len: Ethernet2Header::LEN,
+                payload_len: frame.len() - Ethernet2Header::LEN - 4,
+                ether_type: slice.ether_type(),
+            }),
+            Err(_) => Err(TagError::NoLink),
+        },
+        Start::LinuxSll => match LinuxSllSlice::from_slice(frame) {
+            Ok(slice) => captured_link(&slice),
+            Err(_) => Err(TagError::NoLink),
+        },
+        Start::EtherType(_) => Err(TagError::NoLink),
+    }
+}
+
+/// The header of a cooked capture, if its protocol type is an ether type.
+#[inline(always)]
+fn captured_link(slice: &LinuxSllSlice<'_>) -> Result<TypedLink, TagError>
+    ensures ok { IfOk result (λ link. IsCapturedLink slice.now link) }
+    ensures refused { IfErr result (IsOtherCapture slice.now) }
+{
+    let hardware_type = slice.arp_hardware_type();
+    if hardware_type != ArpHardwareId::ETHERNET {
+        return Err(TagError::HardwareType(hardware_type));
+    }
+    let header = slice.header_slice();
+    Ok(TypedLink {
+        len: LinuxSllHeader::LEN,
+        payload_len: slice.payload_slice().len(),
+        ether_type: EtherType(u16::from_be_bytes([header[14], header[15]])),
+    })
+}
+
+/// Whether an ether type announces a VLAN tag.
+#[inline(always)]
+pub(crate) fn announces_vlan(ether_type: EtherType) -> bool
+    ensures { result ≡ is_vlan_ether_type ether_type.0 }
+{
+    ether_type == EtherType::VLAN_TAGGED_FRAME
+        || ether_type == EtherType::PROVIDER_BRIDGING
+        || ether_type == EtherType::VLAN_DOUBLE_TAGGED_FRAME
+}
+
+/// An array of the bytes of a slice from a place on.
+#[inline(always)]
+pub(crate) fn chunk_at<const N: usize>(bytes: &[u8], at: usize) -> [u8; N]
+    requires { at + N ≤ length bytes.now }
+    ensures { result ≡ slice_range bytes.now at (at + N) }
+{
+    match bytes[at..at + N].first_chunk::<N>() {
+        Some(chunk) => *chunk,
+        None => unreachable!(),
+    }
+}
