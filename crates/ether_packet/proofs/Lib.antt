@@ -17,3 +17,5 @@ pub mod TypedLinks
 pub mod Popped
 pub mod Pushed
 pub mod PushedPopped
+pub mod Retyped
+pub mod SetTags

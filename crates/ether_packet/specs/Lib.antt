@@ -14,4 +14,5 @@ pub mod TypedLink
 pub mod Popping
 pub mod Texts
 pub mod Pushing
+pub mod Setting
 pub mod Laws

@@ -30,5 +30,8 @@ tag_error_text tags.NoRoom = codes "The buffer has no room for a VLAN tag."
 tag_error_text tags.NoLink = codes "The frame does not begin with the header of a link."
 tag_error_text (tags.HardwareType hardware) =
     codes "No ether type can follow a header of cooked capture of hardware type " ++ (decimal hardware.0 ++ codes ".")
-tag_error_text tags.NoVlan = codes "No VLAN tag is there."
+tag_error_text (tags.NoLinkExt count) =
+    codes "There is no VLAN tag or SecTag at this index: the frame has " ++ (decimal count ++ codes ".")
+tag_error_text tags.NoVlan = codes "There is no VLAN tag."
 tag_error_text tags.CutVlan = codes "The VLAN tag is cut short."
+tag_error_text tags.Unannounced = codes "The frame begins with the VLAN tag."

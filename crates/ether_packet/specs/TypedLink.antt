@@ -7,6 +7,7 @@ use Rattle.ether_peel.specs.Grammar.Expectation.{EtherType, next_after}
 use Rattle.ether_packet.specs.declared.tag_error.TagError.{TagError}
 use Rattle.ether_packet.specs.declared.tag_error.TagError.TheVariants as errors
 use Rattle.ether_packet.specs.declared.typed_link.TypedLink.{TypedLink}
+use Rattle.ether_packet.specs.Building.{retyped}
 use Rattle.ether_packet.specs.ReplacingLink.{is_link, has_link}
 
 -- the number in the last two bytes of a link's header: the type of Ethernet II, the protocol type of a cooked capture
@@ -16,12 +17,14 @@ type_of_link (headers.Ethernet2Fcs e) = e.ether_type
 type_of_link (headers.LinuxSll s) = s.protocol
 type_of_link _ = 0
 
--- a link's header with another number there
+-- a header with another number in its last two bytes, which announces what follows it
 abbrev pub with_type : Header → ℕ → Header
 with_type (headers.Ethernet2 e) t = headers.Ethernet2 (record e { ether_type = t })
 with_type (headers.Ethernet2Fcs e) t = headers.Ethernet2Fcs (record e { ether_type = t })
 with_type (headers.LinuxSll s) t = headers.LinuxSll (record s { protocol = t })
-with_type h t = h
+with_type (headers.Vlan v) t = headers.Vlan (record v { ether_type = t })
+with_type (headers.Macsec m) t = headers.Macsec (record m { payload_type = retyped m.payload_type t })
+with_type (headers.Arp a) t = headers.Arp a
 
 -- Headers begin with that of a link, whose type is an ether type.
 pub record BeginsTyped (hs : List Header) (link : Header) (later : List Header) : Type 0 where

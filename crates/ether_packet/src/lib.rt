@@ -14,6 +14,7 @@ mod pushing;
 mod replace_error;
 mod replacing;
 mod replacing_arp;
+mod setting;
 mod tag_error;
 mod typed_link;
 
@@ -26,4 +27,5 @@ pub use pushing::push_vlan;
 pub use replace_error::ReplaceError;
 pub use replacing::{replace_link, replace_link_ext};
 pub use replacing_arp::replace_arp;
+pub use setting::{set_tpid, set_vlan_id, set_vlan_tag};
 pub use tag_error::TagError;

@@ -24,10 +24,14 @@ pub enum TagError {
     NoLink,
     /// The header of cooked capture is of another link than Ethernet, so its protocol type is not an ether type.
     HardwareType(ArpHardwareId),
-    /// No VLAN tag is there: the ether type before that place announces something else.
+    /// There is no VLAN tag or SecTag at the index. The frame has this many.
+    NoLinkExt(usize),
+    /// There is no VLAN tag: the ether type of the link announces something else, or there is a SecTag at the index.
     NoVlan,
     /// A VLAN tag is announced after the header of the link, but it is cut short.
     CutVlan,
+    /// No header is before the VLAN tag: the frame begins with it.
+    Unannounced,
 }
 
 impl fmt::Display for TagError {
@@ -48,8 +52,13 @@ impl fmt::Display for TagError {
                     "No ether type can follow a header of cooked capture of hardware type {number}."
                 )
             }
-            TagError::NoVlan => f.write_str("No VLAN tag is there."),
+            TagError::NoLinkExt(count) => write!(
+                f,
+                "There is no VLAN tag or SecTag at this index: the frame has {count}."
+            ),
+            TagError::NoVlan => f.write_str("There is no VLAN tag."),
             TagError::CutVlan => f.write_str("The VLAN tag is cut short."),
+            TagError::Unannounced => f.write_str("The frame begins with the VLAN tag."),
         }
     }
 }
