@@ -15,6 +15,14 @@ struct tag {
   bool dei;
 };
 
+/* moves bytes through registers, without a call of memmove */
+#define MOVE(to, from, len) \
+  do { \
+    uint8_t bytes[len]; \
+    memcpy(bytes, from, len); \
+    memcpy(to, bytes, len); \
+  } while (0)
+
 static uint16_t number(const uint8_t *at) {
   uint16_t n;
   memcpy(&n, at, 2);
@@ -42,8 +50,8 @@ __attribute__((noinline)) int c_pop(uint32_t link, uint8_t *frame, size_t len, s
   tag->dei = (control >> 12 & 1) != 0;
   tag->id = control & 0xFFF;
   tag->type = number(frame + n + 2);
-  if (n == 14) memmove(frame + 4, frame, 12);
-  else memmove(frame + 4, frame, 14);
+  if (n == 14) MOVE(frame + 4, frame, 12);
+  else MOVE(frame + 4, frame, 14);
   return 0;
 }
 
@@ -52,8 +60,8 @@ __attribute__((noinline)) int c_push(uint32_t link, uint8_t *buffer, size_t len,
   if (len < 4) return -5;
   size_t n = link_len(link, buffer + 4, len - 4);
   if (n == 0) return -1;
-  if (n == 14) memmove(buffer, buffer + 4, 12);
-  else memmove(buffer, buffer + 4, 14);
+  if (n == 14) MOVE(buffer, buffer + 4, 12);
+  else MOVE(buffer, buffer + 4, 14);
   uint16_t control = htons((uint16_t)(tag->pcp << 13 | tag->dei << 12 | tag->id)), type = htons(tpid);
   memcpy(buffer + n - 2, &type, 2);
   memcpy(buffer + n, &control, 2);
