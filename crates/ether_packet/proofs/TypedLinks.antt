@@ -5,14 +5,11 @@ use Rattle.std.proofs.lemmas.List.{length-drop}
 use Rattle.std.proofs.lemmas.Result.{IfOk-weaker, MatchResult-weaker}
 use Rattle.etherparse.specs.Types.LenSource.{LenSource}
 use Rattle.etherparse.specs.Types.LenSource.TheVariants as sources
+use Rattle.etherparse.specs.Types.ArpHardwareId.{ArpHardwareId}
 use Rattle.etherparse.specs.Types.EtherType.{EtherType as EtherTypeNumber}
-use Rattle.etherparse.specs.HeaderSliceError.{HeaderSliceError}
-use Rattle.etherparse.specs.HeaderSliceError as slices
-use Rattle.etherparse.specs.Types.LinuxSllHeaderError.{HeaderError}
-use Rattle.etherparse.specs.Types.LinuxSllHeaderError.TheVariants as contents
 use Rattle.etherparse.specs.Bytes.{IsBytes, number}
 use Rattle.etherparse.specs.Ethernet2.{Ethernet2Value, IsEthernet2}
-use Rattle.etherparse.specs.LinuxSll.{LinuxSllValue, IsLinuxSll, linux_sll_of, IsRefusedSll}
+use Rattle.etherparse.specs.LinuxSll.{LinuxSllValue, IsLinuxSll, linux_sll_of, is_supported}
 use Rattle.etherparse.specs.Vlan.{is_vlan_ether_type}
 use Rattle.etherparse.specs.LinuxSllProtocolType.{link_protocol_of}
 use Rattle.etherparse.specs.Kind.{Kind}
@@ -21,6 +18,7 @@ use Rattle.etherparse.specs.Header.{Header, kind_of, header_len, trailer_len, Me
 use Rattle.etherparse.specs.Header as headers
 use Rattle.etherparse.specs.Refusal.{Refuses, Accepts}
 use Rattle.etherparse.specs.Refusal as rows
+use Rattle.etherparse.proofs.LinuxSllFields.{linux_sll_begins, linux_sll_means}
 use Rattle.etherparse.proofs.SubLists.{number-part_below, number-part_join}
 use Rattle.etherparse.proofs.Rows.{at_least, accepts_ethernet2, accepts_ethernet2_fcs, accepts_linux_sll}
 use Rattle.ether_peel.specs.Grammar.Window.{Window, within, payload}
@@ -36,7 +34,7 @@ use Rattle.ether_packet.specs.declared.tag_error.TagError.TheVariants as errors
 use Rattle.ether_packet.specs.declared.typed_link.TypedLink.{TypedLink}
 use Rattle.ether_packet.specs.Views.{header_in}
 use Rattle.ether_packet.specs.ReplacingLink.{is_link, has_link}
-use Rattle.ether_packet.specs.TypedLink.{type_of_link, with_type, IsTypedLink, IsCapturedLink, IsOtherCapture, RefusesTyped, no_link, hardware_type}
+use Rattle.ether_packet.specs.TypedLink.{type_of_link, with_type, IsTypedLink, IsEthernetCapture, IsOtherCapture, RefusesTyped, no_link, hardware_type}
 use Rattle.ether_packet.proofs.Gathering.{whole_part}
 use Rattle.ether_packet.proofs.Replaced.{packet_type_of, supported}
 use Rattle.ether_packet.proofs.PacketExts.{kind_kept as header_kind}
@@ -285,34 +283,28 @@ refused_link start kind list r hs e a row walk =
 pub with_fcs : (list : List ℕ) → Accepts sources.Slice list kinds.Ethernet2Fcs → 18 ≤ length list
 with_fcs list accepted = at_least (length list) 18 (λ (lt : length list < 18). accepted _ (rows.ethernet2_fcs lt))
 
-captured : (start : Start) (list bytes : List ℕ) (l : TypedLink) → IsBytes list → announced (start_of start) ≡ Some kinds.LinuxSll → Accepts sources.Slice list kinds.LinuxSll → bytes ≡ list → 16 ≤ length list → IsCapturedLink bytes l
-    → (hs : List Header) (e : Ending) → Walk (start_of start) list hs e → IsTypedLink list hs l
-captured start list bytes l ok a accepted same le is hs e walk =
+-- of a cooked capture of Ethernet
+sixteen : (list : List ℕ) → Accepts sources.Slice list kinds.LinuxSll → 16 ≤ length list
+sixteen list accepted = at_least (length list) 16 (λ (lt : length list < 16). accepted _ (rows.linux_sll lt))
+
+pub is_captured : (start : Start) (list : List ℕ) (hs : List Header) (e : Ending) (l : TypedLink) → IsBytes list → announced (start_of start) ≡ Some kinds.LinuxSll → IsEthernetCapture list → l.len ≡ 16 → l.payload_len ≡ length list - 16 → l.ether_type.0 ≡ (linux_sll_of list).protocol
+    → Walk (start_of start) list hs e → IsTypedLink list hs l
+is_captured start list hs e l ok a is len payload_len ether_type walk =
     let s = linux_sll_of list in
-    let of_list = subst (λ (k : List ℕ). IsCapturedLink k l) same is in
-    let len = of_list.len in
-    let payload_len = of_list.payload in
-    is_typed start kinds.LinuxSll list hs e l ok a accepted refl (ap (λ (h : ℕ). after_capture h s.protocol) of_list.ethernet) len (omega (arith, len, payload_len, le)) of_list.ether_type walk
+    let le = is.0 in
+    let accepted = accepts_linux_sll sources.Slice list s le (linux_sll_begins list ok le) is.1 (ap is_supported is.2) in
+    is_typed start kinds.LinuxSll list hs e l ok a accepted refl (ap (λ (h : ℕ). after_capture h s.protocol) is.2) len (omega (arith, len, payload_len, le)) ether_type walk
 
-pub is_captured : (start : Start) (list bytes : List ℕ) (r : Result TypedLink TagError) → IsBytes list → announced (start_of start) ≡ Some kinds.LinuxSll → Accepts sources.Slice list kinds.LinuxSll → bytes ≡ list → 16 ≤ length list → IfOk r (IsCapturedLink bytes)
-    → IfOk r (λ l. (hs : List Header) (e : Ending) → Walk (start_of start) list hs e → IsTypedLink list hs l)
-is_captured start list bytes r ok a accepted same le is = IfOk-weaker r (IsCapturedLink bytes) _ (λ l. captured start list bytes l ok a accepted same le) is
-
-refused_hardware : (start : Start) (list bytes : List ℕ) (error : TagError) → IsBytes list → announced (start_of start) ≡ Some kinds.LinuxSll → Accepts sources.Slice list kinds.LinuxSll → bytes ≡ list → IsOtherCapture bytes error
-    → (hs : List Header) (e : Ending) → Walk (start_of start) list hs e → RefusesTyped hs error
-refused_hardware start list bytes error ok a accepted same other hs e walk =
-    let of_list = subst (λ (k : List ℕ). IsOtherCapture k error) same other in
-    let first = first_header (start_of start) kinds.LinuxSll list hs e ok a accepted walk in
-    subst (RefusesTyped hs) (sym of_list.0) (hardware_type (linux_sll_of list) first.0 first.1 of_list.1)
-
-pub other_capture : (start : Start) (list bytes : List ℕ) (r : Result TypedLink TagError) → IsBytes list → announced (start_of start) ≡ Some kinds.LinuxSll → Accepts sources.Slice list kinds.LinuxSll → bytes ≡ list → IfErr r (IsOtherCapture bytes)
-    → IfErr r (λ error. (hs : List Header) (e : Ending) → Walk (start_of start) list hs e → RefusesTyped hs error)
-other_capture start list bytes r ok a accepted same other = MatchResult-weaker r other (λ l u. u) (λ error. refused_hardware start list bytes error ok a accepted same)
-
-pub refused_capture : (start : Start) (list : List ℕ) (error : HeaderSliceError HeaderError) (hs : List Header) (e : Ending) → announced (start_of start) ≡ Some kinds.LinuxSll → IsRefusedSll list error → Walk (start_of start) list hs e → RefusesTyped hs errors.NoLink
-refused_capture start list (slices.Len error) hs e a refused walk = refused_link start kinds.LinuxSll list _ hs e a refused.row walk
-refused_capture start list (slices.Content (contents.UnsupportedPacketTypeField n)) hs e a refused walk = refused_link start kinds.LinuxSll list _ hs e a refused walk
-refused_capture start list (slices.Content (contents.UnsupportedArpHardwareId n)) hs e a refused walk = refused_link start kinds.LinuxSll list _ hs e a refused walk
+-- of another link, or refused
+pub other_capture : (start : Start) (list : List ℕ) (hs : List Header) (e : Ending) (error : TagError) → IsBytes list → announced (start_of start) ≡ Some kinds.LinuxSll → IsOtherCapture list error → (IsEthernetCapture list → ⊥) → Walk (start_of start) list hs e → RefusesTyped hs error
+other_capture start list hs e (errors.HardwareType hardware) ok a other never walk =
+    let first = first_header (start_of start) kinds.LinuxSll list hs e ok a other.0 walk in
+    let s = linux_sll_of list in
+    let m = linux_sll_means list ok (sixteen list other.0) in
+    subst (λ (h : ArpHardwareId). RefusesTyped hs (errors.HardwareType h)) (λ i. record { 0 = sym other.1 i })
+    (hardware_type s first.0 first.1 (λ one. never (m.whole, packet_type_of sources.Slice list s other.0 m, one)))
+other_capture start list hs e errors.NoLink ok a other never walk = refused_link start kinds.LinuxSll list other.0 hs e a other.1 walk
+other_capture start list hs e _ ok a other never walk = absurd other
 
 unpermitted : (o : Option Kind) → o ≡ permitted None o
 unpermitted None = refl

@@ -1,6 +1,9 @@
 -- The header of a link whose type is the ether type of what follows.
-use Rattle.std.specs.Prelude.{◌≡◌, ℕ, ◌+◌, ◌-◌, List, ◌∷◌, length, true, false}
+use Rattle.std.specs.Prelude.{◌≡◌, ℕ, ◌+◌, ◌≤◌, List, ◌∷◌, length, true, false}
 use Rattle.etherparse.specs.LinuxSll.{LinuxSllValue, linux_sll_of}
+use Rattle.etherparse.specs.Types.LenSource.TheVariants as sources
+use Rattle.etherparse.specs.Kind as kinds
+use Rattle.etherparse.specs.Refusal.{Refusal, Refuses, Accepts}
 use Rattle.etherparse.specs.Header.{Header, kind_of, header_len, trailer_len}
 use Rattle.etherparse.specs.Header as headers
 use Rattle.ether_peel.specs.Grammar.Expectation.{EtherType, next_after}
@@ -49,12 +52,12 @@ pub record IsTypedLink (list : List ℕ) (hs : List Header) (l : TypedLink) : Ty
   pub payload : l.len + l.payload_len + trailer_len link ≡ length list
   pub ether_type : l.ether_type.0 ≡ type_of_link link
 
--- the same of a list that begins with a header of cooked capture
-pub record IsCapturedLink (list : List ℕ) (l : TypedLink) : Type 0 where
-  pub ethernet : (linux_sll_of list).hardware_type ≡ 1
-  pub len : l.len ≡ 16
-  pub payload : l.payload_len ≡ length list - 16
-  pub ether_type : l.ether_type.0 ≡ (linux_sll_of list).protocol
+-- a list begins with a header of cooked capture of Ethernet, whose packet type is supported
+abbrev pub IsEthernetCapture : List ℕ → Type 0
+IsEthernetCapture list = (16 ≤ length list) × ((linux_sll_of list).packet_type ≤ 7) × ((linux_sll_of list).hardware_type ≡ 1)
 
+-- why it begins with no such header: with that of another link, or its header is refused
 abbrev pub IsOtherCapture : List ℕ → TagError → Type 0
-IsOtherCapture list e = (e ≡ errors.HardwareType (record { 0 = (linux_sll_of list).hardware_type })) × ((linux_sll_of list).hardware_type ≡ 1 → ⊥)
+IsOtherCapture list (errors.HardwareType hardware) = Accepts sources.Slice list kinds.LinuxSll × (hardware.0 ≡ (linux_sll_of list).hardware_type)
+IsOtherCapture list errors.NoLink = (r : Refusal) × Refuses sources.Slice list kinds.LinuxSll r
+IsOtherCapture list _ = ⊥

@@ -1,16 +1,15 @@
 //! The header of a link that a frame begins with, and the ether type of what follows it.
-ghost use Rattle.std.specs.Prelude.{◌≡◌, ◌+◌, ◌≤◌, ◌⊎◌, List, length, slice_range, IfOk, IfErr};
+ghost use Rattle.std.specs.Prelude.{◌≡◌, ◌↔◌, ◌+◌, ◌≤◌, ◌⊎◌, List, length, slice_range, IfOk, IfErr, IsTrue};
+ghost use Rattle.etherparse.specs.Bytes.{number};
 ghost use Rattle.etherparse.specs.Header.{Header};
 ghost use Rattle.etherparse.specs.Vlan.{is_vlan_ether_type};
 ghost use Rattle.ether_peel.specs.Grammar.Stack.{Ending, Walk};
 ghost use Rattle.ether_peel.specs.Walker.Start.{start_of};
-ghost use Rattle.ether_packet.specs.TypedLink.{IsTypedLink, IsCapturedLink, IsOtherCapture, RefusesTyped};
+ghost use Rattle.ether_packet.specs.TypedLink.{IsTypedLink, IsEthernetCapture, IsOtherCapture, RefusesTyped};
 
 use crate::TagError;
 use ether_peel::Start;
-use etherparse::{
-    ArpHardwareId, EtherType, Ethernet2Header, Ethernet2Slice, LinuxSllHeader, LinuxSllSlice,
-};
+use etherparse::{EtherType, Ethernet2Header, Ethernet2Slice, LinuxSllHeader, LinuxSllSlice};
 
 /// The header of a link.
 #[derive(Clone, Copy)]
@@ -50,30 +49,42 @@ pub(crate) fn typed_link(start: Start, frame: &[u8]) -> Result<TypedLink, TagErr
             }),
             Err(_) => Err(TagError::NoLink),
         },
-        Start::LinuxSll => match LinuxSllSlice::from_slice(frame) {
-            Ok(slice) => captured_link(&slice),
-            Err(_) => Err(TagError::NoLink),
-        },
+        Start::LinuxSll if is_ethernet_capture(frame) => Ok(TypedLink {
+            len: LinuxSllHeader::LEN,
+            payload_len: frame.len() - LinuxSllHeader::LEN,
+            ether_type: EtherType(u16_at(frame, 14)),
+        }),
+        Start::LinuxSll => Err(other_capture(frame)),
         Start::EtherType(_) => Err(TagError::NoLink),
     }
 }
 
-/// The header of a cooked capture, if its protocol type is an ether type.
+/// Whether a frame begins with the header of a cooked capture whose protocol type is an ether type.
 #[inline(always)]
-fn captured_link(slice: &LinuxSllSlice<'_>) -> Result<TypedLink, TagError>
-    ensures ok { IfOk result (λ link. IsCapturedLink slice.now link) }
-    ensures refused { IfErr result (IsOtherCapture slice.now) }
+fn is_ethernet_capture(frame: &[u8]) -> bool
+    ensures { IsTrue result ↔ IsEthernetCapture frame.now }
 {
-    let hardware_type = slice.arp_hardware_type();
-    if hardware_type != ArpHardwareId::ETHERNET {
-        return Err(TagError::HardwareType(hardware_type));
+    frame.len() >= LinuxSllHeader::LEN && u16_at(frame, 0) <= 7 && u16_at(frame, 2) == 1
+}
+
+/// Why a frame begins with no such header.
+#[inline(never)]
+fn other_capture(frame: &[u8]) -> TagError
+    ensures { IsOtherCapture frame.now result }
+{
+    match LinuxSllSlice::from_slice(frame) {
+        Ok(slice) => TagError::HardwareType(slice.arp_hardware_type()),
+        Err(_) => TagError::NoLink,
     }
-    let header = slice.header_slice();
-    Ok(TypedLink {
-        len: LinuxSllHeader::LEN,
-        payload_len: slice.payload_slice().len(),
-        ether_type: EtherType(u16::from_be_bytes([header[14], header[15]])),
-    })
+}
+
+/// The number in two bytes of a slice from a place on.
+#[inline(always)]
+fn u16_at(bytes: &[u8], at: usize) -> u16
+    requires { at + 2 ≤ length bytes.now }
+    ensures { result ≡ number (slice_range bytes.now at (at + 2)) }
+{
+    u16::from_be_bytes([bytes[at], bytes[at + 1]])
 }
 
 /// Whether an ether type announces a VLAN tag.

@@ -1,10 +1,10 @@
-use Rattle.std.proofs.Common.{ap, arith, ◌∙◌, refl}
+use Rattle.std.proofs.Common.{◌≡◌, sym, true, false, ap, arith, ◌∙◌, refl}
 use Rattle.etherparse.specs.Ethernet2.{Frame, ethernet2_of}
 use Rattle.etherparse.specs.Kind as kinds
 use Rattle.ether_peel.specs.Grammar.Expectation.{announced}
 use Rattle.ether_peel.specs.Walker.Start.{start_of}
 use Rattle.ether_peel.specs.declared.start.Start.{Start}
-use Rattle.ether_packet.proofs.TypedLinks.{is_typed, is_captured, refused_link, refused_capture, other_capture, unlinked, with_fcs}
+use Rattle.ether_packet.proofs.TypedLinks.{is_typed, is_captured, refused_link, other_capture, unlinked, with_fcs}
 use Rattle.ether_packet.proofs.typed_link.typed_link.Goals as goal
 
 pub returns-in-Ok-clause-ok : goal.returns-in-Ok-clause-ok
@@ -31,19 +31,14 @@ pub returns-in-Err-from_slice_with_crc32_fcs-clause-refused :
 returns-in-Err-from_slice_with_crc32_fcs-clause-refused c hs e walk =
     refused_link c.args.start kinds.Ethernet2Fcs c.args.frame.now _ hs e (ap (λ (s : Start). announced (start_of s)) c.in-Ethernet2Fcs.is) c.in-Err-from_slice_with_crc32_fcs.ensures.refused.row walk
 
-pub returns-in-Ok-from_slice-clause-ok : goal.returns-in-Ok-from_slice-clause-ok
-returns-in-Ok-from_slice-clause-ok c =
-    let at = c.in-Ok-from_slice in
-    is_captured c.args.start c.args.frame.now at.slice c.captured_link.result (λ i. omega (arith, c.type_inv.frame i)) (ap (λ (s : Start). announced (start_of s)) c.in-LinuxSll.is) at.ensures.accepted at.ensures.bytes at.ensures.value.whole c.captured_link.ensures.ok
+pub returns-in-LinuxSll-clause-ok : goal.returns-in-LinuxSll-clause-ok
+returns-in-LinuxSll-clause-ok c hs e walk =
+    is_captured c.args.start c.args.frame.now hs e _ (λ i. omega (arith, c.type_inv.frame i)) (ap (λ (s : Start). announced (start_of s)) c.in-LinuxSll.is) (c.is_ethernet_capture.ensures.0 c.if-is_ethernet_capture.true) refl refl c.u16_at.ensures walk
 
-pub returns-in-Ok-from_slice-clause-refused : goal.returns-in-Ok-from_slice-clause-refused
-returns-in-Ok-from_slice-clause-refused c =
-    let at = c.in-Ok-from_slice in
-    other_capture c.args.start c.args.frame.now at.slice c.captured_link.result (λ i. omega (arith, c.type_inv.frame i)) (ap (λ (s : Start). announced (start_of s)) c.in-LinuxSll.is) at.ensures.accepted at.ensures.bytes c.captured_link.ensures.refused
-
-pub returns-in-Err-from_slice-clause-refused : goal.returns-in-Err-from_slice-clause-refused
-returns-in-Err-from_slice-clause-refused c hs e walk =
-    refused_capture c.args.start c.args.frame.now c.in-Err-from_slice.field-0 hs e (ap (λ (s : Start). announced (start_of s)) c.in-LinuxSll.is) c.in-Err-from_slice.ensures.refused walk
+pub returns-in-LinuxSll-2-clause-refused : goal.returns-in-LinuxSll-2-clause-refused
+returns-in-LinuxSll-2-clause-refused c hs e walk =
+    other_capture c.args.start c.args.frame.now hs e c.other_capture.result (λ i. omega (arith, c.type_inv.frame i)) (ap (λ (s : Start). announced (start_of s)) c.in-LinuxSll-2.is) c.other_capture.ensures
+    (λ is. let both : true ≡ false = sym (c.is_ethernet_capture.ensures.1 is) ∙ c.if-is_ethernet_capture.false in absurd cc) walk
 
 pub returns-in-EtherType-clause-refused : goal.returns-in-EtherType-clause-refused
 returns-in-EtherType-clause-refused c hs e walk = unlinked c.args.start c.in-EtherType.field-0 c.args.frame.now hs e c.in-EtherType.is walk
