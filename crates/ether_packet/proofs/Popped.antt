@@ -23,7 +23,7 @@ use Rattle.ether_peel.proofs.Grammar.Cleared.{whole_in}
 use Rattle.ether_packet.specs.declared.tag_error.TagError.TheVariants as errors
 use Rattle.ether_packet.specs.declared.typed_link.TypedLink.{TypedLink}
 use Rattle.ether_packet.specs.ReplacingLink.{is_link}
-use Rattle.ether_packet.specs.TypedLink.{type_of_link, with_type, BeginsTyped, IsTypedLink}
+use Rattle.ether_packet.specs.TypedLink.{type_of_link, with_type, BeginsTyped, link_len, IsTypedLink}
 use Rattle.ether_packet.specs.Popping.{IsPopped, IsTagged, RefusesPop, no_vlan, cut_vlan}
 use Rattle.ether_packet.proofs.TypedLinks.{retyped_unit, moved_rest, announces_kept, announced_vlan, link_payload, stack_after, unit_there, no_unit_there}
 use Rattle.ether_packet.proofs.VlanIds.{own_bytes}
@@ -141,35 +141,35 @@ vlan_header (headers.Vlan v) is = (v, refl)
 vlan_header (headers.Macsec m) is = absurd cc
 vlan_header (headers.Arp a) is = absurd cc
 
-announces_tag : (list : List ℕ) (hs : List Header) (l : TypedLink) (b : Bool) (t : IsTypedLink list hs l) → is_vlan_ether_type l.ether_type.0 ≡ b → is_vlan_ether_type (type_of_link t.link) ≡ b
-announces_tag list hs l b t is = ap is_vlan_ether_type (sym t.ether_type) ∙ is
+announces_tag : (start : Start) (list : List ℕ) (hs : List Header) (l : TypedLink) (b : Bool) (t : IsTypedLink start list hs l) → is_vlan_ether_type l.ether_type.0 ≡ b → is_vlan_ether_type (type_of_link t.link) ≡ b
+announces_tag start list hs l b t is = ap is_vlan_ether_type (sym t.ether_type) ∙ is
 
-pub no_tag : (list : List ℕ) (hs : List Header) (l : TypedLink) → IsTypedLink list hs l → is_vlan_ether_type l.ether_type.0 ≡ false → RefusesPop hs errors.NoVlan
-no_tag list hs l t other = no_vlan t.link t.later t.begins (announces_tag list hs l false t other)
+pub no_tag : (start : Start) (list : List ℕ) (hs : List Header) (l : TypedLink) → IsTypedLink start list hs l → is_vlan_ether_type l.ether_type.0 ≡ false → RefusesPop hs errors.NoVlan
+no_tag start list hs l t other = no_vlan t.link t.later t.begins (announces_tag start list hs l false t other)
 
 -- the length of the payload
-payload_len : (start : Start) (list : List ℕ) (hs : List Header) (l : TypedLink) (t : IsTypedLink list hs l) → length (within list (link_payload (start_of start) list t.link)) ≡ l.payload_len
+payload_len : (start : Start) (list : List ℕ) (hs : List Header) (l : TypedLink) (t : IsTypedLink start list hs l) → length (within list (link_payload (start_of start) list t.link)) ≡ l.payload_len
 payload_len start list hs l t =
     let a = t.len in
     let b = t.payload in
     length-part list (header_len t.link) (length list - trailer_len t.link) (omega arith) ∙ omega arith
 
-after_link : (start : Start) (list : List ℕ) (hs : List Header) (e : Ending) (l : TypedLink) (t : IsTypedLink list hs l) → Walk (start_of start) list hs e
+after_link : (start : Start) (list : List ℕ) (hs : List Header) (e : Ending) (l : TypedLink) (t : IsTypedLink start list hs l) → Walk (start_of start) list hs e
     → Stack list (record { next = EtherType (type_of_link t.link); limit = None }) (link_payload (start_of start) list t.link) t.later e
 after_link start list hs e l t walk = stack_after start list t.link t.later e t.begins.is_link t.begins.typed (subst (λ (k : List Header). Walk (start_of start) list k e) t.begins.parts walk).1
 
-pub cut_tag : (start : Start) (list : List ℕ) (hs : List Header) (e : Ending) (l : TypedLink) → IsTypedLink list hs l → is_vlan_ether_type l.ether_type.0 ≡ true → l.payload_len < 4 → Walk (start_of start) list hs e → RefusesPop hs errors.CutVlan
+pub cut_tag : (start : Start) (list : List ℕ) (hs : List Header) (e : Ending) (l : TypedLink) → IsTypedLink start list hs l → is_vlan_ether_type l.ether_type.0 ≡ true → l.payload_len < 4 → Walk (start_of start) list hs e → RefusesPop hs errors.CutVlan
 cut_tag start list hs e l t announces lt walk =
     let len = payload_len start list hs l t in
-    let is = announces_tag list hs l true t announces in
+    let is = announces_tag start list hs l true t announces in
     let none = no_unit_there list (record { next = EtherType (type_of_link t.link); limit = None }) (link_payload (start_of start) list t.link) kinds.Vlan _ t.later e (announced_vlan (type_of_link t.link) is) (rows.vlan (omega (arith, len, lt))) (after_link start list hs e l t walk) in
     cut_vlan t.link (subst (BeginsTyped hs t.link) none t.begins) is
 
-pub is_tagged : (start : Start) (list : List ℕ) (hs : List Header) (e : Ending) (l : TypedLink) → IsTypedLink list hs l → is_vlan_ether_type l.ether_type.0 ≡ true → 4 ≤ l.payload_len → Walk (start_of start) list hs e → IsTagged hs l.len
+pub is_tagged : (start : Start) (list : List ℕ) (hs : List Header) (e : Ending) (l : TypedLink) → IsTypedLink start list hs l → is_vlan_ether_type l.ether_type.0 ≡ true → 4 ≤ l.payload_len → Walk (start_of start) list hs e → IsTagged hs (link_len start)
 is_tagged start list hs e l t announces le walk =
     let w = link_payload (start_of start) list t.link in
     let len = payload_len start list hs l t in
-    let is = announces_tag list hs l true t announces in
+    let is = announces_tag start list hs l true t announces in
     let u = unit_there list (record { next = EtherType (type_of_link t.link); limit = None }) w kinds.Vlan t.later e (announced_vlan (type_of_link t.link) is) (accepts_vlan sources.Slice (within list w) (omega (arith, len, le))) (after_link start list hs e l t walk) in
     let tag = vlan_header u.header u.of_kind in
     record {

@@ -22,7 +22,7 @@ use Rattle.ether_peel.specs.Walker.Start.{start_of}
 use Rattle.ether_peel.specs.declared.start.Start.{Start}
 use Rattle.ether_packet.specs.declared.typed_link.TypedLink.{TypedLink}
 use Rattle.ether_packet.specs.ReplacingLink.{is_link}
-use Rattle.ether_packet.specs.TypedLink.{type_of_link, with_type, IsTypedLink}
+use Rattle.ether_packet.specs.TypedLink.{type_of_link, with_type, link_len, IsTypedLink}
 use Rattle.ether_packet.specs.Pushing.{pushed_bytes, IsLinked, IsPushed}
 use Rattle.ether_packet.proofs.Replaced.{front_is}
 use Rattle.ether_packet.proofs.TypedLinks.{retyped_unit, moved_rest, announces_kept, announced_vlan, link_type_read, means_whole_list}
@@ -176,8 +176,8 @@ pushed_walk start old new (headers.Arp v) tag tpid later e ok link typed fits lt
 
 -- ---- what the call leaves
 
-pub is_linked : (list : List ℕ) (hs : List Header) (l : TypedLink) → IsTypedLink list hs l → IsLinked hs l.len
-is_linked list hs l t = record { link = t.link; later = t.later; begins = t.begins; place = t.len }
+pub is_linked : (start : Start) (list : List ℕ) (hs : List Header) (l : TypedLink) → IsTypedLink start list hs l → IsLinked hs (link_len start)
+is_linked start list hs l t = record { link = t.link; later = t.later; begins = t.begins; place = t.len }
 
 -- two bytes of an array
 pub first_two_bytes : (list : List ℕ) → 2 ≤ length list → get_or list 0 0 ∷ get_or list 1 0 ∷ [] ≡ slice_range list 0 2

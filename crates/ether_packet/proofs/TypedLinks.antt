@@ -1,5 +1,5 @@
 -- The header of a link with another type, and what follows it moved: the walk of the new list.
-use Rattle.std.proofs.Common.{◌≡◌, ℕ, ◌+◌, ◌-◌, ◌*◌, ◌^◌, ◌<◌, ◌≤◌, List, [], ◌∷◌, length, take, drop, refl, sym, ap, subst, ◌∙◌, arith, ◌⊎◌, inl, inr, Bool, true, false}
+use Rattle.std.proofs.Common.{◌≡◌, ℕ, ◌+◌, ◌-◌, ◌*◌, ◌^◌, ◌<◌, ◌≤◌, List, [], ◌∷◌, length, take, drop, refl, sym, ap, subst, ◌∙◌, arith, Bool, true, false}
 use Rattle.std.specs.Prelude.{slice_range, Option, Some, None, Result, IfOk, IfErr, nat_eq, ◌==◌, if◌then◌else◌}
 use Rattle.std.proofs.lemmas.List.{length-drop}
 use Rattle.std.proofs.lemmas.Result.{IfOk-weaker, MatchResult-weaker}
@@ -34,7 +34,7 @@ use Rattle.ether_packet.specs.declared.tag_error.TagError.TheVariants as errors
 use Rattle.ether_packet.specs.declared.typed_link.TypedLink.{TypedLink}
 use Rattle.ether_packet.specs.Views.{header_in}
 use Rattle.ether_packet.specs.ReplacingLink.{is_link, has_link}
-use Rattle.ether_packet.specs.TypedLink.{type_of_link, with_type, IsTypedLink, IsEthernetCapture, IsOtherCapture, RefusesTyped, no_link, hardware_type}
+use Rattle.ether_packet.specs.TypedLink.{type_of_link, with_type, link_len, IsTypedLink, IsEthernetCapture, IsOtherCapture, RefusesTyped, no_link, hardware_type}
 use Rattle.ether_packet.proofs.Gathering.{whole_part}
 use Rattle.ether_packet.proofs.Replaced.{packet_type_of, supported}
 use Rattle.ether_packet.proofs.PacketExts.{kind_kept as header_kind}
@@ -261,8 +261,8 @@ no_unit_there list x w kind r (h ∷ hs) e a row s =
 
 -- what is read of it: its lengths and its type
 pub is_typed : (start : Start) (kind : Kind) (list : List ℕ) (hs : List Header) (e : Ending) (l : TypedLink) → IsBytes list → announced (start_of start) ≡ Some kind → Accepts sources.Slice list kind → is_link kind ≡ true
-    → next_after (header_in kind list) ≡ EtherType (type_of_link (header_in kind list)) → l.len ≡ header_len (header_in kind list) → l.len + l.payload_len + trailer_len (header_in kind list) ≡ length list → l.ether_type.0 ≡ type_of_link (header_in kind list)
-    → Walk (start_of start) list hs e → IsTypedLink list hs l
+    → next_after (header_in kind list) ≡ EtherType (type_of_link (header_in kind list)) → link_len start ≡ header_len (header_in kind list) → link_len start + l.payload_len + trailer_len (header_in kind list) ≡ length list → l.ether_type.0 ≡ type_of_link (header_in kind list)
+    → Walk (start_of start) list hs e → IsTypedLink start list hs l
 is_typed start kind list hs e l ok a accepted link typed len payload_len ether_type walk =
     let first = first_header (start_of start) kind list hs e ok a accepted walk in
     record {
@@ -287,24 +287,23 @@ with_fcs list accepted = at_least (length list) 18 (λ (lt : length list < 18). 
 sixteen : (list : List ℕ) → Accepts sources.Slice list kinds.LinuxSll → 16 ≤ length list
 sixteen list accepted = at_least (length list) 16 (λ (lt : length list < 16). accepted _ (rows.linux_sll lt))
 
-pub is_captured : (start : Start) (list : List ℕ) (hs : List Header) (e : Ending) (l : TypedLink) → IsBytes list → announced (start_of start) ≡ Some kinds.LinuxSll → IsEthernetCapture list → l.len ≡ 16 → l.payload_len ≡ length list - 16 → l.ether_type.0 ≡ (linux_sll_of list).protocol
-    → Walk (start_of start) list hs e → IsTypedLink list hs l
+pub is_captured : (start : Start) (list : List ℕ) (hs : List Header) (e : Ending) (l : TypedLink) → IsBytes list → announced (start_of start) ≡ Some kinds.LinuxSll → IsEthernetCapture list → link_len start ≡ 16 → l.payload_len ≡ length list - 16 → l.ether_type.0 ≡ (linux_sll_of list).protocol
+    → Walk (start_of start) list hs e → IsTypedLink start list hs l
 is_captured start list hs e l ok a is len payload_len ether_type walk =
     let s = linux_sll_of list in
     let le = is.0 in
     let accepted = accepts_linux_sll sources.Slice list s le (linux_sll_begins list ok le) is.1 (ap is_supported is.2) in
     is_typed start kinds.LinuxSll list hs e l ok a accepted refl (ap (λ (h : ℕ). after_capture h s.protocol) is.2) len (omega (arith, len, payload_len, le)) ether_type walk
 
--- of another link, or refused
-pub other_capture : (start : Start) (list : List ℕ) (hs : List Header) (e : Ending) (error : TagError) → IsBytes list → announced (start_of start) ≡ Some kinds.LinuxSll → IsOtherCapture list error → (IsEthernetCapture list → ⊥) → Walk (start_of start) list hs e → RefusesTyped hs error
-other_capture start list hs e (errors.HardwareType hardware) ok a other never walk =
+-- of another link
+pub other_link : (start : Start) (list : List ℕ) (hs : List Header) (e : Ending) (hardware : ArpHardwareId) → IsBytes list → announced (start_of start) ≡ Some kinds.LinuxSll → IsOtherCapture list (Some hardware) → (IsEthernetCapture list → ⊥) → Walk (start_of start) list hs e
+    → RefusesTyped hs (errors.HardwareType hardware)
+other_link start list hs e hardware ok a other never walk =
     let first = first_header (start_of start) kinds.LinuxSll list hs e ok a other.0 walk in
     let s = linux_sll_of list in
     let m = linux_sll_means list ok (sixteen list other.0) in
     subst (λ (h : ArpHardwareId). RefusesTyped hs (errors.HardwareType h)) (λ i. record { 0 = sym other.1 i })
     (hardware_type s first.0 first.1 (λ one. never (m.whole, packet_type_of sources.Slice list s other.0 m, one)))
-other_capture start list hs e errors.NoLink ok a other never walk = refused_link start kinds.LinuxSll list other.0 hs e a other.1 walk
-other_capture start list hs e _ ok a other never walk = absurd other
 
 unpermitted : (o : Option Kind) → o ≡ permitted None o
 unpermitted None = refl
@@ -332,7 +331,9 @@ unlinked start t list (h ∷ hs) e is walk =
     let a : announced (start_of (starts.EtherType t)) ≡ Some (kind_of h) = ap (λ (s : Start). announced (start_of s)) (sym is) ∙ walk.0.announced in
     no_link (not_announced (is_vlan_ether_type t.0) (nat_eq t.0 0x88E5) (nat_eq t.0 0x0806) (kind_of h) (unpermitted (announced_by t.0) ∙ a))
 
--- the length of a link's header that is not 14
-pub other_len : (n : ℕ) → (n ≡ 14) ⊎ (n ≡ 16) → (n ≡ 14 → ⊥) → n ≡ 16
-other_len n (inl is) never = absurd (never is)
-other_len n (inr is) never = is
+-- the length of a link's header from a start that is no cooked capture
+pub other_len : (start : Start) → (start ≡ starts.LinuxSll → ⊥) → link_len start ≡ 14
+other_len starts.Ethernet2 never = refl
+other_len starts.Ethernet2Fcs never = refl
+other_len starts.LinuxSll never = absurd (never refl)
+other_len (starts.EtherType t) never = refl

@@ -1,12 +1,15 @@
 -- The header of a link whose type is the ether type of what follows.
-use Rattle.std.specs.Prelude.{◌≡◌, ℕ, ◌+◌, ◌≤◌, List, ◌∷◌, length, true, false}
+use Rattle.std.specs.Prelude.{◌≡◌, ℕ, ◌+◌, ◌≤◌, List, ◌∷◌, length, true, false, Option, Some, None}
 use Rattle.etherparse.specs.LinuxSll.{LinuxSllValue, linux_sll_of}
+use Rattle.etherparse.specs.Types.ArpHardwareId.{ArpHardwareId}
 use Rattle.etherparse.specs.Types.LenSource.TheVariants as sources
 use Rattle.etherparse.specs.Kind as kinds
 use Rattle.etherparse.specs.Refusal.{Refusal, Refuses, Accepts}
 use Rattle.etherparse.specs.Header.{Header, kind_of, header_len, trailer_len}
 use Rattle.etherparse.specs.Header as headers
 use Rattle.ether_peel.specs.Grammar.Expectation.{EtherType, next_after}
+use Rattle.ether_peel.specs.declared.start.Start.{Start}
+use Rattle.ether_peel.specs.declared.start.Start.TheVariants as starts
 use Rattle.ether_packet.specs.declared.tag_error.TagError.{TagError}
 use Rattle.ether_packet.specs.declared.tag_error.TagError.TheVariants as errors
 use Rattle.ether_packet.specs.declared.typed_link.TypedLink.{TypedLink}
@@ -43,13 +46,18 @@ pub data RefusesTyped (hs : List Header) : TagError → Type 0 where
 
 -- ---- how it is read
 
--- the lengths of the header and of its payload in a list, and the type
-pub record IsTypedLink (list : List ℕ) (hs : List Header) (l : TypedLink) : Type 0 where
+-- the length of the header of a link, from a start that has one
+abbrev pub link_len : Start → ℕ
+link_len starts.LinuxSll = 16
+link_len _ = 14
+
+-- the length of its payload in a list, and the type
+pub record IsTypedLink (start : Start) (list : List ℕ) (hs : List Header) (l : TypedLink) : Type 0 where
   pub link : Header
   pub later : List Header
   pub begins : BeginsTyped hs link later
-  pub len : l.len ≡ header_len link
-  pub payload : l.len + l.payload_len + trailer_len link ≡ length list
+  pub len : link_len start ≡ header_len link
+  pub payload : link_len start + l.payload_len + trailer_len link ≡ length list
   pub ether_type : l.ether_type.0 ≡ type_of_link link
 
 -- a list begins with a header of cooked capture of Ethernet, whose packet type is supported
@@ -57,7 +65,6 @@ abbrev pub IsEthernetCapture : List ℕ → Type 0
 IsEthernetCapture list = (16 ≤ length list) × ((linux_sll_of list).packet_type ≤ 7) × ((linux_sll_of list).hardware_type ≡ 1)
 
 -- why it begins with no such header: with that of another link, or its header is refused
-abbrev pub IsOtherCapture : List ℕ → TagError → Type 0
-IsOtherCapture list (errors.HardwareType hardware) = Accepts sources.Slice list kinds.LinuxSll × (hardware.0 ≡ (linux_sll_of list).hardware_type)
-IsOtherCapture list errors.NoLink = (r : Refusal) × Refuses sources.Slice list kinds.LinuxSll r
-IsOtherCapture list _ = ⊥
+abbrev pub IsOtherCapture : List ℕ → Option ArpHardwareId → Type 0
+IsOtherCapture list (Some hardware) = Accepts sources.Slice list kinds.LinuxSll × (hardware.0 ≡ (linux_sll_of list).hardware_type)
+IsOtherCapture list None = (r : Refusal) × Refuses sources.Slice list kinds.LinuxSll r

@@ -1,17 +1,18 @@
 //! VLAN tags that are taken off in place.
-ghost use Rattle.std.specs.Prelude.{◌≡◌, ◌+◌, ◌≤◌, ◌⊎◌, List, length, take, slice_range, IfOk, IfErr, OnOk, OnErr};
+ghost use Rattle.std.specs.Prelude.{◌≡◌, ◌+◌, ◌≤◌, List, length, take, slice_range, IfOk, IfErr, OnOk, OnErr};
 ghost use Rattle.etherparse.specs.Bytes.{IsBytes, overwritten};
 ghost use Rattle.etherparse.specs.Header.{Header};
 ghost use Rattle.etherparse.specs.Vlan.{IsVlan, vlan_view};
 ghost use Rattle.ether_peel.specs.Grammar.Stack.{Ending, Walk};
 ghost use Rattle.ether_peel.specs.Walker.Start.{start_of};
+ghost use Rattle.ether_packet.specs.TypedLink.{link_len};
 ghost use Rattle.ether_packet.specs.Popping.{IsPopped, IsTagged, RefusesPop};
 
 use crate::TagError;
 use crate::packet_builder::put_at;
 use crate::typed_link::{announces_vlan, chunk_at, typed_link};
 use ether_peel::Start;
-use etherparse::{Ethernet2Header, SingleVlanHeader};
+use etherparse::SingleVlanHeader;
 
 /// Takes off the VLAN tag after the header of a link, in place, and returns it: the frame is then `frame[4..]`.
 ///
@@ -52,22 +53,24 @@ pub fn pop_vlan(start: Start, frame: &mut [u8]) -> Result<SingleVlanHeader, TagE
         → Walk (start_of start) frame.old hs e → RefusesPop hs error) }
     ensures kept { OnErr result (frame.new ≡ frame.old) }
 {
-    let at = tag_place(start, frame)?;
-    if at == Ethernet2Header::LEN {
-        Ok(take_off::<12>(frame))
-    } else {
-        Ok(take_off::<14>(frame))
+    match start {
+        Start::LinuxSll => {
+            require_tag(start, frame)?;
+            Ok(take_off::<14>(frame))
+        }
+        _ => {
+            require_tag(start, frame)?;
+            Ok(take_off::<12>(frame))
+        }
     }
 }
 
-/// Where the VLAN tag after the header of a link begins: after the 14 bytes of Ethernet II, or the 16 bytes of a cooked
-/// capture.
+/// Requires that a VLAN tag follows the header of a link.
 #[inline(always)]
-fn tag_place(start: Start, frame: &[u8]) -> Result<usize, TagError>
-    ensures ok { IfOk result (λ at. (hs : List Header) (e : Ending)
-        → Walk (start_of start) frame.now hs e → IsTagged hs at) }
-    ensures room { IfOk result (λ at. at + 4 ≤ length frame.now) }
-    ensures len { IfOk result (λ at. (at ≡ 14) ⊎ (at ≡ 16)) }
+fn require_tag(start: Start, frame: &[u8]) -> Result<(), TagError>
+    ensures ok { IfOk result (λ _. (hs : List Header) (e : Ending)
+        → Walk (start_of start) frame.now hs e → IsTagged hs (link_len start)) }
+    ensures room { OnOk result (link_len start + 4 ≤ length frame.now) }
     ensures bytes { OnOk result (IsBytes frame.now) }
     ensures refused { IfErr result (λ error. (hs : List Header) (e : Ending)
         → Walk (start_of start) frame.now hs e → RefusesPop hs error) }
@@ -79,7 +82,7 @@ fn tag_place(start: Start, frame: &[u8]) -> Result<usize, TagError>
     if link.payload_len < SingleVlanHeader::LEN {
         return Err(TagError::CutVlan);
     }
-    Ok(link.len)
+    Ok(())
 }
 
 /// Returns the tag after the header of a link whose type is at `N`, and moves the bytes before the type over it.

@@ -1,17 +1,18 @@
 //! VLAN tags that are put in in place.
-ghost use Rattle.std.specs.Prelude.{◌≡◌, ◌+◌, ◌≤◌, ◌⊎◌, ◌++◌, List, length, drop, slice_range, true, IfOk, IfErr, OnOk, OnErr};
+ghost use Rattle.std.specs.Prelude.{◌≡◌, ◌+◌, ◌≤◌, ◌++◌, List, length, drop, slice_range, true, IfOk, IfErr, OnOk, OnErr};
 ghost use Rattle.etherparse.specs.Bytes.{IsBytes, overwritten};
 ghost use Rattle.etherparse.specs.Header.{Header};
 ghost use Rattle.etherparse.specs.Vlan.{FitsVlan, is_vlan_ether_type, vlan_view};
 ghost use Rattle.ether_peel.specs.Grammar.Stack.{Ending, Walk};
 ghost use Rattle.ether_peel.specs.Walker.Start.{start_of};
+ghost use Rattle.ether_packet.specs.TypedLink.{link_len};
 ghost use Rattle.ether_packet.specs.Pushing.{pushed_bytes, IsLinked, IsPushed, RefusesPush};
 
 use crate::TagError;
 use crate::packet_builder::put_at;
 use crate::typed_link::{announces_vlan, chunk_at, typed_link};
 use ether_peel::Start;
-use etherparse::{EtherType, Ethernet2Header, SingleVlanHeader};
+use etherparse::{EtherType, SingleVlanHeader};
 
 /// Puts a VLAN tag after the header of a link, in place: the frame is `buffer[4..]` before and the whole buffer afterwards.
 ///
@@ -66,24 +67,26 @@ pub fn push_vlan(
         → RefusesPush buffer.old hs tpid.0 error) }
     ensures kept { OnErr result (buffer.new ≡ buffer.old) }
 {
-    let len = link_len(start, buffer, tpid)?;
-    if len == Ethernet2Header::LEN {
-        put_in::<12>(buffer, tag, tpid);
-    } else {
-        put_in::<14>(buffer, tag, tpid);
+    match start {
+        Start::LinuxSll => {
+            require_link(start, buffer, tpid)?;
+            put_in::<14>(buffer, tag, tpid);
+        }
+        _ => {
+            require_link(start, buffer, tpid)?;
+            put_in::<12>(buffer, tag, tpid);
+        }
     }
     Ok(())
 }
 
-/// The length of the header of a link before which four bytes of a buffer are free: 14 for Ethernet II, and 16 for a cooked
-/// capture.
+/// Requires that four bytes of a buffer are free before the header of a link, and that the ether type announces a VLAN tag.
 #[inline(always)]
-fn link_len(start: Start, buffer: &[u8], tpid: EtherType) -> Result<usize, TagError>
-    ensures ok { IfOk result (λ len. (hs : List Header) (e : Ending)
-        → Walk (start_of start) (drop 4 buffer.now) hs e → IsLinked hs len) }
+fn require_link(start: Start, buffer: &[u8], tpid: EtherType) -> Result<(), TagError>
+    ensures ok { IfOk result (λ _. (hs : List Header) (e : Ending)
+        → Walk (start_of start) (drop 4 buffer.now) hs e → IsLinked hs (link_len start)) }
     ensures announces { OnOk result (is_vlan_ether_type tpid.0 ≡ true) }
-    ensures room { IfOk result (λ len. len + 4 ≤ length buffer.now) }
-    ensures len { IfOk result (λ len. (len ≡ 14) ⊎ (len ≡ 16)) }
+    ensures room { OnOk result (link_len start + 4 ≤ length buffer.now) }
     ensures bytes { OnOk result (IsBytes buffer.now) }
     ensures refused { IfErr result (λ error. (hs : List Header) (e : Ending)
         → Walk (start_of start) (drop 4 buffer.now) hs e
@@ -95,8 +98,8 @@ fn link_len(start: Start, buffer: &[u8], tpid: EtherType) -> Result<usize, TagEr
     if buffer.len() < SingleVlanHeader::LEN {
         return Err(TagError::NoRoom);
     }
-    let link = typed_link(start, &buffer[SingleVlanHeader::LEN..])?;
-    Ok(link.len)
+    typed_link(start, &buffer[SingleVlanHeader::LEN..])?;
+    Ok(())
 }
 
 /// Moves the `N` bytes of a link before its type to the front, and puts four bytes after them.

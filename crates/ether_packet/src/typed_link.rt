@@ -1,21 +1,21 @@
 //! The header of a link that a frame begins with, and the ether type of what follows it.
-ghost use Rattle.std.specs.Prelude.{◌≡◌, ◌↔◌, ◌+◌, ◌≤◌, ◌⊎◌, List, length, slice_range, IfOk, IfErr, IsTrue};
+ghost use Rattle.std.specs.Prelude.{◌≡◌, ◌↔◌, ◌+◌, ◌≤◌, List, length, slice_range, IfOk, IfErr, IsTrue};
 ghost use Rattle.etherparse.specs.Bytes.{number};
 ghost use Rattle.etherparse.specs.Header.{Header};
 ghost use Rattle.etherparse.specs.Vlan.{is_vlan_ether_type};
 ghost use Rattle.ether_peel.specs.Grammar.Stack.{Ending, Walk};
 ghost use Rattle.ether_peel.specs.Walker.Start.{start_of};
-ghost use Rattle.ether_packet.specs.TypedLink.{IsTypedLink, IsEthernetCapture, IsOtherCapture, RefusesTyped};
+ghost use Rattle.ether_packet.specs.TypedLink.{link_len, IsTypedLink, IsEthernetCapture, IsOtherCapture, RefusesTyped};
 
 use crate::TagError;
 use ether_peel::Start;
-use etherparse::{EtherType, Ethernet2Header, Ethernet2Slice, LinuxSllHeader, LinuxSllSlice};
+use etherparse::{
+    ArpHardwareId, EtherType, Ethernet2Header, Ethernet2Slice, LinuxSllHeader, LinuxSllSlice,
+};
 
 /// The header of a link.
 #[derive(Clone, Copy)]
 pub(crate) struct TypedLink {
-    /// The length of the header: its last two bytes are the type.
-    pub len: usize,
     /// The length of the payload, without a frame check sequence.
     pub payload_len: usize,
     /// The ether type of the payload.
@@ -26,16 +26,14 @@ pub(crate) struct TypedLink {
 #[inline(always)]
 pub(crate) fn typed_link(start: Start, frame: &[u8]) -> Result<TypedLink, TagError>
     ensures ok { IfOk result (λ link. (hs : List Header) (e : Ending)
-        → Walk (start_of start) frame.now hs e → IsTypedLink frame.now hs link) }
-    ensures room { IfOk result (λ link. link.len + link.payload_len ≤ length frame.now) }
-    ensures len { IfOk result (λ link. (link.len ≡ 14) ⊎ (link.len ≡ 16)) }
+        → Walk (start_of start) frame.now hs e → IsTypedLink start frame.now hs link) }
+    ensures room { IfOk result (λ link. link_len start + link.payload_len ≤ length frame.now) }
     ensures refused { IfErr result (λ error. (hs : List Header) (e : Ending)
         → Walk (start_of start) frame.now hs e → RefusesTyped hs error) }
 {
     match start {
         Start::Ethernet2 => match Ethernet2Slice::from_slice_without_fcs(frame) {
             Ok(slice) => Ok(TypedLink {
-                len: Ethernet2Header::LEN,
                 payload_len: frame.len() - Ethernet2Header::LEN,
                 ether_type: slice.ether_type(),
             }),
@@ -43,18 +41,19 @@ pub(crate) fn typed_link(start: Start, frame: &[u8]) -> Result<TypedLink, TagErr
         },
         Start::Ethernet2Fcs => match Ethernet2Slice::from_slice_with_crc32_fcs(frame) {
             Ok(slice) => Ok(TypedLink {
-                len: Ethernet2Header::LEN,
                 payload_len: frame.len() - Ethernet2Header::LEN - 4,
                 ether_type: slice.ether_type(),
             }),
             Err(_) => Err(TagError::NoLink),
         },
         Start::LinuxSll if is_ethernet_capture(frame) => Ok(TypedLink {
-            len: LinuxSllHeader::LEN,
             payload_len: frame.len() - LinuxSllHeader::LEN,
             ether_type: EtherType(u16_at(frame, 14)),
         }),
-        Start::LinuxSll => Err(other_capture(frame)),
+        Start::LinuxSll => match other_hardware(frame) {
+            Some(hardware_type) => Err(TagError::HardwareType(hardware_type)),
+            None => Err(TagError::NoLink),
+        },
         Start::EtherType(_) => Err(TagError::NoLink),
     }
 }
@@ -67,14 +66,14 @@ fn is_ethernet_capture(frame: &[u8]) -> bool
     frame.len() >= LinuxSllHeader::LEN && u16_at(frame, 0) <= 7 && u16_at(frame, 2) == 1
 }
 
-/// Why a frame begins with no such header.
+/// The hardware type of any other cooked capture, if its header is not refused.
 #[inline(never)]
-fn other_capture(frame: &[u8]) -> TagError
+fn other_hardware(frame: &[u8]) -> Option<ArpHardwareId>
     ensures { IsOtherCapture frame.now result }
 {
     match LinuxSllSlice::from_slice(frame) {
-        Ok(slice) => TagError::HardwareType(slice.arp_hardware_type()),
-        Err(_) => TagError::NoLink,
+        Ok(slice) => Some(slice.arp_hardware_type()),
+        Err(_) => None,
     }
 }
 

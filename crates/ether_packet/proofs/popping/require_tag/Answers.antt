@@ -4,7 +4,7 @@ use Rattle.ether_peel.specs.Grammar.Stack.{Ending, Walk}
 use Rattle.ether_peel.specs.Walker.Start.{start_of}
 use Rattle.ether_packet.specs.Popping.{RefusesPop, link}
 use Rattle.ether_packet.proofs.Popped.{no_tag, cut_tag, is_tagged}
-use Rattle.ether_packet.proofs.popping.tag_place.Goals as goal
+use Rattle.ether_packet.proofs.popping.require_tag.Goals as goal
 
 pub returns-in_err-link-clause-refused : goal.returns-in_err-link-clause-refused
 returns-in_err-link-clause-refused c =
@@ -14,7 +14,7 @@ returns-in_err-link-clause-refused c =
 pub returns-then-not-announces_vlan-clause-refused :
     goal.returns-then-not-announces_vlan-clause-refused
 returns-then-not-announces_vlan-clause-refused c hs e walk =
-    no_tag c.args.frame.now hs c.in_ok-link.link (c.in_ok-link.ensures.ok hs e walk) (sym c.announces_vlan.ensures ∙ c.if-not-announces_vlan.true)
+    no_tag c.args.start c.args.frame.now hs c.in_ok-link.link (c.in_ok-link.ensures.ok hs e walk) (sym c.announces_vlan.ensures ∙ c.if-not-announces_vlan.true)
 
 pub returns-then-link-lt-LEN-clause-refused : goal.returns-then-link-lt-LEN-clause-refused
 returns-then-link-lt-LEN-clause-refused c hs e walk =
