@@ -13,3 +13,9 @@ pub mod PacketExts
 pub mod Links
 pub mod PacketArp
 pub mod VlanIds
+pub mod TypedLinks
+pub mod Popped
+pub mod Pushed
+pub mod PushedPopped
+pub mod Retyped
+pub mod SetTags

@@ -108,17 +108,33 @@ begins_at start list p i x is s =
 
 -- ---- a header that replaces it
 
-takes_ext : (start : Expectation) (list : List ℕ) (p : PacketSlice) (i : ℕ) (x : PacketUnit) (g : Header) → IsPacket start list p → slice_get (exts_of p.read.units) i ≡ Some x → SayTheSame g (header_of x) → TakesExt (packet_headers p) i g x.offset
-takes_ext start list p i x g is at same =
-    let s = split_at p.read.units i x at in
-    record { front = map header_of s.front; replaced = header_of x; later = map header_of s.later; found = ext_at p.read.units i x at s; same = same; begins = begins_at start list p i x is s }
+-- the extension that is viewed at an index
+pub record FoundExt (hs : List Header) (i : ℕ) (h : Header) (at : ℕ) : Type 0 where
+  pub front : List Header
+  pub later : List Header
+  pub found : IsExtAt hs i front h later
+  pub begins : at ≡ place 0 front
+
+pub found_ext : (start : Expectation) (list : List ℕ) (p : PacketSlice) (i : ℕ) (ext : PacketExt) (old : Header) (hs : List Header) (e : Ending) → IsPacket start list p → ViewsExtIf (slice_get (exts_of p.read.units) i) (Some ext)
+    → old ≡ ext_slice_header ext.slice → Walk start list hs e → FoundExt hs i old ext.offset
+found_ext start list p i ext old hs e is view value walk =
+    let w = viewed (slice_get (exts_of p.read.units) i) ext view in
+    let s = split_at p.read.units i w.0 w.1 in
+    let all = sym (is.one hs e walk).0 in
+    let here = ext_at p.read.units i w.0 w.1 s in
+    record {
+      front = map header_of s.front;
+      later = map header_of s.later;
+      found = subst (λ (l : List Header). IsExtAt l i (map header_of s.front) old (map header_of s.later)) all
+          (subst (λ (h : Header). IsExtAt (packet_headers p) i (map header_of s.front) h (map header_of s.later)) (sym (value ∙ w.2.header)) here);
+      begins = w.2.offset ∙ begins_at start list p i w.0 is s;
+    }
 
 pub found_takes : (start : Expectation) (list : List ℕ) (p : PacketSlice) (i : ℕ) (ext : PacketExt) (g old : Header) (hs : List Header) (e : Ending) → IsPacket start list p → ViewsExtIf (slice_get (exts_of p.read.units) i) (Some ext)
     → old ≡ ext_slice_header ext.slice → SayTheSame g old → Walk start list hs e → TakesExt hs i g ext.offset
 found_takes start list p i ext g old hs e is view value same walk =
-    let w = viewed (slice_get (exts_of p.read.units) i) ext view in
-    let takes = takes_ext start list p i w.0 g is w.1 (subst (SayTheSame g) (value ∙ w.2.header) same) in
-    subst (λ (l : List Header). TakesExt l i g ext.offset) (sym (is.one hs e walk).0) (subst (TakesExt (packet_headers p) i g) (sym w.2.offset) takes)
+    let f = found_ext start list p i ext old hs e is view value walk in
+    record { front = f.front; replaced = old; later = f.later; found = f.found; same = same; begins = f.begins }
 
 pub found_room : (start : Expectation) (list : List ℕ) (p : PacketSlice) (i : ℕ) (ext : PacketExt) (g old : Header) → IsPacket start list p → ViewsExtIf (slice_get (exts_of p.read.units) i) (Some ext)
     → old ≡ ext_slice_header ext.slice → SayTheSame g old → ext.offset + header_len g ≤ length list
@@ -133,16 +149,19 @@ found_room start list p i ext g old is view value same =
 pub found_other : (start : Expectation) (list : List ℕ) (p : PacketSlice) (i : ℕ) (ext : PacketExt) (g old : Header) (hs : List Header) (e : Ending) → IsPacket start list p → ViewsExtIf (slice_get (exts_of p.read.units) i) (Some ext)
     → old ≡ ext_slice_header ext.slice → (SayTheSame g old → ⊥) → Walk start list hs e → RefusesExt hs i g errors.SaysOther
 found_other start list p i ext g old hs e is view value differ walk =
-    let w = viewed (slice_get (exts_of p.read.units) i) ext view in
-    let s = split_at p.read.units i w.0 w.1 in
-    let never : SayTheSame g (header_of w.0) → ⊥ = λ same. differ (subst (SayTheSame g) (sym (value ∙ w.2.header)) same) in
-    subst (λ (l : List Header). RefusesExt l i g errors.SaysOther) (sym (is.one hs e walk).0) (other (map header_of s.front) (header_of w.0) (map header_of s.later) (ext_at p.read.units i w.0 w.1 s) never)
+    let f = found_ext start list p i ext old hs e is view value walk in other f.front old f.later f.found differ
+
+-- none is there
+pub none_past : (start : Expectation) (list : List ℕ) (p : PacketSlice) (i n : ℕ) (hs : List Header) (e : Ending) → IsPacket start list p → ViewsExtIf (slice_get (exts_of p.read.units) i) None → n ≡ length (exts_of p.read.units) → Walk start list hs e → (ext_count hs ≡ n) × (ext_count hs ≤ i)
+none_past start list p i n hs e is view len walk =
+    let count : ext_count hs ≡ n = ap ext_count (is.one hs e walk).0 ∙ exts_count p.read.units ∙ sym len in
+    let past = missing_past (exts_of p.read.units) i (unviewed (slice_get (exts_of p.read.units) i) view) in
+    (count, omega arith)
 
 pub found_none : (start : Expectation) (list : List ℕ) (p : PacketSlice) (i n : ℕ) (g : Header) (hs : List Header) (e : Ending) → IsPacket start list p → ViewsExtIf (slice_get (exts_of p.read.units) i) None → n ≡ length (exts_of p.read.units) → Walk start list hs e → RefusesExt hs i g (errors.NoLinkExt n)
 found_none start list p i n g hs e is view len walk =
-    let count : ext_count hs ≡ n = ap ext_count (is.one hs e walk).0 ∙ exts_count p.read.units ∙ sym len in
-    let past = missing_past (exts_of p.read.units) i (unviewed (slice_get (exts_of p.read.units) i) view) in
-    subst (λ (k : ℕ). RefusesExt hs i g (errors.NoLinkExt k)) count (none (omega arith))
+    let past = none_past start list p i n hs e is view len walk in
+    subst (λ (k : ℕ). RefusesExt hs i g (errors.NoLinkExt k)) past.0 (none past.1)
 
 pub sendable_ext : (ext : LinkExtHeader) → IsSendable (ext_header_view ext)
 sendable_ext (values.Vlan h) = tt

@@ -7,7 +7,7 @@ use Rattle.etherparse.specs.Types.LenSource.{LenSource}
 use Rattle.etherparse.specs.Types.LenSource.TheVariants as sources
 use Rattle.etherparse.specs.Bytes.{overwritten}
 use Rattle.etherparse.specs.LinuxSll.{LinuxSllValue, is_supported}
-use Rattle.etherparse.specs.Macsec.{BeginsSecTag, encrypted_of, changed_of, ether_type_len, known_len, sec_tag_front_of}
+use Rattle.etherparse.specs.Macsec.{BeginsSecTag, encrypted_of, changed_of, sci_present_of, ether_type_len, known_len, sec_tag_front_of}
 use Rattle.etherparse.specs.Arp.{arp_front_of}
 use Rattle.etherparse.specs.Kind as kinds
 use Rattle.etherparse.specs.Header.{Header, kind_of, header_len, payload_len, trailer_len, header_bytes, FitsHeader, Means, Spells}
@@ -69,41 +69,68 @@ same_self (headers.Vlan v) = refl
 same_self (headers.Macsec t) = (refl, refl, refl)
 same_self (headers.Arp a) = (refl, refl)
 
-pub same_kind : (g h : Header) → SayTheSame g h → kind_of g ≡ kind_of h
-same_kind (headers.Ethernet2 g) (headers.Ethernet2 h) same = refl
-same_kind (headers.Ethernet2Fcs g) (headers.Ethernet2Fcs h) same = refl
-same_kind (headers.LinuxSll g) (headers.LinuxSll h) same = refl
-same_kind (headers.Vlan g) (headers.Vlan h) same = refl
-same_kind (headers.Macsec g) (headers.Macsec h) same = refl
-same_kind (headers.Arp g) (headers.Arp h) same = refl
-same_kind _ _ same = absurd same
+-- two headers are of one kind and length, and name the same length of a payload or none
+abbrev pub LookAlike : Header → Header → Type 0
+LookAlike (headers.Ethernet2 g) (headers.Ethernet2 h) = Unit {0}
+LookAlike (headers.Ethernet2Fcs g) (headers.Ethernet2Fcs h) = Unit {0}
+LookAlike (headers.LinuxSll g) (headers.LinuxSll h) = g.hardware_type ≡ h.hardware_type
+LookAlike (headers.Vlan g) (headers.Vlan h) = Unit {0}
+LookAlike (headers.Macsec g) (headers.Macsec h) =
+    (encrypted_of g.payload_type ≡ encrypted_of h.payload_type) × (changed_of g.payload_type ≡ changed_of h.payload_type) × (g.short_len ≡ h.short_len) × (sci_present_of g.sci ≡ sci_present_of h.sci)
+LookAlike (headers.Arp g) (headers.Arp h) =
+    (length g.sender_hardware ≡ length h.sender_hardware) × (length g.sender_protocol ≡ length h.sender_protocol)
+LookAlike g h = ⊥
+
+pub look_alike : (g h : Header) → SayTheSame g h → LookAlike g h
+look_alike (headers.Ethernet2 g) (headers.Ethernet2 h) same = tt
+look_alike (headers.Ethernet2Fcs g) (headers.Ethernet2Fcs h) same = tt
+look_alike (headers.LinuxSll g) (headers.LinuxSll h) same = same.0
+look_alike (headers.Vlan g) (headers.Vlan h) same = tt
+look_alike (headers.Macsec g) (headers.Macsec h) same = (ap encrypted_of same.0, ap changed_of same.0, same.1, same.2)
+look_alike (headers.Arp g) (headers.Arp h) same = same
+look_alike _ _ same = absurd same
+
+pub alike_kind : (g h : Header) → LookAlike g h → kind_of g ≡ kind_of h
+alike_kind (headers.Ethernet2 g) (headers.Ethernet2 h) alike = refl
+alike_kind (headers.Ethernet2Fcs g) (headers.Ethernet2Fcs h) alike = refl
+alike_kind (headers.LinuxSll g) (headers.LinuxSll h) alike = refl
+alike_kind (headers.Vlan g) (headers.Vlan h) alike = refl
+alike_kind (headers.Macsec g) (headers.Macsec h) alike = refl
+alike_kind (headers.Arp g) (headers.Arp h) alike = refl
+alike_kind _ _ alike = absurd alike
+
+pub alike_len : (g h : Header) → LookAlike g h → header_len g ≡ header_len h
+alike_len (headers.Ethernet2 g) (headers.Ethernet2 h) alike = refl
+alike_len (headers.Ethernet2Fcs g) (headers.Ethernet2Fcs h) alike = refl
+alike_len (headers.LinuxSll g) (headers.LinuxSll h) alike = refl
+alike_len (headers.Vlan g) (headers.Vlan h) alike = refl
+alike_len (headers.Macsec g) (headers.Macsec h) alike = λ i. 6 + 8 * alike.3 i + ether_type_len (alike.0 i) (alike.1 i)
+alike_len (headers.Arp g) (headers.Arp h) alike = λ i. 8 + 2 * alike.0 i + 2 * alike.1 i
+alike_len _ _ alike = absurd alike
 
 pub same_len : (g h : Header) → SayTheSame g h → header_len g ≡ header_len h
-same_len (headers.Ethernet2 g) (headers.Ethernet2 h) same = refl
-same_len (headers.Ethernet2Fcs g) (headers.Ethernet2Fcs h) same = refl
-same_len (headers.LinuxSll g) (headers.LinuxSll h) same = refl
-same_len (headers.Vlan g) (headers.Vlan h) same = refl
-same_len (headers.Macsec g) (headers.Macsec h) same = λ i. 6 + 8 * same.2 i + ether_type_len (encrypted_of (same.0 i)) (changed_of (same.0 i))
-same_len (headers.Arp g) (headers.Arp h) same = λ i. 8 + 2 * same.0 i + 2 * same.1 i
-same_len _ _ same = absurd same
+same_len g h same = alike_len g h (look_alike g h same)
 
-same_payload_len : (g h : Header) → SayTheSame g h → payload_len g ≡ payload_len h
-same_payload_len (headers.Ethernet2 g) (headers.Ethernet2 h) same = refl
-same_payload_len (headers.Ethernet2Fcs g) (headers.Ethernet2Fcs h) same = refl
-same_payload_len (headers.LinuxSll g) (headers.LinuxSll h) same = refl
-same_payload_len (headers.Vlan g) (headers.Vlan h) same = refl
-same_payload_len (headers.Macsec g) (headers.Macsec h) same = λ i. known_len (ether_type_len (encrypted_of (same.0 i)) (changed_of (same.0 i))) (same.1 i)
-same_payload_len (headers.Arp g) (headers.Arp h) same = refl
-same_payload_len _ _ same = absurd same
+alike_payload_len : (g h : Header) → LookAlike g h → payload_len g ≡ payload_len h
+alike_payload_len (headers.Ethernet2 g) (headers.Ethernet2 h) alike = refl
+alike_payload_len (headers.Ethernet2Fcs g) (headers.Ethernet2Fcs h) alike = refl
+alike_payload_len (headers.LinuxSll g) (headers.LinuxSll h) alike = refl
+alike_payload_len (headers.Vlan g) (headers.Vlan h) alike = refl
+alike_payload_len (headers.Macsec g) (headers.Macsec h) alike = λ i. known_len (ether_type_len (alike.0 i) (alike.1 i)) (alike.2 i)
+alike_payload_len (headers.Arp g) (headers.Arp h) alike = refl
+alike_payload_len _ _ alike = absurd alike
 
-same_trailer : (g h : Header) → SayTheSame g h → trailer_len g ≡ trailer_len h
-same_trailer (headers.Ethernet2 g) (headers.Ethernet2 h) same = refl
-same_trailer (headers.Ethernet2Fcs g) (headers.Ethernet2Fcs h) same = refl
-same_trailer (headers.LinuxSll g) (headers.LinuxSll h) same = refl
-same_trailer (headers.Vlan g) (headers.Vlan h) same = refl
-same_trailer (headers.Macsec g) (headers.Macsec h) same = refl
-same_trailer (headers.Arp g) (headers.Arp h) same = refl
-same_trailer _ _ same = absurd same
+alike_trailer : (g h : Header) → LookAlike g h → trailer_len g ≡ trailer_len h
+alike_trailer (headers.Ethernet2 g) (headers.Ethernet2 h) alike = refl
+alike_trailer (headers.Ethernet2Fcs g) (headers.Ethernet2Fcs h) alike = refl
+alike_trailer (headers.LinuxSll g) (headers.LinuxSll h) alike = refl
+alike_trailer (headers.Vlan g) (headers.Vlan h) alike = refl
+alike_trailer (headers.Macsec g) (headers.Macsec h) alike = refl
+alike_trailer (headers.Arp g) (headers.Arp h) alike = refl
+alike_trailer _ _ alike = absurd alike
+
+pub alike_payload : (w : Window) (g h : Header) → LookAlike g h → payload w g ≡ payload w h
+alike_payload w g h alike = λ i. payload_from (w.start + alike_len g h alike i) (alike_trailer g h alike i) (alike_payload_len g h alike i) w
 
 same_next : (g h : Header) → SayTheSame g h → next_after g ≡ next_after h
 same_next (headers.Ethernet2 g) (headers.Ethernet2 h) same = λ i. next_after (headers.Ethernet2 (record g { ether_type = same i }))
@@ -115,38 +142,35 @@ same_next (headers.Arp g) (headers.Arp h) same = refl
 same_next _ _ same = absurd same
 
 same_after : (x : Expectation) (g h : Header) → SayTheSame g h → after x g ≡ after x h
-same_after x g h same = λ i. record { next = same_next g h same i; limit = lowered (is_extension (same_kind g h same i)) x.limit }
-
-same_payload : (w : Window) (g h : Header) → SayTheSame g h → payload w g ≡ payload w h
-same_payload w g h same = λ i. payload_from (w.start + same_len g h same i) (same_trailer g h same i) (same_payload_len g h same i) w
+same_after x g h same = λ i. record { next = same_next g h same i; limit = lowered (is_extension (alike_kind g h (look_alike g h same) i)) x.limit }
 
 -- ---- a header that is read again
 
 -- no row on the content of a header holds
-abbrev IsSound : List ℕ → Header → Type 0
+abbrev pub IsSound : List ℕ → Header → Type 0
 IsSound bytes (headers.LinuxSll s) = s.packet_type ≤ 7
 IsSound bytes (headers.Macsec t) = (reserved : ℕ) × BeginsSecTag bytes (sec_tag_front_of 0 reserved t)
 IsSound bytes h = Unit {0}
 
-packet_type_of : (bound : LenSource) (bytes : List ℕ) (s : LinuxSllValue) → Accepts bound bytes kinds.LinuxSll → Means bytes (headers.LinuxSll s) → s.packet_type ≤ 7
+pub packet_type_of : (bound : LenSource) (bytes : List ℕ) (s : LinuxSllValue) → Accepts bound bytes kinds.LinuxSll → Means bytes (headers.LinuxSll s) → s.packet_type ≤ 7
 packet_type_of bound bytes s ok m = at_least 7 s.packet_type (λ lt. ok _ (rows.linux_sll_packet_type s m.whole m.spells lt))
 
-supported : (bound : LenSource) (bytes : List ℕ) (s : LinuxSllValue) (b : Bool) → is_supported s.hardware_type ≡ b → Accepts bound bytes kinds.LinuxSll → Means bytes (headers.LinuxSll s) → is_supported s.hardware_type ≡ true
+pub supported : (bound : LenSource) (bytes : List ℕ) (s : LinuxSllValue) (b : Bool) → is_supported s.hardware_type ≡ b → Accepts bound bytes kinds.LinuxSll → Means bytes (headers.LinuxSll s) → is_supported s.hardware_type ≡ true
 supported bound bytes s true e ok m = e
 supported bound bytes s false e ok m = absurd (ok _ (rows.linux_sll_hardware_type s m.whole m.spells (packet_type_of bound bytes s ok m) e))
 
 fits_named : (o : Option ℕ) (n p trailer most : ℕ) → o ≡ Some p → n + unwrap_or o 0 + trailer ≤ most → n + p ≤ most
 fits_named o n p trailer most e le = let k : unwrap_or o 0 ≡ p = ap (λ (x : Option ℕ). unwrap_or x 0) e in omega arith
 
--- bytes of the same number that begin with a header which says the same are accepted as well
-accepts_same : (bound : LenSource) (old new : List ℕ) (g h : Header) → Accepts bound old (kind_of h) → Means old h → Means new g → length new ≡ length old → SayTheSame g h → IsSound new g → Accepts bound new (kind_of g)
-accepts_same bound old new (headers.Ethernet2 g) (headers.Ethernet2 h) ok m n len same sound = accepts_ethernet2 bound new n.whole
-accepts_same bound old new (headers.Ethernet2Fcs g) (headers.Ethernet2Fcs h) ok m n len same sound =
+-- bytes of the same number that begin with a header which looks alike are accepted as well
+accepts_alike : (bound : LenSource) (old new : List ℕ) (g h : Header) → Accepts bound old (kind_of h) → Means old h → Means new g → length new ≡ length old → LookAlike g h → IsSound new g → Accepts bound new (kind_of g)
+accepts_alike bound old new (headers.Ethernet2 g) (headers.Ethernet2 h) ok m n len alike sound = accepts_ethernet2 bound new n.whole
+accepts_alike bound old new (headers.Ethernet2Fcs g) (headers.Ethernet2Fcs h) ok m n len alike sound =
     let le = at_least (length old) 18 (λ lt. ok _ (rows.ethernet2_fcs lt)) in accepts_ethernet2_fcs bound new (omega arith)
-accepts_same bound old new (headers.LinuxSll g) (headers.LinuxSll h) ok m n len same sound =
-    accepts_linux_sll bound new g n.whole n.spells sound (ap is_supported same.0 ∙ supported bound old h (is_supported h.hardware_type) refl ok m)
-accepts_same bound old new (headers.Vlan g) (headers.Vlan h) ok m n len same sound = accepts_vlan bound new n.whole
-accepts_same bound old new (headers.Macsec g) (headers.Macsec h) ok m n len same sound =
+accepts_alike bound old new (headers.LinuxSll g) (headers.LinuxSll h) ok m n len alike sound =
+    accepts_linux_sll bound new g n.whole n.spells sound (ap is_supported alike ∙ supported bound old h (is_supported h.hardware_type) refl ok m)
+accepts_alike bound old new (headers.Vlan g) (headers.Vlan h) ok m n len alike sound = accepts_vlan bound new n.whole
+accepts_alike bound old new (headers.Macsec g) (headers.Macsec h) ok m n len alike sound =
     let a = tag_begins old h m in
     let c = sec_tag_front_of a.0 a.1 h in
     let k = m.whole in
@@ -154,24 +178,24 @@ accepts_same bound old new (headers.Macsec g) (headers.Macsec h) ok m n len same
     let six : 6 ≤ length old = omega arith in
     let version : a.0 ≡ 0 = version_zero bound old c six a.2 (ok _) in
     let fits = unit_fits bound old (headers.Macsec h) ok m in
-    let as_long = same_len (headers.Macsec g) (headers.Macsec h) same in
+    let as_long = alike_len (headers.Macsec g) (headers.Macsec h) alike in
     accepts_macsec bound new (sec_tag_front_of 0 sound.0 g) (omega arith) sound.1 refl
-    (λ s. ok _ (rows.macsec_short_len c six a.2 version (record { encrypted = ap encrypted_of (sym same.0) ∙ s.encrypted; changed = ap changed_of (sym same.0) ∙ s.changed; short_len = sym same.1 ∙ s.short_len })))
+    (λ s. ok _ (rows.macsec_short_len c six a.2 version (record { encrypted = sym alike.0 ∙ s.encrypted; changed = sym alike.1 ∙ s.changed; short_len = sym alike.2 ∙ s.short_len })))
     l
-    (λ p e. let named = fits_named (payload_len (headers.Macsec h)) (header_len (headers.Macsec h)) p 0 (length old) (sym (same_payload_len (headers.Macsec g) (headers.Macsec h) same) ∙ e) fits in omega (arith, as_long, named, len))
-accepts_same bound old new (headers.Arp g) (headers.Arp h) ok m n len same sound =
+    (λ p e. let named = fits_named (payload_len (headers.Macsec h)) (header_len (headers.Macsec h)) p 0 (length old) (sym (alike_payload_len (headers.Macsec g) (headers.Macsec h) alike) ∙ e) fits in omega (arith, as_long, named, len))
+accepts_alike bound old new (headers.Arp g) (headers.Arp h) ok m n len alike sound =
     let k = n.whole in accepts_arp bound new (arp_front_of g) (omega arith) (arp_begins new g n) k
-accepts_same bound old new _ _ ok m n len same sound = absurd same
+accepts_alike bound old new _ _ ok m n len alike sound = absurd alike
 
-unit_same : (old new : List ℕ) (x : Expectation) (w : Window) (g h : Header) → IsUnit old x w h → Means (within new w) g → length (within new w) ≡ length (within old w) → SayTheSame g h → IsSound (within new w) g → IsUnit new x w g
-unit_same old new x w g h u m len same sound = record {
-  announced = u.announced ∙ ap Some (sym (same_kind g h same));
-  accepted = accepts_same w.bound (within old w) (within new w) g h u.accepted u.means m len same sound;
+pub unit_alike : (old new : List ℕ) (x : Expectation) (w : Window) (g h : Header) → IsUnit old x w h → Means (within new w) g → length (within new w) ≡ length (within old w) → LookAlike g h → IsSound (within new w) g → IsUnit new x w g
+unit_alike old new x w g h u m len alike sound = record {
+  announced = u.announced ∙ ap Some (sym (alike_kind g h alike));
+  accepted = accepts_alike w.bound (within old w) (within new w) g h u.accepted u.means m len alike sound;
   means = m;
 }
 
 -- a header whose own bytes are the same
-sound_kept : (bound : LenSource) (old new : List ℕ) (h : Header) → Accepts bound old (kind_of h) → Means old h → slice_range new 0 (header_len h) ≡ slice_range old 0 (header_len h) → IsSound new h
+pub sound_kept : (bound : LenSource) (old new : List ℕ) (h : Header) → Accepts bound old (kind_of h) → Means old h → slice_range new 0 (header_len h) ≡ slice_range old 0 (header_len h) → IsSound new h
 sound_kept bound old new (headers.Ethernet2 e) ok m part = tt
 sound_kept bound old new (headers.Ethernet2Fcs e) ok m part = tt
 sound_kept bound old new (headers.LinuxSll s) ok m part = packet_type_of bound old s ok m
@@ -203,7 +227,7 @@ sound_written new (headers.Arp a) fits sendable part = tt
 -- ---- stacks
 
 -- windows that begin after the bytes that are written over
-later_stack : (list bytes : List ℕ) (at : ℕ) (x : Expectation) (w : Window) (hs : List Header) (e : Ending) → at + length bytes ≤ length list → at + length bytes ≤ w.start → Stack list x w hs e → Stack (overwritten list at bytes) x w hs e
+pub later_stack : (list bytes : List ℕ) (at : ℕ) (x : Expectation) (w : Window) (hs : List Header) (e : Ending) → at + length bytes ≤ length list → at + length bytes ≤ w.start → Stack list x w hs e → Stack (overwritten list at bytes) x w hs e
 later_stack list bytes at x w [] (Accepted v y) fits past s = s
 later_stack list bytes at x w [] (Fault v y r) fits past s =
     (s.0, s.1, s.2, s.3, subst (λ (l : List ℕ). Refuses w.bound l s.2 r) (sym (part_after list bytes at w.start w.finish fits past)) s.4)
@@ -242,8 +266,8 @@ replaced_stack list x w [] h g later e at is room inside same fits sendable s =
     front_is new w (header_len g) (omega arith) ∙ (λ i. slice_range new (sym is i) (sym is i + sym len i)) ∙ part_at list bytes at fit in
     let means : Means (within new w) g = record { whole = omega arith; spells = subst (λ (l : List ℕ). Spells l g) (sym own) (spells-header_bytes g fits) } in
     let rest = later_stack list bytes at (after x h) (payload w h) later e fit (omega arith) s.1 in (
-      unit_same list new x w g h s.0 means (omega arith) same (sound_written (within new w) g fits sendable own),
-      subst (λ (y : Expectation). Stack new y (payload w g) later e) (sym (same_after x g h same)) (subst (λ (v : Window). Stack new (after x h) v later e) (sym (same_payload w g h same)) rest),
+      unit_alike list new x w g h s.0 means (omega arith) (look_alike g h same) (sound_written (within new w) g fits sendable own),
+      subst (λ (y : Expectation). Stack new y (payload w g) later e) (sym (same_after x g h same)) (subst (λ (v : Window). Stack new (after x h) v later e) (sym (alike_payload w g h (look_alike g h same))) rest),
     )
 replaced_stack list x w (k ∷ front) h g later e at is room inside same fits sendable s =
     let bytes = header_bytes g in
@@ -260,7 +284,7 @@ replaced_stack list x w (k ∷ front) h g later e at is room inside same fits se
     let own : slice_range (within new w) 0 n ≡ slice_range (within list w) 0 n =
     front_is new w n (omega arith) ∙ part_before list bytes at w.start (w.start + n) (omega arith) (omega arith) (omega arith) ∙ sym (front_is list w n (omega arith)) in
     let means : Means (within new w) k = record { whole = omega arith; spells = subst (λ (l : List ℕ). Spells l k) (sym own) s.0.means.spells } in (
-      unit_same list new x w k k s.0 means (omega arith) (same_self k) (sound_kept w.bound (within list w) (within new w) k s.0.accepted s.0.means own),
+      unit_alike list new x w k k s.0 means (omega arith) (look_alike k k (same_self k)) (sound_kept w.bound (within list w) (within new w) k s.0.accepted s.0.means own),
       replaced_stack list (after x k) (payload w k) front h g later e at is room (payload_in list x w k inside s.0) same fits sendable s.1,
     )
 

@@ -20,11 +20,12 @@ use Rattle.ether_peel.specs.Grammar.Places.{place}
 use Rattle.ether_peel.specs.Grammar.Stack.{Ending, Stack, whole, Walk}
 use Rattle.ether_peel.proofs.Grammar.Cleared.{whole_in}
 use Rattle.ether_peel.proofs.Grammar.Windows.{payload_in}
-use Rattle.ether_packet.specs.declared.replace_error.ReplaceError.{ReplaceError}
+use Rattle.ether_packet.specs.declared.tag_error.TagError.{TagError}
 use Rattle.ether_packet.specs.PacketUnit.{PacketUnit}
 use Rattle.ether_packet.specs.Views.{header_in, header_of, exts_of, vlan_in, vlan_of_unit}
 use Rattle.ether_packet.specs.Getters.{vlan_ids_of, vlans_of}
-use Rattle.ether_packet.specs.Replacing.{SayTheSame, ext_count, IsExtAt, ReplacesExt, RefusesExt, none, other}
+use Rattle.ether_packet.specs.Replacing.{ext_count, IsExtAt}
+use Rattle.ether_packet.specs.Setting.{SetsTag, RefusesTag, none, sec_tag}
 use Rattle.ether_packet.specs.VlanIds.{IsOutermost, SetsVid}
 use Rattle.ether_packet.proofs.Getting.{Untagged, vid_at, ids_of, vlans_found}
 use Rattle.ether_packet.proofs.PacketExts.{ext_count-append, Split, split_at, ext_at}
@@ -59,15 +60,17 @@ one_ext : (hs : List Header) (i : ℕ) (front other_front : List Header) (h k : 
     → (front ≡ other_front) × (h ≡ k) × (later ≡ other_later)
 one_ext hs i front other_front h k later other_later f g = same_ext front other_front h k later other_later (sym f.parts ∙ g.parts) f.extension g.extension (f.before ∙ sym g.before)
 
--- it is replaced by a header that says the same
-pub never_refused : (hs : List Header) (i : ℕ) (front : List Header) (h g : Header) (later : List Header) (e : ReplaceError) → IsExtAt hs i front h later → SayTheSame g h → RefusesExt hs i g e → ⊥
-never_refused hs i front h g later e found same (none few) =
-    let all = ap ext_count found.parts ∙ ext_count-append front (h ∷ later) in
-    let one : counted h ≡ 1 = ap (λ (b : Bool). if b then 1 else 0) found.extension in
+same_vlan : (v w : VlanValue) → headers.Vlan v ≡ headers.Vlan w → v ≡ w
+same_vlan v w e = cc
+
+-- a VLAN tag there is not refused
+pub never_refused : (hs : List Header) (i : ℕ) (front : List Header) (tag : VlanValue) (later : List Header) (e : TagError) → IsExtAt hs i front (headers.Vlan tag) later → RefusesTag hs i e → ⊥
+never_refused hs i front tag later e found (none few) =
+    let all = ap ext_count found.parts ∙ ext_count-append front (headers.Vlan tag ∷ later) in
     let before = found.before in
-    omega (arith, all, one, before, few)
-never_refused hs i front h g later e found same (other other_front k other_later there differ) =
-    differ (subst (SayTheSame g) (one_ext hs i front other_front h k later other_later found there).1 same)
+    omega (arith, all, before, few)
+never_refused hs i front tag later e found (sec_tag other_front m other_later there) =
+    let same = (one_ext hs i front other_front (headers.Vlan tag) (headers.Macsec m) later other_later found there).1 in absurd cc
 
 -- ---- the outermost VLAN tag
 
@@ -100,7 +103,7 @@ is_outermost us i bytes tag untagged is value = option_and_then_some vlan_of_uni
 -- ---- its bits
 
 -- a header of a stack is meant by its own bytes
-own_bytes : (list : List ℕ) (x : Expectation) (w : Window) (front : List Header) (h : Header) (later : List Header) (e : Ending) → IsIn list w → Stack list x w (front ++ h ∷ later) e
+pub own_bytes : (list : List ℕ) (x : Expectation) (w : Window) (front : List Header) (h : Header) (later : List Header) (e : Ending) → IsIn list w → Stack list x w (front ++ h ∷ later) e
     → Spells (slice_range list (place w.start front) (place w.start front + header_len h)) h
 own_bytes list x w [] h later e inside s =
     let whole = s.0.means.whole in
@@ -181,14 +184,14 @@ vid_set start old new front v later e vid ok lt walk bytes =
     (subst (λ (n : ℕ). SetsVid old n vid (take at old ++ vlan_bytes w ++ drop (at + 4) old)) begins
     (subst (λ (l : List ℕ). SetsVid l (length (take at old)) vid (take at old ++ vlan_bytes w ++ drop (at + 4) old)) old_is sets))
 
--- the outermost VLAN tag is replaced by one with another identifier
+-- the identifier of the outermost VLAN tag is set
 pub sets_outermost : (start : Expectation) (old new : List ℕ) (hs : List Header) (e : Ending) (i : ℕ) (tag : VlanValue) (vid : ℕ) → IsBytes old → (o : IsOutermost hs i tag) → Walk start old hs e
-    → ReplacesExt start old hs e i (headers.Vlan (record tag { vid = vid })) new
-    → Walk start new (o.front ++ headers.Vlan (record tag { vid = vid }) ∷ o.later) e × SetsVid old (place 0 o.front) vid new
+    → SetsTag start old hs e i (λ (v : VlanValue). record v { vid = vid }) new → Walk start new (o.front ++ headers.Vlan (record tag { vid = vid }) ∷ o.later) e × SetsVid old (place 0 o.front) vid new
 sets_outermost start old new hs e i tag vid ok o walk r =
     let g = headers.Vlan (record tag { vid = vid }) in
-    let same = one_ext hs i r.front o.front r.replaced (headers.Vlan tag) r.later o.later r.found o.found in
-    let bytes = r.bytes ∙ ap (λ (f : List Header). overwritten old (place 0 f) (header_bytes g)) same.0 in (
-      subst (λ (f : List Header). Walk start new (f ++ g ∷ o.later) e) same.0 (subst (λ (l : List Header). Walk start new (r.front ++ g ∷ l) e) same.2 r.walk),
-      vid_set start old new o.front tag o.later e vid ok r.fits.vid (subst (λ (l : List Header). Walk start old l e) o.found.parts walk) bytes,
-    )
+    let same = one_ext hs i r.front o.front (headers.Vlan r.tag) (headers.Vlan tag) r.later o.later r.found o.found in
+    let value : r.tag ≡ tag = same_vlan r.tag tag same.1 in
+    let bytes = r.bytes ∙ (λ i. overwritten old (place 0 (same.0 i)) (vlan_bytes (record (value i) { vid = vid }))) in
+    let found = subst (λ (l : List Header). Walk start new l e) (λ i. same.0 i ++ headers.Vlan (record (value i) { vid = vid }) ∷ same.2 i) r.walk in
+    let fits = (own_bytes new start (whole start new) o.front g o.later e (whole_in start new) found).fits in
+    (found, vid_set start old new o.front tag o.later e vid ok fits.vid (subst (λ (l : List Header). Walk start old l e) o.found.parts walk) bytes)

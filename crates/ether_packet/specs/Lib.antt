@@ -10,4 +10,9 @@ pub mod Replacing
 pub mod ReplacingLink
 pub mod ReplacingArp
 pub mod VlanIds
+pub mod TypedLink
+pub mod Popping
 pub mod Texts
+pub mod Pushing
+pub mod Setting
+pub mod Laws

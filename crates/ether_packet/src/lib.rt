@@ -4,18 +4,28 @@
 
 mod build_error;
 mod ext_places;
+pub mod laws;
 mod packet_builder;
 mod packet_ext;
 mod packet_slice;
 mod packet_units;
+mod popping;
+mod pushing;
 mod replace_error;
 mod replacing;
 mod replacing_arp;
+mod setting;
+mod tag_error;
+mod typed_link;
 
 pub use build_error::BuildError;
 pub use packet_builder::{PacketBuilder, PacketContent};
 pub use packet_ext::PacketExt;
 pub use packet_slice::PacketSlice;
+pub use popping::pop_vlan;
+pub use pushing::push_vlan;
 pub use replace_error::ReplaceError;
 pub use replacing::{replace_link, replace_link_ext};
 pub use replacing_arp::replace_arp;
+pub use setting::{set_tpid, set_vlan_id, set_vlan_tag};
+pub use tag_error::TagError;

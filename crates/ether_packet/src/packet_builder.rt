@@ -440,7 +440,7 @@ fn write_chunk<const N: usize>(target: &mut [u8], at: usize, bytes: &[u8])
 
 /// The same with a whole array, which is written in one piece.
 #[inline(always)]
-fn put_at<const N: usize>(target: &mut [u8], at: usize, bytes: [u8; N])
+pub(crate) fn put_at<const N: usize>(target: &mut [u8], at: usize, bytes: [u8; N])
     requires { at + N ≤ length target.old }
     ensures { target.new ≡ overwritten target.old at bytes.entry }
 {

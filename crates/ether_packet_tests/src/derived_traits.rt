@@ -3,7 +3,7 @@ ghost use Rattle.std.specs.Prelude.{◌≡◌, ◌↔◌, IsTrue, Ok};
 ghost use Rattle.etherparse.specs.LinkExt.{SameExt};
 ghost use Rattle.ether_packet.specs.Packet.{link_exts_cap};
 
-use ether_packet::{BuildError, PacketExt, PacketSlice, ReplaceError};
+use ether_packet::{BuildError, PacketExt, PacketSlice, ReplaceError, TagError};
 use std::alloc::AllocError;
 
 pub(crate) fn clone_of_packet_ext<'a>(value: &PacketExt<'a>) -> Result<PacketExt<'a>, AllocError>
@@ -31,6 +31,18 @@ pub(crate) fn clone_of_replace_error(value: &ReplaceError) -> Result<ReplaceErro
 }
 
 pub(crate) fn same_replace_error(a: &ReplaceError, b: &ReplaceError) -> bool
+    ensures { IsTrue result ↔ (a.now ≡ b.now) }
+{
+    *a == *b
+}
+
+pub(crate) fn clone_of_tag_error(value: &TagError) -> Result<TagError, AllocError>
+    ensures { result ≡ Ok value.now }
+{
+    value.clone()
+}
+
+pub(crate) fn same_tag_error(a: &TagError, b: &TagError) -> bool
     ensures { IsTrue result ↔ (a.now ≡ b.now) }
 {
     *a == *b

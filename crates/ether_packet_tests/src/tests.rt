@@ -5,3 +5,4 @@ mod packets;
 mod replacing;
 mod replacing_arp;
 mod replacing_links;
+mod vlan_tags;

@@ -9,9 +9,9 @@ ghost use Rattle.ether_packet.specs.Getters.{vlan_ids_of};
 ghost use Rattle.ether_packet.specs.Packet.{packet_start, IsPacket};
 ghost use Rattle.example_vlan_rewriter.specs.VlanIdSet.{SetsVlanId};
 
-use ether_packet::{PacketSlice, replace_link_ext};
+use ether_packet::{PacketSlice, set_vlan_id as set_vlan_id_at};
 use ether_peel::Start;
-use etherparse::{LinkExtHeader, SingleVlanHeader, VlanId};
+use etherparse::VlanId;
 
 /// Sets the VLAN identifier of the outermost VLAN tag of a frame in place, and returns `true` if there is one.
 ///
@@ -39,11 +39,10 @@ pub fn set_vlan_id(frame: &mut [u8], vlan_id: VlanId) -> bool
     ensures kept { IsFalse result → frame.new ≡ frame.old }
 {
     let packet = packet_of(frame);
-    let Some((index, tag)) = packet.outermost_vlan() else {
+    let Some((index, _)) = packet.outermost_vlan() else {
         return false;
     };
-    let tag = LinkExtHeader::Vlan(SingleVlanHeader { vlan_id, ..tag });
-    replace_link_ext(Start::Ethernet2, frame, index, &tag).is_ok()
+    set_vlan_id_at(Start::Ethernet2, frame, index, vlan_id).is_ok()
 }
 
 /// The headers of a frame.

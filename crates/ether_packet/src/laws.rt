@@ -1,0 +1,12 @@
+//! The laws of changes in place. Each is the contract of a function that does nothing.
+ghost use Rattle.ether_packet.specs.Laws.{PoppedAfterPushed, PushedAfterPopped};
+
+/// A VLAN tag that is put in and then taken off is returned, and leaves the frame as it was.
+pub fn popped_after_pushed()
+    ensures { PoppedAfterPushed }
+{}
+
+/// A VLAN tag that is taken off and then put in again, announced by the same ether type, leaves the frame as it was.
+pub fn pushed_after_popped()
+    ensures { PushedAfterPopped }
+{}

@@ -1,0 +1,99 @@
+//! VLAN tags that are taken off in place.
+ghost use Rattle.std.specs.Prelude.{◌≡◌, ◌+◌, ◌≤◌, List, length, take, slice_range, IfOk, IfErr, OnOk, OnErr};
+ghost use Rattle.etherparse.specs.Bytes.{IsBytes, overwritten};
+ghost use Rattle.etherparse.specs.Header.{Header};
+ghost use Rattle.etherparse.specs.Vlan.{IsVlan, vlan_view};
+ghost use Rattle.ether_peel.specs.Grammar.Stack.{Ending, Walk};
+ghost use Rattle.ether_peel.specs.Walker.Start.{start_of};
+ghost use Rattle.ether_packet.specs.TypedLink.{link_len};
+ghost use Rattle.ether_packet.specs.Popping.{IsPopped, IsTagged, RefusesPop};
+
+use crate::TagError;
+use crate::packet_builder::put_at;
+use crate::typed_link::{announces_vlan, chunk_at, typed_link};
+use ether_peel::Start;
+use etherparse::SingleVlanHeader;
+
+/// Takes off the VLAN tag after the header of a link, in place, and returns it: the frame is then `frame[4..]`.
+///
+/// Only the 12 bytes of the addresses are moved, or the 14 bytes of a cooked capture before its protocol type, so the time
+/// does not depend on the length of the frame. The ether type of the tag becomes that of the link's header. All later headers
+/// and the payload stay where they are, also if a later header is refused. A frame check sequence and an integrity check
+/// value stay as they were, and don't fit the new frame.
+///
+/// # Errors
+///
+/// The frame then stays as it was:
+///
+/// - [`TagError::NoLink`]: the frame begins with what an ether type announces, or the header of its link is refused.
+/// - [`TagError::HardwareType`]: the header of cooked capture has this hardware type, which is not that of Ethernet.
+/// - [`TagError::NoVlan`]: the ether type of the link announces no VLAN tag.
+/// - [`TagError::CutVlan`]: it does, but fewer than 4 bytes follow, not counting a frame check sequence.
+///
+/// # Examples
+///
+/// ```
+/// let mut frame = [
+///     0xFF, 0xFF, 0xFF, 0xFF, 0xFF, 0xFF, 0x02, 0x00, 0x00, 0x00, 0x00, 0x01, 0x81, 0x00, // Ethernet II
+///     0xB1, 0x23, 0x08, 0x00, // VLAN
+///     0x45,
+/// ];
+/// let tag = pop_vlan(Start::Ethernet2, &mut frame)?;
+/// assert_eq!(rt; tag, SingleVlanHeader::from_bytes([0xB1, 0x23, 0x08, 0x00]));
+/// assert_eq!(rt; frame[4..], [
+///     0xFF, 0xFF, 0xFF, 0xFF, 0xFF, 0xFF, 0x02, 0x00, 0x00, 0x00, 0x00, 0x01, 0x08, 0x00, // Ethernet II
+///     0x45,
+/// ]);
+/// ```
+pub fn pop_vlan(start: Start, frame: &mut [u8]) -> Result<SingleVlanHeader, TagError>
+    ensures ok { IfOk result (λ tag. (hs : List Header) (e : Ending)
+        → Walk (start_of start) frame.old hs e
+        → IsPopped (start_of start) frame.old hs e (vlan_view tag) frame.new) }
+    ensures refused { IfErr result (λ error. (hs : List Header) (e : Ending)
+        → Walk (start_of start) frame.old hs e → RefusesPop hs error) }
+    ensures kept { OnErr result (frame.new ≡ frame.old) }
+{
+    match start {
+        Start::LinuxSll => {
+            require_tag(start, frame)?;
+            Ok(take_off::<14>(frame))
+        }
+        _ => {
+            require_tag(start, frame)?;
+            Ok(take_off::<12>(frame))
+        }
+    }
+}
+
+/// Requires that a VLAN tag follows the header of a link.
+#[inline(always)]
+fn require_tag(start: Start, frame: &[u8]) -> Result<(), TagError>
+    ensures ok { IfOk result (λ _. (hs : List Header) (e : Ending)
+        → Walk (start_of start) frame.now hs e → IsTagged hs (link_len start)) }
+    ensures room { OnOk result (link_len start + 4 ≤ length frame.now) }
+    ensures bytes { OnOk result (IsBytes frame.now) }
+    ensures refused { IfErr result (λ error. (hs : List Header) (e : Ending)
+        → Walk (start_of start) frame.now hs e → RefusesPop hs error) }
+{
+    let link = typed_link(start, frame)?;
+    if !announces_vlan(link.ether_type) {
+        return Err(TagError::NoVlan);
+    }
+    if link.payload_len < SingleVlanHeader::LEN {
+        return Err(TagError::CutVlan);
+    }
+    Ok(())
+}
+
+/// Returns the tag after the header of a link whose type is at `N`, and moves the bytes before the type over it.
+#[inline(always)]
+fn take_off<const N: usize>(frame: &mut [u8]) -> SingleVlanHeader
+    requires { N + 6 ≤ length frame.old }
+    ensures bytes { frame.new ≡ overwritten frame.old 4 (take N frame.old) }
+    ensures tag { IsVlan (slice_range frame.old (N + 2) (N + 6)) (vlan_view result) }
+{
+    let tag = SingleVlanHeader::from_bytes(chunk_at::<4>(frame, N + 2));
+    let front = chunk_at::<N>(frame, 0);
+    put_at(frame, 4, front);
+    tag
+}

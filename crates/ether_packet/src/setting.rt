@@ -1,0 +1,188 @@
+//! VLAN tags that are changed in place.
+ghost use Rattle.std.specs.Prelude.{◌≡◌, ◌+◌, ◌≤◌, List, length, IfOk, IfErr, OnErr};
+ghost use Rattle.etherparse.specs.Bytes.{IsBytes, bit};
+ghost use Rattle.etherparse.specs.Header.{Header};
+ghost use Rattle.ether_peel.specs.Grammar.Stack.{Ending, Walk};
+ghost use Rattle.ether_packet.specs.Packet.{packet_start};
+ghost use Rattle.ether_packet.specs.Setting.{IsPlacedVlan, SetsTag, RefusesTag, SetsTpid, RefusesTpid};
+
+use crate::packet_builder::put_at;
+use crate::typed_link::announces_vlan;
+use crate::{PacketSlice, TagError};
+use ether_peel::Start;
+use etherparse::{EtherType, LinkExtHeader, SingleVlanHeader, VlanId, VlanPcp};
+
+/// A VLAN tag of a frame, and where it starts.
+#[derive(Clone, Copy)]
+struct PlacedVlan {
+    at: usize,
+    tag: SingleVlanHeader,
+}
+
+/// Sets the identifier of a VLAN tag of a frame in place.
+///
+/// The index counts VLAN tags and SecTags as [`PacketSlice::link_exts`] returns them, the outermost first. All other headers
+/// and the payload stay as they were. A frame check sequence and an integrity check value stay as they were, and don't fit the
+/// new bytes.
+///
+/// # Errors
+///
+/// The frame then stays as it was:
+///
+/// - [`TagError::NoLinkExt`]: there is no tag at the index. It names how many there are.
+/// - [`TagError::NoVlan`]: there is a SecTag at the index.
+///
+/// # Examples
+///
+/// ```
+/// let mut frame = [
+///     0xFF, 0xFF, 0xFF, 0xFF, 0xFF, 0xFF, 0x02, 0x00, 0x00, 0x00, 0x00, 0x01, 0x81, 0x00, // Ethernet II
+///     0xB1, 0x23, 0x08, 0x00, // VLAN
+///     0x45,
+/// ];
+/// set_vlan_id(Start::Ethernet2, &mut frame, 0, VlanId::try_new(0x456)?)?;
+/// assert_eq!(rt; frame[14..], [0xB4, 0x56, 0x08, 0x00, 0x45]);
+/// ```
+pub fn set_vlan_id(
+    start: Start,
+    frame: &mut [u8],
+    index: usize,
+    vlan_id: VlanId,
+) -> Result<(), TagError>
+    ensures ok { IfOk result (λ _. (hs : List Header) (e : Ending)
+        → Walk (packet_start start) frame.old hs e
+        → SetsTag (packet_start start) frame.old hs e index
+        (λ tag. record tag { vid = vlan_id }) frame.new) }
+    ensures refused { IfErr result (λ error. (hs : List Header) (e : Ending)
+        → Walk (packet_start start) frame.old hs e → RefusesTag hs index error) }
+    ensures kept { OnErr result (frame.new ≡ frame.old) }
+{
+    let found = vlan_at(start, frame, index)?;
+    let tag = SingleVlanHeader {
+        vlan_id,
+        ..found.tag
+    };
+    put_at(frame, found.at, tag.to_bytes());
+    Ok(())
+}
+
+/// Sets the whole tag control information of a VLAN tag of a frame in place: priority code point, drop eligible indicator and
+/// identifier.
+///
+/// The same as [`set_vlan_id`] but for the two fields more. The ether type of what follows the tag stays.
+///
+/// # Errors
+///
+/// Those of [`set_vlan_id`].
+///
+/// # Examples
+///
+/// ```
+/// let mut frame = [
+///     0xFF, 0xFF, 0xFF, 0xFF, 0xFF, 0xFF, 0x02, 0x00, 0x00, 0x00, 0x00, 0x01, 0x81, 0x00, // Ethernet II
+///     0xB1, 0x23, 0x08, 0x00, // VLAN
+///     0x45,
+/// ];
+/// let pcp = VlanPcp::try_new(3)?;
+/// set_vlan_tag(Start::Ethernet2, &mut frame, 0, pcp, false, VlanId::try_new(0x456)?)?;
+/// assert_eq!(rt; frame[14..], [0x64, 0x56, 0x08, 0x00, 0x45]);
+/// ```
+pub fn set_vlan_tag(
+    start: Start,
+    frame: &mut [u8],
+    index: usize,
+    pcp: VlanPcp,
+    drop_eligible_indicator: bool,
+    vlan_id: VlanId,
+) -> Result<(), TagError>
+    ensures ok { IfOk result (λ _. (hs : List Header) (e : Ending)
+        → Walk (packet_start start) frame.old hs e
+        → SetsTag (packet_start start) frame.old hs e index
+        (λ tag. record tag { pcp = pcp; dei = bit drop_eligible_indicator; vid = vlan_id })
+        frame.new) }
+    ensures refused { IfErr result (λ error. (hs : List Header) (e : Ending)
+        → Walk (packet_start start) frame.old hs e → RefusesTag hs index error) }
+    ensures kept { OnErr result (frame.new ≡ frame.old) }
+{
+    let found = vlan_at(start, frame, index)?;
+    let tag = SingleVlanHeader {
+        pcp,
+        drop_eligible_indicator,
+        vlan_id,
+        ether_type: found.tag.ether_type,
+    };
+    put_at(frame, found.at, tag.to_bytes());
+    Ok(())
+}
+
+/// Sets the ether type that announces a VLAN tag of a frame (TPID), in place, to 0x8100, 0x88A8 or 0x9100.
+///
+/// It is the ether type of the header before the tag: of the link, or of another VLAN tag or SecTag. The index counts VLAN
+/// tags and SecTags as [`PacketSlice::link_exts`] returns them, the outermost first. All other headers and the payload stay as
+/// they were. A frame check sequence and an integrity check value stay as they were, and don't fit the new bytes.
+///
+/// # Errors
+///
+/// The frame then stays as it was. The first of these that applies is returned:
+///
+/// - [`TagError::Tpid`]: the TPID, which the error names, is none of the three.
+/// - [`TagError::NoLinkExt`]: there is no tag at the index. It names how many there are.
+/// - [`TagError::NoVlan`]: there is a SecTag at the index.
+/// - [`TagError::Unannounced`]: the frame begins with the tag, as from [`Start::EtherType`].
+///
+/// # Examples
+///
+/// ```
+/// let mut frame = [
+///     0xFF, 0xFF, 0xFF, 0xFF, 0xFF, 0xFF, 0x02, 0x00, 0x00, 0x00, 0x00, 0x01, 0x81, 0x00, // Ethernet II
+///     0xB1, 0x23, 0x08, 0x00, // VLAN
+///     0x45,
+/// ];
+/// set_tpid(Start::Ethernet2, &mut frame, 0, EtherType::PROVIDER_BRIDGING)?;
+/// assert_eq!(rt; frame[12..], [0x88, 0xA8, 0xB1, 0x23, 0x08, 0x00, 0x45]);
+/// ```
+pub fn set_tpid(
+    start: Start,
+    frame: &mut [u8],
+    index: usize,
+    tpid: EtherType,
+) -> Result<(), TagError>
+    ensures ok { IfOk result (λ _. (hs : List Header) (e : Ending)
+        → Walk (packet_start start) frame.old hs e
+        → SetsTpid (packet_start start) frame.old hs e index tpid.0 frame.new) }
+    ensures refused { IfErr result (λ error. (hs : List Header) (e : Ending)
+        → Walk (packet_start start) frame.old hs e → RefusesTpid hs index tpid.0 error) }
+    ensures kept { OnErr result (frame.new ≡ frame.old) }
+{
+    if !announces_vlan(tpid) {
+        return Err(TagError::Tpid(tpid));
+    }
+    let found = vlan_at(start, frame, index)?;
+    if found.at < 2 {
+        return Err(TagError::Unannounced);
+    }
+    put_at(frame, found.at - 2, tpid.0.to_be_bytes());
+    Ok(())
+}
+
+/// The VLAN tag at an index of the tags.
+fn vlan_at(start: Start, frame: &[u8], index: usize) -> Result<PlacedVlan, TagError>
+    ensures ok { IfOk result (λ found. (hs : List Header) (e : Ending)
+        → Walk (packet_start start) frame.now hs e → IsPlacedVlan hs index found) }
+    ensures room { IfOk result (λ found. found.at + 4 ≤ length frame.now) }
+    ensures bytes { IfOk result (λ _. IsBytes frame.now) }
+    ensures refused { IfErr result (λ error. (hs : List Header) (e : Ending)
+        → Walk (packet_start start) frame.now hs e → RefusesTag hs index error) }
+{
+    let packet = PacketSlice::from_slice(start, frame);
+    match packet.link_ext(index) {
+        None => Err(TagError::NoLinkExt(packet.link_ext_count())),
+        Some(ext) => match ext.slice.to_header() {
+            LinkExtHeader::Vlan(tag) => Ok(PlacedVlan {
+                at: ext.offset,
+                tag,
+            }),
+            LinkExtHeader::Macsec(_) => Err(TagError::NoVlan),
+        },
+    }
+}

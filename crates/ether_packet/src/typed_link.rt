@@ -1,0 +1,109 @@
+//! The header of a link that a frame begins with, and the ether type of what follows it.
+ghost use Rattle.std.specs.Prelude.{◌≡◌, ◌↔◌, ◌+◌, ◌≤◌, List, length, slice_range, IfOk, IfErr, IsTrue};
+ghost use Rattle.etherparse.specs.Bytes.{number};
+ghost use Rattle.etherparse.specs.Header.{Header};
+ghost use Rattle.etherparse.specs.Vlan.{is_vlan_ether_type};
+ghost use Rattle.ether_peel.specs.Grammar.Stack.{Ending, Walk};
+ghost use Rattle.ether_peel.specs.Walker.Start.{start_of};
+ghost use Rattle.ether_packet.specs.TypedLink.{link_len, IsTypedLink, IsEthernetCapture, IsOtherCapture, RefusesTyped};
+
+use crate::TagError;
+use ether_peel::Start;
+use etherparse::{
+    ArpHardwareId, EtherType, Ethernet2Header, Ethernet2Slice, LinuxSllHeader, LinuxSllSlice,
+};
+
+/// The header of a link.
+#[derive(Clone, Copy)]
+pub(crate) struct TypedLink {
+    /// The length of the payload, without a frame check sequence.
+    pub payload_len: usize,
+    /// The ether type of the payload.
+    pub ether_type: EtherType,
+}
+
+/// The header of a link that a frame begins with.
+#[inline(always)]
+pub(crate) fn typed_link(start: Start, frame: &[u8]) -> Result<TypedLink, TagError>
+    ensures ok { IfOk result (λ link. (hs : List Header) (e : Ending)
+        → Walk (start_of start) frame.now hs e → IsTypedLink start frame.now hs link) }
+    ensures room { IfOk result (λ link. link_len start + link.payload_len ≤ length frame.now) }
+    ensures refused { IfErr result (λ error. (hs : List Header) (e : Ending)
+        → Walk (start_of start) frame.now hs e → RefusesTyped hs error) }
+{
+    match start {
+        Start::Ethernet2 => match Ethernet2Slice::from_slice_without_fcs(frame) {
+            Ok(slice) => Ok(TypedLink {
+                payload_len: frame.len() - Ethernet2Header::LEN,
+                ether_type: slice.ether_type(),
+            }),
+            Err(_) => Err(TagError::NoLink),
+        },
+        Start::Ethernet2Fcs => match Ethernet2Slice::from_slice_with_crc32_fcs(frame) {
+            Ok(slice) => Ok(TypedLink {
+                payload_len: frame.len() - Ethernet2Header::LEN - 4,
+                ether_type: slice.ether_type(),
+            }),
+            Err(_) => Err(TagError::NoLink),
+        },
+        Start::LinuxSll if is_ethernet_capture(frame) => Ok(TypedLink {
+            payload_len: frame.len() - LinuxSllHeader::LEN,
+            ether_type: EtherType(u16_at(frame, 14)),
+        }),
+        Start::LinuxSll => match other_hardware(frame) {
+            Some(hardware_type) => Err(TagError::HardwareType(hardware_type)),
+            None => Err(TagError::NoLink),
+        },
+        Start::EtherType(_) => Err(TagError::NoLink),
+    }
+}
+
+/// Whether a frame begins with the header of a cooked capture whose protocol type is an ether type.
+#[inline(always)]
+fn is_ethernet_capture(frame: &[u8]) -> bool
+    ensures { IsTrue result ↔ IsEthernetCapture frame.now }
+{
+    frame.len() >= LinuxSllHeader::LEN && u16_at(frame, 0) <= 7 && u16_at(frame, 2) == 1
+}
+
+/// The hardware type of any other cooked capture, if its header is not refused.
+#[inline(never)]
+fn other_hardware(frame: &[u8]) -> Option<ArpHardwareId>
+    ensures { IsOtherCapture frame.now result }
+{
+    match LinuxSllSlice::from_slice(frame) {
+        Ok(slice) => Some(slice.arp_hardware_type()),
+        Err(_) => None,
+    }
+}
+
+/// The number in two bytes of a slice from a place on.
+#[inline(always)]
+fn u16_at(bytes: &[u8], at: usize) -> u16
+    requires { at + 2 ≤ length bytes.now }
+    ensures { result ≡ number (slice_range bytes.now at (at + 2)) }
+{
+    u16::from_be_bytes([bytes[at], bytes[at + 1]])
+}
+
+/// Whether an ether type announces a VLAN tag.
+#[inline(always)]
+pub(crate) fn announces_vlan(ether_type: EtherType) -> bool
+    ensures { result ≡ is_vlan_ether_type ether_type.0 }
+{
+    ether_type == EtherType::VLAN_TAGGED_FRAME
+        || ether_type == EtherType::PROVIDER_BRIDGING
+        || ether_type == EtherType::VLAN_DOUBLE_TAGGED_FRAME
+}
+
+/// An array of the bytes of a slice from a place on.
+#[inline(always)]
+pub(crate) fn chunk_at<const N: usize>(bytes: &[u8], at: usize) -> [u8; N]
+    requires { at + N ≤ length bytes.now }
+    ensures { result ≡ slice_range bytes.now at (at + N) }
+{
+    match bytes[at..at + N].first_chunk::<N>() {
+        Some(chunk) => *chunk,
+        None => unreachable!(),
+    }
+}
