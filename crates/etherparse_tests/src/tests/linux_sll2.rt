@@ -5,8 +5,7 @@ use super::equal;
 use ether_peel::{Peel, PeelUnit, Start};
 use ether_sll2::{LinuxSll2Error, LinuxSll2Header, LinuxSll2HeaderSlice, LinuxSll2Slice};
 use etherparse::{
-    ArpHardwareId, EtherType, LinuxNonstandardEtherType, LinuxSllPacketType, LinuxSllPayloadSlice,
-    LinuxSllProtocolType,
+    ArpHardwareId, EtherType, LinuxNonstandardEtherType, LinuxSllPacketType, LinuxSllProtocolType,
 };
 use std::test::Fail;
 
@@ -22,22 +21,9 @@ const TUN: [u8; 24] = [
     0x00, 0x00, 0x00, 0x00, 0x45, 0x00, 0x00, 0x1C,
 ];
 
-/// Captured: an ARP request.
-const ARP_REQUEST: [u8; 48] = [
-    0x08, 0x06, 0x00, 0x00, 0x00, 0x00, 0x00, 0x02, 0x00, 0x01, 0x01, 0x06, 0x02, 0x00, 0x5E, 0x10,
-    0x00, 0x01, 0x00, 0x00, 0x00, 0x01, 0x08, 0x00, 0x06, 0x04, 0x00, 0x01, 0x02, 0x00, 0x5E, 0x10,
-    0x00, 0x01, 0xC0, 0x00, 0x02, 0x01, 0x00, 0x00, 0x00, 0x00, 0x00, 0x00, 0xC0, 0x00, 0x02, 0x02,
-];
-
 /// Captured: an IEEE 802.3 frame, which begins with an 802.2 LLC header.
 const SPANNING_TREE: [u8; 23] = [
     0x00, 0x04, 0x00, 0x00, 0x00, 0x00, 0x00, 0x02, 0x00, 0x01, 0x02, 0x06, 0x02, 0x00, 0x5E, 0x10,
-    0x00, 0x01, 0x00, 0x00, 0x42, 0x42, 0x03,
-];
-
-/// Captured: the same frame where it was sent, with its length in the place of the protocol.
-const SENT: [u8; 23] = [
-    0x00, 0x26, 0x00, 0x00, 0x00, 0x00, 0x00, 0x03, 0x00, 0x01, 0x04, 0x06, 0x02, 0x00, 0x5E, 0x10,
     0x00, 0x01, 0x00, 0x00, 0x42, 0x42, 0x03,
 ];
 
@@ -65,24 +51,14 @@ const GRE: [u8; 21] = [
     0x00, 0x00, 0x00, 0x00, 0x45,
 ];
 
-/// Composed: generic netlink, sent to kernel space.
-const NETLINK: [u8; 21] = [
-    0x00, 0x10, 0x00, 0x00, 0xFF, 0xFF, 0xFF, 0xFE, 0x03, 0x38, 0x07, 0x00, 0x00, 0x00, 0x00, 0x00,
-    0x00, 0x00, 0x00, 0x00, 0x24,
-];
-
-/// Composed: IEEE 802.11 with radiotap, between others, without a payload.
-const RADIOTAP: [u8; 20] = [
-    0x00, 0x04, 0x00, 0x00, 0x00, 0x00, 0x00, 0x05, 0x03, 0x23, 0x03, 0x06, 0x02, 0x00, 0x00, 0x00,
-    0x00, 0x01, 0x00, 0x00,
-];
-
-/// The header of [`ARP_REQUEST`].
+/// The header of [`SPANNING_TREE`].
 const CAPTURED: LinuxSll2Header = LinuxSll2Header {
-    protocol_type: LinuxSllProtocolType::EtherType(EtherType::ARP),
+    protocol_type: LinuxSllProtocolType::LinuxNonstandardEtherType(
+        LinuxNonstandardEtherType::N802_2,
+    ),
     interface_index: 2,
     arp_hrd_type: ArpHardwareId::ETHERNET,
-    packet_type: LinuxSllPacketType::BROADCAST,
+    packet_type: LinuxSllPacketType::MULTICAST,
     sender_address_valid_length: 6,
     sender_address: [0x02, 0x00, 0x5E, 0x10, 0x00, 0x01, 0, 0],
 };
@@ -98,7 +74,7 @@ const TO_US: LinuxSll2Header = LinuxSll2Header {
 };
 
 /// Name, packet, its header, the sender's address and the start of a walk.
-const PACKETS: [(&str, &[u8], LinuxSll2Header, &[u8], Option<Start>); 11] = [
+const PACKETS: [(&str, &[u8], LinuxSll2Header, &[u8], Option<Start>); 7] = [
     (
         "the example",
         &EXAMPLE,
@@ -132,36 +108,11 @@ const PACKETS: [(&str, &[u8], LinuxSll2Header, &[u8], Option<Start>); 11] = [
         Some(Start::EtherType(EtherType::IPV4)),
     ),
     (
-        "ARP",
-        &ARP_REQUEST,
-        CAPTURED,
-        &[0x02, 0x00, 0x5E, 0x10, 0x00, 0x01],
-        Some(Start::EtherType(EtherType::ARP)),
-    ),
-    (
         "802.2",
         &SPANNING_TREE,
-        LinuxSll2Header {
-            protocol_type: LinuxSllProtocolType::LinuxNonstandardEtherType(
-                LinuxNonstandardEtherType::N802_2,
-            ),
-            packet_type: LinuxSllPacketType::MULTICAST,
-            ..CAPTURED
-        },
+        CAPTURED,
         &[0x02, 0x00, 0x5E, 0x10, 0x00, 0x01],
         Some(Start::EtherType(EtherType(4))),
-    ),
-    (
-        "802.3, sent",
-        &SENT,
-        LinuxSll2Header {
-            protocol_type: LinuxSllProtocolType::EtherType(EtherType(38)),
-            interface_index: 3,
-            packet_type: LinuxSllPacketType::OUTGOING,
-            ..CAPTURED
-        },
-        &[0x02, 0x00, 0x5E, 0x10, 0x00, 0x01],
-        Some(Start::EtherType(EtherType(38))),
     ),
     (
         "reserved bytes that are not 0",
@@ -169,7 +120,6 @@ const PACKETS: [(&str, &[u8], LinuxSll2Header, &[u8], Option<Start>); 11] = [
         LinuxSll2Header {
             protocol_type: LinuxSllProtocolType::EtherType(EtherType::VLAN_TAGGED_FRAME),
             interface_index: 3,
-            packet_type: LinuxSllPacketType::MULTICAST,
             ..CAPTURED
         },
         &[0x02, 0x00, 0x5E, 0x10, 0x00, 0x01],
@@ -203,71 +153,33 @@ const PACKETS: [(&str, &[u8], LinuxSll2Header, &[u8], Option<Start>); 11] = [
         &[192, 0, 2, 1],
         None,
     ),
-    (
-        "netlink",
-        &NETLINK,
-        LinuxSll2Header {
-            protocol_type: LinuxSllProtocolType::NetlinkProtocolType(16),
-            interface_index: 4_294_967_294,
-            arp_hrd_type: ArpHardwareId::NETLINK,
-            packet_type: LinuxSllPacketType::KERNEL,
-            sender_address_valid_length: 0,
-            sender_address: [0; 8],
-        },
-        &[],
-        None,
-    ),
-    (
-        "radiotap",
-        &RADIOTAP,
-        LinuxSll2Header {
-            protocol_type: LinuxSllProtocolType::Ignored(4),
-            interface_index: 5,
-            arp_hrd_type: ArpHardwareId::IEEE80211_RADIOTAP,
-            packet_type: LinuxSllPacketType::OTHERHOST,
-            sender_address_valid_length: 6,
-            sender_address: [2, 0, 0, 0, 0, 1, 0, 0],
-        },
-        &[2, 0, 0, 0, 0, 1],
-        None,
-    ),
 ];
 
 #[test]
 fn packets(rt: HostRuntime) -> Result<(), Fail> {
     for (name, packet, header, address, start) in PACKETS {
-        let view = LinuxSll2HeaderSlice::from_slice(packet)?;
-        let whole = LinuxSll2Slice::from_slice(packet)?;
+        let view = LinuxSll2Slice::from_slice(packet)?;
+        let bytes = header.to_bytes();
         let rest = packet.get(20..).unwrap_or(&[]);
-        let payload = LinuxSllPayloadSlice {
-            protocol_type: header.protocol_type,
-            payload: rest,
-        };
-        let written = header.to_bytes();
         equal(
             &rt,
             name,
+            &(view.to_header(), view.payload_slice(), view.start()),
+            &(header, rest, start),
+        );
+        equal(
+            &rt,
+            name,
+            &(view.sender_address(), &bytes[..2], &bytes[4..]),
             &(
-                (LinuxSll2Header::from_slice(packet), view.to_header()),
-                (view.slice(), view.sender_address(), view.clone()? == view),
-                (whole.to_header(), whole.sender_address()),
-                (whole.payload(), whole.start(), whole.clone()? == whole),
-                (&written[..2], &written[2..4], &written[4..]),
-            ),
-            &(
-                (Ok((header, rest)), header),
-                (packet.get(..20).unwrap_or(&[]), address, true),
-                (header, address),
-                (payload, start, true),
-                (
-                    packet.get(..2).unwrap_or(&[]),
-                    &[0, 0],
-                    packet.get(4..20).unwrap_or(&[]),
-                ),
+                address,
+                packet.get(..2).unwrap_or(&[]),
+                packet.get(4..20).unwrap_or(&[]),
             ),
         );
     }
     let packet = LinuxSll2Slice::from_slice(&EXAMPLE)?;
+    let view = LinuxSll2HeaderSlice::from_slice(&EXAMPLE)?;
     let mut found = None;
     if let Some(start) = packet.start() {
         let mut peel = Peel::new(start, packet.payload_slice());
@@ -275,7 +187,12 @@ fn packets(rt: HostRuntime) -> Result<(), Fail> {
             found = Some((tag.vlan_identifier().value(), peel.offset()));
         }
     }
-    equal(&rt, "the walk of the example", &found, &Some((291, 4)));
+    equal(
+        &rt,
+        "the walk of the example, and clones",
+        &(found, packet.clone()? == packet, view.clone()? == view),
+        &(Some((291, 4)), true, true),
+    );
     let view = LinuxSll2HeaderSlice::from_slice(&GRE)?;
     let packet = LinuxSll2Slice::from_slice(&GRE)?;
     let shown = format!(in rt.alloc(); "{view:?}\n{packet:?}")?;
