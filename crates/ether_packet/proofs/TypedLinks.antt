@@ -1,8 +1,7 @@
 -- The header of a link with another type, and what follows it moved: the walk of the new list.
 use Rattle.std.proofs.Common.{◌≡◌, ℕ, ◌+◌, ◌-◌, ◌*◌, ◌^◌, ◌<◌, ◌≤◌, List, [], ◌∷◌, length, take, drop, refl, sym, ap, subst, ◌∙◌, arith, Bool, true, false}
-use Rattle.std.specs.Prelude.{slice_range, Option, Some, None, Result, IfOk, IfErr, nat_eq, ◌==◌, if◌then◌else◌}
+use Rattle.std.specs.Prelude.{slice_range, Option, Some, None, nat_eq, ◌==◌, if◌then◌else◌}
 use Rattle.std.proofs.lemmas.List.{length-drop}
-use Rattle.std.proofs.lemmas.Result.{IfOk-weaker, MatchResult-weaker}
 use Rattle.etherparse.specs.Types.LenSource.{LenSource}
 use Rattle.etherparse.specs.Types.LenSource.TheVariants as sources
 use Rattle.etherparse.specs.Types.ArpHardwareId.{ArpHardwareId}
@@ -29,7 +28,6 @@ use Rattle.ether_peel.specs.Walker.Start.{start_of}
 use Rattle.ether_peel.specs.declared.start.Start.{Start}
 use Rattle.ether_peel.specs.declared.start.Start.TheVariants as starts
 use Rattle.ether_peel.proofs.Grammar.Places.{is_local}
-use Rattle.ether_packet.specs.declared.tag_error.TagError.{TagError}
 use Rattle.ether_packet.specs.declared.tag_error.TagError.TheVariants as errors
 use Rattle.ether_packet.specs.declared.typed_link.TypedLink.{TypedLink}
 use Rattle.ether_packet.specs.Views.{header_in}
