@@ -5,6 +5,8 @@ use Rattle.etherparse.specs.Bytes.{spelled}
 use Rattle.etherparse.specs.NumberText.{hex_number}
 use Rattle.ether_base.specs.Formats.LinuxSllProtocolType.{told_ether_type}
 use Rattle.ether_peel.specs.Grammar.Expectation.{EtherType}
+use Rattle.ether_peel.specs.Walker.Start.{next_of}
+use Rattle.ether_peel.specs.declared.start.Start.{Start}
 use Rattle.ether_sll2.specs.LinuxSll2.{LinuxSll2Value, linux_sll2_of, LinuxSll2Refusal, Short, PacketType, RefusesLinuxSll2, AcceptsLinuxSll2, protocol_of_header}
 use Rattle.ether_text.specs.HexText.{hex_text}
 use Rattle.ether_text.specs.Lines.{spaced, protocol_text}
@@ -34,3 +36,13 @@ pub data AnswersLinuxSll2 (bytes : List ℕ) : (text : List ℕ) → (accepted :
   read : (lines : List ℕ) (accepted : Bool) → AcceptsLinuxSll2 bytes → AnswersPayload (told_ether_type (protocol_of_header bytes)) bytes lines accepted
       → AnswersLinuxSll2 bytes ((linux_sll2_text (linux_sll2_of bytes) ++ codes "\n") ++ lines) accepted
   refused : (r : LinuxSll2Refusal) → RefusesLinuxSll2 bytes r → AnswersLinuxSll2 bytes (linux_sll2_fault_text r ++ codes "\n") false
+
+-- ---- how it is written
+
+-- a header is read, and this is its payload, which begins with this
+pub record BeginsWalk (bytes : List ℕ) (start : Start) (payload : List ℕ) : Type 0 where
+  pub accepted : AcceptsLinuxSll2 bytes
+  pub ether_type : ℕ
+  pub announced : told_ether_type (protocol_of_header bytes) ≡ Some ether_type
+  pub next : next_of start ≡ EtherType ether_type
+  pub rest : payload ≡ slice_range bytes 20 (length bytes)

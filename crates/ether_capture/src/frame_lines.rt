@@ -9,7 +9,7 @@ ghost use Rattle.ether_capture.specs.ContentViews.{content_view};
 use crate::linux_sll2_lines::write_linux_sll2;
 use ether_pcap::{CapturedPacket, LinkType, Timestamp};
 use ether_peel::Start;
-use ether_text::{OutputBuffer, Sink, eight_digits, write_decimal, write_walk};
+use ether_text::{OutputBuffer, Sink, eight_digits, write_decimal, write_walk_after};
 
 /// The length in bytes of the frame check sequence of Ethernet.
 const FCS_LEN: usize = 4;
@@ -28,11 +28,15 @@ pub fn write_packet<W: Sink>(
 {
     let content = walked(packet);
     write_packet_line(is_plain, number, packet, content, out);
-    match content {
-        Content::Frame(start, bytes) => write_walk(start, None, bytes, out),
-        Content::LinuxSll2(bytes) => write_linux_sll2(bytes, out),
-        Content::Unknown => true,
-    }
+    let (header_len, start, bytes) = match content {
+        Content::Frame(start, bytes) => (0, start, bytes),
+        Content::LinuxSll2(bytes) => match write_linux_sll2(bytes, out) {
+            Ok((start, payload)) => (20, start, payload),
+            Err(accepted) => return accepted,
+        },
+        Content::Unknown => return true,
+    };
+    write_walk_after(header_len, start, None, bytes, out)
 }
 
 /// Writes the line after those of all packets, unless `is_plain`: how many packets there are, and how many of them were skipped.

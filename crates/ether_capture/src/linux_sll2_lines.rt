@@ -1,32 +1,42 @@
 //! Writes the lines of a packet of Linux cooked capture v2.
-ghost use Rattle.std.specs.Prelude.{◌≡◌, ◌≤◌, ◌++◌, length, codes};
-ghost use Rattle.etherparse.specs.LinuxSllProtocolType.{told_ether_type};
-ghost use Rattle.ether_sll2.specs.LinuxSll2.{linux_sll2_of, protocol_of_header};
+ghost use Rattle.std.specs.Prelude.{◌≡◌, ◌≤◌, ◌++◌, length, codes, IfOk, IfErr};
+ghost use Rattle.ether_sll2.specs.LinuxSll2.{linux_sll2_of};
 ghost use Rattle.ether_sll2.specs.Views.{refusal_view};
 ghost use Rattle.ether_text.specs.OutputBuffer.{Takes, TakesAnswer};
-ghost use Rattle.ether_capture.specs.LinuxSll2Lines.{AnswersLinuxSll2, AnswersPayload, linux_sll2_fault_text, linux_sll2_text};
+ghost use Rattle.ether_capture.specs.LinuxSll2Lines.{AnswersLinuxSll2, BeginsWalk, linux_sll2_fault_text, linux_sll2_text};
 
-use ether_peel::RestKind;
+use ether_peel::{RestKind, Start};
 use ether_sll2::{LinuxSll2Error, LinuxSll2Header, LinuxSll2Slice};
-use ether_text::{
-    OutputBuffer, Sink, hex_long, hex_type, write_number, write_rest, write_walk_after,
-};
+use ether_text::{OutputBuffer, Sink, hex_long, hex_type, write_number, write_rest};
 use etherparse::EtherType;
 
-/// Writes the line of the header and those of the walk of the payload, or the line of the fault. Returns whether there is no fault.
+/// Writes the line of the header, and returns what its payload begins with, and the payload. If there is no walk of the payload, writes
+/// the line of what is left, or in place of the header's that of the fault, and returns whether there is no fault.
 #[inline(never)]
-pub fn write_linux_sll2<W: Sink>(bytes: &[u8], out: &mut OutputBuffer<'_, W>) -> bool
-    ensures { TakesAnswer W.contents W.can_fail (AnswersLinuxSll2 bytes.now) out.old out.new result }
+pub fn write_linux_sll2<'a, W: Sink>(
+    bytes: &'a [u8],
+    out: &mut OutputBuffer<'_, W>,
+) -> Result<(Start, &'a [u8]), bool>
+    ensures walked { IfOk result (λ payload. BeginsWalk bytes.now payload.0 payload.1.now
+        × Takes W.contents W.can_fail out.old (linux_sll2_text (linux_sll2_of bytes.now) ++ codes "\n") out.new) }
+    ensures ended { IfErr result (λ accepted.
+        TakesAnswer W.contents W.can_fail (AnswersLinuxSll2 bytes.now) out.old out.new accepted) }
 {
-    match LinuxSll2Slice::from_slice(bytes) {
-        Ok(packet) => {
-            write_header(&packet, out);
-            write_payload(&packet, out)
-        }
+    let packet = match LinuxSll2Slice::from_slice(bytes) {
+        Ok(packet) => packet,
         Err(error) => {
             write_refusal(&error, out);
             out.append(b"\n");
-            false
+            return Err(false);
+        }
+    };
+    write_header(&packet, out);
+    match packet.start() {
+        Some(start) => Ok((start, packet.payload_slice())),
+        None => {
+            let kind = RestKind::Sll(packet.protocol_type());
+            write_rest(out, LinuxSll2Header::LEN, bytes.len(), kind);
+            Err(true)
         }
     }
 }
@@ -66,22 +76,6 @@ fn protocol_of(header: &[u8]) -> u16
     ensures { result ≡ (linux_sll2_of header.now).protocol }
 {
     u16::from_be_bytes([header[0], header[1]])
-}
-
-/// Writes the lines of the walk of the payload, or the line of what is left if its protocol has no ether type. Returns whether there
-/// is no fault.
-fn write_payload<W: Sink>(packet: &LinuxSll2Slice<'_>, out: &mut OutputBuffer<'_, W>) -> bool
-    ensures { TakesAnswer W.contents W.can_fail
-        (AnswersPayload (told_ether_type (protocol_of_header packet.now)) packet.now) out.old out.new result }
-{
-    match packet.start() {
-        Some(start) => write_walk_after(20, start, None, packet.payload_slice(), out),
-        None => {
-            let kind = RestKind::Sll(packet.protocol_type());
-            write_rest(out, LinuxSll2Header::LEN, packet.slice().len(), kind);
-            true
-        }
-    }
 }
 
 /// Writes the text of the fault of a header.
