@@ -40,6 +40,10 @@ ARTEFACTS = {
         "ether_packet/src/packet_builder.rt": ["size", "write"],
         "ether_packet/src/replacing.rt": ["replace_link_ext", "replace_link"],
         "ether_packet/src/replacing_arp.rt": ["replace_arp"],
+        "ether_packet/src/popping.rt": ["pop_vlan"],
+        "ether_packet/src/pushing.rt": ["push_vlan"],
+        "ether_packet/src/setting.rt": ["set_vlan_id", "set_vlan_tag", "set_tpid"],
+        "ether_packet/src/laws.rt": ["popped_after_pushed", "pushed_after_popped"],
     },
     "C": {
         "ether_c/src/walking.rt": ["ether_walk", "ether_walk_limited"],
