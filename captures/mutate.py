@@ -4,8 +4,9 @@
 
 PROGRAM is the built `ether_capture`, COUNT the number of captures, 10,000 if it is left out. Each run ends with status 0, 1 or 3, and
 with 3 its last line names a place within the capture. Of each fiftieth pcapng capture tshark, if it is installed, prints the lengths and
-times of as many packets as the program has printed: they are the same, but for lengths above 2,147,483,647, which tshark does not
-show, and times before 1970. (Of a classic file tshark guesses which variant it is.) The last line is 'N passed, M failed'.
+times of as many packets as the program has printed: they are the same, but for what tshark shows otherwise: lengths above
+2,147,483,647, times before 1970 and finer than nanoseconds. Custom blocks count as packets there, and of a classic file it guesses the
+variant, so these are left out. The last line is 'N passed, M failed'.
 """
 
 import random
@@ -78,7 +79,7 @@ def fault_of(program, data, against):
 
 def main():
     chance = random.Random(802)
-    small = [capture.data() for capture in make.captures() if len(capture.data()) < 3000]
+    small = [capture.data() for capture in make.captures() if len(capture.data()) < 3000 and not re.search("custom|resolutions", capture.name)]
     count = int(sys.argv[2]) if len(sys.argv) > 2 else 10_000
     has_tshark = shutil.which("tshark") is not None
     failed = 0
