@@ -9,5 +9,6 @@ mod CaptureTimes
 pub mod CaptureLengths
 pub mod CaptureLocality
 pub mod CapturesOne
-pub mod CapturePackets
+pub mod PacketsOne
 pub mod CaptureSome
+pub mod CaptureReadingLemmas

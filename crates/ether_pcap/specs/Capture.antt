@@ -1,9 +1,8 @@
 -- A capture file of either format, from its beginning to its end: the file header and the records of a classic file, or the blocks
 -- of a pcapng file (draft-ietf-opsawg-pcap, section 3; draft-ietf-opsawg-pcapng, section 3).
-use Rattle.std.specs.Prelude.{◌≡◌, ◌≢◌, ℕ, ◌+◌, ◌-◌, ◌*◌, ◌/◌, ◌%◌, ◌^◌, ◌<◌, ◌≤◌, List, [], ◌∷◌, ◌++◌, length, drop, Option, Some, None, unwrap_or, nat_lt, nat_eq, slice_range, if◌then◌else◌}
+use Rattle.std.specs.Prelude.{◌≡◌, ◌≢◌, ℕ, ◌+◌, ◌-◌, ◌*◌, ◌/◌, ◌%◌, ◌^◌, ◌<◌, ◌≤◌, List, [], ◌∷◌, ◌++◌, length, drop, Option, Some, None, unwrap_or, nat_lt, nat_eq, if◌then◌else◌}
 use Rattle.std.specs.Option.{option_map}
-use Rattle.ether_base.specs.Bytes.{number}
-use Rattle.ether_pcap.specs.Numbers.{Order, field}
+use Rattle.ether_pcap.specs.Numbers.{Order}
 use Rattle.ether_pcap.specs.FileHeader.{FileHeaderValue, IsFileHeader, FileRefusal, RefusesFile}
 use Rattle.ether_pcap.specs.FileHeader as file
 use Rattle.ether_pcap.specs.Record.{RecordValue, RecordRefusal, BeginsRecord, RefusesRecord, record_len, nanoseconds_of}

@@ -14,4 +14,5 @@ pub mod PcapngTexts
 pub mod Capture
 pub mod CaptureViews
 pub mod CaptureTexts
+pub mod CaptureReading
 pub mod CaptureLaws

@@ -1,5 +1,5 @@
-use Rattle.std.proofs.Common.{◌≡◌, ◌∙◌, ap, ℕ, Option, Some, refl}
-use Rattle.ether_pcap.specs.Capture.{TimeValue, PacketValue, enhanced_alone, fcs_of}
+use Rattle.std.proofs.Common.{◌∙◌, ap, ℕ, Option, Some, refl}
+use Rattle.ether_pcap.specs.Capture.{enhanced_alone, fcs_of}
 use Rattle.ether_pcap.specs.PcapngViews.{enhanced_packet_view}
 use Rattle.ether_pcap.specs.CaptureViews.{capture_interface_view}
 use Rattle.ether_pcap.specs.Views.{order_of}

@@ -1,4 +1,4 @@
-use Rattle.ether_pcap.proofs.CapturePackets.{packets_one}
+use Rattle.ether_pcap.proofs.PacketsOne.{packets_one}
 use Rattle.ether_pcap.proofs.CaptureSome.{some_packets}
 use Rattle.ether_pcap.proofs.laws.packets_are_one.Goals as goal
 

@@ -1,0 +1,38 @@
+-- A reader of the packets of a file: what it shows at each moment, and what it gives, by the packets that are left to read.
+use Rattle.std.specs.Prelude.{◌≡◌, ℕ, ◌+◌, List, [], ◌∷◌, length, Bool, true, false, Option, Some, None, Result, Ok, Err, if◌then◌else◌}
+use Rattle.std.specs.Iterator.{Count, at_most}
+use Rattle.ether_pcap.specs.Capture.{PacketValue, Expectation, Beginning, CaptureRefusal, IsEnd, HasPackets}
+use Rattle.ether_pcap.specs.CaptureViews.{captured_packet_view, capture_refusal_view}
+use Rattle.ether_pcap.specs.declared.captured_packet.CapturedPacket.{CapturedPacket}
+use Rattle.ether_pcap.specs.declared.capture_fault.CaptureFault.{CaptureFault}
+
+-- what is expected, the bytes that are left to read, their place in the file, and whether a refusal was returned
+pub record State : Type 0 where
+  pub expected : Expectation
+  pub rest : List ℕ
+  pub offset : ℕ
+  pub over : Bool
+
+-- nothing is read
+abbrev pub start : List ℕ → State
+start bytes = record { expected = Beginning; rest = bytes; offset = 0; over = false }
+
+-- What comes next if these packets, these bytes after them and this refusal are left: nothing, at the end of the file; the refusal
+-- with its place, after which nothing comes; the first packet, after which the others are left.
+abbrev pub GivesNext : List PacketValue → (left : List ℕ) → Option CaptureRefusal → State → Option (Result CapturedPacket CaptureFault) → State → Type 0
+GivesNext [] left None s result t = (result ≡ None) × IsEnd t.expected t.rest × (t.over ≡ false)
+GivesNext [] left (Some refusal) s result t =
+    (f : CaptureFault) × (result ≡ Some (Err f)) × (capture_refusal_view f.error ≡ refusal) × (f.offset ≡ t.offset) × (t.rest ≡ left) × (t.over ≡ true)
+GivesNext (p ∷ packets) left fault s result t =
+    (q : CapturedPacket) × (result ≡ Some (Ok q)) × (captured_packet_view q ≡ p) × HasPackets t.expected t.rest packets left fault × (t.over ≡ false)
+
+-- a call of next
+pub record Gives (s : State) (result : Option (Result CapturedPacket CaptureFault)) (t : State) : Type 0 where
+  pub over : s.over ≡ true → (result ≡ None) × (t ≡ s)
+  pub next : s.over ≡ false → (packets : List PacketValue) (left : List ℕ) (fault : Option CaptureRefusal)
+      → HasPackets s.expected s.rest packets left fault → GivesNext packets left fault s result t
+  pub place : s.over ≡ false → t.offset + length t.rest ≡ s.offset + length s.rest
+
+-- of k bytes at most k packets and a refusal are still to come, and nothing after the refusal
+abbrev pub items_left : State → Count
+items_left s = at_most (if s.over then 0 else length s.rest + 1)

@@ -1,0 +1,114 @@
+//! The packets of a capture file, one after the other.
+ghost use Rattle.std.specs.Prelude.{◌≡◌, ◌↔◌, IsTrue};
+ghost use Rattle.ether_pcap.specs.Capture.{IsEnd};
+ghost use Rattle.ether_pcap.specs.CaptureReading.{start};
+
+use crate::{CaptureFault, CaptureReader, CaptureUnit, CapturedPacket};
+use std::marker::Model;
+
+/// The packets of a capture file of either format that is in memory, one after the other, and then the fault if there is one.
+///
+/// ```
+/// let file = [
+///     0xA1, 0xB2, 0xC3, 0xD4, 0x00, 0x02, 0x00, 0x04, 0x00, 0x00, 0x00, 0x00, // file header
+///     0x00, 0x00, 0x00, 0x00, 0x00, 0x00, 0xFF, 0xFF, 0x00, 0x00, 0x00, 0x01, //
+///     0x00, 0x00, 0x00, 0x01, 0x00, 0x00, 0x00, 0x02, 0x00, 0x00, 0x00, 0x01, 0x00, 0x00, 0x00, 0x01, // record
+///     0xFF,
+/// ];
+/// let mut packets = CapturePackets::from_slice(&file);
+/// while let Some(Ok(packet)) = packets.next() {
+///     assert_eq!(rt; packet.packet, [0xFF].as_slice());
+/// }
+/// assert_eq!(rt; packets.offset(), 41);
+/// ```
+#[derive(Drop)]
+pub struct CapturePackets<'a> {
+    reader: CaptureReader,
+    rest: &'a [u8],
+    offset: usize,
+    is_over: bool,
+}
+
+impl<'a> Model for CapturePackets<'a> {
+    ghost use Rattle.std.specs.Prelude.{◌+◌, ◌^◌, ◌<◌, length};
+    ghost use Rattle.ether_base.specs.Bytes.{IsBytes};
+    ghost use Rattle.ether_pcap.specs.CaptureReading.{State};
+
+    ghost Value = { State };
+
+    ghost view = { λ a. record { expected = a.reader; rest = a.rest.now; offset = a.offset; over = a.is_over } };
+
+    ghost invariant = { λ a. (a.offset + length a.rest.now < 2 ^ 64) × IsBytes a.rest.now };
+}
+
+impl<'a> CapturePackets<'a> {
+    /// The packets of a file, of which none was read yet.
+    pub fn from_slice(slice: &'a [u8]) -> CapturePackets<'a>
+        ensures { result ≡ start slice.now }
+    {
+        CapturePackets {
+            reader: CaptureReader::new(),
+            rest: slice,
+            offset: 0,
+            is_over: false,
+        }
+    }
+
+    /// The bytes that are left to read: after a fault, from the start of what can't be read.
+    pub fn rest(&self) -> &'a [u8]
+        ensures { result.now ≡ self.now.rest }
+    {
+        self.rest
+    }
+
+    /// The place of the bytes that are left to read, from the start of the file.
+    pub fn offset(&self) -> usize
+        ensures { result ≡ self.now.offset }
+    {
+        self.offset
+    }
+}
+
+impl<'a> Iterator for CapturePackets<'a> {
+    type Item = Result<CapturedPacket<'a>, CaptureFault>;
+
+    ghost use Rattle.ether_pcap.specs.CaptureReading.{Gives, items_left};
+
+    ghost next_gives = { Gives };
+
+    ghost remaining = { items_left };
+
+    /// The next packet, the fault that ends the file, or `None` if nothing is left to read or the fault was returned.
+    fn next(&mut self) -> Option<Result<CapturedPacket<'a>, CaptureFault>> {
+        if self.is_over {
+            return None;
+        }
+        while !is_at_end(&self.reader, self.rest) {
+            match self.reader.read(self.rest) {
+                Ok(unit) => {
+                    let CaptureUnit { len, packet } = unit;
+                    self.rest = &self.rest[len..];
+                    self.offset += len;
+                    if let Some(packet) = packet {
+                        return Some(Ok(packet));
+                    }
+                }
+                Err(error) => {
+                    self.is_over = true;
+                    return Some(Err(CaptureFault {
+                        offset: self.offset,
+                        error,
+                    }));
+                }
+            }
+        }
+        None
+    }
+}
+
+/// Tests that a file has begun, and that nothing of it is left.
+fn is_at_end(reader: &CaptureReader, rest: &[u8]) -> bool
+    ensures { IsTrue result ↔ IsEnd reader.now rest.now }
+{
+    rest.is_empty() && reader.has_begun()
+}
