@@ -7,10 +7,10 @@ ghost use Rattle.ether_pcap.specs.PcapngViews.{block_view, interface_view, enhan
 ghost use Rattle.ether_pcap.specs.CaptureViews.{captured_packet_view};
 
 use ether_pcap::{
-    BlockError, BodyError, ByteOrder, CaptureError, CaptureReader, CaptureUnit, CapturedPacket,
-    EnhancedPacket, FileHeader, FileHeaderError, InterfaceDescription, LinkType, PcapRecord,
-    PcapngBlock, RecordError, RecordFault, SectionError, SectionHeader, SimplePacket, TimeUnit,
-    Timestamp,
+    BlockError, BodyError, ByteOrder, CaptureError, CaptureFault, CaptureReader, CaptureUnit,
+    CapturedPacket, EnhancedPacket, FileHeader, FileHeaderError, InterfaceDescription, LinkType,
+    PcapRecord, PcapngBlock, RecordError, RecordFault, SectionError, SectionHeader, SimplePacket,
+    TimeUnit, Timestamp,
 };
 use std::alloc::AllocError;
 
@@ -166,6 +166,18 @@ pub(crate) fn clone_of_capture_error(value: &CaptureError) -> Result<CaptureErro
 }
 
 pub(crate) fn same_capture_error(a: &CaptureError, b: &CaptureError) -> bool
+    ensures { IsTrue result ↔ (a.now ≡ b.now) }
+{
+    *a == *b
+}
+
+pub(crate) fn clone_of_capture_fault(value: &CaptureFault) -> Result<CaptureFault, AllocError>
+    ensures { result ≡ Ok value.now }
+{
+    value.clone()
+}
+
+pub(crate) fn same_capture_fault(a: &CaptureFault, b: &CaptureFault) -> bool
     ensures { IsTrue result ↔ (a.now ≡ b.now) }
 {
     *a == *b

@@ -4,6 +4,7 @@ mod captures;
 mod classic;
 mod examples;
 mod interfaces;
+mod packets;
 mod pcapng_captures;
 mod sections;
 mod texts;

@@ -1,6 +1,7 @@
 //! The texts of errors, letter by letter.
 use ether_pcap::{
-    BlockError, BodyError, CaptureError, FileHeaderError, RecordError, RecordFault, SectionError,
+    BlockError, BodyError, CaptureError, CaptureFault, FileHeaderError, RecordError, RecordFault,
+    SectionError,
 };
 use std::test::Fail;
 
@@ -124,5 +125,13 @@ fn of_captures(rt: HostRuntime) -> Result<(), Fail> {
     ] {
         assert_eq!(rt; format!(in rt.alloc(); "{error}")?.as_str(), text);
     }
+    let fault = CaptureFault {
+        offset: 24,
+        error: CaptureError::NoInterface(3),
+    };
+    assert_eq!(rt;
+        format!(in rt.alloc(); "{fault}")?.as_str(),
+        "At byte 24: A packet of a pcapng file names interface 3, which its section does not describe."
+    );
     Ok(())
 }
