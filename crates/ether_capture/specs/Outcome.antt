@@ -8,7 +8,7 @@ use Rattle.ether_pcap.specs.declared.file_header_error.FileHeaderError.TheVarian
 use Rattle.ether_text.specs.declared.verdict.Verdict.{Verdict}
 use Rattle.ether_text.specs.declared.verdict.Verdict.TheVariants.{AllAccepted, SomeRefused}
 use Rattle.ether_capture.specs.declared.options.Usage.{Usage}
-use Rattle.ether_capture.specs.declared.outcome.CaptureFault.{CaptureFault}
+use Rattle.ether_pcap.specs.declared.capture_fault.CaptureFault.{CaptureFault}
 use Rattle.ether_capture.specs.declared.outcome.LastLine.{LastLine}
 use Rattle.ether_capture.specs.declared.outcome.LastLine.TheVariants as last_lines
 use Rattle.ether_capture.specs.declared.outcome.RunFault.{RunFault}
@@ -44,14 +44,14 @@ hint_text (errors.File (file_errors.Magic n)) = magic_hint_text n
 hint_text (errors.File (file_errors.Version major minor)) = codes " editcap converts it."
 hint_text _ = []
 
-abbrev pub capture_fault_text : CaptureFault → List ℕ
-capture_fault_text fault = codes "byte " ++ (decimal fault.offset ++ (codes ": " ++ (capture_error_text fault.error ++ hint_text fault.error)))
+abbrev pub fault_line_text : CaptureFault → List ℕ
+fault_line_text fault = codes "byte " ++ (decimal fault.offset ++ (codes ": " ++ (capture_error_text fault.error ++ hint_text fault.error)))
 
 -- what the program prints last, without its line feed: the usage if the arguments are wrong
 abbrev pub last_text : Result (Result Verdict RunFault) Usage → Option (List ℕ)
 last_text (Err usage) = Some usage_text
 last_text (Ok (Ok verdict)) = None
-last_text (Ok (Err (Capture fault))) = Some (capture_fault_text fault)
+last_text (Ok (Err (Capture fault))) = Some (fault_line_text fault)
 last_text (Ok (Err Input)) = None
 last_text (Ok (Err Output)) = None
 last_text (Ok (Err Memory)) = Some memory_text
@@ -64,5 +64,5 @@ status_of_program (Err usage) true = 2
 
 abbrev pub last_line_text : LastLine → List ℕ
 last_line_text last_lines.Usage = usage_text
-last_line_text (last_lines.Fault fault) = capture_fault_text fault.now
+last_line_text (last_lines.Fault fault) = fault_line_text fault.now
 last_line_text last_lines.Memory = memory_text

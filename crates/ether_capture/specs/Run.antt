@@ -8,7 +8,7 @@ use Rattle.ether_text.specs.Verdict.{verdict_of}
 use Rattle.ether_text.specs.declared.verdict.Verdict.{Verdict}
 use Rattle.ether_capture.specs.FrameLines.{AnswersPacket, skip_count, totals_line_if}
 use Rattle.ether_capture.specs.Packets.{counted, GoesOn}
-use Rattle.ether_capture.specs.declared.outcome.CaptureFault.{CaptureFault}
+use Rattle.ether_pcap.specs.declared.capture_fault.CaptureFault.{CaptureFault}
 use Rattle.ether_capture.specs.declared.outcome.RunFault.{RunFault}
 use Rattle.ether_capture.specs.declared.outcome.RunFault.TheVariants.{Capture, Input, Output, Memory}
 

@@ -1,7 +1,7 @@
 //! How far a run has come.
 use crate::frame_lines::{is_skipped, write_packet, write_totals};
-use crate::outcome::{CaptureFault, RunFault};
-use ether_pcap::{CaptureError, CaptureReader, CaptureUnit};
+use crate::outcome::RunFault;
+use ether_pcap::{CaptureError, CaptureFault, CaptureReader, CaptureUnit};
 use ether_text::{OutputBuffer, Sink, Verdict};
 
 /// Where the run is in the capture, and what the packets before gave.

@@ -4,33 +4,10 @@ ghost use Rattle.std.specs.Option.{option_map};
 ghost use Rattle.ether_capture.specs.Outcome.{exit_status, hint_text, magic_hint_text, last_line_text, last_text, status_of_program};
 
 use crate::options::Usage;
-use ether_pcap::{CaptureError, FileHeaderError};
+use ether_pcap::{CaptureError, CaptureFault, FileHeaderError};
 use ether_text::{InputFault, OutputFault, Verdict};
 use std::alloc::AllocError;
 use std::fmt;
-
-/// Why the packets of a capture end before its end, and where.
-#[derive(Debug, Drop)]
-pub struct CaptureFault {
-    /// The place of the file header, record or block that can't be read, from the start of the capture. It stays at `usize::MAX`.
-    pub offset: usize,
-    /// Why it can't be read.
-    pub error: CaptureError,
-}
-
-impl fmt::Display for CaptureFault {
-    ghost use Rattle.std.specs.Prelude.{Some};
-    ghost use Rattle.ether_capture.specs.Outcome.{capture_fault_text};
-
-    ghost output = { λ fault. Some (capture_fault_text fault) };
-
-    fn fmt<W: fmt::Write>(&self, f: &mut fmt::Formatter<W>) -> fmt::Result {
-        let offset = self.offset;
-        let error = &self.error;
-        let hint = hint(error);
-        write!(f, "byte {offset}: {error}{hint}")
-    }
-}
 
 /// What reads a file that this crate can't read, by its first four bytes or its version.
 fn hint(error: &CaptureError) -> &'static str
@@ -62,7 +39,7 @@ fn magic_hint(number: u32) -> &'static str
 /// Why a run stopped before the end of its input.
 #[derive(Debug, Drop)]
 pub enum RunFault {
-    /// The capture can't be read further.
+    /// The capture can't be read further. A place above `usize::MAX` is given as that.
     Capture(CaptureFault),
     /// The reader failed, or never came to an end.
     Input,
@@ -141,7 +118,12 @@ impl fmt::Display for LastLine<'_> {
     fn fmt<W: fmt::Write>(&self, f: &mut fmt::Formatter<W>) -> fmt::Result {
         match self {
             LastLine::Usage => write!(f, "{USAGE}"),
-            LastLine::Fault(fault) => write!(f, "{fault}"),
+            LastLine::Fault(fault) => {
+                let offset = fault.offset;
+                let error = &fault.error;
+                let hint = hint(error);
+                write!(f, "byte {offset}: {error}{hint}")
+            }
             LastLine::Memory => f.write_str("out of memory"),
         }
     }
