@@ -1,5 +1,5 @@
 -- A table that knows a history knows it with one frame more.
-use Rattle.std.proofs.Common.{◌≡◌, ℕ, List, [], ◌∷◌, ◌++◌, ◌+◌, length, refl, sym, ap, subst, ◌∙◌, Option, Some, None, IsSome, Bool, true, false, ◌||◌, nat_eq, if◌then◌else◌, arith}
+use Rattle.std.proofs.Common.{◌≡◌, ℕ, List, [], ◌∷◌, ◌++◌, length, refl, sym, ap, subst, ◌∙◌, Option, Some, None, IsSome, Bool, true, false, ◌||◌, nat_eq, if◌then◌else◌, arith}
 use Rattle.std.proofs.lemmas.Bool.{eqb-true}
 use Rattle.std.proofs.lemmas.List.{length_push}
 use Rattle.example_learning_switch.specs.declared.decision.Decision.{Decision}
@@ -68,8 +68,8 @@ longer f earlier pass = sym (ap (λ (c : Bool). if c then learned earlier else (
 knows : (new : List Entry) (history : List Taken) (stations : List ℕ) → stations ≡ learned history → length new ≡ length stations
     → ((s : ℕ) → is_group s ≡ false → port_in new s ≡ (if is_among s stations then last_port history s else None)) → Knows new history
 knows new history stations is count ports = record {
-    count = count ∙ ap length is;
-    ports = λ s single. ports s single ∙ ap (λ (l : List ℕ). if is_among s l then last_port history s else None) is;
+  count = count ∙ ap length is;
+  ports = λ s single. ports s single ∙ ap (λ (l : List ℕ). if is_among s l then last_port history s else None) is;
 }
 
 unchanged : (old : List Entry) (earlier : List Taken) (f : Taken) → Knows old earlier → passes f earlier ≡ true

@@ -1,7 +1,7 @@
 -- The stations of a frame are those of its first two headers, if these are Ethernet II and a VLAN tag.
 use Rattle.std.proofs.Common.{◌≡◌, ℕ, List, [], ◌∷◌, length, refl, sym, ap, subst, ◌∙◌, Some, Ok, Bool, true, false, if◌then◌else◌, arith}
 use Rattle.etherparse.specs.Bytes.{IsBytes, number, spelled}
-use Rattle.etherparse.specs.Ethernet2.{Ethernet2Value, FitsEthernet2, Frame, ethernet2_of}
+use Rattle.etherparse.specs.Ethernet2.{Ethernet2Value, Frame, ethernet2_of}
 use Rattle.etherparse.specs.Vlan.{vlan_of}
 use Rattle.etherparse.specs.Kind as kinds
 use Rattle.etherparse.specs.Header.{Header, kind_of, Means}
@@ -56,19 +56,20 @@ plain false v is = refl
 pub stations_read : (list : List ℕ) (hs : List Header) (e : Ending) (t u : State) (link : Frame) (tag : List ℕ) → IsBytes list → Walk (start_of starts.Ethernet2) list hs e
     → Gives (begun (start_of starts.Ethernet2) list) (Some (Ok (units.Ethernet2 link))) t → Gives t (Some (Ok (units.Vlan tag))) u
     → let v = ethernet2_of link.bytes in let vid = (vlan_of tag).vid in
-      stations_of hs ≡ Some (record { source = station vid (number (spelled 6 v.source)); destination = station vid (number (spelled 6 v.destination)) })
+    stations_of hs ≡ Some (record { source = station vid (number (spelled 6 v.source)); destination = station vid (number (spelled 6 v.destination)) })
 stations_read list hs e t u link tag ok walk first second =
     let v = ethernet2_of link.bytes in
-    let vid = (vlan_of tag).vid in
     let w = whole (start_of starts.Ethernet2) list in
     let faces : Faces list w (begun (start_of starts.Ethernet2) list) hs e = record {
-        inside = record { ordered = omega arith; inside = omega arith };
-        rest = sym (part_all list (length list) (omega arith));
-        offset = refl; closed = refl; bound = refl; stack = walk;
-      } in
+      inside = record { ordered = omega arith; inside = omega arith };
+      rest = sym (part_all list (length list) (omega arith));
+      offset = refl;
+      closed = refl;
+      bound = refl;
+      stack = walk;
+    } in
     let a = given list w hs e (begun (start_of starts.Ethernet2) list) t (units.Ethernet2 link) ok faces refl first in
     let b = given list a.window a.later e t u (units.Vlan tag) ok a.faces a.going second in
     let is = plain link.has_fcs v a.announced in
     let fits = (subst (Means (within list a.here)) is a.means).spells.fits in
-    let parts : hs ≡ headers.Ethernet2 v ∷ headers.Vlan (vlan_of tag) ∷ b.later = a.is ∙ ap (λ (h : Header). h ∷ a.later) is ∙ ap (λ (l : List Header). headers.Ethernet2 v ∷ l) b.is in
-    rw (parts, number-spelled 6 v.source fits.source, number-spelled 6 v.destination fits.destination) refl
+    rw (a.is, is, b.is, number-spelled 6 v.source fits.source, number-spelled 6 v.destination fits.destination) refl

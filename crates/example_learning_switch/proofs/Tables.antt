@@ -1,5 +1,5 @@
 -- The first entry of a station, and what setting or adding one changes.
-use Rattle.std.proofs.Common.{◌≡◌, ℕ, zero, suc, ◌<◌, List, [], ◌∷◌, ◌++◌, length, take, refl, sym, subst, ◌∙◌, Option, Some, None, Bool, true, false, nat_eq, if◌then◌else◌, slice_index_or, slice_set, eq-eqb, arith}
+use Rattle.std.proofs.Common.{◌≡◌, ℕ, zero, suc, ◌<◌, List, [], ◌∷◌, ◌++◌, length, take, refl, sym, subst, Option, Some, None, Bool, true, false, nat_eq, if◌then◌else◌, slice_index_or, slice_set, eq-eqb, arith}
 use Rattle.std.specs.List.{refill}
 use Rattle.std.proofs.lemmas.Bool.{eqb-true}
 use Rattle.std.proofs.lemmas.List.{append-nil, drop_all, take_all}
@@ -42,7 +42,7 @@ pub port_set : (es : List Entry) (i : ℕ) (d : Entry) (t p s : ℕ) → i < len
     → port_in (slice_set es i (record (slice_index_or es i d) { port = p })) s ≡ (if nat_eq s t then Some p else port_in es s)
 port_set [] i d t p s lt none is = absurd (omega arith)
 port_set (x ∷ es) zero d t p s lt none is =
-    subst (λ (n : ℕ). (if nat_eq s x.station then Some p else port_in es s) ≡ (if nat_eq s n then Some p else (if nat_eq s x.station then Some x.port else port_in es s))) is
+    subst (λ (n : ℕ). (if nat_eq s x.station then Some p else port_in es s) ≡ (if nat_eq s n then Some p else port_in (x ∷ es) s)) is
     (replaced (nat_eq s x.station) (Some p) (Some x.port) (port_in es s))
 port_set (x ∷ es) (suc i) d t p s lt none is =
     let k = skipped (nat_eq t x.station) x.port (port_in (take i es) t) none in

@@ -21,7 +21,7 @@ pub(crate) fn port_of(entries: &[Entry], station: u64) -> Option<u16>
     None
 }
 
-/// Sets the port of a station, and returns `true` if it's there.
+/// Sets the port of a station, and returns `true` if it is known.
 pub(crate) fn set_port(entries: &mut [Entry], station: u64, port: u16) -> bool
     ensures len { length entries.new ≡ length entries.old }
     ensures there { IsTrue result → IsSome (port_in entries.old station) }

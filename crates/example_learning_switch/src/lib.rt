@@ -12,18 +12,40 @@ mod decision;
 mod entry;
 mod stations;
 
-pub use decision::Decision;
-
 use arrayvec::ArrayVec;
-use ether_peel::Start;
+pub use decision::Decision;
 use entry::Entry;
+use ether_peel::Start;
 use stations::{Stations, is_group};
 use std::marker::Model;
 
-/// A switch: the port of each station that it learned.
+/// How many stations a switch learns at most.
+const CAPACITY: usize = 64;
+
+/// A learning switch for trunk ports, whose frames have VLAN tags (IEEE 802.1Q, 8.6 to 8.8).
+///
+/// A station is an address in a VLAN, so the same address in two VLANs is two stations. The switch keeps the port of the
+/// last frame from each of the first [`CAPACITY`](Self::CAPACITY) stations. Entries do not age.
+///
+/// # Examples
+///
+/// ```
+/// let request = [
+///     0xFF, 0xFF, 0xFF, 0xFF, 0xFF, 0xFF, 0x02, 0x00, 0x00, 0x00, 0x00, 0x01, 0x81, 0x00, // Ethernet II
+///     0x00, 0x0A, 0x08, 0x06, // VLAN
+/// ];
+/// let reply = [
+///     0x02, 0x00, 0x00, 0x00, 0x00, 0x01, 0x02, 0x00, 0x00, 0x00, 0x00, 0x02, 0x81, 0x00, // Ethernet II
+///     0x00, 0x0A, 0x08, 0x06, // VLAN
+/// ];
+/// let mut switch = Switch::new();
+/// assert_eq!(rt; switch.forward(1, &request), Some(Decision::Flood));
+/// assert_eq!(rt; switch.forward(2, &reply), Some(Decision::Port(1)));
+/// assert_eq!(rt; switch.forward(1, &reply[..17]), None);
+/// ```
 #[derive(Debug, Drop)]
 pub struct Switch {
-    entries: ArrayVec<Entry, 64>,
+    entries: ArrayVec<Entry, CAPACITY>,
 }
 
 impl Model for Switch {
@@ -37,7 +59,7 @@ impl Model for Switch {
 
 impl Switch {
     /// How many stations a switch learns at most.
-    pub const CAPACITY: usize = 64;
+    pub const CAPACITY: usize = CAPACITY;
 
     /// A switch that has learned nothing.
     pub fn new() -> Switch
@@ -48,7 +70,13 @@ impl Switch {
         }
     }
 
-    /// Learns the source of a frame, and returns where the frame goes.
+    /// Learns the source of a frame that came from a port, and then returns where the frame goes.
+    ///
+    /// The frame begins with an Ethernet II header and has no frame check sequence. It's switched if a VLAN tag is directly
+    /// after the header; what follows the tag isn't read. A tag without a VLAN (identifier 0) counts as VLAN 0.
+    ///
+    /// The address of a group is never learned, and if the table is full no other station is: frames to either are
+    /// flooded. `None` if there is no such tag, or if header or tag is cut short: nothing is learned then.
     pub fn forward(&mut self, port: u16, frame: &[u8]) -> Option<Decision>
         ensures tagged { (hs : List Header) (e : Ending) → Walk (start_of Start.Ethernet2) frame.now hs e
             → (s : Stations) → stations_of hs ≡ Some s

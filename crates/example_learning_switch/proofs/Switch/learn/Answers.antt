@@ -1,6 +1,4 @@
-use Rattle.std.proofs.Common.{◌≡◌, ℕ, ◌<◌, List, length, refl, sym, ap, subst, ◌∙◌, IsSome, None, arith}
-use Rattle.example_learning_switch.specs.declared.entry.Entry.{Entry}
-use Rattle.example_learning_switch.specs.Switching.{port_in}
+use Rattle.std.proofs.Common.{length, refl, sym, ap, ◌∙◌}
 use Rattle.example_learning_switch.proofs.Histories.{of_group, of_full, of_set, of_new}
 use Rattle.example_learning_switch.proofs.Tables.{refilled}
 use Rattle.example_learning_switch.proofs.Switch.learn.Goals as goal

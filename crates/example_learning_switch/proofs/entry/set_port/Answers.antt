@@ -17,6 +17,8 @@ returns-then-entry-station-clause-set c is s =
 
 pub loop-entry-preserved : goal.loop-entry-preserved
 loop-entry-preserved c =
-    let same = c.loop-entry.invariant.0 in
-    (rw same (set-get_or c.args.entries.now c.loop-entry.entry-index _), rw add-one (passed c.args.entries.now c.loop-entry.entry-index (record { station = 0; port = 0 }) c.args.station c.loop-entry-test.true c.loop-entry.invariant.1
-    (rw same at (ne_eqb c.args.station _ (λ is. c.if-entry-station.false (sym is))))))
+    let same = c.loop-entry.invariant.0 in (
+      rw same (set-get_or c.args.entries.now c.loop-entry.entry-index _),
+      rw add-one (passed c.args.entries.now c.loop-entry.entry-index (record { station = 0; port = 0 }) c.args.station c.loop-entry-test.true c.loop-entry.invariant.1
+          (rw same at (ne_eqb c.args.station _ (λ is. c.if-entry-station.false (sym is))))),
+    )
