@@ -24,8 +24,8 @@ const CAPACITY: usize = 64;
 
 /// A learning switch for trunk ports, whose frames have VLAN tags (IEEE 802.1Q, 8.6 to 8.8).
 ///
-/// A station is an address in a VLAN, so the same address in two VLANs is two stations. The switch keeps the port of the
-/// last frame from each of the first [`CAPACITY`](Self::CAPACITY) stations. Entries do not age.
+/// A station is an address in a VLAN, so the same address in two VLANs is two stations. The switch keeps the port of
+/// the last frame from each of the first [`CAPACITY`](Self::CAPACITY) stations. Entries do not age.
 ///
 /// # Examples
 ///
@@ -72,8 +72,8 @@ impl Switch {
 
     /// Learns the source of a frame that came from a port, and then returns where the frame goes.
     ///
-    /// The frame begins with an Ethernet II header and has no frame check sequence. It's switched if a VLAN tag is directly
-    /// after the header; what follows the tag isn't read. A tag without a VLAN (identifier 0) counts as VLAN 0.
+    /// The frame begins with an Ethernet II header and has no frame check sequence. It's switched if a VLAN tag is
+    /// directly after the header; what follows the tag isn't read. A priority tag (identifier 0) counts as VLAN 0.
     ///
     /// The address of a group is never learned, and if the table is full no other station is: frames to either are
     /// flooded. `None` if there is no such tag, or if header or tag is cut short: nothing is learned then.
