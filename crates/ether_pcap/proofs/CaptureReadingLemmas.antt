@@ -1,9 +1,10 @@
 -- The packets that are left to read, as further units are read.
-use Rattle.std.proofs.Common.{◌≡◌, ℕ, ◌+◌, List, [], ◌∷◌, length, drop, Option, Some, None, true, false, refl, sym, subst, ◌∙◌}
+use Rattle.std.proofs.Common.{◌≡◌, ℕ, ◌+◌, List, [], ◌∷◌, length, drop, Option, Some, None, true, false, refl, sym, ap, subst, ◌∙◌, arith}
+use Rattle.std.proofs.lemmas.List.{drop-drop}
 use Rattle.std.specs.Prelude.{Result, Ok, Err}
 use Rattle.ether_base.specs.Bytes.{IsBytes}
 use Rattle.ether_pcap.specs.Capture.{PacketValue, Expectation, CaptureRefusal, Begins, Refuses, IsEnd, HasPackets, ended, refused, unit, packet}
-use Rattle.ether_pcap.specs.CaptureReading.{State, GivesNext, Gives}
+use Rattle.ether_pcap.specs.CaptureReading.{State, FirstPacket, here, later, GivesNext, Gives}
 use Rattle.ether_pcap.specs.CaptureViews.{captured_packet_view, capture_refusal_view}
 use Rattle.ether_pcap.specs.declared.captured_packet.CapturedPacket.{CapturedPacket}
 use Rattle.ether_pcap.specs.declared.capture_fault.CaptureFault.{CaptureFault}
@@ -20,18 +21,40 @@ after_unit x y bytes len packets left fault ok begins has =
     (subst (λ (l : List ℕ). HasPackets y (drop len bytes) c.packets l fault) (sym same.1)
     (subst (λ (f : Option CaptureRefusal). HasPackets y (drop len bytes) c.packets c.rest f) (sym same.2) c.has))
 
+-- Units that are no packet were passed over: a packet that is the first from here on is the first from before them.
+pub record Passed (x : Expectation) (bytes : List ℕ) (y : Expectation) (rest : List ℕ) : Type 0 where
+  pub len : ℕ
+  pub rest_is : rest ≡ drop len bytes
+  pub first : (p : PacketValue) (more : ℕ) (z : Expectation) → FirstPacket y rest p more z → FirstPacket x bytes p (len + more) z
+
+pub passed_nothing : (x : Expectation) (bytes : List ℕ) → Passed x bytes x bytes
+passed_nothing x bytes = record { len = 0; rest_is = refl; first = λ p more z is. subst (λ (n : ℕ). FirstPacket x bytes p n z) (omega arith) is }
+
+pub passed_unit : (x y z : Expectation) (bytes rest next : List ℕ) (len : ℕ) → Passed x bytes y rest → Begins rest y len None z → next ≡ drop len rest
+    → Passed x bytes z next
+passed_unit x y z bytes rest next len before begins is = record {
+  len = before.len + len;
+  rest_is = is ∙ ap (drop len) before.rest_is ∙ drop-drop len before.len bytes;
+  first = λ p more w first.
+      subst (λ (n : ℕ). FirstPacket x bytes p n w) (omega arith)
+      (before.first p (len + more) w (later y z w rest p len more begins (subst (λ (l : List ℕ). FirstPacket z l p more w) is first)));
+}
+
 -- a packet is the first of those that were left
-pub gives_packet : (s t : State) (bytes : List ℕ) (len : ℕ) (x : Expectation) (q : CapturedPacket) (packets : List PacketValue) (left : List ℕ) (fault : Option CaptureRefusal) → IsBytes bytes
-    → Begins bytes x len (Some (captured_packet_view q)) t.expected → t.rest ≡ drop len bytes → t.over ≡ false → HasPackets x bytes packets left fault
-    → GivesNext packets left fault s (Some (Ok q)) t
-gives_packet s t bytes len x q packets left fault ok begins rest over has =
+pub gives_packet : (s t : State) (bytes : List ℕ) (len : ℕ) (x : Expectation) (q : CapturedPacket) (packets : List PacketValue) (left : List ℕ)
+    (fault : Option CaptureRefusal) → IsBytes bytes → Passed s.expected s.rest x bytes → Begins bytes x len (Some (captured_packet_view q)) t.expected
+    → t.rest ≡ drop len bytes → t.over ≡ false → HasPackets x bytes packets left fault → GivesNext packets left fault s (Some (Ok q)) t
+gives_packet s t bytes len x q packets left fault ok passed begins rest over has =
     let c = some_packets t.expected (drop len bytes) in
     let p = captured_packet_view q in
     let same = packets_one x bytes packets (p ∷ c.packets) left c.rest fault c.fault ok has (packet x t.expected bytes len p c.packets c.rest c.fault begins c.has) in
     subst (λ (ps : List PacketValue). GivesNext ps left fault s (Some (Ok q)) t) (sym same.0) (
       q,
+      passed.len + len,
       refl,
       refl,
+      passed.first p len t.expected (here x t.expected bytes p len begins),
+      rest ∙ ap (drop len) passed.rest_is ∙ drop-drop len passed.len s.rest,
       subst (λ (l : List ℕ). HasPackets t.expected l c.packets left fault) (sym rest)
           (subst (λ (l : List ℕ). HasPackets t.expected (drop len bytes) c.packets l fault) (sym same.1)
           (subst (λ (f : Option CaptureRefusal). HasPackets t.expected (drop len bytes) c.packets c.rest f) (sym same.2) c.has)),

@@ -81,8 +81,8 @@ abbrev pub units_of : Option ℕ → ℕ
 units_of None = 10 ^ 6
 units_of (Some n) = if nat_lt n 128 then 10 ^ n else 2 ^ (n - 128)
 
--- seconds and an offset, of which the upper half of the numbers of 64 bits are the negative ones; none if they are before 1970, or too
--- many for 64 bits
+-- seconds and an offset, a number of 64 bits whose upper half are the negative ones; none if they are before 1970, or too many for 64
+-- bits
 abbrev pub shifted : (offset seconds : ℕ) → Option ℕ
 shifted offset seconds =
     if nat_lt offset (2 ^ 63) then (if nat_lt (seconds + offset) (2 ^ 64) then Some (seconds + offset) else None)
@@ -114,7 +114,7 @@ pub data Expectation : Type 0 where
   Records : FileHeaderValue → Expectation
   Blocks : Order → List CaptureInterfaceValue → Expectation
 
--- the length of the frame check sequence in the flags of a packet (4.3.1): bits 5 to 8, of which 0 is none that is known
+-- the length of the frame check sequence in the flags of a packet (4.3.1): bits 5 to 8, where 0 is none that is known
 abbrev pub fcs_in_flags : Option ℕ → Option ℕ
 fcs_in_flags None = None
 fcs_in_flags (Some flags) = let n = flags / 2 ^ 5 % 2 ^ 4 in if nat_eq n 0 then None else Some n

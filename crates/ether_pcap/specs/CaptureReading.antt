@@ -1,7 +1,7 @@
 -- A reader of the packets of a file: what it shows at each moment, and what it gives, by the packets that are left to read.
-use Rattle.std.specs.Prelude.{◌≡◌, ℕ, ◌+◌, List, [], ◌∷◌, length, Bool, true, false, Option, Some, None, Result, Ok, Err, if◌then◌else◌}
+use Rattle.std.specs.Prelude.{◌≡◌, ℕ, ◌+◌, List, [], ◌∷◌, length, drop, Bool, true, false, Option, Some, None, Result, Ok, Err, if◌then◌else◌}
 use Rattle.std.specs.Iterator.{Count, at_most}
-use Rattle.ether_pcap.specs.Capture.{PacketValue, Expectation, Beginning, CaptureRefusal, IsEnd, HasPackets}
+use Rattle.ether_pcap.specs.Capture.{PacketValue, Expectation, Beginning, CaptureRefusal, Begins, IsEnd, HasPackets}
 use Rattle.ether_pcap.specs.CaptureViews.{captured_packet_view, capture_refusal_view}
 use Rattle.ether_pcap.specs.declared.captured_packet.CapturedPacket.{CapturedPacket}
 use Rattle.ether_pcap.specs.declared.capture_fault.CaptureFault.{CaptureFault}
@@ -17,14 +17,21 @@ pub record State : Type 0 where
 abbrev pub start : List ℕ → State
 start bytes = record { expected = Beginning; rest = bytes; offset = 0; over = false }
 
+-- The first packet of the bytes is the unit that ends after so many bytes, no unit before it is a packet, and after it this is expected.
+pub data FirstPacket : Expectation → (bytes : List ℕ) → PacketValue → (len : ℕ) → Expectation → Type 0 where
+  here : (x y : Expectation) (bytes : List ℕ) (p : PacketValue) (len : ℕ) → Begins bytes x len (Some p) y → FirstPacket x bytes p len y
+  later : (x y z : Expectation) (bytes : List ℕ) (p : PacketValue) (len more : ℕ) → Begins bytes x len None y
+      → FirstPacket y (drop len bytes) p more z → FirstPacket x bytes p (len + more) z
+
 -- What comes next if these packets, these bytes after them and this refusal are left: nothing, at the end of the file; the refusal
--- with its place, after which nothing comes; the first packet, after which the others are left.
+-- with its place, after which nothing comes; the first packet, right after which reading goes on, and the others are left.
 abbrev pub GivesNext : List PacketValue → (left : List ℕ) → Option CaptureRefusal → State → Option (Result CapturedPacket CaptureFault) → State → Type 0
 GivesNext [] left None s result t = (result ≡ None) × IsEnd t.expected t.rest × (t.over ≡ false)
 GivesNext [] left (Some refusal) s result t =
     (f : CaptureFault) × (result ≡ Some (Err f)) × (capture_refusal_view f.error ≡ refusal) × (f.offset ≡ t.offset) × (t.rest ≡ left) × (t.over ≡ true)
 GivesNext (p ∷ packets) left fault s result t =
-    (q : CapturedPacket) × (result ≡ Some (Ok q)) × (captured_packet_view q ≡ p) × HasPackets t.expected t.rest packets left fault × (t.over ≡ false)
+    (q : CapturedPacket) × (len : ℕ) × (result ≡ Some (Ok q)) × (captured_packet_view q ≡ p) × FirstPacket s.expected s.rest p len t.expected
+    × (t.rest ≡ drop len s.rest) × HasPackets t.expected t.rest packets left fault × (t.over ≡ false)
 
 -- a call of next
 pub record Gives (s : State) (result : Option (Result CapturedPacket CaptureFault)) (t : State) : Type 0 where

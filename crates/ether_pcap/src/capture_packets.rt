@@ -42,7 +42,7 @@ impl<'a> Model for CapturePackets<'a> {
 }
 
 impl<'a> CapturePackets<'a> {
-    /// The packets of a file, of which none was read yet.
+    /// The packets of a file, from the first one on.
     pub fn from_slice(slice: &'a [u8]) -> CapturePackets<'a>
         ensures { result ≡ start slice.now }
     {

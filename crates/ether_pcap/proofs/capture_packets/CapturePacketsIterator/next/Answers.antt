@@ -4,7 +4,7 @@ use Rattle.ether_base.specs.Bytes.{IsBytes}
 use Rattle.ether_pcap.specs.Capture.{HasPackets}
 use Rattle.ether_pcap.specs.CaptureReading.{State}
 use Rattle.ether_pcap.proofs.Records.{rest_after}
-use Rattle.ether_pcap.proofs.CaptureReadingLemmas.{after_unit, gives, gives_packet, gives_none, gives_fault}
+use Rattle.ether_pcap.proofs.CaptureReadingLemmas.{after_unit, passed_nothing, passed_unit, gives, gives_packet, gives_none, gives_fault}
 use Rattle.ether_pcap.proofs.capture_packets.CapturePacketsIterator.next.Goals as goal
 
 pub returns-in-Some-clause-steps : goal.returns-in-Some-clause-steps
@@ -20,7 +20,7 @@ returns-in-Some-clause-steps c =
     let within = c.in-Ok.ensures.within in
     let before = inv.place in
     let g = gives s _ _ c.if-self.false
-    (λ packets l fault has. gives_packet s _ a.rest.now len a.reader c.in-Some.packet packets l fault inv.bytes unit left inv.going (inv.left packets l fault has))
+    (λ packets l fault has. gives_packet s _ a.rest.now len a.reader c.in-Some.packet packets l fault inv.bytes inv.passed unit left inv.going (inv.left packets l fault has))
     (omega (arith, size, within, before)) in
     rw (← c.self.view_is) g
 
@@ -43,6 +43,7 @@ loop-self-preserved c =
       left = λ packets l fault has.
           subst (λ (bytes : List ℕ). HasPackets c.read.new.self bytes packets l fault) (sym left)
           (after_unit a.reader c.read.new.self a.rest.now len packets l fault inv.bytes unit (inv.left packets l fault has));
+      passed = passed_unit _ a.reader c.read.new.self _ a.rest.now _ len inv.passed unit left;
     }
 
 pub returns-in-Err-clause-steps : goal.returns-in-Err-clause-steps
@@ -75,4 +76,5 @@ loop-self-init c = record {
   shrinks = omega arith;
   place = refl;
   left = λ packets l fault has. has;
+  passed = passed_nothing _ _;
 }

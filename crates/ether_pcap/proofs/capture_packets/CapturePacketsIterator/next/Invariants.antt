@@ -1,6 +1,7 @@
 use Rattle.std.proofs.Common.{◌≡◌, ℕ, ◌+◌, ◌≤◌, List, length, Option, false}
 use Rattle.ether_base.specs.Bytes.{IsBytes}
 use Rattle.ether_pcap.specs.Capture.{PacketValue, CaptureRefusal, HasPackets}
+use Rattle.ether_pcap.proofs.CaptureReadingLemmas.{Passed}
 use Rattle.ether_pcap.proofs.capture_packets.CapturePacketsIterator.next.Given as goal
 
 abbrev pub invariant-loop-self : goal.invariant-loop-self
@@ -12,6 +13,7 @@ invariant-loop-self l = record {
   left : (packets : List PacketValue) (left : List ℕ) (fault : Option CaptureRefusal)
       → HasPackets l.initial.self-inside.reader l.initial.self-inside.rest.now packets left fault
       → HasPackets l.self-inside.reader l.self-inside.rest.now packets left fault;
+  passed : Passed l.initial.self-inside.reader l.initial.self-inside.rest.now l.self-inside.reader l.self-inside.rest.now;
 }
 
 abbrev pub decreases-loop-self : goal.decreases-loop-self
