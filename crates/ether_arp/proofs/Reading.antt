@@ -17,7 +17,8 @@ use Rattle.ether_arp.specs.Arp.{BeginsWithArp, HoldsArp}
 
 -- ---- the first eight bytes
 
-number-one : (i : ℕ) (bytes : List ℕ) → i + 1 ≤ length bytes → number (slice_range bytes i (i + 1)) ≡ slice_index bytes i
+number-one : (i : ℕ) (bytes : List ℕ) → i + 1 ≤ length bytes
+    → number (slice_range bytes i (i + 1)) ≡ slice_index bytes i
 number-one i bytes le = ap number (sym (cells-is i 1 bytes le)) ∙ omega arith
 
 pub arp_begins_read : (bytes : List ℕ) → IsBytes bytes → 8 ≤ length bytes → BeginsArp bytes (arp_front_in bytes)
@@ -31,7 +32,10 @@ arp_begins_read bytes ok le =
     let t = number-part_below bytes 0 2 ok (omega arith) in
     let u = number-part_below bytes 2 4 ok (omega arith) in
     let o = number-part_below bytes 6 8 ok le in
-    record { sum = omega arith; fits = record { hardware_type = t; protocol_type = u; hardware_size = ok 4; protocol_size = ok 5; operation = o } }
+    record {
+      sum = omega arith;
+      fits = record { hardware_type = t; protocol_type = u; hardware_size = ok 4; protocol_size = ok 5; operation = o };
+    }
 
 -- what follows them changes nothing
 pub arp_front_of_part : (bytes : List ℕ) (n : ℕ) → 8 ≤ n → arp_front_in (slice_range bytes 0 n) ≡ arp_front_in bytes
@@ -51,7 +55,8 @@ at_same bytes i j k l e f = ap (λ (n : ℕ). bytes_at bytes n k) e ∙ ap (byte
 pub length-at : (bytes : List ℕ) (i k : ℕ) → i + k ≤ length bytes → length (bytes_at bytes i k) ≡ k
 length-at bytes i k le = length-part bytes i (i + k) le ∙ omega arith
 
-pub arp_with_part : (bytes : List ℕ) (f : ArpFront) (n : ℕ) → arp_len f ≤ n → arp_with f (slice_range bytes 0 n) ≡ arp_with f bytes
+pub arp_with_part : (bytes : List ℕ) (f : ArpFront) (n : ℕ) → arp_len f ≤ n
+    → arp_with f (slice_range bytes 0 n) ≡ arp_with f bytes
 arp_with_part bytes f n le =
     let h = f.hardware_size in
     let p = f.protocol_size in
@@ -59,19 +64,37 @@ arp_with_part bytes f n le =
     let b = part_of_front bytes n (8 + h) (8 + h + p) (omega arith) (omega arith) in
     let c = part_of_front bytes n (8 + h + p) (8 + h + p + h) (omega arith) (omega arith) in
     let d = part_of_front bytes n (8 + 2 * h + p) (8 + 2 * h + p + p) (omega arith) (omega arith) in
-    λ i. record { hardware_type = f.hardware_type; protocol_type = f.protocol_type; operation = f.operation; sender_hardware = a i; sender_protocol = b i; target_hardware = c i; target_protocol = d i }
+    λ i.
+    record {
+      hardware_type = f.hardware_type;
+      protocol_type = f.protocol_type;
+      operation = f.operation;
+      sender_hardware = a i;
+      sender_protocol = b i;
+      target_hardware = c i;
+      target_protocol = d i;
+    }
 
 -- the packet of a front of the bytes is theirs
-pub arp_of_part : (bytes : List ℕ) (n : ℕ) → 8 ≤ n → arp_len (arp_front_in bytes) ≤ n → arp_of (slice_range bytes 0 n) ≡ arp_of bytes
+pub arp_of_part : (bytes : List ℕ) (n : ℕ) → 8 ≤ n → arp_len (arp_front_in bytes) ≤ n
+    → arp_of (slice_range bytes 0 n) ≡ arp_of bytes
 arp_of_part bytes n le whole =
-    ap (λ (f : ArpFront). arp_with f (slice_range bytes 0 n)) (arp_front_of_part bytes n le) ∙ arp_with_part bytes (arp_front_in bytes) n whole
+    ap (λ (f : ArpFront). arp_with f (slice_range bytes 0 n)) (arp_front_of_part bytes n le)
+    ∙ arp_with_part bytes (arp_front_in bytes) n whole
 
 -- its front is the one that was read
 pub arp_front_back : (bytes : List ℕ) (f : ArpFront) → arp_len f ≤ length bytes → arp_front_of (arp_with f bytes) ≡ f
 arp_front_back bytes f whole =
     let h = length-at bytes 8 f.hardware_size (omega arith) in
     let p = length-at bytes (8 + f.hardware_size) f.protocol_size (omega arith) in
-    λ i. record { hardware_type = f.hardware_type; protocol_type = f.protocol_type; hardware_size = h i; protocol_size = p i; operation = f.operation }
+    λ i.
+    record {
+      hardware_type = f.hardware_type;
+      protocol_type = f.protocol_type;
+      hardware_size = h i;
+      protocol_size = p i;
+      operation = f.operation;
+    }
 
 arp_is : (bytes : List ℕ) (f : ArpFront) → BeginsArp bytes f → length bytes ≡ arp_len f → IsArp bytes (arp_with f bytes)
 arp_is bytes f begins len =
@@ -100,26 +123,40 @@ arp_means bytes ok begins =
     let part = slice_range bytes 0 n in
     let len : length part ≡ n = length-part bytes 0 n begins.whole ∙ omega arith in
     let read = arp_begins_read bytes ok begins.front in
-    let first : BeginsArp part f = record { sum = ap number (part_of_front bytes n 0 8 (omega arith) (omega arith)) ∙ read.sum; fits = read.fits } in
-    let is : IsArp part (arp_of bytes) = subst (IsArp part) (arp_with_part bytes f n (omega arith)) (arp_is part f first len) in
+    let first : BeginsArp part f = record {
+      sum = ap number (part_of_front bytes n 0 8 (omega arith) (omega arith)) ∙ read.sum;
+      fits = read.fits;
+    } in
+    let is : IsArp part (arp_of bytes) =
+    subst (IsArp part) (arp_with_part bytes f n (omega arith)) (arp_is part f first len) in
     let size : arp_len (arp_front_of (arp_of bytes)) ≡ n = ap arp_len (arp_front_back bytes f wh) in
-    record { whole = omega arith; spells = subst (λ (k : ℕ). IsArp (slice_range bytes 0 k) (arp_of bytes)) (sym size) is }
+    record {
+      whole = omega arith;
+      spells = subst (λ (k : ℕ). IsArp (slice_range bytes 0 k) (arp_of bytes)) (sym size) is;
+    }
 
-pub arp_accepted : (bound : LenSource) (bytes : List ℕ) → IsBytes bytes → BeginsWithArp bytes → Accepts bound bytes kinds.Arp
-arp_accepted bound bytes ok begins = accepts_arp bound bytes (arp_front_in bytes) begins.front (arp_begins_read bytes ok begins.front) begins.whole
+pub arp_accepted : (bound : LenSource) (bytes : List ℕ) → IsBytes bytes → BeginsWithArp bytes
+    → Accepts bound bytes kinds.Arp
+arp_accepted bound bytes ok begins =
+    accepts_arp bound bytes (arp_front_in bytes) begins.front (arp_begins_read bytes ok begins.front) begins.whole
 
 -- bytes that no row refuses begin with a packet
-pub arp_begins_accepted : (bound : LenSource) (bytes : List ℕ) → IsBytes bytes → Accepts bound bytes kinds.Arp → BeginsWithArp bytes
+pub arp_begins_accepted : (bound : LenSource) (bytes : List ℕ) → IsBytes bytes → Accepts bound bytes kinds.Arp
+    → BeginsWithArp bytes
 arp_begins_accepted bound bytes ok accepted =
-    let le : 8 ≤ length bytes = elim (cases_lt (length bytes) 8) [ inl lt ↦ absurd (accepted _ (rows.arp lt)) | inr le ↦ le ] in
+    let le : 8 ≤ length bytes =
+    elim (cases_lt (length bytes) 8) [ inl lt ↦ absurd (accepted _ (rows.arp lt)) | inr le ↦ le ] in
     let f = arp_front_in bytes in
-    let whole : arp_len f ≤ length bytes = elim (cases_lt (length bytes) (arp_len f)) [ inl lt ↦ absurd (accepted _ (rows.arp_addresses f le (arp_begins_read bytes ok le) lt)) | inr le ↦ le ] in
+    let whole : arp_len f ≤ length bytes =
+    elim (cases_lt (length bytes) (arp_len f))
+    [ inl lt ↦ absurd (accepted _ (rows.arp_addresses f le (arp_begins_read bytes ok le) lt)) | inr le ↦ le ] in
     record { front = le; whole = whole }
 
 -- ---- views
 
 -- the bytes of a packet alone hold it
-pub holds_part : (bytes : List ℕ) (n : ℕ) → BeginsWithArp bytes → n ≡ arp_len (arp_front_in bytes) → HoldsArp (slice_range bytes 0 n)
+pub holds_part : (bytes : List ℕ) (n : ℕ) → BeginsWithArp bytes → n ≡ arp_len (arp_front_in bytes)
+    → HoldsArp (slice_range bytes 0 n)
 holds_part bytes n begins e =
     let fr = begins.front in
     let wh = begins.whole in
@@ -130,11 +167,13 @@ holds_part bytes n begins e =
 pub begins_of_holds : (bytes : List ℕ) → HoldsArp bytes → BeginsWithArp bytes
 begins_of_holds bytes h = let w = h.whole in record { front = h.front; whole = omega arith }
 
-pub means_part : (bytes : List ℕ) (n : ℕ) → IsBytes bytes → BeginsWithArp bytes → n ≡ arp_len (arp_front_in bytes) → Means bytes (headers.Arp (arp_of (slice_range bytes 0 n)))
+pub means_part : (bytes : List ℕ) (n : ℕ) → IsBytes bytes → BeginsWithArp bytes → n ≡ arp_len (arp_front_in bytes)
+    → Means bytes (headers.Arp (arp_of (slice_range bytes 0 n)))
 means_part bytes n ok begins e =
     let fr = begins.front in
     let wh = begins.whole in
-    subst (λ (a : ArpValue). Means bytes (headers.Arp a)) (sym (arp_of_part bytes n (omega arith) (omega arith))) (arp_means bytes ok begins)
+    subst (λ (a : ArpValue). Means bytes (headers.Arp a)) (sym (arp_of_part bytes n (omega arith) (omega arith)))
+    (arp_means bytes ok begins)
 
 -- ---- what bytes mean fits
 

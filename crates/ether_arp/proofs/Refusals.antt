@@ -34,7 +34,8 @@ accepts_addrs s p t q h e ls lp d (rows.protocol_unequal f n) = n e
 accepts_addrs s p t q h e ls lp d (rows.hardware_too_long f g lt) = omega arith
 accepts_addrs s p t q h e ls lp d (rows.protocol_too_long f g le lt) = omega arith
 
-pub accepts_eth_ipv4 : (a : ArpValue) → a.hardware_type ≡ 1 → a.protocol_type ≡ 2048 → length a.sender_hardware ≡ 6 → length a.sender_protocol ≡ 4 → AcceptsEthIpv4 a
+pub accepts_eth_ipv4 : (a : ArpValue) → a.hardware_type ≡ 1 → a.protocol_type ≡ 2048 → length a.sender_hardware ≡ 6
+    → length a.sender_protocol ≡ 4 → AcceptsEthIpv4 a
 accepts_eth_ipv4 a t u h p d (readings.hardware_type n) = n t
 accepts_eth_ipv4 a t u h p d (readings.protocol_type e n) = n u
 accepts_eth_ipv4 a t u h p d (readings.hardware_size e f n) = n h
@@ -95,14 +96,16 @@ one_eth_ipv4 a d e (readings.protocol_size r s k n) (readings.protocol_size t u 
 pub decide_hw : (s t : ℕ) → ((e : ArpHwAddrError) × RefusesHwAddrs s t e) ⊎ AcceptsHwAddrs s t
 decide_hw s t =
     elim (cases_eq s t) [
-      | inl e ↦ elim (cases_lt 255 s) [ inl lt ↦ inl (hw.LenTooBig s, rows.hw_too_long e lt) | inr le ↦ inr (accepts_hw s t e le) ]
+      | inl e ↦ elim (cases_lt 255 s)
+          [ inl lt ↦ inl (hw.LenTooBig s, rows.hw_too_long e lt) | inr le ↦ inr (accepts_hw s t e le) ]
       | inr n ↦ inl (hw.LenNonMatching s t, rows.hw_unequal n)
     ]
 
 pub decide_proto : (s t : ℕ) → ((e : ArpProtoAddrError) × RefusesProtoAddrs s t e) ⊎ AcceptsProtoAddrs s t
 decide_proto s t =
     elim (cases_eq s t) [
-      | inl e ↦ elim (cases_lt 255 s) [ inl lt ↦ inl (proto.LenTooBig s, rows.proto_too_long e lt) | inr le ↦ inr (accepts_proto s t e le) ]
+      | inl e ↦ elim (cases_lt 255 s)
+          [ inl lt ↦ inl (proto.LenTooBig s, rows.proto_too_long e lt) | inr le ↦ inr (accepts_proto s t e le) ]
       | inr n ↦ inl (proto.LenNonMatching s t, rows.proto_unequal n)
     ]
 
@@ -112,7 +115,11 @@ decide_new s p t q =
       | inl h ↦ elim (cases_eq p q) [
         | inl e ↦ elim (cases_lt 255 s) [
           | inl lt ↦ inl (HwAddr (hw.LenTooBig s), rows.hardware_too_long h e lt)
-          | inr le ↦ elim (cases_lt 255 p) [ inl lt ↦ inl (ProtoAddr (proto.LenTooBig p), rows.protocol_too_long h e le lt) | inr ke ↦ inr (accepts_addrs s p t q h e le ke) ]
+          | inr le ↦ elim (cases_lt 255 p) [
+            | inl lt ↦ inl (ProtoAddr (proto.LenTooBig p), rows.protocol_too_long h e le lt)
+            | inr ke ↦ inr
+                (accepts_addrs s p t q h e le ke)
+          ]
         ]
         | inr n ↦ inl (ProtoAddr (proto.LenNonMatching p q), rows.protocol_unequal h n)
       ]
@@ -153,14 +160,26 @@ agrees a b h = eqb-true a b (equal (eqb a b) h)
 
 -- ---- the rows of a value whose numbers are known
 
-pub row_hardware_type : (a : ArpValue) (hardware : ArpHardwareId) → a.hardware_type ≡ hardware.0 → (hardware.0 ≡ 1 → ⊥) → RefusesEthIpv4 a (NonMatchingHwType hardware)
-row_hardware_type a hardware e n = subst (λ (k : ArpHardwareId). RefusesEthIpv4 a (NonMatchingHwType k)) (λ i. record { 0 = e i }) (readings.hardware_type (λ f. n (sym e ∙ f)))
+pub row_hardware_type : (a : ArpValue) (hardware : ArpHardwareId) → a.hardware_type ≡ hardware.0 → (hardware.0 ≡ 1 → ⊥)
+    → RefusesEthIpv4 a (NonMatchingHwType hardware)
+row_hardware_type a hardware e n =
+    subst (λ (k : ArpHardwareId). RefusesEthIpv4 a (NonMatchingHwType k)) (λ i. record { 0 = e i })
+    (readings.hardware_type (λ f. n (sym e ∙ f)))
 
-pub row_protocol_type : (a : ArpValue) (protocol : EtherType) → a.hardware_type ≡ 1 → a.protocol_type ≡ protocol.0 → (protocol.0 ≡ 2048 → ⊥) → RefusesEthIpv4 a (NonMatchingProtocolType protocol)
-row_protocol_type a protocol t e n = subst (λ (k : EtherType). RefusesEthIpv4 a (NonMatchingProtocolType k)) (λ i. record { 0 = e i }) (readings.protocol_type t (λ f. n (sym e ∙ f)))
+pub row_protocol_type : (a : ArpValue) (protocol : EtherType) → a.hardware_type ≡ 1 → a.protocol_type ≡ protocol.0
+    → (protocol.0 ≡ 2048 → ⊥) → RefusesEthIpv4 a (NonMatchingProtocolType protocol)
+row_protocol_type a protocol t e n =
+    subst (λ (k : EtherType). RefusesEthIpv4 a (NonMatchingProtocolType k)) (λ i. record { 0 = e i })
+    (readings.protocol_type t (λ f. n (sym e ∙ f)))
 
-pub row_hardware_size : (a : ArpValue) (size : ℕ) → a.hardware_type ≡ 1 → a.protocol_type ≡ 2048 → size ≡ length a.sender_hardware → (size ≡ 6 → ⊥) → RefusesEthIpv4 a (NonMatchingHwAddrSize size)
-row_hardware_size a size t u e n = subst (λ (k : ℕ). RefusesEthIpv4 a (NonMatchingHwAddrSize k)) (sym e) (readings.hardware_size t u (λ f. n (e ∙ f)))
+pub row_hardware_size : (a : ArpValue) (size : ℕ) → a.hardware_type ≡ 1 → a.protocol_type ≡ 2048
+    → size ≡ length a.sender_hardware → (size ≡ 6 → ⊥) → RefusesEthIpv4 a (NonMatchingHwAddrSize size)
+row_hardware_size a size t u e n =
+    subst (λ (k : ℕ). RefusesEthIpv4 a (NonMatchingHwAddrSize k)) (sym e) (readings.hardware_size t u (λ f. n (e ∙ f)))
 
-pub row_protocol_size : (a : ArpValue) (size : ℕ) → a.hardware_type ≡ 1 → a.protocol_type ≡ 2048 → length a.sender_hardware ≡ 6 → size ≡ length a.sender_protocol → (size ≡ 4 → ⊥) → RefusesEthIpv4 a (NonMatchingProtoAddrSize size)
-row_protocol_size a size t u h e n = subst (λ (k : ℕ). RefusesEthIpv4 a (NonMatchingProtoAddrSize k)) (sym e) (readings.protocol_size t u h (λ f. n (e ∙ f)))
+pub row_protocol_size : (a : ArpValue) (size : ℕ) → a.hardware_type ≡ 1 → a.protocol_type ≡ 2048
+    → length a.sender_hardware ≡ 6 → size ≡ length a.sender_protocol → (size ≡ 4 → ⊥)
+    → RefusesEthIpv4 a (NonMatchingProtoAddrSize size)
+row_protocol_size a size t u h e n =
+    subst (λ (k : ℕ). RefusesEthIpv4 a (NonMatchingProtoAddrSize k)) (sym e)
+    (readings.protocol_size t u h (λ f. n (e ∙ f)))

@@ -23,8 +23,10 @@ cells-is i (suc k) list le =
 
 -- an array is its elements
 pub cells-all : (k : ℕ) (list : List ℕ) → length list ≡ k → cells 0 k list ≡ list
-cells-all k list len = cells-is 0 k list (omega arith) ∙ ap (slice_range list 0) (omega arith) ∙ part_all list k (omega arith)
+cells-all k list len =
+    cells-is 0 k list (omega arith) ∙ ap (slice_range list 0) (omega arith) ∙ part_all list k (omega arith)
 
 -- two bytes, the first of them the higher one
-pub number-two : (i : ℕ) (list : List ℕ) → i + 2 ≤ length list → number (slice_range list i (i + 2)) ≡ get_or list i 0 * 256 + get_or list (i + 1) 0
+pub number-two : (i : ℕ) (list : List ℕ) → i + 2 ≤ length list
+    → number (slice_range list i (i + 2)) ≡ get_or list i 0 * 256 + get_or list (i + 1) 0
 number-two i list le = ap number (sym (cells-is i 2 list le)) ∙ omega arith

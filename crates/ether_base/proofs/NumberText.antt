@@ -11,7 +11,10 @@ pub description_in-append : (first second : List (ℕ × List ℕ)) (number : �
     → description_in (first ++ second) number ≡ option_or (description_in first number) (description_in second number)
 description_in-append [] second number = refl
 description_in-append (row ∷ rows) second number =
-    elim (number == row.0) as (λ b. (if b then Some row.1 else description_in (rows ++ second) number) ≡ option_or (if b then Some row.1 else description_in rows number) (description_in second number))
+    elim (number == row.0) as
+    (λ b.
+    (if b then Some row.1 else description_in (rows ++ second) number)
+    ≡ option_or (if b then Some row.1 else description_in rows number) (description_in second number))
     [ true ↦ refl | false ↦ description_in-append rows second number ]
 
 -- one hexadecimal digit more
@@ -20,13 +23,22 @@ last_digit : (turns n : ℕ) (digits_after : List ℕ) → n < 16
 last_digit turns n digits_after small =
     let none : n / 16 ≡ 0 = omega arith in
     let same : n % 16 ≡ n = omega arith in
-    ap (λ (b : Bool). cond b (digit_glyph true (n % 16) ∷ digits_after) (digits_onto turns 16 true (n / 16) (digit_glyph true (n % 16) ∷ digits_after))) (eq-eqb _ 0 none)
+    ap
+    (λ (b : Bool).
+    cond b (digit_glyph true (n % 16) ∷ digits_after)
+    (digits_onto turns 16 true (n / 16) (digit_glyph true (n % 16) ∷ digits_after)))
+    (eq-eqb _ 0 none)
     ∙ ap (λ d. digit_glyph true d ∷ digits_after) same
 
 more_digits : (turns n : ℕ) (digits_after : List ℕ) → 16 ≤ n
-    → digits_onto (suc turns) 16 true n digits_after ≡ digits_onto turns 16 true (n / 16) (digit_glyph true (n % 16) ∷ digits_after)
+    → digits_onto (suc turns) 16 true n digits_after
+    ≡ digits_onto turns 16 true (n / 16) (digit_glyph true (n % 16) ∷ digits_after)
 more_digits turns n digits_after large =
-    ap (λ (b : Bool). cond b (digit_glyph true (n % 16) ∷ digits_after) (digits_onto turns 16 true (n / 16) (digit_glyph true (n % 16) ∷ digits_after))) (ne_eqb _ 0 (λ e. omega arith))
+    ap
+    (λ (b : Bool).
+    cond b (digit_glyph true (n % 16) ∷ digits_after)
+    (digits_onto turns 16 true (n / 16) (digit_glyph true (n % 16) ∷ digits_after)))
+    (ne_eqb _ 0 (λ e. omega arith))
 
 one_digit : (n : ℕ) → n < 16 → digits 16 true n ≡ digit_glyph true n ∷ []
 unfolding digits
@@ -38,7 +50,8 @@ two_digits n large small =
     more_digits 63 n [] large ∙ last_digit 62 (n / 16) (digit_glyph true (n % 16) ∷ []) (omega arith)
 
 three_digits : (n : ℕ) → 256 ≤ n → n < 4096
-    → digits 16 true n ≡ digit_glyph true (n / 16 / 16) ∷ digit_glyph true (n / 16 % 16) ∷ digit_glyph true (n % 16) ∷ []
+    → digits 16 true n
+    ≡ digit_glyph true (n / 16 / 16) ∷ digit_glyph true (n / 16 % 16) ∷ digit_glyph true (n % 16) ∷ []
 unfolding digits
 three_digits n large small =
     let last : List ℕ = digit_glyph true (n % 16) ∷ [] in
@@ -47,7 +60,9 @@ three_digits n large small =
     ∙ last_digit 61 (n / 16 / 16) (digit_glyph true (n / 16 % 16) ∷ last) (omega arith)
 
 all_digits : (n : ℕ) → 4096 ≤ n → n < 65536
-    → digits 16 true n ≡ digit_glyph true (n / 16 / 16 / 16) ∷ digit_glyph true (n / 16 / 16 % 16) ∷ digit_glyph true (n / 16 % 16) ∷ digit_glyph true (n % 16) ∷ []
+    → digits 16 true n
+    ≡ digit_glyph true (n / 16 / 16 / 16) ∷ digit_glyph true (n / 16 / 16 % 16) ∷ digit_glyph true (n / 16 % 16)
+    ∷ digit_glyph true (n % 16) ∷ []
 unfolding digits
 all_digits n large small =
     let last : List ℕ = digit_glyph true (n % 16) ∷ [] in

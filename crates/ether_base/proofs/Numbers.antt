@@ -24,7 +24,8 @@ IsBytes-append (x ∷ a) b ha hb = IsBytes-cons x (a ++ b) (ha 0) (IsBytes-appen
 pub number_below : (bytes : List ℕ) → IsBytes bytes → number bytes < 256 ^ length bytes
 number_below [] h = omega arith
 number_below (b ∷ bytes) h =
-    rw pow-suc (mul-add-lt b (256 ^ length bytes) (number bytes) 256 (h 0) (number_below bytes (IsBytes-tail b bytes h)))
+    rw pow-suc
+    (mul-add-lt b (256 ^ length bytes) (number bytes) 256 (h 0) (number_below bytes (IsBytes-tail b bytes h)))
 
 pub number_injective : (a b : List ℕ) → length a ≡ length b → IsBytes a → IsBytes b → number a ≡ number b → a ≡ b
 number_injective [] [] len ha hb e = refl
@@ -32,8 +33,11 @@ number_injective [] (y ∷ b) len ha hb e = absurd (omega arith)
 number_injective (x ∷ a) [] len ha hb e = absurd (omega arith)
 number_injective (x ∷ a) (y ∷ b) len ha hb e =
     let short : length a ≡ length b = omega arith in
-    let e' : x * 256 ^ length a + number a ≡ y * 256 ^ length a + number b = e ∙ ap (λ (k : ℕ). y * 256 ^ k + number b) (sym short) in
-    let both = same_from_place x (number a) y (number b) (256 ^ length a) (number_below a (IsBytes-tail x a ha)) (rw short (number_below b (IsBytes-tail y b hb))) e' in
+    let e' : x * 256 ^ length a + number a ≡ y * 256 ^ length a + number b =
+    e ∙ ap (λ (k : ℕ). y * 256 ^ k + number b) (sym short) in
+    let both =
+    same_from_place x (number a) y (number b) (256 ^ length a) (number_below a (IsBytes-tail x a ha))
+    (rw short (number_below b (IsBytes-tail y b hb))) e' in
     let rest = number_injective a b short (IsBytes-tail x a ha) (IsBytes-tail y b hb) both.1 in
     cc (both.0, rest)
 
@@ -55,7 +59,9 @@ pos_256 (suc k) = let h = pos_256 k in rw pow-suc (omega arith)
 number_spelled_mod : (k n : ℕ) → number (spelled k n) ≡ n % 256 ^ k
 unfolding spelled
 number_spelled_mod zero n = omega arith
-number_spelled_mod (suc k) n = rw (length-spelled k n, number_spelled_mod k n, pow-suc, mul_comm (256 ^ k) 256) (sym (mod-mul n {m = 256} {c = 256 ^ k} (omega arith) (pos_256 k)))
+number_spelled_mod (suc k) n =
+    rw (length-spelled k n, number_spelled_mod k n, pow-suc, mul_comm (256 ^ k) 256)
+    (sym (mod-mul n {m = 256} {c = 256 ^ k} (omega arith) (pos_256 k)))
 
 -- what was spelled is read again
 pub number-spelled : (k n : ℕ) → n < 256 ^ k → number (spelled k n) ≡ n
@@ -64,7 +70,9 @@ number-spelled k n lt = number_spelled_mod k n ∙ mod-eq_of_lt lt
 -- what was read is spelled so
 pub spelled-number : (bytes : List ℕ) → IsBytes bytes → spelled (length bytes) (number bytes) ≡ bytes
 spelled-number bytes h =
-    number_injective (spelled (length bytes) (number bytes)) bytes (length-spelled (length bytes) (number bytes)) (IsBytes-spelled (length bytes) (number bytes)) h (number-spelled (length bytes) (number bytes) (number_below bytes h))
+    number_injective (spelled (length bytes) (number bytes)) bytes (length-spelled (length bytes) (number bytes))
+    (IsBytes-spelled (length bytes) (number bytes)) h
+    (number-spelled (length bytes) (number bytes) (number_below bytes h))
 
 -- k bytes are those of their number
 pub spelled-is : (k : ℕ) (bytes : List ℕ) → length bytes ≡ k → IsBytes bytes → spelled k (number bytes) ≡ bytes
@@ -72,17 +80,23 @@ spelled-is k bytes len ok = ap (λ (n : ℕ). spelled n (number bytes)) (sym len
 
 -- the two bytes of a number
 pub IsBytes-two : (n : ℕ) → IsBytes (n / 256 % 256 ∷ n % 256 ∷ [])
-IsBytes-two n = IsBytes-cons (n / 256 % 256) (n % 256 ∷ []) (omega arith) (IsBytes-cons (n % 256) [] (omega arith) IsBytes-nil)
+IsBytes-two n =
+    IsBytes-cons (n / 256 % 256) (n % 256 ∷ []) (omega arith) (IsBytes-cons (n % 256) [] (omega arith) IsBytes-nil)
 
-pub IsBytes-six : (a b c d e f : ℕ) → a < 256 → b < 256 → c < 256 → d < 256 → e < 256 → f < 256 → IsBytes (a ∷ b ∷ c ∷ d ∷ e ∷ f ∷ [])
+pub IsBytes-six : (a b c d e f : ℕ) → a < 256 → b < 256 → c < 256 → d < 256 → e < 256 → f < 256
+    → IsBytes (a ∷ b ∷ c ∷ d ∷ e ∷ f ∷ [])
 IsBytes-six a b c d e f ha hb hc hd he hf =
-    IsBytes-cons a (b ∷ c ∷ d ∷ e ∷ f ∷ []) ha (IsBytes-cons b (c ∷ d ∷ e ∷ f ∷ []) hb (IsBytes-cons c (d ∷ e ∷ f ∷ []) hc (IsBytes-cons d (e ∷ f ∷ []) hd (IsBytes-cons e (f ∷ []) he (IsBytes-cons f [] hf IsBytes-nil)))))
+    IsBytes-cons a (b ∷ c ∷ d ∷ e ∷ f ∷ []) ha
+    (IsBytes-cons b (c ∷ d ∷ e ∷ f ∷ []) hb
+    (IsBytes-cons c (d ∷ e ∷ f ∷ []) hc
+    (IsBytes-cons d (e ∷ f ∷ []) hd (IsBytes-cons e (f ∷ []) he (IsBytes-cons f [] hf IsBytes-nil)))))
 
 -- two lists, one after the other
 pub number-append : (a b : List ℕ) → number (a ++ b) ≡ number a * 256 ^ length b + number b
 number-append [] b = omega arith
 number-append (x ∷ a) b =
-    let p : x * 256 ^ length (a ++ b) ≡ x * (256 ^ length a * 256 ^ length b) = ap (λ (k : ℕ). x * 256 ^ k) (length-append a b) ∙ ap (λ (k : ℕ). x * k) (pow-add 256 (length a) (length b)) in
+    let p : x * 256 ^ length (a ++ b) ≡ x * (256 ^ length a * 256 ^ length b) =
+    ap (λ (k : ℕ). x * 256 ^ k) (length-append a b) ∙ ap (λ (k : ℕ). x * k) (pow-add 256 (length a) (length b)) in
     let e = number-append a b in
     omega arith
 

@@ -69,7 +69,8 @@ len_sources_by_place len_sources.UdpHeaderLen = search rules
 len_sources_by_place len_sources.TcpHeaderLen = search rules
 len_sources_by_place len_sources.ArpAddrLengths = search rules
 
-pub protocol_types_by_place : (a b : LinuxSllProtocolType) → protocol_type_cmp a b ≡ then_cmp (on protocol_place nat_cmp) (on protocol_number nat_cmp) a b
+pub protocol_types_by_place : (a b : LinuxSllProtocolType)
+    → protocol_type_cmp a b ≡ then_cmp (on protocol_place nat_cmp) (on protocol_number nat_cmp) a b
 protocol_types_by_place (protocol_types.Ignored number) = search rules
 protocol_types_by_place (protocol_types.NetlinkProtocolType number) = search rules
 protocol_types_by_place (protocol_types.GenericRoutingEncapsulationProtocolType number) = search rules

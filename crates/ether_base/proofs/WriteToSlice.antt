@@ -1,4 +1,5 @@
--- A header's `write_to_slice`: its `put` writes the front and hands the whole slice back, and `rest_from` lends the rest. One walk, at any header
+-- A header's `write_to_slice`: its `put` writes the front and hands the whole slice back, and `rest_from` lends the rest.
+-- One walk, at any header
 -- type, any width and any layer.
 use Rattle.std.proofs.Common.{◌≡◌, ℕ, ◌^◌, ◌<◌, ◌≤◌, List, [], ◌∷◌, ◌++◌, length, refl, ap, ltb→lt, T, ltb, w8, w64, MutBor}
 use Rattle.std.specs.Prelude.{drop as drop_list, take, Result}
@@ -52,19 +53,32 @@ Answer κ = row_of (MutSlice (named 1) κ u8) SE.the_row
 -- ---- the two contracts, at a header type R and its bytes
 module _ (R : RattleType) where
   abbrev pub signature : Signature
-  signature = record { lifetimes = 2; outlives = []; params = shr_ref_to (0 ∷ []) tt (plain (λ _. R)) ∷ mut_slice_of (1 ∷ []) tt (plain (λ _. u8)) ∷ []; result = plain (λ κs. Answer κs.1.0) }
+  signature = record {
+    lifetimes = 2;
+    outlives = [];
+    params = shr_ref_to (0 ∷ []) tt (plain (λ _. R)) ∷ mut_slice_of (1 ∷ []) tt (plain (λ _. u8)) ∷ [];
+    result = plain (λ κs. Answer κs.1.0);
+  }
 
   abbrev pub ended : Ended
   ended = record { signature = signature; kept = (yes, (no, tt)) }
 
   abbrev pub put_signature : Signature
-  put_signature = record { lifetimes = 2; outlives = []; params = shr_ref_to (0 ∷ []) tt (plain (λ _. R)) ∷ mut_slice_of (1 ∷ []) tt (plain (λ _. u8)) ∷ []; result = mut_slice_of (1 ∷ []) tt (plain (λ _. u8)) }
+  put_signature = record {
+    lifetimes = 2;
+    outlives = [];
+    params = shr_ref_to (0 ∷ []) tt (plain (λ _. R)) ∷ mut_slice_of (1 ∷ []) tt (plain (λ _. u8)) ∷ [];
+    result = mut_slice_of (1 ∷ []) tt (plain (λ _. u8));
+  }
 
   abbrev pub put_ended : Ended
   put_ended = record { signature = put_signature; kept = (yes, (no, tt)) }
 
   abbrev pub stayed : Stays (signature).params (ended).kept
-  stayed = (stay_dropped (shr_ref_to (0 ∷ []) tt (plain (λ _. R))) yes, (stay_dropped (mut_slice_of (1 ∷ []) tt (plain (λ _. u8))) no, tt))
+  stayed = (
+    stay_dropped (shr_ref_to (0 ∷ []) tt (plain (λ _. R))) yes,
+    (stay_dropped (mut_slice_of (1 ∷ []) tt (plain (λ _. u8))) no, tt),
+  )
 
   module _ {M : Type 1} {𝓤 : Ura M} (𝓛 : Logic 𝓤) (bytes : R.Denot → List ℕ) (m : ℕ) (layer : Layer) where
     abbrev pub clauses : Clauses 𝓤 ended
@@ -78,7 +92,10 @@ module _ (R : RattleType) where
     put_clauses κs a = record {
       ghost = Unit {0};
       requires = λ _. emp 𝓤;
-      ensures = λ _ r _. sep 𝓤 (fact 𝓤 (r.ghost_name ≡ a.1.0.ghost_name)) (sep 𝓤 (fact 𝓤 (m ≤ length a.1.0.now → r.now ≡ bytes a.0.now ++ drop_list m a.1.0.now))
+      ensures =
+          λ _ r _.
+          sep 𝓤 (fact 𝓤 (r.ghost_name ≡ a.1.0.ghost_name))
+          (sep 𝓤 (fact 𝓤 (m ≤ length a.1.0.now → r.now ≡ bytes a.0.now ++ drop_list m a.1.0.now))
           (sep 𝓤 (fact 𝓤 (length a.1.0.now < m → r.now ≡ a.1.0.now)) (fact 𝓤 (length (bytes a.0.now) ≡ m))));
     }
 
@@ -91,7 +108,9 @@ ref = ty_ref erased mut byte
 
 -- `from = &mut s[..]` at local s, by way of the locals p and d
 abbrev relends : ℕ → ℕ → ℕ → Body → Body
-relends s p d rest = seq (assign (place p []) (addr_of (place s (field 0 ∷ deref byte ∷ [])))) (seq (assign (place d []) (aggregate (copy (place p []) ∷ copy (place s (field 1 ∷ [])) ∷ []))) rest)
+relends s p d rest =
+    seq (assign (place p []) (addr_of (place s (field 0 ∷ deref byte ∷ []))))
+    (seq (assign (place d []) (aggregate (copy (place p []) ∷ copy (place s (field 1 ∷ [])) ∷ []))) rest)
 
 abbrev pub function : Ty → Callee → Callee → ℕ → ℕ → Fn
 function τ put rest m tag = record {
@@ -100,59 +119,122 @@ function τ put rest m tag = record {
   ty_params = [];
   givens = 0;
   params = 2;
-  locals = local (layout (Answer [])) value_local ∷ local (ty_ref (named 0) imm τ) value_local ∷ local (slice_ty (ty_ref (named 1) mut byte)) value_local ∷ local (slice_ty ref) value_local
-      ∷ local ref value_local ∷ local (slice_ty ref) value_local ∷ local ref value_local ∷ local (slice_ty ref) value_local ∷ local (layout layers.the_row) value_local ∷ [];
-  body = relends 2 4 5 (seq (call put (copy (place 1 []) ∷ copy (place 5 []) ∷ []) (place 3 [])) (relends 3 6 7 (seq (assign (place 8 []) (aggregate (int w8 tag ∷ []))) (seq (call rest (copy (place 7 []) ∷ int w64 m ∷ copy (place 8 []) ∷ []) (place 0 [])) return))));
+  locals =
+      local (layout (Answer [])) value_local ∷ local (ty_ref (named 0) imm τ) value_local ∷ local
+      (slice_ty (ty_ref (named 1) mut byte)) value_local ∷ local (slice_ty ref) value_local
+      ∷ local ref value_local ∷ local (slice_ty ref) value_local ∷ local ref value_local ∷ local (slice_ty ref)
+      value_local ∷ local (layout layers.the_row) value_local ∷ [];
+  body =
+      relends 2 4 5
+      (seq (call put (copy (place 1 []) ∷ copy (place 5 []) ∷ []) (place 3 []))
+      (relends 3 6 7
+      (seq (assign (place 8 []) (aggregate (int w8 tag ∷ [])))
+      (seq (call rest (copy (place 7 []) ∷ int w64 m ∷ copy (place 8 []) ∷ []) (place 0 [])) return))));
 }
 
-module _ (R : RattleType) (#put : Callee) (m : ℕ) (small : T (ltb m (2 ^ bits w64))) (layer : Layer) (tag : ℕ) (byte_tag : T (ltb tag (2 ^ bits w8))) (is_layer : Is layers.the_row layer (live tag vnil ∷ [])) {M : Type 1} {𝓤 : Ura M} (𝓛 : Logic 𝓤) (𝓜 : Model 𝓤 𝓛.H) (𝓡 : Running 𝓤 𝓛.H 𝓜) (bytes : R.Denot → List ℕ) where
+module _ (R : RattleType) (#put : Callee) (m : ℕ) (small : T (ltb m (2 ^ bits w64))) (layer : Layer) (tag : ℕ)
+    (byte_tag : T (ltb tag (2 ^ bits w8))) (is_layer : Is layers.the_row layer (live tag vnil ∷ [])) {M : Type 1}
+    {𝓤 : Ura M} (𝓛 : Logic 𝓤) (𝓜 : Model 𝓤 𝓛.H) (𝓡 : Running 𝓤 𝓛.H 𝓜) (bytes : R.Denot → List ℕ) where
   open 𝓛 use {H}
 
   abbrev 𝓣 : MachineTables 𝓤 H 𝓜
   𝓣 = tables 𝓤 H 𝓜 𝓡 𝓡.env
 
   pub meets : (#self : Callee) → Closed 𝓤 H 𝓣.C 𝓣.Λ #self (function (pointee R.written) #put #rest_from m tag)
-      → Meets 𝓛 (put_signature R) (𝓣.C #put) (closing 𝓛 (put_ended R) (put_clauses R 𝓛 bytes m layer)) → Meets 𝓛 g.signature (𝓣.C #rest_from) (g.spec 𝓛 𝓜.mem 𝓡.returns)
+      → Meets 𝓛 (put_signature R) (𝓣.C #put) (closing 𝓛 (put_ended R) (put_clauses R 𝓛 bytes m layer))
+      → Meets 𝓛 g.signature (𝓣.C #rest_from) (g.spec 𝓛 𝓜.mem 𝓡.returns)
       → Meets 𝓛 (signature R) (𝓣.C #self) (closing 𝓛 (ended R) (clauses R 𝓛 bytes m layer))
   meets #self closed met-put met-rest =
       let c = clauses R 𝓛 bytes m layer in let W = walk_of 𝓛 (ended R) (stayed R) c in
-      proved 𝓛 (ended R) (stayed R) c 𝓜 𝓡 (Goes-dropped 𝓛 2 (shr_ref_to (0 ∷ []) tt (plain (λ _. R))) yes (λ κs x f. refl), (Goes-spent_slice 𝓛 2 (1 ∷ []) tt (plain (λ _. u8)), tt))
+      proved 𝓛 (ended R) (stayed R) c 𝓜 𝓡 (
+        Goes-dropped 𝓛 2 (shr_ref_to (0 ∷ []) tt (plain (λ _. R))) yes (λ κs x f. refl),
+        (Goes-spent_slice 𝓛 2 (1 ∷ []) tt (plain (λ _. u8)), tt),
+      )
       #self (function (pointee R.written) #put #rest_from m tag) closed
-      (λ κs. (shr_vals, (mut_slice_vals, tt))) (λ κs. (shr_Tells (named 0) κs.0 R, (mut_slice_Tells (named 1) κs.1.0 u8, tt))) (λ κs qs bounds a _ are.
-      let κ = κs.1.0 in let q = qs.1.0 in let self = a.0 in let out = a.1.0 in let old = out.now in let bs = bytes self.now in let n = length old in
+      (λ κs. (shr_vals, (mut_slice_vals, tt)))
+      (λ κs. (shr_Tells (named 0) κs.0 R, (mut_slice_Tells (named 1) κs.1.0 u8, tt))) (λ κs qs bounds a _ are.
+      let κ = κs.1.0 in
+      let q = qs.1.0 in
+      let self = a.0 in
+      let out = a.1.0 in
+      let old = out.now in
+      let bs = bytes self.now in
+      let n = length old in
       let Lent : RattleType = MutSlice (named 1) κ u8 in
       let typed = ((layer_laws.the_row_laws).lawful 𝓛).typed layer (live tag vnil ∷ []) is_layer in
       let fn : n < 2 ^ 64 = are.1.0.0.1.0 in let fm : m < 2 ^ 64 = ltb→lt m (2 ^ bits w64) small in
       let y : W.Ghost = ((κs, qs, bounds, a, (shr_vals self, (mut_slice_vals out, tt))), tt) in
-      let P = triple_of 𝓛 (put_signature R) (closing 𝓛 (put_ended R) (put_clauses R 𝓛 bytes m layer)) in let z : P.Ghost = y in
+      let P = triple_of 𝓛 (put_signature R) (closing 𝓛 (put_ended R) (put_clauses R 𝓛 bytes m layer)) in
+      let z : P.Ghost = y in
       qed 𝓛 (raw (P.pre z) ∷ []) ∵ enter ! _ _ _ _ _ $
       alloc_all ! (λ l. pass_all ! refl ((tt, tt), ((tt, (tt, (record { fits = fn }, tt))), tt)) $
       sets ! (addr ! (from ! (fld ! refl (hop ! (look_in_at ! 2 (sub ! 0 refl (whole !))) (stop !))))) refl (tt, tt) $
-      sets ! (agg ! (and_then ! (get ! refl) (and_then ! (get_in ! (fld ! refl (stop !)) (sub ! 1 refl (whole !))) (no_more !)))) refl (tt, (tt, (record { fits = fn }, tt))) $
+      sets !
+      (agg !
+      (and_then ! (get ! refl)
+      (and_then ! (get_in ! (fld ! refl (stop !)) (sub ! 1 refl (whole !))) (no_more !))))
+      refl (tt, (tt, (record { fits = fn }, tt))) $
       calls_at ! (framed 𝓤 H 𝓜 𝓣) P met-put z (and_then ! (get ! refl) (and_then ! (get ! refl) (no_more !))) (λ v.
       let Same = λ (r : MutBor (List ℕ)). r.ghost_name ≡ out.ghost_name in
-      let Wrote = λ (r : MutBor (List ℕ)). m ≤ n → r.now ≡ bs ++ drop_list m old in let Kept = λ (r : MutBor (List ℕ)). n < m → r.now ≡ old in
-      use1 𝓛 (later (some (λ (r : MutBor (List ℕ)). ((‵ (flft κs.0 qs.0) ⊛ ‵ (flft κ q) ⊛ ‵ ftrue) ⊛ ‵ (Lent.own_val r (v ∷ []))) ⊛
-      some (λ (ws : Unit {0} × (Unit {0} × Unit {0})). ‵ (lasts (put_ended R) κs a ws) ⊛ (raw (fact 𝓤 (Same r)) ⊛ raw (fact 𝓤 (Wrote r)) ⊛ raw (fact 𝓤 (Kept r)) ⊛ raw (fact 𝓤 (length bs ≡ m))))))) (id⊢ 𝓤 _) $
-      await ! tt $ pick ! (λ r. split ! $ split ! $ split3 ! $ move ! (4 ∷ []) $ pick ! (λ ws. split ! $ drop ! $ split ! $ heard ! _ (λ same. split ! $ heard ! _ (λ wrote. split ! $ heard ! _ (λ kept. heard ! _ (λ width.
+      let Wrote = λ (r : MutBor (List ℕ)). m ≤ n → r.now ≡ bs ++ drop_list m old in
+      let Kept = λ (r : MutBor (List ℕ)). n < m → r.now ≡ old in
+      use1 𝓛
+      (later
+      (some
+      (λ (r : MutBor (List ℕ)).
+      ((‵ (flft κs.0 qs.0) ⊛ ‵ (flft κ q) ⊛ ‵ ftrue) ⊛ ‵ (Lent.own_val r (v ∷ []))) ⊛
+      some (λ (ws : Unit {0} × (Unit {0} × Unit {0})).
+      ‵ (lasts (put_ended R) κs a ws) ⊛ (raw (fact 𝓤 (Same r)) ⊛ raw (fact 𝓤 (Wrote r)) ⊛ raw (fact 𝓤 (Kept r)) ⊛ raw (fact 𝓤 (length bs ≡ m)))))))
+      (id⊢ 𝓤 _) $
+      await ! tt $ pick !
+      (λ r.
+      split ! $ split ! $ split3 ! $ move ! (4 ∷ []) $ pick !
+      (λ ws.
+      split ! $ drop ! $ split ! $ heard ! _
+      (λ same. split ! $ heard ! _ (λ wrote. split ! $ heard ! _ (λ kept. heard ! _ (λ width.
       -- [two tokens; nothing; the whole slice]
-      move ! (3 ∷ []) $ peeks ! Lent _ (shows 𝓛 Lent) r (v ∷ []) (λ is. rewrite ! 0 (λ (vs : List Val). ‵ (Lent.own_val r vs)) is.0.0 refl $
+      move ! (3 ∷ []) $ peeks ! Lent _ (shows 𝓛 Lent) r (v ∷ [])
+      (λ is. rewrite ! 0 (λ (vs : List Val). ‵ (Lent.own_val r vs)) is.0.0 refl $
       lands_as ! (ap only is.0.0) refl (tt, (tt, (record { fits = is.0.1.0 }, tt))) $
       sets ! (addr ! (from ! (fld ! refl (hop ! (look_in_at ! 3 (sub ! 0 refl (whole !))) (stop !))))) refl (tt, tt) $
-      sets ! (agg ! (and_then ! (get ! refl) (and_then ! (get_in ! (fld ! refl (stop !)) (sub ! 1 refl (whole !))) (no_more !)))) refl (tt, (tt, (record { fits = is.0.1.0 }, tt))) $
+      sets !
+      (agg !
+      (and_then ! (get ! refl)
+      (and_then ! (get_in ! (fld ! refl (stop !)) (sub ! 1 refl (whole !))) (no_more !))))
+      refl (tt, (tt, (record { fits = is.0.1.0 }, tt))) $
       sets ! (agg ! (and_then ! (lit ! byte_tag) (no_more !))) refl typed.0 $
       let G = triple_of 𝓛 g.signature (g.spec 𝓛 𝓜.mem 𝓡.returns) in
-      let z' : G.Ghost = (((κ, tt), (q, tt), tt, (r, (m, (layer, tt))), (mut_slice_vals r, (vint w64 m ∷ [], (live tag vnil ∷ [], tt)))), tt) in
-      nothing ! $ owned ! layers.the_row _ (makes layers.the_type layer_laws.the_plain 𝓛) layer _ is_layer $ join ! $ owned ! usize _ (uint_Makes 𝓛 w64) m _ (refl, fm) $ join ! $ move ! (1 ∷ 0 ∷ []) $ join ! $ nothing ! $ move ! (3 ∷ 0 ∷ []) $ join ! $ join ! $
+      let z' : G.Ghost = (
+        (
+          (κ, tt),
+          (q, tt),
+          tt,
+          (r, (m, (layer, tt))),
+          (mut_slice_vals r, (vint w64 m ∷ [], (live tag vnil ∷ [], tt))),
+        ),
+        tt,
+      ) in
+      nothing ! $ owned ! layers.the_row _ (makes layers.the_type layer_laws.the_plain 𝓛) layer _ is_layer $ join ! $
+      owned ! usize _ (uint_Makes 𝓛 w64) m _ (refl, fm) $ join ! $ move ! (1 ∷ 0 ∷ []) $ join ! $ nothing ! $ move !
+      (3 ∷ 0 ∷ []) $ join ! $ join ! $
       nothing ! $ move ! (1 ∷ 0 ∷ []) $ use2 𝓛 (raw (G.pre z')) (id⊢ 𝓤 _) $
-      calls_at ! (framed 𝓤 H 𝓜 𝓣) G met-rest z' (and_then ! (get ! refl) (and_then ! (lit ! small) (and_then ! (get ! refl) (no_more !)))) (λ v'.
+      calls_at ! (framed 𝓤 H 𝓜 𝓣) G met-rest z'
+      (and_then ! (get ! refl) (and_then ! (lit ! small) (and_then ! (get ! refl) (no_more !)))) (λ v'.
       let Heard = λ (x : Result (MutBor (List ℕ)) SliceWriteSpaceError). AnswersRest m layer r.now x in
-      use1 𝓛 (later (some (λ (x : Result (MutBor (List ℕ)) SliceWriteSpaceError). ((‵ (flft κ q) ⊛ ‵ ftrue) ⊛ ‵ ((Answer κ).own_val x (v' ∷ []))) ⊛
-      some (λ (us : Unit {0} × (Unit {0} × (Unit {0} × Unit {0}))). ‵ (lasts g.ended (κ, tt) (r, (m, (layer, tt))) us) ⊛ (‵ (LendsRest (take m r.now) r x) ⊛ raw (fact 𝓤 (Heard x))))))) (id⊢ 𝓤 _) $
-      await ! tt $ pick ! (λ x. split ! $ split ! $ move ! (1 ∷ []) $ peeks ! (Answer κ) _ (shows 𝓛 (Answer κ)) x (v' ∷ []) (λ is'.
+      use1 𝓛
+      (later
+      (some
+      (λ (x : Result (MutBor (List ℕ)) SliceWriteSpaceError).
+      ((‵ (flft κ q) ⊛ ‵ ftrue) ⊛ ‵ ((Answer κ).own_val x (v' ∷ []))) ⊛
+      some (λ (us : Unit {0} × (Unit {0} × (Unit {0} × Unit {0}))).
+      ‵ (lasts g.ended (κ, tt) (r, (m, (layer, tt))) us) ⊛ (‵ (LendsRest (take m r.now) r x) ⊛ raw (fact 𝓤 (Heard x)))))))
+      (id⊢ 𝓤 _) $
+      await ! tt $ pick !
+      (λ x. split ! $ split ! $ move ! (1 ∷ []) $ peeks ! (Answer κ) _ (shows 𝓛 (Answer κ)) x (v' ∷ []) (λ is'.
       lands_as ! refl refl ((answer_Lawful 𝓛 (named 1) κ).typed x (v' ∷ []) is').0 $
       move ! (2 ∷ []) $ pick ! (λ us. split ! $ drop ! $ split ! $ move ! (1 ∷ []) $ heard ! _ (λ said.
-      use1 𝓛 (‵ (LendsRest bs out x)) (lends 𝓛 m r bs out x same (fronts m layer r.now bs old width wrote kept x said)) $
+      use1 𝓛 (‵ (LendsRest bs out x)) (lends 𝓛 m r bs out x same (fronts m layer r.now bs old width wrote kept x said))
+      $
       -- [the loan; the answer; the token of the slice; nothing; the other token]
       returns ! (look_at ! 0 refl) $ free_all ! refl $ keep ! (1 ∷ 3 ∷ 2 ∷ 0 ∷ []) $
       suffices ! _ (ends_at 𝓛 (ended R) (stayed R) c y v' x (tt, (tt, tt)) (tt, (tt, tt))) $

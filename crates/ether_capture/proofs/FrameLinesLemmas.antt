@@ -20,7 +20,8 @@ of_ten_digits n most few =
 
 -- the text between two words, with the digits of the seconds
 abbrev pub between_words : List ℕ → ℕ → List ℕ
-between_words seconds nanoseconds = codes " time " ++ ((seconds ++ (codes "." ++ nine_digits nanoseconds)) ++ codes " link ")
+between_words seconds nanoseconds =
+    codes " time " ++ ((seconds ++ (codes "." ++ nine_digits nanoseconds)) ++ codes " link ")
 
 pub recent_time : (seconds nanoseconds : ℕ) → 10 ^ 9 ≤ seconds → seconds < 10 ^ 10
     → between_words (ten_digits seconds) nanoseconds ≡ between_words (decimal seconds) nanoseconds

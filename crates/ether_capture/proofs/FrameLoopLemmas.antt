@@ -27,8 +27,11 @@ verdict_with-verdict_of true accepted = refl
 verdict_with-verdict_of false accepted = refl
 
 -- one answered packet more
-pub AreAnswered-push : (plain : Bool) (before : ℕ) (packets : List PacketValue) (text : List ℕ) (all : Bool) (p : PacketValue) (more : List ℕ) (accepted : Bool)
-    → AreAnswered plain before packets text all → AnswersPacket plain (counted (before + length packets + 1)) p more accepted → AreAnswered plain before (packets ++ p ∷ []) (text ++ more) (all && accepted)
+pub AreAnswered-push : (plain : Bool) (before : ℕ) (packets : List PacketValue) (text : List ℕ) (all : Bool)
+    (p : PacketValue) (more : List ℕ) (accepted : Bool)
+    → AreAnswered plain before packets text all
+    → AnswersPacket plain (counted (before + length packets + 1)) p more accepted
+    → AreAnswered plain before (packets ++ p ∷ []) (text ++ more) (all && accepted)
 AreAnswered-push plain before [] text all p more accepted so_far is =
     let n : before + length {A = PacketValue} [] + 1 ≡ before + 1 = omega arith in (
       more,
@@ -48,13 +51,15 @@ AreAnswered-push plain before (first ∷ others) text all p more accepted so_far
       rest ++ more,
       others_accepted && accepted,
       here,
-      AreAnswered-push plain (before + 1) others rest others_accepted p more accepted there (subst (λ (k : ℕ). AnswersPacket plain (counted k) p more accepted) n is),
+      AreAnswered-push plain (before + 1) others rest others_accepted p more accepted there
+          (subst (λ (k : ℕ). AnswersPacket plain (counted k) p more accepted) n is),
       ap (λ (t : List ℕ). t ++ more) whole ∙ append_assoc one rest more,
       ap (λ (b : Bool). b && accepted) every ∙ and_assoc one_accepted others_accepted accepted,
     )
 
 -- what was skipped, and one packet more
-skipped-push : (packets : List PacketValue) (p : PacketValue) → sum_by skip_count (packets ++ p ∷ []) ≡ sum_by skip_count packets + skip_count p
+skipped-push : (packets : List PacketValue) (p : PacketValue)
+    → sum_by skip_count (packets ++ p ∷ []) ≡ sum_by skip_count packets + skip_count p
 skipped-push packets p = sum_by-append skip_count packets (p ∷ []) ∙ last
   where
     last : sum_by skip_count packets + sum_by skip_count (p ∷ []) ≡ sum_by skip_count packets + skip_count p
@@ -62,7 +67,8 @@ skipped-push packets p = sum_by-append skip_count packets (p ∷ []) ∙ last
 
 module _ {W : Type 0} (plain : Bool) (contents : W → Option (List ℕ)) where
   -- nothing is read
-  pub Reached-start : (start : FrameLoop) (out : OutputBuffer W) → IsStart start → Reached plain contents (contents_of contents out) [] [] start out
+  pub Reached-start : (start : FrameLoop) (out : OutputBuffer W) → IsStart start
+      → Reached plain contents (contents_of contents out) [] [] start out
   Reached-start start out is = record {
     packets = [];
     front = [];
@@ -79,8 +85,10 @@ module _ {W : Type 0} (plain : Bool) (contents : W → Option (List ℕ)) where
   }
 
   -- what waited is written out
-  pub Reached-written_out : (held : Option (List ℕ)) (input buffered : List ℕ) (at : FrameLoop) (old new : OutputBuffer W)
-      → WritesOut contents old new → Reached plain contents held input buffered at old → Reached plain contents held input buffered at new
+  pub Reached-written_out : (held : Option (List ℕ)) (input buffered : List ℕ) (at : FrameLoop)
+      (old new : OutputBuffer W)
+      → WritesOut contents old new → Reached plain contents held input buffered at old
+      → Reached plain contents held input buffered at new
   Reached-written_out held input buffered at old new drains so_far = record {
     packets = so_far.packets;
     front = so_far.front;
@@ -93,12 +101,15 @@ module _ {W : Type 0} (plain : Bool) (contents : W → Option (List ℕ)) where
     is_count = so_far.is_count;
     is_skipped = so_far.is_skipped;
     is_offset = so_far.is_offset;
-    written = Appends-written_out held (contents old.writer.now) (contents new.writer.now) old.waiting.items new.waiting.items so_far.text so_far.written drains.written drains.none_waits;
+    written =
+        Appends-written_out held (contents old.writer.now) (contents new.writer.now) old.waiting.items new.waiting.items
+        so_far.text so_far.written drains.written drains.none_waits;
   }
 
   -- more bytes are read
   pub Reached-more : (held : Option (List ℕ)) (input buffered chunk : List ℕ) (at : FrameLoop) (out : OutputBuffer W)
-      → Reached plain contents held input buffered at out → Reached plain contents held (input ++ chunk) (buffered ++ chunk) at out
+      → Reached plain contents held input buffered at out
+      → Reached plain contents held (input ++ chunk) (buffered ++ chunk) at out
   Reached-more held input buffered chunk at out so_far = record {
     packets = so_far.packets;
     front = so_far.front;
@@ -115,17 +126,24 @@ module _ {W : Type 0} (plain : Bool) (contents : W → Option (List ℕ)) where
   }
 
   -- the front with a unit more
-  front_after : (input front buffered : List ℕ) (len : ℕ) → input ≡ front ++ buffered → input ≡ (front ++ take len buffered) ++ drop len buffered
+  front_after : (input front buffered : List ℕ) (len : ℕ) → input ≡ front ++ buffered
+      → input ≡ (front ++ take len buffered) ++ drop len buffered
   front_after input front buffered len is =
-      is ∙ ap (λ (l : List ℕ). front ++ l) (sym (take-append-drop len buffered)) ∙ sym (append_assoc front (take len buffered) (drop len buffered))
+      is ∙ ap (λ (l : List ℕ). front ++ l) (sym (take-append-drop len buffered))
+      ∙ sym (append_assoc front (take len buffered) (drop len buffered))
 
-  front_len : (front buffered : List ℕ) (len : ℕ) → len ≤ length buffered → length (front ++ take len buffered) ≡ length front + len
-  front_len front buffered len within = length-append front (take len buffered) ∙ ap (λ (n : ℕ). length front + n) (length-take-le len buffered within)
+  front_len : (front buffered : List ℕ) (len : ℕ) → len ≤ length buffered
+      → length (front ++ take len buffered) ≡ length front + len
+  front_len front buffered len within =
+      length-append front (take len buffered) ∙ ap (λ (n : ℕ). length front + n) (length-take-le len buffered within)
 
   -- a unit is taken
-  pub Reached-unit : (held : Option (List ℕ)) (input buffered : List ℕ) (old new : FrameLoop) (y : Expectation) (from to : OutputBuffer W) (len : ℕ) (packet : Option PacketValue)
-      → len ≤ length buffered → Begins buffered old.reader len packet y → TakesUnit plain contents len packet (record old { reader = y }) from new to
-      → Reached plain contents held input buffered old from → Reached plain contents held input (drop len buffered) new to
+  pub Reached-unit : (held : Option (List ℕ)) (input buffered : List ℕ) (old new : FrameLoop) (y : Expectation)
+      (from to : OutputBuffer W) (len : ℕ) (packet : Option PacketValue)
+      → len ≤ length buffered → Begins buffered old.reader len packet y
+      → TakesUnit plain contents len packet (record old { reader = y }) from new to
+      → Reached plain contents held input buffered old from
+      → Reached plain contents held input (drop len buffered) new to
   Reached-unit held input buffered old new y from to len None within begins takes so_far =
       let (same, verdict, count, skipped) = takes.content in
       let long = front_len so_far.front buffered len within in
@@ -142,29 +160,40 @@ module _ {W : Type 0} (plain : Bool) (contents : W → Option (List ℕ)) where
         is_count = count ∙ so_far.is_count;
         is_skipped = skipped ∙ so_far.is_skipped;
         is_offset = let a = takes.is_offset in let b = so_far.is_offset in omega (arith, a, b, long);
-        written = subst (λ (out : OutputBuffer W). Appends held (contents_of contents out) so_far.text) (sym same) so_far.written;
+        written =
+            subst (λ (out : OutputBuffer W). Appends held (contents_of contents out) so_far.text) (sym same)
+            so_far.written;
       }
   Reached-unit held input buffered old new y from to len (Some p) within begins takes so_far =
       let taken = takes.content in
       let long = front_len so_far.front buffered len within in
       let more = length-append so_far.packets (p ∷ []) in
       let skips = skipped-push so_far.packets p in
-      let number : counted (old.count + 1) ≡ counted (0 + length so_far.packets + 1) = let b = so_far.is_count in omega (arith, b) in
+      let number : counted (old.count + 1) ≡ counted (0 + length so_far.packets + 1) = let b = so_far.is_count in
+      omega (arith, b) in
       record {
         packets = so_far.packets ++ p ∷ [];
         front = so_far.front ++ take len buffered;
         text = so_far.text ++ taken.text;
         all_accepted = so_far.all_accepted && taken.accepted;
-        parts = subst (λ (x : Expectation). GoesOn input (so_far.packets ++ p ∷ []) x (drop len buffered)) (sym takes.same_reader)
+        parts =
+            subst (λ (x : Expectation). GoesOn input (so_far.packets ++ p ∷ []) x (drop len buffered))
+            (sym takes.same_reader)
             (GoesOn-packet input so_far.packets p old.reader y buffered len within begins so_far.parts);
         place = front_after input so_far.front buffered len so_far.place;
-        answered = AreAnswered-push plain 0 so_far.packets so_far.text so_far.all_accepted p taken.text taken.accepted so_far.answered
+        answered =
+            AreAnswered-push plain 0 so_far.packets so_far.text so_far.all_accepted p taken.text taken.accepted
+            so_far.answered
             (subst (λ (n : ℕ). AnswersPacket plain n p taken.text taken.accepted) number taken.answered);
-        is_verdict = taken.is_verdict ∙ ap (λ (v : Verdict). verdict_with v taken.accepted) so_far.is_verdict ∙ verdict_with-verdict_of so_far.all_accepted taken.accepted;
+        is_verdict =
+            taken.is_verdict ∙ ap (λ (v : Verdict). verdict_with v taken.accepted) so_far.is_verdict
+            ∙ verdict_with-verdict_of so_far.all_accepted taken.accepted;
         is_count = let a = taken.is_count in let b = so_far.is_count in omega (arith, a, b, more);
         is_skipped = let a = taken.is_skipped in let b = so_far.is_skipped in omega (arith, a, b, skips);
         is_offset = let a = takes.is_offset in let b = so_far.is_offset in omega (arith, a, b, long);
-        written = Appends-then held (contents_of contents from) (contents_of contents to) so_far.text taken.text so_far.written taken.written;
+        written =
+            Appends-then held (contents_of contents from) (contents_of contents to) so_far.text taken.text
+            so_far.written taken.written;
       }
 
 -- the rest of a list, as a range of it

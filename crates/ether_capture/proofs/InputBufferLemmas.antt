@@ -4,11 +4,13 @@ use Rattle.std.specs.Prelude.{slice_range}
 use Rattle.std.proofs.lemmas.List.{drop-take}
 use Rattle.ether_base.proofs.SubLists.{rest_of_part, part_join}
 
-pub consumed : (xs : List ℕ) (start end count : ℕ) → start + count ≤ end → slice_range xs (start + count) end ≡ drop count (slice_range xs start end)
+pub consumed : (xs : List ℕ) (start end count : ℕ) → start + count ≤ end
+    → slice_range xs (start + count) end ≡ drop count (slice_range xs start end)
 consumed xs start end count inside = sym (rest_of_part xs start end count inside)
 
 -- what stands before the end stays
-pub kept : (xs ys : List ℕ) (start end : ℕ) → start ≤ end → take end ys ≡ take end xs → slice_range ys start end ≡ slice_range xs start end
+pub kept : (xs ys : List ℕ) (start end : ℕ) → start ≤ end → take end ys ≡ take end xs
+    → slice_range ys start end ≡ slice_range xs start end
 kept xs ys start end ordered same =
     let m = end - start in
     let parts : end ≡ start + m = omega arith in
@@ -18,4 +20,5 @@ kept xs ys start end ordered same =
 pub grown : (xs ys : List ℕ) (start end n : ℕ) → start ≤ end → take end ys ≡ take end xs
     → slice_range ys start (end + n) ≡ slice_range xs start end ++ slice_range ys end (end + n)
 grown xs ys start end n ordered same =
-    sym (part_join ys start end (end + n) ordered (omega arith)) ∙ ap (λ (t : List ℕ). t ++ slice_range ys end (end + n)) (kept xs ys start end ordered same)
+    sym (part_join ys start end (end + n) ordered (omega arith))
+    ∙ ap (λ (t : List ℕ). t ++ slice_range ys end (end + n)) (kept xs ys start end ordered same)

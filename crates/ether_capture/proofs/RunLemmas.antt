@@ -42,17 +42,20 @@ no_bytes [] e = refl
 no_bytes (b ∷ l) e = absurd (omega arith)
 
 -- the last read gave nothing
-pub consumed_all : (before mid after : Option (List ℕ)) (input more : List ℕ) → Consumes before mid input → Consumes mid after more → length more ≡ 0 → Consumes before after input
+pub consumed_all : (before mid after : Option (List ℕ)) (input more : List ℕ) → Consumes before mid input
+    → Consumes mid after more → length more ≡ 0 → Consumes before after input
 consumed_all before mid after input more h k none =
     subst (λ (bytes : List ℕ). Consumes before after bytes) (append-nil input)
-    (subst (λ (bytes : List ℕ). Consumes before after (input ++ bytes)) (no_bytes more none) (Consumes-then before mid after input more h k))
+    (subst (λ (bytes : List ℕ). Consumes before after (input ++ bytes)) (no_bytes more none)
+    (Consumes-then before mid after input more h k))
 
 -- the last read gave nothing
 pub same_left : (left more : List ℕ) → length more ≡ 0 → left ++ more ≡ left
 same_left left more none = ap (λ (l : List ℕ). left ++ l) (no_bytes more none) ∙ append-nil left
 
 -- there is room for more of a unit than is left
-pub has_room : (left : List ℕ) (x : Expectation) (r : CaptureRefusal) (n : ℕ) (held : List ℕ) (space : ℕ) → Refuses left x r → required_len r ≡ Some n
+pub has_room : (left : List ℕ) (x : Expectation) (r : CaptureRefusal) (n : ℕ) (held : List ℕ) (space : ℕ)
+    → Refuses left x r → required_len r ≡ Some n
     → held ≡ left → n ≤ space → length held < space
 has_room left x r n held space refused needs same fits =
     let short = required_above left x r n refused needs in
@@ -67,41 +70,61 @@ no_section h = omega (arith, h)
 nothing_of_blocks : (r : CaptureRefusal) (n : ℕ) → required_len r ≡ Some n → required_len r ≡ None → ⊥
 nothing_of_blocks r n some none = let e : Some n ≡ None = sym some ∙ none in absurd cc
 
-refused_nothing : (bytes : List ℕ) (x : Expectation) (r : CaptureRefusal) → bytes ≡ [] → Refuses bytes x r → required_len r ≡ None → ⊥
+refused_nothing : (bytes : List ℕ) (x : Expectation) (r : CaptureRefusal) → bytes ≡ [] → Refuses bytes x r
+    → required_len r ≡ None → ⊥
 refused_nothing bytes x r e (file_header_refused s other (file.short lt)) none = nothing_of_blocks r 24 refl none
-refused_nothing bytes x r e (file_header_refused s other (file.magic le never)) none = let n = ap length e in omega (arith, le, n)
-refused_nothing bytes x r e (file_header_refused s other (file.version order resolution le has never)) none = let n = ap length e in omega (arith, le, n)
+refused_nothing bytes x r e (file_header_refused s other (file.magic le never)) none =
+    let n = ap length e in omega (arith, le, n)
+refused_nothing bytes x r e (file_header_refused s other (file.version order resolution le has never)) none =
+    let n = ap length e in omega (arith, le, n)
 refused_nothing bytes x r e (file_record_refused h s (record_rows.header lt)) none = nothing_of_blocks r 16 refl none
-refused_nothing bytes x r e (file_record_refused h s (record_rows.too_long le lt)) none = let n = ap length e in omega (arith, le, n)
-refused_nothing bytes x r e (file_record_refused h s (record_rows.packet le small lt)) none = let n = ap length e in omega (arith, le, n)
-refused_nothing bytes x r e (first_section_refused s has refused) none = no_section (subst section_rows.HasSectionType e has)
-refused_nothing bytes x r e (section_refused order interfaces s has refused) none = no_section (subst section_rows.HasSectionType e has)
-refused_nothing bytes x r e (block_refused order interfaces s other (block_rows.front lt)) none = nothing_of_blocks r 12 refl none
-refused_nothing bytes x r e (block_refused order interfaces s other (block_rows.total_len le never)) none = let n = ap length e in omega (arith, le, n)
-refused_nothing bytes x r e (block_refused order interfaces s other (block_rows.body m le is sound lt)) none = let n = ap length e in omega (arith, le, n)
-refused_nothing bytes x r e (block_refused order interfaces s other (block_rows.trailer m k le is sound whole at never)) none = let n = ap length e in omega (arith, le, n)
-refused_nothing bytes x r e (body_refused order interfaces b s other begins refused) none = let n = ap length e in let w = begins.whole in omega (arith, w, n)
+refused_nothing bytes x r e (file_record_refused h s (record_rows.too_long le lt)) none =
+    let n = ap length e in omega (arith, le, n)
+refused_nothing bytes x r e (file_record_refused h s (record_rows.packet le small lt)) none =
+    let n = ap length e in omega (arith, le, n)
+refused_nothing bytes x r e (first_section_refused s has refused) none =
+    no_section (subst section_rows.HasSectionType e has)
+refused_nothing bytes x r e (section_refused order interfaces s has refused) none =
+    no_section (subst section_rows.HasSectionType e has)
+refused_nothing bytes x r e (block_refused order interfaces s other (block_rows.front lt)) none =
+    nothing_of_blocks r 12 refl none
+refused_nothing bytes x r e (block_refused order interfaces s other (block_rows.total_len le never)) none =
+    let n = ap length e in omega (arith, le, n)
+refused_nothing bytes x r e (block_refused order interfaces s other (block_rows.body m le is sound lt)) none =
+    let n = ap length e in omega (arith, le, n)
+refused_nothing bytes x r e (block_refused order interfaces s other (block_rows.trailer m k le is sound whole at never))
+    none =
+    let n = ap length e in omega (arith, le, n)
+refused_nothing bytes x r e (body_refused order interfaces b s other begins refused) none =
+    let n = ap length e in let w = begins.whole in omega (arith, w, n)
 
 -- ---- a run
 
 module _ {W : Type 0} (plain : Bool) (contents : W → Option (List ℕ)) where
   -- the units of what was buffered are taken
-  pub units_left : (buffered bytes left : List ℕ) (old new : FrameLoop) (from to : OutputBuffer W) (n : ℕ) (error : CaptureError)
-      → bytes ≡ buffered → left ≡ drop n buffered → TakesUnits plain contents bytes old from n error new to → LeavesRest plain contents buffered old from left error new to
+  pub units_left : (buffered bytes left : List ℕ) (old new : FrameLoop) (from to : OutputBuffer W) (n : ℕ)
+      (error : CaptureError)
+      → bytes ≡ buffered → left ≡ drop n buffered → TakesUnits plain contents bytes old from n error new to
+      → LeavesRest plain contents buffered old from left error new to
   units_left buffered bytes left old new from to n error same is takes =
       let e : drop n bytes ≡ left = ap (drop n) same ∙ sym is in
       record {
         reached = λ held input so_far.
             subst (λ (l : List ℕ). Reached plain contents held input l new to) e
-            (takes.reached held input (subst (λ (l : List ℕ). Reached plain contents held input l old from) (sym same) so_far));
+            (takes.reached held input
+            (subst (λ (l : List ℕ). Reached plain contents held input l old from) (sym same) so_far));
         refused = subst (λ (l : List ℕ). Refuses l new.reader (capture_refusal_view error)) e takes.refused;
       }
 
   module _ (before after held : Option (List ℕ)) where
-    stops : (input buffered left : List ℕ) (at : FrameLoop) (out : OutputBuffer W) (error : CaptureError) (fault : RunFault)
-        → fault ≡ Capture (record { offset = at.offset; error = error }) → Consumes before after input → IsLeft after left
-        → ((packets : List PacketValue) → GoesOn input packets at.reader buffered → HasPackets Beginning (input ++ left) packets (buffered ++ left) (Some (capture_refusal_view error)))
-        → Reached plain contents held input buffered at out → HasRun plain before after held (contents_of contents out) (Err fault)
+    stops : (input buffered left : List ℕ) (at : FrameLoop) (out : OutputBuffer W) (error : CaptureError)
+        (fault : RunFault)
+        → fault ≡ Capture (record { offset = at.offset; error = error }) → Consumes before after input
+        → IsLeft after left
+        → ((packets : List PacketValue) → GoesOn input packets at.reader buffered
+        → HasPackets Beginning (input ++ left) packets (buffered ++ left) (Some (capture_refusal_view error)))
+        → Reached plain contents held input buffered at out
+        → HasRun plain before after held (contents_of contents out) (Err fault)
     stops input buffered left at out error fault is read is_left has so_far =
         subst (λ (f : RunFault). HasRun plain before after held (contents_of contents out) (Err f)) (sym is) (record {
           taken = input;
@@ -121,10 +144,12 @@ module _ {W : Type 0} (plain : Bool) (contents : W → Option (List ℕ)) where
         })
 
     -- a unit is refused, whatever follows
-    pub stopped_for_good : (input buffered : List ℕ) (at : FrameLoop) (out : OutputBuffer W) (error : CaptureError) (fault : RunFault)
+    pub stopped_for_good : (input buffered : List ℕ) (at : FrameLoop) (out : OutputBuffer W) (error : CaptureError)
+        (fault : RunFault)
         → fault ≡ Capture (record { offset = at.offset; error = error }) → Consumes before after input
         → Refuses buffered at.reader (capture_refusal_view error) → required_len (capture_refusal_view error) ≡ None
-        → Reached plain contents held input buffered at out → HasRun plain before after held (contents_of contents out) (Err fault)
+        → Reached plain contents held input buffered at out
+        → HasRun plain before after held (contents_of contents out) (Err fault)
     stopped_for_good input buffered at out error fault is read refused none so_far =
         let left : List ℕ = unwrap_or after [] in
         stops input buffered left at out error fault is read (IsLeft-left_of after)
@@ -132,21 +157,30 @@ module _ {W : Type 0} (plain : Bool) (contents : W → Option (List ℕ)) where
         (λ e. refused_nothing buffered at.reader (capture_refusal_view error) e refused none) refused none go) so_far
 
     -- the capture ends within a unit
-    pub stopped_at_end : (input buffered : List ℕ) (at : FrameLoop) (out : OutputBuffer W) (error : CaptureError) (fault : RunFault)
+    pub stopped_at_end : (input buffered : List ℕ) (at : FrameLoop) (out : OutputBuffer W) (error : CaptureError)
+        (fault : RunFault)
         → fault ≡ Capture (record { offset = at.offset; error = error }) → Consumes before after input → IsAtEnd after
         → ¬ (IsEnd at.reader buffered) → Refuses buffered at.reader (capture_refusal_view error)
-        → Reached plain contents held input buffered at out → HasRun plain before after held (contents_of contents out) (Err fault)
+        → Reached plain contents held input buffered at out
+        → HasRun plain before after held (contents_of contents out) (Err fault)
     stopped_at_end input buffered at out error fault is read end more refused so_far =
         stops input buffered [] at out error fault is read (IsLeft-end after end)
-        (λ packets go. refused_at_last input packets at.reader buffered (capture_refusal_view error) more refused go) so_far
+        (λ packets go. refused_at_last input packets at.reader buffered (capture_refusal_view error) more refused go)
+        so_far
 
     -- all packets are answered
     pub finished : (input buffered : List ℕ) (at : FrameLoop) (from to : OutputBuffer W) (r : Result Verdict RunFault)
         → Consumes before after input → IsAtEnd after → IsEnd at.reader buffered
-        → IfOk r (λ verdict. verdict ≡ at.verdict) → OnOk r (Appends (contents_of contents from) (contents_of contents to) (totals_line_if plain at.count at.skipped)) → IfErr r IsOutput
-        → Reached plain contents held input buffered at from → HasRun plain before after held (contents_of contents to) r
+        → IfOk r (λ verdict. verdict ≡ at.verdict)
+        → OnOk r
+        (Appends (contents_of contents from) (contents_of contents to)
+        (totals_line_if plain at.count at.skipped))
+        → IfErr r IsOutput
+        → Reached plain contents held input buffered at from
+        → HasRun plain before after held (contents_of contents to) r
     finished input buffered at from to (Ok verdict) read end over is written fault so_far =
-        let totals : totals_line_if plain at.count at.skipped ≡ totals_of plain so_far.packets = (λ i. totals_line_if plain (so_far.is_count i) (so_far.is_skipped i)) in
+        let totals : totals_line_if plain at.count at.skipped ≡ totals_of plain so_far.packets =
+        (λ i. totals_line_if plain (so_far.is_count i) (so_far.is_skipped i)) in
         record {
           input = input;
           packets = so_far.packets;
@@ -154,19 +188,25 @@ module _ {W : Type 0} (plain : Bool) (contents : W → Option (List ℕ)) where
           all_accepted = so_far.all_accepted;
           read = read;
           at_end = end;
-          has = GoesOn-ended input so_far.packets at.reader over.0 (subst (λ (l : List ℕ). GoesOn input so_far.packets at.reader l) over.1 so_far.parts);
+          has =
+              GoesOn-ended input so_far.packets at.reader over.0
+              (subst (λ (l : List ℕ). GoesOn input so_far.packets at.reader l) over.1 so_far.parts);
           answered = so_far.answered;
           is_verdict = is ∙ so_far.is_verdict;
-          written = Appends-then held (contents_of contents from) (contents_of contents to) so_far.text (totals_of plain so_far.packets) so_far.written
+          written =
+              Appends-then held (contents_of contents from) (contents_of contents to) so_far.text
+              (totals_of plain so_far.packets) so_far.written
               (subst (λ (t : List ℕ). Appends (contents_of contents from) (contents_of contents to) t) totals written);
         }
     finished input buffered at from to (Err fault) read end over is written failed so_far =
         subst (λ (f : RunFault). HasRun plain before after held (contents_of contents to) (Err f)) (sym failed) tt
 
     -- a unit is not whole
-    breaks_off : (Needs : Option ℕ → Type 0) (input buffered : List ℕ) (at : FrameLoop) (out : OutputBuffer W) (reason : CaptureRefusal)
+    breaks_off : (Needs : Option ℕ → Type 0) (input buffered : List ℕ) (at : FrameLoop) (out : OutputBuffer W)
+        (reason : CaptureRefusal)
         → Consumes before after input → Refuses buffered at.reader reason → Needs (required_len reason)
-        → Reached plain contents held input buffered at out → BreaksOff Needs plain before after held (contents_of contents out)
+        → Reached plain contents held input buffered at out
+        → BreaksOff Needs plain before after held (contents_of contents out)
     breaks_off Needs input buffered at out reason read refused unfinished so_far = record {
       taken = input;
       packets = so_far.packets;
@@ -184,34 +224,47 @@ module _ {W : Type 0} (plain : Bool) (contents : W → Option (List ℕ)) where
     }
 
     -- a read fails
-    pub broken_off : (mid : Option (List ℕ)) (r : Result Verdict RunFault) (input buffered : List ℕ) (at : FrameLoop) (out : OutputBuffer W) (reason : CaptureRefusal)
-        → Consumes before mid input → Keeps mid after → IsErrAnd r (λ fault. fault ≡ Input) → Refuses buffered at.reader reason → required_len reason ≢ None
-        → Reached plain contents held input buffered at out → HasRun plain before after held (contents_of contents out) r
+    pub broken_off : (mid : Option (List ℕ)) (r : Result Verdict RunFault) (input buffered : List ℕ) (at : FrameLoop)
+        (out : OutputBuffer W) (reason : CaptureRefusal)
+        → Consumes before mid input → Keeps mid after → IsErrAnd r (λ fault. fault ≡ Input)
+        → Refuses buffered at.reader reason → required_len reason ≢ None
+        → Reached plain contents held input buffered at out
+        → HasRun plain before after held (contents_of contents out) r
     broken_off mid (Ok verdict) input buffered at out reason read kept is refused needed so_far = absurd is
     broken_off mid (Err fault) input buffered at out reason read kept is refused needed so_far =
         subst (λ (f : RunFault). HasRun plain before after held (contents_of contents out) (Err f)) (sym is)
-        (breaks_off (λ n. n ≢ None) input buffered at out reason (Consumes-kept before mid after input read kept) refused needed so_far)
+        (breaks_off (λ n. n ≢ None) input buffered at out reason (Consumes-kept before mid after input read kept)
+        refused needed so_far)
 
     -- memory is refused
-    pub without_memory : (r : Result Verdict RunFault) (input buffered : List ℕ) (at : FrameLoop) (out : OutputBuffer W) (reason : CaptureRefusal) (n : ℕ)
-        → IsErrAnd r (λ fault. fault ≡ Memory) → Consumes before after input → Refuses buffered at.reader reason → required_len reason ≡ Some n → 65536 < n
-        → Reached plain contents held input buffered at out → HasRun plain before after held (contents_of contents out) r
+    pub without_memory : (r : Result Verdict RunFault) (input buffered : List ℕ) (at : FrameLoop) (out : OutputBuffer W)
+        (reason : CaptureRefusal) (n : ℕ)
+        → IsErrAnd r (λ fault. fault ≡ Memory) → Consumes before after input → Refuses buffered at.reader reason
+        → required_len reason ≡ Some n → 65536 < n
+        → Reached plain contents held input buffered at out
+        → HasRun plain before after held (contents_of contents out) r
     without_memory (Ok verdict) input buffered at out reason n is read refused needs large so_far = absurd is
     without_memory (Err fault) input buffered at out reason n is read refused needs large so_far =
         subst (λ (f : RunFault). HasRun plain before after held (contents_of contents out) (Err f)) (sym is)
         (breaks_off NeedsMemory input buffered at out reason read refused (subst NeedsMemory (sym needs) large) so_far)
 
-    pub on_output : (to : OutputBuffer W) (fault : RunFault) → IsOutput fault → HasRun plain before after held (contents_of contents to) (Err fault)
-    on_output to fault is = subst (λ (f : RunFault). HasRun plain before after held (contents_of contents to) (Err f)) (sym is) tt
+    pub on_output : (to : OutputBuffer W) (fault : RunFault) → IsOutput fault
+        → HasRun plain before after held (contents_of contents to) (Err fault)
+    on_output to fault is =
+        subst (λ (f : RunFault). HasRun plain before after held (contents_of contents to) (Err f)) (sym is) tt
 
 -- ---- the closing flush
 
-appends_flushed : (held old new : Option (List ℕ)) (waited text : List ℕ) → Appends held (append_known old waited) text → Appends old new waited → Appends held new text
+appends_flushed : (held old new : Option (List ℕ)) (waited text : List ℕ) → Appends held (append_known old waited) text
+    → Appends old new waited → Appends held new text
 appends_flushed held old new waited text h k =
-    subst (λ (o : Option (List ℕ)). Appends held o text) (append_known_nil new) (Appends-written_out held old new waited [] text h k refl)
+    subst (λ (o : Option (List ℕ)). Appends held o text) (append_known_nil new)
+    (Appends-written_out held old new waited [] text h k refl)
 
-BreaksOff-flushed : {W : Type 0} (Needs : Option ℕ → Type 0) (plain : Bool) (contents : W → Option (List ℕ)) (before after held : Option (List ℕ)) (from to : OutputBuffer W)
-    → WritesOut contents from to → BreaksOff Needs plain before after held (contents_of contents from) → BreaksOff Needs plain before after held (contents to.writer.now)
+BreaksOff-flushed : {W : Type 0} (Needs : Option ℕ → Type 0) (plain : Bool) (contents : W → Option (List ℕ))
+    (before after held : Option (List ℕ)) (from to : OutputBuffer W)
+    → WritesOut contents from to → BreaksOff Needs plain before after held (contents_of contents from)
+    → BreaksOff Needs plain before after held (contents to.writer.now)
 BreaksOff-flushed Needs plain contents before after held from to drains h = record {
   taken = h.taken;
   packets = h.packets;
@@ -225,12 +278,16 @@ BreaksOff-flushed Needs plain contents before after held from to drains h = reco
   begun = h.begun;
   unfinished = h.unfinished;
   answered = h.answered;
-  written = appends_flushed held (contents from.writer.now) (contents to.writer.now) from.waiting.items h.text h.written drains.written;
+  written =
+      appends_flushed held (contents from.writer.now) (contents to.writer.now) from.waiting.items h.text h.written
+      drains.written;
 }
 
 -- all that waited is passed to the writer
-pub HasRun-flushed : {W : Type 0} (plain : Bool) (contents : W → Option (List ℕ)) (before after held : Option (List ℕ)) (from to : OutputBuffer W) (r : Result Verdict RunFault)
-    → WritesOut contents from to → HasRun plain before after held (contents_of contents from) r → HasRun plain before after held (contents to.writer.now) r
+pub HasRun-flushed : {W : Type 0} (plain : Bool) (contents : W → Option (List ℕ)) (before after held : Option (List ℕ))
+    (from to : OutputBuffer W) (r : Result Verdict RunFault)
+    → WritesOut contents from to → HasRun plain before after held (contents_of contents from) r
+    → HasRun plain before after held (contents to.writer.now) r
 HasRun-flushed plain contents before after held from to (Ok verdict) drains h = record {
   input = h.input;
   packets = h.packets;
@@ -241,7 +298,9 @@ HasRun-flushed plain contents before after held from to (Ok verdict) drains h = 
   has = h.has;
   answered = h.answered;
   is_verdict = h.is_verdict;
-  written = appends_flushed held (contents from.writer.now) (contents to.writer.now) from.waiting.items (h.text ++ totals_of plain h.packets) h.written drains.written;
+  written =
+      appends_flushed held (contents from.writer.now) (contents to.writer.now) from.waiting.items
+      (h.text ++ totals_of plain h.packets) h.written drains.written;
 }
 HasRun-flushed plain contents before after held from to (Err (Capture fault)) drains h = record {
   taken = h.taken;
@@ -257,11 +316,15 @@ HasRun-flushed plain contents before after held from to (Err (Capture fault)) dr
   place = h.place;
   is_offset = h.is_offset;
   answered = h.answered;
-  written = appends_flushed held (contents from.writer.now) (contents to.writer.now) from.waiting.items h.text h.written drains.written;
+  written =
+      appends_flushed held (contents from.writer.now) (contents to.writer.now) from.waiting.items h.text h.written
+      drains.written;
 }
-HasRun-flushed plain contents before after held from to (Err Input) drains h = BreaksOff-flushed _ plain contents before after held from to drains h
+HasRun-flushed plain contents before after held from to (Err Input) drains h =
+    BreaksOff-flushed _ plain contents before after held from to drains h
 HasRun-flushed plain contents before after held from to (Err Output) drains h = tt
-HasRun-flushed plain contents before after held from to (Err Memory) drains h = BreaksOff-flushed _ plain contents before after held from to drains h
+HasRun-flushed plain contents before after held from to (Err Memory) drains h =
+    BreaksOff-flushed _ plain contents before after held from to drains h
 
 -- ---- when a stream has failed
 
@@ -274,65 +337,100 @@ on_input (Err Output) Q h = tt
 on_input (Err Memory) Q h = tt
 
 never_marked : {P : Type 0} (old new : Bool) → old ≡ false → (new ≡ true → (old ≡ true) ⊎ P) → new ≡ true → P
-never_marked old new fresh marks set = elim (marks set) [ inl before ↦ let e : true ≡ false = sym before ∙ fresh in absurd (cc) | inr failed ↦ failed ]
+never_marked old new fresh marks set =
+    elim (marks set) [ inl before ↦ let e : true ≡ false = sym before ∙ fresh in absurd (cc) | inr failed ↦ failed ]
 
 -- why a run with fresh streams ends with a fault of one of them
-pub run_fails : {R W : Type 0} (remaining : R → Option (List ℕ)) (can_read can_write : Type 0) (r : Result Verdict RunFault) (input input' : InputReader R) (out out' : OutputBuffer W) (before after : Option (List ℕ))
-    → remaining input.inner.now ≡ before → remaining input'.inner.now ≡ after → input.has_failed ≡ false → input.reads_left ≡ 2 ^ 64 - 1 → out.has_failed ≡ false
+pub run_fails : {R W : Type 0} (remaining : R → Option (List ℕ)) (can_read can_write : Type 0)
+    (r : Result Verdict RunFault) (input input' : InputReader R) (out out' : OutputBuffer W)
+    (before after : Option (List ℕ))
+    → remaining input.inner.now ≡ before → remaining input'.inner.now ≡ after → input.has_failed ≡ false
+    → input.reads_left ≡ 2 ^ 64 - 1 → out.has_failed ≡ false
     → IfErr r (λ fault. OnStreamFault fault (input'.has_failed ≡ true) (out'.has_failed ≡ true))
     → IfErr r (λ fault. OnInput fault (StopsReading remaining can_read input input')) → Marks can_write out out'
     → IfErr r (λ fault. OnStreamFault fault (can_read ⊎ IsEndless before after) can_write)
-run_fails remaining can_read can_write (Ok verdict) input input' out out' before after from to fresh most none failed cause marks = tt
-run_fails remaining can_read can_write (Err (Capture found)) input input' out out' before after from to fresh most none failed cause marks = tt
-run_fails remaining can_read can_write (Err Input) input input' out out' before after from to fresh most none failed cause marks = why cause
+run_fails remaining can_read can_write (Ok verdict) input input' out out' before after from to fresh most none failed
+    cause marks =
+    tt
+run_fails remaining can_read can_write (Err (Capture found)) input input' out out' before after from to fresh most none
+    failed cause marks =
+    tt
+run_fails remaining can_read can_write (Err Input) input input' out out' before after from to fresh most none failed
+    cause marks =
+    why cause
   where
     why : StopsReading remaining can_read input input' → can_read ⊎ IsEndless before after
     why (was_stopped set) = let e : true ≡ false = sym set ∙ fresh in absurd (cc)
     why (stopped_by failed) = inl failed
     why (used_up taken read counted) = inr (record {
       taken = taken;
-      read = subst (λ (o : Option (List ℕ)). Consumes o after taken) from (subst (λ (o : Option (List ℕ)). Consumes (remaining input.inner.now) o taken) to read);
+      read =
+          subst (λ (o : Option (List ℕ)). Consumes o after taken) from
+          (subst (λ (o : Option (List ℕ)). Consumes (remaining input.inner.now) o taken) to read);
       long = omega (arith, most, counted);
     })
-run_fails remaining can_read can_write (Err Memory) input input' out out' before after from to fresh most none failed cause marks = tt
-run_fails remaining can_read can_write (Err Output) input input' out out' before after from to fresh most none failed cause marks = never_marked out.has_failed out'.has_failed none marks.cause failed
+run_fails remaining can_read can_write (Err Memory) input input' out out' before after from to fresh most none failed
+    cause marks =
+    tt
+run_fails remaining can_read can_write (Err Output) input input' out out' before after from to fresh most none failed
+    cause marks =
+    never_marked out.has_failed out'.has_failed none marks.cause failed
 
 -- .. from a later place
-pub later_input : {R : Type 0} (remaining : R → Option (List ℕ)) (can_fail : Type 0) (r : Result Verdict RunFault) (f : RunFault) (old mid new : InputReader R)
-    → ReadsOn remaining old mid → IsErrAnd r (λ g. g ≡ f) → OnInput f (StopsReading remaining can_fail mid new) → IfErr r (λ fault. OnInput fault (StopsReading remaining can_fail old new))
+pub later_input : {R : Type 0} (remaining : R → Option (List ℕ)) (can_fail : Type 0) (r : Result Verdict RunFault)
+    (f : RunFault) (old mid new : InputReader R)
+    → ReadsOn remaining old mid → IsErrAnd r (λ g. g ≡ f) → OnInput f (StopsReading remaining can_fail mid new)
+    → IfErr r (λ fault. OnInput fault (StopsReading remaining can_fail old new))
 later_input remaining can_fail (Ok verdict) f old mid new on is why = tt
-later_input remaining can_fail (Err fault) (Capture found) old mid new on is why = subst (λ (g : RunFault). OnInput g (StopsReading remaining can_fail old new)) (sym is) tt
-later_input remaining can_fail (Err fault) Input old mid new on is why = subst (λ (g : RunFault). OnInput g (StopsReading remaining can_fail old new)) (sym is) (stops_later remaining can_fail old mid new on why)
-later_input remaining can_fail (Err fault) Memory old mid new on is why = subst (λ (g : RunFault). OnInput g (StopsReading remaining can_fail old new)) (sym is) tt
-later_input remaining can_fail (Err fault) Output old mid new on is why = subst (λ (g : RunFault). OnInput g (StopsReading remaining can_fail old new)) (sym is) tt
+later_input remaining can_fail (Err fault) (Capture found) old mid new on is why =
+    subst (λ (g : RunFault). OnInput g (StopsReading remaining can_fail old new)) (sym is) tt
+later_input remaining can_fail (Err fault) Input old mid new on is why =
+    subst (λ (g : RunFault). OnInput g (StopsReading remaining can_fail old new)) (sym is)
+    (stops_later remaining can_fail old mid new on why)
+later_input remaining can_fail (Err fault) Memory old mid new on is why =
+    subst (λ (g : RunFault). OnInput g (StopsReading remaining can_fail old new)) (sym is) tt
+later_input remaining can_fail (Err fault) Output old mid new on is why =
+    subst (λ (g : RunFault). OnInput g (StopsReading remaining can_fail old new)) (sym is) tt
 
 -- what is said of known bytes is said of the same bytes
-pub HasRun-same : (plain : Bool) (r : Result Verdict RunFault) (before after held holds before' after' held' holds' : Option (List ℕ))
-    → before ≡ before' → after ≡ after' → held ≡ held' → holds ≡ holds' → HasRun plain before after held holds r → HasRun plain before' after' held' holds' r
-HasRun-same plain r before after held holds before' after' held' holds' e f g h = subst (λ (t : Type 0). t) (λ i. HasRun plain (e i) (f i) (g i) (h i) r)
+pub HasRun-same : (plain : Bool) (r : Result Verdict RunFault)
+    (before after held holds before' after' held' holds' : Option (List ℕ))
+    → before ≡ before' → after ≡ after' → held ≡ held' → holds ≡ holds' → HasRun plain before after held holds r
+    → HasRun plain before' after' held' holds' r
+HasRun-same plain r before after held holds before' after' held' holds' e f g h =
+    subst (λ (t : Type 0). t) (λ i. HasRun plain (e i) (f i) (g i) (h i) r)
 
 -- ---- a run over a slice
 
-whole_slice : (bytes input : List ℕ) (after : Option (List ℕ)) → Consumes (Some bytes) after input → IsAtEnd after → input ≡ bytes
+whole_slice : (bytes input : List ℕ) (after : Option (List ℕ)) → Consumes (Some bytes) after input → IsAtEnd after
+    → input ≡ bytes
 whole_slice bytes input None read end = absurd read
 whole_slice bytes input (Some left) read end = sym (read ∙ ap (λ (l : List ℕ). input ++ l) end ∙ append-nil input)
 
-parts_of_slice : (bytes taken left : List ℕ) (after : Option (List ℕ)) → Consumes (Some bytes) after taken → IsLeft after left → taken ++ left ≡ bytes
+parts_of_slice : (bytes taken left : List ℕ) (after : Option (List ℕ)) → Consumes (Some bytes) after taken
+    → IsLeft after left → taken ++ left ≡ bytes
 parts_of_slice bytes taken left None read is = absurd read
 parts_of_slice bytes taken left (Some known) read is = ap (λ (l : List ℕ). taken ++ l) is ∙ sym read
 
 not_endless : (bytes : List ℕ) (after : Option (List ℕ)) → length bytes < 2 ^ 64 - 1 → IsEndless (Some bytes) after → ⊥
 not_endless bytes None short endless = absurd endless.read
 not_endless bytes (Some left) short endless =
-    let n = ap length endless.read ∙ length-append endless.taken left in let long = endless.long in omega (arith, n, long, short)
+    let n = ap length endless.read ∙ length-append endless.taken left in
+    let long = endless.long in
+    omega (arith, n, long, short)
 
-slice_answers : (plain : Bool) (can_fail : Type 0) (bytes : List ℕ) (after held holds : Option (List ℕ)) (r : Result Verdict RunFault) → length bytes < 2 ^ 64 - 1
-    → HasRun plain (Some bytes) after held holds r → IfErr r (λ fault. OnStreamFault fault (⊥ ⊎ IsEndless (Some bytes) after) can_fail) → AnswersSlice plain can_fail bytes held holds r
+slice_answers : (plain : Bool) (can_fail : Type 0) (bytes : List ℕ) (after held holds : Option (List ℕ))
+    (r : Result Verdict RunFault)
+    → length bytes < 2 ^ 64 - 1
+    → HasRun plain (Some bytes) after held holds r
+    → IfErr r (λ fault. OnStreamFault fault (⊥ ⊎ IsEndless (Some bytes) after) can_fail)
+    → AnswersSlice plain can_fail bytes held holds r
 slice_answers plain can_fail bytes after held holds (Ok verdict) short h failed = (
   h.packets,
   h.text,
   h.all_accepted,
-  subst (λ (l : List ℕ). HasPackets Beginning l h.packets [] None) (whole_slice bytes h.input after h.read h.at_end) h.has,
+  subst (λ (l : List ℕ). HasPackets Beginning l h.packets [] None) (whole_slice bytes h.input after h.read h.at_end)
+      h.has,
   h.answered,
   h.is_verdict,
   h.written,
@@ -345,21 +443,29 @@ slice_answers plain can_fail bytes after held holds (Err (Capture fault)) short 
       rest = h.rest;
       text = h.text;
       all_accepted = h.all_accepted;
-      has = subst (λ (l : List ℕ). HasPackets Beginning l h.packets h.rest (Some (capture_refusal_view fault.error))) whole h.has;
+      has =
+          subst (λ (l : List ℕ). HasPackets Beginning l h.packets h.rest (Some (capture_refusal_view fault.error)))
+          whole h.has;
       place = sym whole ∙ h.place;
       is_offset = h.is_offset;
       answered = h.answered;
       written = h.written;
     }
 slice_answers plain can_fail bytes after held holds (Err Input) short h (inl never) = absurd never
-slice_answers plain can_fail bytes after held holds (Err Input) short h (inr endless) = absurd (not_endless bytes after short endless)
+slice_answers plain can_fail bytes after held holds (Err Input) short h (inr endless) =
+    absurd (not_endless bytes after short endless)
 slice_answers plain can_fail bytes after held holds (Err Output) short h failed = failed
 slice_answers plain can_fail bytes None held holds (Err Memory) short h failed = absurd h.read
-slice_answers plain can_fail bytes (Some left) held holds (Err Memory) short h failed = record { left = left; taken = h }
+slice_answers plain can_fail bytes (Some left) held holds (Err Memory) short h failed = record {
+  left = left;
+  taken = h;
+}
 
-pub slice_answered : (plain : Bool) (can_fail : Type 0) (bytes : List ℕ) (before after held holds : Option (List ℕ)) (r : Result Verdict RunFault)
+pub slice_answered : (plain : Bool) (can_fail : Type 0) (bytes : List ℕ) (before after held holds : Option (List ℕ))
+    (r : Result Verdict RunFault)
     → before ≡ Some bytes → length bytes < 2 ^ 64 - 1 → HasRun plain before after held holds r
-    → IfErr r (λ fault. OnStreamFault fault (⊥ ⊎ IsEndless before after) can_fail) → AnswersSlice plain can_fail bytes held holds r
+    → IfErr r (λ fault. OnStreamFault fault (⊥ ⊎ IsEndless before after) can_fail)
+    → AnswersSlice plain can_fail bytes held holds r
 slice_answered plain can_fail bytes before after held holds r is short h failed =
     slice_answers plain can_fail bytes after held holds r short
     (subst (λ (o : Option (List ℕ)). HasRun plain o after held holds r) is h)

@@ -28,7 +28,9 @@ use Rattle.ether_packet.proofs.Written.{Fitting, Fits, written}
 
 -- ---- a header before n bytes is as long as it is before others
 
-ether_type_kept : (p : PayloadType) (t : ℕ) → ether_type_len (encrypted_of (retyped p t)) (changed_of (retyped p t)) ≡ ether_type_len (encrypted_of p) (changed_of p)
+ether_type_kept : (p : PayloadType) (t : ℕ)
+    → ether_type_len (encrypted_of (retyped p t)) (changed_of (retyped p t))
+    ≡ ether_type_len (encrypted_of p) (changed_of p)
 ether_type_kept (payloads.Unmodified old) t = refl
 ether_type_kept payloads.Modified t = refl
 ether_type_kept payloads.EncryptedUnmodified t = refl
@@ -45,7 +47,8 @@ header_len_before (headers.Arp a) t n = refl
 pub place-built : (at : ℕ) (hs : List Header) (t n : ℕ) → place at (built hs t n) ≡ place at hs
 place-built at [] t n = refl
 place-built at (h ∷ hs) t n =
-    ap (λ (k : ℕ). place (at + k) (built hs t n)) (header_len_before h (type_of hs t) (place n hs)) ∙ place-built (at + header_len h) hs t n
+    ap (λ (k : ℕ). place (at + k) (built hs t n)) (header_len_before h (type_of hs t) (place n hs))
+    ∙ place-built (at + header_len h) hs t n
 
 -- ---- the short length of a SecTag
 
@@ -61,7 +64,8 @@ named_plain : (b : Bool) (n k : ℕ) → known_len 0 (if b then n else 0) ≡ So
 named_plain true n k e = let s = some_of _ (n - 0) k e in omega (arith, s)
 named_plain false n k e = absurd cc
 
-named_for : (p : PayloadType) (n k : ℕ) → known_len (ether_type_len (encrypted_of p) (changed_of p)) (short_len_for p n) ≡ Some k → k ≡ n
+named_for : (p : PayloadType) (n k : ℕ)
+    → known_len (ether_type_len (encrypted_of p) (changed_of p)) (short_len_for p n) ≡ Some k → k ≡ n
 named_for (payloads.Unmodified t) n k e = named_by (nat_lt n 62) 2 n k e
 named_for payloads.Modified n k e = named_plain (nat_lt n 64) n k e
 named_for payloads.EncryptedUnmodified n k e = named_plain (nat_lt n 64) n k e
@@ -79,16 +83,22 @@ long_enough payloads.Encrypted n e c s = omega (arith, e)
 
 -- ---- each header where it is announced
 
-vlan_fits : (x : Expectation) (v : VlanValue) (n : ℕ) → announced x ≡ Some kinds.Vlan → FitsHeader (headers.Vlan v) → Fitting x (headers.Vlan v) n
+vlan_fits : (x : Expectation) (v : VlanValue) (n : ℕ) → announced x ≡ Some kinds.Vlan → FitsHeader (headers.Vlan v)
+    → Fitting x (headers.Vlan v) n
 vlan_fits x v n announced fits = record {
   announced = announced;
   fits = fits;
-  accepted = λ bound more len. let all = length-append (header_bytes (headers.Vlan v)) more in let own = length-header_bytes (headers.Vlan v) fits in accepts_vlan bound (header_bytes (headers.Vlan v) ++ more) (omega (arith, all, own));
+  accepted =
+      λ bound more len. let all =
+      length-append (header_bytes (headers.Vlan v)) more in let own =
+      length-header_bytes (headers.Vlan v) fits in accepts_vlan bound (header_bytes (headers.Vlan v) ++ more)
+      (omega (arith, all, own));
   named = λ p e. absurd cc;
   no_trailer = refl;
 }
 
-macsec_fits : (x : Expectation) (m : SecTagValue) (t n : ℕ) → announced x ≡ Some kinds.Macsec → FitsHeader (before (headers.Macsec m) t n) → Fitting x (before (headers.Macsec m) t n) n
+macsec_fits : (x : Expectation) (m : SecTagValue) (t n : ℕ) → announced x ≡ Some kinds.Macsec
+    → FitsHeader (before (headers.Macsec m) t n) → Fitting x (before (headers.Macsec m) t n) n
 macsec_fits x m t n announced fits =
     let p = retyped m.payload_type t in
     let tag : SecTagValue = record m { payload_type = p; short_len = short_len_for p n } in
@@ -100,7 +110,8 @@ macsec_fits x m t n announced fits =
       fits = fits;
       accepted = λ bound more len.
           let all = length-append bytes more in
-          accepts_packet bound (bytes ++ more) (sec_tag_front_of 0 0 tag) (sec_tag_bytes_accepted bound tag more fits long) (sec_tag_bytes_begin tag more fits)
+          accepts_packet bound (bytes ++ more) (sec_tag_front_of 0 0 tag)
+          (sec_tag_bytes_accepted bound tag more fits long) (sec_tag_bytes_begin tag more fits)
           (λ k e. let is = named_for p n k e in omega (arith, all, own, len, is));
       named = λ k e. named_for p n k e;
       no_trailer = refl;
@@ -121,7 +132,8 @@ AreInner (h ∷ hs) = IsInner h × AreInner hs
 abbrev pub expecting : ℕ → Expectation
 expecting t = record { next = EtherType t; limit = None }
 
-vlan_announced : (v : VlanValue) (hs : List Header) (t : ℕ) → announced (expecting (type_of (headers.Vlan v ∷ hs) t)) ≡ Some kinds.Vlan
+vlan_announced : (v : VlanValue) (hs : List Header) (t : ℕ)
+    → announced (expecting (type_of (headers.Vlan v ∷ hs) t)) ≡ Some kinds.Vlan
 vlan_announced v [] t = refl
 vlan_announced v (headers.Ethernet2 e ∷ hs) t = refl
 vlan_announced v (headers.Ethernet2Fcs e ∷ hs) t = refl
@@ -135,24 +147,41 @@ later_chain h [] chain = tt
 later_chain h (g ∷ hs) chain = chain.1
 
 -- after a SecTag whose payload can be read comes what its ether type announces, and after another one nothing
-after_tag : (m : SecTagValue) (p : PayloadType) (hs : List Header) (t n k : ℕ) → m.payload_type ≡ p → IsChain (headers.Macsec m ∷ hs)
-    → Fits (expecting (type_of hs t)) (built hs t n) n → Fits (after (expecting k) (before (headers.Macsec m) (type_of hs t) (place n hs))) (built hs t n) n
+after_tag : (m : SecTagValue) (p : PayloadType) (hs : List Header) (t n k : ℕ) → m.payload_type ≡ p
+    → IsChain (headers.Macsec m ∷ hs)
+    → Fits (expecting (type_of hs t)) (built hs t n) n
+    → Fits (after (expecting k) (before (headers.Macsec m) (type_of hs t) (place n hs))) (built hs t n) n
 after_tag m p [] t n k e chain fits = tt
 after_tag m (payloads.Unmodified old) (g ∷ hs) t n k e chain fits =
-    subst (λ (q : PayloadType). Fits (after (expecting k) (before (headers.Macsec (record m { payload_type = q })) (type_of (g ∷ hs) t) (place n (g ∷ hs)))) (built (g ∷ hs) t n) n) (sym e) fits
-after_tag m payloads.Modified (g ∷ hs) t n k e chain fits = let f : true ≡ false = sym chain.0 ∙ ap is_unmodified e in absurd cc
-after_tag m payloads.EncryptedUnmodified (g ∷ hs) t n k e chain fits = let f : true ≡ false = sym chain.0 ∙ ap is_unmodified e in absurd cc
-after_tag m payloads.Encrypted (g ∷ hs) t n k e chain fits = let f : true ≡ false = sym chain.0 ∙ ap is_unmodified e in absurd cc
+    subst
+    (λ (q : PayloadType).
+    Fits
+    (after (expecting k)
+    (before (headers.Macsec (record m { payload_type = q })) (type_of (g ∷ hs) t) (place n (g ∷ hs))))
+    (built (g ∷ hs) t n) n)
+    (sym e) fits
+after_tag m payloads.Modified (g ∷ hs) t n k e chain fits =
+    let f : true ≡ false = sym chain.0 ∙ ap is_unmodified e in absurd cc
+after_tag m payloads.EncryptedUnmodified (g ∷ hs) t n k e chain fits =
+    let f : true ≡ false = sym chain.0 ∙ ap is_unmodified e in absurd cc
+after_tag m payloads.Encrypted (g ∷ hs) t n k e chain fits =
+    let f : true ≡ false = sym chain.0 ∙ ap is_unmodified e in absurd cc
 
-pub inner_fits : (hs : List Header) (t n : ℕ) → AreInner hs → IsChain hs → AllFit (built hs t n) → Fits (expecting (type_of hs t)) (built hs t n) n
+pub inner_fits : (hs : List Header) (t n : ℕ) → AreInner hs → IsChain hs → AllFit (built hs t n)
+    → Fits (expecting (type_of hs t)) (built hs t n) n
 inner_fits [] t n inner chain fit = tt
 inner_fits (headers.Vlan v ∷ hs) t n inner chain fit =
-    let own = vlan_fits (expecting (type_of (headers.Vlan v ∷ hs) t)) (record v { ether_type = type_of hs t }) (place n (built hs t n)) (vlan_announced v hs t) fit.0 in
+    let own =
+    vlan_fits (expecting (type_of (headers.Vlan v ∷ hs) t)) (record v { ether_type = type_of hs t })
+    (place n (built hs t n)) (vlan_announced v hs t) fit.0 in
     (own, inner_fits hs t n inner.1 (later_chain (headers.Vlan v) hs chain) fit.1)
 inner_fits (headers.Macsec m ∷ hs) t n inner chain fit =
     let own = macsec_fits (expecting 0x88E5) m (type_of hs t) (place n hs) refl fit.0 in
-    let later = inner_fits hs t n inner.1 (later_chain (headers.Macsec m) hs chain) fit.1 in
-    (subst (λ (k : ℕ). Fitting (expecting 0x88E5) (before (headers.Macsec m) (type_of hs t) (place n hs)) k) (sym (place-built n hs t n)) own, after_tag m m.payload_type hs t n 0x88E5 refl chain later)
+    let later = inner_fits hs t n inner.1 (later_chain (headers.Macsec m) hs chain) fit.1 in (
+      subst (λ (k : ℕ). Fitting (expecting 0x88E5) (before (headers.Macsec m) (type_of hs t) (place n hs)) k)
+          (sym (place-built n hs t n)) own,
+      after_tag m m.payload_type hs t n 0x88E5 refl chain later,
+    )
 inner_fits (headers.Arp a ∷ []) t n inner chain fit = (
   record {
     announced = refl;
@@ -173,13 +202,19 @@ inner_fits (headers.LinuxSll s ∷ hs) t n inner chain fit = absurd inner.0
 abbrev pub beginning : Kind → Expectation
 beginning kind = record { next = Start kind; limit = None }
 
-pub ethernet2_fits : (e : Ethernet2Value) (hs : List Header) (t n : ℕ) → AreInner hs → IsChain hs → AllFit (built (headers.Ethernet2 e ∷ hs) t n) → Fits (beginning kinds.Ethernet2) (built (headers.Ethernet2 e ∷ hs) t n) n
+pub ethernet2_fits : (e : Ethernet2Value) (hs : List Header) (t n : ℕ) → AreInner hs → IsChain hs
+    → AllFit (built (headers.Ethernet2 e ∷ hs) t n)
+    → Fits (beginning kinds.Ethernet2) (built (headers.Ethernet2 e ∷ hs) t n) n
 ethernet2_fits e hs t n inner chain fit =
     let h = before (headers.Ethernet2 e) (type_of hs t) (place n hs) in (
       record {
         announced = refl;
         fits = fit.0;
-        accepted = λ bound more len. let all = length-append (header_bytes h) more in let own = length-header_bytes h fit.0 in accepts_ethernet2 bound (header_bytes h ++ more) (omega (arith, all, own));
+        accepted =
+            λ bound more len. let all =
+            length-append (header_bytes h) more in let own =
+            length-header_bytes h fit.0 in accepts_ethernet2 bound (header_bytes h ++ more)
+            (omega (arith, all, own));
         named = λ p e. absurd cc;
         no_trailer = refl;
       },
@@ -187,8 +222,10 @@ ethernet2_fits e hs t n inner chain fit =
     )
 
 -- a cooked capture of Ethernet
-pub linux_sll_fits : (s : LinuxSllValue) (hs : List Header) (t n : ℕ) → s.hardware_type ≡ 1 → s.packet_type ≤ 7 → AreInner hs → IsChain hs
-    → AllFit (built (headers.LinuxSll s ∷ hs) t n) → Fits (beginning kinds.LinuxSll) (built (headers.LinuxSll s ∷ hs) t n) n
+pub linux_sll_fits : (s : LinuxSllValue) (hs : List Header) (t n : ℕ) → s.hardware_type ≡ 1 → s.packet_type ≤ 7
+    → AreInner hs → IsChain hs
+    → AllFit (built (headers.LinuxSll s ∷ hs) t n)
+    → Fits (beginning kinds.LinuxSll) (built (headers.LinuxSll s ∷ hs) t n) n
 linux_sll_fits s hs t n hardware packet inner chain fit =
     let v : LinuxSllValue = record s { protocol = type_of hs t } in
     let h = headers.LinuxSll v in
@@ -205,17 +242,25 @@ linux_sll_fits s hs t n hardware packet inner chain fit =
         named = λ p e. absurd cc;
         no_trailer = refl;
       },
-      subst (λ (k : ℕ). Fits (after (beginning kinds.LinuxSll) (headers.LinuxSll (record v { hardware_type = k }))) (built hs t n) n) (sym hardware) later,
+      subst
+          (λ (k : ℕ).
+          Fits (after (beginning kinds.LinuxSll) (headers.LinuxSll (record v { hardware_type = k }))) (built hs t n)
+          n)
+          (sym hardware) later,
     )
 
 -- ---- the walk
 
-pub begins_with : (start : Expectation) (list rest : List ℕ) (hs : List Header) → list ≡ flat_map header_bytes hs ++ rest → Fits start hs (length rest) → BeginsWith start list hs rest
+pub begins_with : (start : Expectation) (list rest : List ℕ) (hs : List Header)
+    → list ≡ flat_map header_bytes hs ++ rest → Fits start hs (length rest) → BeginsWith start list hs rest
 begins_with start list rest hs e fits =
     let all : within list (whole start list) ≡ list = part_all list (length list) (omega arith) in
     let w = written list start (whole start list) hs rest (whole_in start list) (all ∙ e) fits in
     record {
       payload = w.rest_is;
       ends = w.finish;
-      walk = λ ks f stack. led list start (whole start list) hs ks (expected_after start hs) (window_after (whole start list) hs) f w.leads stack;
+      walk =
+          λ ks f stack.
+          led list start (whole start list) hs ks (expected_after start hs) (window_after (whole start list) hs) f
+          w.leads stack;
     }

@@ -24,12 +24,15 @@ use Rattle.ether_packet.specs.Builder.{link_header, content_headers, content_pay
 abbrev pub views : List LinkExtHeader → List Header
 views xs = map ext_header_view xs
 
-pub take_next : (xs : List LinkExtHeader) (i : ℕ) (d : LinkExtHeader) → i < length xs → views (take (i + 1) xs) ≡ views (take i xs) ++ ext_header_view (slice_index_or xs i d) ∷ []
+pub take_next : (xs : List LinkExtHeader) (i : ℕ) (d : LinkExtHeader) → i < length xs
+    → views (take (i + 1) xs) ≡ views (take i xs) ++ ext_header_view (slice_index_or xs i d) ∷ []
 take_next xs i d lt =
     let e : i + 1 ≡ suc i = omega arith in
-    ap (λ (n : ℕ). views (take n xs)) e ∙ ap views (take-suc xs i d lt) ∙ map-append ext_header_view (take i xs) (slice_index_or xs i d ∷ [])
+    ap (λ (n : ℕ). views (take n xs)) e ∙ ap views (take-suc xs i d lt)
+    ∙ map-append ext_header_view (take i xs) (slice_index_or xs i d ∷ [])
 
-pub drop_next : (xs : List LinkExtHeader) (i : ℕ) (d : LinkExtHeader) → i < length xs → views (drop i xs) ≡ ext_header_view (slice_index_or xs i d) ∷ views (drop (i + 1) xs)
+pub drop_next : (xs : List LinkExtHeader) (i : ℕ) (d : LinkExtHeader) → i < length xs
+    → views (drop i xs) ≡ ext_header_view (slice_index_or xs i d) ∷ views (drop (i + 1) xs)
 drop_next xs i d lt =
     let e : suc i ≡ i + 1 = omega arith in
     ap views (drop-cons xs i d lt) ∙ ap (λ (n : ℕ). ext_header_view (slice_index_or xs i d) ∷ views (drop n xs)) e
@@ -40,7 +43,8 @@ length-views (x ∷ xs) = ap suc (length-views xs)
 
 -- ---- chains
 
-pub readable_one_more : (hs : List Header) (h : Header) → AllReadable hs → is_readable h ≡ true → AllReadable (hs ++ h ∷ [])
+pub readable_one_more : (hs : List Header) (h : Header) → AllReadable hs → is_readable h ≡ true
+    → AllReadable (hs ++ h ∷ [])
 readable_one_more [] h all is = (is, tt)
 readable_one_more (g ∷ hs) h all is = (all.0, readable_one_more hs h all.1 is)
 
@@ -56,15 +60,23 @@ followed xs c = length xs + length (content_headers c) - 1
 abbrev pub ReadTo : (xs : List LinkExtHeader) (followed i : ℕ) → Type 0
 ReadTo xs followed i = (n : ℕ) → n ≤ i → n ≤ followed → AllReadable (views (take n xs))
 
-read_up_to : (xs : List LinkExtHeader) (followed i n : ℕ) (d : LinkExtHeader) → i < length xs → ReadTo xs followed i → (i < followed → is_readable (ext_header_view (slice_index_or xs i d)) ≡ true) → n ≤ followed
+read_up_to : (xs : List LinkExtHeader) (followed i n : ℕ) (d : LinkExtHeader) → i < length xs → ReadTo xs followed i
+    → (i < followed → is_readable (ext_header_view (slice_index_or xs i d)) ≡ true) → n ≤ followed
     → n ≡ i + 1 → AllReadable (views (take n xs))
 read_up_to xs followed i n d lt so_far is few e =
     subst (λ (k : ℕ). AllReadable (views (take k xs))) (sym e)
-    (subst AllReadable (sym (take_next xs i d lt)) (readable_one_more _ (ext_header_view (slice_index_or xs i d)) (so_far i (omega arith) (omega (arith, few, e))) (is (omega (arith, few, e)))))
+    (subst AllReadable (sym (take_next xs i d lt))
+    (readable_one_more _ (ext_header_view (slice_index_or xs i d)) (so_far i (omega arith) (omega (arith, few, e)))
+    (is (omega (arith, few, e)))))
 
-pub read_next : (xs : List LinkExtHeader) (followed i : ℕ) (d : LinkExtHeader) → i < length xs → ReadTo xs followed i → (i < followed → is_readable (ext_header_view (slice_index_or xs i d)) ≡ true) → ReadTo xs followed (i + 1)
+pub read_next : (xs : List LinkExtHeader) (followed i : ℕ) (d : LinkExtHeader) → i < length xs → ReadTo xs followed i
+    → (i < followed → is_readable (ext_header_view (slice_index_or xs i d)) ≡ true) → ReadTo xs followed (i + 1)
 read_next xs followed i d lt so_far is n le few =
-    elim (cases_lt i n) [ inl past ↦ read_up_to xs followed i n d lt so_far is few (omega (arith, past, le)) | inr within ↦ so_far n within few ]
+    elim (cases_lt i n) [
+      | inl past ↦ read_up_to xs followed i n d lt so_far is few (omega (arith, past, le))
+      | inr within ↦ so_far n
+          within few
+    ]
 
 -- all but the last one can be read
 pub chain_from : (front back : List Header) → AllReadable front → length back ≤ 1 → IsChain (front ++ back)
@@ -75,43 +87,53 @@ chain_from (h ∷ []) [] all le = tt
 chain_from (h ∷ []) (g ∷ hs) all le = (all.0, chain_from [] (g ∷ hs) tt le)
 chain_from (h ∷ g ∷ front) back all le = (all.0, chain_from (g ∷ front) back all.1 le)
 
-pub all_views : (xs : List LinkExtHeader) (i : ℕ) (content : List Header) → views xs ++ content ≡ views (take i xs) ++ (views (drop i xs) ++ content)
+pub all_views : (xs : List LinkExtHeader) (i : ℕ) (content : List Header)
+    → views xs ++ content ≡ views (take i xs) ++ (views (drop i xs) ++ content)
 all_views xs i content =
     ap (λ (l : List LinkExtHeader). views l ++ content) (sym (take-append-drop i xs))
     ∙ ap (λ (l : List Header). l ++ content) (map-append ext_header_view (take i xs) (drop i xs))
     ∙ append_assoc (views (take i xs)) (views (drop i xs)) content
 
-pub is_chain : (xs : List LinkExtHeader) (i : ℕ) (content : List Header) → AllReadable (views (take i xs)) → length (drop i xs) + length content ≤ 1 → IsChain (views xs ++ content)
+pub is_chain : (xs : List LinkExtHeader) (i : ℕ) (content : List Header) → AllReadable (views (take i xs))
+    → length (drop i xs) + length content ≤ 1 → IsChain (views xs ++ content)
 is_chain xs i content all le =
     let n = length-append (views (drop i xs)) content in
     let m = length-views (drop i xs) in
-    subst IsChain (sym (all_views xs i content)) (chain_from (views (take i xs)) (views (drop i xs) ++ content) all (omega (arith, n, m, le)))
+    subst IsChain (sym (all_views xs i content))
+    (chain_from (views (take i xs)) (views (drop i xs) ++ content) all (omega (arith, n, m, le)))
 
-sealed_before : (xs : List LinkExtHeader) (i : ℕ) (content later : List Header) (h : Header) → i ≤ length xs → AllReadable (views (take i xs)) → views (drop i xs) ≡ h ∷ views (drop (i + 1) xs)
-    → is_readable h ≡ false → length (views (take i xs)) ≡ i → later ≡ views (drop (i + 1) xs) ++ content → 1 ≤ length later → IsSealedAt (views xs ++ content) i
+sealed_before : (xs : List LinkExtHeader) (i : ℕ) (content later : List Header) (h : Header) → i ≤ length xs
+    → AllReadable (views (take i xs)) → views (drop i xs) ≡ h ∷ views (drop (i + 1) xs)
+    → is_readable h ≡ false → length (views (take i xs)) ≡ i → later ≡ views (drop (i + 1) xs) ++ content
+    → 1 ≤ length later → IsSealedAt (views xs ++ content) i
 sealed_before xs i content [] h le all split sealed len is one = absurd (omega (arith, one))
 sealed_before xs i content (g ∷ later) h le all split sealed len is one = record {
   front = views (take i xs);
   sealed = h;
   follows = g;
   later = later;
-  split = all_views xs i content ∙ ap (λ (l : List Header). views (take i xs) ++ (l ++ content)) split ∙ ap (λ (l : List Header). views (take i xs) ++ h ∷ l) (sym is);
+  split =
+      all_views xs i content ∙ ap (λ (l : List Header). views (take i xs) ++ (l ++ content)) split
+      ∙ ap (λ (l : List Header). views (take i xs) ++ h ∷ l) (sym is);
   place = len;
   readable = all;
   unreadable = sealed;
 }
 
-pub is_sealed : (xs : List LinkExtHeader) (i : ℕ) (content : List Header) (d : LinkExtHeader) → i < length xs → AllReadable (views (take i xs)) → is_readable (ext_header_view (slice_index_or xs i d)) ≡ false
+pub is_sealed : (xs : List LinkExtHeader) (i : ℕ) (content : List Header) (d : LinkExtHeader) → i < length xs
+    → AllReadable (views (take i xs)) → is_readable (ext_header_view (slice_index_or xs i d)) ≡ false
     → 1 ≤ length (drop (i + 1) xs) + length content → IsSealedAt (views xs ++ content) i
 is_sealed xs i content d lt all sealed follows =
     let n = length-append (views (drop (i + 1) xs)) content in
     let m = length-views (drop (i + 1) xs) in
     let t : length (views (take i xs)) ≡ i = length-views (take i xs) ∙ length-take-le i xs (omega (arith, lt)) in
-    sealed_before xs i content (views (drop (i + 1) xs) ++ content) (ext_header_view (slice_index_or xs i d)) (omega (arith, lt)) all (drop_next xs i d lt) sealed t refl (omega (arith, n, m, follows))
+    sealed_before xs i content (views (drop (i + 1) xs) ++ content) (ext_header_view (slice_index_or xs i d))
+    (omega (arith, lt)) all (drop_next xs i d lt) sealed t refl (omega (arith, n, m, follows))
 
 -- ---- what is refused
 
-unread_last : (front : List Header) (h g : Header) (later : List Header) → IsChain (front ++ h ∷ g ∷ later) → is_readable h ≡ false → ⊥
+unread_last : (front : List Header) (h g : Header) (later : List Header) → IsChain (front ++ h ∷ g ∷ later)
+    → is_readable h ≡ false → ⊥
 unread_last [] h g later chain sealed = let f : true ≡ false = sym chain.0 ∙ sealed in absurd cc
 unread_last (x ∷ []) h g later chain sealed = unread_last [] h g later chain.1 sealed
 unread_last (x ∷ y ∷ front) h g later chain sealed = unread_last (y ∷ front) h g later chain.1 sealed
@@ -127,26 +149,34 @@ pub record Counted (xs : List LinkExtHeader) (first i len : ℕ) : Type 0 where
   pub whole : place len (views (drop i xs)) ≡ place first (views xs)
   pub near : len ≤ first + 16 * i
 
-pub counted_next : (xs : List LinkExtHeader) (first i len n : ℕ) (d : LinkExtHeader) → i < length xs → Counted xs first i len → n ≡ header_len (ext_header_view (slice_index_or xs i d)) → n ≤ 16 → Counted xs first (i + 1) (len + n)
+pub counted_next : (xs : List LinkExtHeader) (first i len n : ℕ) (d : LinkExtHeader) → i < length xs
+    → Counted xs first i len → n ≡ header_len (ext_header_view (slice_index_or xs i d)) → n ≤ 16
+    → Counted xs first (i + 1) (len + n)
 counted_next xs first i len n d lt so_far is few = record {
-  whole = ap (λ (k : ℕ). place (len + k) (views (drop (i + 1) xs))) is ∙ sym (ap (place len) (drop_next xs i d lt)) ∙ so_far.whole;
+  whole =
+      ap (λ (k : ℕ). place (len + k) (views (drop (i + 1) xs))) is ∙ sym (ap (place len) (drop_next xs i d lt))
+      ∙ so_far.whole;
   near = let k = so_far.near in omega (arith, k, few);
 }
 
-pub counted_all : (xs : List LinkExtHeader) (first i len : ℕ) → length xs ≤ i → Counted xs first i len → len ≡ place first (views xs)
-counted_all xs first i len over so_far = sym (ap (λ (l : List LinkExtHeader). place len (views l)) (drop_of_length-le xs over)) ∙ so_far.whole
+pub counted_all : (xs : List LinkExtHeader) (first i len : ℕ) → length xs ≤ i → Counted xs first i len
+    → len ≡ place first (views xs)
+counted_all xs first i len over so_far =
+    sym (ap (λ (l : List LinkExtHeader). place len (views l)) (drop_of_length-le xs over)) ∙ so_far.whole
 
 add_last : (x y : ℕ) → x + y ≡ y + x
 add_last x y = omega arith
 
 -- the header of the link and what follows the tags are as long as they would be before the tags
-pub with_content : (link : Header) (xs content : List Header) (n : ℕ) → place (header_len link + place n content) xs ≡ place n (link ∷ xs ++ content)
+pub with_content : (link : Header) (xs content : List Header) (n : ℕ)
+    → place (header_len link + place n content) xs ≡ place n (link ∷ xs ++ content)
 with_content link xs content n =
     let a = header_len link in
     let swap : a + place n content ≡ place n content + a = omega arith in
     let turn : place n content + place a xs ≡ place a xs + place n content = omega arith in
     let turn_again : n + a ≡ a + n = omega arith in
-    ap (λ (k : ℕ). place k xs) swap ∙ place-add (place n content) a xs ∙ turn ∙ sym (place-add (place a xs) n content) ∙ ap (λ (k : ℕ). place k content) (add_last (place a xs) n)
+    ap (λ (k : ℕ). place k xs) swap ∙ place-add (place n content) a xs ∙ turn ∙ sym (place-add (place a xs) n content)
+    ∙ ap (λ (k : ℕ). place k content) (add_last (place a xs) n)
     ∙ ap (λ (k : ℕ). place k content) (sym (place-add n a xs)) ∙ sym (place-append (n + a) xs content)
 
 link_len : (link : LinkHeader) → link_header_len link ≡ header_len (link_header link)
@@ -157,10 +187,12 @@ pub content_place : (c : PacketContent) → content_len c ≡ place (length (con
 content_place (contents.Payload t bytes) = refl
 content_place (contents.Arp packet) = omega arith
 
-pub packet_len_is : (p : PacketBuilder) → place (link_header_len p.link + content_len p.content) (views p.link_exts.now) ≡ packet_len p
+pub packet_len_is : (p : PacketBuilder)
+    → place (link_header_len p.link + content_len p.content) (views p.link_exts.now) ≡ packet_len p
 packet_len_is p =
     (λ i. place (link_len p.link i + content_place p.content i) (views p.link_exts.now))
-    ∙ with_content (link_header p.link) (views p.link_exts.now) (content_headers p.content) (length (content_payload p.content))
+    ∙ with_content (link_header p.link) (views p.link_exts.now) (content_headers p.content)
+    (length (content_payload p.content))
 
 pub counted_first : (xs : List LinkExtHeader) (first len : ℕ) → len ≡ first → Counted xs first 0 len
 counted_first xs first len e = record { whole = ap (λ (k : ℕ). place k (views xs)) e; near = omega (arith, e) }

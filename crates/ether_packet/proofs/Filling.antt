@@ -27,28 +27,35 @@ use Rattle.ether_packet.proofs.Building.{AreInner, header_len_before, place-buil
 use Rattle.ether_packet.proofs.Chains.{views, all_views, drop_next, content_place, packet_len_is}
 
 -- bytes written right before those that are written already
-written_before : (old rest target bytes : List ℕ) (start at : ℕ) → target ≡ take at old ++ rest → start + length bytes ≡ at → at ≤ length old → overwritten target start bytes ≡ take start old ++ (bytes ++ rest)
+written_before : (old rest target bytes : List ℕ) (start at : ℕ) → target ≡ take at old ++ rest
+    → start + length bytes ≡ at → at ≤ length old → overwritten target start bytes ≡ take start old ++ (bytes ++ rest)
 written_before old rest target bytes start at is ends le =
     let n = length bytes in
-    let split : take at old ≡ take start old ++ take n (drop start old) = ap (λ (k : ℕ). take k old) (sym ends) ∙ take-add start n old in
+    let split : take at old ≡ take start old ++ take n (drop start old) =
+    ap (λ (k : ℕ). take k old) (sym ends) ∙ take-add start n old in
     let whole : target ≡ take start old ++ (take n (drop start old) ++ rest) =
     is ∙ ap (λ (l : List ℕ). l ++ rest) split ∙ append_assoc (take start old) (take n (drop start old)) rest in
-    let front : take start target ≡ take start old = ap (take start) whole ∙ take_at (take start old) _ start (length-take-le start old (omega (arith, ends, le))) in
+    let front : take start target ≡ take start old =
+    ap (take start) whole ∙ take_at (take start old) _ start (length-take-le start old (omega (arith, ends, le))) in
     let back : drop (start + n) target ≡ rest =
     ap (λ (k : ℕ). drop k target) ends ∙ ap (drop at) is ∙ drop_at (take at old) rest at (length-take-le at old le) in
     (λ i. front i ++ bytes ++ back i) ∙ append_assoc (take start old) bytes rest
 
 -- one list more before three
 one_more : (first second third last : List ℕ) → first ++ (second ++ third ++ last) ≡ first ++ second ++ third ++ last
-one_more first second third last = sym (ap (λ (l : List ℕ). l ++ last) (append_assoc first second third) ∙ append_assoc first (second ++ third) last)
+one_more first second third last =
+    sym (ap (λ (l : List ℕ). l ++ last) (append_assoc first second third) ∙ append_assoc first (second ++ third) last)
 
 -- ---- header by header
 
--- From a place on the target holds the last headers of the packet, as they are written. One ether type announces them, and another
--- one a VLAN tag before them.
+-- From a place on the target holds the last headers of the packet, as they are written. One ether type announces them,
+-- and another one a VLAN tag before them.
 pub record Filled (p : PacketBuilder) (old target : List ℕ) (hs : List Header) (at announced vlan : ℕ) : Type 0 where
   pub fit : AllFit (built hs (content_type p.content) (length (content_payload p.content)))
-  pub bytes : target ≡ take at old ++ (flat_map header_bytes (built hs (content_type p.content) (length (content_payload p.content))) ++ content_payload p.content ++ drop (packet_len p) old)
+  pub bytes : target
+      ≡ take at old
+      ++ (flat_map header_bytes (built hs (content_type p.content) (length (content_payload p.content)))
+      ++ content_payload p.content ++ drop (packet_len p) old)
   pub rest : at + place (length (content_payload p.content)) hs ≡ packet_len p
   pub type : announced ≡ type_of hs (content_type p.content)
   pub tag : vlan ≡ vlan_type hs
@@ -60,18 +67,25 @@ later p i = views (drop i p.link_exts.now) ++ content_headers p.content
 pub later_none : (p : PacketBuilder) → later p (length p.link_exts.now) ≡ content_headers p.content
 later_none p = ap (λ (l : List LinkExtHeader). views l ++ content_headers p.content) (drop-length p.link_exts.now)
 
-pub later_before : (p : PacketBuilder) (i : ℕ) (x : LinkExtHeader) → 0 < i → i ≤ length p.link_exts.now → x ≡ slice_index_or p.link_exts.now (i - 1) x → later p (i - 1) ≡ ext_header_view x ∷ later p i
+pub later_before : (p : PacketBuilder) (i : ℕ) (x : LinkExtHeader) → 0 < i → i ≤ length p.link_exts.now
+    → x ≡ slice_index_or p.link_exts.now (i - 1) x → later p (i - 1) ≡ ext_header_view x ∷ later p i
 later_before p i x some le is =
     let next : i - 1 + 1 ≡ i = omega (arith, some) in
-    ap (λ (l : List Header). l ++ content_headers p.content) (drop_next p.link_exts.now (i - 1) x (omega (arith, some, le))) ∙ (λ k. ext_header_view (sym is k) ∷ later p (next k))
+    ap (λ (l : List Header). l ++ content_headers p.content)
+    (drop_next p.link_exts.now (i - 1) x (omega (arith, some, le)))
+    ∙ (λ k. ext_header_view (sym is k) ∷ later p (next k))
 
 -- ---- the content
 
-content_built : (c : PacketContent) → content_bytes c ≡ flat_map header_bytes (built (content_headers c) (content_type c) (length (content_payload c))) ++ content_payload c
+content_built : (c : PacketContent)
+    → content_bytes c
+    ≡ flat_map header_bytes (built (content_headers c) (content_type c) (length (content_payload c)))
+    ++ content_payload c
 content_built (contents.Payload t bytes) = refl
 content_built (contents.Arp packet) = sym (append-nil _ ∙ append-nil (header_bytes (headers.Arp packet.now)))
 
-content_fits : (c : PacketContent) → AllFit (content_headers c) → AllFit (built (content_headers c) (content_type c) (length (content_payload c)))
+content_fits : (c : PacketContent) → AllFit (content_headers c)
+    → AllFit (built (content_headers c) (content_type c) (length (content_payload c)))
 content_fits (contents.Payload t bytes) fits = tt
 content_fits (contents.Arp packet) fits = fits
 
@@ -79,14 +93,18 @@ content_long : (c : PacketContent) → AllFit (content_headers c) → length (co
 content_long (contents.Payload t bytes) fits = refl
 content_long (contents.Arp packet) fits = length-header_bytes (headers.Arp packet.now) fits.0
 
-pub filled_content : (p : PacketBuilder) (old target : List ℕ) (at t v : ℕ) → at + content_len p.content ≡ packet_len p → target ≡ overwritten old at (content_bytes p.content) → AllFit (content_headers p.content)
-    → t ≡ type_of (content_headers p.content) (content_type p.content) → v ≡ vlan_type (content_headers p.content) → Filled p old target (content_headers p.content) at t v
+pub filled_content : (p : PacketBuilder) (old target : List ℕ) (at t v : ℕ) → at + content_len p.content ≡ packet_len p
+    → target ≡ overwritten old at (content_bytes p.content) → AllFit (content_headers p.content)
+    → t ≡ type_of (content_headers p.content) (content_type p.content) → v ≡ vlan_type (content_headers p.content)
+    → Filled p old target (content_headers p.content) at t v
 filled_content p old target at t v ends bytes fits type tag =
     let c = p.content in
     let end : at + length (content_bytes c) ≡ packet_len p = ap (λ (k : ℕ). at + k) (content_long c fits) ∙ ends in
     record {
       fit = content_fits c fits;
-      bytes = bytes ∙ append_assoc (take at old) (content_bytes c) _ ∙ (λ i. take at old ++ (content_built c i ++ drop (end i) old));
+      bytes =
+          bytes ∙ append_assoc (take at old) (content_bytes c) _
+          ∙ (λ i. take at old ++ (content_built c i ++ drop (end i) old));
       rest = ap (λ (k : ℕ). at + k) (sym (content_place c)) ∙ ends;
       type = type;
       tag = tag;
@@ -95,7 +113,8 @@ filled_content p old target at t v ends bytes fits type tag =
 -- ---- the tags
 
 -- there is room for a header before what is written already
-pub room_before : (p : PacketBuilder) (old target : List ℕ) (i : ℕ) (x : LinkExtHeader) (at announced vlan : ℕ) → 0 < i → i ≤ length p.link_exts.now → x ≡ slice_index_or p.link_exts.now (i - 1) x
+pub room_before : (p : PacketBuilder) (old target : List ℕ) (i : ℕ) (x : LinkExtHeader) (at announced vlan : ℕ) → 0 < i
+    → i ≤ length p.link_exts.now → x ≡ slice_index_or p.link_exts.now (i - 1) x
     → Filled p old target (later p i) at announced vlan → header_len (ext_header_view x) ≤ at
 room_before p old target i x at announced vlan some le is so_far =
     let m = length (content_payload p.content) in
@@ -104,29 +123,50 @@ room_before p old target i x at announced vlan some le is so_far =
     let turn : m + place 0 front ≡ place 0 front + m = omega arith in
     let long : place m front ≡ place 0 front + m = ap (λ (k : ℕ). place k front) zero ∙ place-add m 0 front ∙ turn in
     let inner : place m (inner_headers p) ≡ place 0 front + place m (later p (i - 1)) =
-    ap (place m) (all_views p.link_exts.now (i - 1) (content_headers p.content)) ∙ place-append m front (later p (i - 1)) ∙ ap (λ (k : ℕ). place k (later p (i - 1))) long ∙ place-add (place 0 front) m (later p (i - 1)) in
-    let last : place m (later p (i - 1)) ≡ header_len (ext_header_view x) + place m (later p i) = ap (place m) (later_before p i x some le is) ∙ place-first m (ext_header_view x) (later p i) in
+    ap (place m) (all_views p.link_exts.now (i - 1) (content_headers p.content))
+    ∙ place-append m front (later p (i - 1)) ∙ ap (λ (k : ℕ). place k (later p (i - 1))) long
+    ∙ place-add (place 0 front) m (later p (i - 1)) in
+    let last : place m (later p (i - 1)) ≡ header_len (ext_header_view x) + place m (later p i) =
+    ap (place m) (later_before p i x some le is) ∙ place-first m (ext_header_view x) (later p i) in
     let whole = place-first m (link_header p.link) (inner_headers p) in
     let rest = so_far.rest in
     omega (arith, whole, inner, last, rest)
 
-pub filled_next : (p : PacketBuilder) (old target new : List ℕ) (h : Header) (hs : List Header) (at announced vlan start following next tag : ℕ) → packet_len p ≤ length old → Filled p old target hs at announced vlan
-    → start + header_len h ≡ at → following ≡ packet_len p - at → new ≡ overwritten target start (header_bytes (before h announced following)) → FitsHeader (before h announced following)
-    → next ≡ type_of (h ∷ hs) (content_type p.content) → tag ≡ vlan_type (h ∷ hs) → Filled p old new (h ∷ hs) start next tag
-filled_next p old target new h hs at announced vlan start following next tag room so_far ends is bytes fits type vlan_is =
+pub filled_next : (p : PacketBuilder) (old target new : List ℕ) (h : Header) (hs : List Header)
+    (at announced vlan start following next tag : ℕ)
+    → packet_len p ≤ length old → Filled p old target hs at announced vlan
+    → start + header_len h ≡ at → following ≡ packet_len p - at
+    → new ≡ overwritten target start (header_bytes (before h announced following))
+    → FitsHeader (before h announced following)
+    → next ≡ type_of (h ∷ hs) (content_type p.content) → tag ≡ vlan_type (h ∷ hs)
+    → Filled p old new (h ∷ hs) start next tag
+filled_next p old target new h hs at announced vlan start following next tag room so_far ends is bytes fits type
+    vlan_is =
     let m = length (content_payload p.content) in
     let k = content_type p.content in
     let rest = so_far.rest in
     let long : following ≡ place m hs = omega (arith, rest, is) in
-    let own : before h announced following ≡ before h (type_of hs k) (place m hs) = (λ i. before h (so_far.type i) (long i)) in
-    let len : length (header_bytes (before h announced following)) ≡ header_len h = length-header_bytes (before h announced following) fits ∙ header_len_before h announced following in
+    let own : before h announced following ≡ before h (type_of hs k) (place m hs) =
+    (λ i. before h (so_far.type i) (long i)) in
+    let len : length (header_bytes (before h announced following)) ≡ header_len h =
+    length-header_bytes (before h announced following) fits ∙ header_len_before h announced following in
     let end : start + length (header_bytes (before h announced following)) ≡ at = omega (arith, len, ends) in
     let more = place-first m h hs in
     record {
       fit = (subst FitsHeader own fits, so_far.fit);
-      bytes = bytes ∙ written_before old _ target (header_bytes (before h announced following)) start at so_far.bytes end (omega (arith, rest, room))
-          ∙ ap (λ (l : List ℕ). take start old ++ l) (one_more (header_bytes (before h announced following)) (flat_map header_bytes (built hs k m)) (content_payload p.content) (drop (packet_len p) old))
-          ∙ ap (λ (g : Header). take start old ++ (header_bytes g ++ flat_map header_bytes (built hs k m) ++ content_payload p.content ++ drop (packet_len p) old)) own;
+      bytes =
+          bytes
+          ∙ written_before old _ target (header_bytes (before h announced following)) start at so_far.bytes end
+          (omega (arith, rest, room))
+          ∙ ap (λ (l : List ℕ). take start old ++ l)
+          (one_more (header_bytes (before h announced following)) (flat_map header_bytes (built hs k m))
+          (content_payload p.content) (drop (packet_len p) old))
+          ∙ ap
+          (λ (g : Header).
+          take start old
+          ++ (header_bytes g ++ flat_map header_bytes (built hs k m) ++ content_payload p.content
+          ++ drop (packet_len p) old))
+          own;
       rest = omega (arith, more, rest, ends);
       type = type;
       tag = vlan_is;
@@ -146,7 +186,8 @@ room_for_content p =
 
 pub room_for_link : (p : PacketBuilder) (len : ℕ) → packet_len p ≤ len → header_len (link_header p.link) ≤ len
 room_for_link p len le =
-    let e = place-first (length (content_payload p.content)) (link_header p.link) (inner_headers p) in omega (arith, e, le)
+    let e = place-first (length (content_payload p.content)) (link_header p.link) (inner_headers p) in
+    omega (arith, e, le)
 
 inner_views : (xs : List LinkExtHeader) (c : PacketContent) → AreInner (views xs ++ content_headers c)
 inner_views [] (contents.Payload t bytes) = tt
@@ -154,13 +195,20 @@ inner_views [] (contents.Arp packet) = (tt, tt)
 inner_views (exts.Vlan h ∷ xs) c = (tt, inner_views xs c)
 inner_views (exts.Macsec h ∷ xs) c = (tt, inner_views xs c)
 
-link_fits : (link : LinkHeader) (hs : List Header) (t n : ℕ) → IsEthernet link → HasPacketType link → AreInner hs → IsChain hs → AllFit (built (link_header link ∷ hs) t n) → Fits (link_start link) (built (link_header link ∷ hs) t n) n
-link_fits (links.LinuxSll h) hs t n ethernet packet inner chain fit = linux_sll_fits (linux_sll_view h) hs t n ethernet packet inner chain fit
-link_fits (links.Ethernet2 h) hs t n ethernet packet inner chain fit = ethernet2_fits (ethernet2_view h) hs t n inner chain fit
+link_fits : (link : LinkHeader) (hs : List Header) (t n : ℕ) → IsEthernet link → HasPacketType link → AreInner hs
+    → IsChain hs → AllFit (built (link_header link ∷ hs) t n)
+    → Fits (link_start link) (built (link_header link ∷ hs) t n) n
+link_fits (links.LinuxSll h) hs t n ethernet packet inner chain fit =
+    linux_sll_fits (linux_sll_view h) hs t n ethernet packet inner chain fit
+link_fits (links.Ethernet2 h) hs t n ethernet packet inner chain fit =
+    ethernet2_fits (ethernet2_view h) hs t n inner chain fit
 
 -- the link's header is written last
-pub filled_all : (p : PacketBuilder) (old target new : List ℕ) (at announced vlan : ℕ) → IsEthernet p.link → HasPacketType p.link → IsChain (inner_headers p) → packet_len p ≤ length old
-    → Filled p old target (inner_headers p) at announced vlan → new ≡ overwritten target 0 (header_bytes (before (link_header p.link) announced 0)) → FitsHeader (before (link_header p.link) announced 0)
+pub filled_all : (p : PacketBuilder) (old target new : List ℕ) (at announced vlan : ℕ) → IsEthernet p.link
+    → HasPacketType p.link → IsChain (inner_headers p) → packet_len p ≤ length old
+    → Filled p old target (inner_headers p) at announced vlan
+    → new ≡ overwritten target 0 (header_bytes (before (link_header p.link) announced 0))
+    → FitsHeader (before (link_header p.link) announced 0)
     → IsWritten p old (packet_len p) new
 filled_all p old target new at announced vlan ethernet packet chain room so_far bytes fits =
     let k = content_type p.content in
@@ -170,18 +218,26 @@ filled_all p old target new at announced vlan ethernet packet chain room so_far 
     let h = before (link_header p.link) announced 0 in
     let rest = so_far.rest in
     let first = place-first m (link_header p.link) hs in
-    let own : h ≡ before (link_header p.link) (type_of hs k) (place m hs) = any_length p.link announced 0 (place m hs) ∙ ap (λ (t : ℕ). before (link_header p.link) t (place m hs)) so_far.type in
-    let len : length (header_bytes h) ≡ header_len (link_header p.link) = length-header_bytes h fits ∙ header_len_before (link_header p.link) announced 0 in
+    let own : h ≡ before (link_header p.link) (type_of hs k) (place m hs) =
+    any_length p.link announced 0 (place m hs)
+    ∙ ap (λ (t : ℕ). before (link_header p.link) t (place m hs)) so_far.type in
+    let len : length (header_bytes h) ≡ header_len (link_header p.link) =
+    length-header_bytes h fits ∙ header_len_before (link_header p.link) announced 0 in
     let at_is : 0 + length (header_bytes h) ≡ at = omega (arith, len, rest, first) in
     let payload = content_payload p.content in
     let inner = flat_map header_bytes (built hs k m) in
     let whole : new ≡ flat_map header_bytes (built_headers p) ++ payload ++ drop end old =
-    bytes ∙ written_before old _ target (header_bytes h) 0 at so_far.bytes at_is (omega (arith, rest, room)) ∙ one_more (header_bytes h) inner payload (drop end old)
+    bytes ∙ written_before old _ target (header_bytes h) 0 at so_far.bytes at_is (omega (arith, rest, room))
+    ∙ one_more (header_bytes h) inner payload (drop end old)
     ∙ ap (λ (g : Header). header_bytes g ++ inner ++ payload ++ drop end old) own in
     let fit : AllFit (built_headers p) = (subst FitsHeader own fits, so_far.fit) in
-    let fits_all : Fits (link_start p.link) (built_headers p) m = link_fits p.link hs k m ethernet packet (inner_views p.link_exts.now p.content) chain fit in
-    let long : length (flat_map header_bytes (built_headers p) ++ payload) ≡ end = length-headers (link_start p.link) (built_headers p) payload fits_all ∙ place-built m (link_header p.link ∷ hs) k m in
-    let front : take end new ≡ flat_map header_bytes (built_headers p) ++ payload = ap (take end) whole ∙ take_at (flat_map header_bytes (built_headers p) ++ payload) (drop end old) end long in
+    let fits_all : Fits (link_start p.link) (built_headers p) m =
+    link_fits p.link hs k m ethernet packet (inner_views p.link_exts.now p.content) chain fit in
+    let long : length (flat_map header_bytes (built_headers p) ++ payload) ≡ end =
+    length-headers (link_start p.link) (built_headers p) payload fits_all
+    ∙ place-built m (link_header p.link ∷ hs) k m in
+    let front : take end new ≡ flat_map header_bytes (built_headers p) ++ payload =
+    ap (take end) whole ∙ take_at (flat_map header_bytes (built_headers p) ++ payload) (drop end old) end long in
     record {
       ends = refl;
       room = room;

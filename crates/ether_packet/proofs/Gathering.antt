@@ -47,11 +47,13 @@ abbrev pub window_after : Window → List Header → Window
 window_after w [] = w
 window_after w (h ∷ hs) = window_after (payload w h) hs
 
-window_after-append : (w : Window) (hs : List Header) (h : Header) → window_after w (hs ++ h ∷ []) ≡ payload (window_after w hs) h
+window_after-append : (w : Window) (hs : List Header) (h : Header)
+    → window_after w (hs ++ h ∷ []) ≡ payload (window_after w hs) h
 window_after-append w [] h = refl
 window_after-append w (k ∷ hs) h = window_after-append (payload w k) hs h
 
-units-append : (list : List ℕ) (w : Window) (hs : List Header) (us : List PacketUnit) (h : Header) (u : PacketUnit) → AreUnitsAt list w hs us → IsUnitAt list (window_after w hs) h u → AreUnitsAt list w (hs ++ h ∷ []) (us ++ u ∷ [])
+units-append : (list : List ℕ) (w : Window) (hs : List Header) (us : List PacketUnit) (h : Header) (u : PacketUnit)
+    → AreUnitsAt list w hs us → IsUnitAt list (window_after w hs) h u → AreUnitsAt list w (hs ++ h ∷ []) (us ++ u ∷ [])
 units-append list w [] [] h u are is = (is, tt)
 units-append list w (k ∷ hs) (v ∷ us) h u are is = (are.0, units-append list (payload w k) hs us h u are.1 is)
 units-append list w [] (v ∷ us) h u are is = absurd are
@@ -66,14 +68,17 @@ is_first kinds.Ethernet2Fcs = true
 is_first kinds.LinuxSll = true
 is_first _ = false
 
-chosen : (a b c : Bool) (kind : Kind) → cond a (Some kinds.Vlan) (cond b (Some kinds.Macsec) (cond c (Some kinds.Arp) None)) ≡ Some kind → is_first kind ≡ false
+chosen : (a b c : Bool) (kind : Kind)
+    → cond a (Some kinds.Vlan) (cond b (Some kinds.Macsec) (cond c (Some kinds.Arp) None)) ≡ Some kind
+    → is_first kind ≡ false
 chosen true b c kinds.Vlan e = refl
 chosen false true c kinds.Macsec e = refl
 chosen false false true kinds.Arp e = refl
 chosen _ _ _ _ e = absurd cc
 
 -- it is announced by the start alone
-starts : (next : Next) (kind : Kind) → announced_next next ≡ Some kind → is_first kind ≡ true → (k : Kind) × (next ≡ Start k)
+starts : (next : Next) (kind : Kind) → announced_next next ≡ Some kind → is_first kind ≡ true
+    → (k : Kind) × (next ≡ Start k)
 starts (Start k) kind e first = (k, refl)
 starts (EtherType t) kind e first = let later = chosen _ _ _ kind e in absurd cc
 starts (Sll protocol) kind e first = absurd cc
@@ -81,27 +86,32 @@ starts Sealed kind e first = absurd cc
 starts AfterArp kind e first = absurd cc
 
 -- an extension is announced only if one may still be read
-may_read : (x : Expectation) (kind : Kind) (free : ℕ) → x.limit ≡ Some free → is_extension kind ≡ true → announced x ≡ Some kind → 0 < free
+may_read : (x : Expectation) (kind : Kind) (free : ℕ) → x.limit ≡ Some free → is_extension kind ≡ true
+    → announced x ≡ Some kind → 0 < free
 may_read x kind (suc free) limit ext e = omega arith
 may_read x kind zero limit ext e =
-    let all : permitted (Some zero) (Some kind) ≡ Some kind = (λ i. permitted (sym limit i) (sym (announced_is x kind e) i)) ∙ e in
+    let all : permitted (Some zero) (Some kind) ≡ Some kind =
+    (λ i. permitted (sym limit i) (sym (announced_is x kind e) i)) ∙ e in
     let none : permitted (Some zero) (Some kind) ≡ None = ap (λ (b : Bool). cond (b && true) None (Some kind)) ext in
     absurd cc
 
 -- ---- a unit is added
 
--- what is known of the headers that were read before a unit, where x is expected and so many extensions may still be read
+-- what is known of the headers that were read before a unit, where x is expected and so many extensions may still be
+-- read
 pub record Ready (r : Read) (x : Expectation) (free : ℕ) : Type 0 where
   pub limit : x.limit ≡ Some free
   pub first : (kind : Kind) → x.next ≡ Start kind → r.units ≡ []
   pub arp : (arp_view r.units ≡ None) ⊎ (x.next ≡ AfterArp)
 
-no_arp : (r : Read) (x : Expectation) (kind : Kind) → (arp_view r.units ≡ None) ⊎ (x.next ≡ AfterArp) → announced x ≡ Some kind → arp_view r.units ≡ None
+no_arp : (r : Read) (x : Expectation) (kind : Kind) → (arp_view r.units ≡ None) ⊎ (x.next ≡ AfterArp)
+    → announced x ≡ Some kind → arp_view r.units ≡ None
 no_arp r x kind (inl none) e = none
 no_arp r x kind (inr over) e = let a = announced_is x kind e in let b = ap announced_next over in absurd cc
 
 -- a link's header is the first
-place_first : (r : Read) (x : Expectation) (kind : Kind) (p : Place) (free : ℕ) → Ready r x free → announced x ≡ Some kind → is_first kind ≡ true → (r.units ≡ [] → (p.start ≡ 0) × (p.bytes.now ≡ r.frame))
+place_first : (r : Read) (x : Expectation) (kind : Kind) (p : Place) (free : ℕ) → Ready r x free
+    → announced x ≡ Some kind → is_first kind ≡ true → (r.units ≡ [] → (p.start ≡ 0) × (p.bytes.now ≡ r.frame))
     → (r.units ≡ []) × (p.start ≡ 0) × (p.bytes.now ≡ r.frame)
 place_first r x kind p free ready e first whole_frame =
     let start = starts x.next kind (announced_is x kind e) first in
@@ -109,27 +119,41 @@ place_first r x kind p free ready e first whole_frame =
     let all = whole_frame none in
     (none, all.0, all.1)
 
-place_ext : (r : Read) (x : Expectation) (kind : Kind) (free : ℕ) → Ready r x free → announced x ≡ Some kind → is_extension kind ≡ true → length (exts_of r.units) + free ≡ 3 → HasPlaceForExt r
-place_ext r x kind free ready e extends room = let lt = may_read x kind free ready.limit extends e in (omega arith, no_arp r x kind ready.arp e)
+place_ext : (r : Read) (x : Expectation) (kind : Kind) (free : ℕ) → Ready r x free → announced x ≡ Some kind
+    → is_extension kind ≡ true → length (exts_of r.units) + free ≡ 3 → HasPlaceForExt r
+place_ext r x kind free ready e extends room =
+    let lt = may_read x kind free ready.limit extends e in (omega arith, no_arp r x kind ready.arp e)
 
-pub has_place : (r : Read) (x : Expectation) (bytes rest : List ℕ) (h : Header) (u : PeelUnit) (p : Place) (free : ℕ) → Ready r x free → announced x ≡ Some (kind_of h) → ShowsUnit bytes rest h u → length (exts_of r.units) + free ≡ 3
+pub has_place : (r : Read) (x : Expectation) (bytes rest : List ℕ) (h : Header) (u : PeelUnit) (p : Place) (free : ℕ)
+    → Ready r x free → announced x ≡ Some (kind_of h) → ShowsUnit bytes rest h u → length (exts_of r.units) + free ≡ 3
     → (r.units ≡ [] → (p.start ≡ 0) × (p.bytes.now ≡ r.frame)) → HasPlace r u p
-has_place r x bytes rest (headers.Ethernet2 e) u p free ready known shows room first = subst (λ (v : PeelUnit). HasPlace r v p) (sym shows) (place_first r x kinds.Ethernet2 p free ready known refl first)
-has_place r x bytes rest (headers.Ethernet2Fcs e) u p free ready known shows room first = subst (λ (v : PeelUnit). HasPlace r v p) (sym shows) (place_first r x kinds.Ethernet2Fcs p free ready known refl first)
-has_place r x bytes rest (headers.LinuxSll s) u p free ready known shows room first = subst (λ (v : PeelUnit). HasPlace r v p) (sym shows) (place_first r x kinds.LinuxSll p free ready known refl first)
-has_place r x bytes rest (headers.Vlan v) u p free ready known shows room first = subst (λ (k : PeelUnit). HasPlace r k p) (sym shows) (place_ext r x kinds.Vlan free ready known refl room)
-has_place r x bytes rest (headers.Macsec t) u p free ready known shows room first = subst (λ (k : PeelUnit). HasPlace r k p) (sym shows.1) (place_ext r x kinds.Macsec free ready known refl room)
-has_place r x bytes rest (headers.Arp a) u p free ready known shows room first = subst (λ (k : PeelUnit). HasPlace r k p) (sym shows) (no_arp r x kinds.Arp ready.arp known)
+has_place r x bytes rest (headers.Ethernet2 e) u p free ready known shows room first =
+    subst (λ (v : PeelUnit). HasPlace r v p) (sym shows) (place_first r x kinds.Ethernet2 p free ready known refl first)
+has_place r x bytes rest (headers.Ethernet2Fcs e) u p free ready known shows room first =
+    subst (λ (v : PeelUnit). HasPlace r v p) (sym shows)
+    (place_first r x kinds.Ethernet2Fcs p free ready known refl first)
+has_place r x bytes rest (headers.LinuxSll s) u p free ready known shows room first =
+    subst (λ (v : PeelUnit). HasPlace r v p) (sym shows) (place_first r x kinds.LinuxSll p free ready known refl first)
+has_place r x bytes rest (headers.Vlan v) u p free ready known shows room first =
+    subst (λ (k : PeelUnit). HasPlace r k p) (sym shows) (place_ext r x kinds.Vlan free ready known refl room)
+has_place r x bytes rest (headers.Macsec t) u p free ready known shows room first =
+    subst (λ (k : PeelUnit). HasPlace r k p) (sym shows.1) (place_ext r x kinds.Macsec free ready known refl room)
+has_place r x bytes rest (headers.Arp a) u p free ready known shows room first =
+    subst (λ (k : PeelUnit). HasPlace r k p) (sym shows) (no_arp r x kinds.Arp ready.arp known)
 
 -- one extension more takes its place
-room_for : (us : List PacketUnit) (u : PacketUnit) (b : Bool) (free : ℕ) → is_extension u.kind ≡ b → (b ≡ true → 0 < free) → length (exts_of us) + free ≡ 3 → length (exts_of (us ++ u ∷ [])) + cond b (free - 1) free ≡ 3
+room_for : (us : List PacketUnit) (u : PacketUnit) (b : Bool) (free : ℕ) → is_extension u.kind ≡ b
+    → (b ≡ true → 0 < free) → length (exts_of us) + free ≡ 3
+    → length (exts_of (us ++ u ∷ [])) + cond b (free - 1) free ≡ 3
 room_for us u true free is more room =
     let lt = more refl in
-    let parts : length (exts_of (us ++ u ∷ [])) ≡ length (exts_of us) + length (exts_of (u ∷ [])) = ap length (filter-append is_ext us (u ∷ [])) ∙ length-append (exts_of us) (exts_of (u ∷ [])) in
+    let parts : length (exts_of (us ++ u ∷ [])) ≡ length (exts_of us) + length (exts_of (u ∷ [])) =
+    ap length (filter-append is_ext us (u ∷ [])) ∙ length-append (exts_of us) (exts_of (u ∷ [])) in
     let one : length (exts_of (u ∷ [])) ≡ 1 = ap (λ (b : Bool). length (cond b (u ∷ []) [])) is in
     omega (arith, parts, one, lt, room)
 room_for us u false free is more room =
-    let parts : length (exts_of (us ++ u ∷ [])) ≡ length (exts_of us) + length (exts_of (u ∷ [])) = ap length (filter-append is_ext us (u ∷ [])) ∙ length-append (exts_of us) (exts_of (u ∷ [])) in
+    let parts : length (exts_of (us ++ u ∷ [])) ≡ length (exts_of us) + length (exts_of (u ∷ [])) =
+    ap length (filter-append is_ext us (u ∷ [])) ∙ length-append (exts_of us) (exts_of (u ∷ [])) in
     let none : length (exts_of (u ∷ [])) ≡ 0 = ap (λ (b : Bool). length (cond b (u ∷ []) [])) is in
     omega (arith, parts, none, room)
 
@@ -138,9 +162,12 @@ empty_if [] e = refl
 empty_if (x ∷ l) e = absurd cc
 
 -- what is no ARP packet adds none
-still_no_arp : (us : List PacketUnit) (u : PacketUnit) → arp_view us ≡ None → arp_in u.kind u.bytes ≡ None → arp_view (us ++ u ∷ []) ≡ None
+still_no_arp : (us : List PacketUnit) (u : PacketUnit) → arp_view us ≡ None → arp_in u.kind u.bytes ≡ None
+    → arp_view (us ++ u ∷ []) ≡ None
 still_no_arp us u none other =
-    ap (λ l. slice_get l 0) (filter_map-append arp_of_unit us (u ∷ []) ∙ (λ i. empty_if (filter_map arp_of_unit us) none i ++ cons_option (other i) []))
+    ap (λ l. slice_get l 0)
+    (filter_map-append arp_of_unit us (u ∷ [])
+    ∙ (λ i. empty_if (filter_map arp_of_unit us) none i ++ cons_option (other i) []))
 
 arp_or_over : (h : Header) (bytes : List ℕ) → (arp_in (kind_of h) bytes ≡ None) ⊎ (next_after h ≡ AfterArp)
 arp_or_over (headers.Ethernet2 e) bytes = inl refl
@@ -182,7 +209,8 @@ pub record IsAt (s : State) (p : Place) : Type 0 where
 
 -- a walker that has read nothing
 pub gathered_first : (start : Expectation) (list : List ℕ) (s : State) (r : Read) (hs : List Header) (e : Ending)
-    → start.limit ≡ Some 3 → Walk start list hs e → Faces list (whole start list) s hs e → s.over ≡ false → s.expected ≡ start
+    → start.limit ≡ Some 3 → Walk start list hs e → Faces list (whole start list) s hs e → s.over ≡ false
+    → s.expected ≡ start
     → r ≡ record { frame = list; units = [] } → Gathered start list s r
 gathered_first start list s r hs e limit walk faces going expected is =
     let none = ap (λ (k : Read). k.units) is in
@@ -208,7 +236,8 @@ gathered_first start list s r hs e limit walk faces going expected is =
     }
 
 -- a unit is given: the first of the headers that are left
-pub record Given (list : List ℕ) (w : Window) (left : List Header) (e : Ending) (s t : State) (u : PeelUnit) : Type 0 where
+pub record Given (list : List ℕ) (w : Window) (left : List Header) (e : Ending) (s t : State)
+    (u : PeelUnit) : Type 0 where
   pub header : Header
   pub later : List Header
   pub parts : left ≡ header ∷ later
@@ -217,42 +246,61 @@ pub record Given (list : List ℕ) (w : Window) (left : List Header) (e : Ending
   pub expected : t.expected ≡ after s.expected header
   pub faces : Faces list (payload w header) t later e
 
-given : (list : List ℕ) (w : Window) (left : List Header) (e : Ending) (s t : State) (u : PeelUnit) → GivesNext list w left e s (Some (Ok u)) t → Given list w left e s t u
+given : (list : List ℕ) (w : Window) (left : List Header) (e : Ending) (s t : State) (u : PeelUnit)
+    → GivesNext list w left e s (Some (Ok u)) t → Given list w left e s t u
 given list w [] (Accepted v y) s t u g = let none = g.0 in absurd cc
 given list w [] (Fault v y q) s t u g = let fault = g.0 in absurd cc
 given list w (h ∷ hs) e s t u g =
     let some = g.1 in
     let is : g.0 ≡ u = cc in
-    record { header = h; later = hs; parts = refl; shows = subst (ShowsUnit s.rest t.rest h) is g.2; going = g.3; expected = g.4; faces = g.5 }
+    record {
+      header = h;
+      later = hs;
+      parts = refl;
+      shows = subst (ShowsUnit s.rest t.rest h) is g.2;
+      going = g.3;
+      expected = g.4;
+      faces = g.5;
+    }
 
 -- what is known of it
-pub record IsNext (list : List ℕ) (w : Window) (left : List Header) (e : Ending) (s t : State) (u : PeelUnit) : Type 0 where
+pub record IsNext (list : List ℕ) (w : Window) (left : List Header) (e : Ending) (s t : State)
+    (u : PeelUnit) : Type 0 where
   pub given : Given list w left e s t u
   pub unit : IsUnit list s.expected w given.header
   pub shows : ShowsUnit (within list w) (within list (payload w given.header)) given.header u
   pub value : unit_header u ≡ given.header
 
-is_next : (list : List ℕ) (w : Window) (left : List Header) (e : Ending) (s t : State) (u : PeelUnit) → IsBytes list → Faces list w s left e → GivesNext list w left e s (Some (Ok u)) t → IsNext list w left e s t u
+is_next : (list : List ℕ) (w : Window) (left : List Header) (e : Ending) (s t : State) (u : PeelUnit) → IsBytes list
+    → Faces list w s left e → GivesNext list w left e s (Some (Ok u)) t → IsNext list w left e s t u
 is_next list w left e s t u ok faces g =
     let n = given list w left e s t u g in
     let old = subst (λ (l : List Header). Faces list w s l e) n.parts faces in
     let unit = old.stack.0 in
     let h = n.header in
-    let shows = subst (λ (l : List ℕ). ShowsUnit l (within list (payload w h)) h u) old.rest (subst (λ (l : List ℕ). ShowsUnit s.rest l h u) n.faces.rest n.shows) in
+    let shows =
+    subst (λ (l : List ℕ). ShowsUnit l (within list (payload w h)) h u) old.rest
+    (subst (λ (l : List ℕ). ShowsUnit s.rest l h u) n.faces.rest n.shows) in
     record {
       given = n;
       unit = unit;
       shows = shows;
-      value = unit_header-shown (within list w) (within list (payload w h)) h u (IsBytes-part w.start w.finish list ok) unit.means shows;
+      value =
+          unit_header-shown (within list w) (within list (payload w h)) h u (IsBytes-part w.start w.finish list ok)
+          unit.means shows;
     }
 
-abbrev pub NextOf : (start : Expectation) (list : List ℕ) (s t : State) (r : Read) (u : PeelUnit) → Gathered start list s r → Type 0
+abbrev pub NextOf : (start : Expectation) (list : List ℕ) (s t : State) (r : Read) (u : PeelUnit)
+    → Gathered start list s r → Type 0
 NextOf start list s t r u a = IsNext list a.window a.left a.ending s t u
 
-pub next_of : (start : Expectation) (list : List ℕ) (s t : State) (r : Read) (u : PeelUnit) → IsBytes list → (a : Gathered start list s r) → Gives s (Some (Ok u)) t → NextOf start list s t r u a
-next_of start list s t r u ok a gives = is_next list a.window a.left a.ending s t u ok a.faces (gives.next a.going list a.window a.left a.ending a.faces)
+pub next_of : (start : Expectation) (list : List ℕ) (s t : State) (r : Read) (u : PeelUnit) → IsBytes list
+    → (a : Gathered start list s r) → Gives s (Some (Ok u)) t → NextOf start list s t r u a
+next_of start list s t r u ok a gives =
+    is_next list a.window a.left a.ending s t u ok a.faces (gives.next a.going list a.window a.left a.ending a.faces)
 
-none_done : (list : List ℕ) (w : Window) (hs : List Header) (us : List PacketUnit) → AreUnitsAt list w hs us → us ≡ [] → hs ≡ []
+none_done : (list : List ℕ) (w : Window) (hs : List Header) (us : List PacketUnit) → AreUnitsAt list w hs us → us ≡ []
+    → hs ≡ []
 none_done list w [] us are none = refl
 none_done list w (h ∷ hs) [] are none = absurd are
 none_done list w (h ∷ hs) (u ∷ us) are none = absurd cc
@@ -261,27 +309,40 @@ none_done list w (h ∷ hs) (u ∷ us) are none = absurd cc
 pub whole_part : (frame : List ℕ) → slice_range frame 0 (length frame) ≡ frame
 whole_part frame = take_all (length frame - 0) frame (omega arith)
 
-pub fits : (start : Expectation) (list : List ℕ) (s t : State) (r : Read) (p : Place) (u : PeelUnit) (a : Gathered start list s r) → NextOf start list s t r u a → IsAt s p → HasPlace r u p
+pub fits : (start : Expectation) (list : List ℕ) (s t : State) (r : Read) (p : Place) (u : PeelUnit)
+    (a : Gathered start list s r)
+    → NextOf start list s t r u a → IsAt s p → HasPlace r u p
 fits start list s t r p u a n at =
     let first : (r.units ≡ []) → (p.start ≡ 0) × (p.bytes.now ≡ r.frame) = λ none.
-    let window : a.window ≡ whole start list = a.comes_after ∙ ap (window_after (whole start list)) (none_done list (whole start list) a.done r.units a.units none) in
-    (at.start ∙ a.faces.offset ∙ ap (λ (w : Window). w.start) window, at.bytes ∙ a.faces.rest ∙ ap (within list) window ∙ whole_part list ∙ sym a.frame) in
-    has_place r s.expected (within list a.window) (within list (payload a.window n.given.header)) n.given.header u p a.free a.ready n.unit.announced n.shows a.room first
+    let window : a.window ≡ whole start list =
+    a.comes_after
+    ∙ ap (window_after (whole start list)) (none_done list (whole start list) a.done r.units a.units none) in (
+      at.start ∙ a.faces.offset ∙ ap (λ (w : Window). w.start) window,
+      at.bytes ∙ a.faces.rest
+          ∙ ap (within list) window ∙ whole_part list ∙ sym a.frame,
+    ) in
+    has_place r s.expected (within list a.window) (within list (payload a.window n.given.header)) n.given.header u p
+    a.free a.ready n.unit.announced n.shows a.room first
 
 -- no row holds of a slice that none holds of in a window with a bound
 unbounded : (bound : LenSource) (bytes : List ℕ) (kind : Kind) → Accepts bound bytes kind → Reads bytes kind
 unbounded bound bytes kind ok r row = ok (named bound r) (bounded_row bound bytes kind r row)
 
-part_is : (start : Expectation) (list : List ℕ) (s : State) (r : Read) (p : Place) (a : Gathered start list s r) → IsAt s p → p.bytes.now ≡ within list a.window
+part_is : (start : Expectation) (list : List ℕ) (s : State) (r : Read) (p : Place) (a : Gathered start list s r)
+    → IsAt s p → p.bytes.now ≡ within list a.window
 part_is start list s r p a at = at.bytes ∙ a.faces.rest
 
-pub readable : (start : Expectation) (list : List ℕ) (s t : State) (r : Read) (p : Place) (u : PeelUnit) (a : Gathered start list s r) → NextOf start list s t r u a → IsAt s p → IsReadable (kind_read u) p
+pub readable : (start : Expectation) (list : List ℕ) (s t : State) (r : Read) (p : Place) (u : PeelUnit)
+    (a : Gathered start list s r)
+    → NextOf start list s t r u a → IsAt s p → IsReadable (kind_read u) p
 readable start list s t r p u a n at =
     let own = unbounded a.window.bound (within list a.window) (kind_of n.given.header) n.unit.accepted in
-    subst (λ (l : List ℕ). Reads l (kind_read u)) (sym (part_is start list s r p a at)) (subst (Reads (within list a.window)) (sym (ap kind_of n.value)) own)
+    subst (λ (l : List ℕ). Reads l (kind_read u)) (sym (part_is start list s r p a at))
+    (subst (Reads (within list a.window)) (sym (ap kind_of n.value)) own)
 
 -- no start is announced by a header
-no_start_capture : (b : Bool) (t : ℕ) (protocol : LinuxSllProtocolType) (kind : Kind) → cond b (EtherType t) (Sll protocol) ≡ Start kind → ⊥
+no_start_capture : (b : Bool) (t : ℕ) (protocol : LinuxSllProtocolType) (kind : Kind)
+    → cond b (EtherType t) (Sll protocol) ≡ Start kind → ⊥
 no_start_capture true t protocol kind is = cc
 no_start_capture false t protocol kind is = cc
 
@@ -299,11 +360,14 @@ no_start (headers.Vlan v) kind is = cc
 no_start (headers.Macsec t) kind is = no_start_payload t.payload_type kind is
 no_start (headers.Arp a) kind is = cc
 
-lowered_limit : (b : Bool) (limit : Option ℕ) (free : ℕ) → limit ≡ Some free → lowered b limit ≡ Some (cond b (free - 1) free)
+lowered_limit : (b : Bool) (limit : Option ℕ) (free : ℕ) → limit ≡ Some free
+    → lowered b limit ≡ Some (cond b (free - 1) free)
 lowered_limit true limit free e = ap (lowered true) e
 lowered_limit false limit free e = e
 
-pub gathered_next : (start : Expectation) (list : List ℕ) (s t : State) (r q : Read) (p : Place) (u : PeelUnit) (a : Gathered start list s r) → IsBytes list → NextOf start list s t r u a → IsAt s p → q ≡ read_with r (kind_read u) p
+pub gathered_next : (start : Expectation) (list : List ℕ) (s t : State) (r q : Read) (p : Place) (u : PeelUnit)
+    (a : Gathered start list s r)
+    → IsBytes list → NextOf start list s t r u a → IsAt s p → q ≡ read_with r (kind_read u) p
     → Gathered start list t q
 gathered_next start list s t r q p u a ok n here is =
     let h = n.given.header in
@@ -313,11 +377,16 @@ gathered_next start list s t r q p u a ok n here is =
     let kind : kind_read u ≡ kind_of h = ap kind_of n.value in
     let bytes = part_is start list s r p a here in
     let at : IsUnitAt list w h unit = record { kind = kind; offset = here.start ∙ a.faces.offset; bytes = bytes } in
-    let value : header_of unit ≡ h = (λ i. header_in (kind i) (bytes i)) ∙ header_shown (within list w) h (IsBytes-part w.start w.finish list ok) n.unit.means in
+    let value : header_of unit ≡ h =
+    (λ i. header_in (kind i) (bytes i))
+    ∙ header_shown (within list w) h (IsBytes-part w.start w.finish list ok) n.unit.means in
     let units : q.units ≡ r.units ++ unit ∷ [] = ap (λ (k : Read). k.units) is in
-    let same : a.done ++ a.left ≡ (a.done ++ h ∷ []) ++ n.given.later = ap (λ (l : List Header). a.done ++ l) n.given.parts ∙ sym (append_assoc a.done (h ∷ []) n.given.later) in
+    let same : a.done ++ a.left ≡ (a.done ++ h ∷ []) ++ n.given.later =
+    ap (λ (l : List Header). a.done ++ l) n.given.parts ∙ sym (append_assoc a.done (h ∷ []) n.given.later) in
     let extends : is_extension unit.kind ≡ is_extension (kind_of h) = ap is_extension kind in
-    let more = λ (e : is_extension (kind_of h) ≡ true). may_read s.expected (kind_of h) a.free a.ready.limit e n.unit.announced in
+    let more =
+    λ (e : is_extension (kind_of h) ≡ true).
+    may_read s.expected (kind_of h) a.free a.ready.limit e n.unit.announced in
     record {
       done = a.done ++ h ∷ [];
       left = n.given.later;
@@ -329,16 +398,26 @@ gathered_next start list s t r q p u a ok n here is =
       comes_after = ap (λ (k : Window). payload k h) a.comes_after ∙ sym (window_after-append whole_list a.done h);
       values = ap (map header_of) units ∙ map-append header_of r.units (unit ∷ []) ∙ (λ i. a.values i ++ value i ∷ []);
       frame = ap (λ (k : Read). k.frame) is ∙ a.frame;
-      units = subst (AreUnitsAt list whole_list (a.done ++ h ∷ [])) (sym units) (units-append list whole_list a.done r.units h unit a.units (subst (λ (k : Window). IsUnitAt list k h unit) a.comes_after at));
+      units =
+          subst (AreUnitsAt list whole_list (a.done ++ h ∷ [])) (sym units)
+          (units-append list whole_list a.done r.units h unit a.units
+          (subst (λ (k : Window). IsUnitAt list k h unit) a.comes_after at));
       free = cond (is_extension (kind_of h)) (a.free - 1) a.free;
-      room = ap (λ (us : List PacketUnit). length (exts_of us) + cond (is_extension (kind_of h)) (a.free - 1) a.free) units ∙ room_for r.units unit (is_extension (kind_of h)) a.free extends more a.room;
+      room =
+          ap (λ (us : List PacketUnit). length (exts_of us) + cond (is_extension (kind_of h)) (a.free - 1) a.free) units
+          ∙ room_for r.units unit (is_extension (kind_of h)) a.free extends more a.room;
       ready = record {
-        limit = ap (λ (x : Expectation). x.limit) n.given.expected ∙ lowered_limit (is_extension (kind_of h)) s.expected.limit a.free a.ready.limit;
-        first = λ k start_is. absurd (no_start h k (sym (ap (λ (x : Expectation). x.next) n.given.expected) ∙ start_is));
+        limit =
+            ap (λ (x : Expectation). x.limit) n.given.expected
+            ∙ lowered_limit (is_extension (kind_of h)) s.expected.limit a.free a.ready.limit;
+        first =
+            λ k start_is. absurd (no_start h k (sym (ap (λ (x : Expectation). x.next) n.given.expected) ∙ start_is));
         arp = elim (arp_or_over h unit.bytes) [
           | inl other ↦
               let before = no_arp r s.expected (kind_of h) a.ready.arp n.unit.announced in
-              inl (ap arp_view units ∙ still_no_arp r.units unit before (ap (λ (k : Kind). arp_in k unit.bytes) kind ∙ other))
+              inl
+              (ap arp_view units
+              ∙ still_no_arp r.units unit before (ap (λ (k : Kind). arp_in k unit.bytes) kind ∙ other))
           | inr over ↦ inr (ap (λ (x : Expectation). x.next) n.given.expected ∙ over)
         ];
       };
@@ -351,14 +430,16 @@ abbrev pub item_of : Option PeelFault → Option (Result PeelUnit PeelFault)
 item_of None = None
 item_of (Some f) = Some (Err f)
 
-record Ended (list : List ℕ) (w : Window) (left : List Header) (e : Ending) (s t : State) (met : Option PeelFault) : Type 0 where
+record Ended (list : List ℕ) (w : Window) (left : List Header) (e : Ending) (s t : State)
+    (met : Option PeelFault) : Type 0 where
   none_left : left ≡ []
   rest : t.rest ≡ within list (last_window e)
   offset : t.offset ≡ (last_window e).start
   expected : t.expected ≡ last_expected e
   fault : met ≡ fault_of e
 
-ended : (list : List ℕ) (w : Window) (left : List Header) (e : Ending) (s t : State) (met : Option PeelFault) → Faces list w s left e → GivesNext list w left e s (item_of met) t → Ended list w left e s t met
+ended : (list : List ℕ) (w : Window) (left : List Header) (e : Ending) (s t : State) (met : Option PeelFault)
+    → Faces list w s left e → GivesNext list w left e s (item_of met) t → Ended list w left e s t met
 ended list w [] (Accepted v y) s t None f g = record {
   none_left = refl;
   rest = ap (λ (k : State). k.rest) g.1 ∙ f.rest ∙ ap (within list) (sym f.stack.0);
@@ -381,18 +462,29 @@ ended list w [] (Fault v y r) s t (Some x) f g =
 ended list w (h ∷ hs) e s t None f g = let some = g.1 in absurd cc
 ended list w (h ∷ hs) e s t (Some x) f g = let some = g.1 in absurd cc
 
-pub is_packet : (start : Expectation) (list : List ℕ) (s t : State) (r : Read) (packet : PacketSlice) (met : Option PeelFault) → Gathered start list s r → Gives s (item_of met) t
-    → packet.read ≡ r → packet.rest.now ≡ t.rest → packet.rest_offset ≡ t.offset → packet.rest_kind ≡ kind_shown t.expected → packet.fault ≡ met → IsPacket start list packet
+pub is_packet : (start : Expectation) (list : List ℕ) (s t : State) (r : Read) (packet : PacketSlice)
+    (met : Option PeelFault)
+    → Gathered start list s r → Gives s (item_of met) t
+    → packet.read ≡ r → packet.rest.now ≡ t.rest → packet.rest_offset ≡ t.offset
+    → packet.rest_kind ≡ kind_shown t.expected → packet.fault ≡ met → IsPacket start list packet
 is_packet start list s t r packet met a gives read rest offset kind fault =
-    let n = ended list a.window a.left a.ending s t met a.faces (gives.next a.going list a.window a.left a.ending a.faces) in
-    let walk = subst (λ (l : List Header). Walk start list l a.ending) (ap (λ (l : List Header). a.done ++ l) n.none_left ∙ append-nil a.done) a.walk in
+    let n =
+    ended list a.window a.left a.ending s t met a.faces
+    (gives.next a.going list a.window a.left a.ending a.faces) in
+    let walk =
+    subst (λ (l : List Header). Walk start list l a.ending)
+    (ap (λ (l : List Header). a.done ++ l) n.none_left ∙ append-nil a.done) a.walk in
     let values : a.done ≡ packet_headers packet = sym (ap (λ (k : Read). map header_of k.units) read ∙ a.values) in
     record {
       ending = a.ending;
       walk = subst (λ (l : List Header). Walk start list l a.ending) values walk;
-      one = λ hs e other. let same = one_stack list start (whole start list) hs a.done e a.ending other walk in (same.0 ∙ values, same.1);
+      one =
+          λ hs e other. let same =
+          one_stack list start (whole start list) hs a.done e a.ending other walk in (same.0 ∙ values, same.1);
       frame = ap (λ (k : Read). k.frame) read ∙ a.frame;
-      units = subst (λ (l : List Header). AreUnitsAt list (whole start list) l packet.read.units) values (subst (λ (k : Read). AreUnitsAt list (whole start list) a.done k.units) (sym read) a.units);
+      units =
+          subst (λ (l : List Header). AreUnitsAt list (whole start list) l packet.read.units) values
+          (subst (λ (k : Read). AreUnitsAt list (whole start list) a.done k.units) (sym read) a.units);
       rest = rest ∙ n.rest;
       offset = offset ∙ n.offset;
       kind = kind ∙ ap kind_shown n.expected;

@@ -34,12 +34,16 @@ other_dropped u us e = rw e refl
 abbrev pub InExts : {X : Type 0} → (PacketUnit → Option X) → Type 0
 InExts f = (u : PacketUnit) → is_ext u ≡ false → f u ≡ None
 
-found_cons : {X : Type 0} (f : PacketUnit → Option X) (u : PacketUnit) (us : List PacketUnit) (b : Bool) → InExts f → is_ext u ≡ b → filter_map f us ≡ filter_map f (exts_of us) → filter_map f (u ∷ us) ≡ filter_map f (exts_of (u ∷ us))
+found_cons : {X : Type 0} (f : PacketUnit → Option X) (u : PacketUnit) (us : List PacketUnit) (b : Bool) → InExts f
+    → is_ext u ≡ b → filter_map f us ≡ filter_map f (exts_of us)
+    → filter_map f (u ∷ us) ≡ filter_map f (exts_of (u ∷ us))
 found_cons f u us true only e more = ap (cons_option (f u)) more ∙ ap (filter_map f) (sym (ext_kept u us e))
-found_cons f u us false only e more = ap (λ r. cons_option r (filter_map f us)) (only u e) ∙ more ∙ ap (filter_map f) (sym (other_dropped u us e))
+found_cons f u us false only e more =
+    ap (λ r. cons_option r (filter_map f us)) (only u e) ∙ more ∙ ap (filter_map f) (sym (other_dropped u us e))
 
 -- is found among these
-found_in : {X : Type 0} (f : PacketUnit → Option X) (us : List PacketUnit) → InExts f → filter_map f us ≡ filter_map f (exts_of us)
+found_in : {X : Type 0} (f : PacketUnit → Option X) (us : List PacketUnit) → InExts f
+    → filter_map f us ≡ filter_map f (exts_of us)
 found_in f [] only = refl
 found_in f (u ∷ us) only = found_cons f u us (is_ext u) only refl (found_in f us only)
 
@@ -59,13 +63,16 @@ sec_tags_found us = found_in macsec_of_unit us (λ u e. (no_tag u.kind u.bytes e
 
 -- ---- one extension more
 
-take_next : (us : List PacketUnit) (i : ℕ) (u : PacketUnit) → slice_get us i ≡ Some u → take (i + 1) us ≡ take i us ++ u ∷ []
+take_next : (us : List PacketUnit) (i : ℕ) (u : PacketUnit) → slice_get us i ≡ Some u
+    → take (i + 1) us ≡ take i us ++ u ∷ []
 take_next us i u at =
     let e : i + 1 ≡ suc i = omega arith in
-    ap (λ (n : ℕ). take n us) e ∙ take-suc us i u (slice_get_within us i u at) ∙ ap (λ (v : PacketUnit). take i us ++ v ∷ []) (get_or_from_slice_get us i u u at)
+    ap (λ (n : ℕ). take n us) e ∙ take-suc us i u (slice_get_within us i u at)
+    ∙ ap (λ (v : PacketUnit). take i us ++ v ∷ []) (get_or_from_slice_get us i u u at)
 
 -- what was found so far, and what the extension at an index adds
-pub found_next : {X : Type 0} (f : PacketUnit → Option X) (us : List PacketUnit) (i : ℕ) (r : Option X) → i < length us → r ≡ option_and_then f (slice_get us i)
+pub found_next : {X : Type 0} (f : PacketUnit → Option X) (us : List PacketUnit) (i : ℕ) (r : Option X) → i < length us
+    → r ≡ option_and_then f (slice_get us i)
     → filter_map f (take (i + 1) us) ≡ filter_map f (take i us) ++ cons_option r []
 found_next f us i r lt is =
     elim ((slice_get_cases us i).1) [
@@ -76,13 +83,15 @@ found_next f us i r lt is =
     ]
 
 -- and then the others
-pub found_at : {X : Type 0} (f : PacketUnit → Option X) (us : List PacketUnit) (i : ℕ) (r : Option X) → i < length us → r ≡ option_and_then f (slice_get us i)
+pub found_at : {X : Type 0} (f : PacketUnit → Option X) (us : List PacketUnit) (i : ℕ) (r : Option X) → i < length us
+    → r ≡ option_and_then f (slice_get us i)
     → filter_map f us ≡ filter_map f (take i us) ++ cons_option r [] ++ filter_map f (drop (i + 1) us)
 found_at f us i r lt is =
     ap (filter_map f) (sym (take-append-drop (i + 1) us)) ∙ filter_map-append f (take (i + 1) us) (drop (i + 1) us)
     ∙ ap (λ l. l ++ filter_map f (drop (i + 1) us)) (found_next f us i r lt is)
 
-pub found_all : {X : Type 0} (f : PacketUnit → Option X) (us : List PacketUnit) (n : ℕ) → length us ≤ n → filter_map f (take n us) ≡ filter_map f us
+pub found_all : {X : Type 0} (f : PacketUnit → Option X) (us : List PacketUnit) (n : ℕ) → length us ≤ n
+    → filter_map f (take n us) ≡ filter_map f us
 found_all f us n past = ap (filter_map f) (take_all n us past)
 
 -- ---- VLAN tags
@@ -91,41 +100,57 @@ found_all f us n past = ap (filter_map f) (take_all n us past)
 abbrev pub Tagged : List PacketUnit → ℕ → Option (List ℕ) → Type 0
 Tagged us n first = cons_option first [] ≡ vlans_of (take n us)
 
-tagged_next : (us : List PacketUnit) (i : ℕ) (old r : Option (List ℕ)) → Tagged us i old → i < length us → r ≡ option_and_then vlan_of_unit (slice_get us i) → cons_option old [] ++ cons_option r [] ≡ vlans_of (take (i + 1) us)
-tagged_next us i old r so_far lt is = ap (λ l. l ++ cons_option r []) so_far ∙ sym (found_next vlan_of_unit us i r lt is)
+tagged_next : (us : List PacketUnit) (i : ℕ) (old r : Option (List ℕ)) → Tagged us i old → i < length us
+    → r ≡ option_and_then vlan_of_unit (slice_get us i)
+    → cons_option old [] ++ cons_option r [] ≡ vlans_of (take (i + 1) us)
+tagged_next us i old r so_far lt is =
+    ap (λ l. l ++ cons_option r []) so_far ∙ sym (found_next vlan_of_unit us i r lt is)
 
-pub tagged_first : (us : List PacketUnit) (i : ℕ) (old r : Option (List ℕ)) (tag : List ℕ) → Tagged us i old → i < length us → r ≡ option_and_then vlan_of_unit (slice_get us i) → old ≡ None → r ≡ Some tag → Tagged us (i + 1) (Some tag)
+pub tagged_first : (us : List PacketUnit) (i : ℕ) (old r : Option (List ℕ)) (tag : List ℕ) → Tagged us i old
+    → i < length us → r ≡ option_and_then vlan_of_unit (slice_get us i) → old ≡ None → r ≡ Some tag
+    → Tagged us (i + 1) (Some tag)
 tagged_first us i old r tag so_far lt is none some =
     sym (λ j. cons_option (none j) [] ++ cons_option (some j) []) ∙ tagged_next us i old r so_far lt is
 
-pub tagged_other : (us : List PacketUnit) (i : ℕ) (old r : Option (List ℕ)) → Tagged us i old → i < length us → r ≡ option_and_then vlan_of_unit (slice_get us i) → r ≡ None → Tagged us (i + 1) old
+pub tagged_other : (us : List PacketUnit) (i : ℕ) (old r : Option (List ℕ)) → Tagged us i old → i < length us
+    → r ≡ option_and_then vlan_of_unit (slice_get us i) → r ≡ None → Tagged us (i + 1) old
 tagged_other us i old r so_far lt is none =
-    sym ((λ j. cons_option old [] ++ cons_option (none j) []) ∙ append-nil (cons_option old [])) ∙ tagged_next us i old r so_far lt is
+    sym ((λ j. cons_option old [] ++ cons_option (none j) []) ∙ append-nil (cons_option old []))
+    ∙ tagged_next us i old r so_far lt is
 
-pub tagged_twice : (us : List PacketUnit) (i : ℕ) (old r : Option (List ℕ)) (outer inner : List ℕ) → Tagged (exts_of us) i old → i < length (exts_of us) → r ≡ option_and_then vlan_of_unit (slice_get (exts_of us) i)
-    → old ≡ Some outer → r ≡ Some inner → Some (tags.DoubleVlan (record { outer = outer; inner = inner })) ≡ first_tags (vlans_of us)
+pub tagged_twice : (us : List PacketUnit) (i : ℕ) (old r : Option (List ℕ)) (outer inner : List ℕ)
+    → Tagged (exts_of us) i old → i < length (exts_of us) → r ≡ option_and_then vlan_of_unit (slice_get (exts_of us) i)
+    → old ≡ Some outer → r ≡ Some inner
+    → Some (tags.DoubleVlan (record { outer = outer; inner = inner })) ≡ first_tags (vlans_of us)
 tagged_twice us i old r outer inner so_far lt is first second =
     let later = filter_map vlan_of_unit (drop (i + 1) (exts_of us)) in
-    let front : vlans_of (take i (exts_of us)) ≡ outer ∷ [] = sym so_far ∙ ap (λ (o : Option (List ℕ)). cons_option o []) first in
-    let all : vlans_of us ≡ outer ∷ inner ∷ later = vlans_found us ∙ found_at vlan_of_unit (exts_of us) i r lt is ∙ (λ j. front j ++ cons_option (second j) [] ++ later) in
+    let front : vlans_of (take i (exts_of us)) ≡ outer ∷ [] =
+    sym so_far ∙ ap (λ (o : Option (List ℕ)). cons_option o []) first in
+    let all : vlans_of us ≡ outer ∷ inner ∷ later =
+    vlans_found us ∙ found_at vlan_of_unit (exts_of us) i r lt is
+    ∙ (λ j. front j ++ cons_option (second j) [] ++ later) in
     ap first_tags (sym all)
 
-pub tagged_all : (us : List PacketUnit) (n : ℕ) (old : Option (List ℕ)) → Tagged (exts_of us) n old → length (exts_of us) ≤ n → cons_option old [] ≡ vlans_of us
+pub tagged_all : (us : List PacketUnit) (n : ℕ) (old : Option (List ℕ)) → Tagged (exts_of us) n old
+    → length (exts_of us) ≤ n → cons_option old [] ≡ vlans_of us
 tagged_all us n old so_far past = so_far ∙ found_all vlan_of_unit (exts_of us) n past ∙ sym (vlans_found us)
 
 -- no VLAN tag is among the first n extensions
 abbrev pub Untagged : List PacketUnit → ℕ → Type 0
 Untagged us n = vlans_of (take n us) ≡ []
 
-pub untagged_next : (us : List PacketUnit) (i : ℕ) (r : Option (List ℕ)) → Untagged us i → i < length us → r ≡ option_and_then vlan_of_unit (slice_get us i) → r ≡ None → Untagged us (i + 1)
-untagged_next us i r so_far lt is none = found_next vlan_of_unit us i r lt is ∙ (λ j. so_far j ++ cons_option (none j) [])
+pub untagged_next : (us : List PacketUnit) (i : ℕ) (r : Option (List ℕ)) → Untagged us i → i < length us
+    → r ≡ option_and_then vlan_of_unit (slice_get us i) → r ≡ None → Untagged us (i + 1)
+untagged_next us i r so_far lt is none =
+    found_next vlan_of_unit us i r lt is ∙ (λ j. so_far j ++ cons_option (none j) [])
 
 -- ---- identifiers
 
 abbrev pub vid_at : List ℕ → ℕ
 vid_at bytes = (vlan_of bytes).vid
 
-ids_cons : (k : Kind) (bytes : List ℕ) (ids : List ℕ) (tags : List (List ℕ)) → ids ≡ map vid_at tags → cons_option (vid_of (header_in k bytes)) ids ≡ map vid_at (cons_option (vlan_in k bytes) tags)
+ids_cons : (k : Kind) (bytes : List ℕ) (ids : List ℕ) (tags : List (List ℕ)) → ids ≡ map vid_at tags
+    → cons_option (vid_of (header_in k bytes)) ids ≡ map vid_at (cons_option (vlan_in k bytes) tags)
 ids_cons kinds.Ethernet2 bytes ids tags e = e
 ids_cons kinds.Ethernet2Fcs bytes ids tags e = e
 ids_cons kinds.LinuxSll bytes ids tags e = e
@@ -138,32 +163,52 @@ ids_of [] = refl
 ids_of (u ∷ us) = ids_cons u.kind u.bytes _ _ (ids_of us)
 
 -- none without a VLAN tag
-pub no_ids : (us : List PacketUnit) (n : ℕ) → Untagged (exts_of us) n → length (exts_of us) ≤ n → vlan_ids_of (map header_of us) ≡ []
-no_ids us n so_far past = ids_of us ∙ ap (map vid_at) (vlans_found us ∙ sym (found_all vlan_of_unit (exts_of us) n past) ∙ so_far)
+pub no_ids : (us : List PacketUnit) (n : ℕ) → Untagged (exts_of us) n → length (exts_of us) ≤ n
+    → vlan_ids_of (map header_of us) ≡ []
+no_ids us n so_far past =
+    ids_of us ∙ ap (map vid_at) (vlans_found us ∙ sym (found_all vlan_of_unit (exts_of us) n past) ∙ so_far)
 
 -- the identifiers of the first n extensions
 pub record Identified (us : List PacketUnit) (n : ℕ) (ids : List ℕ) : Type 0 where
   pub found : ids ≡ map vid_at (vlans_of (take n us))
   pub few : length ids ≤ n
 
-identified_next : (us : List PacketUnit) (i : ℕ) (ids : List ℕ) (r : Option (List ℕ)) → Identified us i ids → i < length us → r ≡ option_and_then vlan_of_unit (slice_get us i) → ids ++ map vid_at (cons_option r []) ≡ map vid_at (vlans_of (take (i + 1) us))
+identified_next : (us : List PacketUnit) (i : ℕ) (ids : List ℕ) (r : Option (List ℕ)) → Identified us i ids
+    → i < length us → r ≡ option_and_then vlan_of_unit (slice_get us i)
+    → ids ++ map vid_at (cons_option r []) ≡ map vid_at (vlans_of (take (i + 1) us))
 identified_next us i ids r a lt is =
-    ap (λ (l : List ℕ). l ++ map vid_at (cons_option r [])) a.found ∙ sym (map-append vid_at (vlans_of (take i us)) (cons_option r [])) ∙ ap (map vid_at) (sym (found_next vlan_of_unit us i r lt is))
+    ap (λ (l : List ℕ). l ++ map vid_at (cons_option r [])) a.found
+    ∙ sym (map-append vid_at (vlans_of (take i us)) (cons_option r []))
+    ∙ ap (map vid_at) (sym (found_next vlan_of_unit us i r lt is))
 
-pub identified_tag : (us : List PacketUnit) (i : ℕ) (ids new : List ℕ) (r : Option (List ℕ)) (tag : List ℕ) → Identified us i ids → i < length us → r ≡ option_and_then vlan_of_unit (slice_get us i) → r ≡ Some tag → new ≡ ids ++ vid_at tag ∷ [] → Identified us (i + 1) new
+pub identified_tag : (us : List PacketUnit) (i : ℕ) (ids new : List ℕ) (r : Option (List ℕ)) (tag : List ℕ)
+    → Identified us i ids → i < length us → r ≡ option_and_then vlan_of_unit (slice_get us i) → r ≡ Some tag
+    → new ≡ ids ++ vid_at tag ∷ [] → Identified us (i + 1) new
 identified_tag us i ids new r tag a lt is some more =
     let len : length new ≡ length ids + 1 = ap length more ∙ length-append ids (vid_at tag ∷ []) in
     let few = a.few in
-    record { found = more ∙ sym (λ j. ids ++ map vid_at (cons_option (some j) [])) ∙ identified_next us i ids r a lt is; few = omega arith }
+    record {
+      found = more ∙ sym (λ j. ids ++ map vid_at (cons_option (some j) [])) ∙ identified_next us i ids r a lt is;
+      few = omega arith;
+    }
 
-pub identified_other : (us : List PacketUnit) (i : ℕ) (ids new : List ℕ) (r : Option (List ℕ)) → Identified us i ids → i < length us → r ≡ option_and_then vlan_of_unit (slice_get us i) → r ≡ None → new ≡ ids → Identified us (i + 1) new
+pub identified_other : (us : List PacketUnit) (i : ℕ) (ids new : List ℕ) (r : Option (List ℕ)) → Identified us i ids
+    → i < length us → r ≡ option_and_then vlan_of_unit (slice_get us i) → r ≡ None → new ≡ ids
+    → Identified us (i + 1) new
 identified_other us i ids new r a lt is none same =
     let len : length new ≡ length ids = ap length same in
     let few = a.few in
-    record { found = same ∙ sym ((λ j. ids ++ map vid_at (cons_option (none j) [])) ∙ append-nil ids) ∙ identified_next us i ids r a lt is; few = omega arith }
+    record {
+      found =
+          same ∙ sym ((λ j. ids ++ map vid_at (cons_option (none j) [])) ∙ append-nil ids)
+          ∙ identified_next us i ids r a lt is;
+      few = omega arith;
+    }
 
-pub identified_all : (us : List PacketUnit) (n : ℕ) (ids : List ℕ) → Identified (exts_of us) n ids → length (exts_of us) ≤ n → ids ≡ vlan_ids_of (map header_of us)
-identified_all us n ids a past = a.found ∙ ap (map vid_at) (found_all vlan_of_unit (exts_of us) n past ∙ sym (vlans_found us)) ∙ sym (ids_of us)
+pub identified_all : (us : List PacketUnit) (n : ℕ) (ids : List ℕ) → Identified (exts_of us) n ids
+    → length (exts_of us) ≤ n → ids ≡ vlan_ids_of (map header_of us)
+identified_all us n ids a past =
+    a.found ∙ ap (map vid_at) (found_all vlan_of_unit (exts_of us) n past ∙ sym (vlans_found us)) ∙ sym (ids_of us)
 
 -- ---- SecTags
 
@@ -175,23 +220,30 @@ not_viewed : (o : Option (List ℕ)) → ViewsSecTagIf o None → o ≡ None
 not_viewed None v = refl
 not_viewed (Some bytes) v = absurd v
 
-pub unsealed_next : (us : List PacketUnit) (i : ℕ) → Unsealed us i → i < length us → ViewsSecTagIf (option_and_then macsec_of_unit (slice_get us i)) None → Unsealed us (i + 1)
+pub unsealed_next : (us : List PacketUnit) (i : ℕ) → Unsealed us i → i < length us
+    → ViewsSecTagIf (option_and_then macsec_of_unit (slice_get us i)) None → Unsealed us (i + 1)
 unsealed_next us i so_far lt view =
     let o = option_and_then macsec_of_unit (slice_get us i) in
     found_next macsec_of_unit us i o lt refl ∙ (λ j. so_far j ++ cons_option (not_viewed o view j) [])
 
-first_viewed : (us : List PacketUnit) (i : ℕ) (o : Option (List ℕ)) (packet : MacsecSlice) → Unsealed (exts_of us) i → i < length (exts_of us) → o ≡ option_and_then macsec_of_unit (slice_get (exts_of us) i)
+first_viewed : (us : List PacketUnit) (i : ℕ) (o : Option (List ℕ)) (packet : MacsecSlice) → Unsealed (exts_of us) i
+    → i < length (exts_of us) → o ≡ option_and_then macsec_of_unit (slice_get (exts_of us) i)
     → ViewsSecTagIf o (Some packet) → ViewsSecTagIf (slice_get (sec_tags_of us) 0) (Some packet)
 first_viewed us i None packet so_far lt is view = absurd cc
 first_viewed us i (Some bytes) packet so_far lt is view =
     let later = filter_map macsec_of_unit (drop (i + 1) (exts_of us)) in
-    let all : sec_tags_of us ≡ bytes ∷ later = sec_tags_found us ∙ found_at macsec_of_unit (exts_of us) i (Some bytes) lt is ∙ ap (λ (l : List (List ℕ)). l ++ (bytes ∷ []) ++ later) so_far in
+    let all : sec_tags_of us ≡ bytes ∷ later =
+    sec_tags_found us ∙ found_at macsec_of_unit (exts_of us) i (Some bytes) lt is
+    ∙ ap (λ (l : List (List ℕ)). l ++ (bytes ∷ []) ++ later) so_far in
     subst (λ (l : List (List ℕ)). ViewsSecTagIf (slice_get l 0) (Some packet)) (sym all) view
 
-pub sec_tag_first : (us : List PacketUnit) (i : ℕ) (packet : MacsecSlice) → Unsealed (exts_of us) i → i < length (exts_of us) → ViewsSecTagIf (option_and_then macsec_of_unit (slice_get (exts_of us) i)) (Some packet) → ViewsSecTagIf (slice_get (sec_tags_of us) 0) (Some packet)
+pub sec_tag_first : (us : List PacketUnit) (i : ℕ) (packet : MacsecSlice) → Unsealed (exts_of us) i
+    → i < length (exts_of us) → ViewsSecTagIf (option_and_then macsec_of_unit (slice_get (exts_of us) i)) (Some packet)
+    → ViewsSecTagIf (slice_get (sec_tags_of us) 0) (Some packet)
 sec_tag_first us i packet so_far lt view = first_viewed us i _ packet so_far lt refl view
 
-pub sec_tag_none : (us : List PacketUnit) (n : ℕ) → Unsealed (exts_of us) n → length (exts_of us) ≤ n → ViewsSecTagIf (slice_get (sec_tags_of us) 0) None
+pub sec_tag_none : (us : List PacketUnit) (n : ℕ) → Unsealed (exts_of us) n → length (exts_of us) ≤ n
+    → ViewsSecTagIf (slice_get (sec_tags_of us) 0) None
 sec_tag_none us n so_far past =
     let all : sec_tags_of us ≡ [] = sec_tags_found us ∙ sym (found_all macsec_of_unit (exts_of us) n past) ∙ so_far in
     subst (λ (l : List (List ℕ)). ViewsSecTagIf (slice_get l 0) None) (sym all) refl
@@ -199,7 +251,8 @@ sec_tag_none us n so_far past =
 -- ---- views of extensions
 
 -- an extension that is viewed
-pub viewed : (o : Option PacketUnit) (ext : PacketExt) → ViewsExtIf o (Some ext) → (u : PacketUnit) × (o ≡ Some u) × ViewsExt u ext
+pub viewed : (o : Option PacketUnit) (ext : PacketExt) → ViewsExtIf o (Some ext)
+    → (u : PacketUnit) × (o ≡ Some u) × ViewsExt u ext
 viewed None ext view = absurd cc
 viewed (Some u) ext view = (u, refl, view)
 
@@ -212,34 +265,44 @@ pub record Viewed (us : List PacketUnit) (n : ℕ) (exts : List PacketExt) : Typ
   pub views : ViewsExts (take n us) exts
   pub few : length exts ≤ n
 
-views_more : (us : List PacketUnit) (exts : List PacketExt) (u : PacketUnit) (ext : PacketExt) → ViewsExts us exts → ViewsExt u ext → ViewsExts (us ++ u ∷ []) (exts ++ ext ∷ [])
+views_more : (us : List PacketUnit) (exts : List PacketExt) (u : PacketUnit) (ext : PacketExt) → ViewsExts us exts
+    → ViewsExt u ext → ViewsExts (us ++ u ∷ []) (exts ++ ext ∷ [])
 views_more [] [] u ext all view = (view, tt)
 views_more [] (x ∷ xs) u ext all view = absurd all
 views_more (v ∷ us) [] u ext all view = absurd all
 views_more (v ∷ us) (x ∷ xs) u ext all view = (all.0, views_more us xs u ext all.1 view)
 
-pub viewed_next : (us : List PacketUnit) (i : ℕ) (exts new : List PacketExt) (ext : PacketExt) → Viewed us i exts → ViewsExtIf (slice_get us i) (Some ext) → new ≡ exts ++ ext ∷ [] → Viewed us (i + 1) new
+pub viewed_next : (us : List PacketUnit) (i : ℕ) (exts new : List PacketExt) (ext : PacketExt) → Viewed us i exts
+    → ViewsExtIf (slice_get us i) (Some ext) → new ≡ exts ++ ext ∷ [] → Viewed us (i + 1) new
 viewed_next us i exts new ext so_far view more =
     let w = viewed (slice_get us i) ext view in
     let len : length new ≡ length exts + 1 = ap length more ∙ length-append exts (ext ∷ []) in
     let few = so_far.few in
     record {
-      views = subst (ViewsExts (take (i + 1) us)) (sym more) (subst (λ (l : List PacketUnit). ViewsExts l (exts ++ ext ∷ [])) (sym (take_next us i w.0 w.1)) (views_more (take i us) exts w.0 ext so_far.views w.2));
+      views =
+          subst (ViewsExts (take (i + 1) us)) (sym more)
+          (subst (λ (l : List PacketUnit). ViewsExts l (exts ++ ext ∷ [])) (sym (take_next us i w.0 w.1))
+          (views_more (take i us) exts w.0 ext so_far.views w.2));
       few = omega arith;
     }
 
 -- none is missing
 pub viewed_inside : (us : List PacketUnit) (i : ℕ) → i < length us → ViewsExtIf (slice_get us i) None → ⊥
-viewed_inside us i lt view = let le = missing_past us i (unviewed (slice_get us i) view) in absurd (omega (arith, lt, le))
+viewed_inside us i lt view =
+    let le = missing_past us i (unviewed (slice_get us i) view) in absurd (omega (arith, lt, le))
 
-pub viewed_all : (us : List PacketUnit) (n : ℕ) (exts : List PacketExt) → Viewed us n exts → length us ≤ n → ViewsExts us exts
+pub viewed_all : (us : List PacketUnit) (n : ℕ) (exts : List PacketExt) → Viewed us n exts → length us ≤ n
+    → ViewsExts us exts
 viewed_all us n exts so_far past = subst (λ (l : List PacketUnit). ViewsExts l exts) (take_all n us past) so_far.views
 
 -- ---- payloads
 
-pub ext_payload : (link : Option LinkSlice) (o : Option PacketUnit) (ext : PacketExt) (r : Option EtherPayloadSlice) → ViewsExtIf o (Some ext) → HoldsExtPayload ext.slice r → HoldsPayload link o r
+pub ext_payload : (link : Option LinkSlice) (o : Option PacketUnit) (ext : PacketExt) (r : Option EtherPayloadSlice)
+    → ViewsExtIf o (Some ext) → HoldsExtPayload ext.slice r → HoldsPayload link o r
 ext_payload link None ext r view holds = absurd cc
 ext_payload link (Some u) ext r view holds = (ext.slice, view.tag, holds)
 
-pub link_payload : (link : Option LinkSlice) (o : Option PacketUnit) (r : Option EtherPayloadSlice) → ViewsExtIf o None → HoldsPayload link None r → HoldsPayload link o r
-link_payload link o r view holds = subst (λ (p : Option PacketUnit). HoldsPayload link p r) (sym (unviewed o view)) holds
+pub link_payload : (link : Option LinkSlice) (o : Option PacketUnit) (r : Option EtherPayloadSlice) → ViewsExtIf o None
+    → HoldsPayload link None r → HoldsPayload link o r
+link_payload link o r view holds =
+    subst (λ (p : Option PacketUnit). HoldsPayload link p r) (sym (unviewed o view)) holds

@@ -37,7 +37,8 @@ none_announced : (k : Kind) (o : Option Kind) → o ≡ None → o ≡ Some k �
 none_announced k o e f = let same : None ≡ Some k = sym e ∙ f in cc
 
 -- if the list is accepted as what is expected, it is the header that the list begins with
-pub first_header : (x : Expectation) (kind : Kind) (list : List ℕ) (hs : List Header) (e : Ending) → IsBytes list → announced x ≡ Some kind → Accepts sources.Slice list kind → Walk x list hs e
+pub first_header : (x : Expectation) (kind : Kind) (list : List ℕ) (hs : List Header) (e : Ending) → IsBytes list
+    → announced x ≡ Some kind → Accepts sources.Slice list kind → Walk x list hs e
     → (later : List Header) × (hs ≡ header_in kind list ∷ later)
 first_header x kind list [] (Accepted v y) ok a accepted s = absurd (none_announced kind (announced x) s.2 a)
 first_header x kind list [] (Fault v y r) ok a accepted s =
@@ -52,7 +53,9 @@ first_header x kind list (h ∷ hs) e ok a accepted s =
 
 -- ---- a header that is read
 
-pub begins_link : (start : Expectation) (kind : Kind) (list : List ℕ) (hs : List Header) (e : Ending) (g : LinkHeader) → IsBytes list → announced start ≡ Some kind → Accepts sources.Slice list kind → IsLinkOf g (header_in kind list) → Walk start list hs e → BeginsWithLink hs g
+pub begins_link : (start : Expectation) (kind : Kind) (list : List ℕ) (hs : List Header) (e : Ending) (g : LinkHeader)
+    → IsBytes list → announced start ≡ Some kind → Accepts sources.Slice list kind → IsLinkOf g (header_in kind list)
+    → Walk start list hs e → BeginsWithLink hs g
 begins_link start kind list hs e g ok a accepted is walk =
     let first = first_header start kind list hs e ok a accepted walk in
     record { header = header_in kind list; later = first.0; parts = first.1; is = is }
@@ -67,8 +70,10 @@ same_hardware t u same = λ i. record { 0 = same i }
 
 -- two headers of links say the same exactly if the new one and that of the walk do
 pub says_the_same : (g l : LinkHeader) (h : Header) → IsLinkOf l h → LinksSayTheSame g l → LinkSaysTheSame g h
-says_the_same (links.Ethernet2 g) (links.Ethernet2 l) (headers.Ethernet2 h) is same = ap (λ (t : EtherTypeNumber). t.0) same ∙ ap (λ (v : Ethernet2Value). v.ether_type) is
-says_the_same (links.Ethernet2 g) (links.Ethernet2 l) (headers.Ethernet2Fcs h) is same = ap (λ (t : EtherTypeNumber). t.0) same ∙ ap (λ (v : Ethernet2Value). v.ether_type) is
+says_the_same (links.Ethernet2 g) (links.Ethernet2 l) (headers.Ethernet2 h) is same =
+    ap (λ (t : EtherTypeNumber). t.0) same ∙ ap (λ (v : Ethernet2Value). v.ether_type) is
+says_the_same (links.Ethernet2 g) (links.Ethernet2 l) (headers.Ethernet2Fcs h) is same =
+    ap (λ (t : EtherTypeNumber). t.0) same ∙ ap (λ (v : Ethernet2Value). v.ether_type) is
 says_the_same (links.LinuxSll g) (links.LinuxSll l) (headers.LinuxSll h) is same =
     (ap (λ (t : ArpHardwareId). t.0) same.0 ∙ ap (λ (s : LinuxSllValue). s.hardware_type) is.0, same.1 ∙ is.1)
 says_the_same (links.Ethernet2 g) (links.LinuxSll l) h is same = absurd same
@@ -76,10 +81,15 @@ says_the_same (links.LinuxSll g) (links.Ethernet2 l) h is same = absurd same
 says_the_same _ _ _ is same = absurd is
 
 pub said_the_same : (g l : LinkHeader) (h : Header) → IsLinkOf l h → LinkSaysTheSame g h → LinksSayTheSame g l
-said_the_same (links.Ethernet2 g) (links.Ethernet2 l) (headers.Ethernet2 h) is same = same_ether_type g.ether_type l.ether_type (same ∙ ap (λ (v : Ethernet2Value). v.ether_type) (sym is))
-said_the_same (links.Ethernet2 g) (links.Ethernet2 l) (headers.Ethernet2Fcs h) is same = same_ether_type g.ether_type l.ether_type (same ∙ ap (λ (v : Ethernet2Value). v.ether_type) (sym is))
-said_the_same (links.LinuxSll g) (links.LinuxSll l) (headers.LinuxSll h) is same =
-    (same_hardware g.arp_hrd_type l.arp_hrd_type (same.0 ∙ ap (λ (s : LinuxSllValue). s.hardware_type) (sym is.0)), same.1 ∙ sym is.1)
+said_the_same (links.Ethernet2 g) (links.Ethernet2 l) (headers.Ethernet2 h) is same =
+    same_ether_type g.ether_type l.ether_type (same ∙ ap (λ (v : Ethernet2Value). v.ether_type) (sym is))
+said_the_same (links.Ethernet2 g) (links.Ethernet2 l) (headers.Ethernet2Fcs h) is same =
+    same_ether_type g.ether_type l.ether_type (same ∙ ap (λ (v : Ethernet2Value). v.ether_type) (sym is))
+said_the_same (links.LinuxSll g) (links.LinuxSll l) (headers.LinuxSll h) is same = (
+  same_hardware g.arp_hrd_type l.arp_hrd_type (same.0 ∙ ap (λ (s : LinuxSllValue). s.hardware_type) (sym is.0)),
+  same.1
+      ∙ sym is.1,
+)
 said_the_same (links.Ethernet2 g) (links.LinuxSll l) (headers.LinuxSll h) is same = absurd same
 said_the_same (links.LinuxSll g) (links.Ethernet2 l) (headers.Ethernet2 h) is same = absurd same
 said_the_same (links.LinuxSll g) (links.Ethernet2 l) (headers.Ethernet2Fcs h) is same = absurd same
@@ -97,24 +107,39 @@ link_len (links.LinuxSll g) (links.LinuxSll l) same = refl
 link_len _ _ same = absurd same
 
 pub takes_link : (g l : LinkHeader) (hs : List Header) → LinksSayTheSame g l → BeginsWithLink hs l → TakesLink hs g
-takes_link g l hs same b = record { replaced = b.header; later = b.later; parts = b.parts; same = says_the_same g l b.header b.is same }
+takes_link g l hs same b = record {
+  replaced = b.header;
+  later = b.later;
+  parts = b.parts;
+  same = says_the_same g l b.header b.is same;
+}
 
-pub refuses_link : (g l : LinkHeader) (hs : List Header) → (LinksSayTheSame g l → ⊥) → BeginsWithLink hs l → RefusesLink hs g errors.SaysOther
+pub refuses_link : (g l : LinkHeader) (hs : List Header) → (LinksSayTheSame g l → ⊥) → BeginsWithLink hs l
+    → RefusesLink hs g errors.SaysOther
 refuses_link g l hs differ b =
-    other_link b.header b.later b.parts (link_kind l b.header b.is) (λ same. differ (said_the_same g l b.header b.is same))
+    other_link b.header b.later b.parts (link_kind l b.header b.is)
+    (λ same. differ (said_the_same g l b.header b.is same))
 
 -- ---- the walk with the other header
 
-number_in : (is_nonstandard : Bool) (n : ℕ) → protocol_number (if is_nonstandard then protocols.LinuxNonstandardEtherType n else protocols.EtherType (record { 0 = n })) ≡ n
+number_in : (is_nonstandard : Bool) (n : ℕ)
+    → protocol_number
+    (if is_nonstandard then protocols.LinuxNonstandardEtherType n else protocols.EtherType (record { 0 = n }))
+    ≡ n
 number_in true n = refl
 number_in false n = refl
 
-number_on : (is_netlink is_gre : Bool) (n : ℕ) → protocol_number (if is_netlink then protocols.NetlinkProtocolType n else (if is_gre then protocols.GenericRoutingEncapsulationProtocolType n else protocols.Ignored n)) ≡ n
+number_on : (is_netlink is_gre : Bool) (n : ℕ)
+    → protocol_number
+    (if is_netlink then protocols.NetlinkProtocolType n
+    else (if is_gre then protocols.GenericRoutingEncapsulationProtocolType n else protocols.Ignored n))
+    ≡ n
 number_on true b n = refl
 number_on false true n = refl
 number_on false false n = refl
 
-number_by : (is_ethernet : Bool) (hardware n : ℕ) → protocol_number (if is_ethernet then ethernet_protocol_type n else link_protocol_of hardware n) ≡ n
+number_by : (is_ethernet : Bool) (hardware n : ℕ)
+    → protocol_number (if is_ethernet then ethernet_protocol_type n else link_protocol_of hardware n) ≡ n
 number_by true hardware n = number_in (is_nonstandard n) n
 number_by false hardware n = number_on (hardware == 824) (hardware == 778) n
 
@@ -142,14 +167,18 @@ in_place_bytes : (g : LinkHeader) (h : Header) → header_bytes (link_header g) 
 in_place_bytes (links.Ethernet2 g) (headers.Ethernet2Fcs h) = refl
 in_place_bytes _ _ = refl
 
-pub is_link_replaced : (start : Expectation) (old new : List ℕ) (hs : List Header) (e : Ending) (g : LinkHeader) → TakesLink hs g → header_len (link_header g) ≤ length old → FitsHeader (link_header g) → HasPacketType g
+pub is_link_replaced : (start : Expectation) (old new : List ℕ) (hs : List Header) (e : Ending) (g : LinkHeader)
+    → TakesLink hs g → header_len (link_header g) ≤ length old → FitsHeader (link_header g) → HasPacketType g
     → new ≡ overwritten old 0 (header_bytes (link_header g)) → Walk start old hs e → ReplacesLink start old hs e g new
 is_link_replaced start old new hs e g t room fits packet_type bytes walk =
     let other = in_place_of g t.replaced in
     let split = subst (λ (l : List Header). Walk start old l e) t.parts walk in
     let len = length-header_bytes (link_header g) fits in
-    let replaced = replaced_walk start old [] t.replaced other t.later e (in_place_same g t.replaced t.same) (in_place_fits g t.replaced fits) (in_place_sendable g t.replaced packet_type) split in
-    let same : overwritten old 0 (header_bytes other) ≡ new = ap (overwritten old 0) (sym (in_place_bytes g t.replaced)) ∙ sym bytes in
+    let replaced =
+    replaced_walk start old [] t.replaced other t.later e (in_place_same g t.replaced t.same)
+    (in_place_fits g t.replaced fits) (in_place_sendable g t.replaced packet_type) split in
+    let same : overwritten old 0 (header_bytes other) ≡ new =
+    ap (overwritten old 0) (sym (in_place_bytes g t.replaced)) ∙ sym bytes in
     record {
       takes = t;
       fits = fits;

@@ -43,9 +43,13 @@ kind_kept kinds.Arp bytes = refl
 pub ext_header : (u : PacketUnit) → is_extension (kind_of (header_of u)) ≡ is_ext u
 ext_header u = ap is_extension (kind_kept u.kind u.bytes)
 
-count_cons : (u : PacketUnit) (us : List PacketUnit) (b : Bool) → is_ext u ≡ b → ext_count (map header_of us) ≡ length (exts_of us) → ext_count (map header_of (u ∷ us)) ≡ length (exts_of (u ∷ us))
-count_cons u us true e more = (λ i. (if (ext_header u ∙ e) i then 1 else 0) + more i) ∙ omega arith ∙ ap length (sym (ext_kept u us e))
-count_cons u us false e more = (λ i. (if (ext_header u ∙ e) i then 1 else 0) + more i) ∙ omega arith ∙ ap length (sym (other_dropped u us e))
+count_cons : (u : PacketUnit) (us : List PacketUnit) (b : Bool) → is_ext u ≡ b
+    → ext_count (map header_of us) ≡ length (exts_of us)
+    → ext_count (map header_of (u ∷ us)) ≡ length (exts_of (u ∷ us))
+count_cons u us true e more =
+    (λ i. (if (ext_header u ∙ e) i then 1 else 0) + more i) ∙ omega arith ∙ ap length (sym (ext_kept u us e))
+count_cons u us false e more =
+    (λ i. (if (ext_header u ∙ e) i then 1 else 0) + more i) ∙ omega arith ∙ ap length (sym (other_dropped u us e))
 
 pub exts_count : (us : List PacketUnit) → ext_count (map header_of us) ≡ length (exts_of us)
 exts_count [] = refl
@@ -61,34 +65,57 @@ pub record Split (us : List PacketUnit) (i : ℕ) (x : PacketUnit) : Type 0 wher
   pub extension : is_ext x ≡ true
   pub before : exts_of front ≡ take i (exts_of us)
 
-split_after : (u : PacketUnit) (us : List PacketUnit) (i j : ℕ) (x : PacketUnit) (s : Split us i x) → exts_of (u ∷ s.front) ≡ take j (exts_of (u ∷ us)) → Split (u ∷ us) j x
+split_after : (u : PacketUnit) (us : List PacketUnit) (i j : ℕ) (x : PacketUnit) (s : Split us i x)
+    → exts_of (u ∷ s.front) ≡ take j (exts_of (u ∷ us)) → Split (u ∷ us) j x
 split_after u us i j x s before =
-    record { front = u ∷ s.front; later = s.later; parts = ap (λ (l : List PacketUnit). u ∷ l) s.parts; extension = s.extension; before = before }
+    record {
+      front = u ∷ s.front;
+      later = s.later;
+      parts = ap (λ (l : List PacketUnit). u ∷ l) s.parts;
+      extension = s.extension;
+      before = before;
+    }
 
-split_other : (u : PacketUnit) (us : List PacketUnit) (i : ℕ) (x : PacketUnit) → is_ext u ≡ false → Split us i x → Split (u ∷ us) i x
-split_other u us i x e s = split_after u us i i x s (other_dropped u s.front e ∙ s.before ∙ ap (take i) (sym (other_dropped u us e)))
+split_other : (u : PacketUnit) (us : List PacketUnit) (i : ℕ) (x : PacketUnit) → is_ext u ≡ false → Split us i x
+    → Split (u ∷ us) i x
+split_other u us i x e s =
+    split_after u us i i x s (other_dropped u s.front e ∙ s.before ∙ ap (take i) (sym (other_dropped u us e)))
 
-split_next : (u : PacketUnit) (us : List PacketUnit) (i : ℕ) (x : PacketUnit) → is_ext u ≡ true → Split us i x → Split (u ∷ us) (suc i) x
+split_next : (u : PacketUnit) (us : List PacketUnit) (i : ℕ) (x : PacketUnit) → is_ext u ≡ true → Split us i x
+    → Split (u ∷ us) (suc i) x
 split_next u us i x e s =
-    split_after u us i (suc i) x s (ext_kept u s.front e ∙ ap (λ (l : List PacketUnit). u ∷ l) s.before ∙ ap (take (suc i)) (sym (ext_kept u us e)))
+    split_after u us i (suc i) x s
+    (ext_kept u s.front e ∙ ap (λ (l : List PacketUnit). u ∷ l) s.before ∙ ap (take (suc i)) (sym (ext_kept u us e)))
 
 split_first : (u : PacketUnit) (us : List PacketUnit) (x : PacketUnit) → is_ext u ≡ true → u ≡ x → Split (u ∷ us) 0 x
 split_first u us x e same =
-    record { front = []; later = us; parts = ap (λ (v : PacketUnit). v ∷ us) same; extension = sym (ap is_ext same) ∙ e; before = refl }
+    record {
+      front = [];
+      later = us;
+      parts = ap (λ (v : PacketUnit). v ∷ us) same;
+      extension = sym (ap is_ext same) ∙ e;
+      before = refl;
+    }
 
 same_unit : (u x : PacketUnit) → Some u ≡ Some x → u ≡ x
 same_unit u x e = cc
 
-split_cons : (u : PacketUnit) (us : List PacketUnit) (i : ℕ) (x : PacketUnit) (b : Bool) → is_ext u ≡ b → ((j : ℕ) → slice_get (exts_of us) j ≡ Some x → Split us j x) → slice_get (exts_of (u ∷ us)) i ≡ Some x → Split (u ∷ us) i x
-split_cons u us i x false e more at = split_other u us i x e (more i (ap (λ (l : List PacketUnit). slice_get l i) (sym (other_dropped u us e)) ∙ at))
-split_cons u us zero x true e more at = split_first u us x e (same_unit u x (ap (λ (l : List PacketUnit). slice_get l 0) (sym (ext_kept u us e)) ∙ at))
-split_cons u us (suc i) x true e more at = split_next u us i x e (more i (ap (λ (l : List PacketUnit). slice_get l (suc i)) (sym (ext_kept u us e)) ∙ at))
+split_cons : (u : PacketUnit) (us : List PacketUnit) (i : ℕ) (x : PacketUnit) (b : Bool) → is_ext u ≡ b
+    → ((j : ℕ) → slice_get (exts_of us) j ≡ Some x → Split us j x) → slice_get (exts_of (u ∷ us)) i ≡ Some x
+    → Split (u ∷ us) i x
+split_cons u us i x false e more at =
+    split_other u us i x e (more i (ap (λ (l : List PacketUnit). slice_get l i) (sym (other_dropped u us e)) ∙ at))
+split_cons u us zero x true e more at =
+    split_first u us x e (same_unit u x (ap (λ (l : List PacketUnit). slice_get l 0) (sym (ext_kept u us e)) ∙ at))
+split_cons u us (suc i) x true e more at =
+    split_next u us i x e (more i (ap (λ (l : List PacketUnit). slice_get l (suc i)) (sym (ext_kept u us e)) ∙ at))
 
 pub split_at : (us : List PacketUnit) (i : ℕ) (x : PacketUnit) → slice_get (exts_of us) i ≡ Some x → Split us i x
 split_at [] i x at = let none = slice_get_within [] i x at in absurd (omega (arith, none))
 split_at (u ∷ us) i x at = split_cons u us i x (is_ext u) refl (λ j. split_at us j x) at
 
-pub ext_at : (us : List PacketUnit) (i : ℕ) (x : PacketUnit) → slice_get (exts_of us) i ≡ Some x → (s : Split us i x) → IsExtAt (map header_of us) i (map header_of s.front) (header_of x) (map header_of s.later)
+pub ext_at : (us : List PacketUnit) (i : ℕ) (x : PacketUnit) → slice_get (exts_of us) i ≡ Some x → (s : Split us i x)
+    → IsExtAt (map header_of us) i (map header_of s.front) (header_of x) (map header_of s.later)
 ext_at us i x at s =
     let inside = slice_get_within (exts_of us) i x at in
     record {
@@ -98,13 +125,17 @@ ext_at us i x at s =
     }
 
 -- and its place in the list
-unit_begins : (list : List ℕ) (w : Window) (front : List PacketUnit) (x : PacketUnit) (later : List PacketUnit) → AreUnitsAt list w (map header_of (front ++ x ∷ later)) (front ++ x ∷ later) → x.offset ≡ place w.start (map header_of front)
+unit_begins : (list : List ℕ) (w : Window) (front : List PacketUnit) (x : PacketUnit) (later : List PacketUnit)
+    → AreUnitsAt list w (map header_of (front ++ x ∷ later)) (front ++ x ∷ later)
+    → x.offset ≡ place w.start (map header_of front)
 unit_begins list w [] x later are = are.0.offset
 unit_begins list w (u ∷ front) x later are = unit_begins list (payload w (header_of u)) front x later are.1
 
-begins_at : (start : Expectation) (list : List ℕ) (p : PacketSlice) (i : ℕ) (x : PacketUnit) → IsPacket start list p → (s : Split p.read.units i x) → x.offset ≡ place 0 (map header_of s.front)
+begins_at : (start : Expectation) (list : List ℕ) (p : PacketSlice) (i : ℕ) (x : PacketUnit) → IsPacket start list p
+    → (s : Split p.read.units i x) → x.offset ≡ place 0 (map header_of s.front)
 begins_at start list p i x is s =
-    unit_begins list (whole start list) s.front x s.later (subst (λ (l : List PacketUnit). AreUnitsAt list (whole start list) (map header_of l) l) s.parts is.units)
+    unit_begins list (whole start list) s.front x s.later
+    (subst (λ (l : List PacketUnit). AreUnitsAt list (whole start list) (map header_of l) l) s.parts is.units)
 
 -- ---- a header that replaces it
 
@@ -115,7 +146,9 @@ pub record FoundExt (hs : List Header) (i : ℕ) (h : Header) (at : ℕ) : Type 
   pub found : IsExtAt hs i front h later
   pub begins : at ≡ place 0 front
 
-pub found_ext : (start : Expectation) (list : List ℕ) (p : PacketSlice) (i : ℕ) (ext : PacketExt) (old : Header) (hs : List Header) (e : Ending) → IsPacket start list p → ViewsExtIf (slice_get (exts_of p.read.units) i) (Some ext)
+pub found_ext : (start : Expectation) (list : List ℕ) (p : PacketSlice) (i : ℕ) (ext : PacketExt) (old : Header)
+    (hs : List Header) (e : Ending)
+    → IsPacket start list p → ViewsExtIf (slice_get (exts_of p.read.units) i) (Some ext)
     → old ≡ ext_slice_header ext.slice → Walk start list hs e → FoundExt hs i old ext.offset
 found_ext start list p i ext old hs e is view value walk =
     let w = viewed (slice_get (exts_of p.read.units) i) ext view in
@@ -126,17 +159,21 @@ found_ext start list p i ext old hs e is view value walk =
       front = map header_of s.front;
       later = map header_of s.later;
       found = subst (λ (l : List Header). IsExtAt l i (map header_of s.front) old (map header_of s.later)) all
-          (subst (λ (h : Header). IsExtAt (packet_headers p) i (map header_of s.front) h (map header_of s.later)) (sym (value ∙ w.2.header)) here);
+          (subst (λ (h : Header). IsExtAt (packet_headers p) i (map header_of s.front) h (map header_of s.later))
+          (sym (value ∙ w.2.header)) here);
       begins = w.2.offset ∙ begins_at start list p i w.0 is s;
     }
 
-pub found_takes : (start : Expectation) (list : List ℕ) (p : PacketSlice) (i : ℕ) (ext : PacketExt) (g old : Header) (hs : List Header) (e : Ending) → IsPacket start list p → ViewsExtIf (slice_get (exts_of p.read.units) i) (Some ext)
+pub found_takes : (start : Expectation) (list : List ℕ) (p : PacketSlice) (i : ℕ) (ext : PacketExt) (g old : Header)
+    (hs : List Header) (e : Ending)
+    → IsPacket start list p → ViewsExtIf (slice_get (exts_of p.read.units) i) (Some ext)
     → old ≡ ext_slice_header ext.slice → SayTheSame g old → Walk start list hs e → TakesExt hs i g ext.offset
 found_takes start list p i ext g old hs e is view value same walk =
     let f = found_ext start list p i ext old hs e is view value walk in
     record { front = f.front; replaced = old; later = f.later; found = f.found; same = same; begins = f.begins }
 
-pub found_room : (start : Expectation) (list : List ℕ) (p : PacketSlice) (i : ℕ) (ext : PacketExt) (g old : Header) → IsPacket start list p → ViewsExtIf (slice_get (exts_of p.read.units) i) (Some ext)
+pub found_room : (start : Expectation) (list : List ℕ) (p : PacketSlice) (i : ℕ) (ext : PacketExt) (g old : Header)
+    → IsPacket start list p → ViewsExtIf (slice_get (exts_of p.read.units) i) (Some ext)
     → old ≡ ext_slice_header ext.slice → SayTheSame g old → ext.offset + header_len g ≤ length list
 found_room start list p i ext g old is view value same =
     let t = found_takes start list p i ext g old (packet_headers p) is.ending is view value same is.walk in
@@ -146,19 +183,27 @@ found_room start list p i ext g old is view value same =
     let begins = t.begins in
     omega arith
 
-pub found_other : (start : Expectation) (list : List ℕ) (p : PacketSlice) (i : ℕ) (ext : PacketExt) (g old : Header) (hs : List Header) (e : Ending) → IsPacket start list p → ViewsExtIf (slice_get (exts_of p.read.units) i) (Some ext)
-    → old ≡ ext_slice_header ext.slice → (SayTheSame g old → ⊥) → Walk start list hs e → RefusesExt hs i g errors.SaysOther
+pub found_other : (start : Expectation) (list : List ℕ) (p : PacketSlice) (i : ℕ) (ext : PacketExt) (g old : Header)
+    (hs : List Header) (e : Ending)
+    → IsPacket start list p → ViewsExtIf (slice_get (exts_of p.read.units) i) (Some ext)
+    → old ≡ ext_slice_header ext.slice → (SayTheSame g old → ⊥) → Walk start list hs e
+    → RefusesExt hs i g errors.SaysOther
 found_other start list p i ext g old hs e is view value differ walk =
     let f = found_ext start list p i ext old hs e is view value walk in other f.front old f.later f.found differ
 
 -- none is there
-pub none_past : (start : Expectation) (list : List ℕ) (p : PacketSlice) (i n : ℕ) (hs : List Header) (e : Ending) → IsPacket start list p → ViewsExtIf (slice_get (exts_of p.read.units) i) None → n ≡ length (exts_of p.read.units) → Walk start list hs e → (ext_count hs ≡ n) × (ext_count hs ≤ i)
+pub none_past : (start : Expectation) (list : List ℕ) (p : PacketSlice) (i n : ℕ) (hs : List Header) (e : Ending)
+    → IsPacket start list p → ViewsExtIf (slice_get (exts_of p.read.units) i) None → n ≡ length (exts_of p.read.units)
+    → Walk start list hs e → (ext_count hs ≡ n) × (ext_count hs ≤ i)
 none_past start list p i n hs e is view len walk =
     let count : ext_count hs ≡ n = ap ext_count (is.one hs e walk).0 ∙ exts_count p.read.units ∙ sym len in
     let past = missing_past (exts_of p.read.units) i (unviewed (slice_get (exts_of p.read.units) i) view) in
     (count, omega arith)
 
-pub found_none : (start : Expectation) (list : List ℕ) (p : PacketSlice) (i n : ℕ) (g : Header) (hs : List Header) (e : Ending) → IsPacket start list p → ViewsExtIf (slice_get (exts_of p.read.units) i) None → n ≡ length (exts_of p.read.units) → Walk start list hs e → RefusesExt hs i g (errors.NoLinkExt n)
+pub found_none : (start : Expectation) (list : List ℕ) (p : PacketSlice) (i n : ℕ) (g : Header) (hs : List Header)
+    (e : Ending)
+    → IsPacket start list p → ViewsExtIf (slice_get (exts_of p.read.units) i) None → n ≡ length (exts_of p.read.units)
+    → Walk start list hs e → RefusesExt hs i g (errors.NoLinkExt n)
 found_none start list p i n g hs e is view len walk =
     let past = none_past start list p i n hs e is view len walk in
     subst (λ (k : ℕ). RefusesExt hs i g (errors.NoLinkExt k)) past.0 (none past.1)
@@ -167,9 +212,12 @@ pub sendable_ext : (ext : LinkExtHeader) → IsSendable (ext_header_view ext)
 sendable_ext (values.Vlan h) = tt
 sendable_ext (values.Macsec h) = tt
 
-pub is_replaced : (start : Expectation) (old new : List ℕ) (hs : List Header) (e : Ending) (i at : ℕ) (g : Header) → TakesExt hs i g at → FitsHeader g → IsSendable g → new ≡ overwritten old at (header_bytes g) → Walk start old hs e → ReplacesExt start old hs e i g new
+pub is_replaced : (start : Expectation) (old new : List ℕ) (hs : List Header) (e : Ending) (i at : ℕ) (g : Header)
+    → TakesExt hs i g at → FitsHeader g → IsSendable g → new ≡ overwritten old at (header_bytes g) → Walk start old hs e
+    → ReplacesExt start old hs e i g new
 is_replaced start old new hs e i at g t fits sendable bytes walk =
-    let same_place : new ≡ overwritten old (place 0 t.front) (header_bytes g) = bytes ∙ ap (λ (n : ℕ). overwritten old n (header_bytes g)) t.begins in
+    let same_place : new ≡ overwritten old (place 0 t.front) (header_bytes g) =
+    bytes ∙ ap (λ (n : ℕ). overwritten old n (header_bytes g)) t.begins in
     let split = subst (λ (l : List Header). Walk start old l e) t.found.parts walk in
     let inside = header_inside start old t.front t.replaced t.later e split in
     let len = length-header_bytes g fits in
@@ -183,5 +231,7 @@ is_replaced start old new hs e i at g t fits sendable bytes walk =
       fits = fits;
       bytes = same_place;
       len = ap length same_place ∙ length-overwritten old (header_bytes g) (place 0 t.front) (omega arith);
-      walk = subst (λ (l : List ℕ). Walk start l (t.front ++ g ∷ t.later) e) (sym same_place) (replaced_walk start old t.front t.replaced g t.later e t.same fits sendable split);
+      walk =
+          subst (λ (l : List ℕ). Walk start l (t.front ++ g ∷ t.later) e) (sym same_place)
+          (replaced_walk start old t.front t.replaced g t.later e t.same fits sendable split);
     }

@@ -30,20 +30,24 @@ is_ext u = is_extension u.kind
 abbrev pub arp_of_unit : PacketUnit → Option (List ℕ)
 arp_of_unit u = arp_in u.kind u.bytes
 
-link_is : (frame : List ℕ) (link : LinkPlace) → (filter is_ext (link_units frame link) ≡ []) × (filter_map arp_of_unit (link_units frame link) ≡ [])
+link_is : (frame : List ℕ) (link : LinkPlace)
+    → (filter is_ext (link_units frame link) ≡ []) × (filter_map arp_of_unit (link_units frame link) ≡ [])
 link_is frame places.Missing = (refl, refl)
 link_is frame places.Ethernet2 = (refl, refl)
 link_is frame places.Ethernet2Fcs = (refl, refl)
 link_is frame places.LinuxSll = (refl, refl)
 
-ext_is : (kind : ExtKind) (at : ℕ) (bytes : List ℕ) → (is_extension (ext_kind kind) ≡ true) × (arp_in (ext_kind kind) bytes ≡ None)
+ext_is : (kind : ExtKind) (at : ℕ) (bytes : List ℕ)
+    → (is_extension (ext_kind kind) ≡ true) × (arp_in (ext_kind kind) bytes ≡ None)
 ext_is tags.Vlan at bytes = (refl, refl)
 ext_is tags.Macsec at bytes = (refl, refl)
 
-keep_first : (b : Bool) (u : PacketUnit) (us : List PacketUnit) → is_ext u ≡ true → filter is_ext (u ∷ us) ≡ u ∷ filter is_ext us
+keep_first : (b : Bool) (u : PacketUnit) (us : List PacketUnit) → is_ext u ≡ true
+    → filter is_ext (u ∷ us) ≡ u ∷ filter is_ext us
 keep_first b u us e = rw e refl
 
-exts_are : (xs : List ExtPlace) → (filter is_ext (map ext_unit xs) ≡ map ext_unit xs) × (filter_map arp_of_unit (map ext_unit xs) ≡ [])
+exts_are : (xs : List ExtPlace)
+    → (filter is_ext (map ext_unit xs) ≡ map ext_unit xs) × (filter_map arp_of_unit (map ext_unit xs) ≡ [])
 exts_are [] = (refl, refl)
 exts_are (x ∷ xs) =
     let u = ext_unit x in
@@ -58,10 +62,12 @@ arp_has None = refl
 arp_has (Some p) = refl
 
 -- the extensions
-pub exts_at : (frame : List ℕ) (link : LinkPlace) (xs : List ExtPlace) (arp : Option Place) → exts_of (units_at frame link xs arp) ≡ map ext_unit xs
+pub exts_at : (frame : List ℕ) (link : LinkPlace) (xs : List ExtPlace) (arp : Option Place)
+    → exts_of (units_at frame link xs arp) ≡ map ext_unit xs
 exts_at frame link xs arp =
     filter-append is_ext (link_units frame link ++ map ext_unit xs) (arp_units arp)
-    ∙ ap (λ (l : List PacketUnit). l ++ filter is_ext (arp_units arp)) (filter-append is_ext (link_units frame link) (map ext_unit xs))
+    ∙ ap (λ (l : List PacketUnit). l ++ filter is_ext (arp_units arp))
+    (filter-append is_ext (link_units frame link) (map ext_unit xs))
     ∙ (λ i. (link_is frame link).0 i ++ (exts_are xs).0 i ++ arp_has arp i)
     ∙ append-nil _
 
@@ -74,10 +80,12 @@ only_arp : (arp : Option Place) → slice_get (filter_map arp_of_unit (arp_units
 only_arp None = refl
 only_arp (Some p) = refl
 
-pub arp_at : (frame : List ℕ) (link : LinkPlace) (xs : List ExtPlace) (arp : Option Place) → arp_view (units_at frame link xs arp) ≡ packet_at arp
+pub arp_at : (frame : List ℕ) (link : LinkPlace) (xs : List ExtPlace) (arp : Option Place)
+    → arp_view (units_at frame link xs arp) ≡ packet_at arp
 arp_at frame link xs arp =
     ap (λ l. slice_get l 0) (filter_map-append arp_of_unit (link_units frame link ++ map ext_unit xs) (arp_units arp)
-    ∙ ap (λ l. l ++ filter_map arp_of_unit (arp_units arp)) (filter_map-append arp_of_unit (link_units frame link) (map ext_unit xs))
+    ∙ ap (λ l. l ++ filter_map arp_of_unit (arp_units arp))
+    (filter_map-append arp_of_unit (link_units frame link) (map ext_unit xs))
     ∙ (λ i. (link_is frame link).1 i ++ (exts_are xs).1 i ++ filter_map arp_of_unit (arp_units arp)))
     ∙ only_arp arp
 
@@ -86,11 +94,13 @@ no_packet None e = refl
 no_packet (Some p) e = absurd cc
 
 -- the link's header
-later_link : (kind : ExtKind) (at : ℕ) (bytes : List ℕ) (us : List PacketUnit) → link_of (record { kind = ext_kind kind; offset = at; bytes = bytes } ∷ us) ≡ None
+later_link : (kind : ExtKind) (at : ℕ) (bytes : List ℕ) (us : List PacketUnit)
+    → link_of (record { kind = ext_kind kind; offset = at; bytes = bytes } ∷ us) ≡ None
 later_link tags.Vlan at bytes us = refl
 later_link tags.Macsec at bytes us = refl
 
-pub no_link : (frame : List ℕ) (xs : List ExtPlace) (arp : Option Place) → link_of (units_at frame places.Missing xs arp) ≡ None
+pub no_link : (frame : List ℕ) (xs : List ExtPlace) (arp : Option Place)
+    → link_of (units_at frame places.Missing xs arp) ≡ None
 no_link frame [] None = refl
 no_link frame [] (Some p) = refl
 no_link frame (x ∷ xs) arp = later_link x.kind x.place.start x.place.bytes.now (map ext_unit xs ++ arp_units arp)
@@ -98,50 +108,68 @@ no_link frame (x ∷ xs) arp = later_link x.kind x.place.start x.place.bytes.now
 -- ---- one header more
 
 -- nothing was read
-pub nothing : (frame : List ℕ) (link : LinkPlace) (xs : List ExtPlace) (arp : Option Place) → units_at frame link xs arp ≡ [] → (link ≡ places.Missing) × (xs ≡ []) × (arp ≡ None)
+pub nothing : (frame : List ℕ) (link : LinkPlace) (xs : List ExtPlace) (arp : Option Place)
+    → units_at frame link xs arp ≡ [] → (link ≡ places.Missing) × (xs ≡ []) × (arp ≡ None)
 nothing frame places.Missing [] None e = (refl, refl, refl)
 nothing frame _ _ _ e = absurd cc
 
-first_is : (frame : List ℕ) (kind : Kind) (p : Place) → p.start ≡ 0 → p.bytes.now ≡ frame → unit_at kind p ≡ link_unit frame kind
+first_is : (frame : List ℕ) (kind : Kind) (p : Place) → p.start ≡ 0 → p.bytes.now ≡ frame
+    → unit_at kind p ≡ link_unit frame kind
 first_is frame kind p start whole = λ i. record { kind = kind; offset = start i; bytes = whole i }
 
 -- the link's header comes first
-pub with_link : (frame : List ℕ) (old new : LinkPlace) (xs : List ExtPlace) (arp : Option Place) (kind : Kind) (p : Place) → units_at frame old xs arp ≡ [] → p.start ≡ 0 → p.bytes.now ≡ frame
-    → link_units frame new ≡ link_unit frame kind ∷ [] → units_at frame new xs arp ≡ units_at frame old xs arp ++ unit_at kind p ∷ []
+pub with_link : (frame : List ℕ) (old new : LinkPlace) (xs : List ExtPlace) (arp : Option Place) (kind : Kind)
+    (p : Place)
+    → units_at frame old xs arp ≡ [] → p.start ≡ 0 → p.bytes.now ≡ frame
+    → link_units frame new ≡ link_unit frame kind ∷ []
+    → units_at frame new xs arp ≡ units_at frame old xs arp ++ unit_at kind p ∷ []
 with_link frame old new xs arp kind p none start whole is =
     let parts = nothing frame old xs arp none in
-    (λ i. units_at frame new (parts.1 i) (parts.2 i)) ∙ append-nil (link_units frame new ++ []) ∙ append-nil (link_units frame new) ∙ is
-    ∙ ap (λ (u : PacketUnit). u ∷ []) (sym (first_is frame kind p start whole)) ∙ ap (λ (l : List PacketUnit). l ++ unit_at kind p ∷ []) (sym none)
+    (λ i. units_at frame new (parts.1 i) (parts.2 i)) ∙ append-nil (link_units frame new ++ [])
+    ∙ append-nil (link_units frame new) ∙ is
+    ∙ ap (λ (u : PacketUnit). u ∷ []) (sym (first_is frame kind p start whole))
+    ∙ ap (λ (l : List PacketUnit). l ++ unit_at kind p ∷ []) (sym none)
 
-pub frame_unit : (frame : List ℕ) (b : Bool) (e : Ethernet2Value) → link_units frame (frame_link b) ≡ link_unit frame (kind_of (if b then headers.Ethernet2Fcs e else headers.Ethernet2 e)) ∷ []
+pub frame_unit : (frame : List ℕ) (b : Bool) (e : Ethernet2Value)
+    → link_units frame (frame_link b)
+    ≡ link_unit frame (kind_of (if b then headers.Ethernet2Fcs e else headers.Ethernet2 e)) ∷ []
 frame_unit frame true e = refl
 frame_unit frame false e = refl
 
-pub readable_whole : (frame : List ℕ) (kind : Kind) (p : Place) → p.bytes.now ≡ frame → IsReadable kind p → Reads frame kind
+pub readable_whole : (frame : List ℕ) (kind : Kind) (p : Place) → p.bytes.now ≡ frame → IsReadable kind p
+    → Reads frame kind
 readable_whole frame kind p whole r = subst (λ (l : List ℕ). Reads l kind) whole r
 
-pub readable_frame : (frame : List ℕ) (b : Bool) (e : Ethernet2Value) → Reads frame (kind_of (if b then headers.Ethernet2Fcs e else headers.Ethernet2 e)) → IsReadableLink frame (frame_link b)
+pub readable_frame : (frame : List ℕ) (b : Bool) (e : Ethernet2Value)
+    → Reads frame (kind_of (if b then headers.Ethernet2Fcs e else headers.Ethernet2 e))
+    → IsReadableLink frame (frame_link b)
 readable_frame frame true e r = r
 readable_frame frame false e r = r
 
 -- an extension after the others
-pub with_ext : (frame : List ℕ) (link : LinkPlace) (xs : List ExtPlace) (arp : Option Place) (x : ExtPlace) → arp ≡ None → units_at frame link (xs ++ x ∷ []) arp ≡ units_at frame link xs arp ++ ext_unit x ∷ []
+pub with_ext : (frame : List ℕ) (link : LinkPlace) (xs : List ExtPlace) (arp : Option Place) (x : ExtPlace) → arp ≡ None
+    → units_at frame link (xs ++ x ∷ []) arp ≡ units_at frame link xs arp ++ ext_unit x ∷ []
 with_ext frame link xs arp x none =
     let l = link_units frame link in
     let m = map ext_unit xs in
     let u = ext_unit x in
-    ap (units_at frame link (xs ++ x ∷ [])) none ∙ append-nil _ ∙ ap (λ (k : List PacketUnit). l ++ k) (map-append ext_unit xs (x ∷ [])) ∙ sym (append_assoc l m (u ∷ []))
+    ap (units_at frame link (xs ++ x ∷ [])) none ∙ append-nil _
+    ∙ ap (λ (k : List PacketUnit). l ++ k) (map-append ext_unit xs (x ∷ [])) ∙ sym (append_assoc l m (u ∷ []))
     ∙ ap (λ (k : List PacketUnit). k ++ u ∷ []) (sym (ap (units_at frame link xs) none ∙ append-nil (l ++ m)))
 
 -- an ARP packet after all
-pub with_arp : (frame : List ℕ) (link : LinkPlace) (xs : List ExtPlace) (arp : Option Place) (p : Place) → arp ≡ None → units_at frame link xs (Some p) ≡ units_at frame link xs arp ++ unit_at kinds.Arp p ∷ []
+pub with_arp : (frame : List ℕ) (link : LinkPlace) (xs : List ExtPlace) (arp : Option Place) (p : Place) → arp ≡ None
+    → units_at frame link xs (Some p) ≡ units_at frame link xs arp ++ unit_at kinds.Arp p ∷ []
 with_arp frame link xs arp p none =
     let u = unit_at kinds.Arp p in
-    ap (λ (k : List PacketUnit). k ++ u ∷ []) (sym (ap (units_at frame link xs) none ∙ append-nil (link_units frame link ++ map ext_unit xs)))
+    ap (λ (k : List PacketUnit). k ++ u ∷ [])
+    (sym (ap (units_at frame link xs) none ∙ append-nil (link_units frame link ++ map ext_unit xs)))
 
 pub all_with : {X : Type 0} (P : X → Type 0) (xs : List X) (x : X) → All P xs → P x → All P (xs ++ x ∷ [])
 all_with P xs x all p =
-    let one = All-from_get_or P (x ∷ []) x (λ i lt. let first : 0 ≡ i = omega (arith, lt) in subst (λ (k : ℕ). P (get_or (x ∷ []) k x)) first p) in
+    let one =
+    All-from_get_or P (x ∷ []) x
+    (λ i lt. let first : 0 ≡ i = omega (arith, lt) in subst (λ (k : ℕ). P (get_or (x ∷ []) k x)) first p) in
     All-append P xs (x ∷ []) all one
 
 -- ---- the extension at an index
@@ -155,17 +183,23 @@ missing_past xs i none =
     ]
 
 pub all_get : {X : Type 0} (P : X → Type 0) (xs : List X) (i : ℕ) (x : X) → All P xs → slice_get xs i ≡ Some x → P x
-all_get P xs i x all e = subst P (get_or_from_slice_get xs i x x e) (All-get_or P xs i x (slice_get_within xs i x e) all)
+all_get P xs i x all e =
+    subst P (get_or_from_slice_get xs i x x e) (All-get_or P xs i x (slice_get_within xs i x e) all)
 
-pub ext_got : (frame : List ℕ) (link : LinkPlace) (xs : List ExtPlace) (arp : Option Place) (i : ℕ) (x : ExtPlace) (ext : PacketExt) → slice_get xs i ≡ Some x → ViewsExt (ext_unit x) ext
+pub ext_got : (frame : List ℕ) (link : LinkPlace) (xs : List ExtPlace) (arp : Option Place) (i : ℕ) (x : ExtPlace)
+    (ext : PacketExt)
+    → slice_get xs i ≡ Some x → ViewsExt (ext_unit x) ext
     → ViewsExtIf (slice_get (exts_of (units_at frame link xs arp)) i) (Some ext)
 ext_got frame link xs arp i x ext got views =
     let e : slice_get (exts_of (units_at frame link xs arp)) i ≡ Some (ext_unit x) =
-    ap (λ (l : List PacketUnit). slice_get l i) (exts_at frame link xs arp) ∙ slice_get-map ext_unit xs i ∙ ap (option_map ext_unit) got in
+    ap (λ (l : List PacketUnit). slice_get l i) (exts_at frame link xs arp) ∙ slice_get-map ext_unit xs i
+    ∙ ap (option_map ext_unit) got in
     subst (λ (o : Option PacketUnit). ViewsExtIf o (Some ext)) (sym e) views
 
-pub ext_missing : (frame : List ℕ) (link : LinkPlace) (xs : List ExtPlace) (arp : Option Place) (i : ℕ) → slice_get xs i ≡ None → ViewsExtIf (slice_get (exts_of (units_at frame link xs arp)) i) None
+pub ext_missing : (frame : List ℕ) (link : LinkPlace) (xs : List ExtPlace) (arp : Option Place) (i : ℕ)
+    → slice_get xs i ≡ None → ViewsExtIf (slice_get (exts_of (units_at frame link xs arp)) i) None
 ext_missing frame link xs arp i none =
     let e : slice_get (exts_of (units_at frame link xs arp)) i ≡ None =
-    ap (λ (l : List PacketUnit). slice_get l i) (exts_at frame link xs arp) ∙ slice_get-map ext_unit xs i ∙ ap (option_map ext_unit) none in
+    ap (λ (l : List PacketUnit). slice_get l i) (exts_at frame link xs arp) ∙ slice_get-map ext_unit xs i
+    ∙ ap (option_map ext_unit) none in
     subst (λ (o : Option PacketUnit). ViewsExtIf o None) (sym e) refl

@@ -19,7 +19,8 @@ use Rattle.ether_packet.specs.PacketUnit.{PacketUnit}
 use Rattle.ether_packet.specs.Views.{header_of}
 use Rattle.ether_packet.specs.Places.{unit_at, link_units, ext_unit, headers_at}
 
-reach-append : (at : ℕ) (hs : List Header) (h : Header) → reach at (hs ++ h ∷ []) ≡ max (reach at hs) (place at hs + unit_len h)
+reach-append : (at : ℕ) (hs : List Header) (h : Header)
+    → reach at (hs ++ h ∷ []) ≡ max (reach at hs) (place at hs + unit_len h)
 reach-append at [] h = omega arith
 reach-append at (k ∷ hs) h = let more = reach-append (at + header_len k) hs h in omega arith
 
@@ -27,10 +28,12 @@ reach-append at (k ∷ hs) h = let more = reach-append (at + header_len k) hs h 
 abbrev pub headers_so_far : List ℕ → LinkPlace → List ExtPlace → List Header
 headers_so_far frame link xs = map header_of (link_units frame link) ++ map header_of (map ext_unit xs)
 
-take_next : (xs : List ExtPlace) (i : ℕ) (x : ExtPlace) → slice_get xs i ≡ Some x → take (i + 1) xs ≡ take i xs ++ x ∷ []
+take_next : (xs : List ExtPlace) (i : ℕ) (x : ExtPlace) → slice_get xs i ≡ Some x
+    → take (i + 1) xs ≡ take i xs ++ x ∷ []
 take_next xs i x at =
     let e : i + 1 ≡ suc i = omega arith in
-    ap (λ (n : ℕ). take n xs) e ∙ take-suc xs i x (slice_get_within xs i x at) ∙ ap (λ (y : ExtPlace). take i xs ++ y ∷ []) (get_or_from_slice_get xs i x x at)
+    ap (λ (n : ℕ). take n xs) e ∙ take-suc xs i x (slice_get_within xs i x at)
+    ∙ ap (λ (y : ExtPlace). take i xs ++ y ∷ []) (get_or_from_slice_get xs i x x at)
 
 headers_next : (frame : List ℕ) (link : LinkPlace) (xs : List ExtPlace) (i : ℕ) (x : ExtPlace) → slice_get xs i ≡ Some x
     → headers_so_far frame link (take (i + 1) xs) ≡ headers_so_far frame link (take i xs) ++ header_of (ext_unit x) ∷ []
@@ -50,61 +53,92 @@ pub record Reaches (link : LinkPlace) (xs : List ExtPlace) (n at end : ℕ) : Ty
   pub near : at ≤ 16 + 16 * n
   pub most : end ≤ 80 + 16 * n
 
-pub reaches_first : (link : LinkPlace) (xs : List ExtPlace) (at : ℕ) → ((frame : List ℕ) → at ≡ place 0 (map header_of (link_units frame link))) → ((frame : List ℕ) → at ≡ reach 0 (map header_of (link_units frame link)))
+pub reaches_first : (link : LinkPlace) (xs : List ExtPlace) (at : ℕ)
+    → ((frame : List ℕ) → at ≡ place 0 (map header_of (link_units frame link)))
+    → ((frame : List ℕ) → at ≡ reach 0 (map header_of (link_units frame link)))
     → at ≤ 16 → Reaches link xs 0 at at
 reaches_first link xs at ends reaches near =
     let same = λ (frame : List ℕ). sym (append-nil (map header_of (link_units frame link))) in
-    record { ends = λ frame. ends frame ∙ ap (place 0) (same frame); reaches = λ frame. reaches frame ∙ ap (reach 0) (same frame); near = omega arith; most = omega arith }
-
--- with one header more
-place_next : (hs ks : List Header) (h : Header) (at len : ℕ) → ks ≡ hs ++ h ∷ [] → at ≡ place 0 hs → len ≡ header_len h → at + len ≡ place 0 ks
-place_next hs ks h at len next at_is len_is = let e = ap (place 0) next ∙ place-append 0 hs (h ∷ []) in omega arith
-
-reach_next : (hs ks : List Header) (h : Header) (at end len named : ℕ) → ks ≡ hs ++ h ∷ [] → at ≡ place 0 hs → end ≡ reach 0 hs → len ≡ header_len h → named ≡ unwrap_or (payload_len h) 0 → max end (at + len + named) ≡ reach 0 ks
-reach_next hs ks h at end len named next at_is end_is len_is named_is = let e = ap (reach 0) next ∙ reach-append 0 hs h in omega arith
-
-pub reaches_next : (link : LinkPlace) (xs : List ExtPlace) (i : ℕ) (x : ExtPlace) (h : Header) (at end len named : ℕ) → slice_get xs i ≡ Some x → h ≡ header_of (ext_unit x) → Reaches link xs i at end
-    → len ≡ header_len h → len ≤ 16 → named ≡ unwrap_or (payload_len h) 0 → named < 64 → Reaches link xs (i + 1) (at + len) (max end (at + len + named))
-reaches_next link xs i x h at end len named is value r len_is few named_is less =
-    let before = λ (frame : List ℕ). headers_so_far frame link (take i xs) in
-    let after = λ (frame : List ℕ). headers_so_far frame link (take (i + 1) xs) in
-    let next = λ (frame : List ℕ). headers_next frame link xs i x is ∙ ap (λ (k : Header). before frame ++ k ∷ []) (sym value) in
-    let near = r.near in
-    let most = r.most in
     record {
-      ends = λ frame. place_next (before frame) (after frame) h at len (next frame) (r.ends frame) len_is;
-      reaches = λ frame. reach_next (before frame) (after frame) h at end len named (next frame) (r.ends frame) (r.reaches frame) len_is named_is;
+      ends = λ frame. ends frame ∙ ap (place 0) (same frame);
+      reaches = λ frame. reaches frame ∙ ap (reach 0) (same frame);
       near = omega arith;
       most = omega arith;
     }
 
-pub reaches_all : (frame : List ℕ) (link : LinkPlace) (xs : List ExtPlace) (n at end : ℕ) → Reaches link xs n at end → length xs ≤ n
+-- with one header more
+place_next : (hs ks : List Header) (h : Header) (at len : ℕ) → ks ≡ hs ++ h ∷ [] → at ≡ place 0 hs → len ≡ header_len h
+    → at + len ≡ place 0 ks
+place_next hs ks h at len next at_is len_is = let e = ap (place 0) next ∙ place-append 0 hs (h ∷ []) in omega arith
+
+reach_next : (hs ks : List Header) (h : Header) (at end len named : ℕ) → ks ≡ hs ++ h ∷ [] → at ≡ place 0 hs
+    → end ≡ reach 0 hs → len ≡ header_len h → named ≡ unwrap_or (payload_len h) 0
+    → max end (at + len + named) ≡ reach 0 ks
+reach_next hs ks h at end len named next at_is end_is len_is named_is =
+    let e = ap (reach 0) next ∙ reach-append 0 hs h in omega arith
+
+pub reaches_next : (link : LinkPlace) (xs : List ExtPlace) (i : ℕ) (x : ExtPlace) (h : Header) (at end len named : ℕ)
+    → slice_get xs i ≡ Some x → h ≡ header_of (ext_unit x) → Reaches link xs i at end
+    → len ≡ header_len h → len ≤ 16 → named ≡ unwrap_or (payload_len h) 0 → named < 64
+    → Reaches link xs (i + 1) (at + len) (max end (at + len + named))
+reaches_next link xs i x h at end len named is value r len_is few named_is less =
+    let before = λ (frame : List ℕ). headers_so_far frame link (take i xs) in
+    let after = λ (frame : List ℕ). headers_so_far frame link (take (i + 1) xs) in
+    let next =
+    λ (frame : List ℕ).
+    headers_next frame link xs i x is ∙ ap (λ (k : Header). before frame ++ k ∷ []) (sym value) in
+    let near = r.near in
+    let most = r.most in
+    record {
+      ends = λ frame. place_next (before frame) (after frame) h at len (next frame) (r.ends frame) len_is;
+      reaches =
+          λ frame.
+          reach_next (before frame) (after frame) h at end len named (next frame) (r.ends frame) (r.reaches frame)
+          len_is named_is;
+      near = omega arith;
+      most = omega arith;
+    }
+
+pub reaches_all : (frame : List ℕ) (link : LinkPlace) (xs : List ExtPlace) (n at end : ℕ) → Reaches link xs n at end
+    → length xs ≤ n
     → (at ≡ place 0 (headers_so_far frame link xs)) × (end ≡ reach 0 (headers_so_far frame link xs))
 reaches_all frame link xs n at end r past =
     let all = ap (headers_so_far frame link) (take_all n xs past) in
     (r.ends frame ∙ ap (place 0) all, r.reaches frame ∙ ap (reach 0) all)
 
 -- without an ARP packet
-pub headers_before : (frame : List ℕ) (link : LinkPlace) (xs : List ExtPlace) → headers_at frame link xs None ≡ headers_so_far frame link xs
-headers_before frame link xs = ap (map header_of) (append-nil (link_units frame link ++ map ext_unit xs)) ∙ map-append header_of (link_units frame link) (map ext_unit xs)
+pub headers_before : (frame : List ℕ) (link : LinkPlace) (xs : List ExtPlace)
+    → headers_at frame link xs None ≡ headers_so_far frame link xs
+headers_before frame link xs =
+    ap (map header_of) (append-nil (link_units frame link ++ map ext_unit xs))
+    ∙ map-append header_of (link_units frame link) (map ext_unit xs)
 
-pub reaches_before : (frame : List ℕ) (link : LinkPlace) (xs : List ExtPlace) (n at end : ℕ) → Reaches link xs n at end → length xs ≤ n
+pub reaches_before : (frame : List ℕ) (link : LinkPlace) (xs : List ExtPlace) (n at end : ℕ) → Reaches link xs n at end
+    → length xs ≤ n
     → (at ≡ place 0 (headers_at frame link xs None)) × (end ≡ reach 0 (headers_at frame link xs None))
 reaches_before frame link xs n at end r past =
     let all = reaches_all frame link xs n at end r past in
     let same = sym (headers_before frame link xs) in
     (all.0 ∙ ap (place 0) same, all.1 ∙ ap (reach 0) same)
 
-pub packet_len : (bytes packet : List ℕ) → arp_of packet ≡ arp_of bytes → length packet ≡ arp_len (arp_front_in packet) → header_len (headers.Arp (arp_of bytes)) ≡ length packet
-packet_len bytes packet same len = ap (λ (a : ArpValue). header_len (headers.Arp a)) (sym same) ∙ ap arp_len (arp_front_back packet (arp_front_in packet) (omega arith)) ∙ sym len
+pub packet_len : (bytes packet : List ℕ) → arp_of packet ≡ arp_of bytes → length packet ≡ arp_len (arp_front_in packet)
+    → header_len (headers.Arp (arp_of bytes)) ≡ length packet
+packet_len bytes packet same len =
+    ap (λ (a : ArpValue). header_len (headers.Arp a)) (sym same)
+    ∙ ap arp_len (arp_front_back packet (arp_front_in packet) (omega arith)) ∙ sym len
 
 -- with one
-pub reach_with_arp : (frame : List ℕ) (link : LinkPlace) (xs : List ExtPlace) (p : Place) (n : ℕ) → header_len (header_of (unit_at kinds.Arp p)) ≡ n
-    → reach 0 (headers_at frame link xs (Some p)) ≡ max (reach 0 (headers_at frame link xs None)) (place 0 (headers_at frame link xs None) + n)
+pub reach_with_arp : (frame : List ℕ) (link : LinkPlace) (xs : List ExtPlace) (p : Place) (n : ℕ)
+    → header_len (header_of (unit_at kinds.Arp p)) ≡ n
+    → reach 0 (headers_at frame link xs (Some p))
+    ≡ max (reach 0 (headers_at frame link xs None)) (place 0 (headers_at frame link xs None) + n)
 reach_with_arp frame link xs p n own =
     let first = headers_at frame link xs None in
     let h = header_of (unit_at kinds.Arp p) in
     let units = link_units frame link ++ map ext_unit xs in
     let split : headers_at frame link xs (Some p) ≡ first ++ h ∷ [] =
-    map-append header_of units (unit_at kinds.Arp p ∷ []) ∙ ap (λ (l : List PacketUnit). map header_of l ++ h ∷ []) (sym (append-nil units)) in
-    ap (reach 0) split ∙ reach-append 0 first h ∙ ap (λ (k : ℕ). max (reach 0 first) (place 0 first + k)) (let e : unit_len h ≡ header_len h = omega arith in e ∙ own)
+    map-append header_of units (unit_at kinds.Arp p ∷ [])
+    ∙ ap (λ (l : List PacketUnit). map header_of l ++ h ∷ []) (sym (append-nil units)) in
+    ap (reach 0) split ∙ reach-append 0 first h
+    ∙ ap (λ (k : ℕ). max (reach 0 first) (place 0 first + k))
+    (let e : unit_len h ≡ header_len h = omega arith in e ∙ own)

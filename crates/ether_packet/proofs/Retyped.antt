@@ -1,4 +1,5 @@
--- The ether type that announces a VLAN tag, set in place: the walk is the one before, with the header before the tag announcing it
+-- The ether type that announces a VLAN tag, set in place: the walk is the one before, with the header before the tag
+-- announcing it
 -- by another type.
 use Rattle.std.proofs.Common.{◌≡◌, ℕ, ◌+◌, ◌-◌, ◌*◌, ◌^◌, ◌<◌, ◌≤◌, List, [], ◌∷◌, ◌++◌, length, refl, sym, ap, subst, ◌∙◌, arith, Bool, true, false, ◌&&◌}
 use Rattle.std.specs.Prelude.{slice_range, Option, Some, None, ◌==◌, if◌then◌else◌}
@@ -35,7 +36,8 @@ use Rattle.ether_packet.proofs.Pushed.{tpid_fits}
 
 -- ---- a header with another type
 
-retyped_bits : (p : PayloadType) (t : ℕ) → (encrypted_of (retyped p t) ≡ encrypted_of p) × (changed_of (retyped p t) ≡ changed_of p)
+retyped_bits : (p : PayloadType) (t : ℕ)
+    → (encrypted_of (retyped p t) ≡ encrypted_of p) × (changed_of (retyped p t) ≡ changed_of p)
 retyped_bits (payloads.Unmodified u) t = (refl, refl)
 retyped_bits payloads.Modified t = (refl, refl)
 retyped_bits payloads.EncryptedUnmodified t = (refl, refl)
@@ -54,37 +56,64 @@ record RetypedMeans (new : List ℕ) (h : Header) (t : ℕ) : Type 0 where
   pub means : Means new (with_type h t)
   pub sound : IsSound new (with_type h t)
 
-retyped_vlan : (old new : List ℕ) (v : VlanValue) (t : ℕ) → IsBytes old → Means old (headers.Vlan v) → 4 ≤ length new → IsRetyped old new 4 t → Means new (headers.Vlan (record v { ether_type = t }))
+retyped_vlan : (old new : List ℕ) (v : VlanValue) (t : ℕ) → IsBytes old → Means old (headers.Vlan v) → 4 ≤ length new
+    → IsRetyped old new 4 t → Means new (headers.Vlan (record v { ether_type = t }))
 retyped_vlan old new v t ok m len r =
     let a = (tag_numbers old 0 v ok m.whole m.spells).0 in
-    let join : number (slice_range new 0 4) ≡ number (slice_range new 0 2) * 65536 + number (slice_range new 2 4) = number-part_join new 0 2 4 (omega arith) (omega arith) len in
+    let join : number (slice_range new 0 4) ≡ number (slice_range new 0 2) * 65536 + number (slice_range new 2 4) =
+    number-part_join new 0 2 4 (omega arith) (omega arith) len in
     let same : number (slice_range new 0 2) ≡ number (slice_range old 0 2) = ap number r.front in
     let n = r.number in
     let f = m.spells.fits in
-    record { whole = len; spells = record { sum = omega arith; fits = record { pcp = f.pcp; dei = f.dei; vid = f.vid; ether_type = r.fits } } }
+    record {
+      whole = len;
+      spells = record {
+        sum = omega arith;
+        fits = record { pcp = f.pcp; dei = f.dei; vid = f.vid; ether_type = r.fits };
+      };
+    }
 
 -- parts before the last two bytes of the first n
-front_part : (old new : List ℕ) (n i j : ℕ) → slice_range new 0 (n - 2) ≡ slice_range old 0 (n - 2) → i ≤ j → j ≤ n - 2 → slice_range (slice_range new 0 n) i j ≡ slice_range (slice_range old 0 n) i j
+front_part : (old new : List ℕ) (n i j : ℕ) → slice_range new 0 (n - 2) ≡ slice_range old 0 (n - 2) → i ≤ j → j ≤ n - 2
+    → slice_range (slice_range new 0 n) i j ≡ slice_range (slice_range old 0 n) i j
 front_part old new n i j same ij le =
-    part_of_front new n i j ij (omega arith) ∙ sym (part_of_front new (n - 2) i j ij le) ∙ ap (λ (l : List ℕ). slice_range l i j) same ∙ part_of_front old (n - 2) i j ij le ∙ sym (part_of_front old n i j ij (omega arith))
+    part_of_front new n i j ij (omega arith) ∙ sym (part_of_front new (n - 2) i j ij le)
+    ∙ ap (λ (l : List ℕ). slice_range l i j) same ∙ part_of_front old (n - 2) i j ij le
+    ∙ sym (part_of_front old n i j ij (omega arith))
 
-sci_kept : (old new : List ℕ) (s : Option ℕ) → slice_range new 0 (6 + 8 * sci_present_of s) ≡ slice_range old 0 (6 + 8 * sci_present_of s) → HasSci (slice_range old 0 (6 + 8 * sci_present_of s + 2)) s → HasSci (slice_range new 0 (6 + 8 * sci_present_of s + 2)) s
+sci_kept : (old new : List ℕ) (s : Option ℕ)
+    → slice_range new 0 (6 + 8 * sci_present_of s) ≡ slice_range old 0 (6 + 8 * sci_present_of s)
+    → HasSci (slice_range old 0 (6 + 8 * sci_present_of s + 2)) s
+    → HasSci (slice_range new 0 (6 + 8 * sci_present_of s + 2)) s
 sci_kept old new None same has = tt
 sci_kept old new (Some s) same has = ap number (front_part old new 16 6 14 same (omega arith) (omega arith)) ∙ has
 
-retyped_sec_tag : (bound : LenSource) (old new : List ℕ) (m : SecTagValue) (u t : ℕ) → m.payload_type ≡ payloads.Unmodified u → Accepts bound old kinds.Macsec → Means old (headers.Macsec (record m { payload_type = payloads.Unmodified u })) → 8 + 8 * sci_present_of m.sci ≤ length new
-    → IsRetyped old new (6 + 8 * sci_present_of m.sci + 2) t → RetypedMeans new (headers.Macsec (record m { payload_type = payloads.Unmodified u })) t
+retyped_sec_tag : (bound : LenSource) (old new : List ℕ) (m : SecTagValue) (u t : ℕ)
+    → m.payload_type ≡ payloads.Unmodified u → Accepts bound old kinds.Macsec
+    → Means old (headers.Macsec (record m { payload_type = payloads.Unmodified u }))
+    → 8 + 8 * sci_present_of m.sci ≤ length new
+    → IsRetyped old new (6 + 8 * sci_present_of m.sci + 2) t
+    → RetypedMeans new (headers.Macsec (record m { payload_type = payloads.Unmodified u })) t
 retyped_sec_tag bound old new m u t is ok means len r =
     let n = 6 + 8 * sci_present_of m.sci + 2 in
     let s = means.spells in
     let k = means.whole in
     let less : n - 2 ≡ 6 + 8 * sci_present_of m.sci = omega arith in
-    let before : slice_range new 0 (6 + 8 * sci_present_of m.sci) ≡ slice_range old 0 (6 + 8 * sci_present_of m.sci) = subst (λ (j : ℕ). slice_range new 0 j ≡ slice_range old 0 j) less r.front in
+    let before : slice_range new 0 (6 + 8 * sci_present_of m.sci)
+    ≡ slice_range old 0 (6 + 8 * sci_present_of m.sci) =
+    subst (λ (j : ℕ). slice_range new 0 j ≡ slice_range old 0 j) less r.front in
     let c = sec_tag_front_of s.version s.reserved (record m { payload_type = payloads.Unmodified t }) in
-    let begins : BeginsSecTag (slice_range new 0 n) c = record { sum = ap number (front_part old new n 0 2 r.front (omega arith) (omega arith)) ∙ s.front.sum; fits = s.front.fits } in
+    let begins : BeginsSecTag (slice_range new 0 n) c = record {
+      sum = ap number (front_part old new n 0 2 r.front (omega arith) (omega arith)) ∙ s.front.sum;
+      fits = s.front.fits;
+    } in
     let type : number (slice_range (slice_range new 0 n) (6 + 8 * sci_present_of m.sci) n) ≡ t =
-    ap number (part_of_front new n (6 + 8 * sci_present_of m.sci) n (omega arith) (omega arith)) ∙ subst (λ (j : ℕ). number (slice_range new j n) ≡ t) less r.number in
-    let version : s.version ≡ 0 = version_zero bound old (sec_tag_front_of s.version s.reserved (record m { payload_type = payloads.Unmodified u })) (omega arith) (begins_whole old n _ (omega arith) s.front) (ok _) in
+    ap number (part_of_front new n (6 + 8 * sci_present_of m.sci) n (omega arith) (omega arith))
+    ∙ subst (λ (j : ℕ). number (slice_range new j n) ≡ t) less r.number in
+    let version : s.version ≡ 0 =
+    version_zero bound old
+    (sec_tag_front_of s.version s.reserved (record m { payload_type = payloads.Unmodified u })) (omega arith)
+    (begins_whole old n _ (omega arith) s.front) (ok _) in
     record {
       means = record {
         whole = omega arith;
@@ -97,40 +126,74 @@ retyped_sec_tag bound old new m u t is ok means len r =
           ether_type = type;
         };
       };
-      sound = (s.reserved, subst (λ (v : ℕ). BeginsSecTag new (sec_tag_front_of v s.reserved (record m { payload_type = payloads.Unmodified t }))) version (begins_whole new n c (omega arith) begins));
+      sound = (
+        s.reserved,
+        subst
+            (λ (v : ℕ).
+            BeginsSecTag new
+            (sec_tag_front_of v s.reserved (record m { payload_type = payloads.Unmodified t })))
+            version (begins_whole new n c (omega arith) begins),
+      );
     }
 
 -- what announces a VLAN tag has an ether type
-announced_sll : (s : LinuxSllValue) (t : ℕ) (b : Bool) → (s.hardware_type == 1) ≡ b → announced_next (after_capture s.hardware_type s.protocol) ≡ Some kinds.Vlan → after_capture s.hardware_type t ≡ EtherType t
+announced_sll : (s : LinuxSllValue) (t : ℕ) (b : Bool) → (s.hardware_type == 1) ≡ b
+    → announced_next (after_capture s.hardware_type s.protocol) ≡ Some kinds.Vlan
+    → after_capture s.hardware_type t ≡ EtherType t
 announced_sll s t true e a = λ i. if e i then EtherType t else Sll (link_protocol_of s.hardware_type t)
 announced_sll s t false e a =
-    let none : None ≡ Some kinds.Vlan = (λ i. announced_next (if sym e i then EtherType s.protocol else Sll (link_protocol_of s.hardware_type s.protocol))) ∙ a in absurd cc
+    let none : None ≡ Some kinds.Vlan =
+    (λ i.
+    announced_next
+    (if sym e i then EtherType s.protocol else Sll (link_protocol_of s.hardware_type s.protocol)))
+    ∙ a in
+    absurd cc
 
-unmodified : (p : PayloadType) → announced_next (after_payload p) ≡ Some kinds.Vlan → (u : ℕ) × (p ≡ payloads.Unmodified u)
+unmodified : (p : PayloadType) → announced_next (after_payload p) ≡ Some kinds.Vlan
+    → (u : ℕ) × (p ≡ payloads.Unmodified u)
 unmodified (payloads.Unmodified u) a = (u, refl)
 unmodified payloads.Modified a = absurd cc
 unmodified payloads.EncryptedUnmodified a = absurd cc
 unmodified payloads.Encrypted a = absurd cc
 
-retyped_next : (h : Header) (t : ℕ) → announced_next (next_after h) ≡ Some kinds.Vlan → next_after (with_type h t) ≡ EtherType t
+retyped_next : (h : Header) (t : ℕ) → announced_next (next_after h) ≡ Some kinds.Vlan
+    → next_after (with_type h t) ≡ EtherType t
 retyped_next (headers.Ethernet2 e) t a = refl
 retyped_next (headers.Ethernet2Fcs e) t a = refl
 retyped_next (headers.LinuxSll s) t a = announced_sll s t (s.hardware_type == 1) refl a
 retyped_next (headers.Vlan v) t a = refl
-retyped_next (headers.Macsec m) t a = let u = unmodified m.payload_type a in ap (λ (p : PayloadType). after_payload (retyped p t)) u.1
+retyped_next (headers.Macsec m) t a =
+    let u = unmodified m.payload_type a in ap (λ (p : PayloadType). after_payload (retyped p t)) u.1
 retyped_next (headers.Arp r) t a = absurd cc
 
-retyped_header : (bound : LenSource) (old new : List ℕ) (h : Header) (t : ℕ) → IsBytes old → announced_next (next_after h) ≡ Some kinds.Vlan → Accepts bound old (kind_of h) → Means old h → header_len h ≤ length new → IsRetyped old new (header_len h) t → RetypedMeans new h t
-retyped_header bound old new (headers.Ethernet2 e) t ok a accepted m len r = record { means = retyped_means old new (headers.Ethernet2 e) t ok refl m len r; sound = tt }
-retyped_header bound old new (headers.Ethernet2Fcs e) t ok a accepted m len r = record { means = retyped_means old new (headers.Ethernet2Fcs e) t ok refl m len r; sound = tt }
-retyped_header bound old new (headers.LinuxSll s) t ok a accepted m len r = record { means = retyped_means old new (headers.LinuxSll s) t ok refl m len r; sound = packet_type_of bound old s accepted m }
-retyped_header bound old new (headers.Vlan v) t ok a accepted m len r = record { means = retyped_vlan old new v t ok m len r; sound = tt }
+retyped_header : (bound : LenSource) (old new : List ℕ) (h : Header) (t : ℕ) → IsBytes old
+    → announced_next (next_after h) ≡ Some kinds.Vlan → Accepts bound old (kind_of h) → Means old h
+    → header_len h ≤ length new → IsRetyped old new (header_len h) t → RetypedMeans new h t
+retyped_header bound old new (headers.Ethernet2 e) t ok a accepted m len r = record {
+  means = retyped_means old new (headers.Ethernet2 e) t ok refl m len r;
+  sound = tt;
+}
+retyped_header bound old new (headers.Ethernet2Fcs e) t ok a accepted m len r = record {
+  means = retyped_means old new (headers.Ethernet2Fcs e) t ok refl m len r;
+  sound = tt;
+}
+retyped_header bound old new (headers.LinuxSll s) t ok a accepted m len r = record {
+  means = retyped_means old new (headers.LinuxSll s) t ok refl m len r;
+  sound = packet_type_of bound old s accepted m;
+}
+retyped_header bound old new (headers.Vlan v) t ok a accepted m len r = record {
+  means = retyped_vlan old new v t ok m len r;
+  sound = tt;
+}
 retyped_header bound old new (headers.Macsec m) t ok a accepted means len r =
     let u = unmodified m.payload_type a in
     let same : m ≡ record m { payload_type = payloads.Unmodified u.0 } = λ i. record m { payload_type = u.1 i } in
-    let n : header_len (headers.Macsec m) ≡ 6 + 8 * sci_present_of m.sci + 2 = ap (λ (k : SecTagValue). header_len (headers.Macsec k)) same in
+    let n : header_len (headers.Macsec m) ≡ 6 + 8 * sci_present_of m.sci + 2 =
+    ap (λ (k : SecTagValue). header_len (headers.Macsec k)) same in
     subst (λ (k : SecTagValue). RetypedMeans new (headers.Macsec k) t) (sym same)
-    (retyped_sec_tag bound old new m u.0 t u.1 accepted (subst (λ (k : SecTagValue). Means old (headers.Macsec k)) same means) (omega arith) (subst (λ (k : ℕ). IsRetyped old new k t) n r))
+    (retyped_sec_tag bound old new m u.0 t u.1 accepted
+    (subst (λ (k : SecTagValue). Means old (headers.Macsec k)) same means) (omega arith)
+    (subst (λ (k : ℕ). IsRetyped old new k t) n r))
 retyped_header bound old new (headers.Arp b) t ok a accepted m len r = absurd cc
 
 -- ---- what is announced after it
@@ -150,27 +213,40 @@ within_limit limit (Some j) k e = ap Some (permitted_some (is_extension j && is_
 by_type : (t : ℕ) → is_vlan_ether_type t ≡ true → announced_next (EtherType t) ≡ Some kinds.Vlan
 by_type t is = within_limit None (announced_next (EtherType t)) kinds.Vlan (announced_vlan t is)
 
-announced_alike : (x : Expectation) (g h : Header) → kind_of g ≡ kind_of h → announced_next (next_after g) ≡ Some kinds.Vlan → announced (after x h) ≡ Some kinds.Vlan → announced (after x g) ≡ Some kinds.Vlan
+announced_alike : (x : Expectation) (g h : Header) → kind_of g ≡ kind_of h
+    → announced_next (next_after g) ≡ Some kinds.Vlan → announced (after x h) ≡ Some kinds.Vlan
+    → announced (after x g) ≡ Some kinds.Vlan
 announced_alike x g h kind a b =
     let limit = lowered (is_extension (kind_of h)) x.limit in
-    let old : announced_next (next_after h) ≡ Some kinds.Vlan = within_limit limit (announced_next (next_after h)) kinds.Vlan b in
+    let old : announced_next (next_after h) ≡ Some kinds.Vlan =
+    within_limit limit (announced_next (next_after h)) kinds.Vlan b in
     (λ i. permitted (lowered (is_extension (kind i)) x.limit) ((a ∙ sym old) i)) ∙ b
 
 -- a stack that begins with a VLAN tag, after another header that announces it
-stack_alike : (list : List ℕ) (x : Expectation) (w : Window) (g h : Header) (tag : VlanValue) (later : List Header) (e : Ending) → LookAlike g h → announced_next (next_after g) ≡ Some kinds.Vlan → Stack list (after x h) (payload w h) (headers.Vlan tag ∷ later) e
+stack_alike : (list : List ℕ) (x : Expectation) (w : Window) (g h : Header) (tag : VlanValue) (later : List Header)
+    (e : Ending)
+    → LookAlike g h → announced_next (next_after g) ≡ Some kinds.Vlan
+    → Stack list (after x h) (payload w h) (headers.Vlan tag ∷ later) e
     → Stack list (after x g) (payload w g) (headers.Vlan tag ∷ later) e
 stack_alike list x w g h tag later e alike a s =
     let kind = alike_kind g h alike in
     let there : Stack list (after x g) (payload w h) (headers.Vlan tag ∷ later) e = (
       record { announced = announced_alike x g h kind a s.0.announced; accepted = s.0.accepted; means = s.0.means },
-      subst (λ (k : Kind). Stack list (record { next = EtherType tag.ether_type; limit = lowered true (lowered (is_extension k) x.limit) }) (payload (payload w h) (headers.Vlan tag)) later e) (sym kind) s.1,
+      subst
+          (λ (k : Kind).
+          Stack list
+          (record { next = EtherType tag.ether_type; limit = lowered true (lowered (is_extension k) x.limit) })
+          (payload (payload w h) (headers.Vlan tag)) later e)
+          (sym kind) s.1,
     ) in
-    subst (λ (v : Window). Stack list (after x g) v (headers.Vlan tag ∷ later) e) (sym (alike_payload w g h alike)) there
+    subst (λ (v : Window). Stack list (after x g) v (headers.Vlan tag ∷ later) e) (sym (alike_payload w g h alike))
+    there
 
 -- ---- stacks
 
 -- the first bytes of a window are those of a header of the list before, but for its type
-window_retyped : (list : List ℕ) (w : Window) (n t at : ℕ) → IsIn list w → 2 ≤ n → n ≤ length (within list w) → at + 2 ≡ w.start + n → t < 2 ^ 16 → IsRetyped (within list w) (within (overwritten list at (spelled 2 t)) w) n t
+window_retyped : (list : List ℕ) (w : Window) (n t at : ℕ) → IsIn list w → 2 ≤ n → n ≤ length (within list w)
+    → at + 2 ≡ w.start + n → t < 2 ^ 16 → IsRetyped (within list w) (within (overwritten list at (spelled 2 t)) w) n t
 window_retyped list w n t at inside two le is lt =
     let bytes = spelled 2 t in
     let new = overwritten list at bytes in
@@ -179,15 +255,22 @@ window_retyped list w n t at inside two le is lt =
     let old_len = length-part list w.start w.finish within_list in
     let len : length bytes ≡ 2 = length-spelled 2 t in
     let front : slice_range (within new w) 0 (n - 2) ≡ slice_range (within list w) 0 (n - 2) =
-    front_is new w (n - 2) (omega arith) ∙ part_before list bytes at w.start (w.start + (n - 2)) (omega arith) (omega arith) (omega arith) ∙ sym (front_is list w (n - 2) (omega arith)) in
+    front_is new w (n - 2) (omega arith)
+    ∙ part_before list bytes at w.start (w.start + (n - 2)) (omega arith) (omega arith) (omega arith)
+    ∙ sym (front_is list w (n - 2) (omega arith)) in
     let from : w.start + (n - 2) ≡ at = omega arith in
     let till : w.start + n ≡ at + length bytes = omega arith in
     let type : slice_range (within new w) (n - 2) n ≡ bytes =
-    part_of_part new w.start w.finish (n - 2) n (omega arith) (omega arith) ∙ (λ i. slice_range new (from i) (till i)) ∙ part_at list bytes at (omega arith) in
+    part_of_part new w.start w.finish (n - 2) n (omega arith) (omega arith)
+    ∙ (λ i. slice_range new (from i) (till i)) ∙ part_at list bytes at (omega arith) in
     record { front = front; number = ap number type ∙ number-spelled 2 t lt; fits = lt }
 
-pub retyped_stack : (list : List ℕ) (x : Expectation) (w : Window) (front : List Header) (h : Header) (tag : VlanValue) (later : List Header) (e : Ending) (at t : ℕ) → IsBytes list → at + 2 ≡ place w.start front + header_len h → at + 2 ≤ length list → IsIn list w → is_vlan_ether_type t ≡ true
-    → Stack list x w (front ++ h ∷ headers.Vlan tag ∷ later) e → Stack (overwritten list at (spelled 2 t)) x w (front ++ with_type h t ∷ headers.Vlan tag ∷ later) e
+pub retyped_stack : (list : List ℕ) (x : Expectation) (w : Window) (front : List Header) (h : Header) (tag : VlanValue)
+    (later : List Header) (e : Ending) (at t : ℕ)
+    → IsBytes list → at + 2 ≡ place w.start front + header_len h → at + 2 ≤ length list → IsIn list w
+    → is_vlan_ether_type t ≡ true
+    → Stack list x w (front ++ h ∷ headers.Vlan tag ∷ later) e
+    → Stack (overwritten list at (spelled 2 t)) x w (front ++ with_type h t ∷ headers.Vlan tag ∷ later) e
 retyped_stack list x w [] h tag later e at t ok is room inside announces s =
     let bytes = spelled 2 t in
     let new = overwritten list at bytes in
@@ -201,11 +284,19 @@ retyped_stack list x w [] h tag later e at t ok is room inside announces s =
     let new_len = length-part new w.start w.finish (omega arith) in
     let there = s.0.means.whole in
     let least = header_least h in
-    let old_next = within_limit (lowered (is_extension (kind_of h)) x.limit) (announced_next (next_after h)) kinds.Vlan s.1.0.announced in
-    let m = retyped_header w.bound (within list w) (within new w) h t (IsBytes-part w.start w.finish list ok) old_next s.0.accepted s.0.means (omega arith) (window_retyped list w (header_len h) t at inside (omega arith) there is (tpid_fits t announces)) in
-    let next : announced_next (next_after g) ≡ Some kinds.Vlan = ap announced_next (retyped_next h t old_next) ∙ by_type t announces in (
+    let old_next =
+    within_limit (lowered (is_extension (kind_of h)) x.limit) (announced_next (next_after h)) kinds.Vlan
+    s.1.0.announced in
+    let m =
+    retyped_header w.bound (within list w) (within new w) h t (IsBytes-part w.start w.finish list ok) old_next
+    s.0.accepted s.0.means (omega arith)
+    (window_retyped list w (header_len h) t at inside (omega arith) there is (tpid_fits t announces)) in
+    let next : announced_next (next_after g) ≡ Some kinds.Vlan =
+    ap announced_next (retyped_next h t old_next) ∙ by_type t announces in (
       unit_alike list new x w g h s.0 m.means (omega arith) alike m.sound,
-      stack_alike new x w g h tag later e alike next (later_stack list bytes at (after x h) (payload w h) (headers.Vlan tag ∷ later) e (omega arith) (omega arith) s.1),
+      stack_alike new x w g h tag later e alike next
+          (later_stack list bytes at (after x h) (payload w h) (headers.Vlan tag ∷ later) e (omega arith) (omega arith)
+          s.1),
     )
 retyped_stack list x w (k ∷ front) h tag later e at t ok is room inside announces s =
     let bytes = spelled 2 t in
@@ -221,20 +312,36 @@ retyped_stack list x w (k ∷ front) h tag later e at t ok is room inside announ
     let least = place_least (w.start + n) front in
     let four = header_least h in
     let own : slice_range (within new w) 0 n ≡ slice_range (within list w) 0 n =
-    front_is new w n (omega arith) ∙ part_before list bytes at w.start (w.start + n) (omega arith) (omega arith) (omega arith) ∙ sym (front_is list w n (omega arith)) in
-    let means : Means (within new w) k = record { whole = omega arith; spells = subst (λ (l : List ℕ). Spells l k) (sym own) s.0.means.spells } in (
-      unit_alike list new x w k k s.0 means (omega arith) (look_alike k k (same_self k)) (sound_kept w.bound (within list w) (within new w) k s.0.accepted s.0.means own),
-      retyped_stack list (after x k) (payload w k) front h tag later e at t ok is room (payload_in list x w k inside s.0) announces s.1,
+    front_is new w n (omega arith)
+    ∙ part_before list bytes at w.start (w.start + n) (omega arith) (omega arith) (omega arith)
+    ∙ sym (front_is list w n (omega arith)) in
+    let means : Means (within new w) k = record {
+      whole = omega arith;
+      spells = subst (λ (l : List ℕ). Spells l k) (sym own) s.0.means.spells;
+    } in (
+      unit_alike list new x w k k s.0 means (omega arith) (look_alike k k (same_self k))
+          (sound_kept w.bound (within list w) (within new w) k s.0.accepted s.0.means own),
+      retyped_stack list (after x k) (payload w k) front h tag later e at t ok is room
+          (payload_in list x w k inside s.0) announces s.1,
     )
 
 -- ---- walks
 
-pub retyped_walk : (start : Expectation) (list : List ℕ) (front : List Header) (h : Header) (tag : VlanValue) (later : List Header) (e : Ending) (at t : ℕ) → IsBytes list → at + 2 ≡ place 0 front + header_len h → is_vlan_ether_type t ≡ true → Walk start list (front ++ h ∷ headers.Vlan tag ∷ later) e
+pub retyped_walk : (start : Expectation) (list : List ℕ) (front : List Header) (h : Header) (tag : VlanValue)
+    (later : List Header) (e : Ending) (at t : ℕ)
+    → IsBytes list → at + 2 ≡ place 0 front + header_len h → is_vlan_ether_type t ≡ true
+    → Walk start list (front ++ h ∷ headers.Vlan tag ∷ later) e
     → Walk start (overwritten list at (spelled 2 t)) (front ++ with_type h t ∷ headers.Vlan tag ∷ later) e
 retyped_walk start list front h tag later e at t ok is announces s =
     let new = overwritten list at (spelled 2 t) in
     let inside = header_inside start list front h (headers.Vlan tag ∷ later) e s in
     let two : length (spelled 2 t) ≡ 2 = length-spelled 2 t in
     let len = length-overwritten list (spelled 2 t) at (omega arith) in
-    let stack = retyped_stack list start (whole start list) front h tag later e at t ok is (omega arith) (whole_in start list) announces s in
-    subst (λ (n : ℕ). Stack new start (record { start = 0; finish = n; closed = has_fcs start; bound = sources.Slice }) (front ++ with_type h t ∷ headers.Vlan tag ∷ later) e) (sym len) stack
+    let stack =
+    retyped_stack list start (whole start list) front h tag later e at t ok is (omega arith)
+    (whole_in start list) announces s in
+    subst
+    (λ (n : ℕ).
+    Stack new start (record { start = 0; finish = n; closed = has_fcs start; bound = sources.Slice })
+    (front ++ with_type h t ∷ headers.Vlan tag ∷ later) e)
+    (sym len) stack

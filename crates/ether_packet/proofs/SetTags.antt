@@ -27,30 +27,42 @@ use Rattle.ether_packet.proofs.PacketExts.{found_ext, none_past}
 
 -- ---- how it is found
 
-pub placed_vlan : (start : Expectation) (list : List ℕ) (p : PacketSlice) (i : ℕ) (ext : PacketExt) (f : PlacedVlan) (hs : List Header) (e : Ending) → IsPacket start list p → ViewsExtIf (slice_get (exts_of p.read.units) i) (Some ext)
-    → f.at ≡ ext.offset → headers.Vlan (vlan_view f.tag) ≡ ext_slice_header ext.slice → Walk start list hs e → IsPlacedVlan hs i f
+pub placed_vlan : (start : Expectation) (list : List ℕ) (p : PacketSlice) (i : ℕ) (ext : PacketExt) (f : PlacedVlan)
+    (hs : List Header) (e : Ending)
+    → IsPacket start list p → ViewsExtIf (slice_get (exts_of p.read.units) i) (Some ext)
+    → f.at ≡ ext.offset → headers.Vlan (vlan_view f.tag) ≡ ext_slice_header ext.slice → Walk start list hs e
+    → IsPlacedVlan hs i f
 placed_vlan start list p i ext f hs e is view at value walk =
     let found = found_ext start list p i ext (headers.Vlan (vlan_view f.tag)) hs e is view value walk in
     record { front = found.front; later = found.later; found = found.found; begins = at ∙ found.begins }
 
-pub is_sec_tag : (start : Expectation) (list : List ℕ) (p : PacketSlice) (i : ℕ) (ext : PacketExt) (m : SecTagValue) (hs : List Header) (e : Ending) → IsPacket start list p → ViewsExtIf (slice_get (exts_of p.read.units) i) (Some ext)
+pub is_sec_tag : (start : Expectation) (list : List ℕ) (p : PacketSlice) (i : ℕ) (ext : PacketExt) (m : SecTagValue)
+    (hs : List Header) (e : Ending)
+    → IsPacket start list p → ViewsExtIf (slice_get (exts_of p.read.units) i) (Some ext)
     → headers.Macsec m ≡ ext_slice_header ext.slice → Walk start list hs e → RefusesTag hs i errors.NoVlan
 is_sec_tag start list p i ext m hs e is view value walk =
     let f = found_ext start list p i ext (headers.Macsec m) hs e is view value walk in
     sec_tag f.front m f.later f.found
 
-pub no_ext : (start : Expectation) (list : List ℕ) (p : PacketSlice) (i n : ℕ) (hs : List Header) (e : Ending) → IsPacket start list p → ViewsExtIf (slice_get (exts_of p.read.units) i) None → n ≡ length (exts_of p.read.units) → Walk start list hs e → RefusesTag hs i (errors.NoLinkExt n)
+pub no_ext : (start : Expectation) (list : List ℕ) (p : PacketSlice) (i n : ℕ) (hs : List Header) (e : Ending)
+    → IsPacket start list p → ViewsExtIf (slice_get (exts_of p.read.units) i) None → n ≡ length (exts_of p.read.units)
+    → Walk start list hs e → RefusesTag hs i (errors.NoLinkExt n)
 no_ext start list p i n hs e is view len walk =
     let past = none_past start list p i n hs e is view len walk in
     subst (λ (k : ℕ). RefusesTag hs i (errors.NoLinkExt k)) past.0 (none past.1)
 
 -- ---- the tag
 
-pub is_set : (start : Expectation) (old new : List ℕ) (hs : List Header) (e : Ending) (i : ℕ) (f : PlacedVlan) (change : VlanValue → VlanValue) → IsPlacedVlan hs i f → FitsVlan (change (vlan_view f.tag)) → (change (vlan_view f.tag)).ether_type ≡ (vlan_view f.tag).ether_type
-    → new ≡ overwritten old f.at (vlan_bytes (change (vlan_view f.tag))) → Walk start old hs e → SetsTag start old hs e i change new
+pub is_set : (start : Expectation) (old new : List ℕ) (hs : List Header) (e : Ending) (i : ℕ) (f : PlacedVlan)
+    (change : VlanValue → VlanValue)
+    → IsPlacedVlan hs i f → FitsVlan (change (vlan_view f.tag))
+    → (change (vlan_view f.tag)).ether_type ≡ (vlan_view f.tag).ether_type
+    → new ≡ overwritten old f.at (vlan_bytes (change (vlan_view f.tag))) → Walk start old hs e
+    → SetsTag start old hs e i change new
 is_set start old new hs e i f change p fits same bytes walk =
     let g = headers.Vlan (change (vlan_view f.tag)) in
-    let same_place : new ≡ overwritten old (place 0 p.front) (vlan_bytes (change (vlan_view f.tag))) = bytes ∙ ap (λ (n : ℕ). overwritten old n (vlan_bytes (change (vlan_view f.tag)))) p.begins in
+    let same_place : new ≡ overwritten old (place 0 p.front) (vlan_bytes (change (vlan_view f.tag))) =
+    bytes ∙ ap (λ (n : ℕ). overwritten old n (vlan_bytes (change (vlan_view f.tag)))) p.begins in
     let split = subst (λ (l : List Header). Walk start old l e) p.found.parts walk in
     record {
       front = p.front;
@@ -58,7 +70,9 @@ is_set start old new hs e i f change p fits same bytes walk =
       later = p.later;
       found = p.found;
       bytes = same_place;
-      walk = subst (λ (l : List ℕ). Walk start l (p.front ++ g ∷ p.later) e) (sym same_place) (replaced_walk start old p.front (headers.Vlan (vlan_view f.tag)) g p.later e same fits tt split);
+      walk =
+          subst (λ (l : List ℕ). Walk start l (p.front ++ g ∷ p.later) e) (sym same_place)
+          (replaced_walk start old p.front (headers.Vlan (vlan_view f.tag)) g p.later e same fits tt split);
     }
 
 -- ---- what announces it
@@ -82,21 +96,34 @@ place_past front h =
     let b = header_least h in
     omega arith
 
-none_before : (hs : List Header) (i t : ℕ) (v : VlanValue) (front later : List Header) → Last front → is_vlan_ether_type t ≡ true → place 0 front < 2 → IsExtAt hs i front (headers.Vlan v) later → RefusesTpid hs i t errors.Unannounced
+none_before : (hs : List Header) (i t : ℕ) (v : VlanValue) (front later : List Header) → Last front
+    → is_vlan_ether_type t ≡ true → place 0 front < 2 → IsExtAt hs i front (headers.Vlan v) later
+    → RefusesTpid hs i t errors.Unannounced
 none_before hs i t v front later nothing announces lt found = unannounced v later announces found
-none_before hs i t v front later (last k h) announces lt found = let le = place_past k h in absurd (omega (arith, le, lt))
+none_before hs i t v front later (last k h) announces lt found =
+    let le = place_past k h in absurd (omega (arith, le, lt))
 
-pub begins_frame : (hs : List Header) (i t : ℕ) (f : PlacedVlan) → is_vlan_ether_type t ≡ true → f.at < 2 → IsPlacedVlan hs i f → RefusesTpid hs i t errors.Unannounced
-begins_frame hs i t f announces lt p = none_before hs i t (vlan_view f.tag) p.front p.later (last_of p.front) announces (subst (λ (n : ℕ). n < 2) p.begins lt) p.found
+pub begins_frame : (hs : List Header) (i t : ℕ) (f : PlacedVlan) → is_vlan_ether_type t ≡ true → f.at < 2
+    → IsPlacedVlan hs i f → RefusesTpid hs i t errors.Unannounced
+begins_frame hs i t f announces lt p =
+    none_before hs i t (vlan_view f.tag) p.front p.later (last_of p.front) announces
+    (subst (λ (n : ℕ). n < 2) p.begins lt) p.found
 
-retyped_last : (start : Expectation) (old new : List ℕ) (hs : List Header) (e : Ending) (i t at : ℕ) (v : VlanValue) (front later : List Header) → IsBytes old → Last front → is_vlan_ether_type t ≡ true → 2 ≤ at → at ≡ place 0 front → IsExtAt hs i front (headers.Vlan v) later
+retyped_last : (start : Expectation) (old new : List ℕ) (hs : List Header) (e : Ending) (i t at : ℕ) (v : VlanValue)
+    (front later : List Header)
+    → IsBytes old → Last front → is_vlan_ether_type t ≡ true → 2 ≤ at → at ≡ place 0 front
+    → IsExtAt hs i front (headers.Vlan v) later
     → new ≡ overwritten old (at - 2) (spelled 2 t) → Walk start old hs e → SetsTpid start old hs e i t new
-retyped_last start old new hs e i t at v front later ok nothing announces le begins found bytes walk = absurd (omega arith)
+retyped_last start old new hs e i t at v front later ok nothing announces le begins found bytes walk =
+    absurd (omega arith)
 retyped_last start old new hs e i t at v front later ok (last k h) announces le begins found bytes walk =
-    let same : new ≡ overwritten old (place 0 (k ++ h ∷ []) - 2) (spelled 2 t) = bytes ∙ ap (λ (n : ℕ). overwritten old (n - 2) (spelled 2 t)) begins in
+    let same : new ≡ overwritten old (place 0 (k ++ h ∷ []) - 2) (spelled 2 t) =
+    bytes ∙ ap (λ (n : ℕ). overwritten old (n - 2) (spelled 2 t)) begins in
     let after_all = place-append 0 k (h ∷ []) in
     let past = place_past k h in
-    let split = subst (λ (l : List Header). Walk start old l e) (found.parts ∙ append_assoc k (h ∷ []) (headers.Vlan v ∷ later)) walk in
+    let split =
+    subst (λ (l : List Header). Walk start old l e)
+    (found.parts ∙ append_assoc k (h ∷ []) (headers.Vlan v ∷ later)) walk in
     record {
       front = k;
       before = h;
@@ -105,9 +132,14 @@ retyped_last start old new hs e i t at v front later ok (last k h) announces le 
       found = found;
       announces = announces;
       bytes = same;
-      walk = subst (λ (l : List ℕ). Walk start l (k ++ with_type h t ∷ headers.Vlan v ∷ later) e) (sym same) (retyped_walk start old k h v later e (place 0 (k ++ h ∷ []) - 2) t ok (omega arith) announces split);
+      walk =
+          subst (λ (l : List ℕ). Walk start l (k ++ with_type h t ∷ headers.Vlan v ∷ later) e) (sym same)
+          (retyped_walk start old k h v later e (place 0 (k ++ h ∷ []) - 2) t ok (omega arith) announces split);
     }
 
-pub is_retyped : (start : Expectation) (old new : List ℕ) (hs : List Header) (e : Ending) (i t : ℕ) (f : PlacedVlan) → IsBytes old → is_vlan_ether_type t ≡ true → 2 ≤ f.at → IsPlacedVlan hs i f → new ≡ overwritten old (f.at - 2) (spelled 2 t) → Walk start old hs e → SetsTpid start old hs e i t new
+pub is_retyped : (start : Expectation) (old new : List ℕ) (hs : List Header) (e : Ending) (i t : ℕ) (f : PlacedVlan)
+    → IsBytes old → is_vlan_ether_type t ≡ true → 2 ≤ f.at → IsPlacedVlan hs i f
+    → new ≡ overwritten old (f.at - 2) (spelled 2 t) → Walk start old hs e → SetsTpid start old hs e i t new
 is_retyped start old new hs e i t f ok announces le p bytes walk =
-    retyped_last start old new hs e i t f.at (vlan_view f.tag) p.front p.later ok (last_of p.front) announces le p.begins p.found bytes walk
+    retyped_last start old new hs e i t f.at (vlan_view f.tag) p.front p.later ok (last_of p.front) announces le
+    p.begins p.found bytes walk

@@ -20,16 +20,26 @@ use Rattle.ether_packet.specs.Packet.{packet_headers}
 use Rattle.ether_packet.specs.Getters.{IsLeastSnap, SnapsAt, TellsAccepted}
 
 not_longer : (ks later : List Header) (unit : Header) → ks ++ unit ∷ later ≡ ks → ⊥
-not_longer ks later unit same = let len : length (ks ++ unit ∷ later) ≡ length ks = ap length same in absurd (omega (arith, length-append ks (unit ∷ later)))
+not_longer ks later unit same =
+    let len : length (ks ++ unit ∷ later) ≡ length ks = ap length same in
+    absurd (omega (arith, length-append ks (unit ∷ later)))
 
 -- a cut that is refused in a way that stays has all headers
-stays : (start : Expectation) (cut more : List ℕ) (hs ks : List Header) (e : Ending) (v : Window) (y : Expectation) (r : Refusal) (unit : Header) (later : List Header) → has_fcs start ≡ false
-    → Walk start (cut ++ more) hs e → Walk start cut ks (Fault v y r) → hs ≡ ks ++ unit ∷ later → StaysShort cut more (Fault v y r) → ⊥
-stays start cut more hs ks e v y r unit later h t s parts short = not_longer ks later unit (sym parts ∙ (kept start cut more ks hs (Fault v y r) e h s t short).0.headers)
+stays : (start : Expectation) (cut more : List ℕ) (hs ks : List Header) (e : Ending) (v : Window) (y : Expectation)
+    (r : Refusal) (unit : Header) (later : List Header)
+    → has_fcs start ≡ false
+    → Walk start (cut ++ more) hs e → Walk start cut ks (Fault v y r) → hs ≡ ks ++ unit ∷ later
+    → StaysShort cut more (Fault v y r) → ⊥
+stays start cut more hs ks e v y r unit later h t s parts short =
+    not_longer ks later unit (sym parts ∙ (kept start cut more ks hs (Fault v y r) e h s t short).0.headers)
 
 -- a cut that ends before a unit of the whole is shorter than the headers reach
-cut_before : (start : Expectation) (cut more : List ℕ) (hs ks : List Header) (e f : Ending) (unit : Header) (later : List Header) (last : Window) → has_fcs start ≡ false
-    → Walk start (cut ++ more) hs e → Walk start cut ks f → Carries cut (cut ++ more) more (last_window f) last → hs ≡ ks ++ unit ∷ later → Stack (cut ++ more) (last_expected f) last (unit ∷ later) e → length cut < reach 0 hs
+cut_before : (start : Expectation) (cut more : List ℕ) (hs ks : List Header) (e f : Ending) (unit : Header)
+    (later : List Header) (last : Window)
+    → has_fcs start ≡ false
+    → Walk start (cut ++ more) hs e → Walk start cut ks f → Carries cut (cut ++ more) more (last_window f) last
+    → hs ≡ ks ++ unit ∷ later → Stack (cut ++ more) (last_expected f) last (unit ∷ later) e
+    → length cut < reach 0 hs
 cut_before start cut more hs ks e (Accepted v y) unit later last h t s c parts rest =
     let end = (leads cut start (whole start cut) ks (Accepted v y) s).1 in
     let both : None ≡ Some (kind_of unit) = sym end.2 ∙ rest.0.announced in
@@ -38,23 +48,30 @@ cut_before start cut more hs ks e (Fault v y (Length required len source layer))
     elim (cases_lt (length (within cut v) + length (beyond v.closed more)) required) [
       | inl lt ↦ absurd (stays start cut more hs ks e v y (Length required len source layer) unit later h t s parts lt)
       | inr le ↦
-          let in_unit = wants_unit start cut more hs ks v y required len source layer unit later last e h s c parts rest le in
+          let in_unit =
+          wants_unit start cut more hs ks v y required len source layer unit later last e h s c parts rest le in
           let past = in_unit.past in
           let least = reach_least 0 ks in_unit.later in_unit.unit in
           subst (λ (l : List Header). length cut < reach 0 l) (sym in_unit.units) (omega arith)
     ]
-cut_before start cut more hs ks e (Fault v y (UnsupportedPacketType n)) unit later last h t s c parts rest = absurd (stays start cut more hs ks e v y (UnsupportedPacketType n) unit later h t s parts tt)
-cut_before start cut more hs ks e (Fault v y (UnsupportedHardwareType n)) unit later last h t s c parts rest = absurd (stays start cut more hs ks e v y (UnsupportedHardwareType n) unit later h t s parts tt)
-cut_before start cut more hs ks e (Fault v y UnexpectedVersion) unit later last h t s c parts rest = absurd (stays start cut more hs ks e v y UnexpectedVersion unit later h t s parts tt)
-cut_before start cut more hs ks e (Fault v y InvalidShortLen) unit later last h t s c parts rest = absurd (stays start cut more hs ks e v y InvalidShortLen unit later h t s parts tt)
+cut_before start cut more hs ks e (Fault v y (UnsupportedPacketType n)) unit later last h t s c parts rest =
+    absurd (stays start cut more hs ks e v y (UnsupportedPacketType n) unit later h t s parts tt)
+cut_before start cut more hs ks e (Fault v y (UnsupportedHardwareType n)) unit later last h t s c parts rest =
+    absurd (stays start cut more hs ks e v y (UnsupportedHardwareType n) unit later h t s parts tt)
+cut_before start cut more hs ks e (Fault v y UnexpectedVersion) unit later last h t s c parts rest =
+    absurd (stays start cut more hs ks e v y UnexpectedVersion unit later h t s parts tt)
+cut_before start cut more hs ks e (Fault v y InvalidShortLen) unit later last h t s c parts rest =
+    absurd (stays start cut more hs ks e v y InvalidShortLen unit later h t s parts tt)
 
 -- what a cut has of the headers of the whole
 record HasOf (n : ℕ) (hs ks : List Header) : Type 0 where
   keeps : reach 0 hs ≤ n → ks ≡ hs
   loses : n < reach 0 hs → length ks < length hs
 
-has_of : (start : Expectation) (cut more : List ℕ) (hs ks rest : List Header) (e f : Ending) (last : Window) → has_fcs start ≡ false
-    → Walk start (cut ++ more) hs e → Walk start cut ks f → Carries cut (cut ++ more) more (last_window f) last → hs ≡ ks ++ rest → Stack (cut ++ more) (last_expected f) last rest e → HasOf (length cut) hs ks
+has_of : (start : Expectation) (cut more : List ℕ) (hs ks rest : List Header) (e f : Ending) (last : Window)
+    → has_fcs start ≡ false
+    → Walk start (cut ++ more) hs e → Walk start cut ks f → Carries cut (cut ++ more) more (last_window f) last
+    → hs ≡ ks ++ rest → Stack (cut ++ more) (last_expected f) last rest e → HasOf (length cut) hs ks
 has_of start cut more hs ks [] e f last h t s c parts rest =
     let all = parts ∙ append-nil ks in
     let short = (walk_open_to_end start cut ks f h s).reaches in
@@ -65,15 +82,18 @@ has_of start cut more hs ks (unit ∷ later) e f last h t s c parts rest =
     let len : length hs ≡ length (ks ++ unit ∷ later) = ap length parts in
     record { keeps = λ le. absurd (omega arith); loses = λ _. omega (arith, length-append ks (unit ∷ later)) }
 
-cut_has : (start : Expectation) (list : List ℕ) (hs ks : List Header) (e f : Ending) (n : ℕ) → IsBytes list → has_fcs start ≡ false → n ≤ length list → Walk start list hs e → Walk start (take n list) ks f → HasOf n hs ks
+cut_has : (start : Expectation) (list : List ℕ) (hs ks : List Header) (e f : Ending) (n : ℕ) → IsBytes list
+    → has_fcs start ≡ false → n ≤ length list → Walk start list hs e → Walk start (take n list) ks f → HasOf n hs ks
 cut_has start list hs ks e f n ok h le t s =
     let join : list ≡ take n list ++ drop n list = sym (take-append-drop n list) in
     let len : length (take n list) ≡ n = omega (arith, length-take n list) in
     let whole_walk = subst (λ (l : List ℕ). Walk start l hs e) join t in
     let c = common start (take n list) (drop n list) hs ks e f (subst IsBytes join ok) h whole_walk s in
-    subst (λ (k : ℕ). HasOf k hs ks) len (has_of start (take n list) (drop n list) hs ks c.rest e f c.last h whole_walk s c.carries c.headers c.follows)
+    subst (λ (k : ℕ). HasOf k hs ks) len
+    (has_of start (take n list) (drop n list) hs ks c.rest e f c.last h whole_walk s c.carries c.headers c.follows)
 
-pub least_snap : (start : Expectation) (list : List ℕ) (hs : List Header) (e : Ending) → IsBytes list → has_fcs start ≡ false → Walk start list hs e → IsLeastSnap start list hs (reach 0 hs)
+pub least_snap : (start : Expectation) (list : List ℕ) (hs : List Header) (e : Ending) → IsBytes list
+    → has_fcs start ≡ false → Walk start list hs e → IsLeastSnap start list hs (reach 0 hs)
 least_snap start list hs e ok h t =
     let inside = (walk_open_to_end start list hs e h t).reaches in
     record {
@@ -83,7 +103,9 @@ least_snap start list hs e ok h t =
     }
 
 pub snaps_at : (p : PacketSlice) (n : ℕ) → n ≡ reach 0 (packet_headers p) → SnapsAt p n
-snaps_at p n is start list ok h packet = subst (IsLeastSnap start list (packet_headers p)) (sym is) (least_snap start list (packet_headers p) packet.ending ok h packet.walk)
+snaps_at p n is start list ok h packet =
+    subst (IsLeastSnap start list (packet_headers p)) (sym is)
+    (least_snap start list (packet_headers p) packet.ending ok h packet.walk)
 
 -- ---- faults
 
@@ -96,4 +118,5 @@ no_fault (Accepted v y) none = refl
 no_fault (Fault v y r) none = absurd cc
 
 pub tells_accepted : (p : PacketSlice) (complete : Bool) → IsTrue complete ↔ (p.fault ≡ None) → TellsAccepted p complete
-tells_accepted p complete value start list is = (λ yes. no_refusal is.ending (sym is.fault ∙ value.0 yes), λ none. value.1 (is.fault ∙ no_fault is.ending none))
+tells_accepted p complete value start list is =
+    (λ yes. no_refusal is.ending (sym is.fault ∙ value.0 yes), λ none. value.1 (is.fault ∙ no_fault is.ending none))

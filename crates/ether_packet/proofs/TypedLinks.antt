@@ -40,47 +40,70 @@ use Rattle.ether_packet.proofs.Links.{first_header}
 
 -- ---- a header whose last two bytes are others
 
-retyped_ethernet2 : (old new : List ℕ) (e : Ethernet2Value) (t : ℕ) → IsBytes old → 14 ≤ length old → 14 ≤ length new → slice_range new 0 12 ≡ slice_range old 0 12 → number (slice_range new 12 14) ≡ t → t < 2 ^ 16
+retyped_ethernet2 : (old new : List ℕ) (e : Ethernet2Value) (t : ℕ) → IsBytes old → 14 ≤ length old → 14 ≤ length new
+    → slice_range new 0 12 ≡ slice_range old 0 12 → number (slice_range new 12 14) ≡ t → t < 2 ^ 16
     → IsEthernet2 (slice_range old 0 14) e → IsEthernet2 (slice_range new 0 14) (record e { ether_type = t })
 retyped_ethernet2 old new e t ok le len front is lt m =
-    let a : number (slice_range old 0 14) ≡ number (slice_range old 0 12) * 65536 + number (slice_range old 12 14) = number-part_join old 0 12 14 (omega arith) (omega arith) le in
-    let b : number (slice_range new 0 14) ≡ number (slice_range new 0 12) * 65536 + number (slice_range new 12 14) = number-part_join new 0 12 14 (omega arith) (omega arith) len in
+    let a : number (slice_range old 0 14) ≡ number (slice_range old 0 12) * 65536 + number (slice_range old 12 14) =
+    number-part_join old 0 12 14 (omega arith) (omega arith) le in
+    let b : number (slice_range new 0 14) ≡ number (slice_range new 0 12) * 65536 + number (slice_range new 12 14) =
+    number-part_join new 0 12 14 (omega arith) (omega arith) len in
     let same : number (slice_range new 0 12) ≡ number (slice_range old 0 12) = ap number front in
     let below : number (slice_range old 12 14) < 65536 = number-part_below old 12 14 ok le in
     let sum = m.sum in
     let f = m.fits.ether_type in
-    record { sum = omega arith; fits = record { destination = m.fits.destination; source = m.fits.source; ether_type = lt } }
+    record {
+      sum = omega arith;
+      fits = record { destination = m.fits.destination; source = m.fits.source; ether_type = lt };
+    }
 
-retyped_linux_sll : (old new : List ℕ) (s : LinuxSllValue) (t : ℕ) → IsBytes old → 16 ≤ length old → 16 ≤ length new → slice_range new 0 14 ≡ slice_range old 0 14 → number (slice_range new 14 16) ≡ t → t < 2 ^ 16
+retyped_linux_sll : (old new : List ℕ) (s : LinuxSllValue) (t : ℕ) → IsBytes old → 16 ≤ length old → 16 ≤ length new
+    → slice_range new 0 14 ≡ slice_range old 0 14 → number (slice_range new 14 16) ≡ t → t < 2 ^ 16
     → IsLinuxSll (slice_range old 0 16) s → IsLinuxSll (slice_range new 0 16) (record s { protocol = t })
 retyped_linux_sll old new s t ok le len front is lt m =
-    let a : number (slice_range old 0 16) ≡ number (slice_range old 0 14) * 65536 + number (slice_range old 14 16) = number-part_join old 0 14 16 (omega arith) (omega arith) le in
-    let b : number (slice_range new 0 16) ≡ number (slice_range new 0 14) * 65536 + number (slice_range new 14 16) = number-part_join new 0 14 16 (omega arith) (omega arith) len in
+    let a : number (slice_range old 0 16) ≡ number (slice_range old 0 14) * 65536 + number (slice_range old 14 16) =
+    number-part_join old 0 14 16 (omega arith) (omega arith) le in
+    let b : number (slice_range new 0 16) ≡ number (slice_range new 0 14) * 65536 + number (slice_range new 14 16) =
+    number-part_join new 0 14 16 (omega arith) (omega arith) len in
     let same : number (slice_range new 0 14) ≡ number (slice_range old 0 14) = ap number front in
     let below : number (slice_range old 14 16) < 65536 = number-part_below old 14 16 ok le in
     let sum = m.sum in
     let f = m.fits.protocol in
     record {
       sum = omega arith;
-      fits = record { packet_type = m.fits.packet_type; hardware_type = m.fits.hardware_type; address_len = m.fits.address_len; address = m.fits.address; protocol = lt };
+      fits =
+          record {
+            packet_type = m.fits.packet_type;
+            hardware_type = m.fits.hardware_type;
+            address_len = m.fits.address_len;
+            address = m.fits.address;
+            protocol = lt;
+          };
     }
 
 -- the number that they have in the list
-pub link_type_read : (list : List ℕ) (h : Header) → IsBytes list → is_link (kind_of h) ≡ true → Means list h → number (slice_range list (header_len h - 2) (header_len h)) ≡ type_of_link h
+pub link_type_read : (list : List ℕ) (h : Header) → IsBytes list → is_link (kind_of h) ≡ true → Means list h
+    → number (slice_range list (header_len h - 2) (header_len h)) ≡ type_of_link h
 link_type_read list (headers.Ethernet2 e) ok link m =
-    let a : number (slice_range list 0 14) ≡ number (slice_range list 0 12) * 65536 + number (slice_range list 12 14) = number-part_join list 0 12 14 (omega arith) (omega arith) m.whole in
+    let a : number (slice_range list 0 14)
+    ≡ number (slice_range list 0 12) * 65536 + number (slice_range list 12 14) =
+    number-part_join list 0 12 14 (omega arith) (omega arith) m.whole in
     let below : number (slice_range list 12 14) < 65536 = number-part_below list 12 14 ok m.whole in
     let sum = m.spells.sum in
     let f = m.spells.fits.ether_type in
     omega arith
 link_type_read list (headers.Ethernet2Fcs e) ok link m =
-    let a : number (slice_range list 0 14) ≡ number (slice_range list 0 12) * 65536 + number (slice_range list 12 14) = number-part_join list 0 12 14 (omega arith) (omega arith) m.whole in
+    let a : number (slice_range list 0 14)
+    ≡ number (slice_range list 0 12) * 65536 + number (slice_range list 12 14) =
+    number-part_join list 0 12 14 (omega arith) (omega arith) m.whole in
     let below : number (slice_range list 12 14) < 65536 = number-part_below list 12 14 ok m.whole in
     let sum = m.spells.sum in
     let f = m.spells.fits.ether_type in
     omega arith
 link_type_read list (headers.LinuxSll s) ok link m =
-    let a : number (slice_range list 0 16) ≡ number (slice_range list 0 14) * 65536 + number (slice_range list 14 16) = number-part_join list 0 14 16 (omega arith) (omega arith) m.whole in
+    let a : number (slice_range list 0 16)
+    ≡ number (slice_range list 0 14) * 65536 + number (slice_range list 14 16) =
+    number-part_join list 0 14 16 (omega arith) (omega arith) m.whole in
     let below : number (slice_range list 14 16) < 65536 = number-part_below list 14 16 ok m.whole in
     let sum = m.spells.sum in
     let f = m.spells.fits.protocol in
@@ -95,19 +118,32 @@ pub record IsRetyped (old new : List ℕ) (n t : ℕ) : Type 0 where
   pub number : number (slice_range new (n - 2) n) ≡ t
   pub fits : t < 2 ^ 16
 
-pub retyped_means : (old new : List ℕ) (h : Header) (t : ℕ) → IsBytes old → is_link (kind_of h) ≡ true → Means old h → header_len h ≤ length new → IsRetyped old new (header_len h) t → Means new (with_type h t)
-retyped_means old new (headers.Ethernet2 e) t ok link m len r = record { whole = len; spells = retyped_ethernet2 old new e t ok m.whole len r.front r.number r.fits m.spells }
-retyped_means old new (headers.Ethernet2Fcs e) t ok link m len r = record { whole = len; spells = retyped_ethernet2 old new e t ok m.whole len r.front r.number r.fits m.spells }
-retyped_means old new (headers.LinuxSll s) t ok link m len r = record { whole = len; spells = retyped_linux_sll old new s t ok m.whole len r.front r.number r.fits m.spells }
+pub retyped_means : (old new : List ℕ) (h : Header) (t : ℕ) → IsBytes old → is_link (kind_of h) ≡ true → Means old h
+    → header_len h ≤ length new → IsRetyped old new (header_len h) t → Means new (with_type h t)
+retyped_means old new (headers.Ethernet2 e) t ok link m len r = record {
+  whole = len;
+  spells = retyped_ethernet2 old new e t ok m.whole len r.front r.number r.fits m.spells;
+}
+retyped_means old new (headers.Ethernet2Fcs e) t ok link m len r = record {
+  whole = len;
+  spells = retyped_ethernet2 old new e t ok m.whole len r.front r.number r.fits m.spells;
+}
+retyped_means old new (headers.LinuxSll s) t ok link m len r = record {
+  whole = len;
+  spells = retyped_linux_sll old new s t ok m.whole len r.front r.number r.fits m.spells;
+}
 retyped_means old new (headers.Vlan v) t ok link m len r = absurd cc
 retyped_means old new (headers.Macsec m) t ok link n len r = absurd cc
 retyped_means old new (headers.Arp a) t ok link m len r = absurd cc
 
-retyped_accepts : (bound : LenSource) (old new : List ℕ) (h : Header) (t : ℕ) → is_link (kind_of h) ≡ true → Accepts bound old (kind_of h) → Means old h → Means new (with_type h t) → header_len h + trailer_len h ≤ length new → Accepts bound new (kind_of (with_type h t))
+retyped_accepts : (bound : LenSource) (old new : List ℕ) (h : Header) (t : ℕ) → is_link (kind_of h) ≡ true
+    → Accepts bound old (kind_of h) → Means old h → Means new (with_type h t)
+    → header_len h + trailer_len h ≤ length new → Accepts bound new (kind_of (with_type h t))
 retyped_accepts bound old new (headers.Ethernet2 e) t link ok m n len = accepts_ethernet2 bound new n.whole
 retyped_accepts bound old new (headers.Ethernet2Fcs e) t link ok m n len = accepts_ethernet2_fcs bound new len
 retyped_accepts bound old new (headers.LinuxSll s) t link ok m n len =
-    accepts_linux_sll bound new (record s { protocol = t }) n.whole n.spells (packet_type_of bound old s ok m) (supported bound old s _ refl ok m)
+    accepts_linux_sll bound new (record s { protocol = t }) n.whole n.spells (packet_type_of bound old s ok m)
+    (supported bound old s _ refl ok m)
 retyped_accepts bound old new (headers.Vlan v) t link ok m n len = absurd cc
 retyped_accepts bound old new (headers.Macsec v) t link ok m n len = absurd cc
 retyped_accepts bound old new (headers.Arp a) t link ok m n len = absurd cc
@@ -137,10 +173,13 @@ link_least (headers.Macsec m) link = absurd cc
 link_least (headers.Arp a) link = absurd cc
 
 -- a header of a whole list
-pub means_whole_list : (start : Expectation) (list : List ℕ) (h : Header) → IsUnit list start (whole start list) h → Means list h
+pub means_whole_list : (start : Expectation) (list : List ℕ) (h : Header) → IsUnit list start (whole start list) h
+    → Means list h
 means_whole_list start list h u = subst (λ (l : List ℕ). Means l h) (whole_part list) u.means
 
-pub retyped_unit : (start : Expectation) (old new : List ℕ) (h : Header) (t : ℕ) → IsBytes old → is_link (kind_of h) ≡ true → IsUnit old start (whole start old) h → header_len h + trailer_len h ≤ length new → IsRetyped old new (header_len h) t
+pub retyped_unit : (start : Expectation) (old new : List ℕ) (h : Header) (t : ℕ) → IsBytes old
+    → is_link (kind_of h) ≡ true → IsUnit old start (whole start old) h → header_len h + trailer_len h ≤ length new
+    → IsRetyped old new (header_len h) t
     → IsUnit new start (whole start new) (with_type h t)
 retyped_unit start old new h t ok link u len r =
     let m = means_whole_list start old h u in
@@ -148,20 +187,25 @@ retyped_unit start old new h t ok link u len r =
     let accepted = subst (λ (l : List ℕ). Accepts sources.Slice l (kind_of h)) (whole_part old) u.accepted in
     record {
       announced = u.announced ∙ ap Some (sym (kind_kept h t));
-      accepted = subst (λ (l : List ℕ). Accepts sources.Slice l (kind_of (with_type h t))) (sym (whole_part new)) (retyped_accepts sources.Slice old new h t link accepted m n len);
+      accepted =
+          subst (λ (l : List ℕ). Accepts sources.Slice l (kind_of (with_type h t))) (sym (whole_part new))
+          (retyped_accepts sources.Slice old new h t link accepted m n len);
       means = subst (λ (l : List ℕ). Means l (with_type h t)) (sym (whole_part new)) n;
     }
 
 -- ---- what it announces
 
-captured_next : (s : LinuxSllValue) (t : ℕ) (b : Bool) → (s.hardware_type == 1) ≡ b → after_capture s.hardware_type s.protocol ≡ EtherType s.protocol → after_capture s.hardware_type t ≡ EtherType t
+captured_next : (s : LinuxSllValue) (t : ℕ) (b : Bool) → (s.hardware_type == 1) ≡ b
+    → after_capture s.hardware_type s.protocol ≡ EtherType s.protocol → after_capture s.hardware_type t ≡ EtherType t
 captured_next s t true e typed = λ i. if e i then EtherType t else Sll (link_protocol_of s.hardware_type t)
 captured_next s t false e typed =
-    let other : Sll (link_protocol_of s.hardware_type s.protocol) ≡ EtherType s.protocol = (λ i. if sym e i then EtherType s.protocol else Sll (link_protocol_of s.hardware_type s.protocol)) ∙ typed in
+    let other : Sll (link_protocol_of s.hardware_type s.protocol) ≡ EtherType s.protocol =
+    (λ i. if sym e i then EtherType s.protocol else Sll (link_protocol_of s.hardware_type s.protocol)) ∙ typed in
     absurd cc
 
 -- with another type, the header of a link announces by it as before
-pub announces_kept : (h : Header) (t : ℕ) → is_link (kind_of h) ≡ true → next_after h ≡ EtherType (type_of_link h) → next_after (with_type h t) ≡ EtherType t
+pub announces_kept : (h : Header) (t : ℕ) → is_link (kind_of h) ≡ true → next_after h ≡ EtherType (type_of_link h)
+    → next_after (with_type h t) ≡ EtherType t
 announces_kept (headers.Ethernet2 e) t link typed = refl
 announces_kept (headers.Ethernet2Fcs e) t link typed = refl
 announces_kept (headers.LinuxSll s) t link typed = captured_next s t (s.hardware_type == 1) refl typed
@@ -170,7 +214,8 @@ announces_kept (headers.Macsec m) t link typed = absurd cc
 announces_kept (headers.Arp a) t link typed = absurd cc
 
 -- what is expected after the header of a link, and where
-pub link_after : (start : Start) (h : Header) → is_link (kind_of h) ≡ true → after (start_of start) h ≡ record { next = next_after h; limit = None }
+pub link_after : (start : Start) (h : Header) → is_link (kind_of h) ≡ true
+    → after (start_of start) h ≡ record { next = next_after h; limit = None }
 link_after start (headers.Ethernet2 e) link = refl
 link_after start (headers.Ethernet2Fcs e) link = refl
 link_after start (headers.LinuxSll s) link = refl
@@ -179,9 +224,15 @@ link_after start (headers.Macsec m) link = absurd cc
 link_after start (headers.Arp a) link = absurd cc
 
 abbrev pub link_payload : Expectation → List ℕ → Header → Window
-link_payload x list h = record { start = header_len h; finish = length list - trailer_len h; closed = has_fcs x; bound = sources.Slice }
+link_payload x list h = record {
+  start = header_len h;
+  finish = length list - trailer_len h;
+  closed = has_fcs x;
+  bound = sources.Slice;
+}
 
-pub payload_is : (x : Expectation) (list : List ℕ) (h : Header) → is_link (kind_of h) ≡ true → payload (whole x list) h ≡ link_payload x list h
+pub payload_is : (x : Expectation) (list : List ℕ) (h : Header) → is_link (kind_of h) ≡ true
+    → payload (whole x list) h ≡ link_payload x list h
 payload_is x list (headers.Ethernet2 e) link = refl
 payload_is x list (headers.Ethernet2Fcs e) link = refl
 payload_is x list (headers.LinuxSll s) link = refl
@@ -190,43 +241,69 @@ payload_is x list (headers.Macsec m) link = absurd cc
 payload_is x list (headers.Arp a) link = absurd cc
 
 -- so a stack of a payload is one of these
-pub stack_after : (start : Start) (list : List ℕ) (h : Header) (hs : List Header) (e : Ending) → is_link (kind_of h) ≡ true → next_after h ≡ EtherType (type_of_link h) → Stack list (after (start_of start) h) (payload (whole (start_of start) list) h) hs e
-    → Stack list (record { next = EtherType (type_of_link h); limit = None }) (link_payload (start_of start) list h) hs e
+pub stack_after : (start : Start) (list : List ℕ) (h : Header) (hs : List Header) (e : Ending)
+    → is_link (kind_of h) ≡ true → next_after h ≡ EtherType (type_of_link h)
+    → Stack list (after (start_of start) h) (payload (whole (start_of start) list) h) hs e
+    → Stack list (record { next = EtherType (type_of_link h); limit = None }) (link_payload (start_of start) list h) hs
+    e
 stack_after start list h hs e link typed s =
-    let is : after (start_of start) h ≡ record { next = EtherType (type_of_link h); limit = None } = link_after start h link ∙ ap (λ (n : Next). record { next = n; limit = None }) typed in
-    subst (λ (w : Window). Stack list (record { next = EtherType (type_of_link h); limit = None }) w hs e) (payload_is (start_of start) list h link)
+    let is : after (start_of start) h ≡ record { next = EtherType (type_of_link h); limit = None } =
+    link_after start h link ∙ ap (λ (n : Next). record { next = n; limit = None }) typed in
+    subst (λ (w : Window). Stack list (record { next = EtherType (type_of_link h); limit = None }) w hs e)
+    (payload_is (start_of start) list h link)
     (subst (λ (x : Expectation). Stack list x (payload (whole (start_of start) list) h) hs e) is s)
 
-other_kind : (a b : Bool) → permitted None (if a then Some kinds.Macsec else (if b then Some kinds.Arp else None)) ≡ Some kinds.Vlan → ⊥
+other_kind : (a b : Bool)
+    → permitted None (if a then Some kinds.Macsec else (if b then Some kinds.Arp else None)) ≡ Some kinds.Vlan → ⊥
 other_kind true b e = absurd cc
 other_kind false true e = absurd cc
 other_kind false false e = absurd cc
 
 -- an ether type that announces a VLAN tag
-pub announced_vlan : (t : ℕ) → is_vlan_ether_type t ≡ true → announced (record { next = EtherType t; limit = None }) ≡ Some kinds.Vlan
-announced_vlan t is = λ i. permitted None (if is i then Some kinds.Vlan else (if nat_eq t 0x88E5 then Some kinds.Macsec else (if nat_eq t 0x0806 then Some kinds.Arp else None)))
+pub announced_vlan : (t : ℕ) → is_vlan_ether_type t ≡ true
+    → announced (record { next = EtherType t; limit = None }) ≡ Some kinds.Vlan
+announced_vlan t is =
+    λ i.
+    permitted None
+    (if is i then Some kinds.Vlan
+    else (if nat_eq t 0x88E5 then Some kinds.Macsec else (if nat_eq t 0x0806 then Some kinds.Arp else None)))
 
-pub announced_other : (t : ℕ) → is_vlan_ether_type t ≡ false → announced (record { next = EtherType t; limit = None }) ≡ Some kinds.Vlan → ⊥
-announced_other t is e = other_kind (nat_eq t 0x88E5) (nat_eq t 0x0806) (sym (λ i. permitted None (if is i then Some kinds.Vlan else (if nat_eq t 0x88E5 then Some kinds.Macsec else (if nat_eq t 0x0806 then Some kinds.Arp else None)))) ∙ e)
+pub announced_other : (t : ℕ) → is_vlan_ether_type t ≡ false
+    → announced (record { next = EtherType t; limit = None }) ≡ Some kinds.Vlan → ⊥
+announced_other t is e =
+    other_kind (nat_eq t 0x88E5) (nat_eq t 0x0806)
+    (sym
+    (λ i.
+    permitted None
+    (if is i then Some kinds.Vlan
+    else
+    (if nat_eq t 0x88E5 then Some kinds.Macsec
+    else (if nat_eq t 0x0806 then Some kinds.Arp else None))))
+    ∙ e)
 
 -- ---- the bytes after it
 
 -- windows of two lists that end alike have the same bytes
-pub moved_rest : (old new : List ℕ) (a b f g trailer : ℕ) (closed : Bool) (bound : LenSource) (x : Expectation) (hs : List Header) (e : Ending) → drop b new ≡ drop a old → f + trailer ≡ length old → g + trailer ≡ length new → a ≤ f → b ≤ g
-    → Stack old x (record { start = a; finish = f; closed = closed; bound = bound }) hs e → Stack new x (record { start = b; finish = g; closed = closed; bound = bound }) hs (moved_ending a b e)
+pub moved_rest : (old new : List ℕ) (a b f g trailer : ℕ) (closed : Bool) (bound : LenSource) (x : Expectation)
+    (hs : List Header) (e : Ending)
+    → drop b new ≡ drop a old → f + trailer ≡ length old → g + trailer ≡ length new → a ≤ f → b ≤ g
+    → Stack old x (record { start = a; finish = f; closed = closed; bound = bound }) hs e
+    → Stack new x (record { start = b; finish = g; closed = closed; bound = bound }) hs (moved_ending a b e)
 moved_rest old new a b f g trailer closed bound x hs e same ends ends_new le le_new s =
     let n = length-drop a old in
     let m = length-drop b new in
     let k : length (drop b new) ≡ length (drop a old) = ap length same in
     let as_long : f - a ≡ g - b = omega arith in
     let part : take (f - a) (drop a old) ≡ take (g - b) (drop b new) = λ i. take (as_long i) (sym same i) in
-    is_local old new x (record { start = a; finish = f; closed = closed; bound = bound }) (record { start = b; finish = g; closed = closed; bound = bound }) hs e
+    is_local old new x (record { start = a; finish = f; closed = closed; bound = bound })
+    (record { start = b; finish = g; closed = closed; bound = bound }) hs e
     (record { ordered = le; inside = omega arith }) (record { ordered = le_new; inside = omega arith }) part refl refl s
 
 -- ---- the unit in a window
 
 -- if the bytes of a window are accepted as what is expected there, then a header is there
-pub record HasUnit (list : List ℕ) (x : Expectation) (w : Window) (kind : Kind) (hs : List Header) (e : Ending) : Type 0 where
+pub record HasUnit (list : List ℕ) (x : Expectation) (w : Window) (kind : Kind) (hs : List Header)
+    (e : Ending) : Type 0 where
   pub header : Header
   pub later : List Header
   pub parts : hs ≡ header ∷ later
@@ -240,16 +317,26 @@ same_kind k l o e f = let same : Some k ≡ Some l = sym e ∙ f in cc
 never : (k : Kind) (o : Option Kind) → o ≡ None → o ≡ Some k → ⊥
 never k o e f = let same : None ≡ Some k = sym e ∙ f in cc
 
-pub unit_there : (list : List ℕ) (x : Expectation) (w : Window) (kind : Kind) (hs : List Header) (e : Ending) → announced x ≡ Some kind → Accepts w.bound (within list w) kind → Stack list x w hs e → HasUnit list x w kind hs e
+pub unit_there : (list : List ℕ) (x : Expectation) (w : Window) (kind : Kind) (hs : List Header) (e : Ending)
+    → announced x ≡ Some kind → Accepts w.bound (within list w) kind → Stack list x w hs e → HasUnit list x w kind hs e
 unit_there list x w kind [] (Accepted v y) a accepted s = absurd (never kind (announced x) s.2 a)
 unit_there list x w kind [] (Fault v y r) a accepted s =
     let same = same_kind s.2 kind (announced x) s.3 a in
     absurd (accepted r (subst (λ (k : Kind). Refuses w.bound (within list w) k r) same s.4))
 unit_there list x w kind (h ∷ hs) e a accepted s =
-    record { header = h; later = hs; parts = refl; of_kind = same_kind (kind_of h) kind (announced x) s.0.announced a; unit = s.0; rest = s.1 }
+    record {
+      header = h;
+      later = hs;
+      parts = refl;
+      of_kind = same_kind (kind_of h) kind (announced x) s.0.announced a;
+      unit = s.0;
+      rest = s.1;
+    }
 
 -- if a row holds there, no header is
-pub no_unit_there : (list : List ℕ) (x : Expectation) (w : Window) (kind : Kind) (r : rows.Refusal) (hs : List Header) (e : Ending) → announced x ≡ Some kind → Refuses w.bound (within list w) kind r → Stack list x w hs e → hs ≡ []
+pub no_unit_there : (list : List ℕ) (x : Expectation) (w : Window) (kind : Kind) (r : rows.Refusal) (hs : List Header)
+    (e : Ending)
+    → announced x ≡ Some kind → Refuses w.bound (within list w) kind r → Stack list x w hs e → hs ≡ []
 no_unit_there list x w kind r [] e a row s = refl
 no_unit_there list x w kind r (h ∷ hs) e a row s =
     let same = same_kind kind (kind_of h) (announced x) a s.0.announced in
@@ -258,8 +345,12 @@ no_unit_there list x w kind r (h ∷ hs) e a row s =
 -- ---- the header that a list begins with
 
 -- what is read of it: its lengths and its type
-pub is_typed : (start : Start) (kind : Kind) (list : List ℕ) (hs : List Header) (e : Ending) (l : TypedLink) → IsBytes list → announced (start_of start) ≡ Some kind → Accepts sources.Slice list kind → is_link kind ≡ true
-    → next_after (header_in kind list) ≡ EtherType (type_of_link (header_in kind list)) → link_len start ≡ header_len (header_in kind list) → link_len start + l.payload_len + trailer_len (header_in kind list) ≡ length list → l.ether_type.0 ≡ type_of_link (header_in kind list)
+pub is_typed : (start : Start) (kind : Kind) (list : List ℕ) (hs : List Header) (e : Ending) (l : TypedLink)
+    → IsBytes list → announced (start_of start) ≡ Some kind → Accepts sources.Slice list kind → is_link kind ≡ true
+    → next_after (header_in kind list) ≡ EtherType (type_of_link (header_in kind list))
+    → link_len start ≡ header_len (header_in kind list)
+    → link_len start + l.payload_len + trailer_len (header_in kind list) ≡ length list
+    → l.ether_type.0 ≡ type_of_link (header_in kind list)
     → Walk (start_of start) list hs e → IsTypedLink start list hs l
 is_typed start kind list hs e l ok a accepted link typed len payload_len ether_type walk =
     let first = first_header (start_of start) kind list hs e ok a accepted walk in
@@ -273,9 +364,13 @@ is_typed start kind list hs e l ok a accepted link typed len payload_len ether_t
     }
 
 -- a header that is refused
-pub refused_link : (start : Start) (kind : Kind) (list : List ℕ) (r : rows.Refusal) (hs : List Header) (e : Ending) → announced (start_of start) ≡ Some kind → Refuses sources.Slice list kind r → Walk (start_of start) list hs e → RefusesTyped hs errors.NoLink
+pub refused_link : (start : Start) (kind : Kind) (list : List ℕ) (r : rows.Refusal) (hs : List Header) (e : Ending)
+    → announced (start_of start) ≡ Some kind → Refuses sources.Slice list kind r → Walk (start_of start) list hs e
+    → RefusesTyped hs errors.NoLink
 refused_link start kind list r hs e a row walk =
-    let none = no_unit_there list (start_of start) (whole (start_of start) list) kind r hs e a (subst (λ (l : List ℕ). Refuses sources.Slice l kind r) (sym (whole_part list)) row) walk in
+    let none =
+    no_unit_there list (start_of start) (whole (start_of start) list) kind r hs e a
+    (subst (λ (l : List ℕ). Refuses sources.Slice l kind r) (sym (whole_part list)) row) walk in
     no_link (ap has_link none)
 
 pub with_fcs : (list : List ℕ) → Accepts sources.Slice list kinds.Ethernet2Fcs → 18 ≤ length list
@@ -285,16 +380,22 @@ with_fcs list accepted = at_least (length list) 18 (λ (lt : length list < 18). 
 sixteen : (list : List ℕ) → Accepts sources.Slice list kinds.LinuxSll → 16 ≤ length list
 sixteen list accepted = at_least (length list) 16 (λ (lt : length list < 16). accepted _ (rows.linux_sll lt))
 
-pub is_captured : (start : Start) (list : List ℕ) (hs : List Header) (e : Ending) (l : TypedLink) → IsBytes list → announced (start_of start) ≡ Some kinds.LinuxSll → IsEthernetCapture list → link_len start ≡ 16 → l.payload_len ≡ length list - 16 → l.ether_type.0 ≡ (linux_sll_of list).protocol
+pub is_captured : (start : Start) (list : List ℕ) (hs : List Header) (e : Ending) (l : TypedLink) → IsBytes list
+    → announced (start_of start) ≡ Some kinds.LinuxSll → IsEthernetCapture list → link_len start ≡ 16
+    → l.payload_len ≡ length list - 16 → l.ether_type.0 ≡ (linux_sll_of list).protocol
     → Walk (start_of start) list hs e → IsTypedLink start list hs l
 is_captured start list hs e l ok a is len payload_len ether_type walk =
     let s = linux_sll_of list in
     let le = is.0 in
-    let accepted = accepts_linux_sll sources.Slice list s le (linux_sll_begins list ok le) is.1 (ap is_supported is.2) in
-    is_typed start kinds.LinuxSll list hs e l ok a accepted refl (ap (λ (h : ℕ). after_capture h s.protocol) is.2) len (omega (arith, len, payload_len, le)) ether_type walk
+    let accepted =
+    accepts_linux_sll sources.Slice list s le (linux_sll_begins list ok le) is.1 (ap is_supported is.2) in
+    is_typed start kinds.LinuxSll list hs e l ok a accepted refl (ap (λ (h : ℕ). after_capture h s.protocol) is.2) len
+    (omega (arith, len, payload_len, le)) ether_type walk
 
 -- of another link
-pub other_link : (start : Start) (list : List ℕ) (hs : List Header) (e : Ending) (hardware : ArpHardwareId) → IsBytes list → announced (start_of start) ≡ Some kinds.LinuxSll → IsOtherCapture list (Some hardware) → (IsEthernetCapture list → ⊥) → Walk (start_of start) list hs e
+pub other_link : (start : Start) (list : List ℕ) (hs : List Header) (e : Ending) (hardware : ArpHardwareId)
+    → IsBytes list → announced (start_of start) ≡ Some kinds.LinuxSll → IsOtherCapture list (Some hardware)
+    → (IsEthernetCapture list → ⊥) → Walk (start_of start) list hs e
     → RefusesTyped hs (errors.HardwareType hardware)
 other_link start list hs e hardware ok a other never walk =
     let first = first_header (start_of start) kinds.LinuxSll list hs e ok a other.0 walk in
@@ -317,17 +418,24 @@ is_link_of None = false
 is_link_of (Some kind) = is_link kind
 
 -- what an ether type announces is no header of a link
-not_announced : (a b c : Bool) (kind : Kind) → (if a then Some kinds.Vlan else (if b then Some kinds.Macsec else (if c then Some kinds.Arp else None))) ≡ Some kind → is_link kind ≡ false
+not_announced : (a b c : Bool) (kind : Kind)
+    → (if a then Some kinds.Vlan else (if b then Some kinds.Macsec else (if c then Some kinds.Arp else None)))
+    ≡ Some kind
+    → is_link kind ≡ false
 not_announced true b c kind e = ap is_link_of (sym e)
 not_announced false true c kind e = ap is_link_of (sym e)
 not_announced false false true kind e = ap is_link_of (sym e)
 not_announced false false false kind e = absurd cc
 
-pub unlinked : (start : Start) (t : EtherTypeNumber) (list : List ℕ) (hs : List Header) (e : Ending) → start ≡ starts.EtherType t → Walk (start_of start) list hs e → RefusesTyped hs errors.NoLink
+pub unlinked : (start : Start) (t : EtherTypeNumber) (list : List ℕ) (hs : List Header) (e : Ending)
+    → start ≡ starts.EtherType t → Walk (start_of start) list hs e → RefusesTyped hs errors.NoLink
 unlinked start t list [] e is walk = no_link refl
 unlinked start t list (h ∷ hs) e is walk =
-    let a : announced (start_of (starts.EtherType t)) ≡ Some (kind_of h) = ap (λ (s : Start). announced (start_of s)) (sym is) ∙ walk.0.announced in
-    no_link (not_announced (is_vlan_ether_type t.0) (nat_eq t.0 0x88E5) (nat_eq t.0 0x0806) (kind_of h) (unpermitted (announced_by t.0) ∙ a))
+    let a : announced (start_of (starts.EtherType t)) ≡ Some (kind_of h) =
+    ap (λ (s : Start). announced (start_of s)) (sym is) ∙ walk.0.announced in
+    no_link
+    (not_announced (is_vlan_ether_type t.0) (nat_eq t.0 0x88E5) (nat_eq t.0 0x0806) (kind_of h)
+    (unpermitted (announced_by t.0) ∙ a))
 
 -- the length of a link's header from a start that is no cooked capture
 pub other_len : (start : Start) → (start ≡ starts.LinuxSll → ⊥) → link_len start ≡ 14

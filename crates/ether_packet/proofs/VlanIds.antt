@@ -43,39 +43,51 @@ same_count h k n m e counts = let same : counted h ≡ counted k = ap counted e 
 one_more : (h : Header) (n : ℕ) → is_extension (kind_of h) ≡ true → counted h + n ≡ 0 → ⊥
 one_more h n is e = let one : counted h ≡ 1 = ap (λ (b : Bool). if b then 1 else 0) is in omega (arith, one, e)
 
-same_ext : (front other_front : List Header) (h k : Header) (later other_later : List Header) → front ++ h ∷ later ≡ other_front ++ k ∷ other_later
-    → is_extension (kind_of h) ≡ true → is_extension (kind_of k) ≡ true → ext_count front ≡ ext_count other_front → (front ≡ other_front) × (h ≡ k) × (later ≡ other_later)
+same_ext : (front other_front : List Header) (h k : Header) (later other_later : List Header)
+    → front ++ h ∷ later ≡ other_front ++ k ∷ other_later
+    → is_extension (kind_of h) ≡ true → is_extension (kind_of k) ≡ true → ext_count front ≡ ext_count other_front
+    → (front ≡ other_front) × (h ≡ k) × (later ≡ other_later)
 same_ext [] [] h k later other_later e a b n = (refl, cc, cc)
 same_ext [] (y ∷ ys) h k later other_later e a b n =
-    let first : h ≡ y = cc in absurd (one_more y (ext_count ys) (subst (λ (x : Header). is_extension (kind_of x) ≡ true) first a) (sym n))
+    let first : h ≡ y = cc in
+    absurd (one_more y (ext_count ys) (subst (λ (x : Header). is_extension (kind_of x) ≡ true) first a) (sym n))
 same_ext (x ∷ xs) [] h k later other_later e a b n =
-    let first : k ≡ x = cc in absurd (one_more x (ext_count xs) (subst (λ (y : Header). is_extension (kind_of y) ≡ true) first b) n)
+    let first : k ≡ x = cc in
+    absurd (one_more x (ext_count xs) (subst (λ (y : Header). is_extension (kind_of y) ≡ true) first b) n)
 same_ext (x ∷ xs) (y ∷ ys) h k later other_later e a b n =
     let first : x ≡ y = cc in
     let rest : xs ++ h ∷ later ≡ ys ++ k ∷ other_later = cc in
     let r = same_ext xs ys h k later other_later rest a b (same_count x y (ext_count xs) (ext_count ys) first n) in
     ((λ i. first i ∷ r.0 i), r.1, r.2)
 
-one_ext : (hs : List Header) (i : ℕ) (front other_front : List Header) (h k : Header) (later other_later : List Header) → IsExtAt hs i front h later → IsExtAt hs i other_front k other_later
+one_ext : (hs : List Header) (i : ℕ) (front other_front : List Header) (h k : Header) (later other_later : List Header)
+    → IsExtAt hs i front h later → IsExtAt hs i other_front k other_later
     → (front ≡ other_front) × (h ≡ k) × (later ≡ other_later)
-one_ext hs i front other_front h k later other_later f g = same_ext front other_front h k later other_later (sym f.parts ∙ g.parts) f.extension g.extension (f.before ∙ sym g.before)
+one_ext hs i front other_front h k later other_later f g =
+    same_ext front other_front h k later other_later (sym f.parts ∙ g.parts) f.extension g.extension
+    (f.before ∙ sym g.before)
 
 same_vlan : (v w : VlanValue) → headers.Vlan v ≡ headers.Vlan w → v ≡ w
 same_vlan v w e = cc
 
 -- a VLAN tag there is not refused
-pub never_refused : (hs : List Header) (i : ℕ) (front : List Header) (tag : VlanValue) (later : List Header) (e : TagError) → IsExtAt hs i front (headers.Vlan tag) later → RefusesTag hs i e → ⊥
+pub never_refused : (hs : List Header) (i : ℕ) (front : List Header) (tag : VlanValue) (later : List Header)
+    (e : TagError)
+    → IsExtAt hs i front (headers.Vlan tag) later → RefusesTag hs i e → ⊥
 never_refused hs i front tag later e found (none few) =
     let all = ap ext_count found.parts ∙ ext_count-append front (headers.Vlan tag ∷ later) in
     let before = found.before in
     omega (arith, all, before, few)
 never_refused hs i front tag later e found (sec_tag other_front m other_later there) =
-    let same = (one_ext hs i front other_front (headers.Vlan tag) (headers.Macsec m) later other_later found there).1 in absurd cc
+    let same = (one_ext hs i front other_front (headers.Vlan tag) (headers.Macsec m) later other_later found there).1 in
+    absurd cc
 
 -- ---- the outermost VLAN tag
 
-no_ids_before : (us : List PacketUnit) (i : ℕ) (x : PacketUnit) (s : Split us i x) → Untagged (exts_of us) i → vlan_ids_of (map header_of s.front) ≡ []
-no_ids_before us i x s untagged = ids_of s.front ∙ ap (map vid_at) (vlans_found s.front ∙ ap vlans_of s.before ∙ untagged)
+no_ids_before : (us : List PacketUnit) (i : ℕ) (x : PacketUnit) (s : Split us i x) → Untagged (exts_of us) i
+    → vlan_ids_of (map header_of s.front) ≡ []
+no_ids_before us i x s untagged =
+    ids_of s.front ∙ ap (map vid_at) (vlans_found s.front ∙ ap vlans_of s.before ∙ untagged)
 
 tag_is : (k : Kind) (bytes tag : List ℕ) → vlan_in k bytes ≡ Some tag → header_in k bytes ≡ headers.Vlan (vlan_of tag)
 tag_is kinds.Ethernet2 bytes tag e = absurd cc
@@ -86,40 +98,54 @@ tag_is kinds.Macsec bytes tag e = absurd cc
 tag_is kinds.Arp bytes tag e = absurd cc
 
 -- after extensions that are no VLAN tags
-is_tag : (us : List PacketUnit) (i : ℕ) (x : PacketUnit) (bytes : List ℕ) (tag : VlanValue) → Untagged (exts_of us) i → slice_get (exts_of us) i ≡ Some x → vlan_of_unit x ≡ Some bytes → tag ≡ vlan_of bytes → IsOutermost (map header_of us) i tag
+is_tag : (us : List PacketUnit) (i : ℕ) (x : PacketUnit) (bytes : List ℕ) (tag : VlanValue) → Untagged (exts_of us) i
+    → slice_get (exts_of us) i ≡ Some x → vlan_of_unit x ≡ Some bytes → tag ≡ vlan_of bytes
+    → IsOutermost (map header_of us) i tag
 is_tag us i x bytes tag untagged at is value =
     let s = split_at us i x at in
     let header : header_of x ≡ headers.Vlan tag = tag_is x.kind x.bytes bytes is ∙ ap headers.Vlan (sym value) in
     record {
       front = map header_of s.front;
       later = map header_of s.later;
-      found = subst (λ (h : Header). IsExtAt (map header_of us) i (map header_of s.front) h (map header_of s.later)) header (ext_at us i x at s);
+      found =
+          subst (λ (h : Header). IsExtAt (map header_of us) i (map header_of s.front) h (map header_of s.later)) header
+          (ext_at us i x at s);
       outermost = no_ids_before us i x s untagged;
     }
 
-pub is_outermost : (us : List PacketUnit) (i : ℕ) (bytes : List ℕ) (tag : VlanValue) → Untagged (exts_of us) i → Some bytes ≡ option_and_then vlan_of_unit (slice_get (exts_of us) i) → tag ≡ vlan_of bytes → IsOutermost (map header_of us) i tag
-is_outermost us i bytes tag untagged is value = option_and_then_some vlan_of_unit (slice_get (exts_of us) i) bytes (sym is) (λ x at here. is_tag us i x bytes tag untagged at here value)
+pub is_outermost : (us : List PacketUnit) (i : ℕ) (bytes : List ℕ) (tag : VlanValue) → Untagged (exts_of us) i
+    → Some bytes ≡ option_and_then vlan_of_unit (slice_get (exts_of us) i) → tag ≡ vlan_of bytes
+    → IsOutermost (map header_of us) i tag
+is_outermost us i bytes tag untagged is value =
+    option_and_then_some vlan_of_unit (slice_get (exts_of us) i) bytes (sym is)
+    (λ x at here. is_tag us i x bytes tag untagged at here value)
 
 -- ---- its bits
 
 -- a header of a stack is meant by its own bytes
-pub own_bytes : (list : List ℕ) (x : Expectation) (w : Window) (front : List Header) (h : Header) (later : List Header) (e : Ending) → IsIn list w → Stack list x w (front ++ h ∷ later) e
+pub own_bytes : (list : List ℕ) (x : Expectation) (w : Window) (front : List Header) (h : Header) (later : List Header)
+    (e : Ending)
+    → IsIn list w → Stack list x w (front ++ h ∷ later) e
     → Spells (slice_range list (place w.start front) (place w.start front + header_len h)) h
 own_bytes list x w [] h later e inside s =
     let whole = s.0.means.whole in
     let ordered = inside.ordered in
     let len = length-part list w.start w.finish inside.inside in
     subst (λ (l : List ℕ). Spells l h) (front_is list w (header_len h) (omega arith)) s.0.means.spells
-own_bytes list x w (k ∷ front) h later e inside s = own_bytes list (after x k) (payload w k) front h later e (payload_in list x w k inside s.0) s.1
+own_bytes list x w (k ∷ front) h later e inside s =
+    own_bytes list (after x k) (payload w k) front h later e (payload_in list x w k inside s.0) s.1
 
-two_changed : (front : List ℕ) (a b p q : ℕ) (tail : List ℕ) (i : ℕ) → i ≢ length front → i ≢ length front + 1 → slice_index (front ++ a ∷ b ∷ tail) i ≡ slice_index (front ++ p ∷ q ∷ tail) i
+two_changed : (front : List ℕ) (a b p q : ℕ) (tail : List ℕ) (i : ℕ) → i ≢ length front → i ≢ length front + 1
+    → slice_index (front ++ a ∷ b ∷ tail) i ≡ slice_index (front ++ p ∷ q ∷ tail) i
 two_changed [] a b p q tail zero h k = absurd (h refl)
 two_changed [] a b p q tail (suc zero) h k = absurd (k refl)
 two_changed [] a b p q tail (suc (suc i)) h k = refl
 two_changed (x ∷ front) a b p q tail zero h k = refl
-two_changed (x ∷ front) a b p q tail (suc i) h k = two_changed front a b p q tail i (λ e. h (omega arith)) (λ e. k (omega arith))
+two_changed (x ∷ front) a b p q tail (suc i) h k =
+    two_changed front a b p q tail i (λ e. h (omega arith)) (λ e. k (omega arith))
 
-two_set : (front tail : List ℕ) (a b p q vid : ℕ) → a / 16 ≡ p / 16 → a % 16 * 256 + b ≡ vid → SetsVid (front ++ p ∷ q ∷ tail) (length front) vid (front ++ a ∷ b ∷ tail)
+two_set : (front tail : List ℕ) (a b p q vid : ℕ) → a / 16 ≡ p / 16 → a % 16 * 256 + b ≡ vid
+    → SetsVid (front ++ p ∷ q ∷ tail) (length front) vid (front ++ a ∷ b ∷ tail)
 two_set front tail a b p q vid upper set =
     let new_a = get_or-append_seam front a (b ∷ tail) 0 in
     let new_b = get_or-append-add front (a ∷ b ∷ tail) 1 0 in
@@ -131,7 +157,10 @@ two_set front tail a b p q vid upper set =
       set = (λ i. new_a i % 16 * 256 + new_b i) ∙ set;
     }
 
-vlan_spelled : (v : VlanValue) → vlan_bytes v ≡ vlan_number v / 256 ^ 3 % 256 ∷ vlan_number v / 256 ^ 2 % 256 ∷ vlan_number v / 256 % 256 ∷ vlan_number v % 256 ∷ []
+vlan_spelled : (v : VlanValue)
+    → vlan_bytes v
+    ≡ vlan_number v / 256 ^ 3 % 256 ∷ vlan_number v / 256 ^ 2 % 256 ∷ vlan_number v / 256 % 256 ∷ vlan_number v
+    % 256 ∷ []
 unfolding spelled
 vlan_spelled v =
     let c : vlan_number v / 256 ^ 1 % 256 ≡ vlan_number v / 256 % 256 = omega arith in
@@ -139,7 +168,8 @@ vlan_spelled v =
     λ i. vlan_number v / 256 ^ 3 % 256 ∷ vlan_number v / 256 ^ 2 % 256 ∷ c i ∷ d i ∷ []
 
 -- a tag with another identifier differs in 12 bits
-tag_set : (front rest : List ℕ) (v : VlanValue) (vid : ℕ) → FitsVlan v → vid < 4096 → SetsVid (front ++ vlan_bytes v ++ rest) (length front) vid (front ++ vlan_bytes (record v { vid = vid }) ++ rest)
+tag_set : (front rest : List ℕ) (v : VlanValue) (vid : ℕ) → FitsVlan v → vid < 4096
+    → SetsVid (front ++ vlan_bytes v ++ rest) (length front) vid (front ++ vlan_bytes (record v { vid = vid }) ++ rest)
 tag_set front rest v vid fits lt =
     let n = vlan_number v in
     let w : VlanValue = record v { vid = vid } in
@@ -152,46 +182,69 @@ tag_set front rest v vid fits lt =
     let fourth : m % 256 ≡ n % 256 = omega arith in
     let upper : m / 256 ^ 3 % 256 / 16 ≡ n / 256 ^ 3 % 256 / 16 = omega arith in
     let set : m / 256 ^ 3 % 256 % 16 * 256 + m / 256 ^ 2 % 256 ≡ vid = omega arith in
-    let old : front ++ vlan_bytes v ++ rest ≡ front ++ n / 256 ^ 3 % 256 ∷ n / 256 ^ 2 % 256 ∷ n / 256 % 256 ∷ n % 256 ∷ rest =
+    let old : front ++ vlan_bytes v ++ rest
+    ≡ front ++ n / 256 ^ 3 % 256 ∷ n / 256 ^ 2 % 256 ∷ n / 256 % 256 ∷ n % 256 ∷ rest =
     append_assoc front (vlan_bytes v) rest ∙ ap (λ (l : List ℕ). front ++ (l ++ rest)) (vlan_spelled v) in
-    let new : front ++ vlan_bytes w ++ rest ≡ front ++ m / 256 ^ 3 % 256 ∷ m / 256 ^ 2 % 256 ∷ n / 256 % 256 ∷ n % 256 ∷ rest =
-    append_assoc front (vlan_bytes w) rest ∙ ap (λ (l : List ℕ). front ++ (l ++ rest)) (vlan_spelled w) ∙ (λ i. front ++ m / 256 ^ 3 % 256 ∷ m / 256 ^ 2 % 256 ∷ third i ∷ fourth i ∷ rest) in
-    let sets = two_set front (n / 256 % 256 ∷ n % 256 ∷ rest) (m / 256 ^ 3 % 256) (m / 256 ^ 2 % 256) (n / 256 ^ 3 % 256) (n / 256 ^ 2 % 256) vid upper set in
-    subst (λ (l : List ℕ). SetsVid l (length front) vid (front ++ vlan_bytes w ++ rest)) (sym old) (subst (SetsVid _ (length front) vid) (sym new) sets)
+    let new : front ++ vlan_bytes w ++ rest
+    ≡ front ++ m / 256 ^ 3 % 256 ∷ m / 256 ^ 2 % 256 ∷ n / 256 % 256 ∷ n % 256 ∷ rest =
+    append_assoc front (vlan_bytes w) rest ∙ ap (λ (l : List ℕ). front ++ (l ++ rest)) (vlan_spelled w)
+    ∙ (λ i. front ++ m / 256 ^ 3 % 256 ∷ m / 256 ^ 2 % 256 ∷ third i ∷ fourth i ∷ rest) in
+    let sets =
+    two_set front (n / 256 % 256 ∷ n % 256 ∷ rest) (m / 256 ^ 3 % 256) (m / 256 ^ 2 % 256) (n / 256 ^ 3 % 256)
+    (n / 256 ^ 2 % 256) vid upper set in
+    subst (λ (l : List ℕ). SetsVid l (length front) vid (front ++ vlan_bytes w ++ rest)) (sym old)
+    (subst (SetsVid _ (length front) vid) (sym new) sets)
 
 -- the bytes of a part, written over it again
 own_over : (list : List ℕ) (at n : ℕ) → take at list ++ slice_range list at (at + n) ++ drop (at + n) list ≡ list
 own_over list at n =
     let sub : at + n - at ≡ n = omega arith in
-    (λ i. take at list ++ take (sub i) (drop at list) ++ sym (drop-drop n at list) i) ∙ append_assoc (take at list) (take n (drop at list)) (drop n (drop at list))
+    (λ i. take at list ++ take (sub i) (drop at list) ++ sym (drop-drop n at list) i)
+    ∙ append_assoc (take at list) (take n (drop at list)) (drop n (drop at list))
     ∙ ap (λ (l : List ℕ). take at list ++ l) (take-append-drop n (drop at list)) ∙ take-append-drop at list
 
-vid_set : (start : Expectation) (old new : List ℕ) (front : List Header) (v : VlanValue) (later : List Header) (e : Ending) (vid : ℕ) → IsBytes old → vid < 4096 → Walk start old (front ++ headers.Vlan v ∷ later) e
-    → new ≡ overwritten old (place 0 front) (header_bytes (headers.Vlan (record v { vid = vid }))) → SetsVid old (place 0 front) vid new
+vid_set : (start : Expectation) (old new : List ℕ) (front : List Header) (v : VlanValue) (later : List Header)
+    (e : Ending) (vid : ℕ)
+    → IsBytes old → vid < 4096 → Walk start old (front ++ headers.Vlan v ∷ later) e
+    → new ≡ overwritten old (place 0 front) (header_bytes (headers.Vlan (record v { vid = vid })))
+    → SetsVid old (place 0 front) vid new
 vid_set start old new front v later e vid ok lt walk bytes =
     let at = place 0 front in
     let w : VlanValue = record v { vid = vid } in
     let room : at + 4 ≤ length old = header_inside start old front (headers.Vlan v) later e walk in
     let part = slice_range old at (at + 4) in
-    let spells : IsVlan part v = own_bytes old start (whole start old) front (headers.Vlan v) later e (whole_in start old) walk in
+    let spells : IsVlan part v =
+    own_bytes old start (whole start old) front (headers.Vlan v) later e (whole_in start old) walk in
     let len : length part ≡ 4 = length-part old at (at + 4) room ∙ omega arith in
     let same : vlan_bytes v ≡ part = vlan_bytes-read part v (IsBytes-part at (at + 4) old ok) len spells in
-    let old_is : take at old ++ vlan_bytes v ++ drop (at + 4) old ≡ old = ap (λ (l : List ℕ). take at old ++ l ++ drop (at + 4) old) same ∙ own_over old at 4 in
-    let new_is : new ≡ take at old ++ vlan_bytes w ++ drop (at + 4) old = bytes ∙ ap (λ (n : ℕ). take at old ++ vlan_bytes w ++ drop (at + n) old) (length-spelled 4 (vlan_number w)) in
+    let old_is : take at old ++ vlan_bytes v ++ drop (at + 4) old ≡ old =
+    ap (λ (l : List ℕ). take at old ++ l ++ drop (at + 4) old) same ∙ own_over old at 4 in
+    let new_is : new ≡ take at old ++ vlan_bytes w ++ drop (at + 4) old =
+    bytes ∙ ap (λ (n : ℕ). take at old ++ vlan_bytes w ++ drop (at + n) old) (length-spelled 4 (vlan_number w)) in
     let begins : length (take at old) ≡ at = length-take-le at old (omega arith) in
     let sets = tag_set (take at old) (drop (at + 4) old) v vid spells.fits lt in
     subst (SetsVid old at vid) (sym new_is)
     (subst (λ (n : ℕ). SetsVid old n vid (take at old ++ vlan_bytes w ++ drop (at + 4) old)) begins
-    (subst (λ (l : List ℕ). SetsVid l (length (take at old)) vid (take at old ++ vlan_bytes w ++ drop (at + 4) old)) old_is sets))
+    (subst (λ (l : List ℕ). SetsVid l (length (take at old)) vid (take at old ++ vlan_bytes w ++ drop (at + 4) old))
+    old_is sets))
 
 -- the identifier of the outermost VLAN tag is set
-pub sets_outermost : (start : Expectation) (old new : List ℕ) (hs : List Header) (e : Ending) (i : ℕ) (tag : VlanValue) (vid : ℕ) → IsBytes old → (o : IsOutermost hs i tag) → Walk start old hs e
-    → SetsTag start old hs e i (λ (v : VlanValue). record v { vid = vid }) new → Walk start new (o.front ++ headers.Vlan (record tag { vid = vid }) ∷ o.later) e × SetsVid old (place 0 o.front) vid new
+pub sets_outermost : (start : Expectation) (old new : List ℕ) (hs : List Header) (e : Ending) (i : ℕ) (tag : VlanValue)
+    (vid : ℕ)
+    → IsBytes old → (o : IsOutermost hs i tag) → Walk start old hs e
+    → SetsTag start old hs e i (λ (v : VlanValue). record v { vid = vid }) new
+    → Walk start new (o.front ++ headers.Vlan (record tag { vid = vid }) ∷ o.later) e
+    × SetsVid old (place 0 o.front) vid new
 sets_outermost start old new hs e i tag vid ok o walk r =
     let g = headers.Vlan (record tag { vid = vid }) in
     let same = one_ext hs i r.front o.front (headers.Vlan r.tag) (headers.Vlan tag) r.later o.later r.found o.found in
     let value : r.tag ≡ tag = same_vlan r.tag tag same.1 in
     let bytes = r.bytes ∙ (λ i. overwritten old (place 0 (same.0 i)) (vlan_bytes (record (value i) { vid = vid }))) in
-    let found = subst (λ (l : List Header). Walk start new l e) (λ i. same.0 i ++ headers.Vlan (record (value i) { vid = vid }) ∷ same.2 i) r.walk in
-    let fits = (own_bytes new start (whole start new) o.front g o.later e (whole_in start new) found).fits in
-    (found, vid_set start old new o.front tag o.later e vid ok fits.vid (subst (λ (l : List Header). Walk start old l e) o.found.parts walk) bytes)
+    let found =
+    subst (λ (l : List Header). Walk start new l e)
+    (λ i. same.0 i ++ headers.Vlan (record (value i) { vid = vid }) ∷ same.2 i) r.walk in
+    let fits = (own_bytes new start (whole start new) o.front g o.later e (whole_in start new) found).fits in (
+      found,
+      vid_set start old new o.front tag o.later e vid ok fits.vid
+          (subst (λ (l : List Header). Walk start old l e) o.found.parts walk) bytes,
+    )

@@ -20,7 +20,8 @@ use Rattle.ether_packet.specs.Building.{expected_after, window_after}
 pub record Fitting (x : Expectation) (h : Header) (n : ℕ) : Type 0 where
   pub announced : announced x ≡ Some (kind_of h)
   pub fits : FitsHeader h
-  pub accepted : (bound : LenSource) (more : List ℕ) → length more ≡ n → Accepts bound (header_bytes h ++ more) (kind_of h)
+  pub accepted : (bound : LenSource) (more : List ℕ) → length more ≡ n
+      → Accepts bound (header_bytes h ++ more) (kind_of h)
   pub named : (p : ℕ) → payload_len h ≡ Some p → p ≡ n
   pub no_trailer : trailer_len h ≡ 0
 
@@ -41,11 +42,13 @@ place-first n h hs =
     ap (λ (k : ℕ). place k hs) e ∙ place-add (header_len h) n hs
 
 -- what follows in a window after a header whose payload reaches to the window's end
-finish_is : (o : Option ℕ) (start trailer finish n : ℕ) → trailer ≡ 0 → ((p : ℕ) → o ≡ Some p → p ≡ n) → start + n ≡ finish → payload_finish start trailer finish o ≡ finish
+finish_is : (o : Option ℕ) (start trailer finish n : ℕ) → trailer ≡ 0 → ((p : ℕ) → o ≡ Some p → p ≡ n)
+    → start + n ≡ finish → payload_finish start trailer finish o ≡ finish
 finish_is None start trailer finish n zero named e = omega arith
 finish_is (Some p) start trailer finish n zero named e = let k = named p refl in omega arith
 
-pub length-headers : (x : Expectation) (hs : List Header) (rest : List ℕ) → Fits x hs (length rest) → length (flat_map header_bytes hs ++ rest) ≡ place (length rest) hs
+pub length-headers : (x : Expectation) (hs : List Header) (rest : List ℕ) → Fits x hs (length rest)
+    → length (flat_map header_bytes hs ++ rest) ≡ place (length rest) hs
 length-headers x [] rest fits = refl
 length-headers x (h ∷ hs) rest (here, later) =
     let tail = flat_map header_bytes hs ++ rest in
@@ -61,7 +64,8 @@ pub record LeadsTo (list : List ℕ) (x : Expectation) (w : Window) (hs : List H
   pub rest_is : within list (window_after w hs) ≡ rest
   pub finish : (window_after w hs).finish ≡ w.finish
 
-pub written : (list : List ℕ) (x : Expectation) (w : Window) (hs : List Header) (rest : List ℕ) → IsIn list w → within list w ≡ flat_map header_bytes hs ++ rest → Fits x hs (length rest) → LeadsTo list x w hs rest
+pub written : (list : List ℕ) (x : Expectation) (w : Window) (hs : List Header) (rest : List ℕ) → IsIn list w
+    → within list w ≡ flat_map header_bytes hs ++ rest → Fits x hs (length rest) → LeadsTo list x w hs rest
 written list x w [] rest at e fits = record { leads = (refl, refl); rest_is = e; finish = refl }
 written list x w (h ∷ hs) rest at e (here, later) =
     let front = header_bytes h in
@@ -70,17 +74,20 @@ written list x w (h ∷ hs) rest at e (here, later) =
     let split : within list w ≡ front ++ tail = e ∙ append_assoc front (flat_map header_bytes hs) rest in
     let front_len : length front ≡ n = length-header_bytes h here.fits in
     let tail_len : length tail ≡ place (length rest) hs = length-headers (after x h) hs rest later in
-    let whole : length (within list w) ≡ n + length tail = ap (λ (l : List ℕ). length l) split ∙ length-append front tail ∙ ap (λ (k : ℕ). k + length tail) front_len in
+    let whole : length (within list w) ≡ n + length tail =
+    ap (λ (l : List ℕ). length l) split ∙ length-append front tail ∙ ap (λ (k : ℕ). k + length tail) front_len in
     let part = length-part list w.start w.finish at.inside in
     let ordered = at.ordered in
     let sum : w.start + n + length tail ≡ w.finish = omega arith in
     let unit : IsUnit list x w h = record {
       announced = here.announced;
-      accepted = subst (λ (l : List ℕ). Accepts w.bound l (kind_of h)) (sym split) (here.accepted w.bound tail tail_len);
+      accepted =
+          subst (λ (l : List ℕ). Accepts w.bound l (kind_of h)) (sym split) (here.accepted w.bound tail tail_len);
       means = subst (λ (l : List ℕ). Means l h) (sym split) (means-header_bytes h tail here.fits);
     } in
     let named : (p : ℕ) → payload_len h ≡ Some p → p ≡ length tail = λ p is. here.named p is ∙ sym tail_len in
-    let finish : (payload w h).finish ≡ w.finish = finish_is (payload_len h) (w.start + n) (trailer_len h) w.finish (length tail) here.no_trailer named sum in
+    let finish : (payload w h).finish ≡ w.finish =
+    finish_is (payload_len h) (w.start + n) (trailer_len h) w.finish (length tail) here.no_trailer named sum in
     let le : w.start + n ≤ w.finish = omega arith in
     let inner : within list (payload w h) ≡ tail =
     ap (λ (k : ℕ). slice_range list (w.start + n) k) finish

@@ -7,14 +7,16 @@ use Rattle.ether_pcap.specs.Bodies.{BodyRefusal, InterfaceValue, IsInterface, Re
 
 -- ---- interface descriptions
 
-pub interface_one : (order : Order) (body : List ℕ) (v w : InterfaceValue) → IsInterface order body v → IsInterface order body w → v ≡ w
+pub interface_one : (order : Order) (body : List ℕ) (v w : InterfaceValue) → IsInterface order body v
+    → IsInterface order body w → v ≡ w
 interface_one order body v w h k =
     let a : v.link_type ≡ w.link_type = sym h.link_type ∙ k.link_type in
     let b : v.snap_len ≡ w.snap_len = sym h.snap_len ∙ k.snap_len in
     let c : v.options ≡ w.options = sym h.options ∙ k.options in
     λ i. record { link_type = a i; snap_len = b i; options = c i }
 
-pub interface_apart : (order : Order) (body : List ℕ) (v : InterfaceValue) (r : BodyRefusal) → IsInterface order body v → RefusesInterface body r → ⊥
+pub interface_apart : (order : Order) (body : List ℕ) (v : InterfaceValue) (r : BodyRefusal) → IsInterface order body v
+    → RefusesInterface body r → ⊥
 interface_apart order body v r h (interface lt) = omega (arith, h.len, lt)
 
 pub interface_refused : (body : List ℕ) (r s : BodyRefusal) → RefusesInterface body r → RefusesInterface body s → r ≡ s
@@ -22,7 +24,8 @@ interface_refused body r s (interface lt) (interface m) = refl
 
 -- ---- enhanced packets
 
-pub enhanced_one : (number_len : ℕ) (order : Order) (body : List ℕ) (v w : EnhancedPacketValue) → IsEnhancedPacket number_len order body v → IsEnhancedPacket number_len order body w → v ≡ w
+pub enhanced_one : (number_len : ℕ) (order : Order) (body : List ℕ) (v w : EnhancedPacketValue)
+    → IsEnhancedPacket number_len order body v → IsEnhancedPacket number_len order body w → v ≡ w
 enhanced_one number_len order body v w h k =
     let n : length v.packet ≡ length w.packet = sym h.captured_len ∙ k.captured_len in
     let a : v.interface ≡ w.interface = sym h.interface ∙ k.interface in
@@ -32,43 +35,56 @@ enhanced_one number_len order body v w h k =
     let o : v.options ≡ w.options = sym h.options ∙ ap (λ (m : ℕ). drop (20 + padded m) body) n ∙ k.options in
     λ i. record { interface = a i; time = b i; original_len = c i; packet = p i; options = o i }
 
-pub enhanced_apart : (number_len : ℕ) (order : Order) (body : List ℕ) (v : EnhancedPacketValue) (r : BodyRefusal) → IsEnhancedPacket number_len order body v → RefusesEnhancedPacket order body r → ⊥
+pub enhanced_apart : (number_len : ℕ) (order : Order) (body : List ℕ) (v : EnhancedPacketValue) (r : BodyRefusal)
+    → IsEnhancedPacket number_len order body v → RefusesEnhancedPacket order body r → ⊥
 enhanced_apart number_len order body v r h (enhanced lt) = omega (arith, h.whole, lt)
 enhanced_apart number_len order body v r h (enhanced_too_long le lt) = omega (arith, h.room, h.captured_len, lt)
 enhanced_apart number_len order body v r h (enhanced_packet le small lt) = omega (arith, h.whole, h.captured_len, lt)
 
-pub enhanced_refused : (order : Order) (body : List ℕ) (r s : BodyRefusal) → RefusesEnhancedPacket order body r → RefusesEnhancedPacket order body s → r ≡ s
+pub enhanced_refused : (order : Order) (body : List ℕ) (r s : BodyRefusal) → RefusesEnhancedPacket order body r
+    → RefusesEnhancedPacket order body s → r ≡ s
 enhanced_refused order body r s (enhanced lt) (enhanced m) = refl
 enhanced_refused order body r s (enhanced lt) (enhanced_too_long le m) = absurd (omega (arith, lt, le))
 enhanced_refused order body r s (enhanced lt) (enhanced_packet le small m) = absurd (omega (arith, lt, le))
 enhanced_refused order body r s (enhanced_too_long le lt) (enhanced m) = absurd (omega (arith, le, m))
 enhanced_refused order body r s (enhanced_too_long le lt) (enhanced_too_long le2 m) = refl
-enhanced_refused order body r s (enhanced_too_long le lt) (enhanced_packet le2 small m) = absurd (omega (arith, lt, small))
+enhanced_refused order body r s (enhanced_too_long le lt) (enhanced_packet le2 small m) =
+    absurd (omega (arith, lt, small))
 enhanced_refused order body r s (enhanced_packet le small lt) (enhanced m) = absurd (omega (arith, le, m))
-enhanced_refused order body r s (enhanced_packet le small lt) (enhanced_too_long le2 m) = absurd (omega (arith, small, m))
+enhanced_refused order body r s (enhanced_packet le small lt) (enhanced_too_long le2 m) =
+    absurd (omega (arith, small, m))
 enhanced_refused order body r s (enhanced_packet le small lt) (enhanced_packet le2 small2 m) = refl
 
 -- ---- simple packets
 
-pub simple_one : (order : Order) (snap_len : ℕ) (body : List ℕ) (v w : SimplePacketValue) → IsSimplePacket order snap_len body v → IsSimplePacket order snap_len body w → v ≡ w
+pub simple_one : (order : Order) (snap_len : ℕ) (body : List ℕ) (v w : SimplePacketValue)
+    → IsSimplePacket order snap_len body v → IsSimplePacket order snap_len body w → v ≡ w
 simple_one order snap_len body v w h k =
     let n : length v.packet ≡ length w.packet = sym h.captured_len ∙ k.captured_len in
     let c : v.original_len ≡ w.original_len = sym h.original_len ∙ k.original_len in
     let p : v.packet ≡ w.packet = sym h.packet ∙ ap (λ (m : ℕ). slice_range body 4 (4 + m)) n ∙ k.packet in
     λ i. record { original_len = c i; packet = p i }
 
-pub simple_apart : (order : Order) (snap_len : ℕ) (body : List ℕ) (v : SimplePacketValue) (r : BodyRefusal) → IsSimplePacket order snap_len body v → RefusesSimplePacket order snap_len body r → ⊥
+pub simple_apart : (order : Order) (snap_len : ℕ) (body : List ℕ) (v : SimplePacketValue) (r : BodyRefusal)
+    → IsSimplePacket order snap_len body v → RefusesSimplePacket order snap_len body r → ⊥
 simple_apart order snap_len body v r h (simple lt) = omega (arith, h.whole, lt)
-simple_apart order snap_len body v r h (simple_too_long n le is lt) = let e : n ≡ length v.packet = sym is ∙ h.captured_len in omega (arith, h.room, e, lt)
-simple_apart order snap_len body v r h (simple_packet n le is small lt) = let e : n ≡ length v.packet = sym is ∙ h.captured_len in omega (arith, h.whole, e, lt)
+simple_apart order snap_len body v r h (simple_too_long n le is lt) =
+    let e : n ≡ length v.packet = sym is ∙ h.captured_len in omega (arith, h.room, e, lt)
+simple_apart order snap_len body v r h (simple_packet n le is small lt) =
+    let e : n ≡ length v.packet = sym is ∙ h.captured_len in omega (arith, h.whole, e, lt)
 
-pub simple_refused : (order : Order) (snap_len : ℕ) (body : List ℕ) (r s : BodyRefusal) → RefusesSimplePacket order snap_len body r → RefusesSimplePacket order snap_len body s → r ≡ s
+pub simple_refused : (order : Order) (snap_len : ℕ) (body : List ℕ) (r s : BodyRefusal)
+    → RefusesSimplePacket order snap_len body r → RefusesSimplePacket order snap_len body s → r ≡ s
 simple_refused order snap_len body r s (simple lt) (simple m) = refl
 simple_refused order snap_len body r s (simple lt) (simple_too_long n le is m) = absurd (omega (arith, lt, le))
 simple_refused order snap_len body r s (simple lt) (simple_packet n le is small m) = absurd (omega (arith, lt, le))
 simple_refused order snap_len body r s (simple_too_long n le is lt) (simple m) = absurd (omega (arith, le, m))
-simple_refused order snap_len body r s (simple_too_long n le is lt) (simple_too_long o le2 is2 m) = ap TooLong (sym is ∙ is2)
-simple_refused order snap_len body r s (simple_too_long n le is lt) (simple_packet o le2 is2 small m) = let e : n ≡ o = sym is ∙ is2 in absurd (omega (arith, lt, small, e))
+simple_refused order snap_len body r s (simple_too_long n le is lt) (simple_too_long o le2 is2 m) =
+    ap TooLong (sym is ∙ is2)
+simple_refused order snap_len body r s (simple_too_long n le is lt) (simple_packet o le2 is2 small m) =
+    let e : n ≡ o = sym is ∙ is2 in absurd (omega (arith, lt, small, e))
 simple_refused order snap_len body r s (simple_packet n le is small lt) (simple m) = absurd (omega (arith, le, m))
-simple_refused order snap_len body r s (simple_packet n le is small lt) (simple_too_long o le2 is2 m) = let e : n ≡ o = sym is ∙ is2 in absurd (omega (arith, small, m, e))
-simple_refused order snap_len body r s (simple_packet n le is small lt) (simple_packet o le2 is2 small2 m) = ap (λ (k : ℕ). Short (4 + k) (length body)) (sym is ∙ is2)
+simple_refused order snap_len body r s (simple_packet n le is small lt) (simple_too_long o le2 is2 m) =
+    let e : n ≡ o = sym is ∙ is2 in absurd (omega (arith, small, m, e))
+simple_refused order snap_len body r s (simple_packet n le is small lt) (simple_packet o le2 is2 small2 m) =
+    ap (λ (k : ℕ). Short (4 + k) (length body)) (sym is ∙ is2)

@@ -8,14 +8,16 @@ use Rattle.ether_pcap.specs.Block as block_rows
 use Rattle.ether_pcap.specs.Section as section_rows
 use Rattle.ether_pcap.specs.Capture.{CaptureInterfaceValue, PacketValue, Expectation, BlockKind, CaptureRefusal, Section, Block, RefusesBody, interface, too_many, simple_alone, simple, enhanced, enhanced_alone, Begins, file_header, file_record, first_section, section, block, Refuses, file_header_refused, file_record_refused, first_section_refused, section_refused, block_refused, body_refused, required_len}
 
-pub unit_within : (bytes : List ℕ) (x y : Expectation) (len : ℕ) (p : Option PacketValue) → Begins bytes x len p y → len ≤ length bytes
+pub unit_within : (bytes : List ℕ) (x y : Expectation) (len : ℕ) (p : Option PacketValue) → Begins bytes x len p y
+    → len ≤ length bytes
 unit_within bytes x y len p (file_header h other is) = is.len
 unit_within bytes x y len p (file_record h r is) = is.whole
 unit_within bytes x y len p (first_section order b is) = is.block.whole
 unit_within bytes x y len p (section order next interfaces b is) = is.block.whole
 unit_within bytes x y len p (block order interfaces after packet b other begins is) = begins.whole
 
-pub unit_some : (bytes : List ℕ) (x y : Expectation) (len : ℕ) (p : Option PacketValue) → Begins bytes x len p y → 0 < len
+pub unit_some : (bytes : List ℕ) (x y : Expectation) (len : ℕ) (p : Option PacketValue) → Begins bytes x len p y
+    → 0 < len
 unit_some bytes x y len p (file_header h other is) = omega arith
 unit_some bytes x y len p (file_record h r is) = omega arith
 unit_some bytes x y len p (first_section order b is) = omega arith
@@ -25,19 +27,22 @@ unit_some bytes x y len p (block order interfaces after packet b other begins is
 above : (required n len : ℕ) → Some required ≡ Some n → len < required → len < n
 above required n len e lt = let same : required ≡ n = cc in omega (arith, same, lt)
 
-block_above : (order : Order) (bytes : List ℕ) (r : block_rows.BlockRefusal) (n : ℕ) → block_rows.RefusesBlock order bytes r → required_len (Block r) ≡ Some n → length bytes < n
+block_above : (order : Order) (bytes : List ℕ) (r : block_rows.BlockRefusal) (n : ℕ)
+    → block_rows.RefusesBlock order bytes r → required_len (Block r) ≡ Some n → length bytes < n
 block_above order bytes r n (block_rows.front lt) e = above 12 n (length bytes) e lt
 block_above order bytes r n (block_rows.total_len le none) e = absurd cc
 block_above order bytes r n (block_rows.body m le is sound lt) e = above m n (length bytes) e lt
 block_above order bytes r n (block_rows.trailer m k le is sound whole at other) e = absurd cc
 
-section_block_above : (order : Order) (bytes : List ℕ) (r : block_rows.BlockRefusal) (n : ℕ) → block_rows.RefusesBlock order bytes r → required_len (Section (section_rows.Block r)) ≡ Some n → length bytes < n
+section_block_above : (order : Order) (bytes : List ℕ) (r : block_rows.BlockRefusal) (n : ℕ)
+    → block_rows.RefusesBlock order bytes r → required_len (Section (section_rows.Block r)) ≡ Some n → length bytes < n
 section_block_above order bytes r n (block_rows.front lt) e = above 12 n (length bytes) e lt
 section_block_above order bytes r n (block_rows.total_len le none) e = absurd cc
 section_block_above order bytes r n (block_rows.body m le is sound lt) e = above m n (length bytes) e lt
 section_block_above order bytes r n (block_rows.trailer m k le is sound whole at other) e = absurd cc
 
-section_above : (bytes : List ℕ) (r : section_rows.SectionRefusal) (n : ℕ) → section_rows.RefusesSection bytes r → required_len (Section r) ≡ Some n → length bytes < n
+section_above : (bytes : List ℕ) (r : section_rows.SectionRefusal) (n : ℕ) → section_rows.RefusesSection bytes r
+    → required_len (Section r) ≡ Some n → length bytes < n
 section_above bytes r n (section_rows.short lt) e = above 12 n (length bytes) e lt
 section_above bytes r n (section_rows.block_type k le is other) e = absurd cc
 section_above bytes r n (section_rows.magic k le t is none) e = absurd cc
@@ -46,7 +51,9 @@ section_above bytes r n (section_rows.body order b t m begins lt) e = absurd cc
 section_above bytes r n (section_rows.version order b major minor t m begins le is are none) e = absurd cc
 
 -- no body is refused because the bytes end
-pub body_final : (order : Order) (before : List CaptureInterfaceValue) (body : List ℕ) (kind : BlockKind) (r : CaptureRefusal) → RefusesBody order before body kind r → required_len r ≡ None
+pub body_final : (order : Order) (before : List CaptureInterfaceValue) (body : List ℕ) (kind : BlockKind)
+    (r : CaptureRefusal)
+    → RefusesBody order before body kind r → required_len r ≡ None
 body_final order before body kind r (interface s refused) = refl
 body_final order before body kind r (too_many i is most) = refl
 body_final order before body kind r (simple_alone none) = refl
@@ -54,7 +61,8 @@ body_final order before body kind r (simple i s at refused) = refl
 body_final order before body kind r (enhanced n s refused) = refl
 body_final order before body kind r (enhanced_alone n p is none) = refl
 
-pub required_above : (bytes : List ℕ) (x : Expectation) (r : CaptureRefusal) (n : ℕ) → Refuses bytes x r → required_len r ≡ Some n → length bytes < n
+pub required_above : (bytes : List ℕ) (x : Expectation) (r : CaptureRefusal) (n : ℕ) → Refuses bytes x r
+    → required_len r ≡ Some n → length bytes < n
 required_above bytes x r n (file_header_refused s other (file.short lt)) e = above 24 n (length bytes) e lt
 required_above bytes x r n (file_header_refused s other (file.magic le none)) e = absurd cc
 required_above bytes x r n (file_header_refused s other (file.version order resolution le has none)) e = absurd cc
@@ -64,4 +72,5 @@ required_above bytes x r n (file_record_refused h s (record_rows.packet le small
 required_above bytes x r n (first_section_refused s has refused) e = section_above bytes s n refused e
 required_above bytes x r n (section_refused order interfaces s has refused) e = section_above bytes s n refused e
 required_above bytes x r n (block_refused order interfaces s other refused) e = block_above order bytes s n refused e
-required_above bytes x r n (body_refused order interfaces b s other begins refused) e = let none = body_final order interfaces b.body _ s refused in absurd cc
+required_above bytes x r n (body_refused order interfaces b s other begins refused) e =
+    let none = body_final order interfaces b.body _ s refused in absurd cc

@@ -18,10 +18,12 @@ longer : (bytes more : List ℕ) (n : ℕ) → n ≤ length bytes → n ≤ leng
 longer bytes more n le = omega (arith, length-append bytes more, le)
 
 -- the number at a place
-same : (order : Order) (bytes more : List ℕ) (a b : ℕ) → a ≤ b → b ≤ length bytes → field order (bytes ++ more) a b ≡ field order bytes a b
+same : (order : Order) (bytes more : List ℕ) (a b : ℕ) → a ≤ b → b ≤ length bytes
+    → field order (bytes ++ more) a b ≡ field order bytes a b
 same order bytes more a b le within = ap (number_in order) (part-append bytes more a b le within)
 
-same_type : (bytes more : List ℕ) → 4 ≤ length bytes → number (slice_range (bytes ++ more) 0 4) ≡ number (slice_range bytes 0 4)
+same_type : (bytes more : List ℕ) → 4 ≤ length bytes
+    → number (slice_range (bytes ++ more) 0 4) ≡ number (slice_range bytes 0 4)
 same_type bytes more le = ap number (part-append bytes more 0 4 (omega arith) le)
 
 has_type : (bytes more : List ℕ) → 4 ≤ length bytes → HasSectionType bytes → HasSectionType (bytes ++ more)
@@ -45,12 +47,15 @@ file_header_local bytes more h is =
       fcs_len = ap fcs_len_of (same h.order bytes more 20 24 (omega arith) le) ∙ is.fcs_len;
     }
 
-file_refused_local : (bytes more : List ℕ) (r : FileRefusal) → RefusesFile bytes r → required_len (File r) ≡ None → (4 ≤ length bytes) × RefusesFile (bytes ++ more) r
+file_refused_local : (bytes more : List ℕ) (r : FileRefusal) → RefusesFile bytes r → required_len (File r) ≡ None
+    → (4 ≤ length bytes) × RefusesFile (bytes ++ more) r
 file_refused_local bytes more r (file.short lt) e = absurd cc
 file_refused_local bytes more r (file.magic le none) e = (
   omega arith,
   subst (λ (n : ℕ). RefusesFile (bytes ++ more) (file.Magic n)) (same_type bytes more (omega arith))
-      (file.magic (longer bytes more 24 le) (λ order resolution has. none order resolution (sym (same order bytes more 0 4 (omega arith) (omega arith)) ∙ has))),
+      (file.magic (longer bytes more 24 le)
+      (λ order resolution has.
+      none order resolution (sym (same order bytes more 0 4 (omega arith) (omega arith)) ∙ has))),
 )
 file_refused_local bytes more r (file.version order resolution le has other) e =
     let major = same order bytes more 4 6 (omega arith) (omega arith) in
@@ -58,13 +63,15 @@ file_refused_local bytes more r (file.version order resolution le has other) e =
       omega arith,
       subst (λ (n : ℕ). RefusesFile (bytes ++ more) (file.Version n (field order bytes 6 8))) major
           (subst (λ (n : ℕ). RefusesFile (bytes ++ more) (file.Version (field order (bytes ++ more) 4 6) n)) minor
-          (file.version order resolution (longer bytes more 24 le) (same order bytes more 0 4 (omega arith) (omega arith) ∙ has)
+          (file.version order resolution (longer bytes more 24 le)
+          (same order bytes more 0 4 (omega arith) (omega arith) ∙ has)
           (λ both. other (sym major ∙ both.0, sym minor ∙ both.1)))),
     )
 
 -- ---- records
 
-record_local : (order : Order) (bytes more : List ℕ) (r : RecordValue) → BeginsRecord order bytes r → BeginsRecord order (bytes ++ more) r
+record_local : (order : Order) (bytes more : List ℕ) (r : RecordValue) → BeginsRecord order bytes r
+    → BeginsRecord order (bytes ++ more) r
 record_local order bytes more r is =
     let whole : 16 + length r.packet ≤ length bytes = is.whole in
     record {
@@ -77,16 +84,19 @@ record_local order bytes more r is =
       room = is.room;
     }
 
-record_refused_local : (order : Order) (bytes more : List ℕ) (r : RecordRefusal) → RefusesRecord order bytes r → required_len (Record r) ≡ None → RefusesRecord order (bytes ++ more) r
+record_refused_local : (order : Order) (bytes more : List ℕ) (r : RecordRefusal) → RefusesRecord order bytes r
+    → required_len (Record r) ≡ None → RefusesRecord order (bytes ++ more) r
 record_refused_local order bytes more r (record_rows.header lt) e = absurd cc
 record_refused_local order bytes more r (record_rows.packet le small lt) e = absurd cc
 record_refused_local order bytes more r (record_rows.too_long le lt) e =
     let n = same order bytes more 8 12 (omega arith) (omega arith) in
-    subst (λ (m : ℕ). RefusesRecord order (bytes ++ more) (record_rows.TooLong m)) n (record_rows.too_long (longer bytes more 16 le) (omega (arith, n, lt)))
+    subst (λ (m : ℕ). RefusesRecord order (bytes ++ more) (record_rows.TooLong m)) n
+    (record_rows.too_long (longer bytes more 16 le) (omega (arith, n, lt)))
 
 -- ---- blocks
 
-block_local : (order : Order) (bytes more : List ℕ) (b : BlockValue) → BeginsBlock order bytes b → BeginsBlock order (bytes ++ more) b
+block_local : (order : Order) (bytes more : List ℕ) (b : BlockValue) → BeginsBlock order bytes b
+    → BeginsBlock order (bytes ++ more) b
 block_local order bytes more b is =
     let whole : 12 + length b.body ≤ length bytes = is.whole in
     record {
@@ -98,27 +108,36 @@ block_local order bytes more b is =
       trailer = same order bytes more (8 + length b.body) (12 + length b.body) (omega arith) whole ∙ is.trailer;
     }
 
-block_refused_local : (order : Order) (bytes more : List ℕ) (r : BlockRefusal) → RefusesBlock order bytes r → required_len (Block r) ≡ None → (12 ≤ length bytes) × RefusesBlock order (bytes ++ more) r
+block_refused_local : (order : Order) (bytes more : List ℕ) (r : BlockRefusal) → RefusesBlock order bytes r
+    → required_len (Block r) ≡ None → (12 ≤ length bytes) × RefusesBlock order (bytes ++ more) r
 block_refused_local order bytes more r (block_rows.front lt) e = absurd cc
 block_refused_local order bytes more r (block_rows.body n le is sound lt) e = absurd cc
 block_refused_local order bytes more r (block_rows.total_len le none) e =
-    let n = same order bytes more 4 8 (omega arith) (omega arith) in
-    (le, subst (λ (m : ℕ). RefusesBlock order (bytes ++ more) (block_rows.TotalLen m)) n (block_rows.total_len (longer bytes more 12 le) (λ sound. none (subst IsTotalLen n sound))))
+    let n = same order bytes more 4 8 (omega arith) (omega arith) in (
+      le,
+      subst (λ (m : ℕ). RefusesBlock order (bytes ++ more) (block_rows.TotalLen m)) n
+          (block_rows.total_len (longer bytes more 12 le) (λ sound. none (subst IsTotalLen n sound))),
+    )
 block_refused_local order bytes more r (block_rows.trailer n m le is sound whole at other) e = (
   le,
-  block_rows.trailer n m (longer bytes more 12 le) (same order bytes more 4 8 (omega arith) (omega arith) ∙ is) sound (longer bytes more n whole)
+  block_rows.trailer n m (longer bytes more 12 le) (same order bytes more 4 8 (omega arith) (omega arith) ∙ is) sound
+      (longer bytes more n whole)
       (same order bytes more (n - 4) n (omega arith) whole ∙ at) other,
 )
 
 -- ---- section headers
 
-version_local : (order : Order) (bytes more : List ℕ) → 16 ≤ length bytes → IsVersion (field order bytes 12 14) (field order bytes 14 16) → IsVersion (field order (bytes ++ more) 12 14) (field order (bytes ++ more) 14 16)
+version_local : (order : Order) (bytes more : List ℕ) → 16 ≤ length bytes
+    → IsVersion (field order bytes 12 14) (field order bytes 14 16)
+    → IsVersion (field order (bytes ++ more) 12 14) (field order (bytes ++ more) 14 16)
 version_local order bytes more le is =
     let major = same order bytes more 12 14 (omega arith) (omega arith) in
     let minor = same order bytes more 14 16 (omega arith) le in
-    subst (λ (n : ℕ). IsVersion (field order (bytes ++ more) 12 14) n) (sym minor) (subst (λ (n : ℕ). IsVersion n (field order bytes 14 16)) (sym major) is)
+    subst (λ (n : ℕ). IsVersion (field order (bytes ++ more) 12 14) n) (sym minor)
+    (subst (λ (n : ℕ). IsVersion n (field order bytes 14 16)) (sym major) is)
 
-section_local : (bytes more : List ℕ) (order : Order) (b : BlockValue) → IsSection bytes order b → IsSection (bytes ++ more) order b
+section_local : (bytes more : List ℕ) (order : Order) (b : BlockValue) → IsSection bytes order b
+    → IsSection (bytes ++ more) order b
 section_local bytes more order b is =
     let whole : 12 + length b.body ≤ length bytes = is.block.whole in
     record {
@@ -134,44 +153,59 @@ same_required (block_rows.Short required len) = refl
 same_required (block_rows.TotalLen n) = refl
 same_required (block_rows.Trailer n m) = refl
 
-section_refused_local : (bytes more : List ℕ) (r : SectionRefusal) → HasSectionType bytes → RefusesSection bytes r → required_len (Section r) ≡ None → HasSectionType (bytes ++ more) × RefusesSection (bytes ++ more) r
+section_refused_local : (bytes more : List ℕ) (r : SectionRefusal) → HasSectionType bytes → RefusesSection bytes r
+    → required_len (Section r) ≡ None → HasSectionType (bytes ++ more) × RefusesSection (bytes ++ more) r
 section_refused_local bytes more r has (section_rows.short lt) e = absurd cc
 section_refused_local bytes more r has (section_rows.block_type n le is other) e = absurd (other (sym is ∙ has))
 section_refused_local bytes more r has (section_rows.magic n le t is none) e =
     let m = ap number (part-append bytes more 8 12 (omega arith) le) in
-    let t2 = has_type bytes more (omega arith) has in
-    (t2, section_rows.magic n (longer bytes more 12 le) t2 (m ∙ is) (λ order is2. none order (sym (same order bytes more 8 12 (omega arith) le) ∙ is2)))
+    let t2 = has_type bytes more (omega arith) has in (
+      t2,
+      section_rows.magic n (longer bytes more 12 le) t2 (m ∙ is)
+          (λ order is2. none order (sym (same order bytes more 8 12 (omega arith) le) ∙ is2)),
+    )
 section_refused_local bytes more r has (section_rows.block order s le t m refused) e =
     let t2 = has_type bytes more (omega arith) has in
     let s2 = block_refused_local order bytes more s refused (same_required s ∙ e) in
     (t2, section_rows.block order s (longer bytes more 12 le) t2 (same order bytes more 8 12 (omega arith) le ∙ m) s2.1)
 section_refused_local bytes more r has (section_rows.body order b t m begins lt) e =
     let whole : 12 + length b.body ≤ length bytes = begins.whole in
-    let t2 = has_type bytes more (omega arith) has in
-    (t2, section_rows.body order b t2 (same order bytes more 8 12 (omega arith) (omega arith) ∙ m) (block_local order bytes more b begins) lt)
+    let t2 = has_type bytes more (omega arith) has in (
+      t2,
+      section_rows.body order b t2 (same order bytes more 8 12 (omega arith) (omega arith) ∙ m)
+          (block_local order bytes more b begins) lt,
+    )
 section_refused_local bytes more r has (section_rows.version order b major minor t m begins le is are none) e =
     let whole : 12 + length b.body ≤ length bytes = begins.whole in
     let t2 = has_type bytes more (omega arith) has in (
       t2,
-      section_rows.version order b major minor t2 (same order bytes more 8 12 (omega arith) (omega arith) ∙ m) (block_local order bytes more b begins) le
-          (same order bytes more 12 14 (omega arith) (omega (arith, whole, le)) ∙ is) (same order bytes more 14 16 (omega arith) (omega (arith, whole, le)) ∙ are) none,
+      section_rows.version order b major minor t2 (same order bytes more 8 12 (omega arith) (omega arith) ∙ m)
+          (block_local order bytes more b begins) le
+          (same order bytes more 12 14 (omega arith) (omega (arith, whole, le)) ∙ is)
+          (same order bytes more 14 16 (omega arith) (omega (arith, whole, le)) ∙ are) none,
     )
 
 -- ---- units
 
-pub unit_local : (bytes more : List ℕ) (x y : Expectation) (len : ℕ) (p : Option PacketValue) → Begins bytes x len p y → Begins (bytes ++ more) x len p y
-unit_local bytes more x y len p (file_header h other is) = file_header h (no_type bytes more (omega (arith, is.len)) other) (file_header_local bytes more h is)
+pub unit_local : (bytes more : List ℕ) (x y : Expectation) (len : ℕ) (p : Option PacketValue) → Begins bytes x len p y
+    → Begins (bytes ++ more) x len p y
+unit_local bytes more x y len p (file_header h other is) =
+    file_header h (no_type bytes more (omega (arith, is.len)) other) (file_header_local bytes more h is)
 unit_local bytes more x y len p (file_record h r is) = file_record h r (record_local h.order bytes more r is)
 unit_local bytes more x y len p (first_section order b is) = first_section order b (section_local bytes more order b is)
-unit_local bytes more x y len p (section order next interfaces b is) = section order next interfaces b (section_local bytes more next b is)
+unit_local bytes more x y len p (section order next interfaces b is) =
+    section order next interfaces b (section_local bytes more next b is)
 unit_local bytes more x y len p (block order interfaces after packet b other begins is) =
-    block order interfaces after packet b (no_type bytes more (omega (arith, begins.whole)) other) (block_local order bytes more b begins) is
+    block order interfaces after packet b (no_type bytes more (omega (arith, begins.whole)) other)
+    (block_local order bytes more b begins) is
 
-pub refusal_local : (bytes more : List ℕ) (x : Expectation) (r : CaptureRefusal) → Refuses bytes x r → required_len r ≡ None → Refuses (bytes ++ more) x r
+pub refusal_local : (bytes more : List ℕ) (x : Expectation) (r : CaptureRefusal) → Refuses bytes x r
+    → required_len r ≡ None → Refuses (bytes ++ more) x r
 refusal_local bytes more x r (file_header_refused s other refused) e =
     let s2 = file_refused_local bytes more s refused e in
     file_header_refused s (no_type bytes more s2.0 other) s2.1
-refusal_local bytes more x r (file_record_refused h s refused) e = file_record_refused h s (record_refused_local h.order bytes more s refused e)
+refusal_local bytes more x r (file_record_refused h s refused) e =
+    file_record_refused h s (record_refused_local h.order bytes more s refused e)
 refusal_local bytes more x r (first_section_refused s has refused) e =
     let s2 = section_refused_local bytes more s has refused e in
     first_section_refused s s2.0 s2.1
@@ -182,4 +216,5 @@ refusal_local bytes more x r (block_refused order interfaces s other refused) e 
     let s2 = block_refused_local order bytes more s refused e in
     block_refused order interfaces s (no_type bytes more (omega (arith, s2.0)) other) s2.1
 refusal_local bytes more x r (body_refused order interfaces b s other begins refused) e =
-    body_refused order interfaces b s (no_type bytes more (omega (arith, begins.whole)) other) (block_local order bytes more b begins) refused
+    body_refused order interfaces b s (no_type bytes more (omega (arith, begins.whole)) other)
+    (block_local order bytes more b begins) refused

@@ -32,15 +32,32 @@ with_magic bytes o r le has =
     elim (cases_eq (field o bytes 4 6) 2) [
       | inl major ↦ elim (cases_eq (field o bytes 6 8) 4) [
         | inl minor ↦ inl (
-          record { order = o; resolution = r; snap_len = field o bytes 16 20; link_type = field o bytes 20 24 % 2 ^ 16; fcs_len = fcs_len_of (field o bytes 20 24) },
-          record { len = le; magic = has; major = major; minor = minor; snap_len = refl; link_type = refl; fcs_len = refl },
+          record {
+            order = o;
+            resolution = r;
+            snap_len = field o bytes 16 20;
+            link_type = field o bytes 20 24 % 2 ^ 16;
+            fcs_len = fcs_len_of (field o bytes 20 24);
+          },
+          record {
+            len = le;
+            magic = has;
+            major = major;
+            minor = minor;
+            snap_len = refl;
+            link_type = refl;
+            fcs_len = refl;
+          },
         )
-        | inr other ↦ inr (file.Version (field o bytes 4 6) (field o bytes 6 8), version o r le has (λ both. other both.1))
+        | inr other ↦ inr
+            (file.Version (field o bytes 4 6) (field o bytes 6 8), version o r le has (λ both. other both.1))
       ]
-      | inr other ↦ inr (file.Version (field o bytes 4 6) (field o bytes 6 8), version o r le has (λ both. other both.0))
+      | inr other ↦ inr
+          (file.Version (field o bytes 4 6) (field o bytes 6 8), version o r le has (λ both. other both.0))
     ]
 
-no_magic : (bytes : List ℕ) → (HasMagic bytes BigEndian Microseconds → ⊥) → (HasMagic bytes BigEndian Nanoseconds → ⊥) → (HasMagic bytes LittleEndian Microseconds → ⊥) → (HasMagic bytes LittleEndian Nanoseconds → ⊥)
+no_magic : (bytes : List ℕ) → (HasMagic bytes BigEndian Microseconds → ⊥) → (HasMagic bytes BigEndian Nanoseconds → ⊥)
+    → (HasMagic bytes LittleEndian Microseconds → ⊥) → (HasMagic bytes LittleEndian Nanoseconds → ⊥)
     → (o : Order) (r : Resolution) → HasMagic bytes o r → ⊥
 no_magic bytes a b c d BigEndian Microseconds = a
 no_magic bytes a b c d BigEndian Nanoseconds = b
@@ -69,15 +86,30 @@ some_file bytes =
 -- ---- records
 
 abbrev Record_of : Order → List ℕ → Type 0
-Record_of order bytes = ((r : RecordValue) × BeginsRecord order bytes r) ⊎ ((r : RecordRefusal) × RefusesRecord order bytes r)
+Record_of order bytes =
+    ((r : RecordValue) × BeginsRecord order bytes r) ⊎ ((r : RecordRefusal) × RefusesRecord order bytes r)
 
-whole_record : (order : Order) (bytes : List ℕ) → field order bytes 8 12 ≤ max_captured_len → 16 + field order bytes 8 12 ≤ length bytes → Record_of order bytes
+whole_record : (order : Order) (bytes : List ℕ) → field order bytes 8 12 ≤ max_captured_len
+    → 16 + field order bytes 8 12 ≤ length bytes → Record_of order bytes
 whole_record order bytes room whole =
     let n = field order bytes 8 12 in
     let len : length (slice_range bytes 16 (16 + n)) ≡ n = length-part bytes 16 (16 + n) whole ∙ omega arith in
     inl (
-      record { seconds = field order bytes 0 4; fraction = field order bytes 4 8; original_len = field order bytes 12 16; packet = slice_range bytes 16 (16 + n) },
-      record { seconds = refl; fraction = refl; captured_len = sym len; original_len = refl; packet = ap (λ (m : ℕ). slice_range bytes 16 (16 + m)) len; whole = omega (arith, len, whole); room = omega (arith, len, room) },
+      record {
+        seconds = field order bytes 0 4;
+        fraction = field order bytes 4 8;
+        original_len = field order bytes 12 16;
+        packet = slice_range bytes 16 (16 + n);
+      },
+      record {
+        seconds = refl;
+        fraction = refl;
+        captured_len = sym len;
+        original_len = refl;
+        packet = ap (λ (m : ℕ). slice_range bytes 16 (16 + m)) len;
+        whole = omega (arith, len, whole);
+        room = omega (arith, len, room);
+      },
     )
 
 some_record : (order : Order) (bytes : List ℕ) → Record_of order bytes
@@ -96,16 +128,21 @@ some_record order bytes =
 -- ---- blocks
 
 abbrev Block_of : Order → List ℕ → Type 0
-Block_of order bytes = ((b : BlockValue) × BeginsBlock order bytes b) ⊎ ((r : BlockRefusal) × RefusesBlock order bytes r)
+Block_of order bytes =
+    ((b : BlockValue) × BeginsBlock order bytes b) ⊎ ((r : BlockRefusal) × RefusesBlock order bytes r)
 
-sound_block : (order : Order) (bytes : List ℕ) → 12 ≤ length bytes → IsTotalLen (field order bytes 4 8) → Block_of order bytes
+sound_block : (order : Order) (bytes : List ℕ) → 12 ≤ length bytes → IsTotalLen (field order bytes 4 8)
+    → Block_of order bytes
 sound_block order bytes le sound =
     let n = field order bytes 4 8 in
     elim (cases_lt (length bytes) n) [
       | inl lt ↦ inr (block_rows.Short n (length bytes), block_rows.body n le refl sound lt)
       | inr whole ↦ elim (cases_eq (field order bytes (n - 4) n) n) [
         | inl e ↦ let w = whole_block order bytes n refl sound whole e in inl (w.0, w.1)
-        | inr other ↦ inr (block_rows.Trailer n (field order bytes (n - 4) n), block_rows.trailer n (field order bytes (n - 4) n) le refl sound whole refl other)
+        | inr other ↦ inr (
+          block_rows.Trailer n (field order bytes (n - 4) n),
+          block_rows.trailer n (field order bytes (n - 4) n) le refl sound whole refl other,
+        )
       ]
     ]
 
@@ -129,7 +166,8 @@ some_block order bytes =
 -- ---- section headers
 
 abbrev Section_of : List ℕ → Type 0
-Section_of bytes = ((o : Order) × (b : BlockValue) × IsSection bytes o b) ⊎ ((r : SectionRefusal) × RefusesSection bytes r)
+Section_of bytes =
+    ((o : Order) × (b : BlockValue) × IsSection bytes o b) ⊎ ((r : SectionRefusal) × RefusesSection bytes r)
 
 some_version : (major minor : ℕ) → IsVersion major minor ⊎ (IsVersion major minor → ⊥)
 some_version major minor =
@@ -144,24 +182,30 @@ some_version major minor =
       ]
     ]
 
-with_block : (bytes : List ℕ) (o : Order) (b : BlockValue) → HasSectionType bytes → HasOrder bytes o → BeginsBlock o bytes b → Section_of bytes
+with_block : (bytes : List ℕ) (o : Order) (b : BlockValue) → HasSectionType bytes → HasOrder bytes o
+    → BeginsBlock o bytes b → Section_of bytes
 with_block bytes o b has order begins =
     elim (cases_lt (length b.body) 16) [
       | inl lt ↦ inr (section_rows.Body 16 (length b.body), section_rows.body o b has order begins lt)
       | inr le ↦ elim (some_version (field o bytes 12 14) (field o bytes 14 16)) [
         | inl v ↦ inl (o, b, record { section = has; magic = order; block = begins; len = le; version = v })
-        | inr none ↦ inr (section_rows.Version (field o bytes 12 14) (field o bytes 14 16), section_rows.version o b _ _ has order begins le refl refl none)
+        | inr none ↦ inr (
+          section_rows.Version (field o bytes 12 14) (field o bytes 14 16),
+          section_rows.version o b _ _ has order begins le refl refl none,
+        )
       ]
     ]
 
-with_order : (bytes : List ℕ) (o : Order) → 12 ≤ length bytes → HasSectionType bytes → HasOrder bytes o → Section_of bytes
+with_order : (bytes : List ℕ) (o : Order) → 12 ≤ length bytes → HasSectionType bytes → HasOrder bytes o
+    → Section_of bytes
 with_order bytes o le has order =
     elim (some_block o bytes) [
       | inl b ↦ with_block bytes o b.0 has order b.1
       | inr r ↦ inr (section_rows.Block r.0, section_rows.block o r.0 le has order r.1)
     ]
 
-no_order : (bytes : List ℕ) → (HasOrder bytes BigEndian → ⊥) → (HasOrder bytes LittleEndian → ⊥) → (o : Order) → HasOrder bytes o → ⊥
+no_order : (bytes : List ℕ) → (HasOrder bytes BigEndian → ⊥) → (HasOrder bytes LittleEndian → ⊥) → (o : Order)
+    → HasOrder bytes o → ⊥
 no_order bytes a b BigEndian = a
 no_order bytes a b LittleEndian = b
 
@@ -173,7 +217,10 @@ some_section bytes has =
         | inl e ↦ with_order bytes BigEndian le has e
         | inr a ↦ elim (cases_eq (field LittleEndian bytes 8 12) 0x1A2B3C4D) [
           | inl e ↦ with_order bytes LittleEndian le has e
-          | inr b ↦ inr (section_rows.Magic (number (slice_range bytes 8 12)), section_rows.magic _ le has refl (no_order bytes a b))
+          | inr b ↦ inr (
+            section_rows.Magic (number (slice_range bytes 8 12)),
+            section_rows.magic _ le has refl (no_order bytes a b),
+          )
         ]
       ]
     ]
@@ -184,23 +231,41 @@ lookup : (l : List CaptureInterfaceValue) (n : ℕ) → n < length l → (i : Ca
 lookup [] n lt = absurd (omega arith)
 lookup (x ∷ l) zero lt = (x, record { before = []; after = l; parts = refl; number = refl })
 lookup (x ∷ l) (suc n) lt =
-    let found = lookup l n (omega arith) in
-    (found.0, record { before = x ∷ found.1.before; after = found.1.after; parts = ap (λ (m : List CaptureInterfaceValue). x ∷ m) found.1.parts; number = ap suc found.1.number })
+    let found = lookup l n (omega arith) in (
+      found.0,
+      record {
+        before = x ∷ found.1.before;
+        after = found.1.after;
+        parts = ap (λ (m : List CaptureInterfaceValue). x ∷ m) found.1.parts;
+        number = ap suc found.1.number;
+      },
+    )
 
 abbrev Body_of : BlockKind → Order → List CaptureInterfaceValue → List ℕ → Type 0
-Body_of kind order before body = ((p : Option PacketValue) × (after : List CaptureInterfaceValue) × IsBody kind order before body p after) ⊎ ((r : CaptureRefusal) × RefusesBody order before body kind r)
+Body_of kind order before body =
+    ((p : Option PacketValue) × (after : List CaptureInterfaceValue) × IsBody kind order before body p after)
+    ⊎ ((r : CaptureRefusal) × RefusesBody order before body kind r)
 
-described : (order : Order) (body : List ℕ) (i : InterfaceValue) → IsInterface order body i → (i2 : CaptureInterfaceValue) × Describes order body i2
+described : (order : Order) (body : List ℕ) (i : InterfaceValue) → IsInterface order body i
+    → (i2 : CaptureInterfaceValue) × Describes order body i2
 described order body i is =
-    let all = some_options order i.options in
-    (described_by order i all.0, record { interface = i; options = all.0; is_interface = is; has_options = all.1; value = refl })
+    let all = some_options order i.options in (
+      described_by order i all.0,
+      record { interface = i; options = all.0; is_interface = is; has_options = all.1; value = refl },
+    )
 
-some_interface : (order : Order) (before : List CaptureInterfaceValue) (body : List ℕ) → Body_of InterfaceDescription order before body
+some_interface : (order : Order) (before : List CaptureInterfaceValue) (body : List ℕ)
+    → Body_of InterfaceDescription order before body
 some_interface order before body =
     elim (cases_lt (length body) 8) [
-      | inl lt ↦ inr (Body (body_rows.Short 8 (length body)), interface (body_rows.Short 8 (length body)) (body_rows.interface lt))
+      | inl lt ↦ inr
+          (Body (body_rows.Short 8 (length body)), interface (body_rows.Short 8 (length body)) (body_rows.interface lt))
       | inr le ↦
-          let v : InterfaceValue = record { link_type = field order body 0 2; snap_len = field order body 4 8; options = slice_range body 8 (length body) } in
+          let v : InterfaceValue = record {
+            link_type = field order body 0 2;
+            snap_len = field order body 4 8;
+            options = slice_range body 8 (length body);
+          } in
           let d = described order body v (record { len = le; link_type = refl; snap_len = refl; options = refl }) in
           elim (cases_lt (length before) max_interfaces) [
             | inl room ↦ inl (None, before ++ d.0 ∷ [], (d.0, d.1, room, refl, refl))
@@ -209,7 +274,9 @@ some_interface order before body =
     ]
 
 abbrev Simple_of : Order → ℕ → List ℕ → Type 0
-Simple_of order snap body = ((v : SimplePacketValue) × IsSimplePacket order snap body v) ⊎ ((r : BodyRefusal) × RefusesSimplePacket order snap body r)
+Simple_of order snap body =
+    ((v : SimplePacketValue) × IsSimplePacket order snap body v)
+    ⊎ ((r : BodyRefusal) × RefusesSimplePacket order snap body r)
 
 some_simple_value : (order : Order) (snap : ℕ) (body : List ℕ) → Simple_of order snap body
 some_simple_value order snap body =
@@ -224,13 +291,20 @@ some_simple_value order snap body =
               let len : length (slice_range body 4 (4 + n)) ≡ n = length-part body 4 (4 + n) whole ∙ omega arith in
               inl (
                 record { original_len = field order body 0 4; packet = slice_range body 4 (4 + n) },
-                record { original_len = refl; captured_len = sym len; packet = ap (λ (m : ℕ). slice_range body 4 (4 + m)) len; whole = omega (arith, len, whole); room = omega (arith, len, room) },
+                record {
+                  original_len = refl;
+                  captured_len = sym len;
+                  packet = ap (λ (m : ℕ). slice_range body 4 (4 + m)) len;
+                  whole = omega (arith, len, whole);
+                  room = omega (arith, len, room);
+                },
               )
         ]
       ]
     ]
 
-some_simple : (order : Order) (before : List CaptureInterfaceValue) (body : List ℕ) → Body_of SimplePacket order before body
+some_simple : (order : Order) (before : List CaptureInterfaceValue) (body : List ℕ)
+    → Body_of SimplePacket order before body
 some_simple order before body =
     elim (cases_lt 0 (length before)) [
       | inr none ↦ inr (NoInterface 0, simple_alone none)
@@ -243,7 +317,9 @@ some_simple order before body =
     ]
 
 abbrev Enhanced_of : ℕ → Order → List ℕ → Type 0
-Enhanced_of number_len order body = ((v : EnhancedPacketValue) × IsEnhancedPacket number_len order body v) ⊎ ((r : BodyRefusal) × RefusesEnhancedPacket order body r)
+Enhanced_of number_len order body =
+    ((v : EnhancedPacketValue) × IsEnhancedPacket number_len order body v)
+    ⊎ ((r : BodyRefusal) × RefusesEnhancedPacket order body r)
 
 some_enhanced_value : (number_len : ℕ) (order : Order) (body : List ℕ) → Enhanced_of number_len order body
 some_enhanced_value number_len order body =
@@ -264,13 +340,23 @@ some_enhanced_value number_len order body =
                   packet = slice_range body 20 (20 + n);
                   options = drop (20 + padded n) body;
                 },
-                record { interface = refl; time = refl; captured_len = sym len; original_len = refl; packet = ap (λ (m : ℕ). slice_range body 20 (20 + m)) len; options = ap (λ (m : ℕ). drop (20 + padded m) body) len; whole = omega (arith, len, whole); room = omega (arith, len, room) },
+                record {
+                  interface = refl;
+                  time = refl;
+                  captured_len = sym len;
+                  original_len = refl;
+                  packet = ap (λ (m : ℕ). slice_range body 20 (20 + m)) len;
+                  options = ap (λ (m : ℕ). drop (20 + padded m) body) len;
+                  whole = omega (arith, len, whole);
+                  room = omega (arith, len, room);
+                },
               )
         ]
       ]
     ]
 
-some_enhanced : (number_len : ℕ) (order : Order) (before : List CaptureInterfaceValue) (body : List ℕ) → Body_of (EnhancedPacket number_len) order before body
+some_enhanced : (number_len : ℕ) (order : Order) (before : List CaptureInterfaceValue) (body : List ℕ)
+    → Body_of (EnhancedPacket number_len) order before body
 some_enhanced number_len order before body =
     elim (some_enhanced_value number_len order body) [
       | inr r ↦ inr (Body r.0, enhanced number_len r.0 r.1)
@@ -283,7 +369,8 @@ some_enhanced number_len order before body =
       ]
     ]
 
-some_body : (kind : BlockKind) (order : Order) (before : List CaptureInterfaceValue) (body : List ℕ) → Body_of kind order before body
+some_body : (kind : BlockKind) (order : Order) (before : List CaptureInterfaceValue) (body : List ℕ)
+    → Body_of kind order before body
 some_body InterfaceDescription order before body = some_interface order before body
 some_body SimplePacket order before body = some_simple order before body
 some_body (EnhancedPacket n) order before body = some_enhanced n order before body
@@ -292,9 +379,12 @@ some_body Other order before body = inl (None, before, (refl, refl))
 -- ---- units
 
 abbrev Unit_of : Expectation → List ℕ → Type 0
-Unit_of x bytes = ((len : ℕ) × (p : Option PacketValue) × (y : Expectation) × Begins bytes x len p y) ⊎ ((r : CaptureRefusal) × Refuses bytes x r)
+Unit_of x bytes =
+    ((len : ℕ) × (p : Option PacketValue) × (y : Expectation) × Begins bytes x len p y)
+    ⊎ ((r : CaptureRefusal) × Refuses bytes x r)
 
-some_block_unit : (order : Order) (interfaces : List CaptureInterfaceValue) (bytes : List ℕ) → (HasSectionType bytes → ⊥) → Unit_of (Blocks order interfaces) bytes
+some_block_unit : (order : Order) (interfaces : List CaptureInterfaceValue) (bytes : List ℕ)
+    → (HasSectionType bytes → ⊥) → Unit_of (Blocks order interfaces) bytes
 some_block_unit order interfaces bytes other =
     elim (some_block order bytes) [
       | inr r ↦ inr (Block r.0, block_refused order interfaces r.0 other r.1)
@@ -339,9 +429,20 @@ at_end (Records h) (b ∷ bytes) = inr (λ e. let n = e.1 in absurd cc)
 at_end (Blocks order interfaces) [] = inl (λ e. absurd cc, refl)
 at_end (Blocks order interfaces) (b ∷ bytes) = inr (λ e. let n = e.1 in absurd cc)
 
-goes_on : (x y : Expectation) (bytes : List ℕ) (len : ℕ) (p : Option PacketValue) → Begins bytes x len p y → Packets y (drop len bytes) → Packets x bytes
-goes_on x y bytes len None begins c = record { packets = c.packets; rest = c.rest; fault = c.fault; has = unit x y bytes len c.packets c.rest c.fault begins c.has }
-goes_on x y bytes len (Some p) begins c = record { packets = p ∷ c.packets; rest = c.rest; fault = c.fault; has = packet x y bytes len p c.packets c.rest c.fault begins c.has }
+goes_on : (x y : Expectation) (bytes : List ℕ) (len : ℕ) (p : Option PacketValue) → Begins bytes x len p y
+    → Packets y (drop len bytes) → Packets x bytes
+goes_on x y bytes len None begins c = record {
+  packets = c.packets;
+  rest = c.rest;
+  fault = c.fault;
+  has = unit x y bytes len c.packets c.rest c.fault begins c.has;
+}
+goes_on x y bytes len (Some p) begins c = record {
+  packets = p ∷ c.packets;
+  rest = c.rest;
+  fault = c.fault;
+  has = packet x y bytes len p c.packets c.rest c.fault begins c.has;
+}
 
 step : (x : Expectation) (bytes : List ℕ)
     → ((y : Expectation) (len : ℕ) → 0 < len → len ≤ length bytes → Packets y (drop len bytes)) → Packets x bytes
@@ -359,7 +460,9 @@ step x bytes more =
 within : (fuel : ℕ) (x : Expectation) (bytes : List ℕ) → length bytes ≤ fuel → Packets x bytes
 within zero x bytes le = step x bytes (λ y len some small. absurd (omega arith))
 within (suc fuel) x bytes le =
-    step x bytes (λ y len some small. within fuel y (drop len bytes) (let l = length-drop len bytes in omega (arith, l, le, some, small)))
+    step x bytes
+    (λ y len some small.
+    within fuel y (drop len bytes) (let l = length-drop len bytes in omega (arith, l, le, some, small)))
 
 pub some_packets : (x : Expectation) (bytes : List ℕ) → Packets x bytes
 some_packets x bytes = within (length bytes) x bytes (omega arith)

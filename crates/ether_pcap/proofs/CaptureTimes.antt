@@ -18,7 +18,8 @@ below_a_second n u some =
     let r : n % u < u = omega arith in
     (div-lt_iff_lt-mul {k = u} {x = n % u * 1000000000} {y = 1000000000} some).1 (omega (arith, r))
 
-pub same_time : (n u : ℕ) → 0 < u → record { seconds = n / u; nanoseconds = n % u * 1000000000 / u } ≡ time_of (n * 1000000000 / u)
+pub same_time : (n u : ℕ) → 0 < u
+    → record { seconds = n / u; nanoseconds = n % u * 1000000000 / u } ≡ time_of (n * 1000000000 / u)
 same_time n u some =
     let s = split n u some in
     let b = below_a_second n u some in
@@ -43,19 +44,22 @@ below_a_nanosecond n ticks le lt =
     let p : 100000000000000000000000000000 ≤ 10 ^ n = pow-le-pow_right {n = 10} (omega arith) {i = 29} {j = n} le in
     div-eq_of_lt {n = ticks * 1000000000} {m = 10 ^ n} (omega (arith, p, lt))
 
-same_quotient : (n ticks : ℕ) → ticks < 18446744073709551616 → ticks * 1000000000 / 10 ^ min n 29 ≡ ticks * 1000000000 / 10 ^ n
+same_quotient : (n ticks : ℕ) → ticks < 18446744073709551616
+    → ticks * 1000000000 / 10 ^ min n 29 ≡ ticks * 1000000000 / 10 ^ n
 same_quotient n ticks lt =
     elim (cases_lt n 29) [
       | inl small ↦ let e : min n 29 ≡ n = omega arith in ap (λ (k : ℕ). ticks * 1000000000 / 10 ^ k) e
       | inr le ↦
           let e : min n 29 ≡ 29 = omega arith in
-          ap (λ (k : ℕ). ticks * 1000000000 / 10 ^ k) e ∙ below_a_nanosecond 29 ticks (omega arith) lt ∙ sym (below_a_nanosecond n ticks le lt)
+          ap (λ (k : ℕ). ticks * 1000000000 / 10 ^ k) e ∙ below_a_nanosecond 29 ticks (omega arith) lt
+          ∙ sym (below_a_nanosecond n ticks le lt)
     ]
 
 units_of_ten : (n : ℕ) → n < 128 → units_of (Some n) ≡ 10 ^ n
 units_of_ten n lt = ap (λ (b : Bool). if b then 10 ^ n else 2 ^ (n - 128)) (lt-ltb n 128 lt)
 
-pub same_times : (n m ticks : ℕ) → n < 128 → m ≡ min n 29 → ticks < 18446744073709551616 → ticks * 1000000000 / 10 ^ m ≡ ticks * 1000000000 / units_of (Some n)
+pub same_times : (n m ticks : ℕ) → n < 128 → m ≡ min n 29 → ticks < 18446744073709551616
+    → ticks * 1000000000 / 10 ^ m ≡ ticks * 1000000000 / units_of (Some n)
 same_times n m ticks below is lt =
     ap (λ (k : ℕ). ticks * 1000000000 / 10 ^ k) is
     ∙ same_quotient n ticks lt

@@ -32,33 +32,52 @@ section_len bytes ok is =
       | inl lt ↦
           let part = slice_range bytes 0 4 in
           let len : length part ≤ 3 = omega (arith, length-part-is bytes 0 4) in
-          let most : 256 ^ length part ≤ 16777216 = pow-le-pow_right {n = 256} (omega arith) {i = length part} {j = 3} len in
+          let most : 256 ^ length part ≤ 16777216 =
+          pow-le-pow_right {n = 256} (omega arith) {i = length part} {j = 3} len in
           let below : number part < 256 ^ length part = number_below part (IsBytes-part 0 4 bytes ok) in
           absurd (omega (arith, most, below, is))
       | inr le ↦ le
     ]
 
 -- the interface that an interface description describes
-pub describes : (order : Order) (body : List ℕ) (d : InterfaceDescription) (fcs_len resolution : Option ℕ) (offset : ℕ) (options : List OptionValue)
+pub describes : (order : Order) (body : List ℕ) (d : InterfaceDescription) (fcs_len resolution : Option ℕ) (offset : ℕ)
+    (options : List OptionValue)
     → IsInterface order body (interface_view d) → HasOptions order d.options.now options
     → fcs_len ≡ option_map fcs_bytes (byte_of (value_of 13 options)) → resolution ≡ byte_of (value_of 9 options)
     → offset ≡ unwrap_or (number_of order 8 (value_of 14 options)) 0
-    → Describes order body (record { link_type = d.link_type.0; snap_len = d.snap_len; fcs_len = fcs_len; resolution = resolution; offset = offset })
+    → Describes order body
+    (record {
+      link_type = d.link_type.0;
+      snap_len = d.snap_len;
+      fcs_len = fcs_len;
+      resolution = resolution;
+      offset = offset;
+    })
 describes order body d fcs_len resolution offset options is has f r s =
     record {
       interface = interface_view d;
       options = options;
       is_interface = is;
       has_options = has;
-      value = λ i. record { link_type = d.link_type.0; snap_len = d.snap_len; fcs_len = sym f i; resolution = sym r i; offset = sym s i };
+      value =
+          λ i.
+          record {
+            link_type = d.link_type.0;
+            snap_len = d.snap_len;
+            fcs_len = sym f i;
+            resolution = sym r i;
+            offset = sym s i;
+          };
     }
 
 -- the interface at a place
-pub is_at : (interfaces : List CaptureInterface) (n : ℕ) (other : CaptureInterface) → n < length interfaces → IsAt (interfaces_view interfaces) n (capture_interface_view (slice_index_or interfaces n other))
+pub is_at : (interfaces : List CaptureInterface) (n : ℕ) (other : CaptureInterface) → n < length interfaces
+    → IsAt (interfaces_view interfaces) n (capture_interface_view (slice_index_or interfaces n other))
 is_at [] n other lt = absurd (omega arith)
 is_at (x ∷ xs) zero other lt = record { before = []; after = interfaces_view xs; parts = refl; number = refl }
 is_at (x ∷ xs) (suc n) other lt =
-    let at : IsAt (interfaces_view xs) n (capture_interface_view (slice_index_or xs n other)) = is_at xs n other (omega arith) in
+    let at : IsAt (interfaces_view xs) n (capture_interface_view (slice_index_or xs n other)) =
+    is_at xs n other (omega arith) in
     record {
       before = capture_interface_view x ∷ at.before;
       after = at.after;
@@ -67,27 +86,36 @@ is_at (x ∷ xs) (suc n) other lt =
     }
 
 -- a record as a unit
-pub record_unit : (bytes : List ℕ) (h : FileHeaderValue) (r : RecordValue) (len : ℕ) (p : PacketValue) → BeginsRecord h.order bytes r → len ≡ record_len r → p ≡ packet_of_record h r
+pub record_unit : (bytes : List ℕ) (h : FileHeaderValue) (r : RecordValue) (len : ℕ) (p : PacketValue)
+    → BeginsRecord h.order bytes r → len ≡ record_len r → p ≡ packet_of_record h r
     → Begins bytes (Records h) len (Some p) (Records h)
 record_unit bytes h r len p is n e =
     subst (λ (m : ℕ). Begins bytes (Records h) m (Some p) (Records h)) (sym n)
-    (subst (λ (q : PacketValue). Begins bytes (Records h) (record_len r) (Some q) (Records h)) (sym e) (file_record h r is))
+    (subst (λ (q : PacketValue). Begins bytes (Records h) (record_len r) (Some q) (Records h)) (sym e)
+    (file_record h r is))
 
 -- ---- what is expected, by what a reader has read
 
-pub section_unit : (p : Progress) (interfaces : List CaptureInterface) (bytes : List ℕ) (order : Order) (b : BlockValue) (len : ℕ) → ((h : FileHeader) → p ≡ progress.Classic h → ⊥)
-    → IsSection bytes order b → len ≡ 12 + length b.body → Begins bytes (expectation_of p interfaces) len None (Blocks order [])
+pub section_unit : (p : Progress) (interfaces : List CaptureInterface) (bytes : List ℕ) (order : Order) (b : BlockValue)
+    (len : ℕ)
+    → ((h : FileHeader) → p ≡ progress.Classic h → ⊥)
+    → IsSection bytes order b → len ≡ 12 + length b.body
+    → Begins bytes (expectation_of p interfaces) len None (Blocks order [])
 section_unit progress.Nothing interfaces bytes order b len none is e = rw e (first_section order b is)
 section_unit (progress.Classic h) interfaces bytes order b len none is e = absurd (none h refl)
-section_unit (progress.Section old) interfaces bytes order b len none is e = rw e (section (order_of old) order (interfaces_view interfaces) b is)
+section_unit (progress.Section old) interfaces bytes order b len none is e =
+    rw e (section (order_of old) order (interfaces_view interfaces) b is)
 
-pub section_not_read : (p : Progress) (interfaces : List CaptureInterface) (bytes : List ℕ) (r : SectionRefusal) → ((h : FileHeader) → p ≡ progress.Classic h → ⊥)
+pub section_not_read : (p : Progress) (interfaces : List CaptureInterface) (bytes : List ℕ) (r : SectionRefusal)
+    → ((h : FileHeader) → p ≡ progress.Classic h → ⊥)
     → HasSectionType bytes → RefusesSection bytes r → Refuses bytes (expectation_of p interfaces) (Section r)
 section_not_read progress.Nothing interfaces bytes r none has is = first_section_refused r has is
 section_not_read (progress.Classic h) interfaces bytes r none has is = absurd (none h refl)
-section_not_read (progress.Section old) interfaces bytes r none has is = section_refused (order_of old) (interfaces_view interfaces) r has is
+section_not_read (progress.Section old) interfaces bytes r none has is =
+    section_refused (order_of old) (interfaces_view interfaces) r has is
 
-pub nothing_read : (p : Progress) (interfaces : List CaptureInterface) → ((h : FileHeader) → p ≡ progress.Classic h → ⊥) → ((o : ByteOrder) → p ≡ progress.Section o → ⊥) → expectation_of p interfaces ≡ Beginning
+pub nothing_read : (p : Progress) (interfaces : List CaptureInterface) → ((h : FileHeader) → p ≡ progress.Classic h → ⊥)
+    → ((o : ByteOrder) → p ≡ progress.Section o → ⊥) → expectation_of p interfaces ≡ Beginning
 nothing_read progress.Nothing interfaces classic pcapng = refl
 nothing_read (progress.Classic h) interfaces classic pcapng = absurd (classic h refl)
 nothing_read (progress.Section o) interfaces classic pcapng = absurd (pcapng o refl)

@@ -6,7 +6,8 @@ use Rattle.ether_base.proofs.SubLists.{length-part}
 use Rattle.ether_pcap.specs.Numbers.{Order, field}
 use Rattle.ether_pcap.specs.Options.{OptionValue, BeginsOption, HasOptions, padded, value_of}
 
-pub option_one : (order : Order) (bytes : List ℕ) (o p : OptionValue) → BeginsOption order bytes o → BeginsOption order bytes p → o ≡ p
+pub option_one : (order : Order) (bytes : List ℕ) (o p : OptionValue) → BeginsOption order bytes o
+    → BeginsOption order bytes p → o ≡ p
 option_one order bytes o p h k =
     let n : length o.value ≡ length p.value = sym h.len ∙ k.len in
     let a : o.code ≡ p.code = sym h.code ∙ k.code in
@@ -15,88 +16,119 @@ option_one order bytes o p h k =
 
 -- no option of fewer than four bytes, with code 0, or with more bytes than there are
 
-pub none_of_few : (order : Order) (bytes : List ℕ) → length bytes < 4 → (o : OptionValue) → BeginsOption order bytes o → ⊥
+pub none_of_few : (order : Order) (bytes : List ℕ) → length bytes < 4 → (o : OptionValue) → BeginsOption order bytes o
+    → ⊥
 none_of_few order bytes lt o h = omega (arith, lt, h.whole)
 
-pub none_at_end : (order : Order) (bytes : List ℕ) → field order bytes 0 2 ≡ 0 → (o : OptionValue) → BeginsOption order bytes o → ⊥
+pub none_at_end : (order : Order) (bytes : List ℕ) → field order bytes 0 2 ≡ 0 → (o : OptionValue)
+    → BeginsOption order bytes o → ⊥
 none_at_end order bytes e o h = h.no_end (sym h.code ∙ e)
 
-pub none_cut : (order : Order) (bytes : List ℕ) → length bytes < 4 + field order bytes 2 4 → (o : OptionValue) → BeginsOption order bytes o → ⊥
+pub none_cut : (order : Order) (bytes : List ℕ) → length bytes < 4 + field order bytes 2 4 → (o : OptionValue)
+    → BeginsOption order bytes o → ⊥
 none_cut order bytes lt o h = omega (arith, lt, h.len, h.whole)
 
 -- ---- what a reader knows: the first option with a code is among those that are left
 
 abbrev pub Agrees : Order → ℕ → (whole rest : List ℕ) → Type 0
 Agrees order code whole rest =
-    (options : List OptionValue) → HasOptions order whole options → (left : List OptionValue) × HasOptions order rest left × (value_of code options ≡ value_of code left)
+    (options : List OptionValue) → HasOptions order whole options
+    → (left : List OptionValue) × HasOptions order rest left × (value_of code options ≡ value_of code left)
 
 pub agrees_start : (order : Order) (code : ℕ) (whole : List ℕ) → Agrees order code whole whole
 agrees_start order code whole options has = (options, has, refl)
 
-skipped : (order : Order) (code : ℕ) (rest : List ℕ) (o : OptionValue) (found : Option (List ℕ)) (left : List OptionValue) → BeginsOption order rest o → o.code ≢ code → HasOptions order rest left → found ≡ value_of code left
-    → (others : List OptionValue) × HasOptions order (drop (4 + padded (length o.value)) rest) others × (found ≡ value_of code others)
+skipped : (order : Order) (code : ℕ) (rest : List ℕ) (o : OptionValue) (found : Option (List ℕ))
+    (left : List OptionValue)
+    → BeginsOption order rest o → o.code ≢ code → HasOptions order rest left → found ≡ value_of code left
+    → (others : List OptionValue) × HasOptions order (drop (4 + padded (length o.value)) rest) others
+    × (found ≡ value_of code others)
 skipped order code rest o found [] h other has e = absurd (has o h)
 skipped order code rest o found (p ∷ left) h other has e =
     let s = option_one order rest p o has.0 h in
-    let t : HasOptions order (drop (4 + padded (length o.value)) rest) left = subst (λ (v : OptionValue). HasOptions order (drop (4 + padded (length v.value)) rest) left) s has.1 in
-    let n : nat_eq p.code code ≡ false = ne_eqb p.code code (λ q. other (ap (λ (v : OptionValue). v.code) (sym s) ∙ q)) in
+    let t : HasOptions order (drop (4 + padded (length o.value)) rest) left =
+    subst (λ (v : OptionValue). HasOptions order (drop (4 + padded (length v.value)) rest) left) s has.1 in
+    let n : nat_eq p.code code ≡ false =
+    ne_eqb p.code code (λ q. other (ap (λ (v : OptionValue). v.code) (sym s) ∙ q)) in
     (left, t, e ∙ ap (λ (b : Bool). if b then Some p.value else value_of code left) n)
 
-pub agrees_next : (order : Order) (code : ℕ) (whole rest : List ℕ) (o : OptionValue) → Agrees order code whole rest → BeginsOption order rest o → o.code ≢ code → Agrees order code whole (drop (4 + padded (length o.value)) rest)
+pub agrees_next : (order : Order) (code : ℕ) (whole rest : List ℕ) (o : OptionValue) → Agrees order code whole rest
+    → BeginsOption order rest o → o.code ≢ code → Agrees order code whole (drop (4 + padded (length o.value)) rest)
 agrees_next order code whole rest o agrees h other options has =
     let a = agrees options has in
     skipped order code rest o (value_of code options) a.0 h other a.1 a.2
 
-found_first : (order : Order) (code : ℕ) (rest : List ℕ) (o : OptionValue) (found : Option (List ℕ)) (left : List OptionValue) → BeginsOption order rest o → o.code ≡ code → HasOptions order rest left → found ≡ value_of code left → found ≡ Some o.value
+found_first : (order : Order) (code : ℕ) (rest : List ℕ) (o : OptionValue) (found : Option (List ℕ))
+    (left : List OptionValue)
+    → BeginsOption order rest o → o.code ≡ code → HasOptions order rest left → found ≡ value_of code left
+    → found ≡ Some o.value
 found_first order code rest o found [] h is has e = absurd (has o h)
 found_first order code rest o found (p ∷ left) h is has e =
     let s = option_one order rest p o has.0 h in
     let n : nat_eq p.code code ≡ true = eq-eqb p.code code (ap (λ (v : OptionValue). v.code) s ∙ is) in
     e ∙ ap (λ (b : Bool). if b then Some p.value else value_of code left) n ∙ ap (λ (v : OptionValue). Some v.value) s
 
-pub agrees_found : (order : Order) (code : ℕ) (whole rest : List ℕ) (o : OptionValue) → Agrees order code whole rest → BeginsOption order rest o → o.code ≡ code → (options : List OptionValue) → HasOptions order whole options → value_of code options ≡ Some o.value
+pub agrees_found : (order : Order) (code : ℕ) (whole rest : List ℕ) (o : OptionValue) → Agrees order code whole rest
+    → BeginsOption order rest o → o.code ≡ code → (options : List OptionValue) → HasOptions order whole options
+    → value_of code options ≡ Some o.value
 agrees_found order code whole rest o agrees h is options has =
     let a = agrees options has in
     found_first order code rest o (value_of code options) a.0 h is a.1 a.2
 
-none_left : (order : Order) (code : ℕ) (rest : List ℕ) (found : Option (List ℕ)) (left : List OptionValue) → ((o : OptionValue) → BeginsOption order rest o → ⊥) → HasOptions order rest left → found ≡ value_of code left → found ≡ None
+none_left : (order : Order) (code : ℕ) (rest : List ℕ) (found : Option (List ℕ)) (left : List OptionValue)
+    → ((o : OptionValue) → BeginsOption order rest o → ⊥) → HasOptions order rest left → found ≡ value_of code left
+    → found ≡ None
 none_left order code rest found [] none has e = e
 none_left order code rest found (p ∷ left) none has e = absurd (none p has.0)
 
-pub agrees_end : (order : Order) (code : ℕ) (whole rest : List ℕ) → Agrees order code whole rest → ((o : OptionValue) → BeginsOption order rest o → ⊥) → (options : List OptionValue) → HasOptions order whole options → value_of code options ≡ None
+pub agrees_end : (order : Order) (code : ℕ) (whole rest : List ℕ) → Agrees order code whole rest
+    → ((o : OptionValue) → BeginsOption order rest o → ⊥) → (options : List OptionValue)
+    → HasOptions order whole options → value_of code options ≡ None
 agrees_end order code whole rest agrees none options has =
     let a = agrees options has in
     none_left order code rest (value_of code options) a.0 none a.1 a.2
 
-pub smaller : (order : Order) (rest : List ℕ) (o : OptionValue) → BeginsOption order rest o → length (drop (4 + padded (length o.value)) rest) < length rest
+pub smaller : (order : Order) (rest : List ℕ) (o : OptionValue) → BeginsOption order rest o
+    → length (drop (4 + padded (length o.value)) rest) < length rest
 smaller order rest o h = let l = length-drop (4 + padded (length o.value)) rest in omega (arith, l, h.whole)
 
 -- ---- there is one list
 
-pub same_options : (order : Order) (bytes : List ℕ) (options others : List OptionValue) → HasOptions order bytes options → HasOptions order bytes others → options ≡ others
+pub same_options : (order : Order) (bytes : List ℕ) (options others : List OptionValue) → HasOptions order bytes options
+    → HasOptions order bytes others → options ≡ others
 same_options order bytes [] [] h k = refl
 same_options order bytes [] (p ∷ others) h k = absurd (h p k.0)
 same_options order bytes (o ∷ options) [] h k = absurd (k o h.0)
 same_options order bytes (o ∷ options) (p ∷ others) h k =
     let e = option_one order bytes o p h.0 k.0 in
-    let m : HasOptions order (drop (4 + padded (length o.value)) bytes) others = subst (λ (v : OptionValue). HasOptions order (drop (4 + padded (length v.value)) bytes) others) (sym e) k.1 in
+    let m : HasOptions order (drop (4 + padded (length o.value)) bytes) others =
+    subst (λ (v : OptionValue). HasOptions order (drop (4 + padded (length v.value)) bytes) others) (sym e) k.1 in
     let p = same_options order (drop (4 + padded (length o.value)) bytes) options others h.1 m in
     λ i. e i ∷ p i
 
 option_of : Order → List ℕ → OptionValue
 option_of order bytes = record { code = field order bytes 0 2; value = slice_range bytes 4 (4 + field order bytes 2 4) }
 
-begins : (order : Order) (bytes : List ℕ) → field order bytes 0 2 ≢ 0 → 4 + field order bytes 2 4 ≤ length bytes → BeginsOption order bytes (option_of order bytes)
+begins : (order : Order) (bytes : List ℕ) → field order bytes 0 2 ≢ 0 → 4 + field order bytes 2 4 ≤ length bytes
+    → BeginsOption order bytes (option_of order bytes)
 unfolding option_of
 begins order bytes some whole =
     let n = field order bytes 2 4 in
     let len : length (slice_range bytes 4 (4 + n)) ≡ n = length-part bytes 4 (4 + n) whole ∙ omega arith in
-    record { code = refl; no_end = some; len = sym len; value = ap (λ (m : ℕ). slice_range bytes 4 (4 + m)) len; whole = omega (arith, len, whole) }
+    record {
+      code = refl;
+      no_end = some;
+      len = sym len;
+      value = ap (λ (m : ℕ). slice_range bytes 4 (4 + m)) len;
+      whole = omega (arith, len, whole);
+    }
 
 abbrev Some_of : Order → List ℕ → Type 0
 Some_of order bytes = (options : List OptionValue) × HasOptions order bytes options
 
-step : (order : Order) (bytes : List ℕ) → ((o : OptionValue) → BeginsOption order bytes o → Some_of order (drop (4 + padded (length o.value)) bytes)) → Some_of order bytes
+step : (order : Order) (bytes : List ℕ)
+    → ((o : OptionValue) → BeginsOption order bytes o → Some_of order (drop (4 + padded (length o.value)) bytes))
+    → Some_of order bytes
 step order bytes more =
     elim (cases_lt (length bytes) 4) [
       | inl lt ↦ ([], none_of_few order bytes lt)
@@ -104,7 +136,9 @@ step order bytes more =
         | inl e ↦ ([], none_at_end order bytes e)
         | inr some ↦ elim (cases_lt (length bytes) (4 + field order bytes 2 4)) [
           | inl lt ↦ ([], none_cut order bytes lt)
-          | inr whole ↦ let h = begins order bytes some whole in let m = more (option_of order bytes) h in (option_of order bytes ∷ m.0, (h, m.1))
+          | inr whole ↦ let h =
+              begins order bytes some whole in let m =
+              more (option_of order bytes) h in (option_of order bytes ∷ m.0, (h, m.1))
         ]
       ]
     ]
@@ -112,7 +146,10 @@ step order bytes more =
 within : (fuel : ℕ) (order : Order) (bytes : List ℕ) → length bytes ≤ fuel → Some_of order bytes
 within zero order bytes le = ([], none_of_few order bytes (omega arith))
 within (suc fuel) order bytes le =
-    step order bytes (λ o h. within fuel order (drop (4 + padded (length o.value)) bytes) (let l = smaller order bytes o h in omega (arith, l, le)))
+    step order bytes
+    (λ o h.
+    within fuel order (drop (4 + padded (length o.value)) bytes)
+    (let l = smaller order bytes o h in omega (arith, l, le)))
 
 pub some_options : (order : Order) (bytes : List ℕ) → Some_of order bytes
 some_options order bytes = within (length bytes) order bytes (omega arith)

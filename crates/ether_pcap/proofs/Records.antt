@@ -12,7 +12,8 @@ use Rattle.ether_pcap.specs.Reading.{State, Gives, GivesNext}
 use Rattle.ether_pcap.specs.declared.pcap_record.PcapRecord.{PcapRecord}
 use Rattle.ether_pcap.specs.declared.record_fault.RecordFault.{RecordFault}
 
-pub record_one : (order : Order) (bytes : List ℕ) (r s : RecordValue) → BeginsRecord order bytes r → BeginsRecord order bytes s → r ≡ s
+pub record_one : (order : Order) (bytes : List ℕ) (r s : RecordValue) → BeginsRecord order bytes r
+    → BeginsRecord order bytes s → r ≡ s
 record_one order bytes r s h k =
     let n : length r.packet ≡ length s.packet = sym h.captured_len ∙ k.captured_len in
     let a : r.seconds ≡ s.seconds = sym h.seconds ∙ k.seconds in
@@ -21,12 +22,14 @@ record_one order bytes r s h k =
     let p : r.packet ≡ s.packet = sym h.packet ∙ ap (λ (m : ℕ). slice_range bytes 16 (16 + m)) n ∙ k.packet in
     λ i. record { seconds = a i; fraction = b i; original_len = c i; packet = p i }
 
-pub record_apart : (order : Order) (bytes : List ℕ) (r : RecordValue) (e : RecordRefusal) → BeginsRecord order bytes r → RefusesRecord order bytes e → ⊥
+pub record_apart : (order : Order) (bytes : List ℕ) (r : RecordValue) (e : RecordRefusal) → BeginsRecord order bytes r
+    → RefusesRecord order bytes e → ⊥
 record_apart order bytes r e h (header lt) = omega (arith, h.whole, lt)
 record_apart order bytes r e h (too_long le lt) = omega (arith, h.room, h.captured_len, lt)
 record_apart order bytes r e h (packet le small lt) = omega (arith, h.whole, h.captured_len, lt)
 
-pub refusal_one : (order : Order) (bytes : List ℕ) (e f : RecordRefusal) → RefusesRecord order bytes e → RefusesRecord order bytes f → e ≡ f
+pub refusal_one : (order : Order) (bytes : List ℕ) (e f : RecordRefusal) → RefusesRecord order bytes e
+    → RefusesRecord order bytes f → e ≡ f
 refusal_one order bytes e f (header lt) (header m) = refl
 refusal_one order bytes e f (header lt) (too_long le m) = absurd (omega (arith, lt, le))
 refusal_one order bytes e f (header lt) (packet le small m) = absurd (omega (arith, lt, le))
@@ -42,28 +45,46 @@ refusal_one order bytes e f (packet le small lt) (packet le2 small2 m) = refl
 not_empty : (order : Order) (bytes : List ℕ) (r : RecordValue) → BeginsRecord order bytes r → bytes ≢ []
 not_empty order bytes r h e = let l : length bytes ≡ 0 = ap length e in omega (arith, h.whole, l)
 
-next_record : (order : Order) (s : State) (p : PcapRecord) (records : List RecordValue) (rest : List ℕ) (fault : Option RecordRefusal) → BeginsRecord order s.rest (record_view p) → HasRecords order s.rest records rest fault
-    → GivesNext records fault s (Some (Ok p)) (record s { rest = drop (record_len (record_view p)) s.rest; offset = s.offset + record_len (record_view p) })
+next_record : (order : Order) (s : State) (p : PcapRecord) (records : List RecordValue) (rest : List ℕ)
+    (fault : Option RecordRefusal)
+    → BeginsRecord order s.rest (record_view p) → HasRecords order s.rest records rest fault
+    → GivesNext records fault s (Some (Ok p))
+    (record s { rest = drop (record_len (record_view p)) s.rest; offset = s.offset + record_len (record_view p) })
 next_record order s p [] rest None h has = absurd (not_empty order s.rest (record_view p) h has.0)
 next_record order s p [] rest (Some refusal) h has = absurd (record_apart order s.rest (record_view p) refusal h has.2)
 next_record order s p (r ∷ records) rest fault h has =
-    let e = record_one order s.rest (record_view p) r h has.0 in
-    (p, refl, e, ap (λ (v : RecordValue). let t : State = record s { rest = drop (record_len v) s.rest; offset = s.offset + record_len v } in t) e)
+    let e = record_one order s.rest (record_view p) r h has.0 in (
+      p,
+      refl,
+      e,
+      ap
+          (λ (v : RecordValue). let t : State =
+          record s { rest = drop (record_len v) s.rest; offset = s.offset + record_len v } in t)
+          e,
+    )
 
-pub gives_record : (s : State) (p : PcapRecord) → s.over ≡ false → BeginsRecord (order_of s.header.byte_order) s.rest (record_view p)
-    → Gives s (Some (Ok p)) (record s { rest = drop (record_len (record_view p)) s.rest; offset = s.offset + record_len (record_view p) })
+pub gives_record : (s : State) (p : PcapRecord) → s.over ≡ false
+    → BeginsRecord (order_of s.header.byte_order) s.rest (record_view p)
+    → Gives s (Some (Ok p))
+    (record s { rest = drop (record_len (record_view p)) s.rest; offset = s.offset + record_len (record_view p) })
 gives_record s p more h = record {
   over = λ o. absurd cc;
   next = λ o records rest fault has. next_record (order_of s.header.byte_order) s p records rest fault h has;
 }
 
-next_fault : (order : Order) (s : State) (f : RecordFault) (records : List RecordValue) (rest : List ℕ) (fault : Option RecordRefusal) → s.rest ≢ [] → f.offset ≡ s.offset → RefusesRecord order s.rest (record_refusal_view f.error) → HasRecords order s.rest records rest fault
+next_fault : (order : Order) (s : State) (f : RecordFault) (records : List RecordValue) (rest : List ℕ)
+    (fault : Option RecordRefusal)
+    → s.rest ≢ [] → f.offset ≡ s.offset → RefusesRecord order s.rest (record_refusal_view f.error)
+    → HasRecords order s.rest records rest fault
     → GivesNext records fault s (Some (Err f)) (record s { over = true })
 next_fault order s f [] rest None some at h has = absurd (some has.0)
-next_fault order s f [] rest (Some refusal) some at h has = (f, refl, at, refusal_one order s.rest (record_refusal_view f.error) refusal h has.2, refl)
-next_fault order s f (r ∷ records) rest fault some at h has = absurd (record_apart order s.rest r (record_refusal_view f.error) has.0 h)
+next_fault order s f [] rest (Some refusal) some at h has =
+    (f, refl, at, refusal_one order s.rest (record_refusal_view f.error) refusal h has.2, refl)
+next_fault order s f (r ∷ records) rest fault some at h has =
+    absurd (record_apart order s.rest r (record_refusal_view f.error) has.0 h)
 
-pub gives_fault : (s : State) (f : RecordFault) → s.over ≡ false → s.rest ≢ [] → f.offset ≡ s.offset → RefusesRecord (order_of s.header.byte_order) s.rest (record_refusal_view f.error)
+pub gives_fault : (s : State) (f : RecordFault) → s.over ≡ false → s.rest ≢ [] → f.offset ≡ s.offset
+    → RefusesRecord (order_of s.header.byte_order) s.rest (record_refusal_view f.error)
     → Gives s (Some (Err f)) (record s { over = true })
 gives_fault s f more some at h = record {
   over = λ o. absurd cc;
@@ -81,7 +102,8 @@ record_of order bytes = record {
   packet = slice_range bytes 16 (16 + field order bytes 8 12);
 }
 
-begins : (order : Order) (bytes : List ℕ) → field order bytes 8 12 ≤ max_captured_len → 16 + field order bytes 8 12 ≤ length bytes → BeginsRecord order bytes (record_of order bytes)
+begins : (order : Order) (bytes : List ℕ) → field order bytes 8 12 ≤ max_captured_len
+    → 16 + field order bytes 8 12 ≤ length bytes → BeginsRecord order bytes (record_of order bytes)
 unfolding record_of
 begins order bytes room whole =
     let n = field order bytes 8 12 in
@@ -96,16 +118,20 @@ begins order bytes room whole =
       room = omega (arith, len, room);
     }
 
-goes_on : (order : Order) (bytes : List ℕ) (r : RecordValue) → BeginsRecord order bytes r → Contents order (drop (record_len r) bytes) → Contents order bytes
+goes_on : (order : Order) (bytes : List ℕ) (r : RecordValue) → BeginsRecord order bytes r
+    → Contents order (drop (record_len r) bytes) → Contents order bytes
 goes_on order bytes r h c = record { records = r ∷ c.records; rest = c.rest; fault = c.fault; has = (h, c.has) }
 
-stops : (order : Order) (bytes : List ℕ) (e : RecordRefusal) → bytes ≢ [] → RefusesRecord order bytes e → Contents order bytes
+stops : (order : Order) (bytes : List ℕ) (e : RecordRefusal) → bytes ≢ [] → RefusesRecord order bytes e
+    → Contents order bytes
 stops order bytes e some h = record { records = []; rest = bytes; fault = Some e; has = (some, refl, h) }
 
 none : (order : Order) → Contents order []
 none order = record { records = []; rest = []; fault = None; has = (refl, refl) }
 
-step : (order : Order) (bytes : List ℕ) → bytes ≢ [] → ((r : RecordValue) → BeginsRecord order bytes r → Contents order (drop (record_len r) bytes)) → Contents order bytes
+step : (order : Order) (bytes : List ℕ) → bytes ≢ []
+    → ((r : RecordValue) → BeginsRecord order bytes r → Contents order (drop (record_len r) bytes))
+    → Contents order bytes
 step order bytes some more =
     let n = field order bytes 8 12 in
     elim (cases_lt (length bytes) 16) [
@@ -114,7 +140,9 @@ step order bytes some more =
         | inl lt ↦ stops order bytes (TooLong n) some (too_long le lt)
         | inr room ↦ elim (cases_lt (length bytes) (16 + n)) [
           | inl lt ↦ stops order bytes (Short (16 + n) (length bytes)) some (packet le room lt)
-          | inr whole ↦ let h = begins order bytes room whole in goes_on order bytes (record_of order bytes) h (more (record_of order bytes) h)
+          | inr whole ↦ let h =
+              begins order bytes room whole in goes_on order bytes (record_of order bytes) h
+              (more (record_of order bytes) h)
         ]
       ]
     ]
@@ -123,28 +151,36 @@ within : (fuel : ℕ) (order : Order) (bytes : List ℕ) → length bytes ≤ fu
 within fuel order [] le = none order
 within zero order (b ∷ bytes) le = absurd (omega arith)
 within (suc fuel) order (b ∷ bytes) le =
-    step order (b ∷ bytes) (λ e. absurd cc) (λ r h. within fuel order (drop (record_len r) (b ∷ bytes)) (let l = length-drop (record_len r) (b ∷ bytes) in omega (arith, l, le, h.whole)))
+    step order (b ∷ bytes) (λ e. absurd cc)
+    (λ r h.
+    within fuel order (drop (record_len r) (b ∷ bytes))
+    (let l = length-drop (record_len r) (b ∷ bytes) in omega (arith, l, le, h.whole)))
 
 pub some_contents : (order : Order) (bytes : List ℕ) → Contents order bytes
 some_contents order bytes = within (length bytes) order bytes (omega arith)
 
-same : (order : Order) (bytes : List ℕ) (records others : List RecordValue) (rest left : List ℕ) (fault other : Option RecordRefusal) → HasRecords order bytes records rest fault → HasRecords order bytes others left other
+same : (order : Order) (bytes : List ℕ) (records others : List RecordValue) (rest left : List ℕ)
+    (fault other : Option RecordRefusal)
+    → HasRecords order bytes records rest fault → HasRecords order bytes others left other
     → (records ≡ others) × (rest ≡ left) × (fault ≡ other)
 same order bytes [] [] rest left None None h k = (refl, h.1 ∙ sym k.1, refl)
 same order bytes [] [] rest left None (Some f) h k = absurd (k.0 h.0)
 same order bytes [] [] rest left (Some e) None h k = absurd (h.0 k.0)
-same order bytes [] [] rest left (Some e) (Some f) h k = (refl, h.1 ∙ sym k.1, ap Some (refusal_one order bytes e f h.2 k.2))
+same order bytes [] [] rest left (Some e) (Some f) h k =
+    (refl, h.1 ∙ sym k.1, ap Some (refusal_one order bytes e f h.2 k.2))
 same order bytes [] (s ∷ others) rest left None other h k = absurd (not_empty order bytes s k.0 h.0)
 same order bytes [] (s ∷ others) rest left (Some e) other h k = absurd (record_apart order bytes s e k.0 h.2)
 same order bytes (r ∷ records) [] rest left fault None h k = absurd (not_empty order bytes r h.0 k.0)
 same order bytes (r ∷ records) [] rest left fault (Some f) h k = absurd (record_apart order bytes r f h.0 k.2)
 same order bytes (r ∷ records) (s ∷ others) rest left fault other h k =
     let e = record_one order bytes r s h.0 k.0 in
-    let m : HasRecords order (drop (record_len r) bytes) others left other = subst (λ (v : RecordValue). HasRecords order (drop (record_len v) bytes) others left other) (sym e) k.1 in
+    let m : HasRecords order (drop (record_len r) bytes) others left other =
+    subst (λ (v : RecordValue). HasRecords order (drop (record_len v) bytes) others left other) (sym e) k.1 in
     let t = same order (drop (record_len r) bytes) records others rest left fault other h.1 m in
     (let p = t.0 in λ i. e i ∷ p i, t.1, t.2)
 
-pub one_contents : (order : Order) (bytes : List ℕ) (c d : Contents order bytes) → (c.records ≡ d.records) × (c.rest ≡ d.rest) × (c.fault ≡ d.fault)
+pub one_contents : (order : Order) (bytes : List ℕ) (c d : Contents order bytes)
+    → (c.records ≡ d.records) × (c.rest ≡ d.rest) × (c.fault ≡ d.fault)
 one_contents order bytes c d = same order bytes c.records d.records c.rest d.rest c.fault d.fault c.has d.has
 
 -- ---- lists

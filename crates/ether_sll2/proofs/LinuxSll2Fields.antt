@@ -36,7 +36,8 @@ one_value bytes v w h k =
 
 -- ---- reading
 
-pub linux_sll2_begins : (bytes : List ℕ) → IsBytes bytes → 20 ≤ length bytes → BeginsLinuxSll2 bytes (linux_sll2_of bytes)
+pub linux_sll2_begins : (bytes : List ℕ) → IsBytes bytes → 20 ≤ length bytes
+    → BeginsLinuxSll2 bytes (linux_sll2_of bytes)
 linux_sll2_begins bytes ok le =
     let a = number-part_join bytes 0 12 20 (omega arith) (omega arith) le in
     let b = number-part_join bytes 0 11 12 (omega arith) (omega arith) (omega arith) in
@@ -74,7 +75,8 @@ linux_sll2_whole bytes ok len =
     subst (λ (l : List ℕ). IsLinuxSll2 l (linux_sll2_of bytes)) (part_all bytes 20 (omega arith)) h.spells
 
 -- what follows the header changes no field
-pub linux_sll2_of_front : (bytes : List ℕ) (n : ℕ) → 20 ≤ n → linux_sll2_of (slice_range bytes 0 n) ≡ linux_sll2_of bytes
+pub linux_sll2_of_front : (bytes : List ℕ) (n : ℕ) → 20 ≤ n
+    → linux_sll2_of (slice_range bytes 0 n) ≡ linux_sll2_of bytes
 linux_sll2_of_front bytes n le =
     let p = ap number (part_of_front bytes n 0 2 (omega arith) (omega arith)) in
     let x = ap number (part_of_front bytes n 4 8 (omega arith) (omega arith)) in

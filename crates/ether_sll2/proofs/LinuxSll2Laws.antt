@@ -24,7 +24,8 @@ row_one bytes _ _ (packet_type t h above) (short m) = absurd (omega (arith, m, h
 row_one bytes _ _ (packet_type t h above) (packet_type u k more) =
     ap (λ (v : LinuxSll2Value). PacketType v.packet_type) (one_value (slice_range bytes 0 20) t u h.spells k.spells)
 
-decided : (bytes : List ℕ) → IsBytes bytes → ((r : LinuxSll2Refusal) × RefusesLinuxSll2 bytes r) ⊎ AcceptsLinuxSll2 bytes
+decided : (bytes : List ℕ) → IsBytes bytes
+    → ((r : LinuxSll2Refusal) × RefusesLinuxSll2 bytes r) ⊎ AcceptsLinuxSll2 bytes
 decided bytes ok =
     elim (cases_lt (length bytes) 20) [
       | inl lt ↦ inl (Short 20 (length bytes), short lt)

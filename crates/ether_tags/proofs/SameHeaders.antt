@@ -26,11 +26,26 @@ types_same _ _ e = absurd cc
 pub vlan_headers_same : (h k : SingleVlanHeader) → vlan_view h ≡ vlan_view k → h ≡ k
 vlan_headers_same h k e =
     let dei = bits_same h.drop_eligible_indicator k.drop_eligible_indicator (ap (λ (v : VlanValue). v.dei) e) in
-    λ i. record { pcp = (e i).pcp; drop_eligible_indicator = dei i; vlan_id = (e i).vid; ether_type = record { 0 = (e i).ether_type } }
+    λ i.
+    record {
+      pcp = (e i).pcp;
+      drop_eligible_indicator = dei i;
+      vlan_id = (e i).vid;
+      ether_type = record { 0 = (e i).ether_type };
+    }
 
 pub macsec_headers_same : (h k : MacsecHeader) → sec_tag_view h ≡ sec_tag_view k → h ≡ k
 macsec_headers_same h k e =
     let ptype = types_same h.ptype k.ptype (ap (λ (t : SecTagValue). t.payload_type) e) in
     let es = bits_same h.endstation_id k.endstation_id (ap (λ (t : SecTagValue). t.end_station) e) in
     let scb = bits_same h.scb k.scb (ap (λ (t : SecTagValue). t.single_copy_broadcast) e) in
-    λ i. record { ptype = ptype i; endstation_id = es i; scb = scb i; an = (e i).association_number; short_len = (e i).short_len; packet_nr = (e i).packet_number; sci = (e i).sci }
+    λ i.
+    record {
+      ptype = ptype i;
+      endstation_id = es i;
+      scb = scb i;
+      an = (e i).association_number;
+      short_len = (e i).short_len;
+      packet_nr = (e i).packet_number;
+      sci = (e i).sci;
+    }

@@ -52,14 +52,41 @@ headers_Decides a b =
     let scb = both _ _ (booleans_Decides a.scb b.scb) an in
     let endstation_id = both _ _ (booleans_Decides a.endstation_id b.endstation_id) scb in
     let all = both _ _ (ptypes_Decides a.ptype b.ptype) endstation_id in (
-      λ same. let e = all.0 same in λ i. record { ptype = e.0 i; endstation_id = e.1.0 i; scb = e.1.1.0 i; an = e.1.1.1.0 i; short_len = e.1.1.1.1.0 i; packet_nr = e.1.1.1.1.1.0 i; sci = e.1.1.1.1.1.1 i },
-      λ e. all.1 (ap (λ (h : MacsecHeader). h.ptype) e, (ap (λ (h : MacsecHeader). h.endstation_id) e, (ap (λ (h : MacsecHeader). h.scb) e, (ap (λ (h : MacsecHeader). h.an) e, (ap (λ (h : MacsecHeader). h.short_len) e, (ap (λ (h : MacsecHeader). h.packet_nr) e, ap (λ (h : MacsecHeader). h.sci) e)))))),
+      λ same. let e =
+          all.0 same
+          in λ i. record {
+            ptype = e.0 i;
+            endstation_id = e.1.0 i;
+            scb = e.1.1.0 i;
+            an = e.1.1.1.0 i;
+            short_len = e.1.1.1.1.0 i;
+            packet_nr = e.1.1.1.1.1.0 i;
+            sci = e.1.1.1.1.1.1 i;
+          },
+      λ e.
+          all.1 (
+            ap (λ (h : MacsecHeader). h.ptype) e,
+            (
+              ap (λ (h : MacsecHeader). h.endstation_id) e,
+              (
+                ap (λ (h : MacsecHeader). h.scb) e,
+                (
+                  ap (λ (h : MacsecHeader). h.an) e,
+                  (
+                    ap (λ (h : MacsecHeader). h.short_len) e,
+                    (ap (λ (h : MacsecHeader). h.packet_nr) e, ap (λ (h : MacsecHeader). h.sci) e),
+                  ),
+                ),
+              ),
+            ),
+          ),
     )
 
 pub ext_headers_Decides : (a b : LinkExtHeader) → Decides ((ext_header.ghosts).eq a b) (a ≡ b)
 ext_headers_Decides (exts.Vlan h) b = (search rules, search rules)
 ext_headers_Decides (exts.Macsec h) (exts.Vlan k) = (search rules, search rules)
-ext_headers_Decides (exts.Macsec h) (exts.Macsec k) = let d = headers_Decides h k in (λ same. ap exts.Macsec (d.0 same), λ e. d.1 cc)
+ext_headers_Decides (exts.Macsec h) (exts.Macsec k) =
+    let d = headers_Decides h k in (λ same. ap exts.Macsec (d.0 same), λ e. d.1 cc)
 
 -- ---- views
 
@@ -68,7 +95,8 @@ payloads_Decides (kept.Unmodified p) b = (search rules, search rules)
 payloads_Decides (kept.Modified p) b = (search rules, search rules)
 
 pub slices_Decides : (a b : MacsecSlice) → Decides ((slice.ghosts).eq a b) (SameTagged a b)
-slices_Decides a b = both _ _ (bytes_eq-Decides a.header.slice.now b.header.slice.now) (payloads_Decides a.payload b.payload)
+slices_Decides a b =
+    both _ _ (bytes_eq-Decides a.header.slice.now b.header.slice.now) (payloads_Decides a.payload b.payload)
 
 pub ext_slices_Decides : (a b : LinkExtSlice) → Decides ((ext_slice.ghosts).eq a b) (SameExt a b)
 ext_slices_Decides (views.Vlan s) (views.Vlan t) = bytes_eq-Decides s t

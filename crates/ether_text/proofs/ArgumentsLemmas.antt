@@ -14,13 +14,15 @@ none_left it none = same_nil (into_iter_items it) (sym it.rest.ok.0 ∙ none)
     same_nil (x ∷ l) is = absurd (omega (arith, is))
 
 -- the words are those after the program's name
-pub words_after-name : {A : Type 0} (args others : IntoIter (String A) A) (name : Option (String A)) → into_iter_steps args name others
+pub words_after-name : {A : Type 0} (args others : IntoIter (String A) A) (name : Option (String A))
+    → into_iter_steps args name others
     → words_after (into_iter_items args) ≡ map string_bytes (into_iter_items others)
 words_after-name args others None ended =
     ap words_after (none_left args ended.0) ∙ ap (map string_bytes) (sym (none_left others ended.1))
 words_after-name args others (Some name) next = ap words_after next.0
 
 -- no word is left
-pub words_end : {A : Type 0} (args others : IntoIter (String A) A) (word : Option (String A)) → into_iter_steps args word others → is_some word ≡ false → into_iter_items args ≡ []
+pub words_end : {A : Type 0} (args others : IntoIter (String A) A) (word : Option (String A))
+    → into_iter_steps args word others → is_some word ≡ false → into_iter_items args ≡ []
 words_end args others None ended none = none_left args ended.0
 words_end args others (Some word) next none = absurd (cc)

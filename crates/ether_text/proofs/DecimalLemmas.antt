@@ -59,7 +59,8 @@ hundreds n long fits =
 
 pub of_three : (n a : ℕ) → 100 ≤ n → n < 1000 → a ≡ 48 + n / 100 → a ∷ two_digits (n % 100) ≡ decimal n
 of_three n a most few e =
-    ap (λ (l : List ℕ). l ++ two_digits (n % 100)) (one_digit (n / 100) a (omega arith) e) ∙ hundreds n most (omega arith)
+    ap (λ (l : List ℕ). l ++ two_digits (n % 100)) (one_digit (n / 100) a (omega arith) e)
+    ∙ hundreds n most (omega arith)
 
 pub of_four : (n : ℕ) → 1000 ≤ n → n < 10000 → two_digits (n / 100) ++ two_digits (n % 100) ≡ decimal n
 of_four n most few =
@@ -81,7 +82,8 @@ myriads n long fits =
 -- four digits twice
 pub of_eight : (n : ℕ) → let high = n / 10000 % 10000 in let low = n % 10000 in
     (48 + high / 100 / 10) ∷ (48 + high / 100 % 10) ∷ (48 + high % 100 / 10) ∷ (48 + high % 100 % 10)
-    ∷ (48 + low / 100 / 10) ∷ (48 + low / 100 % 10) ∷ (48 + low % 100 / 10) ∷ (48 + low % 100 % 10) ∷ [] ≡ eight_digits n
+    ∷ (48 + low / 100 / 10) ∷ (48 + low / 100 % 10) ∷ (48 + low % 100 / 10) ∷ (48 + low % 100 % 10) ∷ []
+    ≡ eight_digits n
 unfolding eight_digits
 of_eight n =
     let a : n / 10000 % 10000 / 100 / 10 ≡ n / 10 ^ 7 % 10 = omega arith in

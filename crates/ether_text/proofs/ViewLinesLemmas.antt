@@ -12,9 +12,14 @@ use Rattle.ether_text.specs.ViewLines.{ethernet2_view_text, fcs_text, fields_tex
 -- the pieces that are written, one after the other
 abbrev pub ethernet2_pieces : ℕ → Ethernet2Value → List ℕ → List ℕ
 ethernet2_pieces start e last =
-    codes "ethernet2 " ++ (decimal start ++ (codes " " ++ (hex_text (spelled 6 e.destination) ++ (codes " " ++ (hex_text (spelled 6 e.source) ++ (codes " " ++ last))))))
+    codes "ethernet2 "
+    ++ (decimal start
+    ++ (codes " "
+    ++ (hex_text (spelled 6 e.destination)
+    ++ (codes " " ++ (hex_text (spelled 6 e.source) ++ (codes " " ++ last))))))
 
-pub ethernet2_view_text-pieces : (start : ℕ) (e : Ethernet2Value) (fcs : Option (List ℕ)) → ethernet2_pieces start e (hex_number e.ether_type ++ fcs_text fcs) ≡ ethernet2_view_text start e fcs
+pub ethernet2_view_text-pieces : (start : ℕ) (e : Ethernet2Value) (fcs : Option (List ℕ))
+    → ethernet2_pieces start e (hex_number e.ether_type ++ fcs_text fcs) ≡ ethernet2_view_text start e fcs
 unfolding ethernet2_text ethernet2_fcs_text
 ethernet2_view_text-pieces start e None = ap (ethernet2_pieces start e) (append-nil (hex_number e.ether_type))
 ethernet2_view_text-pieces start e (Some fcs) = refl

@@ -35,7 +35,8 @@ use Rattle.ether_text.proofs.OutputBufferLemmas.{Takes-none, Takes-then}
 
 -- the last four bytes of a window
 fcs_shown : (list : List ℕ) (w : Window) → IsIn list w → Accepts w.bound (within list w) kinds.Ethernet2Fcs
-    → slice_range (within list w) (length (within list w) - 4) (length (within list w)) ≡ slice_range list (w.finish - 4) w.finish
+    → slice_range (within list w) (length (within list w) - 4) (length (within list w))
+    ≡ slice_range list (w.finish - 4) w.finish
 fcs_shown list w inside accepted =
     let n = length (within list w) in
     let ordered = inside.ordered in
@@ -43,10 +44,14 @@ fcs_shown list w inside accepted =
     let long : 18 ≤ n = elim (cases_lt n 18) [ inl lt ↦ absurd (accepted _ (rows.ethernet2_fcs lt)) | inr le ↦ le ] in
     let from : w.start + (n - 4) ≡ w.finish - 4 = omega arith in
     let to : w.start + n ≡ w.finish = omega arith in
-    part_of_part list w.start w.finish (n - 4) n (omega arith) (omega arith) ∙ ap (λ (k : ℕ). slice_range list k (w.start + n)) from ∙ ap (slice_range list (w.finish - 4)) to
+    part_of_part list w.start w.finish (n - 4) n (omega arith) (omega arith)
+    ∙ ap (λ (k : ℕ). slice_range list k (w.start + n)) from ∙ ap (slice_range list (w.finish - 4)) to
 
-view_text-unit : (at : ℕ) (list : List ℕ) (x : Expectation) (w : Window) (h : Header) (u : PeelUnit) (rest : List ℕ) (closed : Bool) → IsBytes list → IsIn list w → IsUnit list x w h → IsIn list (payload w h)
-    → rest ≡ within list (payload w h) → closed ≡ (payload w h).closed → ShowsUnit (within list w) rest h u → view_text (at + w.start) (length rest) closed u ≡ unit_text at list w h
+view_text-unit : (at : ℕ) (list : List ℕ) (x : Expectation) (w : Window) (h : Header) (u : PeelUnit) (rest : List ℕ)
+    (closed : Bool)
+    → IsBytes list → IsIn list w → IsUnit list x w h → IsIn list (payload w h)
+    → rest ≡ within list (payload w h) → closed ≡ (payload w h).closed → ShowsUnit (within list w) rest h u
+    → view_text (at + w.start) (length rest) closed u ≡ unit_text at list w h
 unfolding unit_text
 view_text-unit at list x w (headers.Ethernet2 e) u rest closed ok inside unit after left mark shows =
     let bytes = within list w in
@@ -56,7 +61,12 @@ view_text-unit at list x w (headers.Ethernet2Fcs e) u rest closed ok inside unit
     let bytes = within list w in
     let plain : Means bytes (headers.Ethernet2 e) = record { whole = unit.means.whole; spells = unit.means.spells } in
     let is = ethernet2_shown bytes e (IsBytes-part w.start w.finish list ok) plain in
-    ap (view_text (at + w.start) (length rest) closed) shows ∙ ap (λ (v : Ethernet2Value). ethernet2_fcs_text (at + w.start) v (slice_range bytes (length bytes - 4) (length bytes))) is ∙ ap (ethernet2_fcs_text (at + w.start) e) (fcs_shown list w inside unit.accepted)
+    ap (view_text (at + w.start) (length rest) closed) shows
+    ∙ ap
+    (λ (v : Ethernet2Value).
+    ethernet2_fcs_text (at + w.start) v (slice_range bytes (length bytes - 4) (length bytes)))
+    is
+    ∙ ap (ethernet2_fcs_text (at + w.start) e) (fcs_shown list w inside unit.accepted)
 view_text-unit at list x w (headers.LinuxSll s) u rest closed ok inside unit after left mark shows =
     let is = linux_sll_shown (within list w) s (IsBytes-part w.start w.finish list ok) unit.means in
     ap (view_text (at + w.start) (length rest) closed) shows ∙ ap (linux_sll_text (at + w.start)) is
@@ -66,9 +76,14 @@ view_text-unit at list x w (headers.Vlan v) u rest closed ok inside unit after l
 view_text-unit at list x w (headers.Macsec t) u rest closed ok inside unit after left mark shows =
     let inner = payload w (headers.Macsec t) in
     let (m, is_view, view) = shows in
-    let is = ap sec_tag_of view.header ∙ macsec_shown (within list w) t (IsBytes-part w.start w.finish list ok) unit.means in
-    let len : length rest ≡ inner.finish - inner.start = ap length left ∙ length-part list inner.start inner.finish after.inside in
-    ap (view_text (at + w.start) (length rest) closed) is_view ∙ ap (λ (v : SecTagValue). macsec_text (at + w.start) v (length rest) closed) is ∙ ap (λ (n : ℕ). macsec_text (at + w.start) t n closed) len ∙ ap (macsec_text (at + w.start) t (inner.finish - inner.start)) mark
+    let is =
+    ap sec_tag_of view.header ∙ macsec_shown (within list w) t (IsBytes-part w.start w.finish list ok) unit.means in
+    let len : length rest ≡ inner.finish - inner.start =
+    ap length left ∙ length-part list inner.start inner.finish after.inside in
+    ap (view_text (at + w.start) (length rest) closed) is_view
+    ∙ ap (λ (v : SecTagValue). macsec_text (at + w.start) v (length rest) closed) is
+    ∙ ap (λ (n : ℕ). macsec_text (at + w.start) t n closed) len
+    ∙ ap (macsec_text (at + w.start) t (inner.finish - inner.start)) mark
 view_text-unit at list x w (headers.Arp a) u rest closed ok inside unit after left mark shows =
     let is = arp_shown (within list w) a (IsBytes-part w.start w.finish list ok) unit.means in
     ap (view_text (at + w.start) (length rest) closed) shows ∙ ap (arp_text (at + w.start)) is
@@ -77,7 +92,8 @@ view_text-unit at list x w (headers.Arp a) u rest closed ok inside unit after le
 abbrev pub fault_after : ℕ → PeelFault → PeelFault
 fault_after at f = record f { offset = at + f.offset }
 
-pub fault_view_text-fault : (at : ℕ) (w : Window) (r : Refusal) → fault_view_text (fault_after at (fault_in w r)) ≡ fault_text at w r
+pub fault_view_text-fault : (at : ℕ) (w : Window) (r : Refusal)
+    → fault_view_text (fault_after at (fault_in w r)) ≡ fault_text at w r
 unfolding fault_view_text fault_text
 fault_view_text-fault at w (Length required len source layer) = refl
 fault_view_text-fault at w (UnsupportedPacketType n) = refl
@@ -93,15 +109,23 @@ kind_view_text-kind (Sll protocol) = refl
 kind_view_text-kind Sealed = refl
 kind_view_text-kind AfterArp = refl
 
-rest_view_text-rest : (at : ℕ) (w : Window) (x : Expectation) (start end : ℕ) (k : RestKind) → start ≡ at + w.start → end ≡ at + w.finish → k ≡ kind_shown x → rest_view_text start end k ≡ rest_text at w x
+rest_view_text-rest : (at : ℕ) (w : Window) (x : Expectation) (start end : ℕ) (k : RestKind) → start ≡ at + w.start
+    → end ≡ at + w.finish → k ≡ kind_shown x → rest_view_text start end k ≡ rest_text at w x
 unfolding rest_view_text rest_text
 rest_view_text-rest at w x start end k from to shows =
     let kind = ap kind_view_text shows ∙ kind_view_text-kind x.next in
-    ap (λ (n : ℕ). rest_view_text n end k) from ∙ ap (λ (n : ℕ). rest_view_text (at + w.start) n k) to ∙ ap (λ (t : List ℕ). codes "rest" ++ (codes " " ++ (decimal (at + w.start) ++ (codes " " ++ (decimal (at + w.finish) ++ (codes " " ++ t)))))) kind
+    ap (λ (n : ℕ). rest_view_text n end k) from ∙ ap (λ (n : ℕ). rest_view_text (at + w.start) n k) to
+    ∙ ap
+    (λ (t : List ℕ).
+    codes "rest"
+    ++ (codes " "
+    ++ (decimal (at + w.start) ++ (codes " " ++ (decimal (at + w.finish) ++ (codes " " ++ t))))))
+    kind
 
 -- ---- the lines so far, and those that are left
 
-pub record WritesWalk {W : Type 0} (contents : W → Option (List ℕ)) (can_fail : Type 0) (at : ℕ) (x : Expectation) (frame : List ℕ) (s : State) (old new : OutputBuffer W) : Type 0 where
+pub record WritesWalk {W : Type 0} (contents : W → Option (List ℕ)) (can_fail : Type 0) (at : ℕ) (x : Expectation)
+    (frame : List ℕ) (s : State) (old new : OutputBuffer W) : Type 0 where
   pub all : List Header
   pub ending : Ending
   pub walk : Walk x frame all ending
@@ -114,7 +138,9 @@ pub record WritesWalk {W : Type 0} (contents : W → Option (List ℕ)) (can_fai
   pub parts : frame_text at frame (whole x frame) all ending ≡ text ++ frame_text at frame window left ending
 
 module _ {W : Type 0} (contents : W → Option (List ℕ)) (can_fail : Type 0) where
-  pub walk_starts : (at : ℕ) (x : Expectation) (frame : List ℕ) (s : State) (out : OutputBuffer W) (all : List Header) (ending : Ending) → Walk x frame all ending → Faces frame (whole x frame) s all ending → s.over ≡ false
+  pub walk_starts : (at : ℕ) (x : Expectation) (frame : List ℕ) (s : State) (out : OutputBuffer W) (all : List Header)
+      (ending : Ending)
+      → Walk x frame all ending → Faces frame (whole x frame) s all ending → s.over ≡ false
       → WritesWalk contents can_fail at x frame s out out
   walk_starts at x frame s out all ending walk faces going = record {
     all = all;
@@ -130,18 +156,24 @@ module _ {W : Type 0} (contents : W → Option (List ℕ)) (can_fail : Type 0) w
   }
 
   -- a unit's line
-  pub walk_unit : (at : ℕ) (x : Expectation) (frame : List ℕ) (s t : State) (old mid new : OutputBuffer W) (u : PeelUnit) → IsBytes frame → WritesWalk contents can_fail at x frame s old mid → Gives s (Some (Ok u)) t
-      → Takes contents can_fail mid (view_text (at + s.offset) (length t.rest) t.closed u ++ codes "\n") new → WritesWalk contents can_fail at x frame t old new
+  pub walk_unit : (at : ℕ) (x : Expectation) (frame : List ℕ) (s t : State) (old mid new : OutputBuffer W)
+      (u : PeelUnit)
+      → IsBytes frame → WritesWalk contents can_fail at x frame s old mid → Gives s (Some (Ok u)) t
+      → Takes contents can_fail mid (view_text (at + s.offset) (length t.rest) t.closed u ++ codes "\n") new
+      → WritesWalk contents can_fail at x frame t old new
   unfolding frame_text
   walk_unit at x frame s t old mid new u ok a gives line =
-      let n = unit_next frame a.window a.left a.ending s t u (gives.next a.going frame a.window a.left a.ending a.faces) in
+      let n =
+      unit_next frame a.window a.left a.ending s t u (gives.next a.going frame a.window a.left a.ending a.faces) in
       let h = n.header in
       let hs = n.later in
       let faces = subst (λ (l : List Header). Faces frame a.window s l a.ending) n.parts a.faces in
       let shows = subst (λ (l : List ℕ). ShowsUnit l t.rest h u) faces.rest n.shows in
       let after = n.faces in
       let is : view_text (at + s.offset) (length t.rest) t.closed u ≡ unit_text at frame a.window h =
-      ap (λ (k : ℕ). view_text (at + k) (length t.rest) t.closed u) faces.offset ∙ view_text-unit at frame s.expected a.window h u t.rest t.closed ok faces.inside faces.stack.0 after.inside after.rest after.closed shows in
+      ap (λ (k : ℕ). view_text (at + k) (length t.rest) t.closed u) faces.offset
+      ∙ view_text-unit at frame s.expected a.window h u t.rest t.closed ok faces.inside faces.stack.0
+      after.inside after.rest after.closed shows in
       let written = unit_text at frame a.window h ++ codes "\n" in
       record {
         all = a.all;
@@ -153,11 +185,17 @@ module _ {W : Type 0} (contents : W → Option (List ℕ)) (can_fail : Type 0) w
         going = n.going;
         text = a.text ++ written;
         taken = Takes-then a.taken (subst (λ (l : List ℕ). Takes contents can_fail mid (l ++ codes "\n") new) is line);
-        parts = a.parts ∙ ap (λ (l : List Header). a.text ++ frame_text at frame a.window l a.ending) n.parts ∙ sym (append_assoc a.text written (frame_text at frame (payload a.window h) hs a.ending));
+        parts =
+            a.parts ∙ ap (λ (l : List Header). a.text ++ frame_text at frame a.window l a.ending) n.parts
+            ∙ sym (append_assoc a.text written (frame_text at frame (payload a.window h) hs a.ending));
       }
 
-  answered : (at : ℕ) (x : Expectation) (frame : List ℕ) (s : State) (old mid new : OutputBuffer W) (accepted : Bool) (last : List ℕ) → (a : WritesWalk contents can_fail at x frame s old mid) → a.left ≡ [] → last ≡ ending_text at a.ending → accepted ≡ is_accepted a.ending
-      → Takes contents can_fail mid (last ++ codes "\n") new → TakesAnswer contents can_fail (AnswersWalkAfter at x frame) old new accepted
+  answered : (at : ℕ) (x : Expectation) (frame : List ℕ) (s : State) (old mid new : OutputBuffer W) (accepted : Bool)
+      (last : List ℕ)
+      → (a : WritesWalk contents can_fail at x frame s old mid) → a.left ≡ [] → last ≡ ending_text at a.ending
+      → accepted ≡ is_accepted a.ending
+      → Takes contents can_fail mid (last ++ codes "\n") new
+      → TakesAnswer contents can_fail (AnswersWalkAfter at x frame) old new accepted
   unfolding frame_text
   answered at x frame s old mid new accepted last a none is verdict line = record {
     text = a.text ++ (last ++ codes "\n");
@@ -165,41 +203,64 @@ module _ {W : Type 0} (contents : W → Option (List ℕ)) (can_fail : Type 0) w
       headers = a.all;
       ending = a.ending;
       walk = a.walk;
-      lines = ap (λ (l : List ℕ). a.text ++ (l ++ codes "\n")) is ∙ sym (a.parts ∙ ap (λ (l : List Header). a.text ++ frame_text at frame a.window l a.ending) none);
+      lines =
+          ap (λ (l : List ℕ). a.text ++ (l ++ codes "\n")) is
+          ∙ sym (a.parts ∙ ap (λ (l : List Header). a.text ++ frame_text at frame a.window l a.ending) none);
       verdict = verdict;
     };
     taken = Takes-then a.taken line;
   }
 
   -- the line of a fault
-  pub walk_fault : (at : ℕ) (x : Expectation) (frame : List ℕ) (s t : State) (old mid new : OutputBuffer W) (f : PeelFault) → WritesWalk contents can_fail at x frame s old mid → Gives s (Some (Err f)) t
-      → Takes contents can_fail mid (fault_view_text (fault_after at f) ++ codes "\n") new → TakesAnswer contents can_fail (AnswersWalkAfter at x frame) old new false
+  pub walk_fault : (at : ℕ) (x : Expectation) (frame : List ℕ) (s t : State) (old mid new : OutputBuffer W)
+      (f : PeelFault)
+      → WritesWalk contents can_fail at x frame s old mid → Gives s (Some (Err f)) t
+      → Takes contents can_fail mid (fault_view_text (fault_after at f) ++ codes "\n") new
+      → TakesAnswer contents can_fail (AnswersWalkAfter at x frame) old new false
   unfolding ending_text
   walk_fault at x frame s t old mid new f a gives line =
-      let n = fault_next frame a.window a.left a.ending s t f (gives.next a.going frame a.window a.left a.ending a.faces) in
+      let n =
+      fault_next frame a.window a.left a.ending s t f (gives.next a.going frame a.window a.left a.ending a.faces) in
       let v = n.window in
       let y = n.expected in
       let q = n.refusal in
-      let stack = (subst (λ (e : Ending). Faces frame a.window s [] e) n.ending (subst (λ (l : List Header). Faces frame a.window s l a.ending) n.none_left a.faces)).stack in
-      let is : fault_view_text (fault_after at f) ≡ ending_text at a.ending = ap (λ (g : PeelFault). fault_view_text (fault_after at g)) n.fault ∙ fault_view_text-fault at a.window q ∙ ap (λ (w : Window). fault_text at w q) (sym stack.0) ∙ ap (ending_text at) (sym n.ending) in
-      answered at x frame s old mid new false (fault_view_text (fault_after at f)) a n.none_left is (ap is_accepted (sym n.ending)) line
+      let stack =
+      (subst (λ (e : Ending). Faces frame a.window s [] e) n.ending
+      (subst (λ (l : List Header). Faces frame a.window s l a.ending) n.none_left a.faces)).stack in
+      let is : fault_view_text (fault_after at f) ≡ ending_text at a.ending =
+      ap (λ (g : PeelFault). fault_view_text (fault_after at g)) n.fault ∙ fault_view_text-fault at a.window q
+      ∙ ap (λ (w : Window). fault_text at w q) (sym stack.0) ∙ ap (ending_text at) (sym n.ending) in
+      answered at x frame s old mid new false (fault_view_text (fault_after at f)) a n.none_left is
+      (ap is_accepted (sym n.ending)) line
 
   -- the line of what is left
-  pub walk_rest : (at : ℕ) (x : Expectation) (frame : List ℕ) (s t : State) (old mid new : OutputBuffer W) (end : ℕ) (k : RestKind) → WritesWalk contents can_fail at x frame s old mid → Gives s None t
-      → end ≡ at + (s.offset + length t.rest) → k ≡ kind_shown t.expected → Takes contents can_fail mid (rest_view_text (at + s.offset) end k ++ codes "\n") new → TakesAnswer contents can_fail (AnswersWalkAfter at x frame) old new true
+  pub walk_rest : (at : ℕ) (x : Expectation) (frame : List ℕ) (s t : State) (old mid new : OutputBuffer W) (end : ℕ)
+      (k : RestKind)
+      → WritesWalk contents can_fail at x frame s old mid → Gives s None t
+      → end ≡ at + (s.offset + length t.rest) → k ≡ kind_shown t.expected
+      → Takes contents can_fail mid (rest_view_text (at + s.offset) end k ++ codes "\n") new
+      → TakesAnswer contents can_fail (AnswersWalkAfter at x frame) old new true
   unfolding ending_text
   walk_rest at x frame s t old mid new end k a gives to kind line =
-      let n = none_next frame a.window a.left a.ending s t (gives.next a.going frame a.window a.left a.ending a.faces) in
+      let n =
+      none_next frame a.window a.left a.ending s t (gives.next a.going frame a.window a.left a.ending a.faces) in
       let v = n.window in
       let y = n.expected in
-      let faces = subst (λ (e : Ending). Faces frame a.window s [] e) n.ending (subst (λ (l : List Header). Faces frame a.window s l a.ending) n.none_left a.faces) in
+      let faces =
+      subst (λ (e : Ending). Faces frame a.window s [] e) n.ending
+      (subst (λ (l : List Header). Faces frame a.window s l a.ending) n.none_left a.faces) in
       let same : t ≡ s = n.state in
       let ordered = faces.inside.ordered in
-      let len : length s.rest ≡ a.window.finish - a.window.start = ap length faces.rest ∙ length-part frame a.window.start a.window.finish faces.inside.inside in
+      let len : length s.rest ≡ a.window.finish - a.window.start =
+      ap length faces.rest ∙ length-part frame a.window.start a.window.finish faces.inside.inside in
       let place = faces.offset in
       let from : at + s.offset ≡ at + a.window.start = ap (λ (n : ℕ). at + n) place in
-      let until : end ≡ at + a.window.finish = to ∙ ap (λ (u : State). at + (s.offset + length u.rest)) same ∙ omega (arith, place, len, ordered) in
+      let until : end ≡ at + a.window.finish =
+      to ∙ ap (λ (u : State). at + (s.offset + length u.rest)) same ∙ omega (arith, place, len, ordered) in
       let shown : k ≡ kind_shown s.expected = kind ∙ ap (λ (u : State). kind_shown u.expected) same in
       let is : rest_view_text (at + s.offset) end k ≡ ending_text at a.ending =
-      rest_view_text-rest at a.window s.expected (at + s.offset) end k from until shown ∙ ap (λ (w : Window). rest_text at w s.expected) (sym faces.stack.0) ∙ ap (rest_text at v) (sym faces.stack.1) ∙ ap (ending_text at) (sym n.ending) in
-      answered at x frame s old mid new true (rest_view_text (at + s.offset) end k) a n.none_left is (ap is_accepted (sym n.ending)) line
+      rest_view_text-rest at a.window s.expected (at + s.offset) end k from until shown
+      ∙ ap (λ (w : Window). rest_text at w s.expected) (sym faces.stack.0)
+      ∙ ap (rest_text at v) (sym faces.stack.1) ∙ ap (ending_text at) (sym n.ending) in
+      answered at x frame s old mid new true (rest_view_text (at + s.offset) end k) a n.none_left is
+      (ap is_accepted (sym n.ending)) line

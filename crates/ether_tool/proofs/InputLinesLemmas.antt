@@ -11,12 +11,14 @@ use Rattle.std.proofs.Math.Seq.{take-append_seam, take-append-add}
 use Rattle.ether_tool.specs.Run.{HasNoLineFeed}
 use Rattle.ether_tool.specs.LineLoop.{SplitsAtLineFeed}
 
-parts_cons : (x : List ℕ) (parts : List (List ℕ)) → 0 < length parts → lines_of_parts (x ∷ parts) ≡ strip_carriage_return x ∷ lines_of_parts parts
+parts_cons : (x : List ℕ) (parts : List (List ℕ)) → 0 < length parts
+    → lines_of_parts (x ∷ parts) ≡ strip_carriage_return x ∷ lines_of_parts parts
 parts_cons x [] some = absurd (omega arith)
 parts_cons x (y ∷ more) some = refl
 
 -- a line that an LF ends, and the lines after it
-pub lines-line : (line rest : List ℕ) → HasNoLineFeed line → lines (line ++ 10 ∷ rest) ≡ strip_carriage_return line ∷ lines rest
+pub lines-line : (line rest : List ℕ) → HasNoLineFeed line
+    → lines (line ++ 10 ∷ rest) ≡ strip_carriage_return line ∷ lines rest
 lines-line line rest none =
     let some = length-slice_split (λ b. b == 10) rest in
     ap lines_of_parts (slice_split_at (λ b. b == 10) line 10 rest none refl)
@@ -52,33 +54,45 @@ not_true false h = refl
 
 none_is_found : (xs : List ℕ) → list_any (λ (byte : ℕ). byte == 10) xs ≡ false → HasNoLineFeed xs
 none_is_found xs none k d lt =
-    not_true (slice_index_or xs k d == 10) (λ is. let found : true ≡ false = sym (list_any_at (λ (byte : ℕ). byte == 10) xs k d lt is) ∙ none in absurd (cc))
+    not_true (slice_index_or xs k d == 10)
+    (λ is. let found : true ≡ false =
+    sym (list_any_at (λ (byte : ℕ). byte == 10) xs k d lt is) ∙ none in absurd (cc))
 
 take_further : (xs : List ℕ) (i n : ℕ) → i ≤ length xs → take (i + n) xs ≡ take i xs ++ take n (drop i xs)
 take_further xs i n within =
-    ap (λ (k : ℕ). take (k + n) xs) (sym (length-take-le i xs within)) ∙ ap (take (length (take i xs) + n)) (sym (take-append-drop i xs)) ∙ take-append-add (take i xs) (drop i xs) n
+    ap (λ (k : ℕ). take (k + n) xs) (sym (length-take-le i xs within))
+    ∙ ap (take (length (take i xs) + n)) (sym (take-append-drop i xs)) ∙ take-append-add (take i xs) (drop i xs) n
 
 -- one block more without an LF
-pub block_skipped : (xs : List ℕ) (i n : ℕ) → i ≤ length xs → HasNoLineFeed (take i xs) → list_any (λ (byte : ℕ). byte == 10) (take n (drop i xs)) ≡ false → HasNoLineFeed (take (i + n) xs)
+pub block_skipped : (xs : List ℕ) (i n : ℕ) → i ≤ length xs → HasNoLineFeed (take i xs)
+    → list_any (λ (byte : ℕ). byte == 10) (take n (drop i xs)) ≡ false → HasNoLineFeed (take (i + n) xs)
 block_skipped xs i n within none found =
-    subst HasNoLineFeed (sym (take_further xs i n within)) (HasNoLineFeed-append (take i xs) (take n (drop i xs)) none (none_is_found (take n (drop i xs)) found))
+    subst HasNoLineFeed (sym (take_further xs i n within))
+    (HasNoLineFeed-append (take i xs) (take n (drop i xs)) none (none_is_found (take n (drop i xs)) found))
 
 all_the_rest : (xs : List ℕ) (i : ℕ) → take (length xs - i) (drop i xs) ≡ drop i xs
 all_the_rest xs i = take_all (length xs - i) (drop i xs) (let n = length-drop i xs in omega (arith, n))
 
 -- the first LF after the blocks is the first of all
-pub SplitsAtLineFeed-skipped : (xs : List ℕ) (i : ℕ) (piece after : List ℕ) → i ≤ length xs → HasNoLineFeed (take i xs) → SplitsAtLineFeed (take (length xs - i) (drop i xs)) piece after
+pub SplitsAtLineFeed-skipped : (xs : List ℕ) (i : ℕ) (piece after : List ℕ) → i ≤ length xs → HasNoLineFeed (take i xs)
+    → SplitsAtLineFeed (take (length xs - i) (drop i xs)) piece after
     → SplitsAtLineFeed xs (take (i + length piece) xs) after
 SplitsAtLineFeed-skipped xs i piece after within none splits =
     let parts : drop i xs ≡ piece ++ 10 ∷ after = sym (all_the_rest xs i) ∙ splits.parts in
-    let rest : take (length piece) (drop i xs) ≡ piece = ap (take (length piece)) parts ∙ take-append_seam piece (10 ∷ after) in
-    let front : take (i + length piece) xs ≡ take i xs ++ piece = take_further xs i (length piece) within ∙ ap (λ (l : List ℕ). take i xs ++ l) rest in
+    let rest : take (length piece) (drop i xs) ≡ piece =
+    ap (take (length piece)) parts ∙ take-append_seam piece (10 ∷ after) in
+    let front : take (i + length piece) xs ≡ take i xs ++ piece =
+    take_further xs i (length piece) within ∙ ap (λ (l : List ℕ). take i xs ++ l) rest in
     subst (λ (l : List ℕ). SplitsAtLineFeed xs l after) (sym front) (record {
       in_line = HasNoLineFeed-append (take i xs) piece none splits.in_line;
-      parts = sym (take-append-drop i xs) ∙ ap (λ (l : List ℕ). take i xs ++ l) parts ∙ sym (append_assoc (take i xs) piece (10 ∷ after));
+      parts =
+          sym (take-append-drop i xs) ∙ ap (λ (l : List ℕ). take i xs ++ l) parts
+          ∙ sym (append_assoc (take i xs) piece (10 ∷ after));
     })
 
 -- no LF in the blocks and none after them
-pub HasNoLineFeed-skipped : (xs : List ℕ) (i : ℕ) → HasNoLineFeed (take i xs) → HasNoLineFeed (take (length xs - i) (drop i xs)) → HasNoLineFeed xs
+pub HasNoLineFeed-skipped : (xs : List ℕ) (i : ℕ) → HasNoLineFeed (take i xs)
+    → HasNoLineFeed (take (length xs - i) (drop i xs)) → HasNoLineFeed xs
 HasNoLineFeed-skipped xs i none rest =
-    subst HasNoLineFeed (ap (λ (l : List ℕ). take i xs ++ l) (all_the_rest xs i) ∙ take-append-drop i xs) (HasNoLineFeed-append (take i xs) (take (length xs - i) (drop i xs)) none rest)
+    subst HasNoLineFeed (ap (λ (l : List ℕ). take i xs ++ l) (all_the_rest xs i) ∙ take-append-drop i xs)
+    (HasNoLineFeed-append (take i xs) (take (length xs - i) (drop i xs)) none rest)

@@ -12,24 +12,31 @@ pub NamesMode-none : (words : List (Bor (List ℕ))) → length words < 1 → Na
 NamesMode-none [] few = no_word
 NamesMode-none (word ∷ words) few = absurd (omega arith)
 
-pub NamesMode-word : (words : List (Bor (List ℕ))) (default : Bor (List ℕ)) (text : List ℕ) (mode : Mode) → 1 ≤ length words → length words < 2
-    → (slice_index_or words 0 default).now ≡ text → NamesMode (text ∷ []) mode → NamesMode (map (λ word. word.now) words) mode
+pub NamesMode-word : (words : List (Bor (List ℕ))) (default : Bor (List ℕ)) (text : List ℕ) (mode : Mode)
+    → 1 ≤ length words → length words < 2
+    → (slice_index_or words 0 default).now ≡ text → NamesMode (text ∷ []) mode
+    → NamesMode (map (λ word. word.now) words) mode
 NamesMode-word [] default text mode some few is names = absurd (omega arith)
-NamesMode-word (word ∷ []) default text mode some few is names = subst (λ (t : List ℕ). NamesMode (t ∷ []) mode) (sym is) names
+NamesMode-word (word ∷ []) default text mode some few is names =
+    subst (λ (t : List ℕ). NamesMode (t ∷ []) mode) (sym is) names
 NamesMode-word (word ∷ next ∷ words) default text mode some few is names = absurd (omega arith)
 
-pub NamesMode-type : (words : List (Bor (List ℕ))) (default other : Bor (List ℕ)) (n : ℕ) → 2 ≤ length words → length words < 3
-    → (slice_index_or words 0 default).now ≡ codes "type" → NamesType (slice_index_or words 1 other).now n → NamesMode (map (λ word. word.now) words) (EtherType (record { 0 = n }))
+pub NamesMode-type : (words : List (Bor (List ℕ))) (default other : Bor (List ℕ)) (n : ℕ) → 2 ≤ length words
+    → length words < 3
+    → (slice_index_or words 0 default).now ≡ codes "type" → NamesType (slice_index_or words 1 other).now n
+    → NamesMode (map (λ word. word.now) words) (EtherType (record { 0 = n }))
 NamesMode-type [] default other n some few is names = absurd (omega arith)
 NamesMode-type (word ∷ []) default other n some few is names = absurd (omega arith)
 NamesMode-type (word ∷ digits ∷ []) default other n some few is names =
-    subst (λ (t : List ℕ). NamesMode (t ∷ digits.now ∷ []) (EtherType (record { 0 = n }))) (sym is) (ether_type digits.now n names)
+    subst (λ (t : List ℕ). NamesMode (t ∷ digits.now ∷ []) (EtherType (record { 0 = n }))) (sym is)
+    (ether_type digits.now n names)
 NamesMode-type (word ∷ digits ∷ next ∷ words) default other n some few is names = absurd (omega arith)
 
 -- ---- digits
 
 -- four digits name the number of the two bytes that their pairs name
-pub type_named : (digits bytes : List ℕ) (n : ℕ) → length digits ≡ 4 → IsFrame digits bytes → n ≡ slice_index bytes 0 * 256 + slice_index bytes 1 → NamesType digits n
+pub type_named : (digits bytes : List ℕ) (n : ℕ) → length digits ≡ 4 → IsFrame digits bytes
+    → n ≡ slice_index bytes 0 * 256 + slice_index bytes 1 → NamesType digits n
 type_named (a ∷ b ∷ c ∷ d ∷ []) (x ∷ y ∷ []) n four is e =
     let first = is.bytes 0 (omega arith) in
     let second = is.bytes 1 (omega arith) in
@@ -64,7 +71,8 @@ type_named (a ∷ b ∷ c ∷ d ∷ []) (x ∷ y ∷ []) n four is e =
 type_named digits bytes n four is e = let pairs = is.pairs in absurd (omega (arith, four, pairs))
 
 -- each of the digits of a number has a value
-each_digit : (digits : List ℕ) (n : ℕ) → NamesNumber digits n → (i : ℕ) → i < length digits → (v : ℕ) × (hex_digit_value (slice_index digits i) ≡ Some v)
+each_digit : (digits : List ℕ) (n : ℕ) → NamesNumber digits n → (i : ℕ) → i < length digits
+    → (v : ℕ) × (hex_digit_value (slice_index digits i) ≡ Some v)
 each_digit [] n names i lt = absurd (omega arith)
 each_digit (digit ∷ digits) n names zero lt = (names.0, names.2)
 each_digit (digit ∷ digits) n names (suc i) lt = each_digit digits names.1 names.3 i (omega arith)
@@ -76,4 +84,6 @@ none_or_some o v none some = let no : None ≡ Some v = sym none ∙ some in cc
 pub type_not_named : (word : List ℕ) → length word ≡ 4 → IsBadLine word → (n : ℕ) → NamesType word n → ⊥
 type_not_named word four (too_long h) n names = omega arith
 type_not_named word four (odd h) n names = omega arith
-type_not_named word four (no_digit i lt none) n names = let some = each_digit word n names.named i lt in none_or_some (hex_digit_value (slice_index word i)) some.0 none some.1
+type_not_named word four (no_digit i lt none) n names =
+    let some = each_digit word n names.named i lt in
+    none_or_some (hex_digit_value (slice_index word i)) some.0 none some.1

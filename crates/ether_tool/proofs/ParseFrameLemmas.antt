@@ -39,12 +39,16 @@ pair_named a b i v h =
 -- the pairs of a line and the bytes that they name
 pub record IsPairs (line frame : List ℕ) : Type 0 where
   pub pairs : length line ≡ 2 * length frame
-  pub bytes : (i : ℕ) → i < length frame → NameByte (slice_index line (2 * i)) (slice_index line (2 * i + 1)) (slice_index frame i)
+  pub bytes : (i : ℕ) → i < length frame
+      → NameByte (slice_index line (2 * i)) (slice_index line (2 * i + 1)) (slice_index frame i)
 
-pairs_more : (a b v : ℕ) (line frame : List ℕ) → NameByte a b v → IsPairs line frame → IsPairs (a ∷ b ∷ line) (v ∷ frame)
+pairs_more : (a b v : ℕ) (line frame : List ℕ) → NameByte a b v → IsPairs line frame
+    → IsPairs (a ∷ b ∷ line) (v ∷ frame)
 pairs_more a b v line frame one more = record { pairs = let k = more.pairs in omega arith; bytes = each }
   where
-    each : (i : ℕ) → i < length (v ∷ frame) → NameByte (slice_index (a ∷ b ∷ line) (2 * i)) (slice_index (a ∷ b ∷ line) (2 * i + 1)) (slice_index (v ∷ frame) i)
+    each : (i : ℕ) → i < length (v ∷ frame)
+        → NameByte (slice_index (a ∷ b ∷ line) (2 * i)) (slice_index (a ∷ b ∷ line) (2 * i + 1))
+        (slice_index (v ∷ frame) i)
     each zero h = one
     each (suc i) h =
         let first : 2 * suc i ≡ suc (suc (2 * i)) = omega arith in
@@ -66,7 +70,8 @@ pairs_decoded i (a ∷ b ∷ line) frame h =
     (pairs_more a b one.0 line more.0 (pair_named a b i one.0 one.1) (pairs_decoded (i + 2) line more.0 more.1))
 
 -- a line that decodes names the frame
-frame_decoded : (line frame : List ℕ) (n : ℕ) → length line ≤ max_line_digits → n ≡ length line / 2 → decode_sized line n ≡ Ok frame → IsFrame line frame
+frame_decoded : (line frame : List ℕ) (n : ℕ) → length line ≤ max_line_digits → n ≡ length line / 2
+    → decode_sized line n ≡ Ok frame → IsFrame line frame
 frame_decoded line frame n short half h =
     let twice = decode_sized-ok line n frame h in
     let pairs = pairs_decoded 0 line frame (sym (decode_sized-pairs line n (omega arith) (omega arith)) ∙ h) in
@@ -78,7 +83,8 @@ digit_none None h = refl
 digit_none (Some v) h = absurd (cc)
 
 -- a line that does not decode names no frame
-bad_decoded : (line : List ℕ) (n : ℕ) (e : FromHexError) → n ≡ length line / 2 → decode_sized line n ≡ Err e → IsBadLine line
+bad_decoded : (line : List ℕ) (n : ℕ) (e : FromHexError) → n ≡ length line / 2 → decode_sized line n ≡ Err e
+    → IsBadLine line
 bad_decoded line n e half h =
     elim (cases_eq (length line % 2) 1) [
       | inl is_odd ↦ odd is_odd
@@ -101,10 +107,12 @@ frame_or_bad line frame is (no_digit i lt none) =
     elim (cases_eq (i % 2) 0) [
       | inl even ↦
           let at : 2 * (i / 2) ≡ i = omega arith in
-          none_is_some (slice_index line i) byte.high none (ap (λ (j : ℕ). hex_digit_value (slice_index line j)) (sym at) ∙ byte.first_value)
+          none_is_some (slice_index line i) byte.high none
+          (ap (λ (j : ℕ). hex_digit_value (slice_index line j)) (sym at) ∙ byte.first_value)
       | inr other ↦
           let at : 2 * (i / 2) + 1 ≡ i = omega arith in
-          none_is_some (slice_index line i) byte.low none (ap (λ (j : ℕ). hex_digit_value (slice_index line j)) (sym at) ∙ byte.second_value)
+          none_is_some (slice_index line i) byte.low none
+          (ap (λ (j : ℕ). hex_digit_value (slice_index line j)) (sym at) ∙ byte.second_value)
     ]
 
 -- each line names a frame or is bad
@@ -115,36 +123,44 @@ frame_decided line =
       | inr short ↦ decided (decode_sized line (length line / 2)) refl short
     ]
   where
-    decided : (d : Result (List ℕ) FromHexError) → decode_sized line (length line / 2) ≡ d → length line ≤ max_line_digits → ((frame : List ℕ) × IsFrame line frame) ⊎ IsBadLine line
+    decided : (d : Result (List ℕ) FromHexError) → decode_sized line (length line / 2) ≡ d
+        → length line ≤ max_line_digits → ((frame : List ℕ) × IsFrame line frame) ⊎ IsBadLine line
     decided (Ok frame) h short = inl (frame, frame_decoded line frame (length line / 2) short refl h)
     decided (Err e) h short = inr (bad_decoded line (length line / 2) e refl h)
 
-decoded : (d : Result (List ℕ) FromHexError) (r : Result (Unit {0}) FromHexError) (new : List ℕ) (u : Unit {0}) → r ≡ Ok u
+decoded : (d : Result (List ℕ) FromHexError) (r : Result (Unit {0}) FromHexError) (new : List ℕ) (u : Unit {0})
+    → r ≡ Ok u
     → MatchResult d (λ bytes. (r ≡ Ok tt) × (new ≡ bytes)) (λ e. r ≡ Err e) → d ≡ Ok new
 decoded (Ok bytes) r new u is h = ap Ok (sym h.1)
 decoded (Err e) r new u is h = absurd (cc)
 
-refused : (d : Result (List ℕ) FromHexError) (r : Result (Unit {0}) FromHexError) (new : List ℕ) (f : FromHexError) → r ≡ Err f
+refused : (d : Result (List ℕ) FromHexError) (r : Result (Unit {0}) FromHexError) (new : List ℕ) (f : FromHexError)
+    → r ≡ Err f
     → MatchResult d (λ bytes. (r ≡ Ok tt) × (new ≡ bytes)) (λ e. r ≡ Err e) → (e : FromHexError) × (d ≡ Err e)
 refused (Ok bytes) r new f is h = let no : r ≡ Ok tt = h.0 in absurd (cc)
 refused (Err e) r new f is h = (e, refl)
 
 -- a line that was decoded in place names the frame there
-pub frame_in_place : (line new : List ℕ) (n : ℕ) (r : Result (Unit {0}) FromHexError) (u : Unit {0}) → length line ≤ max_line_digits → n ≡ length line / 2 → r ≡ Ok u
+pub frame_in_place : (line new : List ℕ) (n : ℕ) (r : Result (Unit {0}) FromHexError) (u : Unit {0})
+    → length line ≤ max_line_digits → n ≡ length line / 2 → r ≡ Ok u
     → MatchResult (decode_sized line n) (λ bytes. (r ≡ Ok tt) × (new ≡ bytes)) (λ e. r ≡ Err e) → IsFrame line new
-frame_in_place line new n r u short half is h = frame_decoded line new n short half (decoded (decode_sized line n) r new u is h)
+frame_in_place line new n r u short half is h =
+    frame_decoded line new n short half (decoded (decode_sized line n) r new u is h)
 
 -- the frame is what was written at the front
 pub frame_at_front : (line new rest : List ℕ) → IsFrame line new → IsFrame line (take (length line / 2) (new ++ rest))
 frame_at_front line new rest is =
     let k = is.pairs in
-    let all : take (length line / 2) (new ++ rest) ≡ new = take-append-le (length line / 2) new rest (omega arith) ∙ take_all (length line / 2) new (omega arith) in
+    let all : take (length line / 2) (new ++ rest) ≡ new =
+    take-append-le (length line / 2) new rest (omega arith) ∙ take_all (length line / 2) new (omega arith) in
     rw all is
 
 -- a line that was refused is bad
-pub bad_in_place : (line new : List ℕ) (n : ℕ) (r : Result (Unit {0}) FromHexError) (f : FromHexError) → n ≡ length line / 2 → r ≡ Err f
+pub bad_in_place : (line new : List ℕ) (n : ℕ) (r : Result (Unit {0}) FromHexError) (f : FromHexError)
+    → n ≡ length line / 2 → r ≡ Err f
     → MatchResult (decode_sized line n) (λ bytes. (r ≡ Ok tt) × (new ≡ bytes)) (λ e. r ≡ Err e) → IsBadLine line
-bad_in_place line new n r f half is h = let e = refused (decode_sized line n) r new f is h in bad_decoded line n e.0 half e.1
+bad_in_place line new n r f half is h =
+    let e = refused (decode_sized line n) r new f is h in bad_decoded line n e.0 half e.1
 
 -- `None` says what it is the test of
 pub none_is : (r : Option ℕ) (P : Type 0) → IsNone r ↔ P → IfNone r P
@@ -161,7 +177,8 @@ one_byte first second a b x y =
     omega arith
 
 -- lists of one length with the same elements are one list
-same_lists : (xs ys : List ℕ) → length xs ≡ length ys → ((i : ℕ) → i < length xs → slice_index xs i ≡ slice_index ys i) → xs ≡ ys
+same_lists : (xs ys : List ℕ) → length xs ≡ length ys → ((i : ℕ) → i < length xs → slice_index xs i ≡ slice_index ys i)
+    → xs ≡ ys
 same_lists [] [] len same = refl
 same_lists [] (y ∷ ys) len same = absurd (omega arith)
 same_lists (x ∷ xs) [] len same = absurd (omega arith)
@@ -182,7 +199,8 @@ some_is : (o : Option ℕ) (v : ℕ) → o ≡ Some v → is_some o ≡ true
 some_is o v h = rw h refl
 
 -- each character of a line that names a frame is a digit
-pub frame_of_digits : (line frame : List ℕ) → IsFrame line frame → (i : ℕ) → i < length line → is_some (hex_digit_value (slice_index line i)) ≡ true
+pub frame_of_digits : (line frame : List ℕ) → IsFrame line frame → (i : ℕ) → i < length line
+    → is_some (hex_digit_value (slice_index line i)) ≡ true
 frame_of_digits line frame is i lt =
     let k = is.pairs in
     let byte = is.bytes (i / 2) (omega arith) in
@@ -196,7 +214,8 @@ frame_of_digits line frame is i lt =
     ]
 
 -- a line with a character that is no digit is bad
-pub bad_of_digits : (line : List ℕ) → (((i : ℕ) → i < length line → is_some (hex_digit_value (slice_index line i)) ≡ true) → ⊥) → IsBadLine line
+pub bad_of_digits : (line : List ℕ)
+    → (((i : ℕ) → i < length line → is_some (hex_digit_value (slice_index line i)) ≡ true) → ⊥) → IsBadLine line
 bad_of_digits line other =
     elim (frame_decided line) [
       | inl named ↦ absurd (other (frame_of_digits line named.0 named.1))

@@ -32,9 +32,12 @@ record Given (list : List ℕ) (hs : List Header) (e : Ending) (s t : State) (u 
   faces : Faces list window t later e
   going : t.over ≡ false
 
-given : (list : List ℕ) (w : Window) (hs : List Header) (e : Ending) (s t : State) (u : PeelUnit) → IsBytes list → Faces list w s hs e → s.over ≡ false → Gives s (Some (Ok u)) t → Given list hs e s t u
-given list w [] (Accepted v y) s t u ok faces going gives = let g = gives.next going list w [] (Accepted v y) faces in absurd (let none = g.0 in cc)
-given list w [] (Fault v y r) s t u ok faces going gives = let g = gives.next going list w [] (Fault v y r) faces in absurd (let fault = g.0 in cc)
+given : (list : List ℕ) (w : Window) (hs : List Header) (e : Ending) (s t : State) (u : PeelUnit) → IsBytes list
+    → Faces list w s hs e → s.over ≡ false → Gives s (Some (Ok u)) t → Given list hs e s t u
+given list w [] (Accepted v y) s t u ok faces going gives =
+    let g = gives.next going list w [] (Accepted v y) faces in absurd (let none = g.0 in cc)
+given list w [] (Fault v y r) s t u ok faces going gives =
+    let g = gives.next going list w [] (Fault v y r) faces in absurd (let fault = g.0 in cc)
 given list w (h ∷ hs) e s t u ok faces going gives =
     let g = gives.next going list w (h ∷ hs) e faces in
     let same = units_mean_headers list w h hs e s t u ok faces going gives in
@@ -49,14 +52,23 @@ given list w (h ∷ hs) e s t u ok faces going gives =
       going = g.3;
     }
 
-plain : (fcs : Bool) (v : Ethernet2Value) → Some kinds.Ethernet2 ≡ Some (kind_of (if fcs then headers.Ethernet2Fcs v else headers.Ethernet2 v)) → (if fcs then headers.Ethernet2Fcs v else headers.Ethernet2 v) ≡ headers.Ethernet2 v
+plain : (fcs : Bool) (v : Ethernet2Value)
+    → Some kinds.Ethernet2 ≡ Some (kind_of (if fcs then headers.Ethernet2Fcs v else headers.Ethernet2 v))
+    → (if fcs then headers.Ethernet2Fcs v else headers.Ethernet2 v) ≡ headers.Ethernet2 v
 plain true v is = absurd cc
 plain false v is = refl
 
-pub stations_read : (list : List ℕ) (hs : List Header) (e : Ending) (t u : State) (link : Frame) (tag : List ℕ) → IsBytes list → Walk (start_of starts.Ethernet2) list hs e
-    → Gives (begun (start_of starts.Ethernet2) list) (Some (Ok (units.Ethernet2 link))) t → Gives t (Some (Ok (units.Vlan tag))) u
+pub stations_read : (list : List ℕ) (hs : List Header) (e : Ending) (t u : State) (link : Frame) (tag : List ℕ)
+    → IsBytes list → Walk (start_of starts.Ethernet2) list hs e
+    → Gives (begun (start_of starts.Ethernet2) list) (Some (Ok (units.Ethernet2 link))) t
+    → Gives t (Some (Ok (units.Vlan tag))) u
     → let v = ethernet2_of link.bytes in let vid = (vlan_of tag).vid in
-    stations_of hs ≡ Some (record { source = station vid (number (spelled 6 v.source)); destination = station vid (number (spelled 6 v.destination)) })
+    stations_of hs
+    ≡ Some
+    (record {
+      source = station vid (number (spelled 6 v.source));
+      destination = station vid (number (spelled 6 v.destination));
+    })
 stations_read list hs e t u link tag ok walk first second =
     let v = ethernet2_of link.bytes in
     let w = whole (start_of starts.Ethernet2) list in

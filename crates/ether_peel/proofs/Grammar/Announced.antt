@@ -26,10 +26,14 @@ unspent false k = refl
 -- if an extension may still be read, all is announced
 permitted_all : (limit : Option ℕ) (o : Option Kind) → is_spent limit ≡ false → permitted limit o ≡ o
 permitted_all limit None left = refl
-permitted_all limit (Some k) left = ap (λ (b : Bool). cond (is_extension k && b) None (Some k)) left ∙ unspent (is_extension k) k
+permitted_all limit (Some k) left =
+    ap (λ (b : Bool). cond (is_extension k && b) None (Some k)) left ∙ unspent (is_extension k) k
 
-pub announced_free : (next : Next) (limit : Option ℕ) (kind : Kind) → announced (limited next limit) ≡ Some kind → announced (limited next None) ≡ Some kind
-announced_free next limit kind e = permitted_all None (announced_next next) refl ∙ announced_is (limited next limit) kind e
+pub announced_free : (next : Next) (limit : Option ℕ) (kind : Kind) → announced (limited next limit) ≡ Some kind
+    → announced (limited next None) ≡ Some kind
+announced_free next limit kind e =
+    permitted_all None (announced_next next) refl ∙ announced_is (limited next limit) kind e
 
 pub announced_more : (next : Next) (n : ℕ) → announced (limited next (Some (suc n))) ≡ announced (limited next None)
-announced_more next n = permitted_all (Some (suc n)) (announced_next next) refl ∙ sym (permitted_all None (announced_next next) refl)
+announced_more next n =
+    permitted_all (Some (suc n)) (announced_next next) refl ∙ sym (permitted_all None (announced_next next) refl)

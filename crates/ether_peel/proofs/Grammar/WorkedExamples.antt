@@ -28,7 +28,15 @@ by_type t = record { next = EtherType t; limit = None }
 -- ---- a SecTag with both reserved bits and a short length of 6, so a closed window of four bytes, and a VLAN tag in it
 
 abbrev tag : ℕ → SecTagValue
-tag short_len = record { payload_type = Unmodified 0x8100; end_station = 0; single_copy_broadcast = 0; association_number = 0; short_len = short_len; packet_number = 1; sci = None }
+tag short_len = record {
+  payload_type = Unmodified 0x8100;
+  end_station = 0;
+  single_copy_broadcast = 0;
+  association_number = 0;
+  short_len = short_len;
+  packet_number = 1;
+  sci = None;
+}
 
 abbrev inner : VlanValue
 inner = record { pcp = 5; dei = 0; vid = 0xABB; ether_type = 0xCCDD }
@@ -36,14 +44,28 @@ inner = record { pcp = 5; dei = 0; vid = 0xABB; ether_type = 0xCCDD }
 abbrev padded : List ℕ
 padded = 0x00 ∷ 0xC6 ∷ 0 ∷ 0 ∷ 0 ∷ 1 ∷ 0x81 ∷ 0x00 ∷ 0xAA ∷ 0xBB ∷ 0xCC ∷ 0xDD ∷ 0xEE ∷ 0xEE ∷ []
 
-padded_walk : Walk (by_type 0x88E5) padded (headers.Macsec (tag 6) ∷ headers.Vlan inner ∷ []) (Accepted (record { start = 12; finish = 12; closed = true; bound = sources.MacsecShortLength }) (by_type 0xCCDD))
+padded_walk : Walk (by_type 0x88E5) padded (headers.Macsec (tag 6) ∷ headers.Vlan inner ∷ [])
+    (Accepted (record { start = 12; finish = 12; closed = true; bound = sources.MacsecShortLength }) (by_type 0xCCDD))
 padded_walk =
     let fits : FitsSecTagFront (sec_tag_front_of 0 3 (tag 6)) = omega arith in
     let begins : BeginsSecTag padded (sec_tag_front_of 0 3 (tag 6)) = record { sum = refl; fits = fits } in (
       record {
         announced = refl;
-        accepted = accepts_macsec sources.Slice padded (sec_tag_front_of 0 3 (tag 6)) (omega arith) begins refl (λ s. let e = s.short_len in omega arith) (omega arith) (λ p e. let f = some_is 4 p e in omega arith);
-        means = record { whole = omega arith; spells = record { version = 0; reserved = 3; front = record { sum = refl; fits = fits }; packet_number = refl; sci = tt; ether_type = refl } };
+        accepted =
+            accepts_macsec sources.Slice padded (sec_tag_front_of 0 3 (tag 6)) (omega arith) begins refl
+            (λ s. let e = s.short_len in omega arith) (omega arith) (λ p e. let f = some_is 4 p e in omega arith);
+        means =
+            record {
+              whole = omega arith;
+              spells = record {
+                version = 0;
+                reserved = 3;
+                front = record { sum = refl; fits = fits };
+                packet_number = refl;
+                sci = tt;
+                ether_type = refl;
+              };
+            };
       },
       (
         record {
@@ -60,7 +82,8 @@ padded_reach : reach 0 (headers.Macsec (tag 6) ∷ headers.Vlan inner ∷ []) �
 padded_reach = refl
 
 -- the remainder of 0xC6 by 64
-padded_cleared : cleared padded 0 (headers.Macsec (tag 6) ∷ headers.Vlan inner ∷ []) ≡ 0x00 ∷ 0x06 ∷ 0 ∷ 0 ∷ 0 ∷ 1 ∷ 0x81 ∷ 0x00 ∷ 0xAA ∷ 0xBB ∷ 0xCC ∷ 0xDD ∷ 0xEE ∷ 0xEE ∷ []
+padded_cleared : cleared padded 0 (headers.Macsec (tag 6) ∷ headers.Vlan inner ∷ [])
+    ≡ 0x00 ∷ 0x06 ∷ 0 ∷ 0 ∷ 0 ∷ 1 ∷ 0x81 ∷ 0x00 ∷ 0xAA ∷ 0xBB ∷ 0xCC ∷ 0xDD ∷ 0xEE ∷ 0xEE ∷ []
 padded_cleared = refl
 
 -- ---- with a short length of 4 the tag in it lacks two bytes, whatever follows the window
@@ -68,14 +91,29 @@ padded_cleared = refl
 abbrev short : List ℕ
 short = 0x00 ∷ 0x04 ∷ 0 ∷ 0 ∷ 0 ∷ 1 ∷ 0x81 ∷ 0x00 ∷ 0xAA ∷ 0xBB ∷ 0xCC ∷ 0xDD ∷ []
 
-short_walk : Walk (by_type 0x88E5) short (headers.Macsec (tag 4) ∷ []) (Fault (record { start = 8; finish = 10; closed = true; bound = sources.MacsecShortLength }) (by_type 0x8100) (Length 4 2 sources.MacsecShortLength layers.VlanHeader))
+short_walk : Walk (by_type 0x88E5) short (headers.Macsec (tag 4) ∷ [])
+    (Fault (record { start = 8; finish = 10; closed = true; bound = sources.MacsecShortLength }) (by_type 0x8100)
+    (Length 4 2 sources.MacsecShortLength layers.VlanHeader))
 short_walk =
     let fits : FitsSecTagFront (sec_tag_front_of 0 0 (tag 4)) = omega arith in
     let begins : BeginsSecTag short (sec_tag_front_of 0 0 (tag 4)) = record { sum = refl; fits = fits } in (
       record {
         announced = refl;
-        accepted = accepts_macsec sources.Slice short (sec_tag_front_of 0 0 (tag 4)) (omega arith) begins refl (λ s. let e = s.short_len in omega arith) (omega arith) (λ p e. let f = some_is 2 p e in omega arith);
-        means = record { whole = omega arith; spells = record { version = 0; reserved = 0; front = record { sum = refl; fits = fits }; packet_number = refl; sci = tt; ether_type = refl } };
+        accepted =
+            accepts_macsec sources.Slice short (sec_tag_front_of 0 0 (tag 4)) (omega arith) begins refl
+            (λ s. let e = s.short_len in omega arith) (omega arith) (λ p e. let f = some_is 2 p e in omega arith);
+        means =
+            record {
+              whole = omega arith;
+              spells = record {
+                version = 0;
+                reserved = 0;
+                front = record { sum = refl; fits = fits };
+                packet_number = refl;
+                sci = tt;
+                ether_type = refl;
+              };
+            };
       },
       (refl, refl, kinds.Vlan, refl, rows.vlan (omega arith)),
     )
@@ -89,11 +127,17 @@ abbrev begun : List ℕ
 begun = 0x00 ∷ 0x05 ∷ 0x81 ∷ 0x00 ∷ 0xAA ∷ 0xBB ∷ []
 
 abbrev begun_ending : Ending
-begun_ending = Fault (record { start = 4; finish = 6; closed = false; bound = sources.Slice }) (by_type 0x8100) (Length 4 2 sources.Slice layers.VlanHeader)
+begun_ending =
+    Fault (record { start = 4; finish = 6; closed = false; bound = sources.Slice }) (by_type 0x8100)
+    (Length 4 2 sources.Slice layers.VlanHeader)
 
 begun_walk : Walk (by_type 0x8100) begun (headers.Vlan outer ∷ []) begun_ending
 begun_walk = (
-  record { announced = refl; accepted = accepts_vlan sources.Slice begun (omega arith); means = record { whole = omega arith; spells = record { sum = refl; fits = omega arith } } },
+  record {
+    announced = refl;
+    accepted = accepts_vlan sources.Slice begun (omega arith);
+    means = record { whole = omega arith; spells = record { sum = refl; fits = omega arith } };
+  },
   (refl, refl, kinds.Vlan, refl, rows.vlan (omega arith)),
 )
 

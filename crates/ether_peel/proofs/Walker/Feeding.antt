@@ -30,23 +30,34 @@ use Rattle.ether_peel.proofs.Walker.Summarizing.{unit_next, fault_next, none_nex
 -- ---- faults
 
 -- what the fault of a walk names is what its ending names
-pub names_open : (v : Window) (y : Expectation) (r : Refusal) (m : ℕ) → Names (fault_in v r) m → (o : OpenRefusal (Fault v y r)) × (named_len (Fault v y r) o ≡ m)
+pub names_open : (v : Window) (y : Expectation) (r : Refusal) (m : ℕ) → Names (fault_in v r) m
+    → (o : OpenRefusal (Fault v y r)) × (named_len (Fault v y r) o ≡ m)
 names_open v y (Length required len source layer) m n =
     let e = n.of_length in
     let same : required ≡ n.error.required_len = cc in
-    let names = n.names in
-    (record { required = required; len = len; source = source; layer = layer; refused = refl; is_open = n.is_open }, omega arith)
+    let names = n.names in (
+      record { required = required; len = len; source = source; layer = layer; refused = refl; is_open = n.is_open },
+      omega arith,
+    )
 names_open v y (UnsupportedPacketType p) m n = let e = n.of_length in absurd cc
 names_open v y (UnsupportedHardwareType p) m n = let e = n.of_length in absurd cc
 names_open v y UnexpectedVersion m n = let e = n.of_length in absurd cc
 names_open v y InvalidShortLen m n = let e = n.of_length in absurd cc
 
-pub open_names : (v : Window) (y : Expectation) (r : Refusal) (o : OpenRefusal (Fault v y r)) → Names (fault_in v r) (named_len (Fault v y r) o)
+pub open_names : (v : Window) (y : Expectation) (r : Refusal) (o : OpenRefusal (Fault v y r))
+    → Names (fault_in v r) (named_len (Fault v y r) o)
 open_names v y r o =
     let is : r ≡ Length o.required o.len o.source o.layer = (let e = o.refused in cc) in
     record {
       is_open = o.is_open;
-      error = record { required_len = o.required; len = o.len; len_source = o.source; layer = o.layer; layer_start_offset = v.start };
+      error =
+          record {
+            required_len = o.required;
+            len = o.len;
+            len_source = o.source;
+            layer = o.layer;
+            layer_start_offset = v.start;
+          };
       of_length = ap (error_at v.start) is;
       names = refl;
     }
@@ -65,7 +76,8 @@ pub record Fed (start : Expectation) (list : List ℕ) (n count : ℕ) (hs : Lis
   pub few : count ≤ caps (has_fcs start) hs + given_last e
   pub walk : Walk start (take n list) hs e
 
-pub fed_nothing : (start : Expectation) (list : List ℕ) (hs : List Header) (e : Ending) → Walk start (take 0 list) hs e → Fed start list 0 0 hs e
+pub fed_nothing : (start : Expectation) (list : List ℕ) (hs : List Header) (e : Ending) → Walk start (take 0 list) hs e
+    → Fed start list 0 0 hs e
 fed_nothing start list hs e s = record {
   demands = [];
   all = λ ms are. are;
@@ -82,7 +94,10 @@ greatest-append : (ms : List ℕ) (m : ℕ) → greatest (ms ++ m ∷ []) ≡ ma
 greatest-append [] m = omega arith
 greatest-append (n ∷ ms) m = let e = greatest-append ms m in omega arith
 
-pub fed_more : (start : Expectation) (list : List ℕ) (n count : ℕ) (hs ks : List Header) (e f : Ending) (o : OpenRefusal e) → IsBytes list → Fed start list n count hs e → named_len e o ≤ length list → Walk start (take (named_len e o) list) ks f
+pub fed_more : (start : Expectation) (list : List ℕ) (n count : ℕ) (hs ks : List Header) (e f : Ending)
+    (o : OpenRefusal e)
+    → IsBytes list → Fed start list n count hs e → named_len e o ≤ length list
+    → Walk start (take (named_len e o) list) ks f
     → Fed start list (named_len e o) (count + 1) ks f
 fed_more start list n count hs ks e f o ok fed le t =
     let m = named_len e o in
@@ -93,7 +108,9 @@ fed_more start list n count hs ks e f o ok fed le t =
     let demand = is_demand start list n hs e o ok h s above le in
     let parts = front_and_more list n m (omega arith) in
     let bytes = subst IsBytes parts (IsBytes-take m list ok) in
-    let once = given_once_more start (take n list) (drop n (take m list)) hs ks e f o bytes h s (omega (arith, ap length parts, length-take m list)) (subst (λ (l : List ℕ). Walk start l ks f) parts t) in
+    let once =
+    given_once_more start (take n list) (drop n (take m list)) hs ks e f o bytes h s
+    (omega (arith, ap length parts, length-take m list)) (subst (λ (l : List ℕ). Walk start l ks f) parts t) in
     let closed : caps (has_fcs start) ks ≡ caps false ks = ap (λ c. caps c ks) h in
     let before : caps (has_fcs start) hs ≡ caps false hs = ap (λ c. caps c hs) h in
     let few = fed.few in
@@ -103,7 +120,10 @@ fed_more start list n count hs ks e f o ok fed le t =
     let end = greatest-append fed.demands m in
     record {
       demands = fed.demands ++ m ∷ [];
-      all = λ ms are. subst (AreDemands start list 0) (sym (append_assoc fed.demands (m ∷ []) ms)) (fed.all (m ∷ ms) (above, demand, none_between start list n hs e o h s, are));
+      all =
+          λ ms are.
+          subst (AreDemands start list 0) (sym (append_assoc fed.demands (m ∷ []) ms))
+          (fed.all (m ∷ ms) (above, demand, none_between start list n hs e o h s, are));
       counted = omega (arith, length-append fed.demands (m ∷ []));
       last = omega arith;
       asked = inr demand;
@@ -113,16 +133,21 @@ fed_more start list n count hs ks e f o ok fed le t =
       walk = t;
     }
 
-last_stack : (list : List ℕ) (x : Expectation) (w : Window) (hs : List Header) (e : Ending) → Stack list x w hs e → given_last e ≤ last_cap e
+last_stack : (list : List ℕ) (x : Expectation) (w : Window) (hs : List Header) (e : Ending) → Stack list x w hs e
+    → given_last e ≤ last_cap e
 last_stack list x w hs e s = given_capped list (last_expected e) (last_window e) e (leads list x w hs e s).1
 
 -- nothing more is asked for
-pub fed_all : (start : Expectation) (list : List ℕ) (n count : ℕ) (hs : List Header) (e : Ending) (fault : Option PeelFault) → IsBytes list → Fed start list n count hs e → AsksNoMore list e → fault ≡ fault_of e
+pub fed_all : (start : Expectation) (list : List ℕ) (n count : ℕ) (hs : List Header) (e : Ending)
+    (fault : Option PeelFault)
+    → IsBytes list → Fed start list n count hs e → AsksNoMore list e → fault ≡ fault_of e
     → IsFeed start list (record { refusals = count; taken = n; fault = fault })
 fed_all start list n count hs e fault ok fed ask is =
     let few = fed.few in
     let capped = last_stack (take n list) start (whole start (take n list)) hs e fed.walk in
-    let are = subst (AreDemands start list 0) (append-nil fed.demands) (fed.all [] (no_more start list n hs e fed.walk ask)) in
+    let are =
+    subst (AreDemands start list 0) (append-nil fed.demands)
+    (fed.all [] (no_more start list n hs e fed.walk ask)) in
     record {
       demands = fed.demands;
       are = are;
@@ -151,7 +176,9 @@ pub record Feeds (start : Expectation) (list : List ℕ) (s : State) (taken coun
   pub faces : Faces (take taken list) window s left ending
   pub going : s.over ≡ false
 
-pub feeds_nothing : (start : Expectation) (list : List ℕ) (s : State) (hs : List Header) (e : Ending) → Walk start (take 0 list) hs e → Faces (take 0 list) (whole start (take 0 list)) s hs e → s.over ≡ false → Feeds start list s 0 0
+pub feeds_nothing : (start : Expectation) (list : List ℕ) (s : State) (hs : List Header) (e : Ending)
+    → Walk start (take 0 list) hs e → Faces (take 0 list) (whole start (take 0 list)) s hs e → s.over ≡ false
+    → Feeds start list s 0 0
 feeds_nothing start list s hs e walk faces going = record {
   headers = hs;
   ending = e;
@@ -168,7 +195,8 @@ pub record FeedsUnit (start : Expectation) (list : List ℕ) (s t : State) (take
   pub later : s.offset < t.offset
   pub inside : t.offset ≤ length list
 
-pub offset_inside : (start : Expectation) (list : List ℕ) (s : State) (taken count : ℕ) → Feeds start list s taken count → s.offset ≤ taken
+pub offset_inside : (start : Expectation) (list : List ℕ) (s : State) (taken count : ℕ) → Feeds start list s taken count
+    → s.offset ≤ taken
 offset_inside start list s taken count a =
     let at = a.faces.offset in
     let ordered = a.faces.inside.ordered in
@@ -176,10 +204,21 @@ offset_inside start list s taken count a =
     let le = a.fed.inside in
     omega (arith, length-take taken list)
 
-pub feeds_unit : (start : Expectation) (list : List ℕ) (s t : State) (taken count : ℕ) (u : PeelUnit) → Feeds start list s taken count → Gives s (Some (Ok u)) t → FeedsUnit start list s t taken count
+pub feeds_unit : (start : Expectation) (list : List ℕ) (s t : State) (taken count : ℕ) (u : PeelUnit)
+    → Feeds start list s taken count → Gives s (Some (Ok u)) t → FeedsUnit start list s t taken count
 feeds_unit start list s t taken count u a gives =
-    let n = unit_next (take taken list) a.window a.left a.ending s t u (gives.next a.going (take taken list) a.window a.left a.ending a.faces) in
-    let feeds : Feeds start list t taken count = record { headers = a.headers; ending = a.ending; fed = a.fed; window = payload a.window n.header; left = n.later; faces = n.faces; going = n.going } in
+    let n =
+    unit_next (take taken list) a.window a.left a.ending s t u
+    (gives.next a.going (take taken list) a.window a.left a.ending a.faces) in
+    let feeds : Feeds start list t taken count = record {
+      headers = a.headers;
+      ending = a.ending;
+      fed = a.fed;
+      window = payload a.window n.header;
+      left = n.later;
+      faces = n.faces;
+      going = n.going;
+    } in
     let old = a.faces.offset in
     let new = n.faces.offset in
     let least = header_least n.header in
@@ -188,7 +227,8 @@ feeds_unit start list s t taken count u a gives =
     record { feeds = feeds; later = omega arith; inside = omega arith }
 
 -- the fault was returned; the walk goes on in the front that it names
-pub record FeedsFault (start : Expectation) (list : List ℕ) (s t : State) (taken count : ℕ) (f : PeelFault) : Type 0 where
+pub record FeedsFault (start : Expectation) (list : List ℕ) (s t : State) (taken count : ℕ) (f : PeelFault) : Type
+    0 where
   pub headers : List Header
   pub window : Window
   pub expected : Expectation
@@ -202,11 +242,15 @@ pub record FeedsFault (start : Expectation) (list : List ℕ) (s t : State) (tak
   pub at : window.start ≤ taken
   pub stays : t.offset ≡ s.offset
 
-pub feeds_fault : (start : Expectation) (list : List ℕ) (s t : State) (taken count : ℕ) (f : PeelFault) → Feeds start list s taken count → Gives s (Some (Err f)) t → FeedsFault start list s t taken count f
+pub feeds_fault : (start : Expectation) (list : List ℕ) (s t : State) (taken count : ℕ) (f : PeelFault)
+    → Feeds start list s taken count → Gives s (Some (Err f)) t → FeedsFault start list s t taken count f
 feeds_fault start list s t taken count f a gives =
     let front = take taken list in
-    let n = fault_next front a.window a.left a.ending s t f (gives.next a.going front a.window a.left a.ending a.faces) in
-    let faces = subst (λ (e : Ending). Faces front a.window s [] e) n.ending (subst (λ (l : List Header). Faces front a.window s l a.ending) n.none_left a.faces) in
+    let n =
+    fault_next front a.window a.left a.ending s t f (gives.next a.going front a.window a.left a.ending a.faces) in
+    let faces =
+    subst (λ (e : Ending). Faces front a.window s [] e) n.ending
+    (subst (λ (l : List Header). Faces front a.window s l a.ending) n.none_left a.faces) in
     let same : n.window ≡ a.window = faces.stack.0 in
     let at = offset_inside start list s taken count a in
     let offset : s.offset ≡ n.window.start = faces.offset ∙ ap (λ (v : Window). v.start) (sym same) in
@@ -229,18 +273,24 @@ feeds_fault start list s t taken count f a gives =
 abbrev pub gone_on : State → List ℕ → State
 gone_on t front = record t { rest = slice_range front t.offset (length front); over = false }
 
-more_above : (start : Expectation) (list : List ℕ) (taken count : ℕ) (hs : List Header) (e : Ending) (o : OpenRefusal e) → Fed start list taken count hs e → taken < named_len e o
+more_above : (start : Expectation) (list : List ℕ) (taken count : ℕ) (hs : List Header) (e : Ending) (o : OpenRefusal e)
+    → Fed start list taken count hs e → taken < named_len e o
 more_above start list taken count hs e o fed =
     let inside = fed.inside in
     let above = named_above start (take taken list) hs e o (no_fcs start (take taken list) hs e fed.walk o) fed.walk in
     omega (arith, length-take taken list)
 
-same_rest : (list other : List ℕ) (a b finish : ℕ) → a ≡ b → length list ≡ finish → list ≡ other → slice_range list a (length list) ≡ slice_range other b finish
-same_rest list other a b finish at ends is = ap (λ (k : ℕ). slice_range list k (length list)) at ∙ ap (slice_range list b) ends ∙ ap (λ (l : List ℕ). slice_range l b finish) is
+same_rest : (list other : List ℕ) (a b finish : ℕ) → a ≡ b → length list ≡ finish → list ≡ other
+    → slice_range list a (length list) ≡ slice_range other b finish
+same_rest list other a b finish at ends is =
+    ap (λ (k : ℕ). slice_range list k (length list)) at ∙ ap (slice_range list b) ends
+    ∙ ap (λ (l : List ℕ). slice_range l b finish) is
 
-feeds_named : (start : Expectation) (list : List ℕ) (s t : State) (taken count : ℕ) (f : PeelFault) → IsBytes list → (a : FeedsFault start list s t taken count f) (o : OpenRefusal (Fault a.window a.expected a.refusal))
+feeds_named : (start : Expectation) (list : List ℕ) (s t : State) (taken count : ℕ) (f : PeelFault) → IsBytes list
+    → (a : FeedsFault start list s t taken count f) (o : OpenRefusal (Fault a.window a.expected a.refusal))
     → named_len (Fault a.window a.expected a.refusal) o ≤ length list
-    → Feeds start list (gone_on t (take (named_len (Fault a.window a.expected a.refusal) o) list)) (named_len (Fault a.window a.expected a.refusal) o) (count + 1)
+    → Feeds start list (gone_on t (take (named_len (Fault a.window a.expected a.refusal) o) list))
+    (named_len (Fault a.window a.expected a.refusal) o) (count + 1)
 feeds_named start list s t taken count f ok a o le =
     let v = a.window in
     let e = Fault v a.expected a.refusal in
@@ -255,7 +305,8 @@ feeds_named start list s t taken count f ok a o le =
     let more = drop taken front in
     let some = some_stack front start (whole start front) (IsBytes-take m list ok) in
     let next = subst (λ (l : List ℕ). Walk start l some.0 some.1) parts some.2 in
-    let c = common start old more some.0 a.headers some.1 e (subst IsBytes parts (IsBytes-take m list ok)) h next walk in
+    let c =
+    common start old more some.0 a.headers some.1 e (subst IsBytes parts (IsBytes-take m list ok)) h next walk in
     let g = walk_open_to_end start old a.headers e h walk in
     let ends = g.ends o.is_open in
     let to = carried_finish old (old ++ more) more v c.last c.carries in
@@ -288,7 +339,9 @@ pub record FeedsMore (start : Expectation) (list : List ℕ) (s t : State) (take
   pub above : taken < m
   pub stays : t.offset ≡ s.offset
 
-pub feeds_more : (start : Expectation) (list : List ℕ) (s t u : State) (taken count m : ℕ) (f : PeelFault) → IsBytes list → FeedsFault start list s t taken count f → Names f m → m ≤ length list → u ≡ gone_on t (take m list) → FeedsMore start list s u taken count m
+pub feeds_more : (start : Expectation) (list : List ℕ) (s t u : State) (taken count m : ℕ) (f : PeelFault)
+    → IsBytes list → FeedsFault start list s t taken count f → Names f m → m ≤ length list → u ≡ gone_on t (take m list)
+    → FeedsMore start list s u taken count m
 feeds_more start list s t u taken count m f ok a names le is =
     let e = Fault a.window a.expected a.refusal in
     let named = names_open a.window a.expected a.refusal m (subst (λ (g : PeelFault). Names g m) a.fault names) in
@@ -302,14 +355,25 @@ feeds_more start list s t u taken count m f ok a names le is =
     }
 
 -- nothing more is asked for: at a fault that names nothing that is there, or at an accepted ending
-pub feed_of_fault : (start : Expectation) (list : List ℕ) (s t : State) (taken count : ℕ) (f : PeelFault) → IsBytes list → FeedsFault start list s t taken count f → ((m : ℕ) → Names f m → m ≤ length list → ⊥) → IsFeed start list (record { refusals = count; taken = taken; fault = Some f })
+pub feed_of_fault : (start : Expectation) (list : List ℕ) (s t : State) (taken count : ℕ) (f : PeelFault) → IsBytes list
+    → FeedsFault start list s t taken count f → ((m : ℕ) → Names f m → m ≤ length list → ⊥)
+    → IsFeed start list (record { refusals = count; taken = taken; fault = Some f })
 feed_of_fault start list s t taken count f ok a none =
     let e = Fault a.window a.expected a.refusal in
     fed_all start list taken count a.headers e (Some f) ok a.fed
-    (λ o le. none (named_len e o) (subst (λ (g : PeelFault). Names g (named_len e o)) (sym a.fault) (open_names a.window a.expected a.refusal o)) le)
+    (λ o le.
+    none (named_len e o)
+    (subst (λ (g : PeelFault). Names g (named_len e o)) (sym a.fault)
+    (open_names a.window a.expected a.refusal o))
+    le)
     (ap (λ (g : PeelFault). Some g) a.fault)
 
-pub feed_of_none : (start : Expectation) (list : List ℕ) (s t : State) (taken count : ℕ) → IsBytes list → Feeds start list s taken count → Gives s None t → IsFeed start list (record { refusals = count; taken = taken; fault = None })
+pub feed_of_none : (start : Expectation) (list : List ℕ) (s t : State) (taken count : ℕ) → IsBytes list
+    → Feeds start list s taken count → Gives s None t
+    → IsFeed start list (record { refusals = count; taken = taken; fault = None })
 feed_of_none start list s t taken count ok a gives =
-    let n = none_next (take taken list) a.window a.left a.ending s t (gives.next a.going (take taken list) a.window a.left a.ending a.faces) in
-    fed_all start list taken count a.headers (Accepted n.window n.expected) None ok (subst (Fed start list taken count a.headers) n.ending a.fed) (λ o le. let e = o.refused in absurd cc) refl
+    let n =
+    none_next (take taken list) a.window a.left a.ending s t
+    (gives.next a.going (take taken list) a.window a.left a.ending a.faces) in
+    fed_all start list taken count a.headers (Accepted n.window n.expected) None ok
+    (subst (Fed start list taken count a.headers) n.ending a.fed) (λ o le. let e = o.refused in absurd cc) refl

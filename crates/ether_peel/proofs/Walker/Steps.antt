@@ -42,14 +42,19 @@ use Rattle.ether_peel.specs.declared.peel_fault.PeelFault.{PeelFault}
 -- ---- what is expected after a cooked capture
 
 after_link : (is_netlink is_gre : Bool) (n : ℕ) →
-    after_protocol (if is_netlink then NetlinkProtocolType n else (if is_gre then GenericRoutingEncapsulationProtocolType n else Ignored n))
-    ≡ Sll (if is_netlink then NetlinkProtocolType n else (if is_gre then GenericRoutingEncapsulationProtocolType n else Ignored n))
+    after_protocol
+    (if is_netlink then NetlinkProtocolType n
+    else (if is_gre then GenericRoutingEncapsulationProtocolType n else Ignored n))
+    ≡ Sll
+    (if is_netlink then NetlinkProtocolType n
+    else (if is_gre then GenericRoutingEncapsulationProtocolType n else Ignored n))
 after_link true is_gre n = refl
 after_link false true n = refl
 after_link false false n = refl
 
 after_ethernet : (is_nonstandard : Bool) (n : ℕ) →
-    after_protocol (if is_nonstandard then LinuxNonstandardEtherType n else protocols.EtherType (record { 0 = n })) ≡ EtherType n
+    after_protocol (if is_nonstandard then LinuxNonstandardEtherType n else protocols.EtherType (record { 0 = n }))
+    ≡ EtherType n
 after_ethernet true n = refl
 after_ethernet false n = refl
 
@@ -64,7 +69,14 @@ after_capture_is hardware n = after_either (hardware == 1) hardware n
 
 -- what the fields of a walker show
 abbrev pub shown : Inside → State
-shown a = record { rest = slice_range a.frame.now a.start a.end; offset = a.start; closed = a.is_closed; bound = a.bound; expected = record { next = expected_of a.first a.kind; limit = a.limit }; over = a.is_over }
+shown a = record {
+  rest = slice_range a.frame.now a.start a.end;
+  offset = a.start;
+  closed = a.is_closed;
+  bound = a.bound;
+  expected = record { next = expected_of a.first a.kind; limit = a.limit };
+  over = a.is_over;
+}
 
 not_over : (b : Bool) → b ≡ false → b ≡ true → ⊥
 not_over b e f = let g : false ≡ true = sym e ∙ f in cc
@@ -84,7 +96,8 @@ gives_over s over = record {
   next = λ going list w hs e f. absurd (not_over s.over going over);
 }
 
-next_none : (list : List ℕ) (w : Window) (s : State) (hs : List Header) (e : Ending) → announced s.expected ≡ None → Faces list w s hs e → GivesNext list w hs e s None s
+next_none : (list : List ℕ) (w : Window) (s : State) (hs : List Header) (e : Ending) → announced s.expected ≡ None
+    → Faces list w s hs e → GivesNext list w hs e s None s
 next_none list w s [] (Accepted v y) none f = (refl, refl)
 next_none list w s [] (Fault v y r) none f = absurd (no_kind (announced s.expected) f.stack.2 none f.stack.3)
 next_none list w s (h ∷ hs) e none f = absurd (no_kind (announced s.expected) (kind_of h) none f.stack.0.announced)
@@ -105,34 +118,45 @@ fault_at s error = record { offset = s.offset; error = named_error s.bound error
 abbrev pub ended : State → State
 ended s = record s { over = true }
 
-next_fault : (list : List ℕ) (w : Window) (s : State) (hs : List Header) (e : Ending) (error : PeelError) → IsRefusedBy s error → Faces list w s hs e
+next_fault : (list : List ℕ) (w : Window) (s : State) (hs : List Header) (e : Ending) (error : PeelError)
+    → IsRefusedBy s error → Faces list w s hs e
     → GivesNext list w hs e s (Some (Err (fault_at s error))) (ended s)
 next_fault list w s [] (Accepted v y) error r f = absurd (no_kind (announced s.expected) r.kind f.stack.2 r.announced)
 next_fault list w s [] (Fault v y q) error r f =
     let same = same_kind (announced s.expected) f.stack.2 r.kind f.stack.3 r.announced in
     let held = subst (λ (k : Kind). Refuses w.bound (within list w) k q) same f.stack.4 in
-    let own = bounded_row w.bound (within list w) r.kind r.refusal (subst (λ (l : List ℕ). Refuses sources.Slice l r.kind r.refusal) f.rest r.refuses) in
+    let own =
+    bounded_row w.bound (within list w) r.kind r.refusal
+    (subst (λ (l : List ℕ). Refuses sources.Slice l r.kind r.refusal) f.rest r.refuses) in
     let is = one_row w.bound (within list w) r.kind q (named w.bound r.refusal) held own in
     let at = f.offset in
     let mark = f.closed in
     let shows : named_error s.bound error ≡ error_at w.start q =
-    ap (named_error s.bound) r.shows ∙ named_at s.bound s.offset r.refusal ∙ ap (λ (o : LenSource). error_at s.offset (named o r.refusal)) f.bound ∙ ap (λ (n : ℕ). error_at n (named w.bound r.refusal)) at ∙ ap (error_at w.start) (sym is) in
+    ap (named_error s.bound) r.shows ∙ named_at s.bound s.offset r.refusal
+    ∙ ap (λ (o : LenSource). error_at s.offset (named o r.refusal)) f.bound
+    ∙ ap (λ (n : ℕ). error_at n (named w.bound r.refusal)) at ∙ ap (error_at w.start) (sym is) in
     let fault : fault_at s error ≡ fault_in w q = λ i. record { offset = at i; error = shows i; closed = mark i } in
     (ap (λ (g : PeelFault). Some (Err g)) fault, refl)
 next_fault list w s (h ∷ hs) e error r f =
     let same = same_kind (announced s.expected) r.kind (kind_of h) r.announced f.stack.0.announced in
-    let own = bounded_row w.bound (within list w) r.kind r.refusal (subst (λ (l : List ℕ). Refuses sources.Slice l r.kind r.refusal) f.rest r.refuses) in
-    absurd (f.stack.0.accepted _ (subst (λ (k : Kind). Refuses w.bound (within list w) k (named w.bound r.refusal)) same own))
+    let own =
+    bounded_row w.bound (within list w) r.kind r.refusal
+    (subst (λ (l : List ℕ). Refuses sources.Slice l r.kind r.refusal) f.rest r.refuses) in
+    absurd
+    (f.stack.0.accepted _
+    (subst (λ (k : Kind). Refuses w.bound (within list w) k (named w.bound r.refusal)) same own))
 
 -- the unit is refused
-pub gives_fault : (s : State) (error : PeelError) → IsRefusedBy s error → Gives s (Some (Err (fault_at s error))) (ended s)
+pub gives_fault : (s : State) (error : PeelError) → IsRefusedBy s error
+    → Gives s (Some (Err (fault_at s error))) (ended s)
 gives_fault s error r = record {
   over = λ over. absurd (not_over s.over r.going over);
   next = λ going list w hs e f. next_fault list w s hs e error r f;
 }
 
 -- a length error, moved to the start of the unit
-pub refused_len : (s : State) (kind : Kind) (bytes : List ℕ) (offset : ℕ) (e moved : LenError) → s.over ≡ false → announced s.expected ≡ Some kind → bytes ≡ s.rest → offset ≡ s.offset → IsRefusedLen bytes kind e
+pub refused_len : (s : State) (kind : Kind) (bytes : List ℕ) (offset : ℕ) (e moved : LenError) → s.over ≡ false
+    → announced s.expected ≡ Some kind → bytes ≡ s.rest → offset ≡ s.offset → IsRefusedLen bytes kind e
     → moved ≡ record e { layer_start_offset = e.layer_start_offset + offset } → IsRefusedBy s (errors.Len moved)
 refused_len s kind bytes offset e moved going some rest at refused is =
     let zero : e.layer_start_offset + offset ≡ s.offset = let z = refused.start in omega arith in
@@ -141,12 +165,16 @@ refused_len s kind bytes offset e moved going some rest at refused is =
       kind = kind;
       announced = some;
       refusal = Length e.required_len e.len e.len_source e.layer;
-      refuses = subst (λ (l : List ℕ). Refuses sources.Slice l kind (Length e.required_len e.len e.len_source e.layer)) rest refused.row;
+      refuses =
+          subst (λ (l : List ℕ). Refuses sources.Slice l kind (Length e.required_len e.len e.len_source e.layer)) rest
+          refused.row;
       shows = ap errors.Len (is ∙ (λ i. record e { layer_start_offset = zero i }));
     }
 
 -- contents of a cooked capture
-pub refused_linux_sll : (s : State) (bytes : List ℕ) (e : LinuxSllHeaderError) → s.over ≡ false → announced s.expected ≡ Some kinds.LinuxSll → bytes ≡ s.rest → IsRefusedContent bytes e → IsRefusedBy s (errors.LinuxSll e)
+pub refused_linux_sll : (s : State) (bytes : List ℕ) (e : LinuxSllHeaderError) → s.over ≡ false
+    → announced s.expected ≡ Some kinds.LinuxSll → bytes ≡ s.rest → IsRefusedContent bytes e
+    → IsRefusedBy s (errors.LinuxSll e)
 refused_linux_sll s bytes (linux_sll.UnsupportedPacketTypeField n) going some rest refused = record {
   going = going;
   kind = kinds.LinuxSll;
@@ -165,10 +193,16 @@ refused_linux_sll s bytes (linux_sll.UnsupportedArpHardwareId h) going some rest
 }
 
 -- a SecTag and its payload: a length, or contents
-pub refused_packet_len : (bytes : List ℕ) (e : LenError) → IsRefusedPacket bytes (Len e) → IsRefusedLen bytes kinds.Macsec e
-refused_packet_len bytes e p = record { row = subst (Refuses sources.Slice bytes kinds.Macsec) p.is.0 p.row; start = p.is.1 }
+pub refused_packet_len : (bytes : List ℕ) (e : LenError) → IsRefusedPacket bytes (Len e)
+    → IsRefusedLen bytes kinds.Macsec e
+refused_packet_len bytes e p = record {
+  row = subst (Refuses sources.Slice bytes kinds.Macsec) p.is.0 p.row;
+  start = p.is.1;
+}
 
-pub refused_macsec : (s : State) (bytes : List ℕ) (e : MacsecHeaderError) → s.over ≡ false → announced s.expected ≡ Some kinds.Macsec → bytes ≡ s.rest → IsRefusedPacket bytes (Content e) → IsRefusedBy s (errors.Macsec e)
+pub refused_macsec : (s : State) (bytes : List ℕ) (e : MacsecHeaderError) → s.over ≡ false
+    → announced s.expected ≡ Some kinds.Macsec → bytes ≡ s.rest → IsRefusedPacket bytes (Content e)
+    → IsRefusedBy s (errors.Macsec e)
 refused_macsec s bytes macsec.UnexpectedVersion going some rest p = record {
   going = going;
   kind = kinds.Macsec;
@@ -196,16 +230,23 @@ abbrev pub own_payload : State → Header → Window
 own_payload s h = payload_from (header_len h) (trailer_len h) (payload_len h) (own_window s)
 
 -- a part of the window left to read, by its places in the whole frame
-pub moved_part : (frame : List ℕ) (i j start end : ℕ) (u : Window) → u.start ≤ u.finish → i + u.finish ≤ j → start ≡ i + u.start → end ≡ i + u.finish → slice_range frame start end ≡ within (slice_range frame i j) u
+pub moved_part : (frame : List ℕ) (i j start end : ℕ) (u : Window) → u.start ≤ u.finish → i + u.finish ≤ j
+    → start ≡ i + u.start → end ≡ i + u.finish → slice_range frame start end ≡ within (slice_range frame i j) u
 moved_part frame i j start end u ordered inside at to =
-    ap (λ (x : ℕ). slice_range frame x end) at ∙ ap (slice_range frame (i + u.start)) to ∙ sym (part_of_part frame i j u.start u.finish ordered inside)
+    ap (λ (x : ℕ). slice_range frame x end) at ∙ ap (slice_range frame (i + u.start)) to
+    ∙ sym (part_of_part frame i j u.start u.finish ordered inside)
 
 -- all of it after a header
-pub plain_part : (frame : List ℕ) (i j n k : ℕ) (closed : Bool) → i ≤ j → j ≤ length frame → n ≤ length (slice_range frame i j) → k ≡ n
-    → slice_range frame (i + k) j ≡ within (slice_range frame i j) (record { start = n; finish = length (slice_range frame i j) - 0; closed = closed; bound = sources.Slice })
+pub plain_part : (frame : List ℕ) (i j n k : ℕ) (closed : Bool) → i ≤ j → j ≤ length frame
+    → n ≤ length (slice_range frame i j) → k ≡ n
+    → slice_range frame (i + k) j
+    ≡ within (slice_range frame i j)
+    (record { start = n; finish = length (slice_range frame i j) - 0; closed = closed; bound = sources.Slice })
 plain_part frame i j n k closed ordered inside whole is =
     let long = length-part frame i j inside in
-    moved_part frame i j (i + k) j (record { start = n; finish = length (slice_range frame i j) - 0; closed = closed; bound = sources.Slice }) (omega arith) (omega arith) (omega arith) (omega arith)
+    moved_part frame i j (i + k) j
+    (record { start = n; finish = length (slice_range frame i j) - 0; closed = closed; bound = sources.Slice })
+    (omega arith) (omega arith) (omega arith) (omega arith)
 
 -- the unit that is announced was read, and t is the walk after it
 pub record IsReadBy (s : State) (u : PeelUnit) (t : State) : Type 0 where
@@ -236,7 +277,8 @@ record IsPart (list : List ℕ) (v : Window) (rest : List ℕ) (u : Window) : Ty
   pub bound : u.bound ≡ v.bound
 
 -- a payload in the bytes of a window is the window's payload
-payload_part : (list : List ℕ) (w : Window) (s : State) (n trailer : ℕ) (o : Option ℕ) → IsIn list w → s.rest ≡ within list w → s.closed ≡ w.closed → s.bound ≡ w.bound → n + unwrap_or o 0 + trailer ≤ length s.rest
+payload_part : (list : List ℕ) (w : Window) (s : State) (n trailer : ℕ) (o : Option ℕ) → IsIn list w
+    → s.rest ≡ within list w → s.closed ≡ w.closed → s.bound ≡ w.bound → n + unwrap_or o 0 + trailer ≤ length s.rest
     → IsPart list (payload_from (w.start + n) trailer o w) s.rest (payload_from n trailer o (own_window s))
 payload_part list w s n trailer None i is mark bound fits =
     let ordered = i.ordered in
@@ -245,7 +287,10 @@ payload_part list w s n trailer None i is mark bound fits =
     let end : w.start + (length s.rest - trailer) ≡ w.finish - trailer = omega arith in
     record {
       inside = record { ordered = omega arith; inside = omega arith };
-      bytes = ap (λ (l : List ℕ). slice_range l n (length s.rest - trailer)) is ∙ part_of_part list w.start w.finish n (length s.rest - trailer) (omega arith) (omega arith) ∙ ap (slice_range list (w.start + n)) end;
+      bytes =
+          ap (λ (l : List ℕ). slice_range l n (length s.rest - trailer)) is
+          ∙ part_of_part list w.start w.finish n (length s.rest - trailer) (omega arith) (omega arith)
+          ∙ ap (slice_range list (w.start + n)) end;
       closed = mark;
       bound = bound;
     }
@@ -256,15 +301,22 @@ payload_part list w s n trailer (Some p) i is mark bound fits =
     let end : w.start + (n + p) ≡ w.start + n + p = omega arith in
     record {
       inside = record { ordered = omega arith; inside = omega arith };
-      bytes = ap (λ (l : List ℕ). slice_range l n (n + p)) is ∙ part_of_part list w.start w.finish n (n + p) (omega arith) (omega arith) ∙ ap (slice_range list (w.start + n)) end;
+      bytes =
+          ap (λ (l : List ℕ). slice_range l n (n + p)) is
+          ∙ part_of_part list w.start w.finish n (n + p) (omega arith) (omega arith)
+          ∙ ap (slice_range list (w.start + n)) end;
       closed = refl;
       bound = refl;
     }
 
-faces_after : (list : List ℕ) (w : Window) (s t : State) (u : PeelUnit) (hs : List Header) (e : Ending) (r : IsReadBy s u t) → Faces list w s (r.header ∷ hs) e → Faces list (payload w r.header) t hs e
+faces_after : (list : List ℕ) (w : Window) (s t : State) (u : PeelUnit) (hs : List Header) (e : Ending)
+    (r : IsReadBy s u t)
+    → Faces list w s (r.header ∷ hs) e → Faces list (payload w r.header) t hs e
 faces_after list w s t u hs e r f =
     let h = r.header in
-    let part = payload_part list w s (header_len h) (trailer_len h) (payload_len h) f.inside f.rest f.closed f.bound (unit_fits sources.Slice s.rest h r.accepted r.means) in
+    let part =
+    payload_part list w s (header_len h) (trailer_len h) (payload_len h) f.inside f.rest f.closed f.bound
+    (unit_fits sources.Slice s.rest h r.accepted r.means) in
     record {
       inside = part.inside;
       rest = r.rest ∙ part.bytes;
@@ -274,16 +326,23 @@ faces_after list w s t u hs e r f =
       stack = subst (λ (x : Expectation). Stack list x (payload w h) hs e) (sym (expected_after s t u r)) f.stack.1;
     }
 
-next_unit : (list : List ℕ) (w : Window) (s t : State) (u : PeelUnit) (hs : List Header) (e : Ending) → IsReadBy s u t → Faces list w s hs e → GivesNext list w hs e s (Some (Ok u)) t
-next_unit list w s t u [] (Accepted v y) r f = absurd (no_kind (announced s.expected) (kind_of r.header) f.stack.2 r.announced)
+next_unit : (list : List ℕ) (w : Window) (s t : State) (u : PeelUnit) (hs : List Header) (e : Ending) → IsReadBy s u t
+    → Faces list w s hs e → GivesNext list w hs e s (Some (Ok u)) t
+next_unit list w s t u [] (Accepted v y) r f =
+    absurd (no_kind (announced s.expected) (kind_of r.header) f.stack.2 r.announced)
 next_unit list w s t u [] (Fault v y q) r f =
     let same = same_kind (announced s.expected) f.stack.2 (kind_of r.header) f.stack.3 r.announced in
-    absurd (accepts_bounded w.bound s.rest (kind_of r.header) r.accepted q (subst (λ (l : List ℕ). Refuses w.bound l (kind_of r.header) q) (sym f.rest) (subst (λ (k : Kind). Refuses w.bound (within list w) k q) same f.stack.4)))
+    absurd
+    (accepts_bounded w.bound s.rest (kind_of r.header) r.accepted q
+    (subst (λ (l : List ℕ). Refuses w.bound l (kind_of r.header) q) (sym f.rest)
+    (subst (λ (k : Kind). Refuses w.bound (within list w) k q) same f.stack.4)))
 next_unit list w s t u (h ∷ hs) e r f =
     let same = same_kind (announced s.expected) (kind_of r.header) (kind_of h) r.announced f.stack.0.announced in
-    let is = one_header s.rest r.header h same r.means (subst (λ (l : List ℕ). Means l h) (sym f.rest) f.stack.0.means) in
+    let is =
+    one_header s.rest r.header h same r.means (subst (λ (l : List ℕ). Means l h) (sym f.rest) f.stack.0.means) in
     let own = subst (λ (g : Header). Faces list w s (g ∷ hs) e) (sym is) f in
-    subst (λ (g : Header). GivesNext list w (g ∷ hs) e s (Some (Ok u)) t) is (u, refl, r.shows, r.over, expected_after s t u r, faces_after list w s t u hs e r own)
+    subst (λ (g : Header). GivesNext list w (g ∷ hs) e s (Some (Ok u)) t) is
+    (u, refl, r.shows, r.over, expected_after s t u r, faces_after list w s t u hs e r own)
 
 -- the unit is there
 pub gives_unit : (s t : State) (u : PeelUnit) → IsReadBy s u t → Gives s (Some (Ok u)) t
@@ -293,7 +352,8 @@ gives_unit s t u r = record {
 }
 
 -- a header that names no length was read at the start of these bytes, n bytes long
-pub record IsReadPlain (bytes : List ℕ) (x : Expectation) (n : ℕ) (u : PeelUnit) (next : Next) (limit : Option ℕ) : Type 0 where
+pub record IsReadPlain (bytes : List ℕ) (x : Expectation) (n : ℕ) (u : PeelUnit) (next : Next)
+    (limit : Option ℕ) : Type 0 where
   pub header : Header
   pub no_len : payload_len header ≡ None
   pub no_trailer : trailer_len header ≡ 0
@@ -307,10 +367,19 @@ pub record IsReadPlain (bytes : List ℕ) (x : Expectation) (n : ℕ) (u : PeelU
 
 -- the walk goes on after it, in the same window
 abbrev pub after_plain : Inside → ℕ → Next → Option ℕ → State
-after_plain a n next limit = record { rest = slice_range a.frame.now (a.start + n) a.end; offset = a.start + n; closed = a.is_closed; bound = a.bound; expected = record { next = next; limit = limit }; over = a.is_over }
+after_plain a n next limit = record {
+  rest = slice_range a.frame.now (a.start + n) a.end;
+  offset = a.start + n;
+  closed = a.is_closed;
+  bound = a.bound;
+  expected = record { next = next; limit = limit };
+  over = a.is_over;
+}
 
-pub gives_plain : (a : Inside) (s : State) (n : ℕ) (u : PeelUnit) (next : Next) (limit : Option ℕ) → shown a ≡ s → s.over ≡ false → a.start ≤ a.end → a.end ≤ length a.frame.now
-    → IsReadPlain (slice_range a.frame.now a.start a.end) s.expected n u next limit → Gives s (Some (Ok u)) (after_plain a n next limit)
+pub gives_plain : (a : Inside) (s : State) (n : ℕ) (u : PeelUnit) (next : Next) (limit : Option ℕ) → shown a ≡ s
+    → s.over ≡ false → a.start ≤ a.end → a.end ≤ length a.frame.now
+    → IsReadPlain (slice_range a.frame.now a.start a.end) s.expected n u next limit
+    → Gives s (Some (Ok u)) (after_plain a n next limit)
 gives_plain a s n u next limit is going ordered inside r =
     let bytes = slice_range a.frame.now a.start a.end in
     let h = r.header in
@@ -318,9 +387,13 @@ gives_plain a s n u next limit is going ordered inside r =
     let rest = slice_range a.frame.now (a.start + n) a.end in
     let part = plain_part a.frame.now a.start a.end (header_len h) n a.is_closed ordered inside r.means.whole r.len in
     let own : within bytes (own_payload (shown a) h) ≡ slice_range bytes (header_len h) (length bytes - 0) =
-    ap (λ (o : Option ℕ). slice_range bytes (header_len h) (payload_finish (header_len h) (trailer_len h) (length bytes) o)) r.no_len
+    ap
+    (λ (o : Option ℕ).
+    slice_range bytes (header_len h) (payload_finish (header_len h) (trailer_len h) (length bytes) o))
+    r.no_len
     ∙ ap (λ (k : ℕ). slice_range bytes (header_len h) (length bytes - k)) r.no_trailer in
-    subst (λ (z : State). Gives z (Some (Ok u)) (after_plain a n next limit)) is (gives_unit (shown a) (after_plain a n next limit) u (record {
+    subst (λ (z : State). Gives z (Some (Ok u)) (after_plain a n next limit)) is
+    (gives_unit (shown a) (after_plain a n next limit) u (record {
       going = over;
       header = h;
       announced = ap (λ (z : State). announced z.expected) is ∙ r.announced;
@@ -336,12 +409,15 @@ gives_plain a s n u next limit is going ordered inside r =
       over = over;
     }))
 
-fewer : (over after : Bool) (n k : ℕ) → over ≡ false → k + 4 ≤ n → (if after then 0 else k / 4 + 1) < (if over then 0 else n / 4 + 1)
+fewer : (over after : Bool) (n k : ℕ) → over ≡ false → k + 4 ≤ n
+    → (if after then 0 else k / 4 + 1) < (if over then 0 else n / 4 + 1)
 fewer false true n k going le = omega arith
 fewer false false n k going le = omega arith
 fewer true after n k going le = absurd cc
 
 -- at least four bytes fewer are left
-pub nearer : (s old t : State) → s ≡ old → s.over ≡ false → length t.rest + 4 ≤ length s.rest → size (items_left t) < size (items_left old)
+pub nearer : (s old t : State) → s ≡ old → s.over ≡ false → length t.rest + 4 ≤ length s.rest
+    → size (items_left t) < size (items_left old)
 nearer s old t is going le =
-    subst (λ (u : State). size (items_left t) < size (items_left u)) is (fewer s.over t.over (length s.rest) (length t.rest) going le)
+    subst (λ (u : State). size (items_left t) < size (items_left u)) is
+    (fewer s.over t.over (length s.rest) (length t.rest) going le)

@@ -35,7 +35,9 @@ type_len_most zero zero = omega arith
 type_len_most zero (suc c) = omega arith
 type_len_most (suc e) c = omega arith
 
-row_accepts : (bound : LenSource) (l : List ℕ) (kind : Kind) (required len : ℕ) (source : LenSource) → 6 ≤ length l → Refuses bound l kind (Length required len source layers.MacsecHeader) → AcceptsHeader sources.Slice (two_of l) kinds.Macsec
+row_accepts : (bound : LenSource) (l : List ℕ) (kind : Kind) (required len : ℕ) (source : LenSource) → 6 ≤ length l
+    → Refuses bound l kind (Length required len source layers.MacsecHeader)
+    → AcceptsHeader sources.Slice (two_of l) kinds.Macsec
 row_accepts bound l kind required len source six (rows.macsec lt) = absurd (omega arith)
 row_accepts bound l kind required len source six (rows.macsec_header t le b v s lt) =
     let begins : BeginsSecTag (two_of l) t = record { sum = same_number l (omega arith) ∙ b.sum; fits = b.fits } in
@@ -43,8 +45,10 @@ row_accepts bound l kind required len source six (rows.macsec_header t le b v s 
     let most = type_len_most t.encrypted t.changed in
     accepts_tag sources.Slice (two_of l) t (omega arith) begins v s (omega arith)
 
-pub never_refused : (l : List ℕ) (e : HeaderSliceError MacsecHeaderError) → IsShort l layers.MacsecHeader → 6 ≤ length l → IsRefusedTag (two_of l) e → ⊥
-never_refused l e short six refused = row_accepts short.0 l short.1 short.2 short.3 short.4 six short.5 refused.refusal refused.row
+pub never_refused : (l : List ℕ) (e : HeaderSliceError MacsecHeaderError) → IsShort l layers.MacsecHeader → 6 ≤ length l
+    → IsRefusedTag (two_of l) e → ⊥
+never_refused l e short six refused =
+    row_accepts short.0 l short.1 short.2 short.3 short.4 six short.5 refused.refusal refused.row
 
 -- ---- the packet that they plan
 
@@ -53,7 +57,8 @@ some_most true n = omega arith
 some_most false n = omega arith
 
 -- a tag and its payload have at most 79 bytes
-pub tag_most : (t : SecTagFront) → t.sci_present < 2 → t.short_len < 64 → sec_tag_len t + unwrap_or (known_payload_len t) 0 ≤ 79
+pub tag_most : (t : SecTagFront) → t.sci_present < 2 → t.short_len < 64
+    → sec_tag_len t + unwrap_or (known_payload_len t) 0 ≤ 79
 tag_most t present short =
     let type = type_len_most t.encrypted t.changed in
     let n = ether_type_len t.encrypted t.changed in
@@ -66,30 +71,51 @@ no_type_place zero (suc c) s none = refl
 no_type_place (suc e) c s none = refl
 
 -- the front of the tag that is read from them is that of the list
-tag_front : (l bytes : List ℕ) → 2 ≤ length l → bytes ≡ slice_range (two_of l) 0 (sec_tag_len (sec_tag_front_in (two_of l))) → sec_tag_front_in bytes ≡ sec_tag_front_in l
+tag_front : (l bytes : List ℕ) → 2 ≤ length l
+    → bytes ≡ slice_range (two_of l) 0 (sec_tag_len (sec_tag_front_in (two_of l)))
+    → sec_tag_front_in bytes ≡ sec_tag_front_in l
 tag_front l bytes le is =
     let least = sec_tag_len_least (sec_tag_front_in (two_of l)) in
-    ap sec_tag_front_in is ∙ sec_tag_front_part (two_of l) (sec_tag_len (sec_tag_front_in (two_of l))) (omega arith) ∙ same_front l le
+    ap sec_tag_front_in is ∙ sec_tag_front_part (two_of l) (sec_tag_len (sec_tag_front_in (two_of l))) (omega arith)
+    ∙ same_front l le
 
-tag_plan : (l : List ℕ) (t : SecTagFront) (len total : ℕ) (place : Option ℕ) → IsBytes l → 6 ≤ length l → t ≡ sec_tag_front_in l → total ≡ sec_tag_len t + unwrap_or (known_payload_len t) 0 → place ≡ type_place t.encrypted t.changed t.sci_present
+tag_plan : (l : List ℕ) (t : SecTagFront) (len total : ℕ) (place : Option ℕ) → IsBytes l → 6 ≤ length l
+    → t ≡ sec_tag_front_in l → total ≡ sec_tag_len t + unwrap_or (known_payload_len t) 0
+    → place ≡ type_place t.encrypted t.changed t.sci_present
     → Plan l layers.MacsecHeader total place
 tag_plan l t len total place ok six same total_is place_is =
     let begins : BeginsSecTag l t = subst (BeginsSecTag l) (sym same) (sec_tag_front_read l ok six) in
-    subst (λ (n : ℕ). Plan l layers.MacsecHeader n place) (sym total_is) (subst (Plan l layers.MacsecHeader (sec_tag_len t + unwrap_or (known_payload_len t) 0)) (sym place_is) (plans.Plan.macsec t begins))
+    subst (λ (n : ℕ). Plan l layers.MacsecHeader n place) (sym total_is)
+    (subst (Plan l layers.MacsecHeader (sec_tag_len t + unwrap_or (known_payload_len t) 0)) (sym place_is)
+    (plans.Plan.macsec t begins))
 
 -- of a tag with an ether type
-pub plan_typed : (l bytes : List ℕ) (len payload_len : ℕ) → IsBytes l → 6 ≤ length l → bytes ≡ slice_range (two_of l) 0 (sec_tag_len (sec_tag_front_in (two_of l))) → len ≡ sec_tag_len (sec_tag_front_in bytes)
-    → payload_len ≡ unwrap_or (known_payload_len (sec_tag_front_in bytes)) 0 → (sec_tag_front_in bytes).encrypted ≡ 0 → (sec_tag_front_in bytes).changed ≡ 0 → Plan l layers.MacsecHeader (len + payload_len) (Some (len - 2))
+pub plan_typed : (l bytes : List ℕ) (len payload_len : ℕ) → IsBytes l → 6 ≤ length l
+    → bytes ≡ slice_range (two_of l) 0 (sec_tag_len (sec_tag_front_in (two_of l)))
+    → len ≡ sec_tag_len (sec_tag_front_in bytes)
+    → payload_len ≡ unwrap_or (known_payload_len (sec_tag_front_in bytes)) 0 → (sec_tag_front_in bytes).encrypted ≡ 0
+    → (sec_tag_front_in bytes).changed ≡ 0 → Plan l layers.MacsecHeader (len + payload_len) (Some (len - 2))
 plan_typed l bytes len payload_len ok six is len_is payload_is encrypted changed =
     let t = sec_tag_front_in bytes in
     let n : sec_tag_len t ≡ 6 + 8 * t.sci_present + 2 = rw (encrypted, changed) refl in
     let at : len - 2 ≡ 6 + 8 * t.sci_present = omega arith in
-    let place = ap Some at ∙ sym (ap (λ (k : ℕ). type_place k t.changed t.sci_present) encrypted ∙ ap (λ (k : ℕ). type_place 0 k t.sci_present) changed) in
-    tag_plan l t len (len + payload_len) (Some (len - 2)) ok six (tag_front l bytes (omega arith) is) (ap (λ (k : ℕ). k + payload_len) len_is ∙ ap (λ (k : ℕ). sec_tag_len t + k) payload_is) place
+    let place =
+    ap Some at
+    ∙ sym
+    (ap (λ (k : ℕ). type_place k t.changed t.sci_present) encrypted
+    ∙ ap (λ (k : ℕ). type_place 0 k t.sci_present) changed) in
+    tag_plan l t len (len + payload_len) (Some (len - 2)) ok six (tag_front l bytes (omega arith) is)
+    (ap (λ (k : ℕ). k + payload_len) len_is ∙ ap (λ (k : ℕ). sec_tag_len t + k) payload_is) place
 
 -- of one without
-pub plan_sealed : (l bytes : List ℕ) (len payload_len : ℕ) → IsBytes l → 6 ≤ length l → bytes ≡ slice_range (two_of l) 0 (sec_tag_len (sec_tag_front_in (two_of l))) → len ≡ sec_tag_len (sec_tag_front_in bytes)
-    → payload_len ≡ unwrap_or (known_payload_len (sec_tag_front_in bytes)) 0 → (((sec_tag_front_in bytes).encrypted ≡ 0) × ((sec_tag_front_in bytes).changed ≡ 0) → ⊥) → Plan l layers.MacsecHeader (len + payload_len) None
+pub plan_sealed : (l bytes : List ℕ) (len payload_len : ℕ) → IsBytes l → 6 ≤ length l
+    → bytes ≡ slice_range (two_of l) 0 (sec_tag_len (sec_tag_front_in (two_of l)))
+    → len ≡ sec_tag_len (sec_tag_front_in bytes)
+    → payload_len ≡ unwrap_or (known_payload_len (sec_tag_front_in bytes)) 0
+    → (((sec_tag_front_in bytes).encrypted ≡ 0) × ((sec_tag_front_in bytes).changed ≡ 0) → ⊥)
+    → Plan l layers.MacsecHeader (len + payload_len) None
 plan_sealed l bytes len payload_len ok six is len_is payload_is sealed =
     let t = sec_tag_front_in bytes in
-    tag_plan l t len (len + payload_len) None ok six (tag_front l bytes (omega arith) is) (ap (λ (k : ℕ). k + payload_len) len_is ∙ ap (λ (k : ℕ). sec_tag_len t + k) payload_is) (sym (no_type_place t.encrypted t.changed t.sci_present sealed))
+    tag_plan l t len (len + payload_len) None ok six (tag_front l bytes (omega arith) is)
+    (ap (λ (k : ℕ). k + payload_len) len_is ∙ ap (λ (k : ℕ). sec_tag_len t + k) payload_is)
+    (sym (no_type_place t.encrypted t.changed t.sci_present sealed))

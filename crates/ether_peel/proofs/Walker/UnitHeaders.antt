@@ -12,16 +12,22 @@ use Rattle.ether_peel.specs.declared.peel_unit.PeelUnit.{PeelUnit}
 use Rattle.ether_peel.proofs.Walker.ViewValues.{ethernet2_shown, linux_sll_shown, vlan_shown, macsec_shown, arp_shown}
 
 -- a view of a unit means the unit's header
-pub unit_header-shown : (bytes rest : List ℕ) (h : Header) (u : PeelUnit) → IsBytes bytes → Means bytes h → ShowsUnit bytes rest h u → unit_header u ≡ h
-unit_header-shown bytes rest (headers.Ethernet2 e) u ok m shows = ap unit_header shows ∙ ap headers.Ethernet2 (ethernet2_shown bytes e ok m)
+pub unit_header-shown : (bytes rest : List ℕ) (h : Header) (u : PeelUnit) → IsBytes bytes → Means bytes h
+    → ShowsUnit bytes rest h u → unit_header u ≡ h
+unit_header-shown bytes rest (headers.Ethernet2 e) u ok m shows =
+    ap unit_header shows ∙ ap headers.Ethernet2 (ethernet2_shown bytes e ok m)
 unit_header-shown bytes rest (headers.Ethernet2Fcs e) u ok m shows =
     let plain : Means bytes (headers.Ethernet2 e) = record { whole = m.whole; spells = m.spells } in
     ap unit_header shows ∙ ap headers.Ethernet2Fcs (ethernet2_shown bytes e ok plain)
-unit_header-shown bytes rest (headers.LinuxSll s) u ok m shows = ap unit_header shows ∙ ap headers.LinuxSll (linux_sll_shown bytes s ok m)
-unit_header-shown bytes rest (headers.Vlan v) u ok m shows = ap unit_header shows ∙ ap headers.Vlan (vlan_shown bytes v ok m)
+unit_header-shown bytes rest (headers.LinuxSll s) u ok m shows =
+    ap unit_header shows ∙ ap headers.LinuxSll (linux_sll_shown bytes s ok m)
+unit_header-shown bytes rest (headers.Vlan v) u ok m shows =
+    ap unit_header shows ∙ ap headers.Vlan (vlan_shown bytes v ok m)
 unit_header-shown bytes rest (headers.Macsec t) u ok m shows =
-    ap unit_header shows.1 ∙ ap (λ (l : List ℕ). headers.Macsec (sec_tag_of l)) shows.2.header ∙ ap headers.Macsec (macsec_shown bytes t ok m)
-unit_header-shown bytes rest (headers.Arp a) u ok m shows = ap unit_header shows ∙ ap headers.Arp (arp_shown bytes a ok m)
+    ap unit_header shows.1 ∙ ap (λ (l : List ℕ). headers.Macsec (sec_tag_of l)) shows.2.header
+    ∙ ap headers.Macsec (macsec_shown bytes t ok m)
+unit_header-shown bytes rest (headers.Arp a) u ok m shows =
+    ap unit_header shows ∙ ap headers.Arp (arp_shown bytes a ok m)
 
 pub units_mean_headers : UnitsMeanHeaders
 units_mean_headers list w h hs e s t u ok faces going gives =

@@ -51,8 +51,10 @@ has_front tag =
     record { len = ap sec_tag_len same; known = ap known_payload_len same }
 
 type_taken : (bytes : List ℕ) (n at encrypted changed : ℕ) → n ≡ at + ether_type_len encrypted changed
-    → payload_type_for encrypted changed (number (slice_range (slice_range bytes 0 n) at (at + 2))) ≡ payload_type_for encrypted changed (number (slice_range bytes at (at + 2)))
-type_taken bytes n at zero zero e = ap (λ (l : List ℕ). payloads.Unmodified (number l)) (part_of_front bytes n at (at + 2) (omega arith) (omega arith))
+    → payload_type_for encrypted changed (number (slice_range (slice_range bytes 0 n) at (at + 2)))
+    ≡ payload_type_for encrypted changed (number (slice_range bytes at (at + 2)))
+type_taken bytes n at zero zero e =
+    ap (λ (l : List ℕ). payloads.Unmodified (number l)) (part_of_front bytes n at (at + 2) (omega arith) (omega arith))
 type_taken bytes n at zero (suc changed) e = refl
 type_taken bytes n at (suc encrypted) zero e = refl
 type_taken bytes n at (suc encrypted) (suc changed) e = refl
@@ -64,22 +66,30 @@ pub record IsTaken (bytes tag : List ℕ) : Type 0 where
   pub payload_type : (sec_tag_of tag).payload_type ≡ (sec_tag_of bytes).payload_type
   pub front : sec_tag_front_in tag ≡ sec_tag_front_in bytes
 
-pub tag_taken : (bytes tag : List ℕ) → tag ≡ slice_range bytes 0 (sec_tag_len (sec_tag_front_in bytes)) → IsTaken bytes tag
+pub tag_taken : (bytes tag : List ℕ) → tag ≡ slice_range bytes 0 (sec_tag_len (sec_tag_front_in bytes))
+    → IsTaken bytes tag
 tag_taken bytes tag part =
     let f = sec_tag_front_in bytes in
     let n = sec_tag_len f in
     let at = 6 + 8 * f.sci_present in
     let front : sec_tag_front_in tag ≡ f = ap sec_tag_front_in part ∙ sec_tag_front_part bytes n (omega arith) in
     let own = has_front tag in
-    let type_of : SecTagFront → PayloadType = λ g. payload_type_for g.encrypted g.changed (number (slice_range tag (6 + 8 * g.sci_present) (6 + 8 * g.sci_present + 2))) in
+    let type_of : SecTagFront → PayloadType =
+    λ g.
+    payload_type_for g.encrypted g.changed
+    (number (slice_range tag (6 + 8 * g.sci_present) (6 + 8 * g.sci_present + 2))) in
     record {
       len = own.len ∙ ap sec_tag_len front;
       known = own.known ∙ ap known_payload_len front;
-      payload_type = ap type_of front ∙ ap (λ (l : List ℕ). payload_type_for f.encrypted f.changed (number (slice_range l at (at + 2)))) part ∙ type_taken bytes n at f.encrypted f.changed refl;
+      payload_type =
+          ap type_of front
+          ∙ ap (λ (l : List ℕ). payload_type_for f.encrypted f.changed (number (slice_range l at (at + 2)))) part
+          ∙ type_taken bytes n at f.encrypted f.changed refl;
       front = front;
     }
 
-pub after_typed : (type : PayloadType) (p : MacsecPayloadSlice) (source : LenSource) (bytes : List ℕ) → HoldsTyped p (readable_type type) source bytes → after_sec_tag p ≡ after_payload type
+pub after_typed : (type : PayloadType) (p : MacsecPayloadSlice) (source : LenSource) (bytes : List ℕ)
+    → HoldsTyped p (readable_type type) source bytes → after_sec_tag p ≡ after_payload type
 after_typed (payloads.Unmodified t) (kept.Unmodified p) source bytes h = ap EtherType h.0
 after_typed (payloads.Unmodified t) (kept.Modified p) source bytes h = absurd h
 after_typed payloads.Modified (kept.Unmodified p) source bytes h = absurd h
@@ -89,7 +99,8 @@ after_typed payloads.EncryptedUnmodified (kept.Modified p) source bytes h = refl
 after_typed payloads.Encrypted (kept.Unmodified p) source bytes h = absurd h
 after_typed payloads.Encrypted (kept.Modified p) source bytes h = refl
 
-pub payload_typed : (p : MacsecPayloadSlice) (type : Option ℕ) (source : LenSource) (bytes : List ℕ) → HoldsTyped p type source bytes → sec_tag_payload p ≡ bytes
+pub payload_typed : (p : MacsecPayloadSlice) (type : Option ℕ) (source : LenSource) (bytes : List ℕ)
+    → HoldsTyped p type source bytes → sec_tag_payload p ≡ bytes
 payload_typed (kept.Unmodified p) (Some t) source bytes h = h.2
 payload_typed (kept.Unmodified p) None source bytes h = absurd h
 payload_typed (kept.Modified p) (Some t) source bytes h = absurd h
@@ -102,52 +113,80 @@ payload_ends (Some p) n whole = refl
 -- a view of a tag and its payload, which was read in these bytes, with the length of the tag
 pub record IsTagRead (bytes : List ℕ) (m : MacsecSlice) (n : ℕ) (t : SecTagValue) : Type 0 where
   pub len : n ≡ header_len (headers.Macsec t)
-  pub rest : sec_tag_payload m.payload ≡ slice_range bytes (header_len (headers.Macsec t)) (payload_finish (header_len (headers.Macsec t)) 0 (length bytes) (payload_len (headers.Macsec t)))
+  pub rest : sec_tag_payload m.payload
+      ≡ slice_range bytes (header_len (headers.Macsec t))
+      (payload_finish (header_len (headers.Macsec t)) 0 (length bytes) (payload_len (headers.Macsec t)))
   pub shorter : n + length (sec_tag_payload m.payload) ≤ length bytes
   pub shows : ShowsMacsec bytes (sec_tag_payload m.payload) t m
   pub expected : after_sec_tag m.payload ≡ after_payload t.payload_type
   pub known : known_payload_len (sec_tag_front_in (tag_bytes m.header)) ≡ payload_len (headers.Macsec t)
 
-pub tag_read : (bytes : List ℕ) (m : MacsecSlice) (n : ℕ) → tag_bytes m.header ≡ slice_range bytes 0 (sec_tag_len (sec_tag_front_in bytes)) → HoldsPayload m.payload (sec_tag_front_in bytes) bytes
-    → n ≡ sec_tag_len (sec_tag_front_in (tag_bytes m.header)) → header_len (headers.Macsec (sec_tag_of (tag_bytes m.header))) ≤ length bytes → IsTagRead bytes m n (sec_tag_of (tag_bytes m.header))
+pub tag_read : (bytes : List ℕ) (m : MacsecSlice) (n : ℕ)
+    → tag_bytes m.header ≡ slice_range bytes 0 (sec_tag_len (sec_tag_front_in bytes))
+    → HoldsPayload m.payload (sec_tag_front_in bytes) bytes
+    → n ≡ sec_tag_len (sec_tag_front_in (tag_bytes m.header))
+    → header_len (headers.Macsec (sec_tag_of (tag_bytes m.header))) ≤ length bytes
+    → IsTagRead bytes m n (sec_tag_of (tag_bytes m.header))
 tag_read bytes m n part payload len whole =
     let tag = tag_bytes m.header in
     let f = sec_tag_front_in bytes in
     let t = sec_tag_of tag in
     let h = headers.Macsec t in
     let taken = tag_taken bytes tag part in
-    let rest : sec_tag_payload m.payload ≡ slice_range bytes (header_len h) (payload_finish (header_len h) 0 (length bytes) (payload_len h)) =
+    let rest : sec_tag_payload m.payload
+    ≡ slice_range bytes (header_len h) (payload_finish (header_len h) 0 (length bytes) (payload_len h)) =
     payload_typed m.payload _ _ _ payload
     ∙ ap (slice_range bytes (sec_tag_len f)) (payload_ends (known_payload_len f) (sec_tag_len f) (length bytes))
-    ∙ ap (λ (o : Option ℕ). slice_range bytes (sec_tag_len f) (payload_finish (sec_tag_len f) 0 (length bytes) o)) (sym taken.known)
+    ∙ ap (λ (o : Option ℕ). slice_range bytes (sec_tag_len f) (payload_finish (sec_tag_len f) 0 (length bytes) o))
+    (sym taken.known)
     ∙ ap (λ (k : ℕ). slice_range bytes k (payload_finish k 0 (length bytes) (payload_len h))) (sym taken.len) in
     let at : n ≡ header_len h = len ∙ ap sec_tag_len taken.front ∙ sym taken.len in
-    let long = ap length rest ∙ length-part-is bytes (header_len h) (payload_finish (header_len h) 0 (length bytes) (payload_len h)) in
-    let type = subst (λ (p : PayloadType). HoldsTyped m.payload (readable_type p) (payload_source (known_payload_len f)) (payload_in f bytes)) (sym taken.payload_type) payload in
+    let long =
+    ap length rest
+    ∙ length-part-is bytes (header_len h) (payload_finish (header_len h) 0 (length bytes) (payload_len h)) in
+    let type =
+    subst
+    (λ (p : PayloadType).
+    HoldsTyped m.payload (readable_type p) (payload_source (known_payload_len f)) (payload_in f bytes))
+    (sym taken.payload_type) payload in
     record {
       len = at;
       rest = rest;
       shorter = omega arith;
       shows = record {
         header = part ∙ ap (slice_range bytes 0) (sym taken.len);
-        payload = subst (λ (l : List ℕ). HoldsTyped m.payload (readable_type t.payload_type) (payload_source (payload_len h)) l) (sym (payload_typed m.payload _ _ _ payload)) (subst (λ (o : Option ℕ). HoldsTyped m.payload (readable_type t.payload_type) (payload_source o) (payload_in f bytes)) (sym taken.known) type);
+        payload =
+            subst
+            (λ (l : List ℕ). HoldsTyped m.payload (readable_type t.payload_type) (payload_source (payload_len h)) l)
+            (sym (payload_typed m.payload _ _ _ payload))
+            (subst
+            (λ (o : Option ℕ).
+            HoldsTyped m.payload (readable_type t.payload_type) (payload_source o) (payload_in f bytes))
+            (sym taken.known) type);
       };
       expected = after_typed t.payload_type m.payload _ _ type;
       known = ap known_payload_len taken.front ∙ sym taken.known;
     }
 
 -- the payload that was read, by its places in the whole frame
-pub tag_payload_part : (frame : List ℕ) (i j : ℕ) (m : MacsecSlice) (n k : ℕ) (t : SecTagValue) → i ≤ j → j ≤ length frame → Accepts sources.Slice (slice_range frame i j) kinds.Macsec → Means (slice_range frame i j) (headers.Macsec t)
-    → IsTagRead (slice_range frame i j) m n t → k ≡ length (sec_tag_payload m.payload) → slice_range frame (i + n) (i + n + k) ≡ sec_tag_payload m.payload
+pub tag_payload_part : (frame : List ℕ) (i j : ℕ) (m : MacsecSlice) (n k : ℕ) (t : SecTagValue) → i ≤ j
+    → j ≤ length frame → Accepts sources.Slice (slice_range frame i j) kinds.Macsec
+    → Means (slice_range frame i j) (headers.Macsec t)
+    → IsTagRead (slice_range frame i j) m n t → k ≡ length (sec_tag_payload m.payload)
+    → slice_range frame (i + n) (i + n + k) ≡ sec_tag_payload m.payload
 tag_payload_part frame i j m n k t ordered inside accepted means read is =
     let bytes = slice_range frame i j in
     let h = headers.Macsec t in
     let finish = payload_finish (header_len h) 0 (length bytes) (payload_len h) in
-    let within = finish_inside (payload_len h) (header_len h) (length bytes) (unit_fits sources.Slice bytes h accepted means) in
+    let within =
+    finish_inside (payload_len h) (header_len h) (length bytes) (unit_fits sources.Slice bytes h accepted means) in
     let long = length-part frame i j inside in
     let len = ap length read.rest ∙ length-part bytes (header_len h) finish within.1 in
     let at = read.len in
-    moved_part frame i j (i + n) (i + n + k) (record { start = header_len h; finish = finish; closed = false; bound = sources.Slice }) within.0 (omega arith) (omega arith) (omega arith) ∙ sym read.rest
+    moved_part frame i j (i + n) (i + n + k)
+    (record { start = header_len h; finish = finish; closed = false; bound = sources.Slice }) within.0 (omega arith)
+    (omega arith) (omega arith)
+    ∙ sym read.rest
 
 -- the mark of the payload's window
 pub marked : (closed : Bool) (o : Option ℕ) → (closed || is_some o) ≡ payload_closed closed o
@@ -163,9 +202,11 @@ pub record IsPacket (bytes packet : List ℕ) : Type 0 where
   pub len : header_len (headers.Arp (arp_of packet)) ≡ length packet
   pub front : length packet ≡ arp_len (arp_front_in bytes)
 
-pub packet_taken : (bytes packet : List ℕ) → packet ≡ slice_range bytes 0 (arp_len (arp_front_in bytes)) → length packet ≡ arp_len (arp_front_in packet) → IsPacket bytes packet
+pub packet_taken : (bytes packet : List ℕ) → packet ≡ slice_range bytes 0 (arp_len (arp_front_in bytes))
+    → length packet ≡ arp_len (arp_front_in packet) → IsPacket bytes packet
 packet_taken bytes packet part len =
-    let front : arp_front_in packet ≡ arp_front_in bytes = ap arp_front_in part ∙ arp_front_of_part bytes (arp_len (arp_front_in bytes)) (omega arith) in
+    let front : arp_front_in packet ≡ arp_front_in bytes =
+    ap arp_front_in part ∙ arp_front_of_part bytes (arp_len (arp_front_in bytes)) (omega arith) in
     record {
       len = ap arp_len (arp_front_back packet (arp_front_in packet) (omega arith)) ∙ sym len;
       front = len ∙ ap arp_len front;

@@ -32,15 +32,20 @@ use Rattle.ether_peel.proofs.Grammar.Cleared.{headers_go_back}
 -- ---- the bytes of a view's header
 
 -- a view of a unit is written as its header
-pub unit_bytes-shown : (bound : LenSource) (bytes rest : List ℕ) (h : Header) (u : PeelUnit) → IsBytes bytes → Accepts bound bytes (kind_of h) → Means bytes h → ShowsUnit bytes rest h u → unit_bytes u ≡ header_bytes h
-unit_bytes-shown bound bytes rest (headers.Ethernet2 e) u ok accepted m shows = ap unit_bytes shows ∙ ap ethernet2_bytes (ethernet2_shown bytes e ok m)
+pub unit_bytes-shown : (bound : LenSource) (bytes rest : List ℕ) (h : Header) (u : PeelUnit) → IsBytes bytes
+    → Accepts bound bytes (kind_of h) → Means bytes h → ShowsUnit bytes rest h u → unit_bytes u ≡ header_bytes h
+unit_bytes-shown bound bytes rest (headers.Ethernet2 e) u ok accepted m shows =
+    ap unit_bytes shows ∙ ap ethernet2_bytes (ethernet2_shown bytes e ok m)
 unit_bytes-shown bound bytes rest (headers.Ethernet2Fcs e) u ok accepted m shows =
     let plain : Means bytes (headers.Ethernet2 e) = record { whole = m.whole; spells = m.spells } in
     ap unit_bytes shows ∙ ap ethernet2_bytes (ethernet2_shown bytes e ok plain)
-unit_bytes-shown bound bytes rest (headers.LinuxSll s) u ok accepted m shows = ap unit_bytes shows ∙ ap linux_sll_bytes (linux_sll_shown bytes s ok m)
-unit_bytes-shown bound bytes rest (headers.Vlan v) u ok accepted m shows = ap unit_bytes shows ∙ ap vlan_bytes (vlan_shown bytes v ok m)
+unit_bytes-shown bound bytes rest (headers.LinuxSll s) u ok accepted m shows =
+    ap unit_bytes shows ∙ ap linux_sll_bytes (linux_sll_shown bytes s ok m)
+unit_bytes-shown bound bytes rest (headers.Vlan v) u ok accepted m shows =
+    ap unit_bytes shows ∙ ap vlan_bytes (vlan_shown bytes v ok m)
 unit_bytes-shown bound bytes rest (headers.Macsec t) u ok accepted m shows =
-    ap unit_bytes shows.1 ∙ ap (λ (l : List ℕ). sec_tag_bytes (sec_tag_of l)) shows.2.header ∙ ap sec_tag_bytes (macsec_shown bytes t ok m)
+    ap unit_bytes shows.1 ∙ ap (λ (l : List ℕ). sec_tag_bytes (sec_tag_of l)) shows.2.header
+    ∙ ap sec_tag_bytes (macsec_shown bytes t ok m)
 unit_bytes-shown bound bytes rest (headers.Arp a) u ok accepted m shows =
     ap unit_bytes shows ∙ written bound bytes (headers.Arp a) ok accepted m
 
@@ -55,19 +60,32 @@ pub record UnderWay (x : Expectation) (list : List ℕ) (s : State) : Type 0 whe
   pub faces : Faces list window s left ending
   pub going : s.over ≡ false
 
-pub under_way_first : (x : Expectation) (list : List ℕ) (s : State) (hs : List Header) (e : Ending) → Walk x list hs e → Faces list (whole x list) s hs e → s.over ≡ false → UnderWay x list s
-under_way_first x list s hs e walk faces going = record { done = []; left = hs; ending = e; window = whole x list; walk = walk; faces = faces; going = going }
+pub under_way_first : (x : Expectation) (list : List ℕ) (s : State) (hs : List Header) (e : Ending) → Walk x list hs e
+    → Faces list (whole x list) s hs e → s.over ≡ false → UnderWay x list s
+under_way_first x list s hs e walk faces going = record {
+  done = [];
+  left = hs;
+  ending = e;
+  window = whole x list;
+  walk = walk;
+  faces = faces;
+  going = going;
+}
 
 -- a unit is given: the first of the headers that are left
 abbrev pub Passes : (x : Expectation) (list : List ℕ) (s t : State) (u : PeelUnit) → UnderWay x list s → Type 0
 Passes x list s t u a = UnitNext list a.window a.left a.ending s t u
 
-pub passes : (x : Expectation) (list : List ℕ) (s t : State) (u : PeelUnit) (a : UnderWay x list s) → Gives s (Some (Ok u)) t → Passes x list s t u a
-passes x list s t u a gives = unit_next list a.window a.left a.ending s t u (gives.next a.going list a.window a.left a.ending a.faces)
+pub passes : (x : Expectation) (list : List ℕ) (s t : State) (u : PeelUnit) (a : UnderWay x list s)
+    → Gives s (Some (Ok u)) t → Passes x list s t u a
+passes x list s t u a gives =
+    unit_next list a.window a.left a.ending s t u (gives.next a.going list a.window a.left a.ending a.faces)
 
-pub under_way_next : (x : Expectation) (list : List ℕ) (s t : State) (u : PeelUnit) (a : UnderWay x list s) → Passes x list s t u a → UnderWay x list t
+pub under_way_next : (x : Expectation) (list : List ℕ) (s t : State) (u : PeelUnit) (a : UnderWay x list s)
+    → Passes x list s t u a → UnderWay x list t
 under_way_next x list s t u a p =
-    let same : a.done ++ a.left ≡ (a.done ++ p.header ∷ []) ++ p.later = ap (λ (l : List Header). a.done ++ l) p.parts ∙ sym (append_assoc a.done (p.header ∷ []) p.later) in
+    let same : a.done ++ a.left ≡ (a.done ++ p.header ∷ []) ++ p.later =
+    ap (λ (l : List Header). a.done ++ l) p.parts ∙ sym (append_assoc a.done (p.header ∷ []) p.later) in
     record {
       done = a.done ++ p.header ∷ [];
       left = p.later;
@@ -89,18 +107,28 @@ pub record Stops (x : Expectation) (list : List ℕ) (s t : State) (a : UnderWay
 abbrev NoUnit : Option (Result PeelUnit PeelFault) → Type 0
 NoUnit r = (u : PeelUnit) → r ≡ Some (Ok u) → ⊥
 
-none_next : (list : List ℕ) (w : Window) (left : List Header) (e : Ending) (s t : State) (r : Option (Result PeelUnit PeelFault)) → NoUnit r → Faces list w s left e → GivesNext list w left e s r t
+none_next : (list : List ℕ) (w : Window) (left : List Header) (e : Ending) (s t : State)
+    (r : Option (Result PeelUnit PeelFault))
+    → NoUnit r → Faces list w s left e → GivesNext list w left e s r t
     → (left ≡ []) × (w ≡ last_window e) × (t.rest ≡ s.rest) × (t.offset ≡ s.offset)
-none_next list w [] (Accepted v y) s t r none f g = (refl, sym f.stack.0, ap (λ (k : State). k.rest) g.1, ap (λ (k : State). k.offset) g.1)
-none_next list w [] (Fault v y q) s t r none f g = (refl, sym f.stack.0, ap (λ (k : State). k.rest) g.1, ap (λ (k : State). k.offset) g.1)
+none_next list w [] (Accepted v y) s t r none f g =
+    (refl, sym f.stack.0, ap (λ (k : State). k.rest) g.1, ap (λ (k : State). k.offset) g.1)
+none_next list w [] (Fault v y q) s t r none f g =
+    (refl, sym f.stack.0, ap (λ (k : State). k.rest) g.1, ap (λ (k : State). k.offset) g.1)
 none_next list w (h ∷ hs) e s t r none f g = absurd (none g.0 g.1)
 
-pub stops : (x : Expectation) (list : List ℕ) (s t : State) (r : Option (Result PeelUnit PeelFault)) (a : UnderWay x list s) → NoUnit r → Gives s r t → Stops x list s t a
+pub stops : (x : Expectation) (list : List ℕ) (s t : State) (r : Option (Result PeelUnit PeelFault))
+    (a : UnderWay x list s)
+    → NoUnit r → Gives s r t → Stops x list s t a
 stops x list s t r a none gives =
-    let n = none_next list a.window a.left a.ending s t r none a.faces (gives.next a.going list a.window a.left a.ending a.faces) in
+    let n =
+    none_next list a.window a.left a.ending s t r none a.faces
+    (gives.next a.going list a.window a.left a.ending a.faces) in
     let w = n.1 in
     record {
-      walk = subst (λ (l : List Header). Walk x list l a.ending) (ap (λ (l : List Header). a.done ++ l) n.0 ∙ append-nil a.done) a.walk;
+      walk =
+          subst (λ (l : List Header). Walk x list l a.ending)
+          (ap (λ (l : List Header). a.done ++ l) n.0 ∙ append-nil a.done) a.walk;
       window = w;
       inside = subst (IsIn list) w a.faces.inside;
       rest = n.2 ∙ a.faces.rest ∙ ap (within list) w;
@@ -114,7 +142,8 @@ pub no_fault : (f : PeelFault) → NoUnit (Some (Err f))
 no_fault f u e = cc
 
 -- where the last window ends
-pub stop_finish : (x : Expectation) (list : List ℕ) (s t : State) (a : UnderWay x list s) → Stops x list s t a → t.offset + length t.rest ≡ (last_window a.ending).finish
+pub stop_finish : (x : Expectation) (list : List ℕ) (s t : State) (a : UnderWay x list s) → Stops x list s t a
+    → t.offset + length t.rest ≡ (last_window a.ending).finish
 stop_finish x list s t a p =
     let v = last_window a.ending in
     let at = p.offset in
@@ -126,14 +155,16 @@ stop_finish x list s t a p =
 -- ---- a target that was written so far
 
 -- bytes that replace those after a front
-replaced : (front old bytes new : List ℕ) (from at : ℕ) → length front ≡ from → at ≡ from → new ≡ take at (front ++ drop from old) ++ bytes ++ drop (at + length bytes) (front ++ drop from old)
+replaced : (front old bytes new : List ℕ) (from at : ℕ) → length front ≡ from → at ≡ from
+    → new ≡ take at (front ++ drop from old) ++ bytes ++ drop (at + length bytes) (front ++ drop from old)
     → new ≡ (front ++ bytes) ++ drop (from + length bytes) old
 replaced front old bytes new from at len same is =
     let all = front ++ drop from old in
     let e : at ≡ length front = omega arith in
     let first : take at all ≡ front = ap (λ (n : ℕ). take n all) e ∙ take-append_seam front (drop from old) in
     let last : drop (at + length bytes) all ≡ drop (from + length bytes) old =
-    ap (λ (n : ℕ). drop (n + length bytes) all) e ∙ drop-append-add front (drop from old) (length bytes) ∙ drop-drop (length bytes) from old in
+    ap (λ (n : ℕ). drop (n + length bytes) all) e ∙ drop-append-add front (drop from old) (length bytes)
+    ∙ drop-drop (length bytes) from old in
     is ∙ (λ i. (first i ++ bytes) ++ last i)
 
 pub record WritesSoFar (x : Expectation) (list : List ℕ) (s : State) (at : ℕ) (old new : List ℕ) : Type 0 where
@@ -142,12 +173,19 @@ pub record WritesSoFar (x : Expectation) (list : List ℕ) (s : State) (at : ℕ
   pub len : length (flat_map header_bytes under_way.done) ≡ under_way.window.start
   pub bytes : new ≡ flat_map header_bytes under_way.done ++ drop under_way.window.start old
 
-pub writes_first : (x : Expectation) (list : List ℕ) (s : State) (old : List ℕ) (hs : List Header) (e : Ending) → Walk x list hs e → Faces list (whole x list) s hs e → s.over ≡ false → WritesSoFar x list s 0 old old
+pub writes_first : (x : Expectation) (list : List ℕ) (s : State) (old : List ℕ) (hs : List Header) (e : Ending)
+    → Walk x list hs e → Faces list (whole x list) s hs e → s.over ≡ false → WritesSoFar x list s 0 old old
 unfolding under_way_first
-writes_first x list s old hs e walk faces going = record { under_way = under_way_first x list s hs e walk faces going; place = refl; len = refl; bytes = refl }
+writes_first x list s old hs e walk faces going = record {
+  under_way = under_way_first x list s hs e walk faces going;
+  place = refl;
+  len = refl;
+  bytes = refl;
+}
 
 -- the place of the next header, and its bytes
-pub record NextAt (x : Expectation) (list : List ℕ) (s t : State) (u : PeelUnit) (at : ℕ) (old mid : List ℕ) (a : UnderWay x list s) : Type 0 where
+pub record NextAt (x : Expectation) (list : List ℕ) (s t : State) (u : PeelUnit) (at : ℕ) (old mid : List ℕ)
+    (a : UnderWay x list s) : Type 0 where
   pub passes : Passes x list s t u a
   pub bytes : unit_bytes u ≡ header_bytes passes.header
   pub len : length (unit_bytes u) ≡ header_len passes.header
@@ -157,7 +195,8 @@ pub record NextAt (x : Expectation) (list : List ℕ) (s t : State) (u : PeelUni
 abbrev pub Fits : (x : Expectation) (list old : List ℕ) → Type 0
 Fits x list old = (hs : List Header) (e : Ending) → Walk x list hs e → (last_window e).finish ≤ length old
 
-pub next_at : (x : Expectation) (list : List ℕ) (s t : State) (u : PeelUnit) (at : ℕ) (old mid : List ℕ) → IsBytes list → Fits x list old → length mid ≡ length old → (a : WritesSoFar x list s at old mid) → Gives s (Some (Ok u)) t
+pub next_at : (x : Expectation) (list : List ℕ) (s t : State) (u : PeelUnit) (at : ℕ) (old mid : List ℕ) → IsBytes list
+    → Fits x list old → length mid ≡ length old → (a : WritesSoFar x list s at old mid) → Gives s (Some (Ok u)) t
     → NextAt x list s t u at old mid a.under_way
 next_at x list s t u at old mid ok fits same a gives =
     let b = a.under_way in
@@ -169,12 +208,16 @@ next_at x list s t u at old mid ok fits same a gives =
     let okw = IsBytes-part w.start w.finish list ok in
     let bytes = unit_bytes-shown w.bound (within list w) t.rest p.header u okw unit.accepted unit.means shows in
     let len = ap length bytes ∙ length-means (within list w) p.header okw unit.means in
-    let before = header_before w (last_window b.ending) [] p.header p.later (last_after list s.expected w (p.header ∷ p.later) b.ending faces.inside faces.stack) in
+    let before =
+    header_before w (last_window b.ending) [] p.header p.later
+    (last_after list s.expected w (p.header ∷ p.later) b.ending faces.inside faces.stack) in
     let long = fits (b.done ++ b.left) b.ending b.walk in
     let from = a.place in
     record { passes = p; bytes = bytes; len = len; room = omega arith }
 
-pub writes_next : (x : Expectation) (list : List ℕ) (s t : State) (u : PeelUnit) (at : ℕ) (old mid new : List ℕ) (a : WritesSoFar x list s at old mid) → NextAt x list s t u at old mid a.under_way
+pub writes_next : (x : Expectation) (list : List ℕ) (s t : State) (u : PeelUnit) (at : ℕ) (old mid new : List ℕ)
+    (a : WritesSoFar x list s at old mid)
+    → NextAt x list s t u at old mid a.under_way
     → new ≡ take at mid ++ unit_bytes u ++ drop (at + length (unit_bytes u)) mid → WritesSoFar x list t t.offset old new
 unfolding under_way_next
 writes_next x list s t u at old mid new a n is =
@@ -183,26 +226,36 @@ writes_next x list s t u at old mid new a n is =
     let front = flat_map header_bytes b.done in
     let len = n.len in
     let so_far = a.len in
-    let more : flat_map header_bytes (b.done ++ h ∷ []) ≡ front ++ header_bytes h = flat_map-append header_bytes b.done (h ∷ []) ∙ ap (λ (l : List ℕ). front ++ l) (append-nil (header_bytes h)) in
-    let put : new ≡ take at (front ++ drop b.window.start old) ++ unit_bytes u ++ drop (at + length (unit_bytes u)) (front ++ drop b.window.start old) =
+    let more : flat_map header_bytes (b.done ++ h ∷ []) ≡ front ++ header_bytes h =
+    flat_map-append header_bytes b.done (h ∷ []) ∙ ap (λ (l : List ℕ). front ++ l) (append-nil (header_bytes h)) in
+    let put : new
+    ≡ take at (front ++ drop b.window.start old) ++ unit_bytes u
+    ++ drop (at + length (unit_bytes u)) (front ++ drop b.window.start old) =
     is ∙ ap (λ (l : List ℕ). take at l ++ unit_bytes u ++ drop (at + length (unit_bytes u)) l) a.bytes in
     let all = replaced front old (unit_bytes u) new b.window.start at so_far a.place put in
     record {
       under_way = under_way_next x list s t u b n.passes;
       place = n.passes.faces.offset;
-      len = ap length more ∙ length-append front (header_bytes h) ∙ ap (λ (k : ℕ). k + length (header_bytes h)) so_far ∙ ap (λ (k : ℕ). b.window.start + k) (sym (ap length n.bytes) ∙ len);
-      bytes = all ∙ (λ i. (front ++ n.bytes i) ++ drop (b.window.start + len i) old) ∙ ap (λ (l : List ℕ). l ++ drop (b.window.start + header_len h) old) (sym more);
+      len =
+          ap length more ∙ length-append front (header_bytes h) ∙ ap (λ (k : ℕ). k + length (header_bytes h)) so_far
+          ∙ ap (λ (k : ℕ). b.window.start + k) (sym (ap length n.bytes) ∙ len);
+      bytes =
+          all ∙ (λ i. (front ++ n.bytes i) ++ drop (b.window.start + len i) old)
+          ∙ ap (λ (l : List ℕ). l ++ drop (b.window.start + header_len h) old) (sym more);
     }
 
 -- where the last window's bytes end
-pub rest_ends : (x : Expectation) (list : List ℕ) (s t : State) (at : ℕ) (old mid rest : List ℕ) (a : WritesSoFar x list s at old mid) → Stops x list s t a.under_way → rest ≡ t.rest → at + length rest ≡ (last_window a.under_way.ending).finish
+pub rest_ends : (x : Expectation) (list : List ℕ) (s t : State) (at : ℕ) (old mid rest : List ℕ)
+    (a : WritesSoFar x list s at old mid)
+    → Stops x list s t a.under_way → rest ≡ t.rest → at + length rest ≡ (last_window a.under_way.ending).finish
 rest_ends x list s t at old mid rest a p shows =
     let b = a.under_way in
     let place : at ≡ t.offset = a.place ∙ ap (λ (w : Window). w.start) p.window ∙ sym p.offset in
     (λ i. place i + length (shows i)) ∙ stop_finish x list s t b p
 
 -- the target holds the last window after all headers
-pub writes_back : (x : Expectation) (list : List ℕ) (s t : State) (at : ℕ) (old mid rest new : List ℕ) → IsBytes list → Fits x list old → (a : WritesSoFar x list s at old mid) → Stops x list s t a.under_way → rest ≡ t.rest
+pub writes_back : (x : Expectation) (list : List ℕ) (s t : State) (at : ℕ) (old mid rest new : List ℕ) → IsBytes list
+    → Fits x list old → (a : WritesSoFar x list s at old mid) → Stops x list s t a.under_way → rest ≡ t.rest
     → new ≡ take at mid ++ rest ++ drop (at + length rest) mid → WritesBack x list (at + length rest) old new
 writes_back x list s t at old mid rest new ok fits a p shows is =
     let b = a.under_way in
@@ -215,7 +268,8 @@ writes_back x list s t at old mid rest new ok fits a p shows is =
     let bytes = shows ∙ p.rest in
     let place = sym a.place in
     let all : new ≡ front ++ within list v ++ drop (at + length rest) old =
-    replaced front old rest new w.start at a.len a.place put ∙ (λ i. (front ++ bytes i) ++ drop (place i + length rest) old) in
+    replaced front old rest new w.start at a.len a.place put
+    ∙ (λ i. (front ++ bytes i) ++ drop (place i + length rest) old) in
     let back = headers_go_back x list b.done b.ending ok p.walk in
     let long = fits b.done b.ending p.walk in
     record {
@@ -225,5 +279,8 @@ writes_back x list s t at old mid rest new ok fits a p shows is =
       ends = ends;
       room = omega arith;
       bytes = all;
-      front = all ∙ ap (λ (l : List ℕ). l ++ drop (at + length rest) old) (back ∙ ap (λ (n : ℕ). take n (cleared list 0 b.done)) (sym ends));
+      front =
+          all
+          ∙ ap (λ (l : List ℕ). l ++ drop (at + length rest) old)
+          (back ∙ ap (λ (n : ℕ). take n (cleared list 0 b.done)) (sym ends));
     }

@@ -15,10 +15,18 @@ items_are c =
     let middle = c.args.start + length first in
     let rest = middle + c.args.between in
     let back : rest + length second ≡ c.args.start + 2 * length first + c.args.between = omega arith in
-    both_written room _ _ first second c.args.start middle rest c.write.ensures c.write-2.ensures refl (omega arith) (omega arith)
-    ∙ ap (λ (l : List ℕ). l ++ first ++ slice_range room middle rest ++ second ++ drop (rest + length second) room) c.make_room.ensures.front
-    ∙ ap (λ (l : List ℕ). take c.args.start old ++ first ++ l ++ second ++ drop (rest + length second) room) c.make_room.ensures.middle
-    ∙ ap (λ (l : List ℕ). take c.args.start old ++ first ++ slice_range old (c.args.start + c.args.size) (c.args.start + c.args.size + c.args.between) ++ second ++ l) (ap (λ (i : ℕ). drop i room) back ∙ c.make_room.ensures.rest)
+    both_written room _ _ first second c.args.start middle rest c.write.ensures c.write-2.ensures refl (omega arith)
+    (omega arith)
+    ∙ ap (λ (l : List ℕ). l ++ first ++ slice_range room middle rest ++ second ++ drop (rest + length second) room)
+    c.make_room.ensures.front
+    ∙ ap (λ (l : List ℕ). take c.args.start old ++ first ++ l ++ second ++ drop (rest + length second) room)
+    c.make_room.ensures.middle
+    ∙ ap
+    (λ (l : List ℕ).
+    take c.args.start old ++ first
+    ++ slice_range old (c.args.start + c.args.size) (c.args.start + c.args.size + c.args.between) ++ second
+    ++ l)
+    (ap (λ (i : ℕ). drop i room) back ∙ c.make_room.ensures.rest)
 
 pub returns-clause-items : goal.returns-clause-items
 returns-clause-items = items_are
@@ -36,4 +44,6 @@ returns-clause-bytes c =
     let a = IsBytes-append front c.args.first.now (IsBytes-take c.args.start old ok) first in
     let b = IsBytes-append (front ++ c.args.first.now) middle a (IsBytes-part m (m + c.args.between) old ok) in
     let d = IsBytes-append (front ++ c.args.first.now ++ middle) c.args.second.now b second in
-    subst IsBytes (sym (items_are c)) (IsBytes-append (front ++ c.args.first.now ++ middle ++ c.args.second.now) rest d (IsBytes-drop (c.args.start + 2 * c.args.size + c.args.between) old ok))
+    subst IsBytes (sym (items_are c))
+    (IsBytes-append (front ++ c.args.first.now ++ middle ++ c.args.second.now) rest d
+    (IsBytes-drop (c.args.start + 2 * c.args.size + c.args.between) old ok))

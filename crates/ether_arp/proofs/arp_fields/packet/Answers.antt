@@ -11,7 +11,8 @@ use Rattle.ether_arp.proofs.arp_fields.packet.Goals as goal
 
 pub returns-then-slice-lt-FRONT_LEN-clause-refused : goal.returns-then-slice-lt-FRONT_LEN-clause-refused
 returns-then-slice-lt-FRONT_LEN-clause-refused c =
-    subst (IsRefusedLen c.args.slice.now kinds.Arp) (sym c.too_short.ensures) (record { row = rows.arp c.if-slice-lt-FRONT_LEN.true; start = refl })
+    subst (IsRefusedLen c.args.slice.now kinds.Arp) (sym c.too_short.ensures)
+    (record { row = rows.arp c.if-slice-lt-FRONT_LEN.true; start = refl })
 
 pub returns-then-slice-required_len-clause-refused : goal.returns-then-slice-required_len-clause-refused
 returns-then-slice-required_len-clause-refused c =
@@ -20,6 +21,12 @@ returns-then-slice-required_len-clause-refused c =
     let le = c.if-slice-lt-FRONT_LEN.false in
     let is = c.packet_len-required_len.ensures in
     let lt = c.if-slice-required_len.true in
-    let row = rows.arp_addresses front le (arp_begins_read bytes (λ i. omega (arith, c.type_inv.slice i)) le) (omega arith) in
-    let told = subst (λ (n : ℕ). Refuses sources.Slice bytes kinds.Arp (Length n (length bytes) sources.ArpAddrLengths layers.Arp)) (sym is) row in
-    subst (IsRefusedLen bytes kinds.Arp) (sym c.too_short-then-slice-required_len.ensures) (record { row = told; start = refl })
+    let row =
+    rows.arp_addresses front le (arp_begins_read bytes (λ i. omega (arith, c.type_inv.slice i)) le) (omega arith) in
+    let told =
+    subst
+    (λ (n : ℕ).
+    Refuses sources.Slice bytes kinds.Arp (Length n (length bytes) sources.ArpAddrLengths layers.Arp))
+    (sym is) row in
+    subst (IsRefusedLen bytes kinds.Arp) (sym c.too_short-then-slice-required_len.ensures)
+    (record { row = told; start = refl })

@@ -6,4 +6,11 @@ use Rattle.ether_base.proofs.MacsecFields.{sec_tag_means}
 use Rattle.ether_base.proofs.laws.headers_are_meant.Goals as goal
 
 pub returns : goal.returns
-returns c = record { some = some_header; one = one_header; ethernet2 = ethernet2_means; vlan = vlan_means; linux_sll = linux_sll_means; macsec = sec_tag_means }
+returns c = record {
+  some = some_header;
+  one = one_header;
+  ethernet2 = ethernet2_means;
+  vlan = vlan_means;
+  linux_sll = linux_sll_means;
+  macsec = sec_tag_means;
+}

@@ -53,25 +53,58 @@ returns g c =
     elim c.match-content.branch [
       | in-Frame w ↦
           let is = rw w.in-Frame.is at c.walked-content.ensures in
-          let answers = subst (λ (t : ℕ × Start × Bor (List ℕ)). AnswersWalkAfter t.0 (start_with t.1 None) t.2.now walk.text accepted) w.header_len-is walk.answers in
+          let answers =
+          subst
+          (λ (t : ℕ × Start × Bor (List ℕ)).
+          AnswersWalkAfter t.0 (start_with t.1 None) t.2.now walk.text accepted)
+          w.header_len-is walk.answers in
           record {
             text = line ++ walk.text;
-            answers = record { lines = walk.text; content = subst (λ (f : ContentValue). AnswersContent f walk.text accepted) is answers; whole = refl };
-            taken = Takes-then c.write_packet_line.ensures (subst (λ (out : OutputBuffer g.row.W.Denot). Takes contents can_fail out walk.text new) w.out-is walk.taken);
+            answers =
+                record {
+                  lines = walk.text;
+                  content = subst (λ (f : ContentValue). AnswersContent f walk.text accepted) is answers;
+                  whole = refl;
+                };
+            taken =
+                Takes-then c.write_packet_line.ensures
+                (subst (λ (out : OutputBuffer g.row.W.Denot). Takes contents can_fail out walk.text new) w.out-is
+                walk.taken);
           }
       | in-LinuxSll2+in-Ok w ↦
           let is = rw w.in-LinuxSll2.is at c.walked-content.ensures in
           let bytes = w.in-LinuxSll2.bytes.now in
           let (begins, header) = w.in-Ok.ensures.walked in
-          let answers = subst (λ (t : ℕ × Start × Bor (List ℕ)). AnswersWalkAfter t.0 (start_with t.1 None) t.2.now walk.text accepted) w.header_len-is walk.answers in
-          let payload = subst (λ (l : List ℕ). AnswersWalkAfter 20 (record { next = EtherType begins.ether_type; limit = None }) l walk.text accepted) begins.rest
-          (subst (λ (x : Next). AnswersWalkAfter 20 (record { next = x; limit = None }) w.in-Ok.payload.now walk.text accepted) begins.next answers) in
-          let whole = read walk.text accepted begins.accepted (subst (λ (o : Option ℕ). AnswersPayload o bytes walk.text accepted) (sym begins.announced) payload) in
+          let answers =
+          subst
+          (λ (t : ℕ × Start × Bor (List ℕ)).
+          AnswersWalkAfter t.0 (start_with t.1 None) t.2.now walk.text accepted)
+          w.header_len-is walk.answers in
+          let payload =
+          subst
+          (λ (l : List ℕ).
+          AnswersWalkAfter 20 (record { next = EtherType begins.ether_type; limit = None }) l walk.text
+          accepted)
+          begins.rest
+          (subst
+          (λ (x : Next).
+          AnswersWalkAfter 20 (record { next = x; limit = None }) w.in-Ok.payload.now walk.text accepted)
+          begins.next answers) in
+          let whole =
+          read walk.text accepted begins.accepted
+          (subst (λ (o : Option ℕ). AnswersPayload o bytes walk.text accepted) (sym begins.announced) payload) in
           let first = linux_sll2_text (linux_sll2_of bytes) ++ codes "\n" in
           record {
             text = line ++ (first ++ walk.text);
-            answers = record { lines = first ++ walk.text; content = subst (λ (f : ContentValue). AnswersContent f (first ++ walk.text) accepted) is whole; whole = refl };
+            answers =
+                record {
+                  lines = first ++ walk.text;
+                  content = subst (λ (f : ContentValue). AnswersContent f (first ++ walk.text) accepted) is whole;
+                  whole = refl;
+                };
             taken = Takes-then c.write_packet_line.ensures
-                (Takes-then header (subst (λ (out : OutputBuffer g.row.W.Denot). Takes contents can_fail out walk.text new) w.out-is walk.taken));
+                (Takes-then header
+                (subst (λ (out : OutputBuffer g.row.W.Denot). Takes contents can_fail out walk.text new) w.out-is
+                walk.taken));
           }
     ]

@@ -11,14 +11,17 @@ returns g c =
     let p = captured_packet_view c.args.packet.now in
     let link = Takes-same (ap decimal c.from.ensures) c.write_decimal-2.ensures in
     let cut = Takes-same (ap (λ (b : Bool). mark b (codes " cut")) c.is_cut.ensures) c.write_mark.ensures in
-    let skipped = Takes-same (ap (λ (b : Bool). mark b (codes " skipped")) (c.is_unknown.ensures ∙ ap is_unknown c.requires)) c.write_mark-2.ensures in
+    let skipped =
+    Takes-same (ap (λ (b : Bool). mark b (codes " skipped")) (c.is_unknown.ensures ∙ ap is_unknown c.requires))
+    c.write_mark-2.ensures in
     let lengths =
     decimal p.link_type
     ++ (codes " captured " ++ (decimal (length p.packet) ++ (codes " original " ++ decimal p.original_len))) in
     let joined = append_assoc (time_text p.time) (codes " link ") lengths in
     let numbers = Takes-then c.write_decimal-3.ensures (Takes-then c.append-3.ensures c.write_decimal-4.ensures) in
     Takes-same (ap (λ (b : Bool). packet_line_if b c.args.number p) (sym c.if-is_plain.false))
-    (Takes-then (Takes-same (ap (λ (l : List ℕ). codes "frame " ++ (decimal c.args.number ++ (codes " time " ++ l))) joined)
+    (Takes-then
+    (Takes-same (ap (λ (l : List ℕ). codes "frame " ++ (decimal c.args.number ++ (codes " time " ++ l))) joined)
     (Takes-then c.append.ensures (Takes-then c.write_decimal.ensures (Takes-then c.write_time.ensures (Takes-then link
     (Takes-then c.append-2.ensures numbers))))))
     (Takes-then cut (Takes-then skipped c.append-4.ensures)))

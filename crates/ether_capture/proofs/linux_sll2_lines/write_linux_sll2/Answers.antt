@@ -38,9 +38,11 @@ returns-in-Err-clause-ended g c =
 pub returns-in-Some-clause-walked : goal.returns-in-Some-clause-walked
 returns-in-Some-clause-walked g c =
     let packet = c.in-Ok.packet in
-    let found = started (told_ether_type (protocol_of_header packet)) c.in-Some.start (sym c.start.ensures ∙ c.in-Some.is) in
+    let found =
+    started (told_ether_type (protocol_of_header packet)) c.in-Some.start (sym c.start.ensures ∙ c.in-Some.is) in
     subst (λ (bytes : List ℕ). BeginsWalk bytes c.in-Some.start c.payload_slice.result.now
-    × Takes g.W.Sink.contents g.W.Sink.can_fail c.args.out.now (linux_sll2_text (linux_sll2_of bytes) ++ codes "\n") c.write_header.new.out)
+    × Takes g.W.Sink.contents g.W.Sink.can_fail c.args.out.now (linux_sll2_text (linux_sll2_of bytes) ++ codes "\n")
+    c.write_header.new.out)
     c.in-Ok.ensures.bytes (
       record {
         accepted = subst AcceptsLinuxSll2 (sym c.in-Ok.ensures.bytes) c.in-Ok.ensures.accepted;
@@ -58,11 +60,15 @@ returns-in-None-clause-ended g c =
     let packet = c.in-Ok.packet in
     let same = c.in-Ok.ensures.bytes in
     let none : told_ether_type (protocol_of_header packet) ≡ None = none_of _ _ (sym c.start.ensures ∙ c.in-None.is) in
-    let line : LinuxSllProtocolType → ℕ → List ℕ = λ p n. spaced (codes "rest" ∷ decimal 20 ∷ decimal n ∷ protocol_text p ∷ []) ++ codes "\n" in
+    let line : LinuxSllProtocolType → ℕ → List ℕ =
+    λ p n. spaced (codes "rest" ∷ decimal 20 ∷ decimal n ∷ protocol_text p ∷ []) ++ codes "\n" in
     let rest = line (protocol_of_header packet) (length packet) in
     let written = ap (λ (p : LinuxSllProtocolType). line p (length c.args.bytes.now)) c.protocol_type.ensures
     ∙ ap (λ (l : List ℕ). line (protocol_of_header packet) (length l)) (sym same) in
-    subst (λ (bytes : List ℕ). TakesAnswer g.W.Sink.contents g.W.Sink.can_fail (AnswersLinuxSll2 bytes) c.args.out.now c.write_rest.new.out true)
+    subst
+    (λ (bytes : List ℕ).
+    TakesAnswer g.W.Sink.contents g.W.Sink.can_fail (AnswersLinuxSll2 bytes) c.args.out.now c.write_rest.new.out
+    true)
     same
     (record {
       text = (linux_sll2_text (linux_sll2_of packet) ++ codes "\n") ++ rest;

@@ -9,11 +9,13 @@ pub returns-in-Len : goal.returns-in-Len
 unfolding linux_sll2_fault_text
 returns-in-Len g c =
     rw c.in-Len.is
-    (Takes-then c.write_number.ensures (Takes-then c.write_number-in-Len.ensures (Takes-then c.write_number-in-Len-2.ensures c.append.ensures)))
+    (Takes-then c.write_number.ensures
+    (Takes-then c.write_number-in-Len.ensures (Takes-then c.write_number-in-Len-2.ensures c.append.ensures)))
 
 pub returns-in-PacketType : goal.returns-in-PacketType
 unfolding linux_sll2_fault_text
 returns-in-PacketType g c =
     rw c.in-PacketType.is
     (Takes-then c.write_number.ensures
-    (Takes-same (ap (λ (n : ℕ). codes " open content sll_packet_type " ++ decimal n) c.from.ensures) c.write_number-in-PacketType.ensures))
+    (Takes-same (ap (λ (n : ℕ). codes " open content sll_packet_type " ++ decimal n) c.from.ensures)
+    c.write_number-in-PacketType.ensures))

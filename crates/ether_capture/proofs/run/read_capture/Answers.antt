@@ -20,7 +20,12 @@ loop-buffer-init g c = (
     read = Consumes-none _;
     on = ReadsOn-none g.R.Source.remaining _;
     marks = Marks-none g.W.Sink.can_fail _;
-    reached = subst (λ (l : List ℕ). Reached c.args.is_plain g.W.Sink.contents (contents_of g.W.Sink.contents c.args.out.now) [] l c.new-frames.result c.args.out.now) (sym c.clear.ensures)
+    reached =
+        subst
+        (λ (l : List ℕ).
+        Reached c.args.is_plain g.W.Sink.contents (contents_of g.W.Sink.contents c.args.out.now) [] l
+        c.new-frames.result c.args.out.now)
+        (sym c.clear.ensures)
         (Reached-start c.args.is_plain g.W.Sink.contents c.new-frames.result c.args.out.now c.new-frames.ensures);
   },
 )
@@ -37,7 +42,8 @@ returns-in_default-clause-run g c =
     let at = c.take_buffered.new.frames in
     let rest = c.in_ok-error.ensures.ok in
     let reached = rest.reached held taken so_far.reached in
-    stopped_for_good plain contents before mid held taken left at c.take_buffered.new.out c.in_ok-error.error c.fault.result c.fault.ensures so_far.read
+    stopped_for_good plain contents before mid held taken left at c.take_buffered.new.out c.in_ok-error.error
+    c.fault.result c.fault.ensures so_far.read
     rest.refused (search rules) reached
 
 pub returns-in_err-make_room-clause-run : goal.returns-in_err-make_room-clause-run
@@ -53,9 +59,13 @@ returns-in_err-make_room-clause-run g c =
     let rest = c.in_ok-error.ensures.ok in
     let reached = rest.reached held taken so_far.reached in
     let out = c.write_out.new.self in
-    let flushed = Reached-written_out plain contents held taken left at c.take_buffered.new.out out c.in_ok-write_out.ensures.ok reached in
-    without_memory plain contents before mid held c.from_residual-in_err-make_room.result taken left at out (capture_refusal_view c.in_ok-error.error) c.in-Some.required_len
-    c.from_residual-in_err-make_room.ensures.1 so_far.read rest.refused (search rules) c.in_err-make_room.ensures.failed flushed
+    let flushed =
+    Reached-written_out plain contents held taken left at c.take_buffered.new.out out
+    c.in_ok-write_out.ensures.ok reached in
+    without_memory plain contents before mid held c.from_residual-in_err-make_room.result taken left at out
+    (capture_refusal_view c.in_ok-error.error) c.in-Some.required_len
+    c.from_residual-in_err-make_room.ensures.1 so_far.read rest.refused (search rules) c.in_err-make_room.ensures.failed
+    flushed
 
 pub returns-in_err-read-clause-run : goal.returns-in_err-read-clause-run
 returns-in_err-read-clause-run g c =
@@ -71,8 +81,11 @@ returns-in_err-read-clause-run g c =
     let reached = rest.reached held taken so_far.reached in
     let out = c.write_out.new.self in
     let after = g.R.Source.remaining c.read.new.input.inner.now in
-    let flushed = Reached-written_out plain contents held taken left at c.take_buffered.new.out out c.in_ok-write_out.ensures.ok reached in
-    broken_off plain contents before after held mid c.from_residual-in_err-read.result taken left at out (capture_refusal_view c.in_ok-error.error)
+    let flushed =
+    Reached-written_out plain contents held taken left at c.take_buffered.new.out out
+    c.in_ok-write_out.ensures.ok reached in
+    broken_off plain contents before after held mid c.from_residual-in_err-read.result taken left at out
+    (capture_refusal_view c.in_ok-error.error)
     so_far.read c.in_err-read.ensures.kept c.from_residual-in_err-read.ensures.1 rest.refused (search rules) flushed
 
 pub returns-then-is_over-clause-run : goal.returns-then-is_over-clause-run
@@ -89,15 +102,22 @@ returns-then-is_over-clause-run g c =
     let reached = rest.reached held taken so_far.reached in
     let out = c.write_out.new.self in
     let after = g.R.Source.remaining c.read.new.input.inner.now in
-    let flushed = Reached-written_out plain contents held taken left at c.take_buffered.new.out out c.in_ok-write_out.ensures.ok reached in
+    let flushed =
+    Reached-written_out plain contents held taken left at c.take_buffered.new.out out
+    c.in_ok-write_out.ensures.ok reached in
     let (more, is_len, added, consumed) = c.in_ok-read.ensures.ok in
-    let grown : items c.read.new.self ≡ left ++ more = added ∙ ap (λ (l : List ℕ). l ++ more) c.make_room.ensures.items in
+    let grown : items c.read.new.self ≡ left ++ more =
+    added ∙ ap (λ (l : List ℕ). l ++ more) c.make_room.ensures.items in
     let none : length more ≡ 0 = is_len ∙ c.if-branch-eq0.true in
-    let end = c.in_ok-read.ensures.end c.if-branch-eq0.true (has_room left at.reader (capture_refusal_view c.in_ok-error.error) c.in-Some.required_len _ _ rest.refused (search rules) c.make_room.ensures.items c.in_ok-make_room.ensures.room) in
+    let end =
+    c.in_ok-read.ensures.end c.if-branch-eq0.true
+    (has_room left at.reader (capture_refusal_view c.in_ok-error.error) c.in-Some.required_len _ _
+    rest.refused (search rules) c.make_room.ensures.items c.in_ok-make_room.ensures.room) in
     let read = consumed_all before mid after taken more so_far.read consumed none in
     let same : items c.read.new.self ≡ left = grown ∙ same_left left more none in
     let over = subst (λ (l : List ℕ). IsEnd at.reader l) same (c.is_over.ensures.0 (search rules)) in
-    finished plain contents before after held taken left at out c.finish.new.out c.finish.result read end over c.finish.ensures.ok c.finish.ensures.written c.finish.ensures.fault flushed
+    finished plain contents before after held taken left at out c.finish.new.out c.finish.result read end over
+    c.finish.ensures.ok c.finish.ensures.written c.finish.ensures.fault flushed
 
 pub returns-then-branch-eq0-clause-run : goal.returns-then-branch-eq0-clause-run
 returns-then-branch-eq0-clause-run g c =
@@ -113,15 +133,25 @@ returns-then-branch-eq0-clause-run g c =
     let reached = rest.reached held taken so_far.reached in
     let out = c.write_out.new.self in
     let after = g.R.Source.remaining c.read.new.input.inner.now in
-    let flushed = Reached-written_out plain contents held taken left at c.take_buffered.new.out out c.in_ok-write_out.ensures.ok reached in
+    let flushed =
+    Reached-written_out plain contents held taken left at c.take_buffered.new.out out
+    c.in_ok-write_out.ensures.ok reached in
     let (more, is_len, added, consumed) = c.in_ok-read.ensures.ok in
-    let grown : items c.read.new.self ≡ left ++ more = added ∙ ap (λ (l : List ℕ). l ++ more) c.make_room.ensures.items in
+    let grown : items c.read.new.self ≡ left ++ more =
+    added ∙ ap (λ (l : List ℕ). l ++ more) c.make_room.ensures.items in
     let none : length more ≡ 0 = is_len ∙ c.if-branch-eq0.true in
-    let end = c.in_ok-read.ensures.end c.if-branch-eq0.true (has_room left at.reader (capture_refusal_view c.in_ok-error.error) c.in-Some.required_len _ _ rest.refused (search rules) c.make_room.ensures.items c.in_ok-make_room.ensures.room) in
+    let end =
+    c.in_ok-read.ensures.end c.if-branch-eq0.true
+    (has_room left at.reader (capture_refusal_view c.in_ok-error.error) c.in-Some.required_len _ _
+    rest.refused (search rules) c.make_room.ensures.items c.in_ok-make_room.ensures.room) in
     let read = consumed_all before mid after taken more so_far.read consumed none in
     let same : items c.read.new.self ≡ left = grown ∙ same_left left more none in
-    let more_left = λ (over : IsEnd at.reader left). let t = c.is_over.ensures.1 (subst (λ (l : List ℕ). IsEnd at.reader l) (sym same) over) in absurd cc in
-    stopped_at_end plain contents before after held taken left at out c.in_ok-error.error c.fault-then-branch-eq0.result c.fault-then-branch-eq0.ensures read end more_left rest.refused flushed
+    let more_left =
+    λ (over : IsEnd at.reader left). let t =
+    c.is_over.ensures.1 (subst (λ (l : List ℕ). IsEnd at.reader l) (sym same) over) in
+    absurd cc in
+    stopped_at_end plain contents before after held taken left at out c.in_ok-error.error c.fault-then-branch-eq0.result
+    c.fault-then-branch-eq0.ensures read end more_left rest.refused flushed
 
 pub loop-buffer-preserved : goal.loop-buffer-preserved
 loop-buffer-preserved g c =
@@ -137,17 +167,25 @@ loop-buffer-preserved g c =
     let reached = rest.reached held taken so_far.reached in
     let out = c.write_out.new.self in
     let after = g.R.Source.remaining c.read.new.input.inner.now in
-    let flushed = Reached-written_out plain contents held taken left at c.take_buffered.new.out out c.in_ok-write_out.ensures.ok reached in
+    let flushed =
+    Reached-written_out plain contents held taken left at c.take_buffered.new.out out
+    c.in_ok-write_out.ensures.ok reached in
     let (more, is_len, added, consumed) = c.in_ok-read.ensures.ok in
-    let grown : items c.read.new.self ≡ left ++ more = added ∙ ap (λ (l : List ℕ). l ++ more) c.make_room.ensures.items in (
+    let grown : items c.read.new.self ≡ left ++ more =
+    added ∙ ap (λ (l : List ℕ). l ++ more) c.make_room.ensures.items in (
       taken ++ more,
       record {
         same_reader = c.read.ensures.same_reader ∙ so_far.same_reader;
         same_writer = c.write_out.ensures.same_writer ∙ c.take_buffered.ensures.same_writer ∙ so_far.same_writer;
         read = Consumes-then before mid after taken more so_far.read consumed;
-        on = ReadsOn-then g.R.Source.remaining _ _ _ so_far.on (c.in_ok-read.ensures.on (omega (arith, c.if-branch-eq0.false)));
-        marks = Marks-then _ _ _ (Marks-then _ _ _ so_far.marks c.take_buffered.ensures.marks) c.write_out.ensures.marks;
-        reached = subst (λ (l : List ℕ). Reached plain contents held (taken ++ more) l at out) (sym grown) (Reached-more plain contents held taken left more at out flushed);
+        on =
+            ReadsOn-then g.R.Source.remaining _ _ _ so_far.on
+            (c.in_ok-read.ensures.on (omega (arith, c.if-branch-eq0.false)));
+        marks =
+            Marks-then _ _ _ (Marks-then _ _ _ so_far.marks c.take_buffered.ensures.marks) c.write_out.ensures.marks;
+        reached =
+            subst (λ (l : List ℕ). Reached plain contents held (taken ++ more) l at out) (sym grown)
+            (Reached-more plain contents held taken left more at out flushed);
       },
     )
 
@@ -156,23 +194,31 @@ returns-in_err-error-clause-marks g c = Marks-then _ _ _ c.loop-buffer.invariant
 
 pub returns-in_err-write_out-clause-marks : goal.returns-in_err-write_out-clause-marks
 returns-in_err-write_out-clause-marks g c =
-    Marks-then _ _ _ (Marks-then _ _ _ c.loop-buffer.invariant.1.marks c.take_buffered.ensures.marks) c.write_out.ensures.marks
+    Marks-then _ _ _ (Marks-then _ _ _ c.loop-buffer.invariant.1.marks c.take_buffered.ensures.marks)
+    c.write_out.ensures.marks
 
 pub returns-in_err-read-clause-cause : goal.returns-in_err-read-clause-cause
 returns-in_err-read-clause-cause g c =
-    let why = read_stops g.R.Source.remaining g.R.Source.can_fail c.write_out.new.self c.args.input.now c.loop-buffer.input c.read.new.input
-    c.loop-buffer.invariant.1.on c.in_ok-write_out.ensures.ok.none_waits c.in_err-read.ensures.cause c.in_err-read.ensures.kept in
+    let why =
+    read_stops g.R.Source.remaining g.R.Source.can_fail c.write_out.new.self c.args.input.now c.loop-buffer.input
+    c.read.new.input
+    c.loop-buffer.invariant.1.on c.in_ok-write_out.ensures.ok.none_waits c.in_err-read.ensures.cause
+    c.in_err-read.ensures.kept in
     on_input c.from_residual-in_err-read.result _ why
 
 pub returns-in_err-read-clause-marks : goal.returns-in_err-read-clause-marks
 returns-in_err-read-clause-marks g c =
-    Marks-then _ _ _ (Marks-then _ _ _ c.loop-buffer.invariant.1.marks c.take_buffered.ensures.marks) c.write_out.ensures.marks
+    Marks-then _ _ _ (Marks-then _ _ _ c.loop-buffer.invariant.1.marks c.take_buffered.ensures.marks)
+    c.write_out.ensures.marks
 
 pub returns-then-is_over-clause-marks : goal.returns-then-is_over-clause-marks
 returns-then-is_over-clause-marks g c =
-    Marks-then _ _ _ (Marks-then _ _ _ (Marks-then _ _ _ c.loop-buffer.invariant.1.marks c.take_buffered.ensures.marks) c.write_out.ensures.marks)
+    Marks-then _ _ _
+    (Marks-then _ _ _ (Marks-then _ _ _ c.loop-buffer.invariant.1.marks c.take_buffered.ensures.marks)
+    c.write_out.ensures.marks)
     c.finish.ensures.marks
 
 pub returns-then-branch-eq0-clause-marks : goal.returns-then-branch-eq0-clause-marks
 returns-then-branch-eq0-clause-marks g c =
-    Marks-then _ _ _ (Marks-then _ _ _ c.loop-buffer.invariant.1.marks c.take_buffered.ensures.marks) c.write_out.ensures.marks
+    Marks-then _ _ _ (Marks-then _ _ _ c.loop-buffer.invariant.1.marks c.take_buffered.ensures.marks)
+    c.write_out.ensures.marks

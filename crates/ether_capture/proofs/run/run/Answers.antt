@@ -6,13 +6,18 @@ use Rattle.ether_capture.proofs.run.run.Goals as goal
 
 pub returns-clause-run : goal.returns-clause-run
 returns-clause-run g c =
-    let none = ap (λ (l : List ℕ). append_known (g.W.Sink.contents c.new-out.result.writer.now) l) c.new-out.ensures.none_waits ∙ append_known_nil _ ∙ ap g.W.Sink.contents c.new-out.ensures.contents in
+    let none =
+    ap (λ (l : List ℕ). append_known (g.W.Sink.contents c.new-out.result.writer.now) l)
+    c.new-out.ensures.none_waits
+    ∙ append_known_nil _ ∙ ap g.W.Sink.contents c.new-out.ensures.contents in
     HasRun-same c.args.is_plain c.answer_capture.result _ _ _ _ _ _ _ _
-    (ap g.R.Source.remaining c.new-input.ensures.remaining) (search rules) none (search rules) c.answer_capture.ensures.run
+    (ap g.R.Source.remaining c.new-input.ensures.remaining) (search rules) none (search rules)
+    c.answer_capture.ensures.run
 
 pub returns-clause-failed : goal.returns-clause-failed
 returns-clause-failed g c =
-    run_fails g.R.Source.remaining g.R.Source.can_fail g.W.Sink.can_fail c.answer_capture.result c.new-input.result c.answer_capture.new.input
+    run_fails g.R.Source.remaining g.R.Source.can_fail g.W.Sink.can_fail c.answer_capture.result c.new-input.result
+    c.answer_capture.new.input
     c.new-out.result c.answer_capture.new.out _ _ (ap g.R.Source.remaining c.new-input.ensures.remaining) (search rules)
     c.new-input.ensures.fresh c.new-input.ensures.reads c.new-out.ensures.fresh
     c.answer_capture.ensures.failed c.answer_capture.ensures.cause c.answer_capture.ensures.marks

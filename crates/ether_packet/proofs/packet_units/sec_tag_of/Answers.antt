@@ -3,4 +3,5 @@ use Rattle.ether_packet.proofs.HeadersIn.{sec_tag_shown}
 use Rattle.ether_packet.proofs.packet_units.sec_tag_of.Goals as goal
 
 pub returns-clause-value : goal.returns-clause-value
-returns-clause-value c = sym (sec_tag_shown c.args.bytes.now _ (λ i. omega (arith, c.type_inv.bytes i)) c.in-Ok.ensures.value)
+returns-clause-value c =
+    sym (sec_tag_shown c.args.bytes.now _ (λ i. omega (arith, c.type_inv.bytes i)) c.in-Ok.ensures.value)

@@ -18,5 +18,10 @@ returns-clause-bytes g c =
     let p = c.to_be_bytes-tpid.result in
     let t = c.to_bytes-control.result in
     let last : List ℕ = get_or p 0 0 ∷ get_or p 1 0 ∷ get_or t 0 0 ∷ get_or t 1 0 ∷ [] in
-    let four : last ≡ pushed_bytes c.args.tpid.0 (vlan_view c.args.tag) = four_bytes c.to_be_bytes-tpid.result c.to_bytes-control.result c.args.tpid.0 (vlan_view c.args.tag) (c.to_be_bytes-tpid.ensures ∙ spelled-high 2 c.args.tpid.0) c.to_bytes-control.ensures.value in
-    c.put_at-2.ensures ∙ ap (λ (l : List ℕ). overwritten l n last) (c.put_at.ensures ∙ ap (overwritten old 0) c.chunk_at-front.ensures) ∙ two_written old front last n len (omega (arith, room)) ∙ ap (λ (l : List ℕ). overwritten old 0 (front ++ l)) four
+    let four : last ≡ pushed_bytes c.args.tpid.0 (vlan_view c.args.tag) =
+    four_bytes c.to_be_bytes-tpid.result c.to_bytes-control.result c.args.tpid.0 (vlan_view c.args.tag)
+    (c.to_be_bytes-tpid.ensures ∙ spelled-high 2 c.args.tpid.0) c.to_bytes-control.ensures.value in
+    c.put_at-2.ensures
+    ∙ ap (λ (l : List ℕ). overwritten l n last) (c.put_at.ensures ∙ ap (overwritten old 0) c.chunk_at-front.ensures)
+    ∙ two_written old front last n len (omega (arith, room))
+    ∙ ap (λ (l : List ℕ). overwritten old 0 (front ++ l)) four

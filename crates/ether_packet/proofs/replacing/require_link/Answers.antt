@@ -8,8 +8,12 @@ returns-in-None-clause-refused c limit hs e walk = no_link (c.link_of.ensures.no
 
 pub returns-in-Some-clause-ok : goal.returns-in-Some-clause-ok
 returns-in-Some-clause-ok c limit hs e walk =
-    takes_link c.args.header.now c.in-Some.old hs (c.links_say_the_same.ensures.0 c.if-links_say_the_same.true) (c.in-Some.ensures.found limit hs e walk)
+    takes_link c.args.header.now c.in-Some.old hs (c.links_say_the_same.ensures.0 c.if-links_say_the_same.true)
+    (c.in-Some.ensures.found limit hs e walk)
 
 pub returns-in-Some-2-clause-refused : goal.returns-in-Some-2-clause-refused
 returns-in-Some-2-clause-refused c limit hs e walk =
-    refuses_link c.args.header.now c.in-Some.old hs (λ same. let both : true ≡ false = sym (c.links_say_the_same.ensures.1 same) ∙ c.if-links_say_the_same.false in absurd cc) (c.in-Some.ensures.found limit hs e walk)
+    refuses_link c.args.header.now c.in-Some.old hs
+    (λ same. let both : true ≡ false =
+    sym (c.links_say_the_same.ensures.1 same) ∙ c.if-links_say_the_same.false in absurd cc)
+    (c.in-Some.ensures.found limit hs e walk)

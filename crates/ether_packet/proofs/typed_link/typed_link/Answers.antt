@@ -12,38 +12,55 @@ pub returns-in-Ok-clause-ok : goal.returns-in-Ok-clause-ok
 returns-in-Ok-clause-ok c hs e walk =
     let at = c.in-Ok in
     let le = at.ensures.value.whole in
-    is_typed c.args.start kinds.Ethernet2 c.args.frame.now hs e _ (λ i. omega (arith, c.type_inv.frame i)) (ap (λ (s : Start). announced (start_of s)) c.in-Ethernet2.is) at.ensures.accepted refl refl (ap link_len c.in-Ethernet2.is) (let n = ap link_len c.in-Ethernet2.is in omega (arith, le, n))
+    is_typed c.args.start kinds.Ethernet2 c.args.frame.now hs e _ (λ i. omega (arith, c.type_inv.frame i))
+    (ap (λ (s : Start). announced (start_of s)) c.in-Ethernet2.is) at.ensures.accepted refl refl
+    (ap link_len c.in-Ethernet2.is) (let n = ap link_len c.in-Ethernet2.is in omega (arith, le, n))
     (c.ether_type.ensures ∙ ap (λ (f : Frame). (ethernet2_of f.bytes).ether_type) at.ensures.frame) walk
 
 pub returns-in-Err-clause-refused : goal.returns-in-Err-clause-refused
 returns-in-Err-clause-refused c hs e walk =
-    refused_link c.args.start kinds.Ethernet2 c.args.frame.now _ hs e (ap (λ (s : Start). announced (start_of s)) c.in-Ethernet2.is) c.in-Err.ensures.refused.row walk
+    refused_link c.args.start kinds.Ethernet2 c.args.frame.now _ hs e
+    (ap (λ (s : Start). announced (start_of s)) c.in-Ethernet2.is) c.in-Err.ensures.refused.row walk
 
 pub returns-in-Ok-from_slice_with_crc32_fcs-clause-ok :
     goal.returns-in-Ok-from_slice_with_crc32_fcs-clause-ok
 returns-in-Ok-from_slice_with_crc32_fcs-clause-ok c hs e walk =
     let at = c.in-Ok-from_slice_with_crc32_fcs in
     let le = with_fcs c.args.frame.now at.ensures.accepted in
-    is_typed c.args.start kinds.Ethernet2Fcs c.args.frame.now hs e _ (λ i. omega (arith, c.type_inv.frame i)) (ap (λ (s : Start). announced (start_of s)) c.in-Ethernet2Fcs.is) at.ensures.accepted refl refl (ap link_len c.in-Ethernet2Fcs.is) (let n = ap link_len c.in-Ethernet2Fcs.is in omega (arith, le, n))
-    (c.ether_type-in-Ok-from_slice_with_crc32_fcs.ensures ∙ ap (λ (f : Frame). (ethernet2_of f.bytes).ether_type) at.ensures.frame) walk
+    is_typed c.args.start kinds.Ethernet2Fcs c.args.frame.now hs e _ (λ i. omega (arith, c.type_inv.frame i))
+    (ap (λ (s : Start). announced (start_of s)) c.in-Ethernet2Fcs.is) at.ensures.accepted refl refl
+    (ap link_len c.in-Ethernet2Fcs.is) (let n = ap link_len c.in-Ethernet2Fcs.is in omega (arith, le, n))
+    (c.ether_type-in-Ok-from_slice_with_crc32_fcs.ensures
+    ∙ ap (λ (f : Frame). (ethernet2_of f.bytes).ether_type) at.ensures.frame)
+    walk
 
 pub returns-in-Err-from_slice_with_crc32_fcs-clause-refused :
     goal.returns-in-Err-from_slice_with_crc32_fcs-clause-refused
 returns-in-Err-from_slice_with_crc32_fcs-clause-refused c hs e walk =
-    refused_link c.args.start kinds.Ethernet2Fcs c.args.frame.now _ hs e (ap (λ (s : Start). announced (start_of s)) c.in-Ethernet2Fcs.is) c.in-Err-from_slice_with_crc32_fcs.ensures.refused.row walk
+    refused_link c.args.start kinds.Ethernet2Fcs c.args.frame.now _ hs e
+    (ap (λ (s : Start). announced (start_of s)) c.in-Ethernet2Fcs.is)
+    c.in-Err-from_slice_with_crc32_fcs.ensures.refused.row walk
 
 pub returns-in-LinuxSll-clause-ok : goal.returns-in-LinuxSll-clause-ok
 returns-in-LinuxSll-clause-ok c hs e walk =
-    is_captured c.args.start c.args.frame.now hs e _ (λ i. omega (arith, c.type_inv.frame i)) (ap (λ (s : Start). announced (start_of s)) c.in-LinuxSll.is) (c.is_ethernet_capture.ensures.0 c.if-is_ethernet_capture.true) (ap link_len c.in-LinuxSll.is) refl c.u16_at.ensures walk
+    is_captured c.args.start c.args.frame.now hs e _ (λ i. omega (arith, c.type_inv.frame i))
+    (ap (λ (s : Start). announced (start_of s)) c.in-LinuxSll.is)
+    (c.is_ethernet_capture.ensures.0 c.if-is_ethernet_capture.true) (ap link_len c.in-LinuxSll.is) refl
+    c.u16_at.ensures walk
 
 pub returns-in-Some-clause-refused : goal.returns-in-Some-clause-refused
 returns-in-Some-clause-refused c hs e walk =
-    other_link c.args.start c.args.frame.now hs e c.in-Some.hardware_type (λ i. omega (arith, c.type_inv.frame i)) (ap (λ (s : Start). announced (start_of s)) c.in-LinuxSll-2.is) c.in-Some.ensures
-    (λ is. let both : true ≡ false = sym (c.is_ethernet_capture.ensures.1 is) ∙ c.if-is_ethernet_capture.false in absurd cc) walk
+    other_link c.args.start c.args.frame.now hs e c.in-Some.hardware_type (λ i. omega (arith, c.type_inv.frame i))
+    (ap (λ (s : Start). announced (start_of s)) c.in-LinuxSll-2.is) c.in-Some.ensures
+    (λ is. let both : true ≡ false =
+    sym (c.is_ethernet_capture.ensures.1 is) ∙ c.if-is_ethernet_capture.false in absurd cc)
+    walk
 
 pub returns-in-None-clause-refused : goal.returns-in-None-clause-refused
 returns-in-None-clause-refused c hs e walk =
-    refused_link c.args.start kinds.LinuxSll c.args.frame.now _ hs e (ap (λ (s : Start). announced (start_of s)) c.in-LinuxSll-2.is) c.in-None.ensures.1 walk
+    refused_link c.args.start kinds.LinuxSll c.args.frame.now _ hs e
+    (ap (λ (s : Start). announced (start_of s)) c.in-LinuxSll-2.is) c.in-None.ensures.1 walk
 
 pub returns-in-EtherType-clause-refused : goal.returns-in-EtherType-clause-refused
-returns-in-EtherType-clause-refused c hs e walk = unlinked c.args.start c.in-EtherType.field-0 c.args.frame.now hs e c.in-EtherType.is walk
+returns-in-EtherType-clause-refused c hs e walk =
+    unlinked c.args.start c.in-EtherType.field-0 c.args.frame.now hs e c.in-EtherType.is walk

@@ -7,7 +7,8 @@ use Rattle.ether_pcap.proofs.Options.{some_options}
 use Rattle.ether_pcap.proofs.capture_blocks.enhanced_packet.Goals as goal
 
 pub returns-in_default-clause-refused : goal.returns-in_default-clause-refused
-returns-in_default-clause-refused c = enhanced_alone _ (enhanced_packet_view c.in-Ok.packet) c.in-Ok.ensures.packet c.in_default.ensures
+returns-in_default-clause-refused c =
+    enhanced_alone _ (enhanced_packet_view c.in-Ok.packet) c.in-Ok.ensures.packet c.in_default.ensures
 
 pub returns-clause-packet : goal.returns-clause-packet
 returns-clause-packet c =
@@ -22,6 +23,14 @@ returns-clause-packet c =
       c.in-Ok.ensures.packet,
       c.in-Some.ensures,
       all.1,
-      (λ k. Some (record { time = time k; original_len = p.original_len; link_type = i.link_type; fcs_len = fcs k; packet = p.packet })),
+      (λ k.
+          Some
+          (record {
+            time = time k;
+            original_len = p.original_len;
+            link_type = i.link_type;
+            fcs_len = fcs k;
+            packet = p.packet;
+          })),
       refl,
     )

@@ -8,8 +8,12 @@ use Rattle.ether_pcap.proofs.capture_blocks.read_block.Goals as goal
 pub returns-in_err-packet-clause-refused : goal.returns-in_err-packet-clause-refused
 returns-in_err-packet-clause-refused c =
     let p = err_from_is_err_and c.from_residual.result c.from_residual.ensures.1 in
-    rw (p.1, p.2) (body_refused (order_of c.args.byte_order) (interfaces_view c.args.interfaces.now.items) (block_view c.in-Ok.block) _ c.requires c.in-Ok.ensures.block c.in_err-packet.ensures.refused)
+    rw (p.1, p.2)
+    (body_refused (order_of c.args.byte_order) (interfaces_view c.args.interfaces.now.items)
+    (block_view c.in-Ok.block) _ c.requires c.in-Ok.ensures.block c.in_err-packet.ensures.refused)
 
 pub returns-clause-unit : goal.returns-clause-unit
 returns-clause-unit c =
-    rw c.block_len.ensures (block (order_of c.args.byte_order) (interfaces_view c.args.interfaces.now.items) _ _ (block_view c.in-Ok.block) c.requires c.in-Ok.ensures.block c.in_ok-packet.ensures.body)
+    rw c.block_len.ensures
+    (block (order_of c.args.byte_order) (interfaces_view c.args.interfaces.now.items) _ _ (block_view c.in-Ok.block)
+    c.requires c.in-Ok.ensures.block c.in_ok-packet.ensures.body)

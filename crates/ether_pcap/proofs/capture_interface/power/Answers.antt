@@ -17,4 +17,5 @@ returns-then-resolution-lt128-clause-some c = rw c.pow.ensures (some_units c.fro
 
 pub returns-then-resolution-lt128-clause-same_times : goal.returns-then-resolution-lt128-clause-same_times
 returns-then-resolution-lt128-clause-same_times c ticks lt =
-    rw c.pow.ensures (same_times c.args.resolution c.from.result ticks c.if-resolution-lt128.true (c.from.ensures ∙ c.min.ensures) lt)
+    rw c.pow.ensures
+    (same_times c.args.resolution c.from.result ticks c.if-resolution-lt128.true (c.from.ensures ∙ c.min.ensures) lt)

@@ -10,6 +10,19 @@ returns-clause-unit c =
     let h = file_header_view c.args.header.now in
     let r = record_view c.in-Ok.record in
     let t = c.from_nanoseconds-time.ensures ∙ ap time_of c.nanoseconds.ensures in
-    let e : record { time = Some (timestamp_view c.from_nanoseconds-time.result); original_len = r.original_len; link_type = h.link_type; fcs_len = h.fcs_len; packet = r.packet } ≡ packet_of_record h r
-    = λ i. record { time = Some (t i); original_len = r.original_len; link_type = h.link_type; fcs_len = h.fcs_len; packet = r.packet } in
+    let e : record {
+      time = Some (timestamp_view c.from_nanoseconds-time.result);
+      original_len = r.original_len;
+      link_type = h.link_type;
+      fcs_len = h.fcs_len;
+      packet = r.packet;
+    }
+    ≡ packet_of_record h r
+    = λ i. record {
+      time = Some (t i);
+      original_len = r.original_len;
+      link_type = h.link_type;
+      fcs_len = h.fcs_len;
+      packet = r.packet;
+    } in
     record_unit c.args.bytes.now h r c.record_len.result _ c.in-Ok.ensures.record c.record_len.ensures e

@@ -8,5 +8,9 @@ returns c =
     let found = c.summarized.ensures in
     record {
       summary = found;
-      keeps = λ open_end hs e walk. cuts_keep (start_with c.args.start c.args.limit) c.args.bytes.now hs e (λ i. omega (arith, c.type_inv.bytes i)) open_end walk c.args.n found.headers found.ending c.requires found.walk;
+      keeps =
+          λ open_end hs e walk.
+          cuts_keep (start_with c.args.start c.args.limit) c.args.bytes.now hs e
+          (λ i. omega (arith, c.type_inv.bytes i)) open_end walk c.args.n found.headers found.ending c.requires
+          found.walk;
     }

@@ -13,7 +13,10 @@ returns-then-eq-2 c =
       | then-eq w ↦
           let first : pointwise ◌==◌ (cells 0 8 a) (cells 0 8 b) ≡ true = cc in
           let second : pointwise ◌==◌ (cells 8 4 a) (cells 8 4 b) ≡ true = cc in
-          let both : pointwise ◌==◌ (cells 0 8 a) (cells 0 8 b) && (pointwise ◌==◌ (cells 8 4 a) (cells 8 4 b) && pointwise ◌==◌ (cells 12 2 a) (cells 12 2 b)) ≡ pointwise ◌==◌ (cells 12 2 a) (cells 12 2 b) = λ i. first i && (second i && pointwise ◌==◌ (cells 12 2 a) (cells 12 2 b)) in
+          let both : pointwise ◌==◌ (cells 0 8 a) (cells 0 8 b)
+          && (pointwise ◌==◌ (cells 8 4 a) (cells 8 4 b) && pointwise ◌==◌ (cells 12 2 a) (cells 12 2 b))
+          ≡ pointwise ◌==◌ (cells 12 2 a) (cells 12 2 b) =
+          λ i. first i && (second i && pointwise ◌==◌ (cells 12 2 a) (cells 12 2 b)) in
           c.eq-then-eq-2.ensures ∙ sym (fourteen_same a b c.requires.first c.requires.second ∙ both)
       | else-eq w ↦ absurd cc
     ]

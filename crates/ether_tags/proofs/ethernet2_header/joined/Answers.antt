@@ -6,7 +6,10 @@ use Rattle.ether_tags.proofs.ethernet2_header.joined.Goals as goal
 
 pub returns : goal.returns
 returns c =
-    let w = ethernet2_written c.args.destination.now c.args.source.now c.args.ether_type c.to_be_bytes-t.result (λ i. omega (arith, c.type_inv.destination i)) (λ i. omega (arith, c.type_inv.source i)) c.requires.destination c.requires.source (omega arith) c.to_be_bytes-t.ensures in
+    let w =
+    ethernet2_written c.args.destination.now c.args.source.now c.args.ether_type c.to_be_bytes-t.result
+    (λ i. omega (arith, c.type_inv.destination i)) (λ i. omega (arith, c.type_inv.source i))
+    c.requires.destination c.requires.source (omega arith) c.to_be_bytes-t.ensures in
     record {
       destination = cells-all 6 c.args.destination.now c.requires.destination;
       source = cells-all 6 c.args.source.now c.requires.source;

@@ -9,4 +9,5 @@ returns-in-Some g c =
     (Takes-then c.append.ensures (Takes-same c.hex_fcs.ensures c.append_array.ensures))
 
 pub returns-in_default : goal.returns-in_default
-returns-in_default g c = Takes-same (ap fcs_text (sym c.in_default.is)) (Takes-none g.W.Sink.contents g.W.Sink.can_fail c.args.out.now)
+returns-in_default g c =
+    Takes-same (ap fcs_text (sym c.in_default.is)) (Takes-none g.W.Sink.contents g.W.Sink.can_fail c.args.out.now)

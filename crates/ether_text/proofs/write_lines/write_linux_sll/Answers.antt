@@ -12,11 +12,25 @@ use Rattle.ether_text.proofs.write_lines.write_linux_sll.Goals as goal
 pub returns : goal.returns
 unfolding linux_sll_text
 returns g c =
-    let header = ap linux_sll_of c.header_slice-header.ensures.bytes ∙ linux_sll_of_front c.args.slice.now 16 (omega arith) in
-    let packet = Takes-same (ap (λ (n : ℕ). codes " packet " ++ decimal n) (c.from.ensures ∙ c.packet_type_of.ensures ∙ ap (λ (s : LinuxSllValue). s.packet_type) header)) c.write_number-2.ensures in
-    let hardware = Takes-same (ap (λ (n : ℕ). codes " hw " ++ decimal n) (c.from-2.ensures ∙ c.arp_hardware_type.ensures)) c.write_number-3.ensures in
-    let len = Takes-same (ap (λ (n : ℕ). codes " alen " ++ decimal n) (c.from-3.ensures ∙ c.sender_address_valid_length.ensures)) c.write_number-4.ensures in
+    let header =
+    ap linux_sll_of c.header_slice-header.ensures.bytes ∙ linux_sll_of_front c.args.slice.now 16 (omega arith) in
+    let packet =
+    Takes-same
+    (ap (λ (n : ℕ). codes " packet " ++ decimal n)
+    (c.from.ensures ∙ c.packet_type_of.ensures ∙ ap (λ (s : LinuxSllValue). s.packet_type) header))
+    c.write_number-2.ensures in
+    let hardware =
+    Takes-same (ap (λ (n : ℕ). codes " hw " ++ decimal n) (c.from-2.ensures ∙ c.arp_hardware_type.ensures))
+    c.write_number-3.ensures in
+    let len =
+    Takes-same
+    (ap (λ (n : ℕ). codes " alen " ++ decimal n) (c.from-3.ensures ∙ c.sender_address_valid_length.ensures))
+    c.write_number-4.ensures in
     let address = Takes-same (c.hex_long.ensures ∙ ap hex_text c.sender_address_full.ensures) c.append-2.ensures in
-    let protocol = Takes-same (c.hex_type.ensures ∙ ap hex_number (c.protocol_of.ensures ∙ ap (λ (s : LinuxSllValue). s.protocol) header)) c.append-4.ensures in
+    let protocol =
+    Takes-same
+    (c.hex_type.ensures
+    ∙ ap hex_number (c.protocol_of.ensures ∙ ap (λ (s : LinuxSllValue). s.protocol) header))
+    c.append-4.ensures in
     Takes-then c.write_number.ensures (Takes-then packet (Takes-then hardware (Takes-then len
     (Takes-then c.append.ensures (Takes-then address (Takes-then c.append-3.ensures protocol))))))

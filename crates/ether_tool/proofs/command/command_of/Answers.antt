@@ -14,11 +14,16 @@ returns-in_err-limit_of-in-limit-2-clause-err c =
 
 pub returns-in_err-named_mode-in_default-clause-err : goal.returns-in_err-named_mode-in_default-clause-err
 returns-in_err-named_mode-in_default-clause-err c =
-    elim c.in_default.branch [ in_default-via-then-words-lt2 w ↦ search (rules, names_nothing) | in_default-via-else-words-lt2+then-words-lt3+in_default w ↦ search (rules, names_nothing) | in_default-via-else-words-lt2+else-words-lt3+in_default w ↦ search (rules, names_no_command) ]
+    elim c.in_default.branch [
+      | in_default-via-then-words-lt2 w ↦ search (rules, names_nothing)
+      | in_default-via-else-words-lt2+then-words-lt3+in_default w ↦ search (rules, names_nothing)
+      | in_default-via-else-words-lt2+else-words-lt3+in_default w ↦ search (rules, names_no_command)
+    ]
 
 pub returns-in_ok-limit_of-in-limit-2-clause-ok : goal.returns-in_ok-limit_of-in-limit-2-clause-ok
 returns-in_ok-limit_of-in-limit-2-clause-ok c =
-    names_limited c.args.words.now _ _ _ _ c.in-limit-2.len_at_least c.in-limit-2.is-limit c.in_ok-named_mode-in-limit-2.ensures.ok c.in_ok-limit_of-in-limit-2.ensures.ok
+    names_limited c.args.words.now _ _ _ _ c.in-limit-2.len_at_least c.in-limit-2.is-limit
+    c.in_ok-named_mode-in-limit-2.ensures.ok c.in_ok-limit_of-in-limit-2.ensures.ok
 
 pub returns-in_ok-named_mode-in_default-clause-ok : goal.returns-in_ok-named_mode-in_default-clause-ok
 returns-in_ok-named_mode-in_default-clause-ok c = plain _ _ c.in_ok-named_mode-in_default.ensures.ok

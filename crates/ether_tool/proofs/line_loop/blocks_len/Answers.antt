@@ -11,5 +11,7 @@ loop-len-preserved c =
     let at = c.loop-len.len in
     let xs = c.args.bytes.now in
     let size : at + 32 - at ≡ 32 = omega arith in
-    let none : list_any (λ (byte : ℕ). byte == 10) (take 32 (drop at xs)) ≡ false = ap (λ (n : ℕ). list_any (λ (byte : ℕ). byte == 10) (take n (drop at xs))) (sym size) ∙ sym c.contains.ensures.value ∙ c.if-contains.false in
+    let none : list_any (λ (byte : ℕ). byte == 10) (take 32 (drop at xs)) ≡ false =
+    ap (λ (n : ℕ). list_any (λ (byte : ℕ). byte == 10) (take n (drop at xs))) (sym size)
+    ∙ sym c.contains.ensures.value ∙ c.if-contains.false in
     (omega (arith, c.loop-len-test.true), block_skipped xs at 32 c.loop-len.invariant.0 c.loop-len.invariant.1 none)

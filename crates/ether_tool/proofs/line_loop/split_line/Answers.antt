@@ -7,4 +7,6 @@ returns-in-Some-clause-some c =
     c.blocks_len-skipped.ensures.within c.blocks_len-skipped.ensures.none c.in-Some.ensures.some
 
 pub returns-in-None-clause-none : goal.returns-in-None-clause-none
-returns-in-None-clause-none c = HasNoLineFeed-skipped c.args.bytes.now c.blocks_len-skipped.result c.blocks_len-skipped.ensures.none c.in-None.ensures.none
+returns-in-None-clause-none c =
+    HasNoLineFeed-skipped c.args.bytes.now c.blocks_len-skipped.result c.blocks_len-skipped.ensures.none
+    c.in-None.ensures.none

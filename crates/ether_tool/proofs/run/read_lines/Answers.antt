@@ -24,9 +24,13 @@ loop-input-init g c = (
 pub returns-in_err-count-clause-run : goal.returns-in_err-count-clause-run
 returns-in_err-count-clause-run g c =
     let (taken, so_far) = c.loop-input.invariant in
-    let h = broken_off c.args.command g.W.Sink.contents (g.R.Source.remaining c.args.input.now.inner.now) (g.R.Source.remaining c.loop-input.input.inner.now) (g.R.Source.remaining c.read.new.self.inner.now)
-    (contents_of g.W.Sink.contents c.args.out.now) c.from_residual-in_err-count.result taken c.loop-input.lines c.loop-input.out c.write_out.new.self
-    so_far.read c.in_err-count.ensures.kept c.in_ok-write_out.ensures.ok so_far.reached c.from_residual-in_err-count.ensures.1 in
+    let h =
+    broken_off c.args.command g.W.Sink.contents (g.R.Source.remaining c.args.input.now.inner.now)
+    (g.R.Source.remaining c.loop-input.input.inner.now) (g.R.Source.remaining c.read.new.self.inner.now)
+    (contents_of g.W.Sink.contents c.args.out.now) c.from_residual-in_err-count.result taken c.loop-input.lines
+    c.loop-input.out c.write_out.new.self
+    so_far.read c.in_err-count.ensures.kept c.in_ok-write_out.ensures.ok so_far.reached
+    c.from_residual-in_err-count.ensures.1 in
     search (rules, h)
 
 pub returns-then-count-eq0-clause-same_reader : goal.returns-then-count-eq0-clause-same_reader
@@ -37,17 +41,24 @@ returns-then-count-eq0-clause-run g c =
     let (taken, so_far) = c.loop-input.invariant in
     let nothing = ap (λ (n : ℕ). take n c.read.new.chunk) c.if-count-eq0.true in
     let end = c.in_ok-count.ensures.end c.if-count-eq0.true (omega arith) in
-    finished c.args.command g.W.Sink.contents (g.R.Source.remaining c.args.input.now.inner.now) (g.R.Source.remaining c.loop-input.input.inner.now) (g.R.Source.remaining c.read.new.self.inner.now)
-    (contents_of g.W.Sink.contents c.args.out.now) c.finish.result taken _ c.loop-input.lines c.loop-input.out c.write_out.new.self c.finish.new.out
-    so_far.read c.in_ok-count.ensures.read nothing end c.in_ok-write_out.ensures.ok so_far.reached c.finish.ensures.ok c.finish.ensures.bad c.finish.ensures.failed
+    finished c.args.command g.W.Sink.contents (g.R.Source.remaining c.args.input.now.inner.now)
+    (g.R.Source.remaining c.loop-input.input.inner.now) (g.R.Source.remaining c.read.new.self.inner.now)
+    (contents_of g.W.Sink.contents c.args.out.now) c.finish.result taken _ c.loop-input.lines c.loop-input.out
+    c.write_out.new.self c.finish.new.out
+    so_far.read c.in_ok-count.ensures.read nothing end c.in_ok-write_out.ensures.ok so_far.reached c.finish.ensures.ok
+    c.finish.ensures.bad c.finish.ensures.failed
 
 pub returns-in_err-take_chunk-clause-run : goal.returns-in_err-take_chunk-clause-run
 returns-in_err-take_chunk-clause-run g c =
     let (taken, so_far) = c.loop-input.invariant in
     let chunk : List ℕ = take c.in_ok-count.count c.read.new.chunk in
-    let h = stopped c.args.command g.W.Sink.contents (g.R.Source.remaining c.args.input.now.inner.now) (g.R.Source.remaining c.loop-input.input.inner.now) (g.R.Source.remaining c.read.new.self.inner.now)
-    (contents_of g.W.Sink.contents c.args.out.now) c.in_err-take_chunk.field-0.0 taken chunk c.loop-input.lines c.loop-input.out c.write_out.new.self c.take_chunk.new.out
-    so_far.read c.in_ok-count.ensures.read c.in_ok-write_out.ensures.ok so_far.reached c.in_err-take_chunk.ensures.bad c.in_err-take_chunk.ensures.failed in
+    let h =
+    stopped c.args.command g.W.Sink.contents (g.R.Source.remaining c.args.input.now.inner.now)
+    (g.R.Source.remaining c.loop-input.input.inner.now) (g.R.Source.remaining c.read.new.self.inner.now)
+    (contents_of g.W.Sink.contents c.args.out.now) c.in_err-take_chunk.field-0.0 taken chunk c.loop-input.lines
+    c.loop-input.out c.write_out.new.self c.take_chunk.new.out
+    so_far.read c.in_ok-count.ensures.read c.in_ok-write_out.ensures.ok so_far.reached
+    c.in_err-take_chunk.ensures.bad c.in_err-take_chunk.ensures.failed in
     search (rules, h)
 
 pub loop-input-smaller : goal.loop-input-smaller
@@ -66,18 +77,29 @@ loop-input-preserved g c =
       record {
         same_reader = c.read.ensures.same_reader ∙ so_far.same_reader;
         same_writer = c.take_chunk.ensures.same_writer ∙ c.write_out.ensures.same_writer ∙ so_far.same_writer;
-        read = Consumes-then (g.R.Source.remaining c.args.input.now.inner.now) (g.R.Source.remaining c.loop-input.input.inner.now) (g.R.Source.remaining c.read.new.self.inner.now) taken chunk so_far.read c.in_ok-count.ensures.read;
-        on = ReadsOn-then g.R.Source.remaining _ _ _ so_far.on (read_on g.R.Source.remaining c.loop-input.input c.read.new.self chunk c.in_ok-count.ensures.read c.in_ok-count.ensures.going c.in_ok-count.ensures.left some);
+        read =
+            Consumes-then (g.R.Source.remaining c.args.input.now.inner.now)
+            (g.R.Source.remaining c.loop-input.input.inner.now) (g.R.Source.remaining c.read.new.self.inner.now)
+            taken chunk so_far.read c.in_ok-count.ensures.read;
+        on =
+            ReadsOn-then g.R.Source.remaining _ _ _ so_far.on
+            (read_on g.R.Source.remaining c.loop-input.input c.read.new.self chunk c.in_ok-count.ensures.read
+            c.in_ok-count.ensures.going c.in_ok-count.ensures.left some);
         marks = Marks-then _ _ _ (Marks-then _ _ _ so_far.marks c.write_out.ensures.marks) c.take_chunk.ensures.marks;
-        reached = more.reached held taken (Reached-written_out c.args.command g.W.Sink.contents held taken c.loop-input.lines c.loop-input.out c.write_out.new.self drains so_far.reached);
+        reached =
+            more.reached held taken
+            (Reached-written_out c.args.command g.W.Sink.contents held taken c.loop-input.lines c.loop-input.out
+            c.write_out.new.self drains so_far.reached);
       },
     )
 
 pub returns-in_err-count-clause-cause : goal.returns-in_err-count-clause-cause
 returns-in_err-count-clause-cause g c =
     let (taken, so_far) = c.loop-input.invariant in
-    let why = read_stops g.R.Source.remaining g.R.Source.can_fail c.write_out.new.self c.args.input.now c.loop-input.input
-    c.read.new.self so_far.on c.in_ok-write_out.ensures.ok.none_waits c.in_err-count.ensures.cause c.in_err-count.ensures.kept in
+    let why =
+    read_stops g.R.Source.remaining g.R.Source.can_fail c.write_out.new.self c.args.input.now c.loop-input.input
+    c.read.new.self so_far.on c.in_ok-write_out.ensures.ok.none_waits c.in_err-count.ensures.cause
+    c.in_err-count.ensures.kept in
     on_input c.from_residual-in_err-count.result _ why
 
 pub returns-in_err-write_out-clause-marks : goal.returns-in_err-write_out-clause-marks
@@ -95,4 +117,5 @@ returns-then-count-eq0-clause-marks g c =
 
 pub returns-in_err-take_chunk-clause-marks : goal.returns-in_err-take_chunk-clause-marks
 returns-in_err-take_chunk-clause-marks g c =
-    Marks-then _ _ _ (Marks-then _ _ _ c.loop-input.invariant.1.marks c.write_out.ensures.marks) c.take_chunk.ensures.marks
+    Marks-then _ _ _ (Marks-then _ _ _ c.loop-input.invariant.1.marks c.write_out.ensures.marks)
+    c.take_chunk.ensures.marks

@@ -10,5 +10,9 @@ returns-clause-tagged c hs e walk s is earlier knows =
     let some : Some found ≡ Some s = c.in_ok-stations.ensures hs e walk ∙ is in
     let same : found ≡ s = cc in
     let new = c.learn.ensures earlier knows found.destination in
-    subst (λ (t : Stations). (Some c.decide.result ≡ Some (decision (taken c.args.port t) earlier)) × Knows c.learn.new.self (taken c.args.port t ∷ earlier)) same
+    subst
+    (λ (t : Stations).
+    (Some c.decide.result ≡ Some (decision (taken c.args.port t) earlier))
+    × Knows c.learn.new.self (taken c.args.port t ∷ earlier))
+    same
     (ap Some (c.decide.ensures ∙ decided c.learn.new.self earlier (taken c.args.port found) new), new)

@@ -13,8 +13,22 @@ returns c hs e walk =
     let tag = c.in-Some-Ok-Vlan.tag in
     let a : Some c.in-Some-Ok-Ethernet2.field-0 ≡ Some (Ok (units.Ethernet2 link)) = cc in
     let b : Some c.in-Some-Ok-Vlan.field-0 ≡ Some (Ok (units.Vlan tag)) = cc in
-    let first = subst (λ (s : State). Gives s (Some (Ok (units.Ethernet2 link))) c.next.new.self) c.new-peel.ensures.state
-    (subst (λ (r : Option (Result PeelUnit PeelFault)). Gives c.new-peel.result r c.next.new.self) a c.in-Some-Ok-Ethernet2.ensures.steps) in
-    let second = subst (λ (r : Option (Result PeelUnit PeelFault)). Gives c.next.new.self r c.next-2.new.self) b c.in-Some-Ok-Vlan.ensures.steps in
-    let r = stations_read c.args.frame.now hs e c.next.new.self c.next-2.new.self link tag (λ i. omega (arith, c.type_inv.frame i)) walk first second in
-    rw (r, c.station.ensures, c.station-2.ensures, c.source.ensures, c.destination.ensures, c.vlan_identifier-vlan_id.ensures) refl
+    let first =
+    subst (λ (s : State). Gives s (Some (Ok (units.Ethernet2 link))) c.next.new.self) c.new-peel.ensures.state
+    (subst (λ (r : Option (Result PeelUnit PeelFault)). Gives c.new-peel.result r c.next.new.self) a
+    c.in-Some-Ok-Ethernet2.ensures.steps) in
+    let second =
+    subst (λ (r : Option (Result PeelUnit PeelFault)). Gives c.next.new.self r c.next-2.new.self) b
+    c.in-Some-Ok-Vlan.ensures.steps in
+    let r =
+    stations_read c.args.frame.now hs e c.next.new.self c.next-2.new.self link tag
+    (λ i. omega (arith, c.type_inv.frame i)) walk first second in
+    rw (
+      r,
+      c.station.ensures,
+      c.station-2.ensures,
+      c.source.ensures,
+      c.destination.ensures,
+      c.vlan_identifier-vlan_id.ensures,
+    )
+    refl

@@ -6,5 +6,6 @@ use Rattle.ether_arp.proofs.arp_packet_slice.ArpPacketSlice.to_packet.Goals as g
 pub returns : goal.returns
 returns c =
     c.packed.ensures
-    ∙ packed_of c.self.inside.slice.now c.addrs.result.now _ _ _ _ _ c.addrs.ensures.addrs c.hw_addr_type.ensures c.proto_addr_type.ensures c.operation.ensures c.hw_addr_size.ensures c.proto_addr_size.ensures
+    ∙ packed_of c.self.inside.slice.now c.addrs.result.now _ _ _ _ _ c.addrs.ensures.addrs c.hw_addr_type.ensures
+    c.proto_addr_type.ensures c.operation.ensures c.hw_addr_size.ensures c.proto_addr_size.ensures
     ∙ ap arp_of c.self.view_is

@@ -6,4 +6,14 @@ use Rattle.ether_base.proofs.arp_hardware_id.ArpHardwareId.name.Goals as goal
 pub returns : goal.returns
 unfolding arp_hardware_description
 returns c =
-    rw (c.or-2.ensures, c.or.ensures, option_copied-or, option_copied-or, c.assigned_name.ensures, c.link_name.ensures, c.device_name.ensures, description_in-append (assigned_descriptions ++ link_descriptions), description_in-append assigned_descriptions)
+    rw (
+      c.or-2.ensures,
+      c.or.ensures,
+      option_copied-or,
+      option_copied-or,
+      c.assigned_name.ensures,
+      c.link_name.ensures,
+      c.device_name.ensures,
+      description_in-append (assigned_descriptions ++ link_descriptions),
+      description_in-append assigned_descriptions,
+    )

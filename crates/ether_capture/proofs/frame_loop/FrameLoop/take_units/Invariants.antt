@@ -10,7 +10,9 @@ invariant-loop-unit g l =
       marks : Marks g.W.Sink.can_fail l.fn.out l.out;
       within : taken ≤ length l.bytes;
       rest : l.rest ≡ drop taken l.bytes;
-      reached : (held : Option (List ℕ)) (input : List ℕ) → Reached l.is_plain g.W.Sink.contents held input l.bytes l.fn.self l.fn.out → Reached l.is_plain g.W.Sink.contents held input l.rest l.self l.out;
+      reached : (held : Option (List ℕ)) (input : List ℕ)
+          → Reached l.is_plain g.W.Sink.contents held input l.bytes l.fn.self l.fn.out
+          → Reached l.is_plain g.W.Sink.contents held input l.rest l.self l.out;
     }
 
 abbrev pub decreases-loop-unit : goal.decreases-loop-unit

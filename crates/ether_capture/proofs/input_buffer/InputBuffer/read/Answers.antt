@@ -15,7 +15,8 @@ returns-clause-ok g c =
     let bound = c.in_ok-count.ensures.bound in
     let part = slice_range new b.end (b.end + n) in
     let same = c.as_mut_slice.ensures.value in
-    let whole : (with_items b.bytes new).items ≡ new = with_items_is b.bytes new (c.read_after.ensures.len ∙ c.as_mut_slice.ensures.len) in (
+    let whole : (with_items b.bytes new).items ≡ new =
+    with_items_is b.bytes new (c.read_after.ensures.len ∙ c.as_mut_slice.ensures.len) in (
       part,
       (let l = length-part new b.end (b.end + n) bound in omega (arith, l)),
       ap (λ (l : List ℕ). slice_range l b.start (b.end + n)) whole

@@ -8,7 +8,8 @@ use Rattle.ether_packet.proofs.packet_builder.PacketBuilder.size.Goals as goal
 pub loop-ext-init : goal.loop-ext-init
 loop-ext-init c =
     let p = c.args.self.now in
-    counted_first p.link_exts.now (link_header_len p.link + content_len p.content) (c.header_len.result + c.content_len.result) (λ i. c.header_len.ensures i + c.content_len.ensures.value i)
+    counted_first p.link_exts.now (link_header_len p.link + content_len p.content)
+    (c.header_len.result + c.content_len.result) (λ i. c.header_len.ensures i + c.content_len.ensures.value i)
 
 pub overflow_add-len-in-loop-ext : goal.overflow_add-len-in-loop-ext
 overflow_add-len-in-loop-ext c =
@@ -25,9 +26,13 @@ overflow_add-len-in-loop-ext c =
 pub loop-ext-preserved : goal.loop-ext-preserved
 loop-ext-preserved c =
     let p = c.args.self.now in
-    counted_next p.link_exts.now (link_header_len p.link + content_len p.content) c.loop-ext.ext-index c.loop-ext.len c.header_len-len.result c.ext-item.result c.loop-ext-test.true c.loop-ext.invariant (c.header_len-len.ensures.value ∙ ap ext_header_len c.ext-item.is) c.header_len-len.ensures.bound
+    counted_next p.link_exts.now (link_header_len p.link + content_len p.content) c.loop-ext.ext-index c.loop-ext.len
+    c.header_len-len.result c.ext-item.result c.loop-ext-test.true c.loop-ext.invariant
+    (c.header_len-len.ensures.value ∙ ap ext_header_len c.ext-item.is) c.header_len-len.ensures.bound
 
 pub returns : goal.returns
 returns c =
     let p = c.args.self.now in
-    counted_all p.link_exts.now (link_header_len p.link + content_len p.content) c.loop-ext.ext-index c.loop-ext.len c.loop-ext-test.false c.loop-ext.invariant ∙ packet_len_is p
+    counted_all p.link_exts.now (link_header_len p.link + content_len p.content) c.loop-ext.ext-index c.loop-ext.len
+    c.loop-ext-test.false c.loop-ext.invariant
+    ∙ packet_len_is p

@@ -5,4 +5,5 @@ use Rattle.ether_packet.proofs.Chains.{Counted}
 use Rattle.ether_packet.proofs.packet_builder.PacketBuilder.size.Given as goal
 
 abbrev pub invariant-loop-ext : goal.invariant-loop-ext
-invariant-loop-ext l = Counted l.ext-items (link_header_len l.fn.self.link + content_len l.fn.self.content) l.ext-index l.len
+invariant-loop-ext l =
+    Counted l.ext-items (link_header_len l.fn.self.link + content_len l.fn.self.content) l.ext-index l.len

@@ -8,11 +8,17 @@ use Rattle.ether_packet.proofs.packet_slice.PacketSlice.macsec.Goals as goal
 pub returns-in-Some : goal.returns-in-Some
 returns-in-Some c =
     let us = c.args.self.now.read.units in
-    let lt : c.loop-index.index < length (exts_of us) = let n = c.ext_count-index-end.ensures.value in let test = c.loop-index-test.true in omega arith in
-    sec_tag_first us c.loop-index.index c.in-Some.packet c.loop-index.invariant lt (subst (ViewsSecTagIf (option_and_then macsec_of_unit (slice_get (exts_of us) c.loop-index.index))) c.in-Some.is c.sec_tag.ensures)
+    let lt : c.loop-index.index < length (exts_of us) = let n = c.ext_count-index-end.ensures.value in
+    let test = c.loop-index-test.true in
+    omega arith in
+    sec_tag_first us c.loop-index.index c.in-Some.packet c.loop-index.invariant lt
+    (subst (ViewsSecTagIf (option_and_then macsec_of_unit (slice_get (exts_of us) c.loop-index.index))) c.in-Some.is
+    c.sec_tag.ensures)
 
 pub returns : goal.returns
 returns c =
     let us = c.args.self.now.read.units in
-    let past : length (exts_of us) ≤ c.loop-index.index = let n = c.ext_count-index-end.ensures.value in let test = c.loop-index-test.false in omega arith in
+    let past : length (exts_of us) ≤ c.loop-index.index = let n = c.ext_count-index-end.ensures.value in
+    let test = c.loop-index-test.false in
+    omega arith in
     sec_tag_none us c.loop-index.index c.loop-index.invariant past

@@ -9,5 +9,7 @@ loop-index-init c = record { found = c.new-ids.ensures; few = let none = ap leng
 pub returns : goal.returns
 returns c =
     let us = c.args.self.now.read.units in
-    let past : length (exts_of us) ≤ c.loop-index.index = let n = c.ext_count-index-end.ensures.value in let test = c.loop-index-test.false in omega arith in
+    let past : length (exts_of us) ≤ c.loop-index.index = let n = c.ext_count-index-end.ensures.value in
+    let test = c.loop-index-test.false in
+    omega arith in
     identified_all us c.loop-index.index c.loop-index.ids.items c.loop-index.invariant past

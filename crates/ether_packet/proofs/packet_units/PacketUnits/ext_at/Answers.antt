@@ -15,7 +15,8 @@ pub returns-in-Some : goal.returns-in-Some
 returns-in-Some c =
     let a = c.self.inside in
     subst (λ (r : Read). ViewsExtIf (slice_get (exts_of r.units) c.args.index) (Some c.ext_of.result)) c.self.view_is
-    (ext_got a.frame.now a.link a.exts a.arp c.args.index c.in-Some.ext c.ext_of.result (sym c.get.ensures ∙ c.in-Some.is) c.ext_of.ensures)
+    (ext_got a.frame.now a.link a.exts a.arp c.args.index c.in-Some.ext c.ext_of.result
+    (sym c.get.ensures ∙ c.in-Some.is) c.ext_of.ensures)
 
 pub returns-in-None : goal.returns-in-None
 returns-in-None c =

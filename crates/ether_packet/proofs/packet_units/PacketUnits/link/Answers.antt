@@ -9,4 +9,7 @@ use Rattle.ether_packet.proofs.packet_units.PacketUnits.link.Goals as goal
 pub returns-in-Missing : goal.returns-in-Missing
 returns-in-Missing c =
     let a = c.self.inside in
-    sym (ap (λ (l : LinkPlace). link_of (units_at a.frame.now l a.exts a.arp)) c.in-Missing.is ∙ no_link a.frame.now a.exts a.arp) ∙ ap (λ (r : Read). link_of r.units) c.self.view_is
+    sym
+    (ap (λ (l : LinkPlace). link_of (units_at a.frame.now l a.exts a.arp)) c.in-Missing.is
+    ∙ no_link a.frame.now a.exts a.arp)
+    ∙ ap (λ (r : Read). link_of r.units) c.self.view_is

@@ -13,5 +13,7 @@ returns-clause-interface c =
     let order = order_of c.args.byte_order in
     let all = (some_options order d.options.now).0 in
     let has = (some_options order d.options.now).1 in
-    describes order c.args.body.now d c.in_bytes.result c.time_resolution.result c.unwrap_or.result all c.in_ok-description.ensures.interface has
-    (c.in_bytes.ensures ∙ ap (option_map fcs_bytes) (c.fcs_len.ensures all has)) (c.time_resolution.ensures all has) (c.unwrap_or.ensures ∙ ap (λ (o : Option ℕ). unwrap_or o 0) (c.time_offset.ensures all has))
+    describes order c.args.body.now d c.in_bytes.result c.time_resolution.result c.unwrap_or.result all
+    c.in_ok-description.ensures.interface has
+    (c.in_bytes.ensures ∙ ap (option_map fcs_bytes) (c.fcs_len.ensures all has)) (c.time_resolution.ensures all has)
+    (c.unwrap_or.ensures ∙ ap (λ (o : Option ℕ). unwrap_or o 0) (c.time_offset.ensures all has))

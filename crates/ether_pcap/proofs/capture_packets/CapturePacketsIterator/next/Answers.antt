@@ -20,7 +20,9 @@ returns-in-Some-clause-steps c =
     let within = c.in-Ok.ensures.within in
     let before = inv.place in
     let g = gives s _ _ c.if-self.false
-    (λ packets l fault has. gives_packet s _ a.rest.now len a.reader c.in-Some.packet packets l fault inv.bytes inv.passed unit left inv.going (inv.left packets l fault has))
+    (λ packets l fault has.
+    gives_packet s _ a.rest.now len a.reader c.in-Some.packet packets l fault inv.bytes inv.passed unit left
+    inv.going (inv.left packets l fault has))
     (omega (arith, size, within, before)) in
     rw (← c.self.view_is) g
 
@@ -42,7 +44,8 @@ loop-self-preserved c =
       place = omega (arith, size, within, before);
       left = λ packets l fault has.
           subst (λ (bytes : List ℕ). HasPackets c.read.new.self bytes packets l fault) (sym left)
-          (after_unit a.reader c.read.new.self a.rest.now len packets l fault inv.bytes unit (inv.left packets l fault has));
+          (after_unit a.reader c.read.new.self a.rest.now len packets l fault inv.bytes unit
+          (inv.left packets l fault has));
       passed = passed_unit _ a.reader c.read.new.self _ a.rest.now _ len inv.passed unit left;
     }
 
@@ -52,9 +55,12 @@ returns-in-Err-clause-steps c =
     let a = c.loop-self.self-inside in
     let inv = c.loop-self.invariant in
     let s : State = record { expected = i.reader; rest = i.rest.now; offset = i.offset; over = i.is_over } in
-    let g = gives s (record { expected = a.reader; rest = a.rest.now; offset = a.offset; over = true }) _ c.if-self.false
-    (λ packets l fault has. gives_fault s _ (record { offset = a.offset; error = c.in-Err.error }) packets l fault inv.bytes
-    (λ end. let t = c.is_at_end.ensures.1 end in let f = c.loop-self-test.true in absurd cc) c.in-Err.ensures.refused refl refl (inv.left packets l fault has))
+    let g =
+    gives s (record { expected = a.reader; rest = a.rest.now; offset = a.offset; over = true }) _ c.if-self.false
+    (λ packets l fault has.
+    gives_fault s _ (record { offset = a.offset; error = c.in-Err.error }) packets l fault inv.bytes
+    (λ end. let t = c.is_at_end.ensures.1 end in let f = c.loop-self-test.true in absurd cc)
+    c.in-Err.ensures.refused refl refl (inv.left packets l fault has))
     inv.place in
     rw (← c.self.view_is, c.in-Err.ensures.same) g
 
@@ -64,8 +70,12 @@ returns-clause-steps c =
     let a = c.loop-self.self-inside in
     let inv = c.loop-self.invariant in
     let s : State = record { expected = i.reader; rest = i.rest.now; offset = i.offset; over = i.is_over } in
-    let g = gives s (record { expected = a.reader; rest = a.rest.now; offset = a.offset; over = a.is_over }) None c.if-self.false
-    (λ packets l fault has. gives_none s _ packets l fault inv.bytes (c.is_at_end.ensures.0 (search rules)) inv.going (inv.left packets l fault has))
+    let g =
+    gives s (record { expected = a.reader; rest = a.rest.now; offset = a.offset; over = a.is_over }) None
+    c.if-self.false
+    (λ packets l fault has.
+    gives_none s _ packets l fault inv.bytes (c.is_at_end.ensures.0 (search rules)) inv.going
+    (inv.left packets l fault has))
     inv.place in
     rw (← c.self.view_is) g
 

@@ -15,5 +15,7 @@ returns-in-Err-clause-steps c =
     let a = c.self.inside in
     let s : State = record { header = a.header; rest = a.rest.now; offset = a.offset; over = a.is_over } in
     let some = some_of a.rest.now c.is_empty.result c.is_empty.ensures c.if-is_empty.false in
-    let g = gives_fault s (record { offset = a.offset; error = c.in-Err.error }) c.if-self.false some refl c.in-Err.ensures.refused in
+    let g =
+    gives_fault s (record { offset = a.offset; error = c.in-Err.error }) c.if-self.false some refl
+    c.in-Err.ensures.refused in
     rw (← c.self.view_is) g

@@ -12,5 +12,7 @@ returns-then-trailer-total_len-clause-refused c =
     let n : ℕ = c.u32_at-total_len.result in
     let total : IsTotalLen n = c.if-not-is_total_len.ensures.0 (search rules) in
     let e : field (order_of c.args.byte_order) c.args.slice.now (n - 4) n ≡ c.u32_at-trailer.result =
-    ap (field (order_of c.args.byte_order) c.args.slice.now (n - 4)) (sym (same_end n total.least)) ∙ sym c.u32_at-trailer.ensures in
-    trailer n c.u32_at-trailer.result c.if-slice-lt-MIN_LEN.false (sym c.u32_at-total_len.ensures) total c.if-slice-end.false e c.if-trailer-total_len.true
+    ap (field (order_of c.args.byte_order) c.args.slice.now (n - 4)) (sym (same_end n total.least))
+    ∙ sym c.u32_at-trailer.ensures in
+    trailer n c.u32_at-trailer.result c.if-slice-lt-MIN_LEN.false (sym c.u32_at-total_len.ensures) total
+    c.if-slice-end.false e c.if-trailer-total_len.true

@@ -13,7 +13,11 @@ use Rattle.ether_peel.proofs.Walker.Units.{packet_taken}
 use Rattle.ether_peel.proofs.peel.Peel.arp.Goals as goal
 
 pub fault-requires : goal.fault-requires
-fault-requires c = refused_len c.args.self.now kinds.Arp (slice_range c.self.inside.frame.now c.self.inside.start c.self.inside.end) c.fault.inside.start c.in-Err.error c.add_offset.result c.requires.going c.requires.announced (ap (λ (s : State). s.rest) c.self.view_is) (ap (λ (s : State). s.offset) c.fault.view_is) c.in-Err.ensures.refused c.add_offset.ensures
+fault-requires c =
+    refused_len c.args.self.now kinds.Arp (slice_range c.self.inside.frame.now c.self.inside.start c.self.inside.end)
+    c.fault.inside.start c.in-Err.error c.add_offset.result c.requires.going c.requires.announced
+    (ap (λ (s : State). s.rest) c.self.view_is) (ap (λ (s : State). s.offset) c.fault.view_is)
+    c.in-Err.ensures.refused c.add_offset.ensures
 
 pub returns-in-Ok-clause-gives : goal.returns-in-Ok-clause-gives
 returns-in-Ok-clause-gives c =
@@ -23,7 +27,14 @@ returns-in-Ok-clause-gives c =
     let n = length c.slice.result.now in
     let h = headers.Arp (arp_of packet) in
     let u = units.Arp packet in
-    let t : State = record { rest = slice_range a.frame.now (a.start + n) a.end; offset = a.start + n; closed = a.is_closed; bound = a.bound; expected = record { next = AfterArp; limit = a.limit }; over = a.is_over } in
+    let t : State = record {
+      rest = slice_range a.frame.now (a.start + n) a.end;
+      offset = a.start + n;
+      closed = a.is_closed;
+      bound = a.bound;
+      expected = record { next = AfterArp; limit = a.limit };
+      over = a.is_over;
+    } in
     let going : a.is_over ≡ false = ap (λ (s : State). s.over) c.self.view_is ∙ c.requires.going in
     let bytes_are = c.slice.ensures.bytes in
     let same_len : n ≡ length packet = ap length bytes_are in
@@ -37,7 +48,9 @@ returns-in-Ok-clause-gives c =
       accepted = c.in-Ok.ensures.accepted;
       means = c.in-Ok.ensures.value;
       shows = ap units.Arp (c.in-Ok.ensures.bytes ∙ ap (slice_range bytes 0) size);
-      rest = plain_part a.frame.now a.start a.end (header_len h) n a.is_closed c.self.invariant.0 c.self.invariant.1 c.in-Ok.ensures.value.whole len;
+      rest =
+          plain_part a.frame.now a.start a.end (header_len h) n a.is_closed c.self.invariant.0 c.self.invariant.1
+          c.in-Ok.ensures.value.whole len;
       offset = ap (λ k. a.start + k) len;
       closed = refl;
       bound = refl;

@@ -11,7 +11,9 @@ returns-clause-walk c =
     let list = c.args.bytes.now in
     let x = start_with c.args.start c.args.limit in
     let is : expected_of c.match-start.first.0 c.match-start.first.2 ≡ x.next = search rules in
-    let expected : record { next = expected_of c.match-start.first.0 c.match-start.first.2; limit = c.args.limit } ≡ x = λ i. record { next = is i; limit = c.args.limit } in
+    let expected : record { next = expected_of c.match-start.first.0 c.match-start.first.2; limit = c.args.limit }
+    ≡ x =
+    λ i. record { next = is i; limit = c.args.limit } in
     let s = some_stack list x (whole x list) (λ i. omega (arith, c.type_inv.bytes i)) in record {
       headers = s.0;
       ending = s.1;

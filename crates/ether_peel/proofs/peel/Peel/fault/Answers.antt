@@ -11,5 +11,10 @@ pub returns-clause-gives : goal.returns-clause-gives
 returns-clause-gives c =
     let a = shown c.self.inside in
     let refused = subst (λ (s : State). IsRefusedBy s c.args.error) (sym c.self.view_is) c.requires in
-    let gives = subst (λ (s : State). Gives s (Some (Err (fault_at a c.args.error))) (ended a)) c.self.view_is (gives_fault a c.args.error refused) in
-    subst (λ (e : PeelError). Gives c.args.self.now (Some (Err (record { offset = a.offset; error = e; closed = a.closed }))) (ended a)) (sym c.bounded.ensures) gives
+    let gives =
+    subst (λ (s : State). Gives s (Some (Err (fault_at a c.args.error))) (ended a)) c.self.view_is
+    (gives_fault a c.args.error refused) in
+    subst
+    (λ (e : PeelError).
+    Gives c.args.self.now (Some (Err (record { offset = a.offset; error = e; closed = a.closed }))) (ended a))
+    (sym c.bounded.ensures) gives

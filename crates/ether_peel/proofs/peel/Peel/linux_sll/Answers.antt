@@ -10,17 +10,28 @@ use Rattle.ether_peel.proofs.peel.Peel.linux_sll.Goals as goal
 
 pub fault-requires : goal.fault-requires
 fault-requires c =
-    let refused = subst (IsRefusedSll (slice_range c.self.inside.frame.now c.self.inside.start c.self.inside.end)) c.in-Err-Len.field-0-is c.in-Err-Len.ensures.refused in
-    refused_len c.args.self.now kinds.LinuxSll (slice_range c.self.inside.frame.now c.self.inside.start c.self.inside.end) c.fault.inside.start c.in-Err-Len.error c.add_offset.result c.requires.going c.requires.announced (ap (λ (s : State). s.rest) c.self.view_is) (ap (λ (s : State). s.offset) c.fault.view_is) refused c.add_offset.ensures
+    let refused =
+    subst (IsRefusedSll (slice_range c.self.inside.frame.now c.self.inside.start c.self.inside.end))
+    c.in-Err-Len.field-0-is c.in-Err-Len.ensures.refused in
+    refused_len c.args.self.now kinds.LinuxSll
+    (slice_range c.self.inside.frame.now c.self.inside.start c.self.inside.end) c.fault.inside.start
+    c.in-Err-Len.error c.add_offset.result c.requires.going c.requires.announced
+    (ap (λ (s : State). s.rest) c.self.view_is) (ap (λ (s : State). s.offset) c.fault.view_is) refused
+    c.add_offset.ensures
 
 pub fault-requires-in-Err-Content : goal.fault-requires-in-Err-Content
 fault-requires-in-Err-Content c =
-    let refused = subst (IsRefusedSll (slice_range c.self.inside.frame.now c.self.inside.start c.self.inside.end)) c.in-Err-Content.field-0-is c.in-Err-Content.ensures.refused in
-    refused_linux_sll c.args.self.now (slice_range c.self.inside.frame.now c.self.inside.start c.self.inside.end) c.in-Err-Content.error c.requires.going c.requires.announced (ap (λ (s : State). s.rest) c.self.view_is) refused
+    let refused =
+    subst (IsRefusedSll (slice_range c.self.inside.frame.now c.self.inside.start c.self.inside.end))
+    c.in-Err-Content.field-0-is c.in-Err-Content.ensures.refused in
+    refused_linux_sll c.args.self.now (slice_range c.self.inside.frame.now c.self.inside.start c.self.inside.end)
+    c.in-Err-Content.error c.requires.going c.requires.announced (ap (λ (s : State). s.rest) c.self.view_is) refused
 
 pub returns-in-Ok-clause-gives : goal.returns-in-Ok-clause-gives
 returns-in-Ok-clause-gives c =
-    gives_plain c.self.inside c.args.self.now c.header_len.result (units.LinuxSll c.in-Ok.slice) (shown_of c.announced_in-kind.result.1) c.self.inside.limit c.self.view_is c.requires.going c.self.invariant.0 c.self.invariant.1 (record {
+    gives_plain c.self.inside c.args.self.now c.header_len.result (units.LinuxSll c.in-Ok.slice)
+    (shown_of c.announced_in-kind.result.1) c.self.inside.limit c.self.view_is c.requires.going c.self.invariant.0
+    c.self.invariant.1 (record {
       header = headers.LinuxSll (linux_sll_of c.in-Ok.slice);
       no_len = refl;
       no_trailer = refl;
@@ -29,6 +40,8 @@ returns-in-Ok-clause-gives c =
       means = c.in-Ok.ensures.value;
       shows = λ rest. ap units.LinuxSll c.in-Ok.ensures.bytes;
       len = c.header_len.ensures;
-      next_is = c.announced_in-kind.ensures.expected ∙ after_capture_is (linux_sll_of c.in-Ok.slice).hardware_type (linux_sll_of c.in-Ok.slice).protocol;
+      next_is =
+          c.announced_in-kind.ensures.expected
+          ∙ after_capture_is (linux_sll_of c.in-Ok.slice).hardware_type (linux_sll_of c.in-Ok.slice).protocol;
       limit_is = ap (λ (s : State). s.expected.limit) c.self.view_is;
     })

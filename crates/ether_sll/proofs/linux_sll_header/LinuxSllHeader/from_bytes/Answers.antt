@@ -11,6 +11,12 @@ returns c =
     let len : length b ≡ 16 = search rules in
     let value = subst (IsLinuxSll b) (sym h.view) (linux_sll_whole b h.bytes len) in
     record {
-      answers = record { accepted = holds_accepts b h.bytes c.in_ok-require_content.ensures.holds; value = value; address = h.address; protocol = h.protocol };
+      answers =
+          record {
+            accepted = holds_accepts b h.bytes c.in_ok-require_content.ensures.holds;
+            value = value;
+            address = h.address;
+            protocol = h.protocol;
+          };
       inverse = linux_sll_bytes-read b _ h.bytes len value;
     }

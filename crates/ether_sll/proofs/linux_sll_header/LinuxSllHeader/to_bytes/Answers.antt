@@ -12,6 +12,18 @@ returns-clause-read_back c =
     let w = c.joined.ensures in
     let p = c.from.ensures.0 in
     let t = c.from-2.ensures in
-    let is = subst (IsLinuxSll b) (λ i. let s : LinuxSllValue = record { packet_type = p i; hardware_type = h.arp_hrd_type.0; address_len = h.sender_address_valid_length; address = number h.sender_address; protocol = t i } in s) w.value in
+    let is =
+    subst (IsLinuxSll b)
+    (λ i. let s : LinuxSllValue =
+    record {
+      packet_type = p i;
+      hardware_type = h.arp_hrd_type.0;
+      address_len = h.sender_address_valid_length;
+      address = number h.sender_address;
+      protocol = t i;
+    }
+    in s)
+    w.value in
     let ok = subst IsBytes (sym w.bytes) (IsBytes-spelled 16 _) in
-    read_back b h ok (ap length w.bytes ∙ length-spelled 16 _) is w.address (subst (λ (k : ℕ). k ≤ 7) p c.from.ensures.1)
+    read_back b h ok (ap length w.bytes ∙ length-spelled 16 _) is w.address
+    (subst (λ (k : ℕ). k ≤ 7) p c.from.ensures.1)

@@ -14,5 +14,7 @@ use Rattle.ether_sll.proofs.linux_sll_header.LinuxSllHeader.write_to_slice.Code 
 
 pub write_to_slice_spec : {M : Type 1} → statement M
 write_to_slice_spec 𝓤 𝓛 𝓜 𝓡 wired =
-    meets the_row #put 16 tt layers.LinuxSllHeader 0 tt ([], (refl, (tt, (refl, tt)))) 𝓛 𝓜 𝓡 (λ h. linux_sll_bytes (linux_sll_view h)) #self (code.unfolded 𝓤 𝓛.H 𝓜 𝓡 wired)
-    (put-met 𝓤 𝓛 𝓜 𝓡 (code.calls-ether_sll::linux_sll_header::LinuxSllHeader::put 𝓡.env wired)) (rest-met 𝓤 𝓛 𝓜 𝓡 (code.calls-ether_base::write_front::rest_from 𝓡.env wired))
+    meets the_row #put 16 tt layers.LinuxSllHeader 0 tt ([], (refl, (tt, (refl, tt)))) 𝓛 𝓜 𝓡
+    (λ h. linux_sll_bytes (linux_sll_view h)) #self (code.unfolded 𝓤 𝓛.H 𝓜 𝓡 wired)
+    (put-met 𝓤 𝓛 𝓜 𝓡 (code.calls-ether_sll::linux_sll_header::LinuxSllHeader::put 𝓡.env wired))
+    (rest-met 𝓤 𝓛 𝓜 𝓡 (code.calls-ether_base::write_front::rest_from 𝓡.env wired))

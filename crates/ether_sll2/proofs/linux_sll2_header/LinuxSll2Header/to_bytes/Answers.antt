@@ -14,7 +14,8 @@ returns-clause-read_back c =
     let p = c.from-2.ensures.0 in
     let t = c.from.ensures in
     let len = h.sender_address_valid_length in
-    let same : linux_sll2_value c.from.result h.interface_index h.arp_hrd_type.0 c.from-2.result len h.sender_address ≡ linux_sll2_view h =
+    let same : linux_sll2_value c.from.result h.interface_index h.arp_hrd_type.0 c.from-2.result len h.sender_address
+    ≡ linux_sll2_view h =
     λ i. linux_sll2_value (t i) h.interface_index h.arp_hrd_type.0 (p i) len h.sender_address in
     let is = subst (IsLinuxSll2 b) same w.value in
     let ok = subst IsBytes (sym w.bytes) (IsBytes-spelled 20 _) in

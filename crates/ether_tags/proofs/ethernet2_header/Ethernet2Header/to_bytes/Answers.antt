@@ -9,10 +9,15 @@ use Rattle.ether_tags.specs.Ethernet2.{ethernet2_view}
 use Rattle.ether_tags.proofs.ethernet2_header.Ethernet2Header.to_bytes.Goals as goal
 
 pub returns-clause-inverse : goal.returns-clause-inverse
-returns-clause-inverse c = λ e is. let w = c.joined.ensures.value in ethernet2_unique e (ethernet2_view c.args.self.now) is.fits w.fits (sym is.sum ∙ w.sum)
+returns-clause-inverse c =
+    λ e is. let w =
+    c.joined.ensures.value in ethernet2_unique e (ethernet2_view c.args.self.now) is.fits w.fits
+    (sym is.sum ∙ w.sum)
 
 pub returns-clause-accepted : goal.returns-clause-accepted
-returns-clause-accepted c = λ more. accepts_ethernet2 sources.Slice (c.joined.result ++ more) (omega (arith, length-append c.joined.result more))
+returns-clause-accepted c =
+    λ more.
+    accepts_ethernet2 sources.Slice (c.joined.result ++ more) (omega (arith, length-append c.joined.result more))
 
 pub returns-clause-read_back : goal.returns-clause-read_back
 returns-clause-read_back c = λ more.

@@ -14,5 +14,7 @@ use Rattle.ether_tags.proofs.ethernet2_header.Ethernet2Header.write_to_slice.Cod
 
 pub write_to_slice_spec : {M : Type 1} → statement M
 write_to_slice_spec 𝓤 𝓛 𝓜 𝓡 wired =
-    meets the_row #put 14 tt layers.Ethernet2Header 1 tt ([], (refl, (tt, (refl, tt)))) 𝓛 𝓜 𝓡 (λ h. ethernet2_bytes (ethernet2_view h)) #self (code.unfolded 𝓤 𝓛.H 𝓜 𝓡 wired)
-    (put-met 𝓤 𝓛 𝓜 𝓡 (code.calls-ether_tags::ethernet2_header::Ethernet2Header::put 𝓡.env wired)) (rest-met 𝓤 𝓛 𝓜 𝓡 (code.calls-ether_base::write_front::rest_from 𝓡.env wired))
+    meets the_row #put 14 tt layers.Ethernet2Header 1 tt ([], (refl, (tt, (refl, tt)))) 𝓛 𝓜 𝓡
+    (λ h. ethernet2_bytes (ethernet2_view h)) #self (code.unfolded 𝓤 𝓛.H 𝓜 𝓡 wired)
+    (put-met 𝓤 𝓛 𝓜 𝓡 (code.calls-ether_tags::ethernet2_header::Ethernet2Header::put 𝓡.env wired))
+    (rest-met 𝓤 𝓛 𝓜 𝓡 (code.calls-ether_base::write_front::rest_from 𝓡.env wired))

@@ -8,10 +8,15 @@ use Rattle.ether_base.proofs.Ethernet2Fields.{ethernet2_whole}
 use Rattle.ether_tags.proofs.ethernet2_header_slice.Ethernet2HeaderSlice.from_slice.Goals as goal
 
 pub returns-then-slice-lt-LEN-clause-refused : goal.returns-then-slice-lt-LEN-clause-refused
-returns-then-slice-lt-LEN-clause-refused c = subst (IsRefusedLen c.args.slice.now kinds.Ethernet2) (sym c.too_short.ensures) (record { row = rows.ethernet2 c.if-slice-lt-LEN.true; start = refl })
+returns-then-slice-lt-LEN-clause-refused c =
+    subst (IsRefusedLen c.args.slice.now kinds.Ethernet2) (sym c.too_short.ensures)
+    (record { row = rows.ethernet2 c.if-slice-lt-LEN.true; start = refl })
 
 pub returns-clause-value : goal.returns-clause-value
 returns-clause-value c =
     let bytes = c.args.slice.now in
     let ok = IsBytes-part 0 14 bytes (λ i. omega (arith, c.type_inv.slice i)) in
-    record { whole = omega arith; spells = ethernet2_whole (slice_range bytes 0 14) ok (length-part bytes 0 14 (omega arith)) }
+    record {
+      whole = omega arith;
+      spells = ethernet2_whole (slice_range bytes 0 14) ok (length-part bytes 0 14 (omega arith));
+    }

@@ -30,7 +30,13 @@ returns-then-has_version_one-clause-refused c =
     let one = c.if-has_version_one.ensures in
     record {
       refusal = UnexpectedVersion;
-      row = record { row = rows.macsec_version (sec_tag_front_in bytes) c.if-slice-lt-MIN_LEN.false (sec_tag_front_read bytes ok c.if-slice-lt-MIN_LEN.false) (omega arith); of_header = λ e. e };
+      row =
+          record {
+            row =
+                rows.macsec_version (sec_tag_front_in bytes) c.if-slice-lt-MIN_LEN.false
+                (sec_tag_front_read bytes ok c.if-slice-lt-MIN_LEN.false) (omega arith);
+            of_header = λ e. e;
+          };
       is = refl;
     }
 
@@ -42,7 +48,13 @@ returns-then-is_too_short-clause-refused c =
     let short = c.is_too_short.ensures.0 c.if-is_too_short.true in
     record {
       refusal = InvalidShortLen;
-      row = record { row = rows.macsec_short_len (sec_tag_front_in bytes) c.if-slice-lt-MIN_LEN.false (sec_tag_front_read bytes ok c.if-slice-lt-MIN_LEN.false) (omega arith) short; of_header = λ e. e };
+      row =
+          record {
+            row =
+                rows.macsec_short_len (sec_tag_front_in bytes) c.if-slice-lt-MIN_LEN.false
+                (sec_tag_front_read bytes ok c.if-slice-lt-MIN_LEN.false) (omega arith) short;
+            of_header = λ e. e;
+          };
       is = refl;
     }
 
@@ -56,12 +68,19 @@ returns-then-slice-len-clause-refused c =
     let front = sec_tag_front_in bytes in
     let ok : IsBytes bytes = λ i. omega (arith, c.type_inv.slice i) in
     let zero = c.if-has_version_one.ensures in
-    let not_short = long (sec_tag_front_in bytes) c.is_too_short.result c.is_too_short.ensures.1 c.if-is_too_short.false in
+    let not_short =
+    long (sec_tag_front_in bytes) c.is_too_short.result c.is_too_short.ensures.1 c.if-is_too_short.false in
     let len : c.header_len-len.result ≡ sec_tag_len front = c.header_len-len.ensures in
     let lt = c.if-slice-len.true in
     subst (λ (e : LenError). IsRefusedTag bytes (Len e)) (sym c.too_short-then-slice-len.ensures) (record {
       refusal = Length (sec_tag_len front) (length bytes) sources.Slice layers.MacsecHeader;
-      row = record { row = rows.macsec_header front c.if-slice-lt-MIN_LEN.false (sec_tag_front_read bytes ok c.if-slice-lt-MIN_LEN.false) (omega arith) not_short (omega arith); of_header = λ e. absurd cc };
+      row =
+          record {
+            row =
+                rows.macsec_header front c.if-slice-lt-MIN_LEN.false
+                (sec_tag_front_read bytes ok c.if-slice-lt-MIN_LEN.false) (omega arith) not_short (omega arith);
+            of_header = λ e. absurd cc;
+          };
       is = (ap (λ (k : ℕ). Length k (length bytes) sources.Slice layers.MacsecHeader) (sym len), refl);
     })
 
@@ -71,7 +90,8 @@ invariant_of-result c =
     let n = c.header_len-len.result in
     let zero = c.if-has_version_one.ensures in
     let len : n ≡ sec_tag_len (sec_tag_front_in bytes) = c.header_len-len.ensures in
-    let not_short = long (sec_tag_front_in bytes) c.is_too_short.result c.is_too_short.ensures.1 c.if-is_too_short.false in
+    let not_short =
+    long (sec_tag_front_in bytes) c.is_too_short.result c.is_too_short.ensures.1 c.if-is_too_short.false in
     let front = sec_tag_front_taken bytes n (omega arith) in
     let taken : length (take n bytes) ≡ n = omega (arith, length-take n bytes) in
     record {
@@ -86,10 +106,12 @@ returns-clause-accepted c =
     let front = sec_tag_front_in bytes in
     let ok : IsBytes bytes = λ i. omega (arith, c.type_inv.slice i) in
     let zero = c.if-has_version_one.ensures in
-    let not_short = long (sec_tag_front_in bytes) c.is_too_short.result c.is_too_short.ensures.1 c.if-is_too_short.false in
+    let not_short =
+    long (sec_tag_front_in bytes) c.is_too_short.result c.is_too_short.ensures.1 c.if-is_too_short.false in
     let len : c.header_len-len.result ≡ sec_tag_len front = c.header_len-len.ensures in
     let le = c.if-slice-len.false in
-    accepts_tag sources.Slice bytes front c.if-slice-lt-MIN_LEN.false (sec_tag_front_read bytes ok c.if-slice-lt-MIN_LEN.false) (omega arith) not_short (omega arith)
+    accepts_tag sources.Slice bytes front c.if-slice-lt-MIN_LEN.false
+    (sec_tag_front_read bytes ok c.if-slice-lt-MIN_LEN.false) (omega arith) not_short (omega arith)
 
 pub returns-clause-value : goal.returns-clause-value
 returns-clause-value c =

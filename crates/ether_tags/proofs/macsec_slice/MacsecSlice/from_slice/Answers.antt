@@ -37,8 +37,11 @@ returns-clause-accepted c =
     let front = sec_tag_front_in (tag_bytes c.in_ok-header.header) in
     let known = known_payload_len front in
     let start = sec_tag_len front in
-    let p = placed bytes (tag_bytes c.in_ok-header.header) known start c.in_ok-end.end h.bytes refl refl c.in_ok-end.ensures.end in
-    packet_accepted bytes c.in_ok-end.end known ok h.whole h.accepted (sym p.known_is) p.finish_is c.in_ok-end.ensures.within
+    let p =
+    placed bytes (tag_bytes c.in_ok-header.header) known start c.in_ok-end.end h.bytes refl refl
+    c.in_ok-end.ensures.end in
+    packet_accepted bytes c.in_ok-end.end known ok h.whole h.accepted (sym p.known_is) p.finish_is
+    c.in_ok-end.ensures.within
 
 pub returns-clause-payload : goal.returns-clause-payload
 returns-clause-payload c =
@@ -48,10 +51,18 @@ returns-clause-payload c =
     let front = sec_tag_front_in (tag_bytes c.in_ok-header.header) in
     let known = known_payload_len front in
     let start = sec_tag_len front in
-    let p = placed bytes (tag_bytes c.in_ok-header.header) known start c.in_ok-end.end h.bytes refl refl c.in_ok-end.ensures.end in
-    let finish = p.finish_is ∙ ap (λ (o : Option ℕ). payload_end o (sec_tag_len (sec_tag_front_in bytes)) (length bytes)) p.known_is in
-    let tag : sec_tag_of (tag_bytes c.in_ok-header.header) ≡ sec_tag_of bytes = tag_unique bytes (sec_tag_of (tag_bytes c.in_ok-header.header)) (sec_tag_of bytes) h.value (sec_tag_means bytes ok (omega (arith, h.whole)) h.whole) in
+    let p =
+    placed bytes (tag_bytes c.in_ok-header.header) known start c.in_ok-end.end h.bytes refl refl
+    c.in_ok-end.ensures.end in
+    let finish =
+    p.finish_is
+    ∙ ap (λ (o : Option ℕ). payload_end o (sec_tag_len (sec_tag_front_in bytes)) (length bytes)) p.known_is in
+    let tag : sec_tag_of (tag_bytes c.in_ok-header.header) ≡ sec_tag_of bytes =
+    tag_unique bytes (sec_tag_of (tag_bytes c.in_ok-header.header)) (sec_tag_of bytes) h.value
+    (sec_tag_means bytes ok (omega (arith, h.whole)) h.whole) in
     let type = c.next_ether_type.ensures ∙ ap (λ (t : SecTagValue). readable_type t.payload_type) tag in
     let source = c.source_of.ensures ∙ ap payload_source p.known_is in
-    let window = ap (λ (n : ℕ). slice_range bytes n c.in_ok-end.end) (c.header_len-start.ensures.tag ∙ p.start_is) ∙ ap (slice_range bytes (sec_tag_len (sec_tag_front_in bytes))) finish in
+    let window =
+    ap (λ (n : ℕ). slice_range bytes n c.in_ok-end.end) (c.header_len-start.ensures.tag ∙ p.start_is)
+    ∙ ap (slice_range bytes (sec_tag_len (sec_tag_front_in bytes))) finish in
     holds_same c.payload_of-payload.result _ _ _ _ _ _ type source window c.payload_of-payload.ensures

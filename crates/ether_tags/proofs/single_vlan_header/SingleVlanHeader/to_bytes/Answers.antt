@@ -26,14 +26,22 @@ returns c =
     let joined = c.joined.ensures in
     let n : c.joined.result ≡ vlan_number v = omega arith in
     let value : bytes ≡ vlan_bytes v = c.bytes_of_u32.ensures ∙ ap (spelled 4) n in
-    let is_tag : IsVlan bytes v = subst (λ (l : List ℕ). IsVlan l v) (sym value) (spells-header_bytes (headers.Vlan v) fits) in
-    let means : (more : List ℕ) → Means (bytes ++ more) (headers.Vlan v) = λ more. subst (λ (l : List ℕ). Means (l ++ more) (headers.Vlan v)) (sym value) (means-header_bytes (headers.Vlan v) more fits) in
+    let is_tag : IsVlan bytes v =
+    subst (λ (l : List ℕ). IsVlan l v) (sym value) (spells-header_bytes (headers.Vlan v) fits) in
+    let means : (more : List ℕ) → Means (bytes ++ more) (headers.Vlan v) =
+    λ more.
+    subst (λ (l : List ℕ). Means (l ++ more) (headers.Vlan v)) (sym value)
+    (means-header_bytes (headers.Vlan v) more fits) in
     record {
       value = value;
       len = omega arith;
       fits = fits;
       inverse = λ u is. vlan_unique u v is.fits fits (sym is.sum ∙ is_tag.sum);
       accepted = λ more. accepts_vlan sources.Slice (bytes ++ more) (omega (arith, length-append {A = ℕ}));
-      read_back = λ more k m. vlan_headers_same k h (let e = one_header (bytes ++ more) (headers.Vlan (vlan_view k)) (headers.Vlan v) refl m (means more) in cc);
+      read_back =
+          λ more k m.
+          vlan_headers_same k h
+          (let e = one_header (bytes ++ more) (headers.Vlan (vlan_view k)) (headers.Vlan v) refl m (means more) in
+          cc);
       same = λ k is. vlan_headers_same k h (vlan_unique (vlan_view k) v is.fits fits (sym is.sum ∙ is_tag.sum));
     }

@@ -8,7 +8,9 @@ use Rattle.ether_base.proofs.VlanFields.{vlan_whole}
 use Rattle.ether_tags.proofs.single_vlan_header_slice.SingleVlanHeaderSlice.from_slice.Goals as goal
 
 pub returns-then-slice-lt-LEN-clause-refused : goal.returns-then-slice-lt-LEN-clause-refused
-returns-then-slice-lt-LEN-clause-refused c = subst (IsRefusedLen c.args.slice.now kinds.Vlan) (sym c.too_short.ensures) (record { row = rows.vlan c.if-slice-lt-LEN.true; start = refl })
+returns-then-slice-lt-LEN-clause-refused c =
+    subst (IsRefusedLen c.args.slice.now kinds.Vlan) (sym c.too_short.ensures)
+    (record { row = rows.vlan c.if-slice-lt-LEN.true; start = refl })
 
 pub returns-clause-value : goal.returns-clause-value
 returns-clause-value c =

@@ -18,9 +18,12 @@ loop-rest-preserved g c =
     let (front, whole, taken) = c.loop-rest.invariant in
     let xs = c.loop-rest.rest.now in
     let piece : List ℕ = take 65536 xs in
-    let after : take (length xs - 65536) (drop 65536 xs) ≡ drop 65536 xs = take_all (length xs - 65536) (drop 65536 xs) (let n = length-drop 65536 xs in omega (arith, n)) in
-    let parts : xs ≡ piece ++ take (length xs - 65536) (drop 65536 xs) = sym (take-append-drop 65536 xs) ∙ ap (λ (l : List ℕ). piece ++ l) (sym after) in (
+    let after : take (length xs - 65536) (drop 65536 xs) ≡ drop 65536 xs =
+    take_all (length xs - 65536) (drop 65536 xs) (let n = length-drop 65536 xs in omega (arith, n)) in
+    let parts : xs ≡ piece ++ take (length xs - 65536) (drop 65536 xs) =
+    sym (take-append-drop 65536 xs) ∙ ap (λ (l : List ℕ). piece ++ l) (sym after) in (
       front ++ piece,
-      whole ∙ ap (λ (l : List ℕ). front ++ l) parts ∙ sym (append_assoc front piece (take (length xs - 65536) (drop 65536 xs))),
+      whole ∙ ap (λ (l : List ℕ). front ++ l) parts
+          ∙ sym (append_assoc front piece (take (length xs - 65536) (drop 65536 xs))),
       Grows-then taken c.append_piece.ensures,
     )

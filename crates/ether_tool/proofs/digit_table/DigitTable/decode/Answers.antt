@@ -12,20 +12,25 @@ loop-i-preserved c =
     let high = slice_index_or c.self.inside.entries c.from.result 0 in
     let low = slice_index_or c.self.inside.entries c.from-in-loop-i.result 0 in
     let high_is : high ≡ entry_of first =
-    c.self.invariant c.from.result (omega (arith, c.from.ensures, c.type_inv.line (2 * i))) ∙ ap entry_of c.from.ensures in
+    c.self.invariant c.from.result (omega (arith, c.from.ensures, c.type_inv.line (2 * i)))
+    ∙ ap entry_of c.from.ensures in
     let low_is : low ≡ entry_of second =
-    c.self.invariant c.from-in-loop-i.result (omega (arith, c.from-in-loop-i.ensures, c.type_inv.line (2 * i + 1))) ∙ ap entry_of c.from-in-loop-i.ensures in
+    c.self.invariant c.from-in-loop-i.result (omega (arith, c.from-in-loop-i.ensures, c.type_inv.line (2 * i + 1)))
+    ∙ ap entry_of c.from-in-loop-i.ensures in
     record {
       digits = λ clean.
           let each = mark_of c.loop-i.marks high low clean in
-          two_more (λ k. is_some (hex_digit_value (slice_index c.args.line.now k)) ≡ true) i (c.loop-i.invariant.digits each.0)
+          two_more (λ k. is_some (hex_digit_value (slice_index c.args.line.now k)) ≡ true) i
+          (c.loop-i.invariant.digits each.0)
           (is_digit first high high_is each.1) (is_digit second low low_is each.2);
       marks = λ all.
           no_marks c.loop-i.marks high low (c.loop-i.invariant.marks (λ k lt. all k (omega arith)))
-          (no_mark first high high_is (all (2 * i) (omega arith))) (no_mark second low low_is (all (2 * i + 1) (omega arith)));
+          (no_mark first high high_is (all (2 * i) (omega arith)))
+          (no_mark second low low_is (all (2 * i + 1) (omega arith)));
       bytes = λ clean.
           let each = mark_of c.loop-i.marks high low clean in
           below_more _ _
           (λ k lt. let other : k ≢ i = omega arith in rw get_or-set_other (c.loop-i.invariant.bytes each.0 k lt))
-          (let within : i < length c.loop-i.out = omega arith in rw get_or-set_same (byte_named first second high low _ high_is low_is each.1 each.2 refl));
+          (let within : i < length c.loop-i.out = omega arith in
+          rw get_or-set_same (byte_named first second high low _ high_is low_is each.1 each.2 refl));
     }

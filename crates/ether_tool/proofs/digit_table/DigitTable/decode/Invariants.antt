@@ -7,5 +7,6 @@ abbrev pub invariant-loop-i : goal.invariant-loop-i
 invariant-loop-i l = record {
   digits : l.marks < 128 → (k : ℕ) → k < 2 * l.i → is_some (hex_digit_value (slice_index l.line k)) ≡ true;
   marks : ((k : ℕ) → k < 2 * l.i → is_some (hex_digit_value (slice_index l.line k)) ≡ true) → l.marks < 128;
-  bytes : l.marks < 128 → (k : ℕ) → k < l.i → NameByte (slice_index l.line (2 * k)) (slice_index l.line (2 * k + 1)) (slice_index l.out k);
+  bytes : l.marks < 128 → (k : ℕ) → k < l.i
+      → NameByte (slice_index l.line (2 * k)) (slice_index l.line (2 * k + 1)) (slice_index l.out k);
 }

@@ -3,5 +3,8 @@ use Rattle.ether_tool.proofs.ParseFrameLemmas.{bad_of_digits}
 use Rattle.ether_tool.proofs.digit_table.DigitTable.frame_of.Goals as goal
 
 pub returns-then-not-decode-clause-bad : goal.returns-then-not-decode-clause-bad
-returns-then-not-decode-clause-bad c =
-    (λ none. bad_of_digits _ (λ all. let yes = c.decode.ensures.digits.1 all in let no = c.if-not-decode.true in absurd (cc)), λ bad. refl)
+returns-then-not-decode-clause-bad c = (
+  λ none.
+      bad_of_digits _ (λ all. let yes = c.decode.ensures.digits.1 all in let no = c.if-not-decode.true in absurd (cc)),
+  λ bad. refl,
+)

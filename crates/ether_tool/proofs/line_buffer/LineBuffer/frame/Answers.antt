@@ -6,5 +6,6 @@ use Rattle.ether_tool.proofs.line_buffer.LineBuffer.frame.Goals as goal
 
 pub returns-clause-bad : goal.returns-clause-bad
 returns-clause-bad c = λ line kept.
-    let same = c.without_end.ensures ∙ ap (without_end c.args.end) (c.as_slice.ensures.value ∙ kept.short c.if-self.false) in
+    let same =
+    c.without_end.ensures ∙ ap (without_end c.args.end) (c.as_slice.ensures.value ∙ kept.short c.if-self.false) in
     subst (λ (l : List ℕ). IfNone c.frame_of.result (IsBadLine l)) same (none_is _ _ c.frame_of.ensures.bad)

@@ -11,4 +11,5 @@ returns c =
     let items = c.to_bytes-bytes.result.items in
     let same : items ++ [] ≡ c.as_slice.result.now = append-nil items ∙ sym c.as_slice.ensures.value in
     let means = subst (λ (l : List ℕ). Means l (headers.Arp packet)) same (c.to_bytes-bytes.ensures.read []) in
-    read_is c.as_slice.result.now packet c.from_slice.result means c.from_slice.ensures.value c.from_slice.ensures.refused
+    read_is c.as_slice.result.now packet c.from_slice.result means c.from_slice.ensures.value
+    c.from_slice.ensures.refused
