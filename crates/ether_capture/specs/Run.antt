@@ -12,7 +12,7 @@ use Rattle.ether_pcap.specs.declared.capture_fault.CaptureFault.{CaptureFault}
 use Rattle.ether_capture.specs.declared.outcome.RunFault.{RunFault}
 use Rattle.ether_capture.specs.declared.outcome.RunFault.TheVariants.{Capture, Input, Output, Memory}
 
--- this is the text for the packets in order, of which so many came before, and all says that each is accepted
+-- this is the text for the packets in order, after so many before them, and all says that each is accepted
 abbrev pub AreAnswered : (plain : Bool) → (before : ℕ) → List PacketValue → (text : List ℕ) → (all : Bool) → Type 0
 AreAnswered plain before [] text all = (text ≡ []) × (all ≡ true)
 AreAnswered plain before (p ∷ packets) text all =

@@ -120,7 +120,7 @@ impl InputBuffer {
     }
 }
 
-/// Reads some bytes to the place `end` of a slice, and returns their number. What stands before stays.
+/// Reads some bytes to the place `end` of a slice, and returns their number. The bytes before it stay.
 fn read_after<R: Source, W: Sink>(
     end: usize,
     bytes: &mut [u8],

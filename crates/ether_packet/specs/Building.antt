@@ -1,4 +1,4 @@
--- A packet as it is built: headers one after the other, each of which announces the next one, and a payload.
+-- A packet as it is built: headers, where each announces the next one, and a payload.
 use Rattle.std.specs.Prelude.{◌≡◌, ℕ, List, [], ◌∷◌, ◌++◌, length, Bool, true, false}
 use Rattle.etherparse.specs.Macsec.{PayloadType, SecTagValue, short_len_for}
 use Rattle.etherparse.specs.Macsec as payloads

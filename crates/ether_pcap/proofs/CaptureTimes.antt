@@ -1,4 +1,4 @@
--- Times of a number of units, of which a second has so many.
+-- Times of a number of units, if a second has so many.
 use Rattle.std.proofs.Common.{◌≡◌, ℕ, ◌+◌, ◌*◌, ◌/◌, ◌%◌, ◌^◌, ◌<◌, ◌≤◌, sym, ap, ◌∙◌, arith, inl, inr, Some, Bool, mul_assoc}
 use Rattle.std.specs.Prelude.{min, if◌then◌else◌, ◌-◌}
 use Rattle.std.proofs.Math.Nat.{div-add-mod, add-mul-div_left, div-lt_iff_lt-mul, div-eq_of_lt, pow-le-pow_right, one-le-pow}

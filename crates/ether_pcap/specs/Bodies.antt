@@ -54,7 +54,7 @@ pub data RefusesEnhancedPacket (order : Order) (body : List ℕ) : BodyRefusal �
 
 -- ---- simple packet (4.4): original length 4 bytes, packet; its interface is the section's first, whose snap length cuts it
 
--- how many bytes of a packet are captured with a snap length, of which 0 is none
+-- how many bytes of a packet are captured with a snap length, where 0 is none
 abbrev pub captured_by : (snap_len original_len : ℕ) → ℕ
 captured_by snap_len original_len = if nat_eq snap_len 0 then original_len else min snap_len original_len
 

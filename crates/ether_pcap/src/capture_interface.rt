@@ -111,7 +111,7 @@ fn power(resolution: u8) -> u128
     }
 }
 
-/// The time of a number of units since 1970, of which a second has so many.
+/// The time of a number of units since 1970, if a second has so many.
 fn time(units: u128, ticks: u64) -> Timestamp
     requires { 0 < units }
     ensures { timestamp_view result ≡ time_of (ticks * 10 ^ 9 / units) }

@@ -42,7 +42,7 @@ impl<'a> Model for PcapRecords<'a> {
 }
 
 impl<'a> PcapRecords<'a> {
-    /// The records of a file, of which none was read yet.
+    /// The records of a file, from the first one on.
     ///
     /// # Errors
     ///

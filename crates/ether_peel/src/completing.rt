@@ -1,4 +1,4 @@
-//! The bytes that complete a unit of which a frame has only the first bytes.
+//! The bytes that complete a unit if a frame has only its first bytes.
 ghost use Rattle.std.specs.Prelude.{◌≡◌, ◌<◌, ◌≤◌, length, slice_index, MatchOption};
 ghost use Rattle.ether_peel.specs.Walker.Start.{start_of, start_with, limited_start};
 ghost use Rattle.ether_peel.specs.Grammar.Completion.{CanBeCompleted, Plan as IsPlan, IsShort, fill as fill_of, first_filled, Completes, NothingToComplete};
@@ -85,7 +85,7 @@ fn completed(start: Start, bytes: &[u8], limit: Option<usize>) -> Option<ArrayVe
     Some(fill(begun, &plan))
 }
 
-/// A unit of which a frame has the first bytes.
+/// A unit whose first bytes a frame has.
 #[derive(Drop)]
 struct Plan {
     /// The number of its bytes.

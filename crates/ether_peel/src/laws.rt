@@ -1,11 +1,16 @@
-//! The laws of the definitions. Each is the contract of a function that does nothing: what its clause says holds for
-//! every list of bytes.
+//! The laws of the definitions, and the main theorem. Each law is the contract of a function that does nothing: what its
+//! clause says holds for every list of bytes.
 ghost use Rattle.ether_peel.specs.Grammar.Laws.{StacksAreOne};
 ghost use Rattle.ether_peel.specs.Grammar.Places.{StacksAreLocal};
 ghost use Rattle.ether_peel.specs.Grammar.Cleared.{HeadersGoBack};
 ghost use Rattle.ether_peel.specs.Grammar.Cuts.{CutsKeep};
 ghost use Rattle.ether_peel.specs.Grammar.Extensions.{ExtensionsKeep};
+ghost use Rattle.ether_peel.specs.Walker.Start.{start_of};
 ghost use Rattle.ether_peel.specs.Walker.UnitHeader.{UnitsMeanHeaders};
+ghost use Rattle.ether_peel.specs.Walker.MainTheorem.{MainTheorem};
+
+use crate::{Peel, Start, Summary, summary, write_back};
+use etherparse::err::SliceWriteSpaceError;
 
 /// In each window of each list of bytes there is a stack from each expectation, and no second one.
 pub fn stacks_are_one()
@@ -38,3 +43,27 @@ pub fn extensions_keep()
 pub fn units_mean_headers()
     ensures { UnitsMeanHeaders }
 {}
+
+/// What is found in a list of bytes.
+#[derive(Drop)]
+pub struct Findings<'a> {
+    /// A walk that has read nothing yet.
+    pub walk: Peel<'a>,
+    /// The result of the walk.
+    pub summary: Summary,
+    /// Where the walk's last window ends, up to which a target was written.
+    pub written: Result<usize, SliceWriteSpaceError>,
+}
+
+/// The main theorem: its contract has each clause, by name, for every list and starting point.
+///
+/// The function makes the calls that it speaks of: [`Peel::new`], [`summary`], and [`write_back`] to `target`.
+pub fn main_theorem<'a>(start: Start, bytes: &'a [u8], target: &mut [u8]) -> Findings<'a>
+    ensures { MainTheorem (start_of start) bytes.now target.old target.new result }
+{
+    Findings {
+        walk: Peel::new(start, bytes),
+        summary: summary(start, bytes),
+        written: write_back(start, bytes, target),
+    }
+}

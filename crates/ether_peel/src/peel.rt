@@ -52,14 +52,19 @@ enum First {
 #[derive(Debug, Drop)]
 pub struct Peel<'a> {
     frame: &'a [u8],
+    /// Where the window left to read begins and ends in the frame.
     start: usize,
     end: usize,
+    /// Whether bytes after the window would not belong to it.
     is_closed: bool,
+    /// Whether the fault was returned.
     is_over: bool,
+    /// What names the end of the window.
     bound: LenSource,
     first: First,
     /// The ether type that announces the next unit, once the first header was read.
     announced: EtherType,
+    /// What [`Peel::kind`] shows, which need not be an ether type.
     kind: RestKind,
     /// How many VLAN tags and SecTags may still be read, if that is limited.
     limit: Option<usize>,

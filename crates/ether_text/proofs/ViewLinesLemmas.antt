@@ -24,7 +24,7 @@ unfolding ethernet2_text ethernet2_fcs_text
 ethernet2_view_text-pieces start e None = ap (ethernet2_pieces start e) (append-nil (hex_number e.ether_type))
 ethernet2_view_text-pieces start e (Some fcs) = refl
 
--- .. of which the addresses and the ether type are one
+-- .. whose addresses and ether type are one part
 pub ethernet2_view_text-fields : (start : ℕ) (e : Ethernet2Value) (fcs : Option (List ℕ))
     → codes "ethernet2 " ++ (decimal start ++ (fields_text e ++ fcs_text fcs)) ≡ ethernet2_view_text start e fcs
 ethernet2_view_text-fields start e fcs =

@@ -3,7 +3,7 @@ use Rattle.std.specs.Prelude.{ℕ, List, drop, map, string_bytes, String, Option
 use Rattle.std.specs.Vec.Iter.{into_iter_items}
 use Rattle.std.specs.declared.vec.IntoIter.{IntoIter}
 
--- the words of the arguments, of which the first is the program's own name
+-- the words of the arguments after the program's own name
 abbrev pub words_after : {A : Type 0} → List (String A) → List (List ℕ)
 words_after args = drop 1 (map string_bytes args)
 

@@ -3,7 +3,7 @@ use Rattle.std.specs.Prelude.{Bool, true, false}
 use Rattle.ether_text.specs.declared.verdict.Verdict.{Verdict}
 use Rattle.ether_text.specs.declared.verdict.Verdict.TheVariants.{AllAccepted, SomeRefused}
 
--- the verdict on frames, of which all says that each is accepted
+-- the verdict on frames, where all says that each is accepted
 abbrev pub verdict_of : Bool → Verdict
 verdict_of true = AllAccepted
 verdict_of false = SomeRefused

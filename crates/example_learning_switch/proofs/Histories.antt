@@ -134,7 +134,7 @@ by_group : (group : Bool) (a b : Decision) → (group ≡ false → a ≡ b)
 by_group true a b same = refl
 by_group false a b same = same refl
 
--- where a frame goes is told by the table with its source
+-- the table with the frame's source says where the frame goes
 pub decided : (new : List Entry) (earlier : List Taken) (f : Taken) → Knows new (f ∷ earlier)
     → (if is_group f.destination then Flood else toward f.port (port_in new f.destination)) ≡ decision f earlier
 decided new earlier f k =

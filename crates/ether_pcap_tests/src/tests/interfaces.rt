@@ -90,7 +90,7 @@ fn options(rt: HostRuntime) {
     }
 }
 
-/// The second option is read from 13 bytes on, of which its padding is no part. The first one is read from 5 bytes on.
+/// The second option is read from 13 bytes on, without its padding. The first one is read from 5 bytes on.
 #[test]
 fn options_cut_at_each_byte(rt: HostRuntime) {
     let options = [

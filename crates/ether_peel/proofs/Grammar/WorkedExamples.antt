@@ -118,7 +118,7 @@ short_walk =
       (refl, refl, kinds.Vlan, refl, rows.vlan (omega arith)),
     )
 
--- ---- a VLAN tag in a VLAN tag, of which two bytes are there
+-- ---- two bytes of a VLAN tag in a VLAN tag
 
 abbrev outer : VlanValue
 outer = record { pcp = 0; dei = 0; vid = 5; ether_type = 0x8100 }

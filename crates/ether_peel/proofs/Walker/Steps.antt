@@ -251,11 +251,13 @@ plain_part frame i j n k closed ordered inside whole is =
 -- the unit that is announced was read, and t is the walk after it
 pub record IsReadBy (s : State) (u : PeelUnit) (t : State) : Type 0 where
   pub going : s.over ≡ false
+  -- the header that is announced, accepted and meant at the window's start, and the view that shows it
   pub header : Header
   pub announced : announced s.expected ≡ Some (kind_of header)
   pub accepted : Accepts sources.Slice s.rest (kind_of header)
   pub means : Means s.rest header
   pub shows : ShowsUnit s.rest t.rest header u
+  -- the walker afterwards, field by field: the payload's window, what is expected there, and the limit
   pub rest : t.rest ≡ within s.rest (own_payload s header)
   pub offset : t.offset ≡ s.offset + header_len header
   pub closed : t.closed ≡ (own_payload s header).closed

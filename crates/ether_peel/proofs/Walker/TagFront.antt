@@ -1,4 +1,4 @@
--- A SecTag of which the first bytes are there: its lengths depend on the first two.
+-- A SecTag whose first bytes are there: its lengths depend on the first two.
 use Rattle.std.proofs.Common.{◌≡◌, ℕ, zero, suc, ◌+◌, ◌-◌, ◌*◌, ◌<◌, ◌≤◌, List, [], ◌∷◌, length, refl, sym, ap, subst, ◌∙◌, arith}
 use Rattle.std.specs.Prelude.{slice_range, slice_index, Option, Some, None, unwrap_or, Bool, true, false, ◌||◌, nat_eq, nat_lt, if◌then◌else◌}
 use Rattle.etherparse.specs.Types.LenSource.{LenSource}

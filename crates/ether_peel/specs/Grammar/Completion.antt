@@ -1,4 +1,4 @@
--- The bytes that complete a unit of which the list has only the first bytes.
+-- The bytes that complete a unit if the list has only its first bytes.
 use Rattle.std.specs.Prelude.{◌≡◌, ℕ, zero, ◌+◌, ◌-◌, ◌*◌, ◌≤◌, List, [], ◌∷◌, ◌++◌, length, replicate, slice_index, Option, Some, None, unwrap_or, Bool, nat_eq, ◌||◌, ◌&&◌, if◌then◌else◌}
 use Rattle.etherparse.specs.Types.LenSource.{LenSource}
 use Rattle.etherparse.specs.Types.Layer.{Layer}

@@ -53,7 +53,7 @@ fn is_refused(
     refuses(rt, "a refusal", &mut peel, fault, rest, kind);
 }
 
-/// A header of which too few bytes are there, from one length up to another: how many it needs then.
+/// A header with too few bytes, from one length up to another: how many it needs then.
 struct Front {
     start: Start,
     bytes: &'static [u8],

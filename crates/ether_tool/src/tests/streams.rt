@@ -1,4 +1,4 @@
-//! What no contract of `run` says: that each fault of the reader and of the writer is told, and the calls that come before and after.
+//! What no contract of `run` says: that each fault of the reader and of the writer is reported, and the calls that come before and after.
 use crate::mode::Mode;
 use crate::outcome::ToolFault;
 use crate::outcome::Verdict::{self, AllAccepted, SomeRefused};

@@ -231,7 +231,7 @@ fn refusal(bytes: &[u8]) -> Option<HeaderSliceError> {
     }
 }
 
-/// The length is told first, then the packet type.
+/// The length is refused first, then the packet type.
 #[test]
 fn refusals(rt: HostRuntime) {
     let short = || HeaderSliceError::Len(cut_short(16, 15, Layer::LinuxSllHeader));

@@ -219,7 +219,7 @@ fn refusal(bytes: &[u8]) -> Option<LinuxSll2Error> {
     }
 }
 
-/// The length is told first.
+/// The length is refused first.
 #[test]
 fn refusals(rt: HostRuntime) -> Result<(), Fail> {
     let short = |len| LinuxSll2Error::Len {
