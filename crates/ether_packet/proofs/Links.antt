@@ -19,11 +19,13 @@ use Rattle.etherparse.specs.Refusal.{Refuses, Accepts}
 use Rattle.etherparse.proofs.ReadBack.{length-header_bytes}
 use Rattle.ether_peel.specs.Grammar.Expectation.{Expectation, announced}
 use Rattle.ether_peel.specs.Grammar.Stack.{Ending, Accepted, Fault, Walk}
+use Rattle.ether_packet.specs.declared.difference.Difference.{Difference}
+use Rattle.ether_packet.specs.declared.difference.Difference.TheVariants as differences
 use Rattle.ether_packet.specs.declared.replace_error.ReplaceError.TheVariants as errors
 use Rattle.ether_packet.specs.Builder.{link_header, HasPacketType}
 use Rattle.ether_packet.specs.Views.{header_in}
 use Rattle.ether_packet.specs.Replacing.{SayTheSame}
-use Rattle.ether_packet.specs.ReplacingLink.{is_link, in_place_of, LinkSaysTheSame, LinksSayTheSame, IsLinkOf, BeginsWithLink, TakesLink, ReplacesLink, RefusesLink, other_link}
+use Rattle.ether_packet.specs.ReplacingLink.{is_link, in_place_of, LinkSaysTheSame, LinksSayTheSame, LinkDiffers, LinksDiffer, IsLinkOf, BeginsWithLink, TakesLink, ReplacesLink, RefusesLink, other_link}
 use Rattle.ether_packet.proofs.HeadersIn.{header_shown}
 use Rattle.ether_packet.proofs.Gathering.{whole_part}
 use Rattle.ether_packet.proofs.Replaced.{IsSendable, length-overwritten, replaced_walk}
@@ -68,7 +70,7 @@ same_ether_type t u same = λ i. record { 0 = same i }
 same_hardware : (t u : ArpHardwareId) → t.0 ≡ u.0 → t ≡ u
 same_hardware t u same = λ i. record { 0 = same i }
 
--- two headers of links say the same exactly if the new one and that of the walk do
+-- two headers of links say the same if the new one and that of the walk do
 pub says_the_same : (g l : LinkHeader) (h : Header) → IsLinkOf l h → LinksSayTheSame g l → LinkSaysTheSame g h
 says_the_same (links.Ethernet2 g) (links.Ethernet2 l) (headers.Ethernet2 h) is same =
     ap (λ (t : EtherTypeNumber). t.0) same ∙ ap (λ (v : Ethernet2Value). v.ether_type) is
@@ -80,20 +82,31 @@ says_the_same (links.Ethernet2 g) (links.LinuxSll l) h is same = absurd same
 says_the_same (links.LinuxSll g) (links.Ethernet2 l) h is same = absurd same
 says_the_same _ _ _ is same = absurd is
 
-pub said_the_same : (g l : LinkHeader) (h : Header) → IsLinkOf l h → LinkSaysTheSame g h → LinksSayTheSame g l
-said_the_same (links.Ethernet2 g) (links.Ethernet2 l) (headers.Ethernet2 h) is same =
-    same_ether_type g.ether_type l.ether_type (same ∙ ap (λ (v : Ethernet2Value). v.ether_type) (sym is))
-said_the_same (links.Ethernet2 g) (links.Ethernet2 l) (headers.Ethernet2Fcs h) is same =
-    same_ether_type g.ether_type l.ether_type (same ∙ ap (λ (v : Ethernet2Value). v.ether_type) (sym is))
-said_the_same (links.LinuxSll g) (links.LinuxSll l) (headers.LinuxSll h) is same = (
-  same_hardware g.arp_hrd_type l.arp_hrd_type (same.0 ∙ ap (λ (s : LinuxSllValue). s.hardware_type) (sym is.0)),
-  same.1
-      ∙ sym is.1,
+-- and differ in the same
+pub differs : (g l : LinkHeader) (h : Header) (d : Difference) → IsLinkOf l h → LinksDiffer g l d → LinkDiffers g h d
+differs (links.Ethernet2 g) (links.Ethernet2 l) (headers.Ethernet2 h) differences.EtherType is other = λ same.
+    other (same_ether_type g.ether_type l.ether_type (same ∙ ap (λ (v : Ethernet2Value). v.ether_type) (sym is)))
+differs (links.Ethernet2 g) (links.Ethernet2 l) (headers.Ethernet2Fcs h) differences.EtherType is other = λ same.
+    other (same_ether_type g.ether_type l.ether_type (same ∙ ap (λ (v : Ethernet2Value). v.ether_type) (sym is)))
+differs (links.LinuxSll g) (links.LinuxSll l) (headers.LinuxSll h) differences.HardwareType is other = λ same.
+    other (same_hardware g.arp_hrd_type l.arp_hrd_type (same ∙ ap (λ (s : LinuxSllValue). s.hardware_type) (sym is.0)))
+differs (links.LinuxSll g) (links.LinuxSll l) (headers.LinuxSll h) differences.ProtocolType is other = (
+  ap (λ (t : ArpHardwareId). t.0) other.0 ∙ ap (λ (s : LinuxSllValue). s.hardware_type) is.0,
+  λ same. other.1 (same ∙ sym is.1),
 )
-said_the_same (links.Ethernet2 g) (links.LinuxSll l) (headers.LinuxSll h) is same = absurd same
-said_the_same (links.LinuxSll g) (links.Ethernet2 l) (headers.Ethernet2 h) is same = absurd same
-said_the_same (links.LinuxSll g) (links.Ethernet2 l) (headers.Ethernet2Fcs h) is same = absurd same
-said_the_same _ _ _ is same = absurd is
+differs (links.Ethernet2 g) (links.LinuxSll l) (headers.LinuxSll h) differences.Kind is other = tt
+differs (links.LinuxSll g) (links.Ethernet2 l) (headers.Ethernet2 h) differences.Kind is other = tt
+differs (links.LinuxSll g) (links.Ethernet2 l) (headers.Ethernet2Fcs h) differences.Kind is other = tt
+differs g (links.Ethernet2 l) (headers.LinuxSll h) d is other = absurd is
+differs g (links.Ethernet2 l) (headers.Vlan h) d is other = absurd is
+differs g (links.Ethernet2 l) (headers.Macsec h) d is other = absurd is
+differs g (links.Ethernet2 l) (headers.Arp h) d is other = absurd is
+differs g (links.LinuxSll l) (headers.Ethernet2 h) d is other = absurd is
+differs g (links.LinuxSll l) (headers.Ethernet2Fcs h) d is other = absurd is
+differs g (links.LinuxSll l) (headers.Vlan h) d is other = absurd is
+differs g (links.LinuxSll l) (headers.Macsec h) d is other = absurd is
+differs g (links.LinuxSll l) (headers.Arp h) d is other = absurd is
+differs g l h d is other = absurd other
 
 link_kind : (l : LinkHeader) (h : Header) → IsLinkOf l h → is_link (kind_of h) ≡ true
 link_kind (links.Ethernet2 l) (headers.Ethernet2 h) is = refl
@@ -114,11 +127,10 @@ takes_link g l hs same b = record {
   same = says_the_same g l b.header b.is same;
 }
 
-pub refuses_link : (g l : LinkHeader) (hs : List Header) → (LinksSayTheSame g l → ⊥) → BeginsWithLink hs l
-    → RefusesLink hs g errors.SaysOther
-refuses_link g l hs differ b =
-    other_link b.header b.later b.parts (link_kind l b.header b.is)
-    (λ same. differ (said_the_same g l b.header b.is same))
+pub refuses_link : (g l : LinkHeader) (hs : List Header) (d : Difference) → LinksDiffer g l d → BeginsWithLink hs l
+    → RefusesLink hs g (errors.SaysOther d)
+refuses_link g l hs d other b =
+    other_link b.header b.later d b.parts (link_kind l b.header b.is) (differs g l b.header d b.is other)
 
 -- ---- the walk with the other header
 

@@ -19,11 +19,12 @@ use Rattle.ether_peel.specs.Grammar.Stack.{Ending, Stack, whole, Walk}
 use Rattle.ether_peel.proofs.Grammar.Places.{place-append, last_after}
 use Rattle.ether_peel.proofs.Grammar.Cleared.{whole_in}
 use Rattle.ether_packet.specs.declared.packet_slice.PacketSlice.{PacketSlice}
+use Rattle.ether_packet.specs.declared.difference.Difference.{Difference}
 use Rattle.ether_packet.specs.declared.replace_error.ReplaceError.TheVariants as errors
 use Rattle.ether_packet.specs.PacketUnit.{PacketUnit}
 use Rattle.ether_packet.specs.Views.{header_in, header_of, arp_in, arp_view}
 use Rattle.ether_packet.specs.Packet.{packet_headers, IsPacket}
-use Rattle.ether_packet.specs.Replacing.{SayTheSame}
+use Rattle.ether_packet.specs.Replacing.{SayTheSame, Differs}
 use Rattle.ether_packet.specs.ReplacingArp.{is_arp, has_arp, TakesArp, ReplacesArp, RefusesArp, no_arp, other_arp}
 use Rattle.ether_packet.proofs.Places.{arp_of_unit}
 use Rattle.ether_packet.proofs.Replaced.{same_len, length-overwritten, header_inside, replaced_walk}
@@ -175,11 +176,11 @@ found_inside start list p view is at = (is_found start list p view is at).inside
 pub found_other : (start : Expectation) (list : List ℕ) (p : PacketSlice) (view : List ℕ) (g : ArpValue)
     (hs : List Header) (e : Ending)
     → IsPacket start list p → arp_view p.read.units ≡ Some view
-    → (SayTheSame (headers.Arp g) (headers.Arp (arp_of view)) → ⊥) → Walk start list hs e
-    → RefusesArp hs g errors.SaysOther
-found_other start list p view g hs e is at differ walk =
+    → (d : Difference) → Differs (headers.Arp g) (headers.Arp (arp_of view)) d → Walk start list hs e
+    → RefusesArp hs g (errors.SaysOther d)
+found_other start list p view g hs e is at d differs walk =
     let f = is_found start list p view is at in
-    other_arp f.front (arp_of view) ((is.one hs e walk).0 ∙ f.parts) differ
+    other_arp f.front (arp_of view) d ((is.one hs e walk).0 ∙ f.parts) differs
 
 pub found_none : (start : Expectation) (list : List ℕ) (p : PacketSlice) (g : ArpValue) (hs : List Header) (e : Ending)
     → IsPacket start list p → arp_view p.read.units ≡ None → Walk start list hs e → RefusesArp hs g errors.NoArp

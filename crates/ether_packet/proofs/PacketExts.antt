@@ -17,11 +17,12 @@ use Rattle.ether_peel.specs.Grammar.Places.{place}
 use Rattle.ether_peel.specs.Grammar.Stack.{Ending, whole, Walk}
 use Rattle.ether_packet.specs.declared.packet_ext.PacketExt.{PacketExt}
 use Rattle.ether_packet.specs.declared.packet_slice.PacketSlice.{PacketSlice}
+use Rattle.ether_packet.specs.declared.difference.Difference.{Difference}
 use Rattle.ether_packet.specs.declared.replace_error.ReplaceError.TheVariants as errors
 use Rattle.ether_packet.specs.PacketUnit.{PacketUnit}
 use Rattle.ether_packet.specs.Views.{header_in, header_of, exts_of, ViewsExtIf}
 use Rattle.ether_packet.specs.Packet.{packet_headers, AreUnitsAt, IsPacket}
-use Rattle.ether_packet.specs.Replacing.{SayTheSame, ext_count, IsExtAt, TakesExt, ReplacesExt, RefusesExt, none, other}
+use Rattle.ether_packet.specs.Replacing.{SayTheSame, Differs, ext_count, IsExtAt, TakesExt, ReplacesExt, RefusesExt, none, other}
 use Rattle.ether_packet.proofs.Places.{is_ext, missing_past}
 use Rattle.ether_packet.proofs.Getting.{ext_kept, other_dropped, viewed, unviewed}
 use Rattle.ether_packet.proofs.Replaced.{IsSendable, same_len, length-overwritten, header_inside, replaced_walk}
@@ -186,10 +187,10 @@ found_room start list p i ext g old is view value same =
 pub found_other : (start : Expectation) (list : List ℕ) (p : PacketSlice) (i : ℕ) (ext : PacketExt) (g old : Header)
     (hs : List Header) (e : Ending)
     → IsPacket start list p → ViewsExtIf (slice_get (exts_of p.read.units) i) (Some ext)
-    → old ≡ ext_slice_header ext.slice → (SayTheSame g old → ⊥) → Walk start list hs e
-    → RefusesExt hs i g errors.SaysOther
-found_other start list p i ext g old hs e is view value differ walk =
-    let f = found_ext start list p i ext old hs e is view value walk in other f.front old f.later f.found differ
+    → old ≡ ext_slice_header ext.slice → (d : Difference) → Differs g old d → Walk start list hs e
+    → RefusesExt hs i g (errors.SaysOther d)
+found_other start list p i ext g old hs e is view value d differs walk =
+    let f = found_ext start list p i ext old hs e is view value walk in other f.front old f.later d f.found differs
 
 -- none is there
 pub none_past : (start : Expectation) (list : List ℕ) (p : PacketSlice) (i n : ℕ) (hs : List Header) (e : Ending)

@@ -1,5 +1,5 @@
 -- A header of a frame that is replaced in place.
-use Rattle.std.specs.Prelude.{◌≡◌, ℕ, ◌+◌, ◌≤◌, List, [], ◌∷◌, ◌++◌, length, true, if◌then◌else◌}
+use Rattle.std.specs.Prelude.{◌≡◌, ◌≢◌, ℕ, ◌+◌, ◌≤◌, List, [], ◌∷◌, ◌++◌, length, true, if◌then◌else◌}
 use Rattle.etherparse.specs.Bytes.{overwritten}
 use Rattle.etherparse.specs.Macsec.{sci_present_of}
 use Rattle.etherparse.specs.Header.{Header, kind_of, header_bytes, FitsHeader}
@@ -7,6 +7,8 @@ use Rattle.etherparse.specs.Header as headers
 use Rattle.ether_peel.specs.Grammar.Expectation.{Expectation, is_extension}
 use Rattle.ether_peel.specs.Grammar.Places.{place}
 use Rattle.ether_peel.specs.Grammar.Stack.{Ending, Walk}
+use Rattle.ether_packet.specs.declared.difference.Difference.{Difference}
+use Rattle.ether_packet.specs.declared.difference.Difference.TheVariants as differences
 use Rattle.ether_packet.specs.declared.replace_error.ReplaceError.{ReplaceError}
 use Rattle.ether_packet.specs.declared.replace_error.ReplaceError.TheVariants as errors
 
@@ -22,6 +24,19 @@ SayTheSame (headers.Macsec g) (headers.Macsec h) =
 SayTheSame (headers.Arp g) (headers.Arp h) =
     (length g.sender_hardware ≡ length h.sender_hardware) × (length g.sender_protocol ≡ length h.sender_protocol)
 SayTheSame g h = ⊥
+
+-- The first difference between two headers, in the order of kind and fields: g is another one in this, and the same before it.
+abbrev pub Differs : Header → Header → Difference → Type 0
+Differs g h differences.Kind = kind_of g ≢ kind_of h
+Differs (headers.Vlan g) (headers.Vlan h) differences.EtherType = g.ether_type ≢ h.ether_type
+Differs (headers.Macsec g) (headers.Macsec h) differences.PayloadType = g.payload_type ≢ h.payload_type
+Differs (headers.Macsec g) (headers.Macsec h) differences.ShortLen = (g.payload_type ≡ h.payload_type) × (g.short_len ≢ h.short_len)
+Differs (headers.Macsec g) (headers.Macsec h) differences.Sci =
+    (g.payload_type ≡ h.payload_type) × (g.short_len ≡ h.short_len) × (sci_present_of g.sci ≢ sci_present_of h.sci)
+Differs (headers.Arp g) (headers.Arp h) differences.HwAddrLen = length g.sender_hardware ≢ length h.sender_hardware
+Differs (headers.Arp g) (headers.Arp h) differences.ProtocolAddrLen =
+    (length g.sender_hardware ≡ length h.sender_hardware) × (length g.sender_protocol ≢ length h.sender_protocol)
+Differs g h d = ⊥
 
 -- how many of these headers are extensions
 abbrev pub ext_count : List Header → ℕ
@@ -58,8 +73,8 @@ pub record ReplacesExt (start : Expectation) (old : List ℕ) (hs : List Header)
   pub len : length new ≡ length old
   pub walk : Walk start new (front ++ g ∷ later) e
 
--- g does not replace the extension at an index: there is none, or it says something else
+-- g does not replace the extension at an index: there is none, or it says something else, and this is the first difference
 pub data RefusesExt (hs : List Header) (i : ℕ) (g : Header) : ReplaceError → Type 0 where
   none : ext_count hs ≤ i → RefusesExt hs i g (errors.NoLinkExt (ext_count hs))
-  other : (front : List Header) (h : Header) (later : List Header)
-      → IsExtAt hs i front h later → (SayTheSame g h → ⊥) → RefusesExt hs i g errors.SaysOther
+  other : (front : List Header) (h : Header) (later : List Header) (d : Difference)
+      → IsExtAt hs i front h later → Differs g h d → RefusesExt hs i g (errors.SaysOther d)

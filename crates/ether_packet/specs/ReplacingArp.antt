@@ -9,9 +9,10 @@ use Rattle.etherparse.specs.Header as headers
 use Rattle.ether_peel.specs.Grammar.Expectation.{Expectation}
 use Rattle.ether_peel.specs.Grammar.Places.{place}
 use Rattle.ether_peel.specs.Grammar.Stack.{Ending, Walk}
+use Rattle.ether_packet.specs.declared.difference.Difference.{Difference}
 use Rattle.ether_packet.specs.declared.replace_error.ReplaceError.{ReplaceError}
 use Rattle.ether_packet.specs.declared.replace_error.ReplaceError.TheVariants as errors
-use Rattle.ether_packet.specs.Replacing.{SayTheSame}
+use Rattle.ether_packet.specs.Replacing.{SayTheSame, Differs}
 
 abbrev pub is_arp : Kind → Bool
 is_arp kinds.Arp = true
@@ -42,8 +43,8 @@ pub record ReplacesArp (start : Expectation) (old : List ℕ) (hs : List Header)
   pub len : length new ≡ length old
   pub walk : Walk start new (front ++ headers.Arp g ∷ []) e
 
--- g does not replace an ARP packet: there is none, or its addresses have other lengths
+-- g does not replace an ARP packet: there is none, or its addresses have other lengths, and these are the first that differ
 pub data RefusesArp (hs : List Header) (g : ArpValue) : ReplaceError → Type 0 where
   no_arp : has_arp hs ≡ false → RefusesArp hs g errors.NoArp
-  other_arp : (front : List Header) (a : ArpValue)
-      → hs ≡ front ++ headers.Arp a ∷ [] → (SayTheSame (headers.Arp g) (headers.Arp a) → ⊥) → RefusesArp hs g errors.SaysOther
+  other_arp : (front : List Header) (a : ArpValue) (d : Difference)
+      → hs ≡ front ++ headers.Arp a ∷ [] → Differs (headers.Arp g) (headers.Arp a) d → RefusesArp hs g (errors.SaysOther d)

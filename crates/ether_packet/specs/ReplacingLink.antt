@@ -1,5 +1,5 @@
 -- The header of a link that is replaced in place.
-use Rattle.std.specs.Prelude.{◌≡◌, ℕ, List, [], ◌∷◌, length, Bool, true, false}
+use Rattle.std.specs.Prelude.{◌≡◌, ◌≢◌, ℕ, List, [], ◌∷◌, length, Bool, true, false, ⊤}
 use Rattle.etherparse.specs.Types.LinkHeader.{LinkHeader}
 use Rattle.etherparse.specs.Types.LinkHeader.TheVariants as links
 use Rattle.etherparse.specs.Bytes.{overwritten}
@@ -13,6 +13,8 @@ use Rattle.etherparse.specs.Header.{Header, kind_of, header_bytes, FitsHeader}
 use Rattle.etherparse.specs.Header as headers
 use Rattle.ether_peel.specs.Grammar.Expectation.{Expectation}
 use Rattle.ether_peel.specs.Grammar.Stack.{Ending, Walk}
+use Rattle.ether_packet.specs.declared.difference.Difference.{Difference}
+use Rattle.ether_packet.specs.declared.difference.Difference.TheVariants as differences
 use Rattle.ether_packet.specs.declared.replace_error.ReplaceError.{ReplaceError}
 use Rattle.ether_packet.specs.declared.replace_error.ReplaceError.TheVariants as errors
 use Rattle.ether_packet.specs.Builder.{link_header}
@@ -40,6 +42,18 @@ LinkSaysTheSame (links.Ethernet2 g) (headers.Ethernet2Fcs h) = g.ether_type.0 �
 LinkSaysTheSame (links.LinuxSll g) (headers.LinuxSll h) = (g.arp_hrd_type.0 ≡ h.hardware_type) × (g.protocol_type ≡ protocol_in h)
 LinkSaysTheSame g h = ⊥
 
+-- the first difference between a link's header and the header of a walk, in the order of kind and fields
+abbrev pub LinkDiffers : LinkHeader → Header → Difference → Type 0
+LinkDiffers (links.Ethernet2 g) (headers.LinuxSll h) differences.Kind = ⊤
+LinkDiffers (links.LinuxSll g) (headers.Ethernet2 h) differences.Kind = ⊤
+LinkDiffers (links.LinuxSll g) (headers.Ethernet2Fcs h) differences.Kind = ⊤
+LinkDiffers (links.Ethernet2 g) (headers.Ethernet2 h) differences.EtherType = g.ether_type.0 ≢ h.ether_type
+LinkDiffers (links.Ethernet2 g) (headers.Ethernet2Fcs h) differences.EtherType = g.ether_type.0 ≢ h.ether_type
+LinkDiffers (links.LinuxSll g) (headers.LinuxSll h) differences.HardwareType = g.arp_hrd_type.0 ≢ h.hardware_type
+LinkDiffers (links.LinuxSll g) (headers.LinuxSll h) differences.ProtocolType =
+    (g.arp_hrd_type.0 ≡ h.hardware_type) × (g.protocol_type ≢ protocol_in h)
+LinkDiffers g h d = ⊥
+
 -- a link's header in the place of another one, as a walk finds it: of a frame with a check sequence if that one is
 abbrev pub in_place_of : LinkHeader → Header → Header
 in_place_of (links.Ethernet2 g) (headers.Ethernet2Fcs h) = headers.Ethernet2Fcs (ethernet2_view g)
@@ -61,11 +75,11 @@ pub record ReplacesLink (start : Expectation) (old : List ℕ) (hs : List Header
   pub len : length new ≡ length old
   pub walk : Walk start new (in_place_of g takes.replaced ∷ takes.later) e
 
--- g does not replace the first header: there is none of a link, or it is of another kind or says something else
+-- g does not replace the first header: there is none of a link, or this is the first difference between them
 pub data RefusesLink (hs : List Header) (g : LinkHeader) : ReplaceError → Type 0 where
   no_link : has_link hs ≡ false → RefusesLink hs g errors.NoLink
-  other_link : (h : Header) (later : List Header)
-      → hs ≡ h ∷ later → is_link (kind_of h) ≡ true → (LinkSaysTheSame g h → ⊥) → RefusesLink hs g errors.SaysOther
+  other_link : (h : Header) (later : List Header) (d : Difference)
+      → hs ≡ h ∷ later → is_link (kind_of h) ≡ true → LinkDiffers g h d → RefusesLink hs g (errors.SaysOther d)
 
 -- ---- how it is found
 
@@ -88,3 +102,13 @@ abbrev pub LinksSayTheSame : LinkHeader → LinkHeader → Type 0
 LinksSayTheSame (links.Ethernet2 g) (links.Ethernet2 h) = g.ether_type ≡ h.ether_type
 LinksSayTheSame (links.LinuxSll g) (links.LinuxSll h) = (g.arp_hrd_type ≡ h.arp_hrd_type) × (g.protocol_type ≡ h.protocol_type)
 LinksSayTheSame g h = ⊥
+
+-- the first difference between two headers of links
+abbrev pub LinksDiffer : LinkHeader → LinkHeader → Difference → Type 0
+LinksDiffer (links.Ethernet2 g) (links.LinuxSll h) differences.Kind = ⊤
+LinksDiffer (links.LinuxSll g) (links.Ethernet2 h) differences.Kind = ⊤
+LinksDiffer (links.Ethernet2 g) (links.Ethernet2 h) differences.EtherType = g.ether_type ≢ h.ether_type
+LinksDiffer (links.LinuxSll g) (links.LinuxSll h) differences.HardwareType = g.arp_hrd_type ≢ h.arp_hrd_type
+LinksDiffer (links.LinuxSll g) (links.LinuxSll h) differences.ProtocolType =
+    (g.arp_hrd_type ≡ h.arp_hrd_type) × (g.protocol_type ≢ h.protocol_type)
+LinksDiffer g h d = ⊥

@@ -3,6 +3,7 @@
 #![tactic(auto)]
 
 mod build_error;
+mod difference;
 mod ext_places;
 pub mod laws;
 mod packet_builder;
@@ -19,6 +20,7 @@ mod tag_error;
 mod typed_link;
 
 pub use build_error::BuildError;
+pub use difference::Difference;
 pub use packet_builder::{PacketBuilder, PacketContent};
 pub use packet_ext::PacketExt;
 pub use packet_slice::PacketSlice;

@@ -2,6 +2,7 @@
 ghost use Rattle.std.specs.Prelude.{Some};
 ghost use Rattle.ether_packet.specs.Texts.{replace_error_text};
 
+use crate::Difference;
 use std::error::Error;
 use std::fmt;
 
@@ -21,9 +22,9 @@ pub enum ReplaceError {
     NoLinkExt(usize),
     /// The frame has no ARP packet.
     NoArp,
-    /// The header in the frame is of another kind, says something else about what follows it, or has addresses of other
-    /// lengths.
-    SaysOther,
+    /// The header differs from the one in the frame in this: it is of another kind, says something else about what follows
+    /// it, or has addresses of other lengths.
+    SaysOther(Difference),
 }
 
 impl fmt::Display for ReplaceError {
@@ -39,9 +40,9 @@ impl fmt::Display for ReplaceError {
                 "There is no VLAN tag or SecTag at this index: the frame has {count}."
             ),
             ReplaceError::NoArp => f.write_str("The frame has no ARP packet."),
-            ReplaceError::SaysOther => write!(
+            ReplaceError::SaysOther(difference) => write!(
                 f,
-                "The header in the frame is of another kind, says something else about what follows it, or has addresses of other lengths."
+                "The header in the frame is another one in this: {difference}."
             ),
         }
     }

@@ -1,16 +1,16 @@
 //! Headers of a frame that are replaced in place.
-ghost use Rattle.std.specs.Prelude.{ℕ, ◌≡◌, ◌↔◌, ◌+◌, ◌≤◌, List, length, Option, None, IfSome, IfOk, IfErr, OnOk, OnErr, IsTrue, false};
+ghost use Rattle.std.specs.Prelude.{ℕ, ◌≡◌, ◌+◌, ◌≤◌, List, length, Option, None, IfSome, IfOk, IfErr, OnOk, OnErr, false};
 ghost use Rattle.etherparse.specs.LinkExt.{ext_header_view};
 ghost use Rattle.etherparse.specs.Header.{Header, header_len};
 ghost use Rattle.ether_peel.specs.Grammar.Stack.{Ending, Walk};
 ghost use Rattle.ether_peel.specs.Walker.Start.{start_with};
 ghost use Rattle.ether_packet.specs.Builder.{link_header};
 ghost use Rattle.ether_packet.specs.Packet.{packet_start};
-ghost use Rattle.ether_packet.specs.Replacing.{SayTheSame, TakesExt, ReplacesExt, RefusesExt};
-ghost use Rattle.ether_packet.specs.ReplacingLink.{has_link, BeginsWithLink, LinksSayTheSame, TakesLink, ReplacesLink, RefusesLink};
+ghost use Rattle.ether_packet.specs.Replacing.{SayTheSame, Differs, TakesExt, ReplacesExt, RefusesExt};
+ghost use Rattle.ether_packet.specs.ReplacingLink.{has_link, BeginsWithLink, LinksSayTheSame, LinksDiffer, TakesLink, ReplacesLink, RefusesLink};
 
 use crate::packet_builder::{write_ext, write_link_header};
-use crate::{PacketSlice, ReplaceError};
+use crate::{Difference, PacketSlice, ReplaceError};
 use ether_peel::Start;
 use etherparse::{Ethernet2Slice, LinkExtHeader, LinkHeader, LinuxSllSlice};
 
@@ -27,7 +27,8 @@ use etherparse::{Ethernet2Slice, LinkExtHeader, LinkHeader, LinuxSllSlice};
 ///
 /// - [`ReplaceError::NoLinkExt`]: there is no tag at the index. It names how many there are.
 /// - [`ReplaceError::SaysOther`]: one tag is a VLAN tag and the other a SecTag, or the ether types of two VLAN tags
-///   differ, or the types of payload of two SecTags, their short lengths, or whether they have an SCI.
+///   differ, or the types of payload of two SecTags, their short lengths, or whether they have an SCI. It names the
+///   difference.
 ///
 /// # Examples
 ///
@@ -80,25 +81,36 @@ fn find_ext(
         → RefusesExt hs index (ext_header_view header.now) error) }
 {
     let packet = PacketSlice::from_slice(start, frame);
-    match packet.link_ext(index) {
-        None => Err(ReplaceError::NoLinkExt(packet.link_ext_count())),
-        Some(ext) if say_the_same(header, &ext.slice.to_header()) => Ok(ext.offset),
-        Some(_) => Err(ReplaceError::SaysOther),
+    let Some(ext) = packet.link_ext(index) else {
+        return Err(ReplaceError::NoLinkExt(packet.link_ext_count()));
+    };
+    match ext_difference(header, &ext.slice.to_header()) {
+        None => Ok(ext.offset),
+        Some(difference) => Err(ReplaceError::SaysOther(difference)),
     }
 }
 
-/// Whether two tags are of one kind and length, and say the same about what follows them.
-fn say_the_same(new: &LinkExtHeader, old: &LinkExtHeader) -> bool
-    ensures { IsTrue result ↔ SayTheSame (ext_header_view new.now) (ext_header_view old.now) }
+/// The first difference between two tags in kind, length and what they say about what follows them.
+fn ext_difference(new: &LinkExtHeader, old: &LinkExtHeader) -> Option<Difference>
+    ensures none { result ≡ None → SayTheSame (ext_header_view new.now) (ext_header_view old.now) }
+    ensures some { IfSome result (Differs (ext_header_view new.now) (ext_header_view old.now)) }
 {
     match (new, old) {
-        (LinkExtHeader::Vlan(new), LinkExtHeader::Vlan(old)) => new.ether_type == old.ether_type,
-        (LinkExtHeader::Macsec(new), LinkExtHeader::Macsec(old)) => {
-            new.ptype == old.ptype
-                && new.short_len == old.short_len
-                && new.sci.is_some() == old.sci.is_some()
+        (LinkExtHeader::Vlan(new), LinkExtHeader::Vlan(old)) => {
+            (new.ether_type != old.ether_type).then_some(Difference::EtherType)
         }
-        _ => false,
+        (LinkExtHeader::Macsec(new), LinkExtHeader::Macsec(old)) => {
+            if new.ptype != old.ptype {
+                Some(Difference::PayloadType)
+            } else if new.short_len != old.short_len {
+                Some(Difference::ShortLen)
+            } else if new.sci.is_some() != old.sci.is_some() {
+                Some(Difference::Sci)
+            } else {
+                None
+            }
+        }
+        _ => Some(Difference::Kind),
     }
 }
 
@@ -114,7 +126,8 @@ fn say_the_same(new: &LinkExtHeader, old: &LinkExtHeader) -> bool
 ///
 /// - [`ReplaceError::NoLink`]: the frame begins with what an ether type announces, or its first header is refused.
 /// - [`ReplaceError::SaysOther`]: one header is of Ethernet II and the other of cooked capture, or the ether types of two
-///   Ethernet II headers differ, or the hardware types or the protocol types of two cooked captures.
+///   Ethernet II headers differ, or the hardware types or the protocol types of two cooked captures. It names the
+///   difference.
 ///
 /// # Examples
 ///
@@ -155,10 +168,12 @@ fn require_link(start: Start, frame: &[u8], header: &LinkHeader) -> Result<(), R
     ensures refused { IfErr result (λ error. (limit : Option ℕ) (hs : List Header) (e : Ending)
         → Walk (start_with start limit) frame.now hs e → RefusesLink hs header.now error) }
 {
-    match link_of(start, frame) {
-        None => Err(ReplaceError::NoLink),
-        Some(old) if links_say_the_same(header, &old) => Ok(()),
-        Some(_) => Err(ReplaceError::SaysOther),
+    let Some(old) = link_of(start, frame) else {
+        return Err(ReplaceError::NoLink);
+    };
+    match link_difference(header, &old) {
+        None => Ok(()),
+        Some(difference) => Err(ReplaceError::SaysOther(difference)),
     }
 }
 
@@ -187,17 +202,24 @@ fn link_of(start: Start, frame: &[u8]) -> Option<LinkHeader>
     }
 }
 
-/// Whether two headers of links are of one kind, and say the same about what follows them.
-fn links_say_the_same(new: &LinkHeader, old: &LinkHeader) -> bool
-    ensures { IsTrue result ↔ LinksSayTheSame new.now old.now }
+/// The first difference between two headers of links in kind and what they say about what follows them.
+fn link_difference(new: &LinkHeader, old: &LinkHeader) -> Option<Difference>
+    ensures none { result ≡ None → LinksSayTheSame new.now old.now }
+    ensures some { IfSome result (LinksDiffer new.now old.now) }
 {
     match (new, old) {
         (LinkHeader::Ethernet2(new), LinkHeader::Ethernet2(old)) => {
-            new.ether_type == old.ether_type
+            (new.ether_type != old.ether_type).then_some(Difference::EtherType)
         }
         (LinkHeader::LinuxSll(new), LinkHeader::LinuxSll(old)) => {
-            new.arp_hrd_type == old.arp_hrd_type && new.protocol_type == old.protocol_type
+            if new.arp_hrd_type != old.arp_hrd_type {
+                Some(Difference::HardwareType)
+            } else if new.protocol_type != old.protocol_type {
+                Some(Difference::ProtocolType)
+            } else {
+                None
+            }
         }
-        _ => false,
+        _ => Some(Difference::Kind),
     }
 }

@@ -1,15 +1,15 @@
 //! An ARP packet of a frame that is replaced in place.
-ghost use Rattle.std.specs.Prelude.{◌≡◌, ◌↔◌, ◌≤◌, List, length, IfOk, IfErr, OnErr, IsTrue};
+ghost use Rattle.std.specs.Prelude.{◌≡◌, ◌≤◌, List, length, IfOk, IfErr, OnErr, IfSome, None};
 ghost use Rattle.etherparse.specs.Arp.{arp_of};
 ghost use Rattle.etherparse.specs.Header.{Header, header_len};
 ghost use Rattle.etherparse.specs.Header as headers;
 ghost use Rattle.ether_peel.specs.Grammar.Stack.{Ending, Walk};
 ghost use Rattle.ether_packet.specs.Packet.{packet_start};
-ghost use Rattle.ether_packet.specs.Replacing.{SayTheSame};
+ghost use Rattle.ether_packet.specs.Replacing.{SayTheSame, Differs};
 ghost use Rattle.ether_packet.specs.ReplacingArp.{TakesArp, ReplacesArp, RefusesArp};
 
 use crate::packet_builder::write_arp;
-use crate::{PacketSlice, ReplaceError};
+use crate::{Difference, PacketSlice, ReplaceError};
 use ether_peel::Start;
 use etherparse::{ArpPacket, ArpPacketSlice};
 
@@ -26,7 +26,7 @@ use etherparse::{ArpPacket, ArpPacketSlice};
 ///
 /// - [`ReplaceError::NoArp`]: the frame has no ARP packet, or it is cut short.
 /// - [`ReplaceError::SaysOther`]: the hardware addresses of the two packets differ in length, or the protocol addresses
-///   do.
+///   do. It names the difference.
 ///
 /// # Examples
 ///
@@ -76,17 +76,26 @@ fn find_arp(start: Start, frame: &[u8], packet: &ArpPacket) -> Result<usize, Rep
         → Walk (packet_start start) frame.now hs e → RefusesArp hs packet.now error) }
 {
     let read = PacketSlice::from_slice(start, frame);
-    match read.arp() {
-        None => Err(ReplaceError::NoArp),
+    let Some(old) = read.arp() else {
+        return Err(ReplaceError::NoArp);
+    };
+    match arp_difference(packet, &old) {
         // Nothing follows an ARP packet, so the rest starts where it ends.
-        Some(old) if have_same_lengths(packet, &old) => Ok(read.rest_offset),
-        Some(_) => Err(ReplaceError::SaysOther),
+        None => Ok(read.rest_offset),
+        Some(difference) => Err(ReplaceError::SaysOther(difference)),
     }
 }
 
-/// Whether the hardware addresses of two ARP packets have the same length, and the protocol addresses too.
-fn have_same_lengths(new: &ArpPacket, old: &ArpPacketSlice<'_>) -> bool
-    ensures { IsTrue result ↔ SayTheSame (headers.Arp new.now) (headers.Arp (arp_of old.now)) }
+/// The first difference between two ARP packets in the lengths of their addresses.
+fn arp_difference(new: &ArpPacket, old: &ArpPacketSlice<'_>) -> Option<Difference>
+    ensures none { result ≡ None → SayTheSame (headers.Arp new.now) (headers.Arp (arp_of old.now)) }
+    ensures some { IfSome result (Differs (headers.Arp new.now) (headers.Arp (arp_of old.now))) }
 {
-    new.hw_addr_size() == old.hw_addr_size() && new.protocol_addr_size() == old.proto_addr_size()
+    if new.hw_addr_size() != old.hw_addr_size() {
+        Some(Difference::HwAddrLen)
+    } else if new.protocol_addr_size() != old.proto_addr_size() {
+        Some(Difference::ProtocolAddrLen)
+    } else {
+        None
+    }
 }

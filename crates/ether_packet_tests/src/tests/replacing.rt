@@ -2,7 +2,7 @@
 use super::frames::{
     CONFIDENTIALITY, FOUR_TAGS, INTEGRITY, SECOND_TAG_CUT, TWICE_TAGGED_ARP_REQUEST,
 };
-use ether_packet::{PacketSlice, ReplaceError, replace_link_ext};
+use ether_packet::{Difference, PacketSlice, ReplaceError, replace_link_ext};
 use ether_peel::Start;
 use etherparse::{
     EtherType, LinkExtHeader, MacsecAn, MacsecHeader, MacsecPType, MacsecShortLen, SingleVlanHeader,
@@ -143,7 +143,7 @@ fn tags_at_an_index(rt: HostRuntime) -> Result<(), Fail> {
         twice,
         0,
         &vlan([0, 10, 0x88, 0xA8]),
-        Err(ReplaceError::SaysOther),
+        Err(ReplaceError::SaysOther(Difference::EtherType)),
     );
     let mut frame = TWICE_TAGGED_ARP_REQUEST;
     let inner = vlan([0x61, 0x23, 0x08, 0x06]);
@@ -161,8 +161,13 @@ fn tags_at_an_index(rt: HostRuntime) -> Result<(), Fail> {
 #[test]
 fn sec_tags_that_say_something_else(rt: HostRuntime) -> Result<(), Fail> {
     let tag = integrity_tag(1)?;
-    for (name, frame, other) in [
-        ("a VLAN tag", INTEGRITY.as_slice(), vlan([0, 1, 0x08, 0x00])),
+    for (name, frame, other, difference) in [
+        (
+            "a VLAN tag",
+            INTEGRITY.as_slice(),
+            vlan([0, 1, 0x08, 0x00]),
+            Difference::Kind,
+        ),
         (
             "another ether type",
             &INTEGRITY,
@@ -170,6 +175,7 @@ fn sec_tags_that_say_something_else(rt: HostRuntime) -> Result<(), Fail> {
                 ptype: MacsecPType::Unmodified(EtherType::IPV6),
                 ..tag
             }),
+            Difference::PayloadType,
         ),
         (
             "an encrypted payload",
@@ -178,6 +184,7 @@ fn sec_tags_that_say_something_else(rt: HostRuntime) -> Result<(), Fail> {
                 ptype: MacsecPType::Encrypted,
                 ..tag
             }),
+            Difference::PayloadType,
         ),
         (
             "another short length",
@@ -186,16 +193,19 @@ fn sec_tags_that_say_something_else(rt: HostRuntime) -> Result<(), Fail> {
                 short_len: MacsecShortLen::ZERO,
                 ..tag
             }),
+            Difference::ShortLen,
         ),
         (
             "no SCI",
             &INTEGRITY,
             LinkExtHeader::Macsec(MacsecHeader { sci: None, ..tag }),
+            Difference::Sci,
         ),
         (
             "a readable payload",
             &CONFIDENTIALITY,
             LinkExtHeader::Macsec(tag),
+            Difference::PayloadType,
         ),
     ] {
         let mut changed = [0; 86];
@@ -206,7 +216,7 @@ fn sec_tags_that_say_something_else(rt: HostRuntime) -> Result<(), Fail> {
         let replaced = replace_link_ext(Start::Ethernet2, &mut changed[..len], 0, &other);
         assert_eq!(rt;
             (replaced, &changed[..len]),
-            (Err(ReplaceError::SaysOther), frame),
+            (Err(ReplaceError::SaysOther(difference)), frame),
             "{name}"
         );
     }
@@ -226,8 +236,8 @@ fn texts(rt: HostRuntime) -> Result<(), AllocError> {
         ),
         (ReplaceError::NoArp, "The frame has no ARP packet."),
         (
-            ReplaceError::SaysOther,
-            "The header in the frame is of another kind, says something else about what follows it, or has addresses of other lengths.",
+            ReplaceError::SaysOther(Difference::ShortLen),
+            "The header in the frame is another one in this: the short length.",
         ),
     ];
     for (error, text) in texts {

@@ -2,7 +2,7 @@
 use super::frames::{
     CHECKED, CONFIDENTIALITY, COOKED_ARP_REQUEST, PADDED_ARP, TWICE_TAGGED_ARP_REQUEST,
 };
-use ether_packet::{PacketSlice, ReplaceError, replace_arp};
+use ether_packet::{Difference, PacketSlice, ReplaceError, replace_arp};
 use ether_peel::Start;
 use etherparse::{ArpEthIpv4Packet, ArpHardwareId, ArpOperation, ArpPacket, EtherType};
 use std::test::Fail;
@@ -123,17 +123,20 @@ fn by_addresses_of_other_sizes(rt: HostRuntime) -> Result<(), Fail> {
     ];
     assert_eq!(rt; (replaced, bytes), (Ok(()), wanted));
     let zeros = [0; 16];
-    for (hardware, protocol) in [
-        (&zeros[..8], &zeros[..4]),
-        (&zeros[..6], &zeros[..16]),
-        (&zeros[..4], &zeros[..6]),
+    for (hardware, protocol, difference) in [
+        (&zeros[..8], &zeros[..4], Difference::HwAddrLen),
+        (&zeros[..6], &zeros[..16], Difference::ProtocolAddrLen),
+        (&zeros[..4], &zeros[..6], Difference::HwAddrLen),
     ] {
         let packet = between(hardware, protocol)?;
         let mut frame = PADDED_ARP;
         let replaced = replace_arp(Start::Ethernet2, &mut frame, &packet);
         assert_eq!(rt;
             (replaced, frame.as_slice()),
-            (Err(ReplaceError::SaysOther), PADDED_ARP.as_slice())
+            (
+                Err(ReplaceError::SaysOther(difference)),
+                PADDED_ARP.as_slice()
+            )
         );
     }
     Ok(())

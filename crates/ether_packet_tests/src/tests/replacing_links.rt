@@ -2,7 +2,7 @@
 use super::frames::{
     CHECKED, COOKED_ARP_REQUEST, FOUR_TAGS, SECOND_TAG_CUT, TWICE_TAGGED_ARP_REQUEST,
 };
-use ether_packet::{PacketSlice, ReplaceError, replace_link};
+use ether_packet::{Difference, PacketSlice, ReplaceError, replace_link};
 use ether_peel::Start;
 use etherparse::{
     ArpHardwareId, EtherType, Ethernet2Header, LinkHeader, LinuxNonstandardEtherType,
@@ -180,7 +180,7 @@ fn at_the_front_of_frames(rt: HostRuntime) {
         sll,
         cooked,
         &ethernet2(EtherType::ARP),
-        Err(ReplaceError::SaysOther),
+        Err(ReplaceError::SaysOther(Difference::Kind)),
     );
     replaces(
         &rt,
@@ -188,7 +188,7 @@ fn at_the_front_of_frames(rt: HostRuntime) {
         sll,
         cooked,
         &netlink,
-        Err(ReplaceError::SaysOther),
+        Err(ReplaceError::SaysOther(Difference::HardwareType)),
     );
     replaces(
         &rt,
@@ -196,7 +196,7 @@ fn at_the_front_of_frames(rt: HostRuntime) {
         sll,
         cooked,
         &sent(LinuxSllProtocolType::EtherType(EtherType::IPV4)),
-        Err(ReplaceError::SaysOther),
+        Err(ReplaceError::SaysOther(Difference::ProtocolType)),
     );
     replaces(
         &rt,
@@ -204,7 +204,7 @@ fn at_the_front_of_frames(rt: HostRuntime) {
         sll,
         cooked,
         &sent(LinuxSllProtocolType::NetlinkProtocolType(0x0806)),
-        Err(ReplaceError::SaysOther),
+        Err(ReplaceError::SaysOther(Difference::ProtocolType)),
     );
     replaces(
         &rt,
@@ -212,7 +212,7 @@ fn at_the_front_of_frames(rt: HostRuntime) {
         sll,
         &nonstandard,
         &sent(one),
-        Err(ReplaceError::SaysOther),
+        Err(ReplaceError::SaysOther(Difference::ProtocolType)),
     );
     replaces(
         &rt,
@@ -220,7 +220,7 @@ fn at_the_front_of_frames(rt: HostRuntime) {
         eth,
         twice,
         &ethernet2(EtherType::VLAN_TAGGED_FRAME),
-        Err(ReplaceError::SaysOther),
+        Err(ReplaceError::SaysOther(Difference::EtherType)),
     );
     let mut frame = TWICE_TAGGED_ARP_REQUEST;
     let header = ethernet2(EtherType::PROVIDER_BRIDGING);

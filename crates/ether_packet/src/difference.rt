@@ -1,0 +1,55 @@
+//! What two headers say otherwise about what follows them.
+ghost use Rattle.std.specs.Prelude.{Some};
+ghost use Rattle.ether_packet.specs.Texts.{difference_text};
+
+use std::fmt;
+
+/// What a header says otherwise than the one that it is to replace. If there are several differences, it is the first in
+/// this order.
+///
+/// ```
+/// assert_eq!(rt;
+///     format!(in rt.alloc(); "{}", Difference::EtherType)?.as_str(),
+///     "the ether type"
+/// );
+/// ```
+#[derive(Clone, Copy, PartialEq, Eq, Debug)]
+pub enum Difference {
+    /// The kind of the header: one is a VLAN tag and the other a SecTag, or one is of Ethernet II and the other of cooked
+    /// capture.
+    Kind,
+    /// The ether type of an Ethernet II header or VLAN tag.
+    EtherType,
+    /// The hardware type of a cooked capture.
+    HardwareType,
+    /// The protocol type of a cooked capture.
+    ProtocolType,
+    /// The type of the payload of a SecTag: its ether type, or whether it is encrypted or changed.
+    PayloadType,
+    /// The short length of a SecTag.
+    ShortLen,
+    /// Whether a SecTag has an SCI.
+    Sci,
+    /// The length of the hardware addresses of an ARP packet.
+    HwAddrLen,
+    /// The length of the protocol addresses of an ARP packet.
+    ProtocolAddrLen,
+}
+
+impl fmt::Display for Difference {
+    ghost output = { λ difference. Some (difference_text difference) };
+
+    fn fmt<W: fmt::Write>(&self, f: &mut fmt::Formatter<W>) -> fmt::Result {
+        f.write_str(match self {
+            Difference::Kind => "the kind",
+            Difference::EtherType => "the ether type",
+            Difference::HardwareType => "the hardware type",
+            Difference::ProtocolType => "the protocol type",
+            Difference::PayloadType => "the type of the payload",
+            Difference::ShortLen => "the short length",
+            Difference::Sci => "the SCI",
+            Difference::HwAddrLen => "the length of the hardware addresses",
+            Difference::ProtocolAddrLen => "the length of the protocol addresses",
+        })
+    }
+}
