@@ -19,6 +19,9 @@ ARTEFACTS = {
         "ether_peel/src/peel.rt": ["new", "with_limit", "rest", "offset", "kind", "closed", "bound", "ghost"],
         "ether_peel/src/peel_fault.rt": ["missing"],
     },
+    "The main theorem": {
+        "ether_peel/src/laws.rt": ["main_theorem"],
+    },
     "The calls of the walk": {
         "ether_peel/src/summarizing.rt": ["summary", "summary_limited", "snap", "snap_limited"],
         "ether_peel/src/writing_back.rt": ["write_back", "write_back_limited"],
