@@ -1,7 +1,6 @@
 -- What a run has read and written, one read after another.
-use Rattle.std.proofs.Common.{false, ◌⊎◌, ◌-◌, ◌^◌, ◌≡◌, ◌≢◌, inl, inr, ℕ, ◌<◌, ◌≤◌, List, [], ◌∷◌, ◌++◌, length, drop, Bool, true, Option, Some, None, unwrap_or, Result, Ok, Err, IfOk, IfErr, IsErrAnd, OnOk, refl, sym, ap, subst, ◌∙◌, arith, append_assoc, append-nil}
-use Rattle.std.proofs.lemmas.List.{length-append}
-use Rattle.std.specs.Io.KnownBytes.{Appends, Consumes, IsAtEnd, Keeps, append_known}
+use Rattle.std.proofs.Common.{◌⊎◌, ◌-◌, ◌^◌, ◌≡◌, ◌≢◌, ℕ, ◌<◌, ◌≤◌, List, [], ◌∷◌, ◌++◌, length, drop, Bool, Option, Some, None, unwrap_or, Result, Ok, Err, IfOk, IfErr, IsErrAnd, OnOk, refl, sym, ap, subst, ◌∙◌, arith, append_assoc, append-nil}
+use Rattle.std.specs.Io.KnownBytes.{Appends, Consumes, IsAtEnd, Keeps}
 use Rattle.ether_pcap.specs.FileHeader as file
 use Rattle.ether_pcap.specs.Record as record_rows
 use Rattle.ether_pcap.specs.Block as block_rows
@@ -10,16 +9,15 @@ use Rattle.ether_pcap.specs.Capture.{PacketValue, Expectation, Beginning, Captur
 use Rattle.ether_pcap.specs.CaptureViews.{capture_refusal_view}
 use Rattle.ether_pcap.proofs.CaptureLengths.{required_above}
 use Rattle.ether_pcap.specs.declared.capture_error.CaptureError.{CaptureError}
-use Rattle.ether_text.specs.InputReader.{ReadsOn, StopsReading, was_stopped, stopped as stopped_by, used_up}
-use Rattle.ether_text.specs.OutputBuffer.{contents_of, Marks, WritesOut}
-use Rattle.ether_text.specs.declared.input_reader.InputReader.{InputReader}
-use Rattle.ether_text.proofs.InputReaderLemmas.{stops_later}
+use Rattle.ether_text.specs.OutputBuffer.{contents_of, WritesOut}
 use Rattle.ether_text.specs.declared.output_buffer.OutputBuffer.{OutputBuffer}
 use Rattle.ether_text.specs.declared.verdict.Verdict.{Verdict}
-use Rattle.ether_text.proofs.KnownBytesLemmas.{Appends-then, Appends-written_out, append_known_nil, Consumes-then, Consumes-kept}
+use Rattle.ether_text.proofs.KnownBytesLemmas.{Appends-then, Consumes-kept}
+use Rattle.ether_text.specs.Run.{IsLeft, BreaksOffAfter, IsEndless}
+use Rattle.ether_text.proofs.RunLemmas.{IsLeft-left_of, IsLeft-end, Consumes-nothing, answers_flushed, stops_flushed, breaks_flushed, answers_slice, stops_slice, breaks_slice, no_endless_slice}
 use Rattle.ether_capture.specs.FrameLines.{totals_line_if}
 use Rattle.ether_capture.specs.Packets.{GoesOn}
-use Rattle.ether_capture.specs.Run.{AnswersSlice, BreaksOff, NeedsMemory, IsEndless, IsLeft, HasRun, IsOutput, OnInput, OnStreamFault, totals_of}
+use Rattle.ether_capture.specs.Run.{AnswersCapture, StopsAtFault, EndsInUnit, AnswersSlice, NeedsMemory, HasRun, IsOutput, OnStreamFault, totals_of}
 use Rattle.ether_capture.specs.FrameLoop.{Reached, TakesUnits, LeavesRest}
 use Rattle.ether_capture.specs.declared.outcome.RunFault.{RunFault}
 use Rattle.ether_capture.specs.declared.outcome.RunFault.TheVariants.{Capture, Input, Output, Memory}
@@ -27,15 +25,6 @@ use Rattle.ether_capture.specs.declared.frame_loop.FrameLoop.{FrameLoop}
 use Rattle.ether_capture.proofs.PacketsLemmas.{refused_for_good, GoesOn-ended, refused_at_last}
 
 -- ---- what is left
-
--- what a reader has left, or nothing if that is unknown
-pub IsLeft-left_of : (after : Option (List ℕ)) → IsLeft after (unwrap_or after [])
-IsLeft-left_of None = tt
-IsLeft-left_of (Some bytes) = refl
-
-pub IsLeft-end : (after : Option (List ℕ)) → IsAtEnd after → IsLeft after []
-IsLeft-end None h = tt
-IsLeft-end (Some bytes) h = sym h
 
 no_bytes : (l : List ℕ) → length l ≡ 0 → l ≡ []
 no_bytes [] e = refl
@@ -45,9 +34,7 @@ no_bytes (b ∷ l) e = absurd (omega arith)
 pub consumed_all : (before mid after : Option (List ℕ)) (input more : List ℕ) → Consumes before mid input
     → Consumes mid after more → length more ≡ 0 → Consumes before after input
 consumed_all before mid after input more h k none =
-    subst (λ (bytes : List ℕ). Consumes before after bytes) (append-nil input)
-    (subst (λ (bytes : List ℕ). Consumes before after (input ++ bytes)) (no_bytes more none)
-    (Consumes-then before mid after input more h k))
+    Consumes-nothing before mid after input more h k (no_bytes more none)
 
 -- the last read gave nothing
 pub same_left : (left more : List ℕ) → length more ≡ 0 → left ++ more ≡ left
@@ -129,17 +116,20 @@ module _ {W : Type 0} (plain : Bool) (contents : W → Option (List ℕ)) where
         subst (λ (f : RunFault). HasRun plain before after held (contents_of contents out) (Err f)) (sym is) (record {
           taken = input;
           left = left;
-          packets = so_far.packets;
-          front = so_far.front;
-          rest = buffered ++ left;
           text = so_far.text;
-          all_accepted = so_far.all_accepted;
           read = read;
           is_left = is_left;
-          has = has so_far.packets so_far.parts;
-          place = ap (λ (l : List ℕ). l ++ left) so_far.place ∙ append_assoc so_far.front buffered left;
-          is_offset = so_far.is_offset;
-          answered = so_far.answered;
+          stops =
+              record {
+                packets = so_far.packets;
+                front = so_far.front;
+                rest = buffered ++ left;
+                all_accepted = so_far.all_accepted;
+                has = has so_far.packets so_far.parts;
+                place = ap (λ (l : List ℕ). l ++ left) so_far.place ∙ append_assoc so_far.front buffered left;
+                is_offset = so_far.is_offset;
+                answered = so_far.answered;
+              };
           written = so_far.written;
         })
 
@@ -183,15 +173,20 @@ module _ {W : Type 0} (plain : Bool) (contents : W → Option (List ℕ)) where
         (λ i. totals_line_if plain (so_far.is_count i) (so_far.is_skipped i)) in
         record {
           input = input;
-          packets = so_far.packets;
-          text = so_far.text;
+          text = so_far.text ++ totals_of plain so_far.packets;
           all_accepted = so_far.all_accepted;
           read = read;
           at_end = end;
-          has =
-              GoesOn-ended input so_far.packets at.reader over.0
-              (subst (λ (l : List ℕ). GoesOn input so_far.packets at.reader l) over.1 so_far.parts);
-          answered = so_far.answered;
+          answered =
+              record {
+                packets = so_far.packets;
+                lines = so_far.text;
+                has =
+                    GoesOn-ended input so_far.packets at.reader over.0
+                    (subst (λ (l : List ℕ). GoesOn input so_far.packets at.reader l) over.1 so_far.parts);
+                answered = so_far.answered;
+                is_text = refl;
+              };
           is_verdict = is ∙ so_far.is_verdict;
           written =
               Appends-then held (contents_of contents from) (contents_of contents to) so_far.text
@@ -206,20 +201,23 @@ module _ {W : Type 0} (plain : Bool) (contents : W → Option (List ℕ)) where
         (reason : CaptureRefusal)
         → Consumes before after input → Refuses buffered at.reader reason → Needs (required_len reason)
         → Reached plain contents held input buffered at out
-        → BreaksOff Needs plain before after held (contents_of contents out)
+        → BreaksOffAfter (EndsInUnit Needs plain) before after held (contents_of contents out)
     breaks_off Needs input buffered at out reason read refused unfinished so_far = record {
       taken = input;
-      packets = so_far.packets;
-      expected = at.reader;
-      buffered = buffered;
       text = so_far.text;
-      all_accepted = so_far.all_accepted;
-      reason = reason;
       read = read;
-      parts = so_far.parts;
-      begun = refused;
-      unfinished = unfinished;
-      answered = so_far.answered;
+      begins =
+          record {
+            packets = so_far.packets;
+            expected = at.reader;
+            buffered = buffered;
+            all_accepted = so_far.all_accepted;
+            reason = reason;
+            parts = so_far.parts;
+            begun = refused;
+            unfinished = unfinished;
+            answered = so_far.answered;
+          };
       written = so_far.written;
     }
 
@@ -248,149 +246,22 @@ module _ {W : Type 0} (plain : Bool) (contents : W → Option (List ℕ)) where
         subst (λ (f : RunFault). HasRun plain before after held (contents_of contents out) (Err f)) (sym is)
         (breaks_off NeedsMemory input buffered at out reason read refused (subst NeedsMemory (sym needs) large) so_far)
 
-    pub on_output : (to : OutputBuffer W) (fault : RunFault) → IsOutput fault
-        → HasRun plain before after held (contents_of contents to) (Err fault)
-    on_output to fault is =
-        subst (λ (f : RunFault). HasRun plain before after held (contents_of contents to) (Err f)) (sym is) tt
-
 -- ---- the closing flush
-
-appends_flushed : (held old new : Option (List ℕ)) (waited text : List ℕ) → Appends held (append_known old waited) text
-    → Appends old new waited → Appends held new text
-appends_flushed held old new waited text h k =
-    subst (λ (o : Option (List ℕ)). Appends held o text) (append_known_nil new)
-    (Appends-written_out held old new waited [] text h k refl)
-
-BreaksOff-flushed : {W : Type 0} (Needs : Option ℕ → Type 0) (plain : Bool) (contents : W → Option (List ℕ))
-    (before after held : Option (List ℕ)) (from to : OutputBuffer W)
-    → WritesOut contents from to → BreaksOff Needs plain before after held (contents_of contents from)
-    → BreaksOff Needs plain before after held (contents to.writer.now)
-BreaksOff-flushed Needs plain contents before after held from to drains h = record {
-  taken = h.taken;
-  packets = h.packets;
-  expected = h.expected;
-  buffered = h.buffered;
-  text = h.text;
-  all_accepted = h.all_accepted;
-  reason = h.reason;
-  read = h.read;
-  parts = h.parts;
-  begun = h.begun;
-  unfinished = h.unfinished;
-  answered = h.answered;
-  written =
-      appends_flushed held (contents from.writer.now) (contents to.writer.now) from.waiting.items h.text h.written
-      drains.written;
-}
 
 -- all that waited is passed to the writer
 pub HasRun-flushed : {W : Type 0} (plain : Bool) (contents : W → Option (List ℕ)) (before after held : Option (List ℕ))
     (from to : OutputBuffer W) (r : Result Verdict RunFault)
     → WritesOut contents from to → HasRun plain before after held (contents_of contents from) r
     → HasRun plain before after held (contents to.writer.now) r
-HasRun-flushed plain contents before after held from to (Ok verdict) drains h = record {
-  input = h.input;
-  packets = h.packets;
-  text = h.text;
-  all_accepted = h.all_accepted;
-  read = h.read;
-  at_end = h.at_end;
-  has = h.has;
-  answered = h.answered;
-  is_verdict = h.is_verdict;
-  written =
-      appends_flushed held (contents from.writer.now) (contents to.writer.now) from.waiting.items
-      (h.text ++ totals_of plain h.packets) h.written drains.written;
-}
-HasRun-flushed plain contents before after held from to (Err (Capture fault)) drains h = record {
-  taken = h.taken;
-  left = h.left;
-  packets = h.packets;
-  front = h.front;
-  rest = h.rest;
-  text = h.text;
-  all_accepted = h.all_accepted;
-  read = h.read;
-  is_left = h.is_left;
-  has = h.has;
-  place = h.place;
-  is_offset = h.is_offset;
-  answered = h.answered;
-  written =
-      appends_flushed held (contents from.writer.now) (contents to.writer.now) from.waiting.items h.text h.written
-      drains.written;
-}
+HasRun-flushed plain contents before after held from to (Ok verdict) drains h =
+    answers_flushed contents before after held from to drains verdict h
+HasRun-flushed plain contents before after held from to (Err (Capture fault)) drains h =
+    stops_flushed contents before after held from to drains h
 HasRun-flushed plain contents before after held from to (Err Input) drains h =
-    BreaksOff-flushed _ plain contents before after held from to drains h
+    breaks_flushed contents before after held from to drains h
 HasRun-flushed plain contents before after held from to (Err Output) drains h = tt
 HasRun-flushed plain contents before after held from to (Err Memory) drains h =
-    BreaksOff-flushed _ plain contents before after held from to drains h
-
--- ---- when a stream has failed
-
--- what holds of each fault of the reader
-pub on_input : (r : Result Verdict RunFault) (Q : Type 0) → Q → IfErr r (λ fault. OnInput fault Q)
-on_input (Ok verdict) Q h = tt
-on_input (Err (Capture found)) Q h = tt
-on_input (Err Input) Q h = h
-on_input (Err Output) Q h = tt
-on_input (Err Memory) Q h = tt
-
-never_marked : {P : Type 0} (old new : Bool) → old ≡ false → (new ≡ true → (old ≡ true) ⊎ P) → new ≡ true → P
-never_marked old new fresh marks set =
-    elim (marks set) [ inl before ↦ let e : true ≡ false = sym before ∙ fresh in absurd (cc) | inr failed ↦ failed ]
-
--- why a run with fresh streams ends with a fault of one of them
-pub run_fails : {R W : Type 0} (remaining : R → Option (List ℕ)) (can_read can_write : Type 0)
-    (r : Result Verdict RunFault) (input input' : InputReader R) (out out' : OutputBuffer W)
-    (before after : Option (List ℕ))
-    → remaining input.inner.now ≡ before → remaining input'.inner.now ≡ after → input.has_failed ≡ false
-    → input.reads_left ≡ 2 ^ 64 - 1 → out.has_failed ≡ false
-    → IfErr r (λ fault. OnStreamFault fault (input'.has_failed ≡ true) (out'.has_failed ≡ true))
-    → IfErr r (λ fault. OnInput fault (StopsReading remaining can_read input input')) → Marks can_write out out'
-    → IfErr r (λ fault. OnStreamFault fault (can_read ⊎ IsEndless before after) can_write)
-run_fails remaining can_read can_write (Ok verdict) input input' out out' before after from to fresh most none failed
-    cause marks =
-    tt
-run_fails remaining can_read can_write (Err (Capture found)) input input' out out' before after from to fresh most none
-    failed cause marks =
-    tt
-run_fails remaining can_read can_write (Err Input) input input' out out' before after from to fresh most none failed
-    cause marks =
-    why cause
-  where
-    why : StopsReading remaining can_read input input' → can_read ⊎ IsEndless before after
-    why (was_stopped set) = let e : true ≡ false = sym set ∙ fresh in absurd (cc)
-    why (stopped_by failed) = inl failed
-    why (used_up taken read counted) = inr (record {
-      taken = taken;
-      read =
-          subst (λ (o : Option (List ℕ)). Consumes o after taken) from
-          (subst (λ (o : Option (List ℕ)). Consumes (remaining input.inner.now) o taken) to read);
-      long = omega (arith, most, counted);
-    })
-run_fails remaining can_read can_write (Err Memory) input input' out out' before after from to fresh most none failed
-    cause marks =
-    tt
-run_fails remaining can_read can_write (Err Output) input input' out out' before after from to fresh most none failed
-    cause marks =
-    never_marked out.has_failed out'.has_failed none marks.cause failed
-
--- .. from a later place
-pub later_input : {R : Type 0} (remaining : R → Option (List ℕ)) (can_fail : Type 0) (r : Result Verdict RunFault)
-    (f : RunFault) (old mid new : InputReader R)
-    → ReadsOn remaining old mid → IsErrAnd r (λ g. g ≡ f) → OnInput f (StopsReading remaining can_fail mid new)
-    → IfErr r (λ fault. OnInput fault (StopsReading remaining can_fail old new))
-later_input remaining can_fail (Ok verdict) f old mid new on is why = tt
-later_input remaining can_fail (Err fault) (Capture found) old mid new on is why =
-    subst (λ (g : RunFault). OnInput g (StopsReading remaining can_fail old new)) (sym is) tt
-later_input remaining can_fail (Err fault) Input old mid new on is why =
-    subst (λ (g : RunFault). OnInput g (StopsReading remaining can_fail old new)) (sym is)
-    (stops_later remaining can_fail old mid new on why)
-later_input remaining can_fail (Err fault) Memory old mid new on is why =
-    subst (λ (g : RunFault). OnInput g (StopsReading remaining can_fail old new)) (sym is) tt
-later_input remaining can_fail (Err fault) Output old mid new on is why =
-    subst (λ (g : RunFault). OnInput g (StopsReading remaining can_fail old new)) (sym is) tt
+    breaks_flushed contents before after held from to drains h
 
 -- what is said of known bytes is said of the same bytes
 pub HasRun-same : (plain : Bool) (r : Result Verdict RunFault)
@@ -402,64 +273,21 @@ HasRun-same plain r before after held holds before' after' held' holds' e f g h 
 
 -- ---- a run over a slice
 
-whole_slice : (bytes input : List ℕ) (after : Option (List ℕ)) → Consumes (Some bytes) after input → IsAtEnd after
-    → input ≡ bytes
-whole_slice bytes input None read end = absurd read
-whole_slice bytes input (Some left) read end = sym (read ∙ ap (λ (l : List ℕ). input ++ l) end ∙ append-nil input)
-
-parts_of_slice : (bytes taken left : List ℕ) (after : Option (List ℕ)) → Consumes (Some bytes) after taken
-    → IsLeft after left → taken ++ left ≡ bytes
-parts_of_slice bytes taken left None read is = absurd read
-parts_of_slice bytes taken left (Some known) read is = ap (λ (l : List ℕ). taken ++ l) is ∙ sym read
-
-not_endless : (bytes : List ℕ) (after : Option (List ℕ)) → length bytes < 2 ^ 64 - 1 → IsEndless (Some bytes) after → ⊥
-not_endless bytes None short endless = absurd endless.read
-not_endless bytes (Some left) short endless =
-    let n = ap length endless.read ∙ length-append endless.taken left in
-    let long = endless.long in
-    omega (arith, n, long, short)
-
 slice_answers : (plain : Bool) (can_fail : Type 0) (bytes : List ℕ) (after held holds : Option (List ℕ))
     (r : Result Verdict RunFault)
     → length bytes < 2 ^ 64 - 1
     → HasRun plain (Some bytes) after held holds r
     → IfErr r (λ fault. OnStreamFault fault (⊥ ⊎ IsEndless (Some bytes) after) can_fail)
     → AnswersSlice plain can_fail bytes held holds r
-slice_answers plain can_fail bytes after held holds (Ok verdict) short h failed = (
-  h.packets,
-  h.text,
-  h.all_accepted,
-  subst (λ (l : List ℕ). HasPackets Beginning l h.packets [] None) (whole_slice bytes h.input after h.read h.at_end)
-      h.has,
-  h.answered,
-  h.is_verdict,
-  h.written,
-)
+slice_answers plain can_fail bytes after held holds (Ok verdict) short h failed =
+    answers_slice (AnswersCapture plain) bytes after held holds verdict h
 slice_answers plain can_fail bytes after held holds (Err (Capture fault)) short h failed =
-    let whole = parts_of_slice bytes h.taken h.left after h.read h.is_left in
-    record {
-      packets = h.packets;
-      front = h.front;
-      rest = h.rest;
-      text = h.text;
-      all_accepted = h.all_accepted;
-      has =
-          subst (λ (l : List ℕ). HasPackets Beginning l h.packets h.rest (Some (capture_refusal_view fault.error)))
-          whole h.has;
-      place = sym whole ∙ h.place;
-      is_offset = h.is_offset;
-      answered = h.answered;
-      written = h.written;
-    }
-slice_answers plain can_fail bytes after held holds (Err Input) short h (inl never) = absurd never
-slice_answers plain can_fail bytes after held holds (Err Input) short h (inr endless) =
-    absurd (not_endless bytes after short endless)
+    stops_slice (StopsAtFault plain fault) bytes after held holds h
+slice_answers plain can_fail bytes after held holds (Err Input) short h failed =
+    absurd (no_endless_slice bytes after short failed)
 slice_answers plain can_fail bytes after held holds (Err Output) short h failed = failed
-slice_answers plain can_fail bytes None held holds (Err Memory) short h failed = absurd h.read
-slice_answers plain can_fail bytes (Some left) held holds (Err Memory) short h failed = record {
-  left = left;
-  taken = h;
-}
+slice_answers plain can_fail bytes after held holds (Err Memory) short h failed =
+    breaks_slice (EndsInUnit NeedsMemory plain) bytes after held holds h
 
 pub slice_answered : (plain : Bool) (can_fail : Type 0) (bytes : List ℕ) (before after held holds : Option (List ℕ))
     (r : Result Verdict RunFault)

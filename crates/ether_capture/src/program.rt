@@ -1,8 +1,8 @@
 //! The program, over any arguments, reader and writer.
 ghost use Rattle.std.specs.Prelude.{◌≡◌, ◌⊎◌, None};
 ghost use Rattle.ether_text.specs.Arguments.{words_of};
+ghost use Rattle.ether_text.specs.Run.{IsEndless};
 ghost use Rattle.ether_capture.specs.Program.{HasObeyed, HasServed, OnFailure, PrintsLast};
-ghost use Rattle.ether_capture.specs.Run.{IsEndless};
 
 use crate::input_buffer::InputBuffer;
 use crate::options::is_plain_by_args;

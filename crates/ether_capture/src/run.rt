@@ -3,9 +3,10 @@ ghost use Rattle.std.specs.Prelude.{◌≡◌, ◌⊎◌, ◌↔◌, [], true, I
 ghost use Rattle.ether_pcap.specs.Capture.{IsEnd};
 ghost use Rattle.ether_text.specs.InputReader.{StopsReading};
 ghost use Rattle.ether_text.specs.OutputBuffer.{contents_of, Marks};
+ghost use Rattle.ether_text.specs.Run.{IsEndless};
 ghost use Rattle.ether_capture.specs.FrameLoop.{LeavesRest};
 ghost use Rattle.ether_capture.specs.InputBuffer.{items};
-ghost use Rattle.ether_capture.specs.Run.{AnswersSlice, HasRun, IfSettled, IsEndless, IsOutput, OnInput, OnStreamFault};
+ghost use Rattle.ether_capture.specs.Run.{AnswersSlice, HasRun, IfSettled, IsOutput, OnInput, OnStreamFault};
 
 use crate::frame_loop::FrameLoop;
 use crate::input_buffer::InputBuffer;

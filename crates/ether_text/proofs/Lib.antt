@@ -3,6 +3,7 @@ pub mod WriteHexLemmas
 pub mod KnownBytesLemmas
 pub mod OutputBufferLemmas
 pub mod InputReaderLemmas
+pub mod RunLemmas
 pub mod ViewLinesLemmas
 pub mod WalkLinesLemmas
 pub mod FeedLinesLemmas

@@ -7,3 +7,4 @@ pub mod OutputBuffer
 pub mod InputReader
 pub mod Verdict
 pub mod Arguments
+pub mod Run

@@ -1,13 +1,15 @@
 -- What a run writes for its input.
-use Rattle.std.specs.Prelude.{◌≡◌, ◌==◌, ℕ, ◌≤◌, ◌+◌, ◌-◌, ◌^◌, min, List, [], ◌∷◌, ◌++◌, length, Bool, true, false, ◌&&◌, Option, Result, Ok, Err, IfSome, ⊤}
+use Rattle.std.specs.Prelude.{◌≡◌, ◌==◌, ℕ, ◌+◌, ◌-◌, ◌^◌, min, List, [], ◌∷◌, ◌++◌, length, Bool, true, false, ◌&&◌, Option, Some, None, Result, Ok, Err, ⊤}
 use Rattle.std.specs.List.{All}
 use Rattle.std.specs.Str.Lines.{lines}
-use Rattle.std.specs.Io.KnownBytes.{Appends, Consumes, IsAtEnd}
+use Rattle.std.specs.Io.KnownBytes.{Appends}
 use Rattle.ether_tool.specs.Answer.{Answers}
 use Rattle.ether_tool.specs.Frame.{IsFrame, IsBadLine}
 use Rattle.ether_tool.specs.declared.command.Command.{Command}
 use Rattle.ether_text.specs.declared.verdict.Verdict.{Verdict}
 use Rattle.ether_text.specs.Verdict.{verdict_of}
+use Rattle.ether_text.specs.Run.{AnswersAll, StopsIn, BreaksOffAfter, Stream, OnStream, IfNoStream}
+use Rattle.ether_text.specs.Run as streams
 use Rattle.ether_tool.specs.declared.outcome.ToolFault.{ToolFault}
 use Rattle.ether_tool.specs.declared.outcome.ToolFault.TheVariants.{BadLine, Input, Output}
 
@@ -45,44 +47,26 @@ pub record StopsAtLine (command : Command) (input : List ℕ) (number : ℕ) (te
   pub is_number : number ≡ number_after (length good)
 
 -- From before to after the reader gave all its bytes, and the writer took the text for their lines.
-pub record AnswersInput (command : Command) (before after held holds : Option (List ℕ)) (verdict : Verdict) : Type 0 where
-  pub input : List ℕ
-  pub text : List ℕ
-  pub all_accepted : Bool
-  pub read : Consumes before after input
-  pub at_end : IsAtEnd after
-  pub answered : AreAnswered command (lines input) text all_accepted
-  pub is_verdict : verdict ≡ verdict_of all_accepted
-  pub written : Appends held holds text
-
--- these are the bytes that a reader has left, if they are known
-abbrev pub IsLeft : Option (List ℕ) → List ℕ → Type 0
-IsLeft after bytes = IfSome after (λ known. bytes ≡ known)
+abbrev pub AnswersInput : Command → (before after held holds : Option (List ℕ)) → Verdict → Type 0
+AnswersInput command before after held holds verdict = AnswersAll (λ input. AreAnswered command (lines input)) before after held holds verdict
 
 -- From before to after the reader gave some of its bytes. The line of this number is the first bad line of all of
 -- them, and the writer took the text for the lines before it.
-pub record StopsInput (command : Command) (before after held holds : Option (List ℕ)) (number : ℕ) : Type 0 where
-  pub taken : List ℕ
-  pub left : List ℕ
-  pub text : List ℕ
-  pub read : Consumes before after taken
-  pub is_left : IsLeft after left
-  pub stops : StopsAtLine command (taken ++ left) number text
-  pub written : Appends held holds text
+abbrev pub StopsInput : Command → (before after held holds : Option (List ℕ)) → (number : ℕ) → Type 0
+StopsInput command before after held holds number = StopsIn (λ input. StopsAtLine command input number) before after held holds
 
--- From before to after the reader gave some of its bytes. In them these lines have ended, whatever follows, and the
--- writer took the text for them.
-pub record BreaksOff (command : Command) (before after held holds : Option (List ℕ)) : Type 0 where
-  pub taken : List ℕ
+-- In these bytes these lines have ended, whatever follows, and this is the text for them.
+pub record EndsLines (command : Command) (taken text : List ℕ) : Type 0 where
   pub done : List (List ℕ)
   pub begun : List ℕ
-  pub text : List ℕ
   pub all_accepted : Bool
-  pub read : Consumes before after taken
   pub parts : (rest : List ℕ) → lines (taken ++ rest) ≡ done ++ lines (begun ++ rest)
   pub in_line : HasNoLineFeed begun
   pub answered : AreAnswered command done text all_accepted
-  pub written : Appends held holds text
+
+-- From before to after the reader gave some of its bytes, and the writer took the text for the lines that have ended in them.
+abbrev pub BreaksOff : Command → (before after held holds : Option (List ℕ)) → Type 0
+BreaksOff command before after held holds = BreaksOffAfter (EndsLines command) before after held holds
 
 -- What a run has read and written, by its outcome. Of a fault of the writer nothing is said.
 abbrev pub HasRun : Command → (before after held holds : Option (List ℕ)) → Result Verdict ToolFault → Type 0
@@ -90,12 +74,6 @@ HasRun command before after held holds (Ok verdict) = AnswersInput command befor
 HasRun command before after held holds (Err (BadLine number)) = StopsInput command before after held holds number
 HasRun command before after held holds (Err Input) = BreaksOff command before after held holds
 HasRun command before after held holds (Err Output) = ⊤
-
--- from before to after the reader gave at least as many bytes as a run may have reads
-pub record IsEndless (before after : Option (List ℕ)) : Type 0 where
-  pub taken : List ℕ
-  pub read : Consumes before after taken
-  pub long : 2 ^ 64 - 1 ≤ length taken
 
 -- What a run over a slice of these bytes has written, by its outcome. There is no fault of the reader, and one of the writer only if that can fail.
 abbrev pub AnswersSlice : Command → (can_fail : Type 0) → (bytes : List ℕ) → (held holds : Option (List ℕ)) → Result Verdict ToolFault → Type 0
@@ -113,19 +91,21 @@ OnBadLine (BadLine number) P = P number
 OnBadLine Input P = ⊤
 OnBadLine Output P = ⊤
 
+-- the stream that has failed
+abbrev pub stream_of : ToolFault → Option Stream
+stream_of (BadLine number) = None
+stream_of Input = Some streams.Input
+stream_of Output = Some streams.Output
+
 -- of a fault of the reader
 abbrev pub OnInput : ToolFault → Type 0 → Type 0
-OnInput (BadLine number) P = ⊤
-OnInput Input P = P
-OnInput Output P = ⊤
+OnInput fault P = OnStream (stream_of fault) P ⊤
 
 -- of a fault of the reader, and of one of the writer
 abbrev pub OnStreamFault : ToolFault → Type 0 → Type 0 → Type 0
-OnStreamFault (BadLine number) P Q = ⊤
-OnStreamFault Input P Q = P
-OnStreamFault Output P Q = Q
+OnStreamFault fault P Q = OnStream (stream_of fault) P Q
 
 -- if all lines are answered, or one is bad
 abbrev pub IfSettled : Result Verdict ToolFault → Type 0 → Type 0
 IfSettled (Ok verdict) P = P
-IfSettled (Err fault) P = OnBadLine fault (λ number. P)
+IfSettled (Err fault) P = IfNoStream (stream_of fault) P

@@ -2,9 +2,9 @@
 ghost use Rattle.std.specs.Prelude.{◌≡◌, ◌++◌, ◌⊎◌, codes, false, None};
 ghost use Rattle.ether_text.specs.Arguments.{words_of};
 ghost use Rattle.ether_text.specs.OutputBuffer.{Takes};
+ghost use Rattle.ether_text.specs.Run.{IsEndless};
 ghost use Rattle.ether_tool.specs.Outcome.{last_line_text};
 ghost use Rattle.ether_tool.specs.Program.{HasObeyed, HasServed, OnFailure, PrintsLast};
-ghost use Rattle.ether_tool.specs.Run.{IsEndless};
 
 use crate::command::{Command, command_of_args};
 use crate::outcome::{LastLine, Outcome, ToolFault, USAGE, last_line, program_status};

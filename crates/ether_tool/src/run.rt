@@ -2,8 +2,9 @@
 ghost use Rattle.std.specs.Prelude.{◌≡◌, ◌⊎◌, [], true, IfErr};
 ghost use Rattle.ether_text.specs.InputReader.{StopsReading};
 ghost use Rattle.ether_text.specs.OutputBuffer.{contents_of, Marks};
+ghost use Rattle.ether_text.specs.Run.{IsEndless};
 ghost use Rattle.ether_tool.specs.Command.{limited_to, unlimited};
-ghost use Rattle.ether_tool.specs.Run.{AnswersSlice, HasRun, IfSettled, IsEndless, OnInput, OnStreamFault};
+ghost use Rattle.ether_tool.specs.Run.{AnswersSlice, HasRun, IfSettled, OnInput, OnStreamFault};
 
 use crate::command::Command;
 use crate::line_loop::LineLoop;

@@ -8,7 +8,9 @@ use Rattle.ether_text.proofs.OutputBufferLemmas.{Marks-none, Marks-then}
 use Rattle.ether_capture.specs.InputBuffer.{items}
 use Rattle.ether_capture.specs.FrameLoop.{Reached}
 use Rattle.ether_capture.proofs.FrameLoopLemmas.{Reached-start, Reached-more, Reached-written_out}
-use Rattle.ether_capture.proofs.RunLemmas.{broken_off, has_room, consumed_all, finished, same_left, stopped_at_end, stopped_for_good, without_memory, on_input}
+use Rattle.ether_capture.proofs.RunLemmas.{broken_off, has_room, consumed_all, finished, same_left, stopped_at_end, stopped_for_good, without_memory}
+use Rattle.ether_text.proofs.RunLemmas.{on_input}
+use Rattle.ether_capture.specs.Run.{stream_of}
 use Rattle.ether_capture.proofs.run.read_capture.Goals as goal
 
 pub loop-buffer-init : goal.loop-buffer-init
@@ -204,7 +206,7 @@ returns-in_err-read-clause-cause g c =
     c.read.new.input
     c.loop-buffer.invariant.1.on c.in_ok-write_out.ensures.ok.none_waits c.in_err-read.ensures.cause
     c.in_err-read.ensures.kept in
-    on_input c.from_residual-in_err-read.result _ why
+    on_input stream_of c.from_residual-in_err-read.result _ why
 
 pub returns-in_err-read-clause-marks : goal.returns-in_err-read-clause-marks
 returns-in_err-read-clause-marks g c =

@@ -5,7 +5,9 @@ use Rattle.ether_text.proofs.KnownBytesLemmas.{Consumes-none, Consumes-then}
 use Rattle.ether_text.proofs.InputReaderLemmas.{ReadsOn-none, ReadsOn-then, read_on, read_stops}
 use Rattle.ether_text.proofs.OutputBufferLemmas.{Marks-none, Marks-then}
 use Rattle.ether_tool.proofs.LineLoopLemmas.{Reached-written_out, Reached-start}
-use Rattle.ether_tool.proofs.RunLemmas.{broken_off, finished, stopped, no_input, on_input}
+use Rattle.ether_text.proofs.RunLemmas.{no_input, on_input}
+use Rattle.ether_tool.specs.Run.{stream_of}
+use Rattle.ether_tool.proofs.RunLemmas.{broken_off, finished, stopped}
 use Rattle.ether_tool.proofs.run.read_lines.Goals as goal
 
 pub loop-input-init : goal.loop-input-init
@@ -100,7 +102,7 @@ returns-in_err-count-clause-cause g c =
     read_stops g.R.Source.remaining g.R.Source.can_fail c.write_out.new.self c.args.input.now c.loop-input.input
     c.read.new.self so_far.on c.in_ok-write_out.ensures.ok.none_waits c.in_err-count.ensures.cause
     c.in_err-count.ensures.kept in
-    on_input c.from_residual-in_err-count.result _ why
+    on_input stream_of c.from_residual-in_err-count.result _ why
 
 pub returns-in_err-write_out-clause-marks : goal.returns-in_err-write_out-clause-marks
 returns-in_err-write_out-clause-marks g c = Marks-then _ _ _ c.loop-input.invariant.1.marks c.write_out.ensures.marks
@@ -109,7 +111,7 @@ pub returns-in_err-count-clause-marks : goal.returns-in_err-count-clause-marks
 returns-in_err-count-clause-marks g c = Marks-then _ _ _ c.loop-input.invariant.1.marks c.write_out.ensures.marks
 
 pub returns-then-count-eq0-clause-cause : goal.returns-then-count-eq0-clause-cause
-returns-then-count-eq0-clause-cause g c = no_input c.finish.result _ _ c.finish.ensures.failed
+returns-then-count-eq0-clause-cause g c = no_input stream_of c.finish.result _ _ c.finish.ensures.failed
 
 pub returns-then-count-eq0-clause-marks : goal.returns-then-count-eq0-clause-marks
 returns-then-count-eq0-clause-marks g c =

@@ -1,7 +1,9 @@
 use Rattle.std.proofs.Common.{rules, ap, ◌∙◌, List, ℕ}
 use Rattle.std.specs.Io.KnownBytes.{append_known}
 use Rattle.ether_text.proofs.KnownBytesLemmas.{append_known_nil}
-use Rattle.ether_tool.proofs.RunLemmas.{HasRun-same, run_fails}
+use Rattle.ether_text.proofs.RunLemmas.{run_fails}
+use Rattle.ether_tool.specs.Run.{stream_of}
+use Rattle.ether_tool.proofs.RunLemmas.{HasRun-same}
 use Rattle.ether_tool.proofs.run.run_command.Goals as goal
 
 pub returns-clause-run : goal.returns-clause-run
@@ -16,8 +18,8 @@ returns-clause-run g c =
 
 pub returns-clause-failed : goal.returns-clause-failed
 returns-clause-failed g c =
-    run_fails g.R.Source.remaining g.R.Source.can_fail g.W.Sink.can_fail c.answer_input.result c.new-input.result
+    run_fails stream_of g.R.Source.remaining g.R.Source.can_fail g.W.Sink.can_fail c.new-input.result
     c.answer_input.new.input
     c.new-out.result c.answer_input.new.out _ _ (ap g.R.Source.remaining c.new-input.ensures.remaining) (search rules)
-    c.new-input.ensures.fresh c.new-input.ensures.reads c.new-out.ensures.fresh
+    c.new-input.ensures.fresh c.new-input.ensures.reads c.new-out.ensures.fresh c.answer_input.result
     c.answer_input.ensures.failed c.answer_input.ensures.cause c.answer_input.ensures.marks
