@@ -10,12 +10,13 @@ import os
 import resource
 import subprocess
 import sys
+import tempfile
 from dataclasses import dataclass
 
 from programs import count, run, run_in_pieces, run_until_a_fault, on_a_full_disk
 
 FAILED = ("ether_capture: input or output failed\n", 4)
-USAGE = "usage: ether_capture [--plain] < capture\n"
+USAGE = "usage: ether_capture [--plain] [FILE]\n"
 
 
 def joined(*parts):
@@ -120,9 +121,16 @@ CASES = [
     Case("two sections", [], SECTIONS, SECTION_LINES, 1),
     Case("no packet", [], CLASSIC[:24], "total frames 0 skipped 0\n", 0),
     Case("the walks of no packet", ["--plain"], CLASSIC[:24], "", 0),
-    Case("a word that is none", ["plain"], CLASSIC, USAGE, 2),
+    Case("an option that is none", ["--plane"], CLASSIC, USAGE, 2),
     Case("a word twice", ["--plain", "--plain"], CLASSIC, USAGE, 2),
-    Case("an empty word", [""], CLASSIC, USAGE, 2),
+    Case("an option after a file", ["plain", "--plain"], CLASSIC, USAGE, 2),
+    Case("two files", ["one", "two"], CLASSIC, USAGE, 2),
+    Case("three words", ["--plain", "one", "two"], CLASSIC, USAGE, 2),
+    Case("standard input by a hyphen", ["-"], CLASSIC, USAGE, 2),
+    Case("a file that is not there", ["no/such.pcap"], CLASSIC, "no/such.pcap: can't be opened\n", 4),
+    Case("no name", [""], CLASSIC, ": can't be opened\n", 4),
+    Case("a folder", [os.curdir], CLASSIC, "", 4),
+    Case("the version", ["--version"], CLASSIC, "ether_capture 1.0\n", 0),
     Case("a word that is no text", [b"\xff"], CLASSIC, "", 4),
     Case("a record that is cut", [], CLASSIC[:120], FIRST_LINES + record_is_cut(59, 62, 61), 3),
     Case("a record's header that is cut", [], CLASSIC[:60], FIRST_LINES + record_is_cut(59, 16, 1), 3),
@@ -278,8 +286,16 @@ def main():
                 found = run_in_pieces(program, case.words, case.capture, step)
                 tried.append((f"{case.name} in pieces of {step}", found, (case.text, case.status)))
     tried.append(("a reader that fails", run_until_a_fault(program, [], CLASSIC[:59]), (FIRST_LINES, 4)))
+    with tempfile.TemporaryDirectory() as folder:
+        for case in CASES[:6]:
+            name = os.path.join(folder, "a capture")
+            with open(name, "wb") as file:
+                file.write(case.capture)
+            tried.append((f"{case.name} from a file", run(program, [*case.words, name], b""), (case.text, case.status)))
+    help_text, status = run(program, ["--help"], CLASSIC)
+    tried.append(("the usage", (help_text[: len(USAGE)], status), (USAGE, 0)))
     tried.append(("no memory for a block", without_memory(program, secrets(16_777_216, 16_777_216)), (ONE_LINES + "out of memory\n", 5)))
-    for words in ([], ["--plain"], ["plain"]):
+    for words in ([], ["--plain"], ["--help"], ["no/such.pcap"]):
         tried.append((f"a full disk, {words}", on_a_full_disk(program, words, CLASSIC), FAILED))
     return count(tried)
 

@@ -1,6 +1,5 @@
 pub mod InputBufferLemmas
 pub mod PacketsLemmas
-pub mod OptionsLemmas
 pub mod FrameLinesLemmas
 pub mod FrameLoopLemmas
 pub mod RunLemmas

@@ -1,5 +1,5 @@
 -- How the program ends: what it prints last, and its exit status.
-use Rattle.std.specs.Prelude.{ℕ, ◌/◌, ◌^◌, List, [], ◌++◌, codes, nat_eq, Option, Some, None, Result, Ok, Err, Bool, true, false, if◌then◌else◌}
+use Rattle.std.specs.Prelude.{ℕ, ◌/◌, ◌^◌, List, [], ◌++◌, codes, nat_eq, Option, Some, None, Result, Ok, Err, Bool, true, false, if◌then◌else◌, string_bytes}
 use Rattle.std.specs.Fmt.{decimal}
 use Rattle.ether_pcap.specs.CaptureTexts.{capture_error_text}
 use Rattle.ether_pcap.specs.declared.capture_error.CaptureError.{CaptureError}
@@ -7,7 +7,8 @@ use Rattle.ether_pcap.specs.declared.capture_error.CaptureError.TheVariants as e
 use Rattle.ether_pcap.specs.declared.file_header_error.FileHeaderError.TheVariants as file_errors
 use Rattle.ether_text.specs.declared.verdict.Verdict.{Verdict}
 use Rattle.ether_text.specs.declared.verdict.Verdict.TheVariants.{AllAccepted, SomeRefused}
-use Rattle.ether_capture.specs.declared.options.Usage.{Usage}
+use Rattle.ether_capture.specs.declared.outcome.Outcome.{Outcome}
+use Rattle.ether_capture.specs.declared.outcome.Outcome.TheVariants as outcomes
 use Rattle.ether_pcap.specs.declared.capture_fault.CaptureFault.{CaptureFault}
 use Rattle.ether_capture.specs.declared.outcome.LastLine.{LastLine}
 use Rattle.ether_capture.specs.declared.outcome.LastLine.TheVariants as last_lines
@@ -24,7 +25,7 @@ exit_status (Err Output) = 4
 exit_status (Err Memory) = 5
 
 abbrev pub usage_text : List ℕ
-usage_text = codes "usage: ether_capture [--plain] < capture"
+usage_text = codes "usage: ether_capture [--plain] [FILE]"
 
 -- what is said if memory was refused
 abbrev pub memory_text : List ℕ
@@ -47,22 +48,40 @@ hint_text _ = []
 abbrev pub fault_line_text : CaptureFault → List ℕ
 fault_line_text fault = codes "byte " ++ (decimal fault.offset ++ (codes ": " ++ (capture_error_text fault.error ++ hint_text fault.error)))
 
--- what the program prints last, without its line feed: the usage if the arguments are wrong
-abbrev pub last_text : Result (Result Verdict RunFault) Usage → Option (List ℕ)
-last_text (Err usage) = Some usage_text
-last_text (Ok (Ok verdict)) = None
-last_text (Ok (Err (Capture fault))) = Some (fault_line_text fault)
-last_text (Ok (Err Input)) = None
-last_text (Ok (Err Output)) = None
-last_text (Ok (Err Memory)) = Some memory_text
+abbrev pub help_text : List ℕ
+help_text = codes "usage: ether_capture [--plain] [FILE]\n\nPrints the link-layer headers of each packet of a capture, pcap or pcapng: FILE, or standard input.\n\n  --plain    leave out the lines of packets and the totals\n  --help     print this text\n  --version  print the version"
+
+abbrev pub version_text : List ℕ
+version_text = codes "ether_capture 1.0"
+
+abbrev pub not_opened_text : (name : List ℕ) → List ℕ
+not_opened_text name = name ++ codes ": can't be opened"
+
+-- what the program prints last, without its line feed
+abbrev pub last_text : Outcome → Option (List ℕ)
+last_text (outcomes.Run (Ok verdict)) = None
+last_text (outcomes.Run (Err (Capture fault))) = Some (fault_line_text fault)
+last_text (outcomes.Run (Err Input)) = None
+last_text (outcomes.Run (Err Output)) = None
+last_text (outcomes.Run (Err Memory)) = Some memory_text
+last_text (outcomes.NotOpened name) = Some (not_opened_text (string_bytes name))
+last_text outcomes.Help = Some help_text
+last_text outcomes.Version = Some version_text
+last_text outcomes.Usage = Some usage_text
 
 -- the exit status of the program, by whether its last line was printed: if not, output failed
-abbrev pub status_of_program : Result (Result Verdict RunFault) Usage → (printed : Bool) → ℕ
+abbrev pub status_of_program : Outcome → (printed : Bool) → ℕ
 status_of_program outcome false = exit_status (Err Output)
-status_of_program (Ok outcome) true = exit_status outcome
-status_of_program (Err usage) true = 2
+status_of_program (outcomes.Run outcome) true = exit_status outcome
+status_of_program (outcomes.NotOpened name) true = exit_status (Err Input)
+status_of_program outcomes.Help true = 0
+status_of_program outcomes.Version true = 0
+status_of_program outcomes.Usage true = 2
 
 abbrev pub last_line_text : LastLine → List ℕ
-last_line_text last_lines.Usage = usage_text
 last_line_text (last_lines.Fault fault) = fault_line_text fault.now
 last_line_text last_lines.Memory = memory_text
+last_line_text (last_lines.NotOpened name) = not_opened_text name.now
+last_line_text last_lines.Help = help_text
+last_line_text last_lines.Version = version_text
+last_line_text last_lines.Usage = usage_text

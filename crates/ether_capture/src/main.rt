@@ -1,9 +1,11 @@
-//! Reads a capture file of the classic pcap format or of pcapng, and prints the lines of the walk of each packet.
+//! Reads a capture of the classic pcap format or of pcapng, a file or standard input, and prints the lines of the walk of each
+//! packet.
 //!
-//! `main` calls [`program::program`] on the arguments and the standard streams. All that it prints goes to standard
+//! `main` calls [`program::program`] on the arguments, the files and the standard streams. All that it prints goes to standard
 //! output, but that a stream failed, which `main` says on standard error.
 #![tactic(auto)]
 
+pub mod captures;
 mod frame_lines;
 mod frame_loop;
 pub mod input_buffer;
@@ -21,6 +23,7 @@ fn main(rt: HostRuntime) -> ExitCode {
     let status = program::program(
         env::args(&rt),
         rt.alloc(),
+        &rt,
         &mut rt.reader(),
         &mut io::writer(&rt),
     );

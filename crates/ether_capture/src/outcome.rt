@@ -3,7 +3,6 @@ ghost use Rattle.std.specs.Prelude.{◌≡◌};
 ghost use Rattle.std.specs.Option.{option_map};
 ghost use Rattle.ether_capture.specs.Outcome.{exit_status, hint_text, magic_hint_text, last_line_text, last_text, status_of_program};
 
-use crate::options::Usage;
 use ether_pcap::{CaptureError, CaptureFault, FileHeaderError};
 use ether_text::{InputFault, OutputFault, Verdict};
 use std::alloc::AllocError;
@@ -92,21 +91,46 @@ pub fn status_of(outcome: &Result<Verdict, RunFault>) -> u8
     }
 }
 
-/// The outcome of a run, or that the arguments are wrong.
-pub type Outcome = Result<Result<Verdict, RunFault>, Usage>;
-
-/// The line that is printed if the arguments are wrong, without its LF.
-pub const USAGE: &str = "usage: ether_capture [--plain] < capture";
-
-/// A line that the program prints after the lines of all packets.
-#[derive(Clone, Copy, Debug)]
-pub enum LastLine<'a> {
+/// How the program has answered its arguments.
+#[derive(Debug, Drop)]
+pub enum Outcome {
+    /// A run was begun.
+    Run(Result<Verdict, RunFault>),
+    /// The file of this name can't be opened.
+    NotOpened(String),
+    /// The arguments ask how the program is used.
+    Help,
+    /// The arguments ask for the version.
+    Version,
     /// The arguments are wrong.
     Usage,
+}
+
+/// The line that is printed if the arguments are wrong, without its LF.
+pub const USAGE: &str = "usage: ether_capture [--plain] [FILE]";
+
+/// What `--help` prints, without its last LF.
+pub const HELP: &str =
+    "usage: ether_capture [--plain] [FILE]\n\nPrints the link-layer headers of each packet of a capture, pcap or pcapng: FILE, or standard input.\n\n  --plain    leave out the lines of packets and the totals\n  --help     print this text\n  --version  print the version";
+
+/// What `--version` prints, without its LF.
+pub const VERSION: &str = "ether_capture 1.0";
+
+/// A line that the program prints after the lines of all packets, or in their place.
+#[derive(Clone, Copy, Debug)]
+pub enum LastLine<'a> {
     /// The capture can't be read further.
     Fault(&'a CaptureFault),
     /// Memory was refused.
     Memory,
+    /// The file of this name can't be opened.
+    NotOpened(&'a str),
+    /// How the program is used.
+    Help,
+    /// The version.
+    Version,
+    /// The arguments are wrong.
+    Usage,
 }
 
 impl fmt::Display for LastLine<'_> {
@@ -117,7 +141,6 @@ impl fmt::Display for LastLine<'_> {
 
     fn fmt<W: fmt::Write>(&self, f: &mut fmt::Formatter<W>) -> fmt::Result {
         match self {
-            LastLine::Usage => write!(f, "{USAGE}"),
             LastLine::Fault(fault) => {
                 let offset = fault.offset;
                 let error = &fault.error;
@@ -125,6 +148,10 @@ impl fmt::Display for LastLine<'_> {
                 write!(f, "byte {offset}: {error}{hint}")
             }
             LastLine::Memory => f.write_str("out of memory"),
+            LastLine::NotOpened(name) => write!(f, "{name}: can't be opened"),
+            LastLine::Help => write!(f, "{HELP}"),
+            LastLine::Version => write!(f, "{VERSION}"),
+            LastLine::Usage => write!(f, "{USAGE}"),
         }
     }
 }
@@ -134,10 +161,13 @@ pub fn last_line(outcome: &Outcome) -> Option<LastLine<'_>>
     ensures { option_map last_line_text result ≡ last_text outcome.now }
 {
     match outcome {
-        Ok(Err(RunFault::Capture(fault))) => Some(LastLine::Fault(fault)),
-        Ok(Err(RunFault::Memory)) => Some(LastLine::Memory),
-        Ok(_) => None,
-        Err(Usage) => Some(LastLine::Usage),
+        Outcome::Run(Err(RunFault::Capture(fault))) => Some(LastLine::Fault(fault)),
+        Outcome::Run(Err(RunFault::Memory)) => Some(LastLine::Memory),
+        Outcome::Run(_) => None,
+        Outcome::NotOpened(name) => Some(LastLine::NotOpened(name.as_str())),
+        Outcome::Help => Some(LastLine::Help),
+        Outcome::Version => Some(LastLine::Version),
+        Outcome::Usage => Some(LastLine::Usage),
     }
 }
 
@@ -150,7 +180,9 @@ pub fn program_status(outcome: &Outcome, is_printed: bool) -> u8
         return status_of(&Err(RunFault::Output));
     }
     match outcome {
-        Ok(outcome) => status_of(outcome),
-        Err(Usage) => 2,
+        Outcome::Run(outcome) => status_of(outcome),
+        Outcome::NotOpened(_) => status_of(&Err(RunFault::Input)),
+        Outcome::Help | Outcome::Version => 0,
+        Outcome::Usage => 2,
     }
 }

@@ -1,54 +1,105 @@
-//! The program, over any arguments, reader and writer.
-ghost use Rattle.std.specs.Prelude.{◌≡◌, ◌⊎◌, None};
+//! The program, over any arguments, files, reader and writer.
+ghost use Rattle.std.specs.Prelude.{◌≡◌, ◌⊎◌, IfErr, string_bytes};
 ghost use Rattle.ether_text.specs.Arguments.{words_of};
 ghost use Rattle.ether_text.specs.Run.{IsEndless};
-ghost use Rattle.ether_capture.specs.Program.{HasObeyed, HasServed, OnFailure, PrintsLast};
+ghost use Rattle.ether_capture.specs.Program.{HasNoMemory, HasObeyed, HasReadFile, HasServed, PrintsLast};
+ghost use Rattle.ether_capture.specs.Run.{HasRun, OnStreamFault};
 
+use crate::captures::Captures;
 use crate::input_buffer::InputBuffer;
-use crate::options::is_plain_by_args;
+use crate::options::{Request, Usage, request_of_args};
 use crate::outcome::{Outcome, RunFault, last_line, program_status};
 use crate::run::run;
-use ether_text::{Sink, Source};
+use ether_text::{Sink, Source, Verdict};
 use std::alloc::Global;
-use std::io::{Read, Write};
+use std::io::Write;
 use std::{env, io};
 
 /// Writes the lines of a capture as the arguments say, prints the last line if there is one, and returns the exit status.
 ///
 /// If the arguments are wrong, or can't be read, nothing is read. The latter is a fault of the input.
-pub fn program<R: Read, W: Write>(
+pub fn program<C: Captures, R: Source, W: Write>(
     args: io::Result<env::Args>,
     alloc: Global,
+    captures: &C,
     reader: &mut R,
     writer: &mut W,
 ) -> u8
-    ensures { HasServed (words_of args) (R.remaining reader.old) (R.remaining reader.new)
-        (W.contents writer.old) (W.contents writer.new) result }
+    ensures { HasServed (C.has captures.now) R.can_fail C.can_refuse C.Input.Source.can_fail (words_of args)
+        (R.remaining reader.old) (R.remaining reader.new) (W.contents writer.old) (W.contents writer.new) result }
 {
-    let outcome = obey(args, alloc, reader, writer);
+    let outcome = obey(args, alloc, captures, reader, writer);
     let is_printed = print_last_line(&outcome, writer);
     program_status(&outcome, is_printed)
 }
 
 /// Writes the lines of a capture as the arguments say.
-fn obey<R: Source, W: Sink>(
+fn obey<C: Captures, R: Source, W: Sink>(
     args: io::Result<env::Args>,
     alloc: Global,
+    captures: &C,
     reader: &mut R,
     writer: &mut W,
 ) -> Outcome
-    ensures obeyed { HasObeyed (words_of args) (R.remaining reader.old) (R.remaining reader.new)
-        (W.contents writer.old) (W.contents writer.new) result }
-    ensures failed { OnFailure result ((words_of args ≡ None)
-        ⊎ (R.can_fail ⊎ IsEndless (R.remaining reader.old) (R.remaining reader.new))) W.can_fail }
+    ensures { HasObeyed (C.has captures.now) R.can_fail C.can_refuse C.Input.Source.can_fail W.can_fail (words_of args)
+        (R.remaining reader.old) (R.remaining reader.new) (W.contents writer.old) (W.contents writer.new) result }
 {
     let Ok(args) = args else {
-        return Ok(Err(RunFault::Input));
+        return Outcome::Run(Err(RunFault::Input));
     };
-    let is_plain = is_plain_by_args(args)?;
+    match request_of_args(args) {
+        Ok(
+            Request::Capture {
+                is_plain,
+                file: None,
+            },
+        ) => Outcome::Run(read_input(is_plain, alloc, reader, writer)),
+        Ok(
+            Request::Capture {
+                is_plain,
+                file: Some(name),
+            },
+        ) => read_file(is_plain, name, alloc, captures, writer),
+        Ok(Request::Help) => Outcome::Help,
+        Ok(Request::Version) => Outcome::Version,
+        Err(Usage) => Outcome::Usage,
+    }
+}
+
+/// Writes the lines of the capture of a name.
+fn read_file<C: Captures, W: Sink>(
+    is_plain: bool,
+    name: String,
+    alloc: Global,
+    captures: &C,
+    writer: &mut W,
+) -> Outcome
+    ensures { HasReadFile (C.has captures.now) C.can_refuse C.Input.Source.can_fail W.can_fail is_plain (string_bytes name)
+        (W.contents writer.old) (W.contents writer.new) result }
+{
+    match captures.open_named(name.as_str()) {
+        Ok(mut input) => Outcome::Run(read_input(is_plain, alloc, &mut input, writer)),
+        Err(_) => Outcome::NotOpened(name),
+    }
+}
+
+/// Writes the lines of a capture.
+fn read_input<R: Source, W: Sink>(
+    is_plain: bool,
+    alloc: Global,
+    reader: &mut R,
+    writer: &mut W,
+) -> Result<Verdict, RunFault>
+    ensures run { HasRun is_plain (R.remaining reader.old) (R.remaining reader.new)
+        (W.contents writer.old) (W.contents writer.new) result
+        ⊎ HasNoMemory (R.remaining reader.old) (R.remaining reader.new)
+        (W.contents writer.old) (W.contents writer.new) result }
+    ensures failed { IfErr result (λ fault. OnStreamFault fault
+        (R.can_fail ⊎ IsEndless (R.remaining reader.old) (R.remaining reader.new)) W.can_fail) }
+{
     match InputBuffer::new(alloc) {
-        Ok(buffer) => Ok(run(is_plain, buffer, reader, writer)),
-        Err(_) => Ok(Err(RunFault::Memory)),
+        Ok(buffer) => run(is_plain, buffer, reader, writer),
+        Err(_) => Err(RunFault::Memory),
     }
 }
 
