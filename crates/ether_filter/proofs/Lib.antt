@@ -1,0 +1,2 @@
+pub mod FollowingLemmas
+pub mod Found

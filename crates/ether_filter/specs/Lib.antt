@@ -1,0 +1,4 @@
+pub mod Expressions
+pub mod Primitives
+pub mod Postfix
+pub mod Following

@@ -1,0 +1,10 @@
+//! Filters of packets: expressions in the words of pcap-filter(7), and whether a packet matches. No call allocates memory.
+#![tactic(auto)]
+
+mod fields;
+mod matching;
+mod node;
+mod packet;
+mod primitive;
+
+pub use packet::Packet;
