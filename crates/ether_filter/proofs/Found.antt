@@ -97,9 +97,10 @@ outer_kept n f (h ∷ hs) e = rw (or-false f) (outer_kept n f hs e)
 outer_at_end : (n : ℕ) (hs : List Header) (e : Ending) → (found_at_end (primitives.OuterVlan n) false false hs e ≡ true) ↔ ((inner : List ℕ) × (vlan_ids hs ≡ n ∷ inner))
 outer_at_end n [] (Accepted v y) = (λ t. absurd cc, λ (inner, is). absurd cc)
 outer_at_end n [] (Fault v y r) = (λ t. absurd cc, λ (inner, is). absurd cc)
-outer_at_end n (headers.Vlan v ∷ hs) e =
-    (λ t. (vlan_ids hs, ap (λ (i : ℕ). i ∷ vlan_ids hs) (sym (eqb-true n v.vid (sym (outer_kept n (nat_eq n v.vid) hs e) ∙ t)))),
-    λ (inner, is). outer_kept n (nat_eq n v.vid) hs e ∙ eq-eqb n v.vid (let same : n ≡ v.vid = cc in same))
+outer_at_end n (headers.Vlan v ∷ hs) e = (
+  λ t. (vlan_ids hs, ap (λ (i : ℕ). i ∷ vlan_ids hs) (sym (eqb-true n v.vid (sym (outer_kept n (nat_eq n v.vid) hs e) ∙ t)))),
+  λ (inner, is). outer_kept n (nat_eq n v.vid) hs e ∙ eq-eqb n v.vid (let same : n ≡ v.vid = cc in same),
+)
 outer_at_end n (h ∷ hs) e = outer_at_end n hs e
 
 -- the last of the identifiers after the first one
@@ -135,9 +136,10 @@ last_among n id (i ∷ ids) =
 after_first : (n first : ℕ) (ids : List ℕ) → (last_is n false ids ≡ true) ↔ ((outer : ℕ) × (between : List ℕ) × (first ∷ ids ≡ outer ∷ (between ++ n ∷ [])))
 after_first n first [] = (λ t. absurd cc, λ (outer, between, is). let empty : [] ≡ between ++ n ∷ [] = cc in absurd (never n between empty))
 after_first n first (i ∷ ids) =
-    let later = last_among n i ids in
-    (λ t. let found = later.0 t in (first, found.0, ap (λ (l : List ℕ). first ∷ l) found.1),
-    λ (outer, between, is). later.1 (between, (let same : i ∷ ids ≡ between ++ n ∷ [] = cc in same)))
+    let later = last_among n i ids in (
+      λ t. let found = later.0 t in (first, found.0, ap (λ (l : List ℕ). first ∷ l) found.1),
+      λ (outer, between, is). later.1 (between, (let same : i ∷ ids ≡ between ++ n ∷ [] = cc in same)),
+    )
 
 inner_at_end : (n : ℕ) (hs : List Header) (e : Ending) → (found_at_end (primitives.InnerVlan n) false false hs e ≡ true) ↔ ((outer : ℕ) × (between : List ℕ) × (vlan_ids hs ≡ outer ∷ (between ++ n ∷ [])))
 inner_at_end n [] (Accepted v y) = (λ t. absurd cc, λ (outer, between, is). absurd cc)

@@ -1,2 +1,3 @@
 pub mod FollowingLemmas
 pub mod Found
+pub mod Evaluated

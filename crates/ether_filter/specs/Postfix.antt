@@ -33,5 +33,5 @@ abbrev pub first : List Expression → Expression
 first [] = Test primitives.Vlan
 first (x ∷ xs) = x
 
-abbrev pub tree : List Node → Expression
-tree ns = first (trees [] ns)
+abbrev pub expression_of : List Node → Expression
+expression_of ns = first (trees [] ns)

@@ -2,9 +2,11 @@
 #![tactic(auto)]
 
 mod fields;
+mod filter;
 mod matching;
 mod node;
 mod packet;
 mod primitive;
 
+pub use filter::Filter;
 pub use packet::Packet;
