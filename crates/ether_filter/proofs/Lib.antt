@@ -1,3 +1,4 @@
 pub mod FollowingLemmas
 pub mod Found
 pub mod Evaluated
+pub mod WordsLemmas

@@ -3,3 +3,5 @@ pub mod Primitives
 pub mod Postfix
 pub mod Following
 pub mod Evaluation
+pub mod Words
+pub mod Tokens

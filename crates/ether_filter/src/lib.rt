@@ -7,6 +7,8 @@ mod matching;
 mod node;
 mod packet;
 mod primitive;
+mod token;
+mod words;
 
 pub use filter::Filter;
 pub use packet::Packet;
