@@ -2,3 +2,4 @@ pub mod FollowingLemmas
 pub mod Found
 pub mod Evaluated
 pub mod WordsLemmas
+pub mod NumeralLemmas

@@ -4,4 +4,5 @@ pub mod Postfix
 pub mod Following
 pub mod Evaluation
 pub mod Words
+pub mod Numerals
 pub mod Tokens

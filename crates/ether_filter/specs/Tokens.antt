@@ -1,6 +1,7 @@
 -- What the words of an expression mean.
-use Rattle.std.specs.Prelude.{ℕ, List, [], ◌∷◌, Option, Some, None, unwrap_or, nat_eq, codes, if◌then◌else◌}
+use Rattle.std.specs.Prelude.{ℕ, List, [], ◌∷◌, Option, Some, None, unwrap_or, option_map, nat_eq, codes, if◌then◌else◌}
 use Rattle.std.specs.Cmp.Lexicographic.{pointwise}
+use Rattle.ether_filter.specs.Numerals.{number_in, address_in}
 use Rattle.ether_filter.specs.declared.node.Operator.TheVariants.{And, Or}
 use Rattle.ether_filter.specs.declared.token.Token.{Token}
 use Rattle.ether_filter.specs.declared.token.Token.TheVariants as tokens
@@ -21,5 +22,12 @@ abbrev pub meaning_among : List (List ℕ × Token) → List ℕ → Option Toke
 meaning_among [] word = None
 meaning_among (entry ∷ entries) word = if pointwise nat_eq entry.0 word then Some entry.1 else meaning_among entries word
 
+abbrev pub number_token : Option (Option ℕ) → Token
+number_token None = tokens.Unknown
+number_token (Some number) = tokens.Number number
+
+abbrev pub literal : List ℕ → Token
+literal word = unwrap_or (option_map tokens.Address (address_in word)) (number_token (number_in word))
+
 abbrev pub token_of : List ℕ → Token
-token_of word = unwrap_or (meaning_among keywords word) tokens.Unknown
+token_of word = unwrap_or (meaning_among keywords word) (literal word)

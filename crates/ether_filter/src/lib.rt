@@ -5,6 +5,7 @@ mod fields;
 mod filter;
 mod matching;
 mod node;
+mod numeral;
 mod packet;
 mod primitive;
 mod token;

@@ -3,6 +3,7 @@ ghost use Rattle.std.specs.Prelude.{◌≡◌, map};
 ghost use Rattle.ether_filter.specs.Tokens.{meaning_among, token_of as token_of_bytes};
 
 use crate::node::Operator;
+use crate::numeral::{address_of, number_of};
 
 /// What a word of an expression means.
 #[derive(Clone, Copy)]
@@ -154,8 +155,14 @@ const KEYWORDS: [Keyword; 26] = [
 pub(crate) fn token_of(word: &[u8]) -> Token
     ensures { result ≡ token_of_bytes word.now }
 {
-    match meaning_in(&KEYWORDS, word) {
-        Some(token) => token,
+    if let Some(token) = meaning_in(&KEYWORDS, word) {
+        return token;
+    }
+    if let Some(address) = address_of(word) {
+        return Token::Address(address);
+    }
+    match number_of(word) {
+        Some(number) => Token::Number(number),
         None => Token::Unknown,
     }
 }
