@@ -6,3 +6,5 @@ pub mod Evaluation
 pub mod Words
 pub mod Numerals
 pub mod Tokens
+pub mod Grammar
+pub mod Steps

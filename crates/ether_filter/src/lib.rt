@@ -1,8 +1,10 @@
 //! Filters of packets: expressions in the words of pcap-filter(7), and whether a packet matches. No call allocates memory.
 #![tactic(auto)]
 
+mod awaited;
 mod fields;
 mod filter;
+mod filter_error;
 mod matching;
 mod node;
 mod numeral;
@@ -12,4 +14,5 @@ mod token;
 mod words;
 
 pub use filter::Filter;
+pub use filter_error::{FilterError, FilterErrorKind};
 pub use packet::Packet;
