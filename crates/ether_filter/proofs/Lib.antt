@@ -3,3 +3,5 @@ pub mod Found
 pub mod Evaluated
 pub mod WordsLemmas
 pub mod NumeralLemmas
+pub mod ReadingLemmas
+pub mod Sound

@@ -25,8 +25,8 @@ pub data NamesPrimitive : List Token → Primitive → Type 0 where
   multicast : NamesPrimitive (tokens.Ether ∷ tokens.Multicast ∷ []) primitives.Multicast
   refused : NamesPrimitive (tokens.Refused ∷ []) primitives.Refused
   cut : NamesPrimitive (tokens.Cut ∷ []) primitives.Cut
-  less : (n : ℕ) → NamesPrimitive (tokens.Less ∷ tokens.Number (Some n) ∷ []) (primitives.Less n)
-  greater : (n : ℕ) → NamesPrimitive (tokens.Greater ∷ tokens.Number (Some n) ∷ []) (primitives.Greater n)
+  less : (n : ℕ) → n < 4294967296 → NamesPrimitive (tokens.Less ∷ tokens.Number (Some n) ∷ []) (primitives.Less n)
+  greater : (n : ℕ) → n < 4294967296 → NamesPrimitive (tokens.Greater ∷ tokens.Number (Some n) ∷ []) (primitives.Greater n)
 
 -- one operand, or two or more of them that one operator joins
 pub data Shape : Type 0 where

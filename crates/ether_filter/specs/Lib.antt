@@ -8,3 +8,4 @@ pub mod Numerals
 pub mod Tokens
 pub mod Grammar
 pub mod Steps
+pub mod Reading

@@ -10,6 +10,7 @@ mod node;
 mod numeral;
 mod packet;
 mod primitive;
+mod reading;
 mod token;
 mod words;
 
