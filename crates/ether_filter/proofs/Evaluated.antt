@@ -63,3 +63,7 @@ evaluated w x bs ns i result is le e value =
     let only : bs ≡ last.truth ∷ [] = sym (reverse-reverse bs) ∙ ap reverse last.only in
     let same : result ≡ last.truth = value ∙ ap (λ (l : List Bool). unwrap_or (slice_get l (length l - 1)) false) only in
     rw (same, ap first tree) last.holds
+
+-- a list of nodes is that of one expression
+pub expression_of-postfix : (x : Expression) → expression_of (postfix x) ≡ x
+expression_of-postfix x = ap first (ap (trees []) (sym (append-nil (postfix x))) ∙ trees-postfix x [] [])

@@ -5,3 +5,5 @@ pub mod WordsLemmas
 pub mod NumeralLemmas
 pub mod ReadingLemmas
 pub mod Sound
+pub mod Room
+pub mod TextLemmas

@@ -165,4 +165,3 @@ whole_read (Chain operator) ts x m =
 
 pub expression_read : (ts : List Token) (x : Expression) → IsExpression ts x → all_from begun ts ≡ Ok (postfix x)
 expression_read ts x is = ap (all_from begun) (sym (append-nil ts)) ∙ whole_read is.shape ts x is.means
-

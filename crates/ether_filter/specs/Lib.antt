@@ -9,3 +9,4 @@ pub mod Tokens
 pub mod Grammar
 pub mod Steps
 pub mod Reading
+pub mod Texts

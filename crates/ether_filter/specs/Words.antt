@@ -48,6 +48,7 @@ words_from text from = words_at from (drop from text)
 
 -- the first word from a place on has these ends
 pub record IsNextWord (text : List ℕ) (from : ℕ) (word : Span) : Type 0 where
+  pub after : from ≤ word.start
   pub nonempty : word.start < word.end
   pub inside : word.end ≤ length text
   pub words : words_from text from ≡ record { at = word.start; bytes = slice_range text word.start word.end } ∷ words_from text word.end

@@ -1,5 +1,5 @@
 //! A filter.
-ghost use Rattle.std.specs.Prelude.{◌≡◌, ◌↔◌, ◌+◌, ◌<◌, ◌≤◌, List, IsTrue, length, reverse};
+ghost use Rattle.std.specs.Prelude.{◌≡◌, ◌↔◌, ◌+◌, ◌<◌, ◌≤◌, List, IsTrue, Ok, Err, IfOk, OnErr, MatchResult, length, reverse};
 ghost use Rattle.arrayvec.specs.ArrayVec.{array_vec_len};
 ghost use Rattle.etherparse.specs.Header.{Header};
 ghost use Rattle.ether_peel.specs.Grammar.Stack.{Ending, Walk};
@@ -7,11 +7,17 @@ ghost use Rattle.ether_peel.specs.Walker.Start.{start_of};
 ghost use Rattle.ether_filter.specs.Primitives.{walked};
 ghost use Rattle.ether_filter.specs.Expressions.{Expression, Holds};
 ghost use Rattle.ether_filter.specs.Postfix.{pushed, expression_of};
+ghost use Rattle.ether_filter.specs.Reading.{read_text};
+ghost use Rattle.ether_filter.specs.Texts.{IsExpressionOf};
 ghost use Rattle.ether_filter.specs.Evaluation.{AreTruths, joined_truth};
 
+use crate::filter_error::{FilterError, FilterErrorKind};
 use crate::matching::matches_primitive;
 use crate::node::{Node, Operator};
 use crate::packet::Packet;
+use crate::reading::Reading;
+use crate::token::token_of;
+use crate::words::next_word;
 use arrayvec::ArrayVec;
 use std::marker::Model;
 
@@ -38,6 +44,21 @@ impl Model for Filter {
 }
 
 impl Filter {
+    /// How many words an expression has at most: every one of up to 64 primitives, negations and operators with no parentheses that it
+    /// doesn't need has fewer.
+    pub const MAX_WORDS: usize = MAX_WORDS;
+
+    /// The filter that a text means.
+    pub fn parse(text: &[u8]) -> Result<Filter, FilterError>
+        ensures ok { IfOk result (λ ns. IsExpressionOf text.now (expression_of ns)) }
+        ensures err { OnErr result ((x : Expression) → IsExpressionOf text.now x → ⊥) }
+    {
+        match read(text) {
+            Ok(nodes) => Ok(Filter { nodes }),
+            Err(error) => Err(error),
+        }
+    }
+
     /// Whether a packet matches.
     pub fn matches(&self, packet: &Packet<'_>) -> bool
         ensures { (hs : List Header) (e : Ending) → Walk (start_of packet.now.start) packet.now.frame.now hs e
@@ -83,5 +104,34 @@ fn joined(operator: Operator, left: bool, right: bool) -> bool
     match operator {
         Operator::And => left && right,
         Operator::Or => left || right,
+    }
+}
+
+/// The nodes of the expression that a text means.
+fn read(text: &[u8]) -> Result<ArrayVec<Node, MAX_WORDS>, FilterError>
+    ensures { MatchResult result (λ ns. read_text text.now ≡ Ok ns.items) (λ error. read_text text.now ≡ Err error) }
+{
+    let mut reading = Reading::new();
+    let mut count = 0;
+    let mut at = 0;
+    while let Some(word) = next_word(text, at) {
+        let offset = word.start;
+        if count == MAX_WORDS {
+            let kind = FilterErrorKind::TooLong;
+            return Err(FilterError { offset, kind });
+        }
+        match reading.take(token_of(&text[word.start..word.end])) {
+            Ok(()) => {}
+            Err(kind) => return Err(FilterError { offset, kind }),
+        }
+        count += 1;
+        at = word.end;
+    }
+    match reading.finish() {
+        Ok(nodes) => Ok(nodes),
+        Err(kind) => Err(FilterError {
+            offset: text.len(),
+            kind,
+        }),
     }
 }

@@ -1,6 +1,5 @@
 use Rattle.ether_filter.specs.Reading.{state_of}
 use Rattle.ether_filter.proofs.ReadingLemmas.{other_taken}
-use Rattle.ether_filter.proofs.Sound.{Was}
 use Rattle.ether_filter.proofs.reading.Reading.take.Goals as goal
 
 pub returns-in_default : goal.returns-in_default
