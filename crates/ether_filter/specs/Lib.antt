@@ -1,0 +1,12 @@
+pub mod Expressions
+pub mod Primitives
+pub mod Postfix
+pub mod Following
+pub mod Evaluation
+pub mod Words
+pub mod Numerals
+pub mod Tokens
+pub mod Grammar
+pub mod Steps
+pub mod Reading
+pub mod Texts

@@ -1,0 +1,33 @@
+-- What the words of an expression mean.
+use Rattle.std.specs.Prelude.{ℕ, List, [], ◌∷◌, Option, Some, None, unwrap_or, option_map, nat_eq, codes, if◌then◌else◌}
+use Rattle.std.specs.Cmp.Lexicographic.{pointwise}
+use Rattle.ether_filter.specs.Numerals.{number_in, address_in}
+use Rattle.ether_filter.specs.declared.node.Operator.TheVariants.{And, Or}
+use Rattle.ether_filter.specs.declared.token.Token.{Token}
+use Rattle.ether_filter.specs.declared.token.Token.TheVariants as tokens
+
+-- the words with a meaning of their own
+abbrev pub keywords : List (List ℕ × Token)
+keywords =
+    (codes "(", tokens.Open) ∷ (codes ")", tokens.Close) ∷ (codes "not", tokens.Not) ∷ (codes "!", tokens.Not) ∷
+    (codes "and", tokens.Join And) ∷ (codes "&&", tokens.Join And) ∷ (codes "or", tokens.Join Or) ∷ (codes "||", tokens.Join Or) ∷
+    (codes "vlan", tokens.Vlan) ∷ (codes "outer", tokens.Outer) ∷ (codes "inner", tokens.Inner) ∷ (codes "macsec", tokens.Macsec) ∷
+    (codes "arp", tokens.Arp) ∷ (codes "ip", tokens.Ip) ∷ (codes "ip6", tokens.Ip6) ∷
+    (codes "ether", tokens.Ether) ∷ (codes "proto", tokens.Proto) ∷ (codes "src", tokens.Src) ∷ (codes "dst", tokens.Dst) ∷ (codes "host", tokens.Host) ∷
+    (codes "broadcast", tokens.Broadcast) ∷ (codes "multicast", tokens.Multicast) ∷
+    (codes "refused", tokens.Refused) ∷ (codes "cut", tokens.Cut) ∷ (codes "less", tokens.Less) ∷ (codes "greater", tokens.Greater) ∷ []
+
+-- what a word means among these, if it's one of them
+abbrev pub meaning_among : List (List ℕ × Token) → List ℕ → Option Token
+meaning_among [] word = None
+meaning_among (entry ∷ entries) word = if pointwise nat_eq entry.0 word then Some entry.1 else meaning_among entries word
+
+abbrev pub number_token : Option (Option ℕ) → Token
+number_token None = tokens.Unknown
+number_token (Some number) = tokens.Number number
+
+abbrev pub literal : List ℕ → Token
+literal word = unwrap_or (option_map tokens.Address (address_in word)) (number_token (number_in word))
+
+abbrev pub token_of : List ℕ → Token
+token_of word = unwrap_or (meaning_among keywords word) (literal word)

@@ -1,0 +1,56 @@
+//! The fields of a header that primitives speak of.
+ghost use Rattle.std.specs.Prelude.{◌≡◌, ◌%◌, ◌^◌};
+ghost use Rattle.etherparse.specs.Bytes.{number};
+ghost use Rattle.ether_peel.specs.Grammar.Expectation.{Expectation};
+ghost use Rattle.ether_peel.specs.Walker.Start.{kind_shown};
+ghost use Rattle.ether_peel.specs.Walker.UnitHeader.{unit_header};
+ghost use Rattle.ether_filter.specs.Primitives.{ether_type_of};
+ghost use Rattle.ether_filter.specs.Following.{fields_of};
+
+use ether_base::big_endian::u64_of;
+use ether_peel::{PeelUnit, RestKind};
+use etherparse::EtherType;
+
+/// The fields of a header that primitives speak of.
+#[derive(Clone, Copy)]
+pub(crate) enum Fields {
+    /// The two addresses of an Ethernet II header.
+    Link { destination: u64, source: u64 },
+    /// The identifier of a VLAN tag.
+    Tag(u16),
+    SecTag,
+    Other,
+}
+
+/// The fields of the header of a unit.
+pub(crate) fn read_fields(unit: &PeelUnit<'_>) -> Fields
+    ensures { result ≡ fields_of (unit_header unit.now) }
+{
+    match unit {
+        PeelUnit::Ethernet2(link) => Fields::Link {
+            destination: address(link.destination()),
+            source: address(link.source()),
+        },
+        PeelUnit::Vlan(tag) => Fields::Tag(tag.vlan_identifier().value()),
+        PeelUnit::Macsec(_) => Fields::SecTag,
+        _ => Fields::Other,
+    }
+}
+
+/// An address as one number.
+fn address(bytes: [u8; 6]) -> u64
+    ensures { result ≡ number bytes }
+{
+    let [a, b, c, d, e, f] = bytes;
+    u64_of([0, 0, a, b, c, d, e, f])
+}
+
+/// The ether type that is announced, if one is.
+pub(crate) fn announced_type(kind: RestKind) -> Option<u16>
+    ensures { (x : Expectation) → kind ≡ kind_shown x → result ≡ ether_type_of x.next }
+{
+    match kind {
+        RestKind::EtherType(EtherType(number)) => Some(number),
+        _ => None,
+    }
+}

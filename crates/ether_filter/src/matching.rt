@@ -1,0 +1,151 @@
+//! Whether a primitive matches a packet.
+ghost use Rattle.std.specs.Prelude.{◌≡◌, ◌↔◌, false, ◌/◌, ◌%◌, ◌^◌, List, IsTrue};
+ghost use Rattle.etherparse.specs.Header.{Header};
+ghost use Rattle.ether_peel.specs.Grammar.Stack.{Ending, Walk};
+ghost use Rattle.ether_peel.specs.Walker.Start.{start_of, next_of};
+ghost use Rattle.ether_filter.specs.Primitives.{Matches, walked, ether_type_of, is_group as is_group_of};
+ghost use Rattle.ether_filter.specs.Following.{shown as shown_of, shown_by_link, shown_by_tag, shown_by_sec_tag, found_after as found_after_of, found_at_end, found_at_fault as found_at_fault_of, is_tagged as is_tagged_of, found_first as found_first_of};
+
+use crate::fields::{Fields, announced_type, read_fields};
+use crate::packet::Packet;
+use crate::primitive::Primitive;
+use ether_peel::{Peel, Start};
+
+/// The broadcast address.
+const BROADCAST: u64 = 0xFFFF_FFFF_FFFF;
+
+/// Whether a primitive matches a packet.
+pub(crate) fn matches_primitive(primitive: Primitive, packet: &Packet<'_>) -> bool
+    ensures { (hs : List Header) (e : Ending) → Walk (start_of packet.now.start) packet.now.frame.now hs e
+        → IsTrue result ↔ Matches primitive (walked packet.now hs e) }
+{
+    match primitive {
+        Primitive::Cut => packet.captured_len < packet.original_len,
+        Primitive::Less(len) => packet.original_len <= len,
+        Primitive::Greater(len) => packet.original_len >= len,
+        _ => is_found(primitive, packet.start, packet.frame),
+    }
+}
+
+/// Whether a primitive is found in a walk.
+fn is_found(primitive: Primitive, start: Start, frame: &[u8]) -> bool
+    ensures { (hs : List Header) (e : Ending) → Walk (start_of start) frame.now hs e
+        → result ≡ found_at_end primitive (found_first_of primitive (ether_type_of (next_of start))) false hs e }
+{
+    let mut peel = Peel::new(start, frame);
+    let mut found = found_first(primitive, announced_type(peel.kind()));
+    let mut tagged = false;
+    loop {
+        match peel.next() {
+            Some(Ok(unit)) => {
+                let fields = read_fields(&unit);
+                found = found_after(
+                    primitive,
+                    found,
+                    tagged,
+                    fields,
+                    announced_type(peel.kind()),
+                );
+                tagged |= is_tagged(fields);
+            }
+            Some(Err(_)) => return found_at_fault(primitive, found),
+            None => return found,
+        }
+    }
+}
+
+/// Whether a primitive is found before the first header, by the ether type that is announced.
+fn found_first(primitive: Primitive, announced: Option<u16>) -> bool
+    ensures { result ≡ found_first_of primitive announced }
+{
+    match primitive {
+        Primitive::EtherType(number) => announced == Some(number),
+        _ => false,
+    }
+}
+
+/// Whether a primitive is found after one more header, by whether it was found before, and whether a VLAN tag was.
+fn found_after(
+    primitive: Primitive,
+    found: bool,
+    tagged: bool,
+    fields: Fields,
+    announced: Option<u16>,
+) -> bool
+    ensures { result ≡ found_after_of primitive found tagged fields announced }
+{
+    match (primitive, fields) {
+        (Primitive::OuterVlan(wanted), Fields::Tag(id)) => {
+            if tagged { found } else { wanted == id }
+        }
+        (Primitive::InnerVlan(wanted), Fields::Tag(id)) => tagged && wanted == id,
+        _ => found || is_shown(primitive, fields, announced),
+    }
+}
+
+/// Whether a primitive is found if the walk is refused, by whether it was found before.
+fn found_at_fault(primitive: Primitive, found: bool) -> bool
+    ensures { result ≡ found_at_fault_of primitive found }
+{
+    match primitive {
+        Primitive::Refused => true,
+        _ => found,
+    }
+}
+
+/// Whether these are the fields of a VLAN tag.
+fn is_tagged(fields: Fields) -> bool
+    ensures { result ≡ is_tagged_of fields }
+{
+    matches!(fields, Fields::Tag(_))
+}
+
+/// Whether one header shows a primitive.
+fn is_shown(primitive: Primitive, fields: Fields, announced: Option<u16>) -> bool
+    ensures { result ≡ shown_of primitive fields announced }
+{
+    if let Primitive::EtherType(number) = primitive {
+        return announced == Some(number);
+    }
+    match fields {
+        Fields::Link {
+            destination,
+            source,
+        } => is_shown_by_link(primitive, destination, source),
+        Fields::Tag(id) => is_shown_by_tag(primitive, id),
+        Fields::SecTag => matches!(primitive, Primitive::Macsec),
+        Fields::Other => false,
+    }
+}
+
+/// Whether the addresses of a link show a primitive.
+fn is_shown_by_link(primitive: Primitive, destination: u64, source: u64) -> bool
+    ensures { result ≡ shown_by_link primitive destination source }
+{
+    match primitive {
+        Primitive::Source(address) => address == source,
+        Primitive::Destination(address) => address == destination,
+        Primitive::Host(address) => address == source || address == destination,
+        Primitive::Broadcast => destination == BROADCAST,
+        Primitive::Multicast => is_group(destination),
+        _ => false,
+    }
+}
+
+/// Whether the identifier of a VLAN tag shows a primitive.
+fn is_shown_by_tag(primitive: Primitive, id: u16) -> bool
+    ensures { result ≡ shown_by_tag primitive id }
+{
+    match primitive {
+        Primitive::Vlan => true,
+        Primitive::VlanId(wanted) => wanted == id,
+        _ => false,
+    }
+}
+
+/// Whether an address is that of a group.
+fn is_group(address: u64) -> bool
+    ensures { result ≡ is_group_of address }
+{
+    address / (1 << 40) % 2 == 1
+}

@@ -1,0 +1,80 @@
+//! Numbers and addresses as words.
+ghost use Rattle.std.specs.Prelude.{◌≡◌, ◌+◌, ◌*◌, ◌^◌, ◌<◌, ◌≤◌, min, None, MatchOption, length, nat_eq, slice_index};
+ghost use Rattle.std.specs.List.{list_all};
+ghost use Rattle.ether_filter.specs.Numerals.{digits_in, IsCapped, number_in, colon_places, address_in};
+
+/// A number from which on numbers are not told apart while digits are read.
+const CAP: u64 = 1 << 48;
+
+/// The number that a word writes, in hexadecimal digits after `0x`, or in decimal digits without a leading zero. `None` if it writes
+/// none, and `Some(None)` if the number has more than 32 bits.
+pub(crate) fn number_of(word: &[u8]) -> Option<Option<u32>>
+    ensures { result ≡ number_in word.now }
+{
+    let number = if word.len() > 1 && word[0] == b'0' {
+        if word[1] != b'x' {
+            return None;
+        }
+        digits_of(&word[2..], 16)
+    } else {
+        digits_of(word, 10)
+    };
+    match number {
+        Some(number) => Some(u32::try_from(number).ok()),
+        None => None,
+    }
+}
+
+/// The address that a word writes, in six pairs of hexadecimal digits with colons between them, as one number.
+pub(crate) fn address_of(word: &[u8]) -> Option<u64>
+    ensures { result ≡ address_in word.now }
+{
+    if word.len() != 17 {
+        return None;
+    }
+    if !has_colons(word) {
+        return None;
+    }
+    let digits = [
+        word[0], word[1], word[3], word[4], word[6], word[7], word[9], word[10], word[12],
+        word[13], word[15], word[16],
+    ];
+    digits_of(&digits, 16)
+}
+
+/// Whether colons are where an address has them.
+fn has_colons(word: &[u8]) -> bool
+    requires { length word.now ≡ 17 }
+    ensures { result ≡ list_all (λ i. nat_eq (slice_index word.now i) 58) colon_places }
+{
+    word[2] == b':' && word[5] == b':' && word[8] == b':' && word[11] == b':' && word[14] == b':'
+}
+
+/// The number that digits write, or the cap if that is less. `None` if there is no digit, or something else.
+fn digits_of(digits: &[u8], radix: u32) -> Option<u64>
+    requires least { 2 ≤ radix }
+    requires most { radix ≤ 16 }
+    ensures { MatchOption result (digits_in radix digits.now ≡ None) (IsCapped radix digits.now) }
+{
+    if digits.is_empty() {
+        return None;
+    }
+    let mut number = 0;
+    for digit in digits {
+        let Some(digit) = char::from(*digit).to_digit(radix) else {
+            return None;
+        };
+        number = appended(number, radix, digit);
+    }
+    Some(number)
+}
+
+/// The number with one more digit, or the cap if that is less.
+fn appended(number: u64, radix: u32, digit: u32) -> u64
+    requires number { number ≤ 2 ^ 48 }
+    requires radix { radix ≤ 16 }
+    requires digit { digit < radix }
+    ensures { result ≡ min (number * radix + digit) (2 ^ 48) }
+{
+    (number * u64::from(radix) + u64::from(digit)).min(CAP)
+}

@@ -1,0 +1,92 @@
+//! The words of a text.
+ghost use Rattle.std.specs.Prelude.{◌≡◌, ◌+◌, ◌<◌, ◌≤◌, ◌∷◌, [], false, length, slice_index, slice_range, IfNone, IfSome};
+ghost use Rattle.ether_filter.specs.Words.{class_of as class_of_byte, is_blank, are_joined as are_joined_of, words_from, IsNextWord};
+
+/// What a character of a text is.
+#[derive(Clone, Copy, PartialEq, Eq)]
+pub(crate) enum Class {
+    /// Between words.
+    Blank,
+    /// A word of its own.
+    Sign,
+    /// In a word of such characters.
+    Connective,
+    /// In a word of such characters.
+    Letter,
+}
+
+/// Where a word of a text begins and ends.
+#[derive(Clone, Copy)]
+pub(crate) struct Word {
+    pub start: usize,
+    pub end: usize,
+}
+
+/// The first word of a text from a place on.
+pub(crate) fn next_word(text: &[u8], from: usize) -> Option<Word>
+    requires { from ≤ length text.now }
+    ensures none { IfNone result (words_from text.now from ≡ []) }
+    ensures some { IfSome result (IsNextWord text.now from) }
+{
+    let start = word_start(text, from);
+    if start == text.len() {
+        return None;
+    }
+    let end = word_end(text, start);
+    Some(Word { start, end })
+}
+
+/// Where the blanks from a place on end.
+fn word_start(text: &[u8], from: usize) -> usize
+    requires { from ≤ length text.now }
+    ensures from { from ≤ result }
+    ensures inside { result ≤ length text.now }
+    ensures same { words_from text.now from ≡ words_from text.now result }
+    ensures word { result < length text.now → is_blank (class_of_byte (slice_index text.now result)) ≡ false }
+{
+    let mut start = from;
+    while start < text.len() {
+        if class_of(text[start]) != Class::Blank {
+            return start;
+        }
+        start += 1;
+    }
+    start
+}
+
+/// Where the word that begins at a place ends.
+fn word_end(text: &[u8], start: usize) -> usize
+    requires inside { start < length text.now }
+    requires word { is_blank (class_of_byte (slice_index text.now start)) ≡ false }
+    ensures after { start < result }
+    ensures inside { result ≤ length text.now }
+    ensures word { words_from text.now start ≡ record { at = start; bytes = slice_range text.now start result } ∷ words_from text.now result }
+{
+    let mut end = start + 1;
+    while end < text.len() && are_joined(class_of(text[end - 1]), class_of(text[end])) {
+        end += 1;
+    }
+    end
+}
+
+/// What a character is.
+fn class_of(byte: u8) -> Class
+    ensures { result ≡ class_of_byte byte }
+{
+    match byte {
+        b' ' | b'\t' | b'\n' | b'\r' => Class::Blank,
+        b'(' | b')' | b'!' => Class::Sign,
+        b'&' | b'|' => Class::Connective,
+        _ => Class::Letter,
+    }
+}
+
+/// Whether two characters, one after the other, are of one word.
+fn are_joined(first: Class, second: Class) -> bool
+    ensures { result ≡ are_joined_of first second }
+{
+    matches!(
+        (first, second),
+        (Class::Letter, Class::Letter) | (Class::Connective, Class::Connective)
+    )
+}

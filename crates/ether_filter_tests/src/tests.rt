@@ -1,0 +1,3 @@
+//! Which packets match, and where texts are refused.
+mod matching;
+mod refusals;
