@@ -11,6 +11,7 @@ use Rattle.ether_text.specs.Verdict.{verdict_of, verdict_with}
 use Rattle.ether_text.specs.declared.output_buffer.OutputBuffer.{OutputBuffer}
 use Rattle.ether_text.specs.declared.verdict.Verdict.{Verdict}
 use Rattle.ether_text.proofs.KnownBytesLemmas.{Appends-none, Appends-then, Appends-written_out}
+use Rattle.ether_capture.specs.Options.{LinesValue}
 use Rattle.ether_capture.specs.FrameLines.{AnswersPacket, skip_count}
 use Rattle.ether_capture.specs.Packets.{counted, GoesOn}
 use Rattle.ether_capture.specs.Run.{AreAnswered}
@@ -27,23 +28,23 @@ verdict_with-verdict_of true accepted = refl
 verdict_with-verdict_of false accepted = refl
 
 -- one answered packet more
-pub AreAnswered-push : (plain : Bool) (before : ℕ) (packets : List PacketValue) (text : List ℕ) (all : Bool)
+pub AreAnswered-push : (asked : LinesValue) (before : ℕ) (packets : List PacketValue) (text : List ℕ) (all : Bool)
     (p : PacketValue) (more : List ℕ) (accepted : Bool)
-    → AreAnswered plain before packets text all
-    → AnswersPacket plain (counted (before + length packets + 1)) p more accepted
-    → AreAnswered plain before (packets ++ p ∷ []) (text ++ more) (all && accepted)
-AreAnswered-push plain before [] text all p more accepted so_far is =
+    → AreAnswered asked before packets text all
+    → AnswersPacket asked (counted (before + length packets + 1)) p more accepted
+    → AreAnswered asked before (packets ++ p ∷ []) (text ++ more) (all && accepted)
+AreAnswered-push asked before [] text all p more accepted so_far is =
     let n : before + length {A = PacketValue} [] + 1 ≡ before + 1 = omega arith in (
       more,
       accepted,
       [],
       true,
-      subst (λ (k : ℕ). AnswersPacket plain (counted k) p more accepted) n is,
+      subst (λ (k : ℕ). AnswersPacket asked (counted k) p more accepted) n is,
       (refl, refl),
       ap (λ (t : List ℕ). t ++ more) so_far.0 ∙ sym (append-nil more),
       ap (λ (b : Bool). b && accepted) so_far.1 ∙ and_true accepted,
     )
-AreAnswered-push plain before (first ∷ others) text all p more accepted so_far is =
+AreAnswered-push asked before (first ∷ others) text all p more accepted so_far is =
     let (one, one_accepted, rest, others_accepted, here, there, whole, every) = so_far in
     let n : before + length (first ∷ others) + 1 ≡ before + 1 + length others + 1 = omega arith in (
       one,
@@ -51,8 +52,8 @@ AreAnswered-push plain before (first ∷ others) text all p more accepted so_far
       rest ++ more,
       others_accepted && accepted,
       here,
-      AreAnswered-push plain (before + 1) others rest others_accepted p more accepted there
-          (subst (λ (k : ℕ). AnswersPacket plain (counted k) p more accepted) n is),
+      AreAnswered-push asked (before + 1) others rest others_accepted p more accepted there
+          (subst (λ (k : ℕ). AnswersPacket asked (counted k) p more accepted) n is),
       ap (λ (t : List ℕ). t ++ more) whole ∙ append_assoc one rest more,
       ap (λ (b : Bool). b && accepted) every ∙ and_assoc one_accepted others_accepted accepted,
     )
@@ -65,10 +66,10 @@ skipped-push packets p = sum_by-append skip_count packets (p ∷ []) ∙ last
     last : sum_by skip_count packets + sum_by skip_count (p ∷ []) ≡ sum_by skip_count packets + skip_count p
     last = omega arith
 
-module _ {W : Type 0} (plain : Bool) (contents : W → Option (List ℕ)) where
+module _ {W : Type 0} (asked : LinesValue) (contents : W → Option (List ℕ)) where
   -- nothing is read
   pub Reached-start : (start : FrameLoop) (out : OutputBuffer W) → IsStart start
-      → Reached plain contents (contents_of contents out) [] [] start out
+      → Reached asked contents (contents_of contents out) [] [] start out
   Reached-start start out is = record {
     packets = [];
     front = [];
@@ -87,8 +88,8 @@ module _ {W : Type 0} (plain : Bool) (contents : W → Option (List ℕ)) where
   -- what waited is written out
   pub Reached-written_out : (held : Option (List ℕ)) (input buffered : List ℕ) (at : FrameLoop)
       (old new : OutputBuffer W)
-      → WritesOut contents old new → Reached plain contents held input buffered at old
-      → Reached plain contents held input buffered at new
+      → WritesOut contents old new → Reached asked contents held input buffered at old
+      → Reached asked contents held input buffered at new
   Reached-written_out held input buffered at old new drains so_far = record {
     packets = so_far.packets;
     front = so_far.front;
@@ -108,8 +109,8 @@ module _ {W : Type 0} (plain : Bool) (contents : W → Option (List ℕ)) where
 
   -- more bytes are read
   pub Reached-more : (held : Option (List ℕ)) (input buffered chunk : List ℕ) (at : FrameLoop) (out : OutputBuffer W)
-      → Reached plain contents held input buffered at out
-      → Reached plain contents held (input ++ chunk) (buffered ++ chunk) at out
+      → Reached asked contents held input buffered at out
+      → Reached asked contents held (input ++ chunk) (buffered ++ chunk) at out
   Reached-more held input buffered chunk at out so_far = record {
     packets = so_far.packets;
     front = so_far.front;
@@ -141,9 +142,9 @@ module _ {W : Type 0} (plain : Bool) (contents : W → Option (List ℕ)) where
   pub Reached-unit : (held : Option (List ℕ)) (input buffered : List ℕ) (old new : FrameLoop) (y : Expectation)
       (from to : OutputBuffer W) (len : ℕ) (packet : Option PacketValue)
       → len ≤ length buffered → Begins buffered old.reader len packet y
-      → TakesUnit plain contents len packet (record old { reader = y }) from new to
-      → Reached plain contents held input buffered old from
-      → Reached plain contents held input (drop len buffered) new to
+      → TakesUnit asked contents len packet (record old { reader = y }) from new to
+      → Reached asked contents held input buffered old from
+      → Reached asked contents held input (drop len buffered) new to
   Reached-unit held input buffered old new y from to len None within begins takes so_far =
       let (same, verdict, count, skipped) = takes.content in
       let long = front_len so_far.front buffered len within in
@@ -182,9 +183,9 @@ module _ {W : Type 0} (plain : Bool) (contents : W → Option (List ℕ)) where
             (GoesOn-packet input so_far.packets p old.reader y buffered len within begins so_far.parts);
         place = front_after input so_far.front buffered len so_far.place;
         answered =
-            AreAnswered-push plain 0 so_far.packets so_far.text so_far.all_accepted p taken.text taken.accepted
+            AreAnswered-push asked 0 so_far.packets so_far.text so_far.all_accepted p taken.text taken.accepted
             so_far.answered
-            (subst (λ (n : ℕ). AnswersPacket plain n p taken.text taken.accepted) number taken.answered);
+            (subst (λ (n : ℕ). AnswersPacket asked n p taken.text taken.accepted) number taken.answered);
         is_verdict =
             taken.is_verdict ∙ ap (λ (v : Verdict). verdict_with v taken.accepted) so_far.is_verdict
             ∙ verdict_with-verdict_of so_far.all_accepted taken.accepted;

@@ -1,5 +1,5 @@
 -- What a run has read and written, one read after another.
-use Rattle.std.proofs.Common.{◌⊎◌, ◌-◌, ◌^◌, ◌≡◌, ◌≢◌, ℕ, ◌<◌, ◌≤◌, List, [], ◌∷◌, ◌++◌, length, drop, Bool, Option, Some, None, unwrap_or, Result, Ok, Err, IfOk, IfErr, IsErrAnd, OnOk, refl, sym, ap, subst, ◌∙◌, arith, append_assoc, append-nil}
+use Rattle.std.proofs.Common.{◌⊎◌, ◌-◌, ◌^◌, ◌≡◌, ◌≢◌, ℕ, ◌<◌, ◌≤◌, List, [], ◌∷◌, ◌++◌, length, drop, Option, Some, None, unwrap_or, Result, Ok, Err, IfOk, IfErr, IsErrAnd, OnOk, refl, sym, ap, subst, ◌∙◌, arith, append_assoc, append-nil}
 use Rattle.std.specs.Io.KnownBytes.{Appends, Consumes, IsAtEnd, Keeps}
 use Rattle.ether_pcap.specs.FileHeader as file
 use Rattle.ether_pcap.specs.Record as record_rows
@@ -15,6 +15,7 @@ use Rattle.ether_text.specs.declared.verdict.Verdict.{Verdict}
 use Rattle.ether_text.proofs.KnownBytesLemmas.{Appends-then, Consumes-kept}
 use Rattle.ether_text.specs.Run.{IsLeft, BreaksOffAfter, IsEndless}
 use Rattle.ether_text.proofs.RunLemmas.{IsLeft-left_of, IsLeft-end, Consumes-nothing, answers_flushed, stops_flushed, breaks_flushed, answers_slice, stops_slice, breaks_slice, no_endless_slice}
+use Rattle.ether_capture.specs.Options.{LinesValue}
 use Rattle.ether_capture.specs.FrameLines.{totals_line_if}
 use Rattle.ether_capture.specs.Packets.{GoesOn}
 use Rattle.ether_capture.specs.Run.{AnswersCapture, StopsAtFault, EndsInUnit, AnswersSlice, NeedsMemory, HasRun, IsOutput, OnStreamFault, totals_of}
@@ -87,19 +88,19 @@ refused_nothing bytes x r e (body_refused order interfaces b s other begins refu
 
 -- ---- a run
 
-module _ {W : Type 0} (plain : Bool) (contents : W → Option (List ℕ)) where
+module _ {W : Type 0} (asked : LinesValue) (contents : W → Option (List ℕ)) where
   -- the units of what was buffered are taken
   pub units_left : (buffered bytes left : List ℕ) (old new : FrameLoop) (from to : OutputBuffer W) (n : ℕ)
       (error : CaptureError)
-      → bytes ≡ buffered → left ≡ drop n buffered → TakesUnits plain contents bytes old from n error new to
-      → LeavesRest plain contents buffered old from left error new to
+      → bytes ≡ buffered → left ≡ drop n buffered → TakesUnits asked contents bytes old from n error new to
+      → LeavesRest asked contents buffered old from left error new to
   units_left buffered bytes left old new from to n error same is takes =
       let e : drop n bytes ≡ left = ap (drop n) same ∙ sym is in
       record {
         reached = λ held input so_far.
-            subst (λ (l : List ℕ). Reached plain contents held input l new to) e
+            subst (λ (l : List ℕ). Reached asked contents held input l new to) e
             (takes.reached held input
-            (subst (λ (l : List ℕ). Reached plain contents held input l old from) (sym same) so_far));
+            (subst (λ (l : List ℕ). Reached asked contents held input l old from) (sym same) so_far));
         refused = subst (λ (l : List ℕ). Refuses l new.reader (capture_refusal_view error)) e takes.refused;
       }
 
@@ -110,10 +111,10 @@ module _ {W : Type 0} (plain : Bool) (contents : W → Option (List ℕ)) where
         → IsLeft after left
         → ((packets : List PacketValue) → GoesOn input packets at.reader buffered
         → HasPackets Beginning (input ++ left) packets (buffered ++ left) (Some (capture_refusal_view error)))
-        → Reached plain contents held input buffered at out
-        → HasRun plain before after held (contents_of contents out) (Err fault)
+        → Reached asked contents held input buffered at out
+        → HasRun asked before after held (contents_of contents out) (Err fault)
     stops input buffered left at out error fault is read is_left has so_far =
-        subst (λ (f : RunFault). HasRun plain before after held (contents_of contents out) (Err f)) (sym is) (record {
+        subst (λ (f : RunFault). HasRun asked before after held (contents_of contents out) (Err f)) (sym is) (record {
           taken = input;
           left = left;
           text = so_far.text;
@@ -138,8 +139,8 @@ module _ {W : Type 0} (plain : Bool) (contents : W → Option (List ℕ)) where
         (fault : RunFault)
         → fault ≡ Capture (record { offset = at.offset; error = error }) → Consumes before after input
         → Refuses buffered at.reader (capture_refusal_view error) → required_len (capture_refusal_view error) ≡ None
-        → Reached plain contents held input buffered at out
-        → HasRun plain before after held (contents_of contents out) (Err fault)
+        → Reached asked contents held input buffered at out
+        → HasRun asked before after held (contents_of contents out) (Err fault)
     stopped_for_good input buffered at out error fault is read refused none so_far =
         let left : List ℕ = unwrap_or after [] in
         stops input buffered left at out error fault is read (IsLeft-left_of after)
@@ -151,8 +152,8 @@ module _ {W : Type 0} (plain : Bool) (contents : W → Option (List ℕ)) where
         (fault : RunFault)
         → fault ≡ Capture (record { offset = at.offset; error = error }) → Consumes before after input → IsAtEnd after
         → ¬ (IsEnd at.reader buffered) → Refuses buffered at.reader (capture_refusal_view error)
-        → Reached plain contents held input buffered at out
-        → HasRun plain before after held (contents_of contents out) (Err fault)
+        → Reached asked contents held input buffered at out
+        → HasRun asked before after held (contents_of contents out) (Err fault)
     stopped_at_end input buffered at out error fault is read end more refused so_far =
         stops input buffered [] at out error fault is read (IsLeft-end after end)
         (λ packets go. refused_at_last input packets at.reader buffered (capture_refusal_view error) more refused go)
@@ -164,16 +165,16 @@ module _ {W : Type 0} (plain : Bool) (contents : W → Option (List ℕ)) where
         → IfOk r (λ verdict. verdict ≡ at.verdict)
         → OnOk r
         (Appends (contents_of contents from) (contents_of contents to)
-        (totals_line_if plain at.count at.skipped))
+        (totals_line_if asked.plain at.count at.skipped))
         → IfErr r IsOutput
-        → Reached plain contents held input buffered at from
-        → HasRun plain before after held (contents_of contents to) r
+        → Reached asked contents held input buffered at from
+        → HasRun asked before after held (contents_of contents to) r
     finished input buffered at from to (Ok verdict) read end over is written fault so_far =
-        let totals : totals_line_if plain at.count at.skipped ≡ totals_of plain so_far.packets =
-        (λ i. totals_line_if plain (so_far.is_count i) (so_far.is_skipped i)) in
+        let totals : totals_line_if asked.plain at.count at.skipped ≡ totals_of asked so_far.packets =
+        (λ i. totals_line_if asked.plain (so_far.is_count i) (so_far.is_skipped i)) in
         record {
           input = input;
-          text = so_far.text ++ totals_of plain so_far.packets;
+          text = so_far.text ++ totals_of asked so_far.packets;
           all_accepted = so_far.all_accepted;
           read = read;
           at_end = end;
@@ -190,18 +191,18 @@ module _ {W : Type 0} (plain : Bool) (contents : W → Option (List ℕ)) where
           is_verdict = is ∙ so_far.is_verdict;
           written =
               Appends-then held (contents_of contents from) (contents_of contents to) so_far.text
-              (totals_of plain so_far.packets) so_far.written
+              (totals_of asked so_far.packets) so_far.written
               (subst (λ (t : List ℕ). Appends (contents_of contents from) (contents_of contents to) t) totals written);
         }
     finished input buffered at from to (Err fault) read end over is written failed so_far =
-        subst (λ (f : RunFault). HasRun plain before after held (contents_of contents to) (Err f)) (sym failed) tt
+        subst (λ (f : RunFault). HasRun asked before after held (contents_of contents to) (Err f)) (sym failed) tt
 
     -- a unit is not whole
     breaks_off : (Needs : Option ℕ → Type 0) (input buffered : List ℕ) (at : FrameLoop) (out : OutputBuffer W)
         (reason : CaptureRefusal)
         → Consumes before after input → Refuses buffered at.reader reason → Needs (required_len reason)
-        → Reached plain contents held input buffered at out
-        → BreaksOffAfter (EndsInUnit Needs plain) before after held (contents_of contents out)
+        → Reached asked contents held input buffered at out
+        → BreaksOffAfter (EndsInUnit Needs asked) before after held (contents_of contents out)
     breaks_off Needs input buffered at out reason read refused unfinished so_far = record {
       taken = input;
       text = so_far.text;
@@ -226,11 +227,11 @@ module _ {W : Type 0} (plain : Bool) (contents : W → Option (List ℕ)) where
         (out : OutputBuffer W) (reason : CaptureRefusal)
         → Consumes before mid input → Keeps mid after → IsErrAnd r (λ fault. fault ≡ Input)
         → Refuses buffered at.reader reason → required_len reason ≢ None
-        → Reached plain contents held input buffered at out
-        → HasRun plain before after held (contents_of contents out) r
+        → Reached asked contents held input buffered at out
+        → HasRun asked before after held (contents_of contents out) r
     broken_off mid (Ok verdict) input buffered at out reason read kept is refused needed so_far = absurd is
     broken_off mid (Err fault) input buffered at out reason read kept is refused needed so_far =
-        subst (λ (f : RunFault). HasRun plain before after held (contents_of contents out) (Err f)) (sym is)
+        subst (λ (f : RunFault). HasRun asked before after held (contents_of contents out) (Err f)) (sym is)
         (breaks_off (λ n. n ≢ None) input buffered at out reason (Consumes-kept before mid after input read kept)
         refused needed so_far)
 
@@ -239,62 +240,62 @@ module _ {W : Type 0} (plain : Bool) (contents : W → Option (List ℕ)) where
         (reason : CaptureRefusal) (n : ℕ)
         → IsErrAnd r (λ fault. fault ≡ Memory) → Consumes before after input → Refuses buffered at.reader reason
         → required_len reason ≡ Some n → 65536 < n
-        → Reached plain contents held input buffered at out
-        → HasRun plain before after held (contents_of contents out) r
+        → Reached asked contents held input buffered at out
+        → HasRun asked before after held (contents_of contents out) r
     without_memory (Ok verdict) input buffered at out reason n is read refused needs large so_far = absurd is
     without_memory (Err fault) input buffered at out reason n is read refused needs large so_far =
-        subst (λ (f : RunFault). HasRun plain before after held (contents_of contents out) (Err f)) (sym is)
+        subst (λ (f : RunFault). HasRun asked before after held (contents_of contents out) (Err f)) (sym is)
         (breaks_off NeedsMemory input buffered at out reason read refused (subst NeedsMemory (sym needs) large) so_far)
 
 -- ---- the closing flush
 
 -- all that waited is passed to the writer
-pub HasRun-flushed : {W : Type 0} (plain : Bool) (contents : W → Option (List ℕ)) (before after held : Option (List ℕ))
+pub HasRun-flushed : {W : Type 0} (asked : LinesValue) (contents : W → Option (List ℕ)) (before after held : Option (List ℕ))
     (from to : OutputBuffer W) (r : Result Verdict RunFault)
-    → WritesOut contents from to → HasRun plain before after held (contents_of contents from) r
-    → HasRun plain before after held (contents to.writer.now) r
-HasRun-flushed plain contents before after held from to (Ok verdict) drains h =
+    → WritesOut contents from to → HasRun asked before after held (contents_of contents from) r
+    → HasRun asked before after held (contents to.writer.now) r
+HasRun-flushed asked contents before after held from to (Ok verdict) drains h =
     answers_flushed contents before after held from to drains verdict h
-HasRun-flushed plain contents before after held from to (Err (Capture fault)) drains h =
+HasRun-flushed asked contents before after held from to (Err (Capture fault)) drains h =
     stops_flushed contents before after held from to drains h
-HasRun-flushed plain contents before after held from to (Err Input) drains h =
+HasRun-flushed asked contents before after held from to (Err Input) drains h =
     breaks_flushed contents before after held from to drains h
-HasRun-flushed plain contents before after held from to (Err Output) drains h = tt
-HasRun-flushed plain contents before after held from to (Err Memory) drains h =
+HasRun-flushed asked contents before after held from to (Err Output) drains h = tt
+HasRun-flushed asked contents before after held from to (Err Memory) drains h =
     breaks_flushed contents before after held from to drains h
 
 -- what is said of known bytes is said of the same bytes
-pub HasRun-same : (plain : Bool) (r : Result Verdict RunFault)
+pub HasRun-same : (asked : LinesValue) (r : Result Verdict RunFault)
     (before after held holds before' after' held' holds' : Option (List ℕ))
-    → before ≡ before' → after ≡ after' → held ≡ held' → holds ≡ holds' → HasRun plain before after held holds r
-    → HasRun plain before' after' held' holds' r
-HasRun-same plain r before after held holds before' after' held' holds' e f g h =
-    subst (λ (t : Type 0). t) (λ i. HasRun plain (e i) (f i) (g i) (h i) r)
+    → before ≡ before' → after ≡ after' → held ≡ held' → holds ≡ holds' → HasRun asked before after held holds r
+    → HasRun asked before' after' held' holds' r
+HasRun-same asked r before after held holds before' after' held' holds' e f g h =
+    subst (λ (t : Type 0). t) (λ i. HasRun asked (e i) (f i) (g i) (h i) r)
 
 -- ---- a run over a slice
 
-slice_answers : (plain : Bool) (can_fail : Type 0) (bytes : List ℕ) (after held holds : Option (List ℕ))
+slice_answers : (asked : LinesValue) (can_fail : Type 0) (bytes : List ℕ) (after held holds : Option (List ℕ))
     (r : Result Verdict RunFault)
     → length bytes < 2 ^ 64 - 1
-    → HasRun plain (Some bytes) after held holds r
+    → HasRun asked (Some bytes) after held holds r
     → IfErr r (λ fault. OnStreamFault fault (⊥ ⊎ IsEndless (Some bytes) after) can_fail)
-    → AnswersSlice plain can_fail bytes held holds r
-slice_answers plain can_fail bytes after held holds (Ok verdict) short h failed =
-    answers_slice (AnswersCapture plain) bytes after held holds verdict h
-slice_answers plain can_fail bytes after held holds (Err (Capture fault)) short h failed =
-    stops_slice (StopsAtFault plain fault) bytes after held holds h
-slice_answers plain can_fail bytes after held holds (Err Input) short h failed =
+    → AnswersSlice asked can_fail bytes held holds r
+slice_answers asked can_fail bytes after held holds (Ok verdict) short h failed =
+    answers_slice (AnswersCapture asked) bytes after held holds verdict h
+slice_answers asked can_fail bytes after held holds (Err (Capture fault)) short h failed =
+    stops_slice (StopsAtFault asked fault) bytes after held holds h
+slice_answers asked can_fail bytes after held holds (Err Input) short h failed =
     absurd (no_endless_slice bytes after short failed)
-slice_answers plain can_fail bytes after held holds (Err Output) short h failed = failed
-slice_answers plain can_fail bytes after held holds (Err Memory) short h failed =
-    breaks_slice (EndsInUnit NeedsMemory plain) bytes after held holds h
+slice_answers asked can_fail bytes after held holds (Err Output) short h failed = failed
+slice_answers asked can_fail bytes after held holds (Err Memory) short h failed =
+    breaks_slice (EndsInUnit NeedsMemory asked) bytes after held holds h
 
-pub slice_answered : (plain : Bool) (can_fail : Type 0) (bytes : List ℕ) (before after held holds : Option (List ℕ))
+pub slice_answered : (asked : LinesValue) (can_fail : Type 0) (bytes : List ℕ) (before after held holds : Option (List ℕ))
     (r : Result Verdict RunFault)
-    → before ≡ Some bytes → length bytes < 2 ^ 64 - 1 → HasRun plain before after held holds r
+    → before ≡ Some bytes → length bytes < 2 ^ 64 - 1 → HasRun asked before after held holds r
     → IfErr r (λ fault. OnStreamFault fault (⊥ ⊎ IsEndless before after) can_fail)
-    → AnswersSlice plain can_fail bytes held holds r
-slice_answered plain can_fail bytes before after held holds r is short h failed =
-    slice_answers plain can_fail bytes after held holds r short
-    (subst (λ (o : Option (List ℕ)). HasRun plain o after held holds r) is h)
+    → AnswersSlice asked can_fail bytes held holds r
+slice_answered asked can_fail bytes before after held holds r is short h failed =
+    slice_answers asked can_fail bytes after held holds r short
+    (subst (λ (o : Option (List ℕ)). HasRun asked o after held holds r) is h)
     (subst (λ (o : Option (List ℕ)). IfErr r (λ fault. OnStreamFault fault (⊥ ⊎ IsEndless o after) can_fail)) is failed)

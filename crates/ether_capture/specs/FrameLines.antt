@@ -1,12 +1,18 @@
 -- The lines of a captured packet: one for the packet itself, and those of the walk through its headers.
-use Rattle.std.specs.Prelude.{◌≡◌, ℕ, ◌+◌, ◌-◌, ◌/◌, ◌%◌, ◌^◌, max, List, [], ◌∷◌, ◌++◌, length, take, codes, nat_eq, nat_lt, Bool, true, false, ◌&&◌, not, Option, Some, None, unwrap_or, if◌then◌else◌}
+use Rattle.std.specs.Prelude.{◌≡◌, ℕ, ◌+◌, ◌-◌, ◌/◌, ◌%◌, ◌^◌, ◌⊎◌, max, min, List, [], ◌∷◌, ◌++◌, length, take, slice_range, codes, nat_eq, nat_lt, Bool, true, false, ◌&&◌, not, Option, Some, None, unwrap_or, if◌then◌else◌}
 use Rattle.std.specs.Fmt.{decimal}
 use Rattle.etherparse.specs.Kind as kinds
-use Rattle.ether_peel.specs.Grammar.Expectation.{Next, Start}
+use Rattle.etherparse.specs.Header.{Header}
+use Rattle.ether_base.specs.Formats.LinuxSllProtocolType.{told_ether_type}
+use Rattle.ether_peel.specs.Grammar.Expectation.{Next, Start, EtherType}
+use Rattle.ether_peel.specs.Grammar.Stack.{Ending, Walk}
+use Rattle.ether_sll2.specs.LinuxSll2.{AcceptsLinuxSll2, protocol_of_header}
+use Rattle.ether_filter.specs.Expressions.{Expression, Holds}
 use Rattle.ether_text.specs.Lines.{spaced}
 use Rattle.ether_text.specs.WalkText.{AnswersWalk}
 use Rattle.ether_pcap.specs.Capture.{PacketValue, TimeValue}
 use Rattle.ether_capture.specs.LinuxSll2Lines.{AnswersLinuxSll2}
+use Rattle.ether_capture.specs.Options.{LinesValue}
 
 -- ---- what is walked through
 
@@ -48,6 +54,30 @@ is_unknown Unknown = true
 abbrev pub is_skipped : PacketValue → Bool
 is_skipped p = is_unknown (content_of p)
 
+-- ---- which packets a filter selects
+
+-- a filter's expression holds of the walk of a frame, of a packet with these lengths
+pub record HoldsOf (x : Expression) (next : Next) (frame : List ℕ) (captured original : ℕ) : Type 0 where
+  pub headers : List Header
+  pub ending : Ending
+  pub walk : Walk (record { next = next; limit = None }) frame headers ending
+  pub holds : Holds x (record { start = next; headers = headers; ending = ending; captured = captured; original = original })
+
+-- .. of what is walked of a packet; of cooked capture v2 that is its payload, if an ether type announces it
+abbrev pub SelectsContent : Expression → ContentValue → (captured original : ℕ) → Type 0
+SelectsContent x (Frame next bytes) captured original = HoldsOf x next bytes captured original
+SelectsContent x (LinuxSll2 bytes) captured original =
+    (n : ℕ) × AcceptsLinuxSll2 bytes × (told_ether_type (protocol_of_header bytes) ≡ Some n)
+    × HoldsOf x (EtherType n) (slice_range bytes 20 (length bytes)) captured original
+SelectsContent x Unknown captured original = ⊥
+
+-- a captured length stays at the greatest number of 32 bits
+abbrev pub captured_len : PacketValue → ℕ
+captured_len p = min (length p.packet) (2 ^ 32 - 1)
+
+abbrev pub Selects : Expression → PacketValue → Type 0
+Selects x p = SelectsContent x (content_of p) (captured_len p) p.original_len
+
 -- ---- the line of the packet
 
 -- a number below a thousand million as nine decimal digits
@@ -88,10 +118,20 @@ AnswersContent (LinuxSll2 bytes) text accepted = AnswersLinuxSll2 bytes text acc
 AnswersContent Unknown text accepted = (text ≡ []) × (accepted ≡ true)
 
 -- the text for a packet of this number
-pub record AnswersPacket (plain : Bool) (number : ℕ) (p : PacketValue) (text : List ℕ) (accepted : Bool) : Type 0 where
+pub record HasLines (plain : Bool) (number : ℕ) (p : PacketValue) (text : List ℕ) (accepted : Bool) : Type 0 where
   pub lines : List ℕ
   pub content : AnswersContent (content_of p) lines accepted
   pub whole : text ≡ packet_line_if plain number p ++ lines
+
+-- .. if no filter leaves it out
+abbrev pub AnswersChosen : (select : Option Expression) → (plain : Bool) → ℕ → PacketValue → (text : List ℕ) → (accepted : Bool) → Type 0
+AnswersChosen None plain number p text accepted = HasLines plain number p text accepted
+AnswersChosen (Some x) plain number p text accepted =
+    (Selects x p × HasLines plain number p text accepted) ⊎ ((Selects x p → ⊥) × (text ≡ []) × (accepted ≡ true))
+
+-- .. as it is asked for
+abbrev pub AnswersPacket : (asked : LinesValue) → ℕ → PacketValue → (text : List ℕ) → (accepted : Bool) → Type 0
+AnswersPacket asked number p text accepted = AnswersChosen asked.select asked.plain number p text accepted
 
 -- ---- the line after those of all packets
 

@@ -25,7 +25,7 @@ exit_status (Err Output) = 4
 exit_status (Err Memory) = 5
 
 abbrev pub usage_text : List ℕ
-usage_text = codes "usage: ether_capture [--plain] [FILE]"
+usage_text = codes "usage: ether_capture [--plain] [--select EXPR] [FILE]"
 
 -- what is said if memory was refused
 abbrev pub memory_text : List ℕ
@@ -49,13 +49,17 @@ abbrev pub fault_line_text : CaptureFault → List ℕ
 fault_line_text fault = codes "byte " ++ (decimal fault.offset ++ (codes ": " ++ (capture_error_text fault.error ++ hint_text fault.error)))
 
 abbrev pub help_text : List ℕ
-help_text = codes "usage: ether_capture [--plain] [FILE]\n\nPrints the link-layer headers of each packet of a capture, pcap or pcapng: FILE, or standard input.\n\n  --plain    leave out the lines of packets and the totals\n  --help     print this text\n  --version  print the version"
+help_text = codes "usage: ether_capture [--plain] [--select EXPR] [FILE]\n\nPrints the link-layer headers of each packet of a capture, pcap or pcapng: FILE, or standard input.\n\n  --plain        leave out the lines of packets and the totals\n  --select EXPR  only packets that match EXPR, in words of pcap-filter(7), as 'vlan 5 or arp'\n  --help         print this text\n  --version      print the version"
 
 abbrev pub version_text : List ℕ
 version_text = codes "ether_capture 1.0"
 
 abbrev pub not_opened_text : (name : List ℕ) → List ℕ
 not_opened_text name = name ++ codes ": can't be opened"
+
+-- the place from which the text of a filter is no expression
+abbrev pub no_filter_text : ℕ → List ℕ
+no_filter_text offset = codes "--select: byte " ++ (decimal offset ++ codes ": no expression")
 
 -- what the program prints last, without its line feed
 abbrev pub last_text : Outcome → Option (List ℕ)
@@ -68,6 +72,7 @@ last_text (outcomes.NotOpened name) = Some (not_opened_text (string_bytes name))
 last_text outcomes.Help = Some help_text
 last_text outcomes.Version = Some version_text
 last_text outcomes.Usage = Some usage_text
+last_text (outcomes.NoFilter error) = Some (no_filter_text error.offset)
 
 -- the exit status of the program, by whether its last line was printed: if not, output failed
 abbrev pub status_of_program : Outcome → (printed : Bool) → ℕ
@@ -77,6 +82,7 @@ status_of_program (outcomes.NotOpened name) true = exit_status (Err Input)
 status_of_program outcomes.Help true = 0
 status_of_program outcomes.Version true = 0
 status_of_program outcomes.Usage true = 2
+status_of_program (outcomes.NoFilter error) true = 2
 
 abbrev pub last_line_text : LastLine → List ℕ
 last_line_text (last_lines.Fault fault) = fault_line_text fault.now
@@ -85,3 +91,4 @@ last_line_text (last_lines.NotOpened name) = not_opened_text name.now
 last_line_text last_lines.Help = help_text
 last_line_text last_lines.Version = version_text
 last_line_text last_lines.Usage = usage_text
+last_line_text (last_lines.NoFilter offset) = no_filter_text offset

@@ -3,7 +3,7 @@ use Rattle.std.specs.Prelude.{◌≡◌, ◌⊎◌, ℕ, List, [], ◌++◌, cod
 use Rattle.std.specs.Io.KnownBytes.{Appends}
 use Rattle.ether_text.specs.Run.{IsEndless}
 use Rattle.ether_text.specs.declared.verdict.Verdict.{Verdict}
-use Rattle.ether_capture.specs.Options.{RequestValue, Capture, Help, Version, NamesRequest, NamesNothing}
+use Rattle.ether_capture.specs.Options.{LinesValue, RequestValue, Capture, Help, Version, NamesRequest, NamesNothing}
 use Rattle.ether_capture.specs.Run.{HasRun, OnStreamFault}
 use Rattle.ether_capture.specs.Outcome.{last_text, status_of_program}
 use Rattle.ether_capture.specs.declared.outcome.Outcome.{Outcome}
@@ -16,27 +16,27 @@ abbrev pub HasNoMemory : (before after held holds : Option (List ℕ)) → Resul
 HasNoMemory before after held holds outcome = (outcome ≡ Err Memory) × (after ≡ before) × (holds ≡ held)
 
 -- A capture was read, from before to after, and its lines are written. Only a stream that can fail has failed, or one that does not end.
-pub record HasRead (can_read can_write : Type 0) (plain : Bool) (before after held holds : Option (List ℕ)) (outcome : Result Verdict RunFault)
+pub record HasRead (can_read can_write : Type 0) (asked : LinesValue) (before after held holds : Option (List ℕ)) (outcome : Result Verdict RunFault)
     : Type 0 where
-  pub run : HasRun plain before after held holds outcome ⊎ HasNoMemory before after held holds outcome
+  pub run : HasRun asked before after held holds outcome ⊎ HasNoMemory before after held holds outcome
   pub failed : IfErr outcome (λ fault. OnStreamFault fault (can_read ⊎ IsEndless before after) can_write)
 
 -- The capture of this name was read; or it can't be opened, and nothing is written.
-abbrev pub HasReadFile : (has : List ℕ → Option (List ℕ) → Type 0) (can_refuse can_read can_write : Type 0) → (plain : Bool) → (name : List ℕ)
+abbrev pub HasReadFile : (has : List ℕ → Option (List ℕ) → Type 0) (can_refuse can_read can_write : Type 0) → (asked : LinesValue) → (name : List ℕ)
     → (held holds : Option (List ℕ)) → Outcome → Type 0
-HasReadFile has can_refuse can_read can_write plain name held holds (outcomes.Run outcome) =
-    (before after : Option (List ℕ)) × has name before × HasRead can_read can_write plain before after held holds outcome
-HasReadFile has can_refuse can_read can_write plain name held holds (outcomes.NotOpened named) =
+HasReadFile has can_refuse can_read can_write asked name held holds (outcomes.Run outcome) =
+    (before after : Option (List ℕ)) × has name before × HasRead can_read can_write asked before after held holds outcome
+HasReadFile has can_refuse can_read can_write asked name held holds (outcomes.NotOpened named) =
     (string_bytes named ≡ name) × can_refuse × (holds ≡ held)
-HasReadFile has can_refuse can_read can_write plain name held holds outcome = ⊥
+HasReadFile has can_refuse can_read can_write asked name held holds outcome = ⊥
 
 -- What is asked for was done. Standard input is read only if no file is named.
 abbrev pub HasAnswered : (has : List ℕ → Option (List ℕ) → Type 0) (can_fail can_refuse can_read can_write : Type 0) → RequestValue
     → (before after held holds : Option (List ℕ)) → Outcome → Type 0
-HasAnswered has can_fail can_refuse can_read can_write (Capture plain None) before after held holds (outcomes.Run outcome) =
-    HasRead can_fail can_write plain before after held holds outcome
-HasAnswered has can_fail can_refuse can_read can_write (Capture plain (Some name)) before after held holds outcome =
-    HasReadFile has can_refuse can_read can_write plain name held holds outcome × (after ≡ before)
+HasAnswered has can_fail can_refuse can_read can_write (Capture asked None) before after held holds (outcomes.Run outcome) =
+    HasRead can_fail can_write asked before after held holds outcome
+HasAnswered has can_fail can_refuse can_read can_write (Capture asked (Some name)) before after held holds outcome =
+    HasReadFile has can_refuse can_read can_write asked name held holds outcome × (after ≡ before)
 HasAnswered has can_fail can_refuse can_read can_write Help before after held holds outcomes.Help = (after ≡ before) × (holds ≡ held)
 HasAnswered has can_fail can_refuse can_read can_write Version before after held holds outcomes.Version = (after ≡ before) × (holds ≡ held)
 HasAnswered has can_fail can_refuse can_read can_write request before after held holds outcome = ⊥
@@ -46,6 +46,8 @@ HasAnswered has can_fail can_refuse can_read can_write request before after held
 abbrev pub HasObeyed : (has : List ℕ → Option (List ℕ) → Type 0) (can_fail can_refuse can_read can_write : Type 0) → Option (List (List ℕ))
     → (before after held holds : Option (List ℕ)) → Outcome → Type 0
 HasObeyed has can_fail can_refuse can_read can_write (Some words) before after held holds outcomes.Usage =
+    NamesNothing words × (after ≡ before) × (holds ≡ held)
+HasObeyed has can_fail can_refuse can_read can_write (Some words) before after held holds (outcomes.NoFilter error) =
     NamesNothing words × (after ≡ before) × (holds ≡ held)
 HasObeyed has can_fail can_refuse can_read can_write (Some words) before after held holds outcome =
     (request : RequestValue) × NamesRequest words request × HasAnswered has can_fail can_refuse can_read can_write request before after held holds outcome

@@ -8,6 +8,7 @@ use Rattle.ether_text.specs.Verdict.{verdict_of}
 use Rattle.ether_text.specs.Run.{AnswersAll, StopsIn, BreaksOffAfter, Stream, OnStream, IfNoStream}
 use Rattle.ether_text.specs.Run as streams
 use Rattle.ether_text.specs.declared.verdict.Verdict.{Verdict}
+use Rattle.ether_capture.specs.Options.{LinesValue}
 use Rattle.ether_capture.specs.FrameLines.{AnswersPacket, skip_count, totals_line_if}
 use Rattle.ether_capture.specs.Packets.{counted, GoesOn}
 use Rattle.ether_pcap.specs.declared.capture_fault.CaptureFault.{CaptureFault}
@@ -15,27 +16,27 @@ use Rattle.ether_capture.specs.declared.outcome.RunFault.{RunFault}
 use Rattle.ether_capture.specs.declared.outcome.RunFault.TheVariants.{Capture, Input, Output, Memory}
 
 -- this is the text for the packets in order, after so many before them, and all says that each is accepted
-abbrev pub AreAnswered : (plain : Bool) → (before : ℕ) → List PacketValue → (text : List ℕ) → (all : Bool) → Type 0
-AreAnswered plain before [] text all = (text ≡ []) × (all ≡ true)
-AreAnswered plain before (p ∷ packets) text all =
+abbrev pub AreAnswered : (asked : LinesValue) → (before : ℕ) → List PacketValue → (text : List ℕ) → (all : Bool) → Type 0
+AreAnswered asked before [] text all = (text ≡ []) × (all ≡ true)
+AreAnswered asked before (p ∷ packets) text all =
     (first : List ℕ) × (accepted : Bool) × (rest : List ℕ) × (others_accepted : Bool)
-    × AnswersPacket plain (counted (before + 1)) p first accepted × AreAnswered plain (before + 1) packets rest others_accepted
+    × AnswersPacket asked (counted (before + 1)) p first accepted × AreAnswered asked (before + 1) packets rest others_accepted
     × (text ≡ first ++ rest) × (all ≡ (accepted && others_accepted))
 
 -- the line after those of all packets
-abbrev pub totals_of : Bool → List PacketValue → List ℕ
-totals_of plain packets = totals_line_if plain (counted (length packets)) (counted (sum_by skip_count packets))
+abbrev pub totals_of : LinesValue → List PacketValue → List ℕ
+totals_of asked packets = totals_line_if asked.plain (counted (length packets)) (counted (sum_by skip_count packets))
 
 -- this is the text for all packets of the bytes, to their end, and for the totals
-pub record AnswersCapture (plain : Bool) (bytes text : List ℕ) (all_accepted : Bool) : Type 0 where
+pub record AnswersCapture (asked : LinesValue) (bytes text : List ℕ) (all_accepted : Bool) : Type 0 where
   pub packets : List PacketValue
   pub lines : List ℕ
   pub has : HasPackets Beginning bytes packets [] None
-  pub answered : AreAnswered plain 0 packets lines all_accepted
-  pub is_text : text ≡ lines ++ totals_of plain packets
+  pub answered : AreAnswered asked 0 packets lines all_accepted
+  pub is_text : text ≡ lines ++ totals_of asked packets
 
 -- this is the text for the packets of the bytes up to the fault, which is at this place
-pub record StopsAtFault (plain : Bool) (fault : CaptureFault) (bytes text : List ℕ) : Type 0 where
+pub record StopsAtFault (asked : LinesValue) (fault : CaptureFault) (bytes text : List ℕ) : Type 0 where
   pub packets : List PacketValue
   pub front : List ℕ
   pub rest : List ℕ
@@ -43,11 +44,11 @@ pub record StopsAtFault (plain : Bool) (fault : CaptureFault) (bytes text : List
   pub has : HasPackets Beginning bytes packets rest (Some (capture_refusal_view fault.error))
   pub place : bytes ≡ front ++ rest
   pub is_offset : fault.offset ≡ counted (length front)
-  pub answered : AreAnswered plain 0 packets text all_accepted
+  pub answered : AreAnswered asked 0 packets text all_accepted
 
 -- This is the text for the packets that come first in the bytes, whatever follows; what is left is not a whole unit, and more bytes may
 -- make it one: this holds of how many it needs at least.
-pub record EndsInUnit (Needs : Option ℕ → Type 0) (plain : Bool) (bytes text : List ℕ) : Type 0 where
+pub record EndsInUnit (Needs : Option ℕ → Type 0) (asked : LinesValue) (bytes text : List ℕ) : Type 0 where
   pub packets : List PacketValue
   pub expected : Expectation
   pub buffered : List ℕ
@@ -56,7 +57,7 @@ pub record EndsInUnit (Needs : Option ℕ → Type 0) (plain : Bool) (bytes text
   pub parts : GoesOn bytes packets expected buffered
   pub begun : Refuses buffered expected reason
   pub unfinished : Needs (required_len reason)
-  pub answered : AreAnswered plain 0 packets text all_accepted
+  pub answered : AreAnswered asked 0 packets text all_accepted
 
 -- this many bytes are needed, and more than there was memory for at first
 abbrev pub NeedsMemory : Option ℕ → Type 0
@@ -64,23 +65,23 @@ NeedsMemory None = ⊥
 NeedsMemory (Some n) = 65536 < n
 
 -- What a run has read and written, by its outcome. Of a fault of the writer nothing is said.
-abbrev pub HasRun : (plain : Bool) → (before after held holds : Option (List ℕ)) → Result Verdict RunFault → Type 0
-HasRun plain before after held holds (Ok verdict) = AnswersAll (AnswersCapture plain) before after held holds verdict
-HasRun plain before after held holds (Err (Capture fault)) = StopsIn (StopsAtFault plain fault) before after held holds
-HasRun plain before after held holds (Err Input) = BreaksOffAfter (EndsInUnit (λ n. n ≢ None) plain) before after held holds
-HasRun plain before after held holds (Err Output) = ⊤
-HasRun plain before after held holds (Err Memory) = BreaksOffAfter (EndsInUnit NeedsMemory plain) before after held holds
+abbrev pub HasRun : (asked : LinesValue) → (before after held holds : Option (List ℕ)) → Result Verdict RunFault → Type 0
+HasRun asked before after held holds (Ok verdict) = AnswersAll (AnswersCapture asked) before after held holds verdict
+HasRun asked before after held holds (Err (Capture fault)) = StopsIn (StopsAtFault asked fault) before after held holds
+HasRun asked before after held holds (Err Input) = BreaksOffAfter (EndsInUnit (λ n. n ≢ None) asked) before after held holds
+HasRun asked before after held holds (Err Output) = ⊤
+HasRun asked before after held holds (Err Memory) = BreaksOffAfter (EndsInUnit NeedsMemory asked) before after held holds
 
 -- What a run over a slice of these bytes has written, by its outcome. There is no fault of the reader, and one of the writer only if that can fail.
-abbrev pub AnswersSlice : (plain : Bool) → (can_fail : Type 0) → (bytes : List ℕ) → (held holds : Option (List ℕ)) → Result Verdict RunFault → Type 0
-AnswersSlice plain can_fail bytes held holds (Ok verdict) =
-    (text : List ℕ) × (all : Bool) × AnswersCapture plain bytes text all × (verdict ≡ verdict_of all) × Appends held holds text
-AnswersSlice plain can_fail bytes held holds (Err (Capture fault)) =
-    (text : List ℕ) × StopsAtFault plain fault bytes text × Appends held holds text
-AnswersSlice plain can_fail bytes held holds (Err Input) = ⊥
-AnswersSlice plain can_fail bytes held holds (Err Output) = can_fail
-AnswersSlice plain can_fail bytes held holds (Err Memory) =
-    (taken left text : List ℕ) × (bytes ≡ taken ++ left) × EndsInUnit NeedsMemory plain taken text × Appends held holds text
+abbrev pub AnswersSlice : (asked : LinesValue) → (can_fail : Type 0) → (bytes : List ℕ) → (held holds : Option (List ℕ)) → Result Verdict RunFault → Type 0
+AnswersSlice asked can_fail bytes held holds (Ok verdict) =
+    (text : List ℕ) × (all : Bool) × AnswersCapture asked bytes text all × (verdict ≡ verdict_of all) × Appends held holds text
+AnswersSlice asked can_fail bytes held holds (Err (Capture fault)) =
+    (text : List ℕ) × StopsAtFault asked fault bytes text × Appends held holds text
+AnswersSlice asked can_fail bytes held holds (Err Input) = ⊥
+AnswersSlice asked can_fail bytes held holds (Err Output) = can_fail
+AnswersSlice asked can_fail bytes held holds (Err Memory) =
+    (taken left text : List ℕ) × (bytes ≡ taken ++ left) × EndsInUnit NeedsMemory asked taken text × Appends held holds text
 
 -- ---- what is said of each outcome
 

@@ -1,12 +1,17 @@
 //! Writes the lines of a captured packet.
-ghost use Rattle.std.specs.Prelude.{◌≡◌, ◌<◌, ◌≤◌, ◌+◌, ◌/◌, ◌%◌, ◌^◌, ◌++◌, codes, Some};
+ghost use Rattle.std.specs.Prelude.{◌≡◌, ◌↔◌, ◌<◌, ◌≤◌, ◌+◌, ◌/◌, ◌%◌, ◌^◌, ◌++◌, codes, Some, IsTrue};
 ghost use Rattle.std.specs.Option.{option_map};
 ghost use Rattle.ether_pcap.specs.CaptureViews.{captured_packet_view, timestamp_view};
+ghost use Rattle.ether_peel.specs.Walker.Start.{next_of};
+ghost use Rattle.ether_filter.specs.Postfix.{expression_of};
 ghost use Rattle.ether_text.specs.OutputBuffer.{Takes, TakesAnswer};
-ghost use Rattle.ether_capture.specs.FrameLines.{is_cut, is_skipped, fcs_len, has_fcs, without_fcs, content_of, is_unknown, nine_digits, time_text, mark, packet_line_if, AnswersPacket, totals_line_if};
+ghost use Rattle.ether_capture.specs.FrameLines.{is_cut, is_skipped, fcs_len, has_fcs, without_fcs, content_of, is_unknown, nine_digits, time_text, mark, packet_line_if, captured_len, AnswersPacket, HasLines, HoldsOf, Selects, totals_line_if};
 ghost use Rattle.ether_capture.specs.ContentViews.{content_view};
+ghost use Rattle.ether_capture.specs.Options.{lines_view};
 
-use crate::linux_sll2_lines::write_linux_sll2;
+use crate::linux_sll2_lines::{payload_of, write_linux_sll2};
+use crate::options::Lines;
+use ether_filter::{Filter, Packet};
 use ether_pcap::{CapturedPacket, LinkType, Timestamp};
 use ether_peel::Start;
 use ether_text::{OutputBuffer, Sink, eight_digits, write_decimal, write_walk_after};
@@ -14,19 +19,71 @@ use ether_text::{OutputBuffer, Sink, eight_digits, write_decimal, write_walk_aft
 /// The length in bytes of the frame check sequence of Ethernet.
 const FCS_LEN: usize = 4;
 
-/// Writes the line of a packet unless `is_plain`, and the lines of the walk through its headers. Returns whether the walk ends in no fault.
+/// Writes the line of a packet unless the lines of walks alone are asked for, and those of the walk through its headers; nothing if
+/// the filter leaves it out. Returns whether the walk ends in no fault.
 ///
 /// A packet of another link type than Ethernet and Linux cooked capture is skipped: it has no lines of a walk.
+#[inline(always)]
 pub fn write_packet<W: Sink>(
-    is_plain: bool,
+    asked: &Lines,
     number: usize,
     packet: &CapturedPacket<'_>,
     out: &mut OutputBuffer<'_, W>,
 ) -> bool
-    ensures { TakesAnswer W.contents W.can_fail (AnswersPacket is_plain number (captured_packet_view packet.now))
+    ensures { TakesAnswer W.contents W.can_fail (AnswersPacket (lines_view asked.now) number (captured_packet_view packet.now))
         out.old out.new result }
 {
     let content = walked(packet);
+    if let Some(filter) = &asked.filter {
+        if !selects(filter, content, packet) {
+            return true;
+        }
+    }
+    write_lines(asked.is_plain, number, packet, content, out)
+}
+
+/// Whether a filter selects a packet.
+#[inline(never)]
+fn selects(filter: &Filter, content: Content<'_>, packet: &CapturedPacket<'_>) -> bool
+    requires { content_view content ≡ content_of (captured_packet_view packet.now) }
+    ensures { IsTrue result ↔ Selects (expression_of filter.now) (captured_packet_view packet.now) }
+{
+    match content {
+        Content::Frame(start, bytes) => holds(filter, start, bytes, packet),
+        Content::LinuxSll2(bytes) => match payload_of(bytes) {
+            Some((start, payload)) => holds(filter, start, payload, packet),
+            None => false,
+        },
+        Content::Unknown => false,
+    }
+}
+
+/// Whether a filter's expression holds of the walk of a packet.
+fn holds(filter: &Filter, start: Start, frame: &[u8], packet: &CapturedPacket<'_>) -> bool
+    ensures { IsTrue result ↔ HoldsOf (expression_of filter.now) (next_of start) frame.now
+        (captured_len (captured_packet_view packet.now)) packet.now.original_len }
+{
+    filter.matches(&Packet {
+        start,
+        frame,
+        captured_len: packet.packet.len().min(0xFFFF_FFFF) as u32,
+        original_len: packet.original_len,
+    })
+}
+
+/// Writes the line of a packet unless `is_plain`, and the lines of the walk through its headers. Returns whether the walk ends in no fault.
+#[inline(always)]
+fn write_lines<W: Sink>(
+    is_plain: bool,
+    number: usize,
+    packet: &CapturedPacket<'_>,
+    content: Content<'_>,
+    out: &mut OutputBuffer<'_, W>,
+) -> bool
+    requires { content_view content ≡ content_of (captured_packet_view packet.now) }
+    ensures { TakesAnswer W.contents W.can_fail (HasLines is_plain number (captured_packet_view packet.now))
+        out.old out.new result }
+{
     write_packet_line(is_plain, number, packet, content, out);
     let (header_len, start, bytes) = match content {
         Content::Frame(start, bytes) => (0, start, bytes),

@@ -1,5 +1,6 @@
 //! How far a run has come.
 use crate::frame_lines::{is_skipped, write_packet, write_totals};
+use crate::options::Lines;
 use crate::outcome::RunFault;
 use ether_pcap::{CaptureError, CaptureFault, CaptureReader, CaptureUnit};
 use ether_text::{OutputBuffer, Sink, Verdict};
@@ -22,6 +23,7 @@ impl FrameLoop {
     ghost use Rattle.ether_pcap.specs.Capture.{Beginning};
     ghost use Rattle.ether_text.specs.OutputBuffer.{contents_of, Marks};
     ghost use Rattle.ether_capture.specs.FrameLoop.{IsStart, TakesUnit, TakesUnits};
+    ghost use Rattle.ether_capture.specs.Options.{lines_view};
     ghost use Rattle.ether_capture.specs.Packets.{counted};
     ghost use Rattle.ether_capture.specs.FrameLines.{totals_line_if};
     ghost use Rattle.ether_capture.specs.Run.{IsOutput};
@@ -43,13 +45,13 @@ impl FrameLoop {
     /// what is left does not begin with a unit.
     pub fn take_units<W: Sink>(
         &mut self,
-        is_plain: bool,
+        asked: &Lines,
         bytes: &[u8],
         out: &mut OutputBuffer<'_, W>,
     ) -> Result<(usize, CaptureError), RunFault>
         ensures same_writer { out.new.writer.ghost_name ≡ out.old.writer.ghost_name }
         ensures within { IfOk result (λ found. found.0 ≤ length bytes.now) }
-        ensures ok { IfOk result (λ found. TakesUnits is_plain W.contents bytes.now
+        ensures ok { IfOk result (λ found. TakesUnits (lines_view asked.now) W.contents bytes.now
             self.old out.old found.0 found.1 self.new out.new) }
         ensures fault { IfErr result IsOutput }
         ensures failed { IfErr result (λ fault. out.new.has_failed ≡ true) }
@@ -59,7 +61,7 @@ impl FrameLoop {
         loop {
             match self.reader.read(rest) {
                 Ok(unit) => {
-                    self.take_unit(is_plain, &unit, out)?;
+                    self.take_unit(asked, &unit, out)?;
                     rest = &rest[unit.len..];
                 }
                 Err(error) => return Ok((bytes.len() - rest.len(), error)),
@@ -70,12 +72,12 @@ impl FrameLoop {
     /// Counts a unit, and writes the text for its packet, if it is one.
     fn take_unit<W: Sink>(
         &mut self,
-        is_plain: bool,
+        asked: &Lines,
         unit: &CaptureUnit<'_>,
         out: &mut OutputBuffer<'_, W>,
     ) -> Result<(), RunFault>
         ensures same_writer { out.new.writer.ghost_name ≡ out.old.writer.ghost_name }
-        ensures ok { OnOk result (TakesUnit is_plain W.contents unit.now.len
+        ensures ok { OnOk result (TakesUnit (lines_view asked.now) W.contents unit.now.len
             (option_map captured_packet_view unit.now.packet) self.old out.old self.new out.new) }
         ensures fault { IfErr result IsOutput }
         ensures failed { IfErr result (λ fault. out.new.has_failed ≡ true) }
@@ -86,7 +88,7 @@ impl FrameLoop {
             return Ok(());
         };
         self.count = self.count.saturating_add(1);
-        let accepted = write_packet(is_plain, self.count, packet, out);
+        let accepted = write_packet(asked, self.count, packet, out);
         out.check()?;
         self.verdict = self.verdict.with(accepted);
         self.skipped = self.skipped.saturating_add(usize::from(is_skipped(packet)));

@@ -3,6 +3,7 @@ ghost use Rattle.std.specs.Prelude.{◌≡◌};
 ghost use Rattle.std.specs.Option.{option_map};
 ghost use Rattle.ether_capture.specs.Outcome.{exit_status, hint_text, magic_hint_text, last_line_text, last_text, status_of_program};
 
+use ether_filter::FilterError;
 use ether_pcap::{CaptureError, CaptureFault, FileHeaderError};
 use ether_text::{InputFault, OutputFault, Verdict};
 use std::alloc::AllocError;
@@ -104,14 +105,16 @@ pub enum Outcome {
     Version,
     /// The arguments are wrong.
     Usage,
+    /// The text of the filter is no expression.
+    NoFilter(FilterError),
 }
 
 /// The line that is printed if the arguments are wrong, without its LF.
-pub const USAGE: &str = "usage: ether_capture [--plain] [FILE]";
+pub const USAGE: &str = "usage: ether_capture [--plain] [--select EXPR] [FILE]";
 
 /// What `--help` prints, without its last LF.
 pub const HELP: &str =
-    "usage: ether_capture [--plain] [FILE]\n\nPrints the link-layer headers of each packet of a capture, pcap or pcapng: FILE, or standard input.\n\n  --plain    leave out the lines of packets and the totals\n  --help     print this text\n  --version  print the version";
+    "usage: ether_capture [--plain] [--select EXPR] [FILE]\n\nPrints the link-layer headers of each packet of a capture, pcap or pcapng: FILE, or standard input.\n\n  --plain        leave out the lines of packets and the totals\n  --select EXPR  only packets that match EXPR, in words of pcap-filter(7), as 'vlan 5 or arp'\n  --help         print this text\n  --version      print the version";
 
 /// What `--version` prints, without its LF.
 pub const VERSION: &str = "ether_capture 1.0";
@@ -131,6 +134,8 @@ pub enum LastLine<'a> {
     Version,
     /// The arguments are wrong.
     Usage,
+    /// From this place on the text of the filter is no expression.
+    NoFilter(usize),
 }
 
 impl fmt::Display for LastLine<'_> {
@@ -152,6 +157,7 @@ impl fmt::Display for LastLine<'_> {
             LastLine::Help => write!(f, "{HELP}"),
             LastLine::Version => write!(f, "{VERSION}"),
             LastLine::Usage => write!(f, "{USAGE}"),
+            LastLine::NoFilter(offset) => write!(f, "--select: byte {offset}: no expression"),
         }
     }
 }
@@ -168,6 +174,7 @@ pub fn last_line(outcome: &Outcome) -> Option<LastLine<'_>>
         Outcome::Help => Some(LastLine::Help),
         Outcome::Version => Some(LastLine::Version),
         Outcome::Usage => Some(LastLine::Usage),
+        Outcome::NoFilter(error) => Some(LastLine::NoFilter(error.offset)),
     }
 }
 
@@ -183,6 +190,6 @@ pub fn program_status(outcome: &Outcome, is_printed: bool) -> u8
         Outcome::Run(outcome) => status_of(outcome),
         Outcome::NotOpened(_) => status_of(&Err(RunFault::Input)),
         Outcome::Help | Outcome::Version => 0,
-        Outcome::Usage => 2,
+        Outcome::Usage | Outcome::NoFilter(_) => 2,
     }
 }

@@ -2,12 +2,13 @@
 ghost use Rattle.std.specs.Prelude.{◌≡◌, ◌⊎◌, IfErr, string_bytes};
 ghost use Rattle.ether_text.specs.Arguments.{words_of};
 ghost use Rattle.ether_text.specs.Run.{IsEndless};
+ghost use Rattle.ether_capture.specs.Options.{lines_view};
 ghost use Rattle.ether_capture.specs.Program.{HasNoMemory, HasObeyed, HasReadFile, HasServed, PrintsLast};
 ghost use Rattle.ether_capture.specs.Run.{HasRun, OnStreamFault};
 
 use crate::captures::Captures;
 use crate::input_buffer::InputBuffer;
-use crate::options::{Request, Usage, request_of_args};
+use crate::options::{Lines, Request, RequestError, request_of_args};
 use crate::outcome::{Outcome, RunFault, last_line, program_status};
 use crate::run::run;
 use ether_text::{Sink, Source, Verdict};
@@ -48,49 +49,42 @@ fn obey<C: Captures, R: Source, W: Sink>(
         return Outcome::Run(Err(RunFault::Input));
     };
     match request_of_args(args) {
-        Ok(
-            Request::Capture {
-                is_plain,
-                file: None,
-            },
-        ) => Outcome::Run(read_input(is_plain, alloc, reader, writer)),
-        Ok(
-            Request::Capture {
-                is_plain,
-                file: Some(name),
-            },
-        ) => read_file(is_plain, name, alloc, captures, writer),
+        Ok(Request::Capture(asked, file)) => match file {
+            None => Outcome::Run(read_input(&asked, alloc, reader, writer)),
+            Some(name) => read_file(&asked, name, alloc, captures, writer),
+        },
         Ok(Request::Help) => Outcome::Help,
         Ok(Request::Version) => Outcome::Version,
-        Err(Usage) => Outcome::Usage,
+        Err(RequestError::Usage) => Outcome::Usage,
+        Err(RequestError::Filter(error)) => Outcome::NoFilter(error),
     }
 }
 
 /// Writes the lines of the capture of a name.
 fn read_file<C: Captures, W: Sink>(
-    is_plain: bool,
+    asked: &Lines,
     name: String,
     alloc: Global,
     captures: &C,
     writer: &mut W,
 ) -> Outcome
-    ensures { HasReadFile (C.has captures.now) C.can_refuse C.Input.Source.can_fail W.can_fail is_plain (string_bytes name)
+    ensures { HasReadFile (C.has captures.now) C.can_refuse C.Input.Source.can_fail W.can_fail (lines_view asked.now) (string_bytes name)
         (W.contents writer.old) (W.contents writer.new) result }
 {
     match captures.open_named(name.as_str()) {
-        Ok(mut input) => Outcome::Run(read_input(is_plain, alloc, &mut input, writer)),
+        Ok(mut input) => Outcome::Run(read_input(asked, alloc, &mut input, writer)),
         Err(_) => Outcome::NotOpened(name),
     }
 }
 
 /// Writes the lines of a capture.
 fn read_input<R: Source, W: Sink>(
-    is_plain: bool,
+    asked: &Lines,
     alloc: Global,
     reader: &mut R,
     writer: &mut W,
 ) -> Result<Verdict, RunFault>
-    ensures run { HasRun is_plain (R.remaining reader.old) (R.remaining reader.new)
+    ensures run { HasRun (lines_view asked.now) (R.remaining reader.old) (R.remaining reader.new)
         (W.contents writer.old) (W.contents writer.new) result
         ⊎ HasNoMemory (R.remaining reader.old) (R.remaining reader.new)
         (W.contents writer.old) (W.contents writer.new) result }
@@ -98,7 +92,7 @@ fn read_input<R: Source, W: Sink>(
         (R.can_fail ⊎ IsEndless (R.remaining reader.old) (R.remaining reader.new)) W.can_fail) }
 {
     match InputBuffer::new(alloc) {
-        Ok(buffer) => run(is_plain, buffer, reader, writer),
+        Ok(buffer) => run(asked, buffer, reader, writer),
         Err(_) => Err(RunFault::Memory),
     }
 }

@@ -6,10 +6,12 @@ ghost use Rattle.ether_text.specs.OutputBuffer.{contents_of, Marks};
 ghost use Rattle.ether_text.specs.Run.{IsEndless};
 ghost use Rattle.ether_capture.specs.FrameLoop.{LeavesRest};
 ghost use Rattle.ether_capture.specs.InputBuffer.{items};
+ghost use Rattle.ether_capture.specs.Options.{lines_view};
 ghost use Rattle.ether_capture.specs.Run.{AnswersSlice, HasRun, IfSettled, IsOutput, OnInput, OnStreamFault};
 
 use crate::frame_loop::FrameLoop;
 use crate::input_buffer::InputBuffer;
+use crate::options::Lines;
 use crate::outcome::RunFault;
 use ether_pcap::CaptureError;
 use ether_text::{InputReader, OutputBuffer, Sink, SliceSource, Source, Verdict};
@@ -24,12 +26,12 @@ use ether_text::{InputReader, OutputBuffer, Sink, SliceSource, Source, Verdict};
 /// The memory of `buffer` grows to what the longest record or block needs, 16 MiB at most. If that is refused, the run stops with
 /// [`RunFault::Memory`].
 pub fn run<R: Source, W: Sink>(
-    is_plain: bool,
+    asked: &Lines,
     buffer: InputBuffer,
     reader: &mut R,
     writer: &mut W,
 ) -> Result<Verdict, RunFault>
-    ensures run { HasRun is_plain (R.remaining reader.old) (R.remaining reader.new)
+    ensures run { HasRun (lines_view asked.now) (R.remaining reader.old) (R.remaining reader.new)
         (W.contents writer.old) (W.contents writer.new) result }
     ensures failed { IfErr result (λ fault. OnStreamFault fault
         (R.can_fail ⊎ IsEndless (R.remaining reader.old) (R.remaining reader.new)) W.can_fail) }
@@ -37,34 +39,34 @@ pub fn run<R: Source, W: Sink>(
 {
     let mut input = InputReader::new(reader);
     let mut out = OutputBuffer::new(writer);
-    answer_capture(is_plain, buffer, &mut input, &mut out)
+    answer_capture(asked, buffer, &mut input, &mut out)
 }
 
 /// Does as [`run`] on a capture that is a slice. No read can fail, so the outcome is never [`RunFault::Input`].
 pub fn run_slice<W: Sink>(
-    is_plain: bool,
+    asked: &Lines,
     buffer: InputBuffer,
     capture: &[u8],
     writer: &mut W,
 ) -> Result<Verdict, RunFault>
-    ensures run { AnswersSlice is_plain W.can_fail capture.now (W.contents writer.old) (W.contents writer.new) result }
+    ensures run { AnswersSlice (lines_view asked.now) W.can_fail capture.now (W.contents writer.old) (W.contents writer.new) result }
     ensures flushed { IfSettled result (W.is_flushed writer.new) }
 {
     let mut source = SliceSource::new(capture);
-    run(is_plain, buffer, &mut source, writer)
+    run(asked, buffer, &mut source, writer)
 }
 
 /// Reads the capture to its end, and writes the text and flushes it. After a fault of the reader or the writer neither is called
 /// again.
 fn answer_capture<R: Source, W: Sink>(
-    is_plain: bool,
+    asked: &Lines,
     buffer: InputBuffer,
     input: &mut InputReader<'_, R>,
     out: &mut OutputBuffer<'_, W>,
 ) -> Result<Verdict, RunFault>
     ensures same_reader { input.new.inner.ghost_name ≡ input.old.inner.ghost_name }
     ensures same_writer { out.new.writer.ghost_name ≡ out.old.writer.ghost_name }
-    ensures run { HasRun is_plain (R.remaining input.old.inner.now) (R.remaining input.new.inner.now)
+    ensures run { HasRun (lines_view asked.now) (R.remaining input.old.inner.now) (R.remaining input.new.inner.now)
         (contents_of W.contents out.old) (W.contents out.new.writer.now) result }
     ensures failed { IfErr result
         (λ fault. OnStreamFault fault (input.new.has_failed ≡ true) (out.new.has_failed ≡ true)) }
@@ -72,7 +74,7 @@ fn answer_capture<R: Source, W: Sink>(
     ensures marks { Marks W.can_fail out.old out.new }
     ensures flushed { IfSettled result (W.is_flushed out.new.writer.now) }
 {
-    let outcome = read_capture(is_plain, buffer, input, out);
+    let outcome = read_capture(asked, buffer, input, out);
     if let Ok(_) | Err(RunFault::Capture(_) | RunFault::Memory) = outcome {
         out.flush()?;
     }
@@ -81,14 +83,14 @@ fn answer_capture<R: Source, W: Sink>(
 
 /// Reads the capture to its end, and gathers the text. What is gathered is written out before each read.
 fn read_capture<R: Source, W: Sink>(
-    is_plain: bool,
+    asked: &Lines,
     buffer: InputBuffer,
     input: &mut InputReader<'_, R>,
     out: &mut OutputBuffer<'_, W>,
 ) -> Result<Verdict, RunFault>
     ensures same_reader { input.new.inner.ghost_name ≡ input.old.inner.ghost_name }
     ensures same_writer { out.new.writer.ghost_name ≡ out.old.writer.ghost_name }
-    ensures run { HasRun is_plain (R.remaining input.old.inner.now) (R.remaining input.new.inner.now)
+    ensures run { HasRun (lines_view asked.now) (R.remaining input.old.inner.now) (R.remaining input.new.inner.now)
         (contents_of W.contents out.old) (contents_of W.contents out.new) result }
     ensures none_waits { IfErr result (λ fault. OnInput fault (out.new.waiting.items ≡ [])) }
     ensures failed { IfErr result
@@ -100,7 +102,7 @@ fn read_capture<R: Source, W: Sink>(
     let mut buffer = buffer;
     buffer.clear();
     loop {
-        let error = take_buffered(is_plain, &mut frames, &mut buffer, out)?;
+        let error = take_buffered(asked, &mut frames, &mut buffer, out)?;
         let Some(required_len) = error.required_len() else {
             return Err(frames.fault(error));
         };
@@ -108,7 +110,7 @@ fn read_capture<R: Source, W: Sink>(
         buffer.make_room(required_len)?;
         if buffer.read(input, out)? == 0 {
             if is_over(&frames, &buffer) {
-                return frames.finish(is_plain, out);
+                return frames.finish(asked.is_plain, out);
             }
             return Err(frames.fault(error));
         }
@@ -118,19 +120,19 @@ fn read_capture<R: Source, W: Sink>(
 /// Takes the units at the front of the buffer, and writes the text for each packet. Returns why what is left does not begin with
 /// a unit.
 fn take_buffered<W: Sink>(
-    is_plain: bool,
+    asked: &Lines,
     frames: &mut FrameLoop,
     buffer: &mut InputBuffer,
     out: &mut OutputBuffer<'_, W>,
 ) -> Result<CaptureError, RunFault>
     ensures same_writer { out.new.writer.ghost_name ≡ out.old.writer.ghost_name }
-    ensures ok { IfOk result (λ error. LeavesRest is_plain W.contents (items buffer.old) frames.old out.old
+    ensures ok { IfOk result (λ error. LeavesRest (lines_view asked.now) W.contents (items buffer.old) frames.old out.old
         (items buffer.new) error frames.new out.new) }
     ensures fault { IfErr result IsOutput }
     ensures failed { IfErr result (λ fault. out.new.has_failed ≡ true) }
     ensures marks { Marks W.can_fail out.old out.new }
 {
-    let (taken, error) = frames.take_units(is_plain, buffer.as_slice(), out)?;
+    let (taken, error) = frames.take_units(asked, buffer.as_slice(), out)?;
     buffer.consume(taken);
     Ok(error)
 }

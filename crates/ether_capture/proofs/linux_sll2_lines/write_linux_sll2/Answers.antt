@@ -1,11 +1,8 @@
-use Rattle.std.proofs.Common.{◌≡◌, ℕ, List, [], ◌∷◌, ◌++◌, length, Option, Some, None, true, refl, sym, ap, subst, ◌∙◌}
+use Rattle.std.proofs.Common.{◌≡◌, ℕ, List, [], ◌∷◌, ◌++◌, length, Option, None, true, refl, sym, ap, subst, ◌∙◌}
 use Rattle.std.specs.Prelude.{codes}
 use Rattle.std.specs.Fmt.{decimal}
-use Rattle.std.specs.Option.{option_map}
 use Rattle.ether_base.specs.Formats.LinuxSllProtocolType.{told_ether_type}
 use Rattle.ether_base.specs.declared.linux_sll_protocol_type.LinuxSllProtocolType.{LinuxSllProtocolType}
-use Rattle.ether_peel.specs.declared.start.Start.{Start}
-use Rattle.ether_peel.specs.declared.start.Start.TheVariants as starts
 use Rattle.ether_peel.specs.Walker.Start.{next_of}
 use Rattle.ether_sll2.specs.LinuxSll2.{linux_sll2_of, AcceptsLinuxSll2, protocol_of_header}
 use Rattle.ether_sll2.specs.Views.{refusal_view}
@@ -14,17 +11,8 @@ use Rattle.ether_text.specs.ViewLines.{rest_view_text}
 use Rattle.ether_text.specs.OutputBuffer.{Takes, TakesAnswer}
 use Rattle.ether_text.proofs.OutputBufferLemmas.{Takes-then, Takes-same}
 use Rattle.ether_capture.specs.LinuxSll2Lines.{AnswersLinuxSll2, AnswersPayload, BeginsWalk, read, refused, linux_sll2_text, linux_sll2_fault_text}
+use Rattle.ether_capture.proofs.LinuxSll2LinesLemmas.{none_of, started}
 use Rattle.ether_capture.proofs.linux_sll2_lines.write_linux_sll2.Goals as goal
-
-none_of : {A : Type 0} (f : ℕ → A) (o : Option ℕ) → option_map f o ≡ None → o ≡ None
-none_of f None e = refl
-none_of f (Some n) e = absurd cc
-
--- what the ether type announces, by the start of a walk
-started : (o : Option ℕ) (start : Start) → option_map (λ n. starts.EtherType (record { 0 = n })) o ≡ Some start
-    → (n : ℕ) × (o ≡ Some n) × (start ≡ starts.EtherType (record { 0 = n }))
-started None start e = absurd cc
-started (Some n) start e = let s : starts.EtherType (record { 0 = n }) ≡ start = cc in (n, refl, sym s)
 
 pub returns-in-Err-clause-ended : goal.returns-in-Err-clause-ended
 returns-in-Err-clause-ended g c =

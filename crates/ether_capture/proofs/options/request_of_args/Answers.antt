@@ -1,8 +1,10 @@
-use Rattle.std.proofs.Common.{ℕ, List, None, false, map, ap, sym, subst, ◌∙◌}
+use Rattle.std.proofs.Common.{ℕ, List, None, map, ap, sym, subst, ◌∙◌}
 use Rattle.std.specs.Prelude.{string_bytes}
 use Rattle.std.specs.Option.{is_some}
+use Rattle.std.specs.Vec.Iter.{into_iter_items}
+use Rattle.ether_text.specs.Arguments.{words_after}
 use Rattle.ether_text.proofs.ArgumentsLemmas.{words_after-name, words_end}
-use Rattle.ether_capture.specs.Options.{Capture, NamesRequest, no_word}
+use Rattle.ether_capture.specs.Options.{Capture, NamesRequest, request_view, all_lines, no_word}
 use Rattle.ether_capture.proofs.options.request_of_args.Goals as goal
 
 pub returns-in_default-clause-ok : goal.returns-in_default-clause-ok
@@ -13,4 +15,5 @@ returns-in_default-clause-ok c =
     let is =
     words_after-name c.args.args c.next-program.new.self c.next-program.result c.next-program.ensures.cases
     ∙ ap (map string_bytes) none in
-    subst (λ (words : List (List ℕ)). NamesRequest words (Capture false None)) (sym is) no_word
+    subst (NamesRequest (words_after (into_iter_items c.args.args))) (sym (ap request_view c.capture.ensures))
+    (subst (λ (words : List (List ℕ)). NamesRequest words (Capture all_lines None)) (sym is) no_word)

@@ -5,6 +5,7 @@ use Rattle.ether_text.specs.OutputBuffer.{contents_of}
 use Rattle.ether_text.proofs.KnownBytesLemmas.{Consumes-none, Consumes-then}
 use Rattle.ether_text.proofs.InputReaderLemmas.{ReadsOn-none, ReadsOn-then, read_stops}
 use Rattle.ether_text.proofs.OutputBufferLemmas.{Marks-none, Marks-then}
+use Rattle.ether_capture.specs.Options.{lines_view}
 use Rattle.ether_capture.specs.InputBuffer.{items}
 use Rattle.ether_capture.specs.FrameLoop.{Reached}
 use Rattle.ether_capture.proofs.FrameLoopLemmas.{Reached-start, Reached-more, Reached-written_out}
@@ -25,17 +26,17 @@ loop-buffer-init g c = (
     reached =
         subst
         (λ (l : List ℕ).
-        Reached c.args.is_plain g.W.Sink.contents (contents_of g.W.Sink.contents c.args.out.now) [] l
+        Reached (lines_view c.args.asked.now) g.W.Sink.contents (contents_of g.W.Sink.contents c.args.out.now) [] l
         c.new-frames.result c.args.out.now)
         (sym c.clear.ensures)
-        (Reached-start c.args.is_plain g.W.Sink.contents c.new-frames.result c.args.out.now c.new-frames.ensures);
+        (Reached-start (lines_view c.args.asked.now) g.W.Sink.contents c.new-frames.result c.args.out.now c.new-frames.ensures);
   },
 )
 
 pub returns-in_default-clause-run : goal.returns-in_default-clause-run
 returns-in_default-clause-run g c =
     let (taken, so_far) = c.loop-buffer.invariant in
-    let plain = c.args.is_plain in
+    let asked = lines_view c.args.asked.now in
     let contents = g.W.Sink.contents in
     let held = contents_of contents c.args.out.now in
     let before = g.R.Source.remaining c.args.input.now.inner.now in
@@ -44,14 +45,14 @@ returns-in_default-clause-run g c =
     let at = c.take_buffered.new.frames in
     let rest = c.in_ok-error.ensures.ok in
     let reached = rest.reached held taken so_far.reached in
-    stopped_for_good plain contents before mid held taken left at c.take_buffered.new.out c.in_ok-error.error
+    stopped_for_good asked contents before mid held taken left at c.take_buffered.new.out c.in_ok-error.error
     c.fault.result c.fault.ensures so_far.read
     rest.refused (search rules) reached
 
 pub returns-in_err-make_room-clause-run : goal.returns-in_err-make_room-clause-run
 returns-in_err-make_room-clause-run g c =
     let (taken, so_far) = c.loop-buffer.invariant in
-    let plain = c.args.is_plain in
+    let asked = lines_view c.args.asked.now in
     let contents = g.W.Sink.contents in
     let held = contents_of contents c.args.out.now in
     let before = g.R.Source.remaining c.args.input.now.inner.now in
@@ -62,9 +63,9 @@ returns-in_err-make_room-clause-run g c =
     let reached = rest.reached held taken so_far.reached in
     let out = c.write_out.new.self in
     let flushed =
-    Reached-written_out plain contents held taken left at c.take_buffered.new.out out
+    Reached-written_out asked contents held taken left at c.take_buffered.new.out out
     c.in_ok-write_out.ensures.ok reached in
-    without_memory plain contents before mid held c.from_residual-in_err-make_room.result taken left at out
+    without_memory asked contents before mid held c.from_residual-in_err-make_room.result taken left at out
     (capture_refusal_view c.in_ok-error.error) c.in-Some.required_len
     c.from_residual-in_err-make_room.ensures.1 so_far.read rest.refused (search rules) c.in_err-make_room.ensures.failed
     flushed
@@ -72,7 +73,7 @@ returns-in_err-make_room-clause-run g c =
 pub returns-in_err-read-clause-run : goal.returns-in_err-read-clause-run
 returns-in_err-read-clause-run g c =
     let (taken, so_far) = c.loop-buffer.invariant in
-    let plain = c.args.is_plain in
+    let asked = lines_view c.args.asked.now in
     let contents = g.W.Sink.contents in
     let held = contents_of contents c.args.out.now in
     let before = g.R.Source.remaining c.args.input.now.inner.now in
@@ -84,16 +85,16 @@ returns-in_err-read-clause-run g c =
     let out = c.write_out.new.self in
     let after = g.R.Source.remaining c.read.new.input.inner.now in
     let flushed =
-    Reached-written_out plain contents held taken left at c.take_buffered.new.out out
+    Reached-written_out asked contents held taken left at c.take_buffered.new.out out
     c.in_ok-write_out.ensures.ok reached in
-    broken_off plain contents before after held mid c.from_residual-in_err-read.result taken left at out
+    broken_off asked contents before after held mid c.from_residual-in_err-read.result taken left at out
     (capture_refusal_view c.in_ok-error.error)
     so_far.read c.in_err-read.ensures.kept c.from_residual-in_err-read.ensures.1 rest.refused (search rules) flushed
 
 pub returns-then-is_over-clause-run : goal.returns-then-is_over-clause-run
 returns-then-is_over-clause-run g c =
     let (taken, so_far) = c.loop-buffer.invariant in
-    let plain = c.args.is_plain in
+    let asked = lines_view c.args.asked.now in
     let contents = g.W.Sink.contents in
     let held = contents_of contents c.args.out.now in
     let before = g.R.Source.remaining c.args.input.now.inner.now in
@@ -105,7 +106,7 @@ returns-then-is_over-clause-run g c =
     let out = c.write_out.new.self in
     let after = g.R.Source.remaining c.read.new.input.inner.now in
     let flushed =
-    Reached-written_out plain contents held taken left at c.take_buffered.new.out out
+    Reached-written_out asked contents held taken left at c.take_buffered.new.out out
     c.in_ok-write_out.ensures.ok reached in
     let (more, is_len, added, consumed) = c.in_ok-read.ensures.ok in
     let grown : items c.read.new.self ≡ left ++ more =
@@ -118,13 +119,13 @@ returns-then-is_over-clause-run g c =
     let read = consumed_all before mid after taken more so_far.read consumed none in
     let same : items c.read.new.self ≡ left = grown ∙ same_left left more none in
     let over = subst (λ (l : List ℕ). IsEnd at.reader l) same (c.is_over.ensures.0 (search rules)) in
-    finished plain contents before after held taken left at out c.finish.new.out c.finish.result read end over
+    finished asked contents before after held taken left at out c.finish.new.out c.finish.result read end over
     c.finish.ensures.ok c.finish.ensures.written c.finish.ensures.fault flushed
 
 pub returns-then-branch-eq0-clause-run : goal.returns-then-branch-eq0-clause-run
 returns-then-branch-eq0-clause-run g c =
     let (taken, so_far) = c.loop-buffer.invariant in
-    let plain = c.args.is_plain in
+    let asked = lines_view c.args.asked.now in
     let contents = g.W.Sink.contents in
     let held = contents_of contents c.args.out.now in
     let before = g.R.Source.remaining c.args.input.now.inner.now in
@@ -136,7 +137,7 @@ returns-then-branch-eq0-clause-run g c =
     let out = c.write_out.new.self in
     let after = g.R.Source.remaining c.read.new.input.inner.now in
     let flushed =
-    Reached-written_out plain contents held taken left at c.take_buffered.new.out out
+    Reached-written_out asked contents held taken left at c.take_buffered.new.out out
     c.in_ok-write_out.ensures.ok reached in
     let (more, is_len, added, consumed) = c.in_ok-read.ensures.ok in
     let grown : items c.read.new.self ≡ left ++ more =
@@ -152,13 +153,13 @@ returns-then-branch-eq0-clause-run g c =
     λ (over : IsEnd at.reader left). let t =
     c.is_over.ensures.1 (subst (λ (l : List ℕ). IsEnd at.reader l) (sym same) over) in
     absurd cc in
-    stopped_at_end plain contents before after held taken left at out c.in_ok-error.error c.fault-then-branch-eq0.result
+    stopped_at_end asked contents before after held taken left at out c.in_ok-error.error c.fault-then-branch-eq0.result
     c.fault-then-branch-eq0.ensures read end more_left rest.refused flushed
 
 pub loop-buffer-preserved : goal.loop-buffer-preserved
 loop-buffer-preserved g c =
     let (taken, so_far) = c.loop-buffer.invariant in
-    let plain = c.args.is_plain in
+    let asked = lines_view c.args.asked.now in
     let contents = g.W.Sink.contents in
     let held = contents_of contents c.args.out.now in
     let before = g.R.Source.remaining c.args.input.now.inner.now in
@@ -170,7 +171,7 @@ loop-buffer-preserved g c =
     let out = c.write_out.new.self in
     let after = g.R.Source.remaining c.read.new.input.inner.now in
     let flushed =
-    Reached-written_out plain contents held taken left at c.take_buffered.new.out out
+    Reached-written_out asked contents held taken left at c.take_buffered.new.out out
     c.in_ok-write_out.ensures.ok reached in
     let (more, is_len, added, consumed) = c.in_ok-read.ensures.ok in
     let grown : items c.read.new.self ≡ left ++ more =
@@ -186,8 +187,8 @@ loop-buffer-preserved g c =
         marks =
             Marks-then _ _ _ (Marks-then _ _ _ so_far.marks c.take_buffered.ensures.marks) c.write_out.ensures.marks;
         reached =
-            subst (λ (l : List ℕ). Reached plain contents held (taken ++ more) l at out) (sym grown)
-            (Reached-more plain contents held taken left more at out flushed);
+            subst (λ (l : List ℕ). Reached asked contents held (taken ++ more) l at out) (sym grown)
+            (Reached-more asked contents held taken left more at out flushed);
       },
     )
 

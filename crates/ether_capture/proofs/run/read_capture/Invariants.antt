@@ -2,6 +2,7 @@ use Rattle.std.proofs.Common.{◌≡◌, ℕ, List}
 use Rattle.std.specs.Io.KnownBytes.{Consumes}
 use Rattle.ether_text.specs.InputReader.{ReadsOn}
 use Rattle.ether_text.specs.OutputBuffer.{contents_of, Marks}
+use Rattle.ether_capture.specs.Options.{lines_view}
 use Rattle.ether_capture.specs.FrameLoop.{Reached}
 use Rattle.ether_capture.specs.InputBuffer.{items}
 use Rattle.ether_capture.proofs.run.read_capture.Given as goal
@@ -14,7 +15,7 @@ invariant-loop-buffer g l =
       read : Consumes (g.R.Source.remaining l.fn.input.inner.now) (g.R.Source.remaining l.input.inner.now) taken;
       on : ReadsOn g.R.Source.remaining l.fn.input l.input;
       marks : Marks g.W.Sink.can_fail l.fn.out l.out;
-      reached : Reached l.is_plain g.W.Sink.contents (contents_of g.W.Sink.contents l.fn.out) taken (items l.buffer)
+      reached : Reached (lines_view l.fn.asked) g.W.Sink.contents (contents_of g.W.Sink.contents l.fn.out) taken (items l.buffer)
           l.frames l.out;
     }
 

@@ -1,6 +1,7 @@
 use Rattle.std.proofs.Common.{◌≡◌, ◌+◌, ◌≤◌, ℕ, List, length, drop, refl, sym, ap, subst, ◌∙◌, arith}
 use Rattle.std.proofs.lemmas.List.{drop-drop, length-drop}
 use Rattle.ether_text.proofs.OutputBufferLemmas.{Marks-none, Marks-then}
+use Rattle.ether_capture.specs.Options.{lines_view}
 use Rattle.ether_capture.specs.FrameLoop.{Reached}
 use Rattle.ether_capture.proofs.FrameLoopLemmas.{Reached-unit, rest_is}
 use Rattle.ether_capture.proofs.frame_loop.FrameLoop.take_units.Goals as goal
@@ -35,9 +36,9 @@ loop-unit-preserved g c =
         reached = λ held input begun.
             subst
             (λ (l : List ℕ).
-            Reached c.args.is_plain g.W.Sink.contents held input l c.take_unit.new.self c.take_unit.new.out)
+            Reached (lines_view c.args.asked.now) g.W.Sink.contents held input l c.take_unit.new.self c.take_unit.new.out)
             (sym after)
-            (Reached-unit c.args.is_plain g.W.Sink.contents held input rest c.loop-unit.self c.take_unit.new.self
+            (Reached-unit (lines_view c.args.asked.now) g.W.Sink.contents held input rest c.loop-unit.self c.take_unit.new.self
             c.read.new.self c.loop-unit.out c.take_unit.new.out len _
             within c.in-Ok.ensures.unit c.in_ok-take_unit-in-Ok.ensures.ok (so_far.reached held input begun));
       },

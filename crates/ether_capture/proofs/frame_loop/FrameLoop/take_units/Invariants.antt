@@ -1,5 +1,6 @@
 use Rattle.std.proofs.Common.{◌≡◌, ◌≤◌, ℕ, List, length, drop, Option}
 use Rattle.ether_text.specs.OutputBuffer.{Marks}
+use Rattle.ether_capture.specs.Options.{lines_view}
 use Rattle.ether_capture.specs.FrameLoop.{Reached}
 use Rattle.ether_capture.proofs.frame_loop.FrameLoop.take_units.Given as goal
 
@@ -11,8 +12,8 @@ invariant-loop-unit g l =
       within : taken ≤ length l.bytes;
       rest : l.rest ≡ drop taken l.bytes;
       reached : (held : Option (List ℕ)) (input : List ℕ)
-          → Reached l.is_plain g.W.Sink.contents held input l.bytes l.fn.self l.fn.out
-          → Reached l.is_plain g.W.Sink.contents held input l.rest l.self l.out;
+          → Reached (lines_view l.fn.asked) g.W.Sink.contents held input l.bytes l.fn.self l.fn.out
+          → Reached (lines_view l.fn.asked) g.W.Sink.contents held input l.rest l.self l.out;
     }
 
 abbrev pub decreases-loop-unit : goal.decreases-loop-unit

@@ -1,0 +1,31 @@
+use Rattle.std.proofs.Common.{rules, List, ℕ, [], ◌∷◌, Some, None, false, sym, ap, subst}
+use Rattle.std.specs.Prelude.{string_bytes}
+use Rattle.ether_capture.specs.Options.{Capture, IsName, NamesRequest, request_view, plain_lines, plain_file, select}
+use Rattle.ether_capture.proofs.OptionsLemmas.{asks, asks_nothing, two_words}
+use Rattle.ether_capture.proofs.options.of_two.Goals as goal
+
+pub returns-in-text-clause-ok : goal.returns-in-text-clause-ok
+returns-in-text-clause-ok c =
+    let name = string_bytes c.args.second in
+    subst (NamesRequest (c.args.first.now ∷ name ∷ [])) (sym (ap request_view c.capture.ensures))
+    (subst (λ (word : List ℕ). NamesRequest (word ∷ name ∷ []) (Capture plain_lines (Some name))) (sym c.in-text.is)
+    (plain_file name (subst IsName c.as_str.ensures.value (c.is_name.ensures.0 (search rules)))))
+
+pub returns-in-text-2-clause-ok : goal.returns-in-text-2-clause-ok
+returns-in-text-2-clause-ok c =
+    let text = c.as_str-in-text-2.result.now in
+    asks c.selected.result false text None (c.args.first.now ∷ string_bytes c.args.second ∷ [])
+    (λ x means.
+    let named = select text x means in
+    subst (λ (words : List (List ℕ)). NamesRequest words (Capture (record { plain = false; select = Some x }) None))
+    (λ i. sym c.in-text-2.is i ∷ c.as_str-in-text-2.ensures.value i ∷ []) named)
+    c.selected.ensures.ok
+
+pub returns-in-text-2-clause-err : goal.returns-in-text-2-clause-err
+returns-in-text-2-clause-err c =
+    let text = c.as_str-in-text-2.result.now in
+    let words = c.args.first.now ∷ string_bytes c.args.second ∷ [] in
+    asks_nothing c.selected.result text words
+    (λ request names. two_words words text request names
+    (λ i. c.in-text-2.is i ∷ sym c.as_str-in-text-2.ensures.value i ∷ []))
+    c.selected.ensures.err
