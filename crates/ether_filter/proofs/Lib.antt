@@ -7,3 +7,4 @@ pub mod ReadingLemmas
 pub mod Sound
 pub mod Room
 pub mod TextLemmas
+pub mod Fitting

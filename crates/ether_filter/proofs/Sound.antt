@@ -114,7 +114,7 @@ Was s ts = WasRead s.awaited s.pending s.nodes ts
 
 -- ---- steps
 
-abbrev Goes : Outcome → List Token → Type 0
+abbrev pub Goes : Outcome → List Token → Type 0
 Goes (Ok s) ts = Was s ts
 Goes (Err kind) ts = Unit {0}
 
@@ -286,7 +286,7 @@ id_was : (p : List Pending) (ns : List Node) (ts : List Token) (t : Token) → W
 id_was p ns ts (tokens.Number n) w = within_was awaits.VlanId p ns ts (tokens.Number n) (next_step (awaits.Number numbers.VlanId) (tokens.Number n)) w (λ words b. next_means (awaits.Number numbers.VlanId) (tokens.Number n) words b)
 id_was p ns ts t w = operator_was (closed (ns ++ nodes.Test primitives.Vlan ∷ []) p) ts t (vlan_follows p ns ts w)
 
-taken_was : (a : Awaited) (p : List Pending) (ns : List Node) (ts : List Token) (t : Token) → WasRead a p ns ts → Goes (taken_where a (record { nodes = ns; pending = p; awaited = a }) t) (ts ++ t ∷ [])
+pub taken_was : (a : Awaited) (p : List Pending) (ns : List Node) (ts : List Token) (t : Token) → WasRead a p ns ts → Goes (taken_where a (record { nodes = ns; pending = p; awaited = a }) t) (ts ++ t ∷ [])
 taken_was awaits.Operand p ns ts t was = operand_was p ns ts t was
 taken_was awaits.Operator p ns ts t was = operator_was (record { nodes = ns; pending = p; awaited = awaits.Operator }) ts t was
 taken_was awaits.VlanId p ns ts t was = id_was p ns ts t was

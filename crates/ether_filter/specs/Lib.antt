@@ -10,3 +10,4 @@ pub mod Grammar
 pub mod Steps
 pub mod Reading
 pub mod Texts
+pub mod Refusals

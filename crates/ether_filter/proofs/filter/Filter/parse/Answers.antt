@@ -1,3 +1,4 @@
+use Rattle.ether_filter.proofs.Fitting.{taken_fits}
 use Rattle.ether_filter.proofs.TextLemmas.{text_means, text_expression, no_expression}
 use Rattle.ether_filter.proofs.filter.Filter.parse.Goals as goal
 
