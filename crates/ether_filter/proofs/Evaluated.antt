@@ -1,15 +1,13 @@
 -- The truths of the expressions that are read.
-use Rattle.std.proofs.Common.{◌≡◌, ℕ, ◌+◌, ◌-◌, ◌<◌, ◌≤◌, length, drop, add-one, drop-cons, ap, List, [], ◌∷◌, ◌++◌, refl, sym, subst, ◌∙◌, Bool, true, false, not, ◌||◌, ◌&&◌, IsTrue, ◌↔◌, inl, inr, reverse}
+use Rattle.std.proofs.Common.{◌≡◌, ℕ, ◌+◌, ◌-◌, ◌<◌, ◌≤◌, length, drop, add-one, drop-cons, ap, List, [], ◌∷◌, ◌++◌, refl, sym, subst, ◌∙◌, Bool, false, IsTrue, ◌↔◌, reverse}
 use Rattle.std.specs.Prelude.{unwrap_or, slice_get, slice_index_or}
 use Rattle.ether_filter.specs.declared.primitive.Primitive.{Primitive}
-use Rattle.ether_filter.specs.declared.node.Operator.{Operator}
-use Rattle.ether_filter.specs.declared.node.Operator.TheVariants as operators
 use Rattle.ether_filter.specs.declared.node.Node.{Node}
 use Rattle.ether_filter.specs.declared.node.Node.TheVariants as nodes
 use Rattle.ether_filter.specs.Primitives.{Walked, Matches}
-use Rattle.ether_filter.specs.Expressions.{Expression, Test, Not, Join, Joined, Holds}
+use Rattle.ether_filter.specs.Expressions.{Expression, Test, Not, Join, Holds}
 use Rattle.ether_filter.specs.Postfix.{postfix, pushed, trees, first, expression_of}
-use Rattle.ether_filter.specs.Evaluation.{AreTruths, joined_truth}
+use Rattle.ether_filter.specs.Evaluation.{AreTruths}
 use Rattle.std.proofs.lemmas.List.{append_assoc, append-nil, reverse-append, reverse-reverse, drop_all}
 
 -- what is read of a list that goes on with an expression

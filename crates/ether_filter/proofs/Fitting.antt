@@ -1,6 +1,6 @@
 -- A word fits exactly if it is taken.
-use Rattle.std.proofs.Common.{◌≡◌, ℕ, ◌+◌, ◌≤◌, List, [], ◌∷◌, ◌++◌, length, refl, sym, ap, subst, ◌∙◌, arith}
-use Rattle.std.specs.Prelude.{Result, Ok, Err, Some, None}
+use Rattle.std.proofs.Common.{◌≡◌, List, [], ◌∷◌, ◌++◌, refl, sym, ap, subst, ◌∙◌, arith}
+use Rattle.std.specs.Prelude.{Result, Ok, Err, Some}
 use Rattle.std.proofs.lemmas.List.{append_assoc, append-nil}
 use Rattle.ether_filter.specs.declared.node.Operator.{Operator}
 use Rattle.ether_filter.specs.declared.node.Node.{Node}
@@ -19,10 +19,10 @@ use Rattle.ether_filter.specs.Expressions.{Expression, Test, Not, Join}
 use Rattle.ether_filter.specs.Postfix.{postfix}
 use Rattle.ether_filter.specs.Grammar.{NamesPrimitive, Shape, Operand, Chain, Leads, Means, IsExpression}
 use Rattle.ether_filter.specs.Grammar as grammar
-use Rattle.ether_filter.specs.Reading.{State, Outcome, begun, taken, ended}
+use Rattle.ether_filter.specs.Reading.{State, Outcome, begun, taken}
 use Rattle.ether_filter.specs.Refusals.{Begins, Fits}
 use Rattle.ether_filter.proofs.ReadingLemmas.{IsBase, going, all_from, expression_read}
-use Rattle.ether_filter.proofs.Sound.{Left, Opened, Awaits, Follows, Begun, Within, WasRead, Was, Goes, begun_was_read, taken_was}
+use Rattle.ether_filter.proofs.Sound.{Awaits, Begun, Within, WasRead, Was, Goes, begun_was_read, taken_was}
 
 -- ---- the state after words
 
@@ -160,7 +160,7 @@ stands_begins ts s stands = read_begins s.awaited s.pending s.nodes ts (stands_w
 
 -- ---- both ways
 
-going_ok : {A : Type 0} (o : Outcome) (rest : State → Result A FilterErrorKind) (a : A) → going o rest ≡ Ok a → (s : State) × (o ≡ Ok s)
+pub going_ok : {A : Type 0} (o : Outcome) (rest : State → Result A FilterErrorKind) (a : A) → going o rest ≡ Ok a → (s : State) × (o ≡ Ok s)
 going_ok (Ok s) rest a is = (s, refl)
 going_ok (Err kind) rest a is = absurd cc
 

@@ -8,3 +8,5 @@ pub mod Sound
 pub mod Room
 pub mod TextLemmas
 pub mod Fitting
+pub mod Lacking
+pub mod Refused

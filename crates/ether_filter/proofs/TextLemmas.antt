@@ -1,6 +1,6 @@
 -- The words of a text, read one after the other.
-use Rattle.std.proofs.Common.{◌≡◌, ℕ, ◌+◌, ◌≤◌, ◌≢◌, List, [], ◌∷◌, length, refl, sym, ap, subst, ◌∙◌, inl, inr, false, true, arith}
-use Rattle.std.specs.Prelude.{Result, Ok, Err, Bool, nat_eq, ◌⊎◌}
+use Rattle.std.proofs.Common.{◌≡◌, ℕ, ◌+◌, ◌≤◌, ◌≢◌, List, [], ◌∷◌, length, refl, sym, ap, subst, ◌∙◌, inl, inr, false, arith}
+use Rattle.std.specs.Prelude.{Result, Ok, Err, nat_eq}
 use Rattle.std.proofs.lemmas.Bool.{ne_eqb, eqb-false}
 use Rattle.ether_filter.specs.declared.node.Node.{Node}
 use Rattle.ether_filter.specs.declared.filter.TheConstants.{MAX_WORDS}

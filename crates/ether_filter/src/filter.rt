@@ -1,5 +1,5 @@
 //! A filter.
-ghost use Rattle.std.specs.Prelude.{◌≡◌, ◌↔◌, ◌+◌, ◌<◌, ◌≤◌, List, IsTrue, Ok, Err, IfOk, OnErr, MatchResult, length, reverse};
+ghost use Rattle.std.specs.Prelude.{◌≡◌, ◌↔◌, ◌+◌, ◌<◌, ◌≤◌, List, IsTrue, Ok, Err, IfOk, IfErr, MatchResult, length, reverse};
 ghost use Rattle.arrayvec.specs.ArrayVec.{array_vec_len};
 ghost use Rattle.etherparse.specs.Header.{Header};
 ghost use Rattle.ether_peel.specs.Grammar.Stack.{Ending, Walk};
@@ -9,6 +9,7 @@ ghost use Rattle.ether_filter.specs.Expressions.{Expression, Holds};
 ghost use Rattle.ether_filter.specs.Postfix.{pushed, expression_of};
 ghost use Rattle.ether_filter.specs.Reading.{read_text};
 ghost use Rattle.ether_filter.specs.Texts.{IsExpressionOf};
+ghost use Rattle.ether_filter.specs.Refusals.{RefusesText};
 ghost use Rattle.ether_filter.specs.Evaluation.{AreTruths, joined_truth};
 
 use crate::filter_error::{FilterError, FilterErrorKind};
@@ -51,7 +52,7 @@ impl Filter {
     /// The filter that a text means.
     pub fn parse(text: &[u8]) -> Result<Filter, FilterError>
         ensures ok { IfOk result (λ ns. IsExpressionOf text.now (expression_of ns)) }
-        ensures err { OnErr result ((x : Expression) → IsExpressionOf text.now x → ⊥) }
+        ensures err { IfErr result (RefusesText text.now) }
     {
         match read(text) {
             Ok(nodes) => Ok(Filter { nodes }),
