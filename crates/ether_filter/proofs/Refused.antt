@@ -10,7 +10,7 @@ use Rattle.ether_filter.specs.declared.filter_error.FilterError.{FilterError}
 use Rattle.ether_filter.specs.declared.filter_error.FilterErrorKind.{FilterErrorKind}
 use Rattle.ether_filter.specs.declared.filter_error.FilterErrorKind.TheVariants as kinds
 use Rattle.ether_filter.specs.Expressions.{Expression}
-use Rattle.ether_filter.specs.Postfix.{postfix, expression_of}
+use Rattle.ether_filter.specs.Postfix.{postfix, expression_of, expression_of-postfix}
 use Rattle.ether_filter.specs.Grammar.{IsExpression}
 use Rattle.ether_filter.specs.Words.{Word}
 use Rattle.ether_filter.specs.Tokens.{token_of}
@@ -18,7 +18,6 @@ use Rattle.ether_filter.specs.Reading.{State, Outcome, begun, taken, ended, plac
 use Rattle.ether_filter.specs.Texts.{words_of, tokens_of, IsExpressionOf}
 use Rattle.ether_filter.specs.Refusals.{Begins, Fits, Lacks, Refuses, RefusesText, TextsMeanOne}
 use Rattle.ether_filter.specs.Refusals as rows
-use Rattle.ether_filter.proofs.Evaluated.{expression_of-postfix}
 use Rattle.ether_filter.proofs.ReadingLemmas.{going, all_from, expression_read}
 use Rattle.ether_filter.proofs.Sound.{Found, decided, all_was, begun_was_read}
 use Rattle.ether_filter.proofs.Fitting.{run, Stands, all_run, run_more, stands_begins, begins_stands, taken_fits, going_ok}

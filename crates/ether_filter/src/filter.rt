@@ -33,13 +33,14 @@ pub struct Filter {
 }
 
 impl Model for Filter {
-    ghost use Rattle.std.specs.Prelude.{List};
-    ghost use Rattle.ether_filter.specs.declared.node.Node.{Node as ANode};
-    ghost use Rattle.ether_filter.specs.Postfix.{IsPostfix};
+    ghost use Rattle.ether_filter.specs.Expressions.{Expression};
+    ghost use Rattle.ether_filter.specs.Postfix.{IsPostfix, expression_of, expression_code};
 
-    ghost Value = { List ANode };
+    ghost Value = { Expression };
 
-    ghost view = { λ f. f.nodes.items };
+    ghost coded = { expression_code };
+
+    ghost view = { λ f. expression_of f.nodes.items };
 
     ghost invariant = { λ f. IsPostfix f.nodes.items };
 }
@@ -51,7 +52,7 @@ impl Filter {
 
     /// The filter that a text means.
     pub fn parse(text: &[u8]) -> Result<Filter, FilterError>
-        ensures ok { IfOk result (λ ns. IsExpressionOf text.now (expression_of ns)) }
+        ensures ok { IfOk result (IsExpressionOf text.now) }
         ensures err { IfErr result (RefusesText text.now) }
     {
         match read(text) {
@@ -63,7 +64,7 @@ impl Filter {
     /// Whether a packet matches.
     pub fn matches(&self, packet: &Packet<'_>) -> bool
         ensures { (hs : List Header) (e : Ending) → Walk (start_of packet.now.start) packet.now.frame.now hs e
-            → IsTrue result ↔ Holds (expression_of self.now) (walked packet.now hs e) }
+            → IsTrue result ↔ Holds self.now (walked packet.now hs e) }
     {
         let mut truths = ArrayVec::new();
         for node in self.nodes.as_slice() {
