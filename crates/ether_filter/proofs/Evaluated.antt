@@ -5,10 +5,10 @@ use Rattle.ether_filter.specs.declared.primitive.Primitive.{Primitive}
 use Rattle.ether_filter.specs.declared.node.Node.{Node}
 use Rattle.ether_filter.specs.declared.node.Node.TheVariants as nodes
 use Rattle.ether_filter.specs.Primitives.{Walked, Matches}
-use Rattle.ether_filter.specs.Expressions.{Expression, Test, Not, Join, Holds}
+use Rattle.ether_filter.specs.Expressions.{Expression, Test, Holds}
 use Rattle.ether_filter.specs.Postfix.{trees-postfix, postfix, pushed, trees, first, expression_of}
 use Rattle.ether_filter.specs.Evaluation.{AreTruths}
-use Rattle.std.proofs.lemmas.List.{append_assoc, append-nil, reverse-append, reverse-reverse, drop_all}
+use Rattle.std.proofs.lemmas.List.{append-nil, reverse-append, reverse-reverse, drop_all}
 
 -- ---- a step, with the last truth at the end of the list
 

@@ -1,6 +1,5 @@
-use Rattle.std.proofs.Common.{◌≡◌, List, Bool, false, ap, subst, ◌∙◌, IsTrue, ◌↔◌, arith}
+use Rattle.std.proofs.Common.{◌≡◌, Bool, false, ap, subst, ◌∙◌, IsTrue, ◌↔◌, arith}
 use Rattle.std.specs.Prelude.{Option, unwrap_or}
-use Rattle.ether_filter.specs.declared.node.Node.{Node}
 use Rattle.ether_filter.specs.Expressions.{Expression, Holds}
 use Rattle.ether_filter.specs.Postfix.{expression_of}
 use Rattle.ether_filter.specs.Primitives.{walked}
