@@ -48,6 +48,10 @@ ARTEFACTS = {
         "ether_packet/src/setting.rt": ["set_vlan_id", "set_vlan_tag", "set_tpid"],
         "ether_packet/src/laws.rt": ["popped_after_pushed", "pushed_after_popped"],
     },
+    "Filters": {
+        "ether_filter/src/filter.rt": ["parse", "matches"],
+        "ether_filter/src/laws.rt": ["texts_mean_one"],
+    },
     "C": {
         "ether_c/src/walking.rt": ["ether_walk", "ether_walk_limited"],
         "ether_c/src/summarizing.rt": ["ether_summary", "ether_summary_limited"],

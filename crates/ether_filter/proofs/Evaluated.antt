@@ -1,24 +1,14 @@
 -- The truths of the expressions that are read.
-use Rattle.std.proofs.Common.{◌≡◌, ℕ, ◌+◌, ◌-◌, ◌<◌, ◌≤◌, length, drop, add-one, drop-cons, ap, List, [], ◌∷◌, ◌++◌, refl, sym, subst, ◌∙◌, Bool, true, false, not, ◌||◌, ◌&&◌, IsTrue, ◌↔◌, inl, inr, reverse}
+use Rattle.std.proofs.Common.{◌≡◌, ℕ, ◌+◌, ◌-◌, ◌<◌, ◌≤◌, length, drop, add-one, drop-cons, ap, List, [], ◌∷◌, ◌++◌, refl, sym, subst, ◌∙◌, Bool, false, IsTrue, ◌↔◌, reverse}
 use Rattle.std.specs.Prelude.{unwrap_or, slice_get, slice_index_or}
 use Rattle.ether_filter.specs.declared.primitive.Primitive.{Primitive}
-use Rattle.ether_filter.specs.declared.node.Operator.{Operator}
-use Rattle.ether_filter.specs.declared.node.Operator.TheVariants as operators
 use Rattle.ether_filter.specs.declared.node.Node.{Node}
 use Rattle.ether_filter.specs.declared.node.Node.TheVariants as nodes
 use Rattle.ether_filter.specs.Primitives.{Walked, Matches}
-use Rattle.ether_filter.specs.Expressions.{Expression, Test, Not, Join, Joined, Holds}
-use Rattle.ether_filter.specs.Postfix.{postfix, pushed, trees, first, expression_of}
-use Rattle.ether_filter.specs.Evaluation.{AreTruths, joined_truth}
-use Rattle.std.proofs.lemmas.List.{append_assoc, append-nil, reverse-append, reverse-reverse, drop_all}
-
--- what is read of a list that goes on with an expression
-pub trees-postfix : (x : Expression) (xs : List Expression) (ns : List Node) → trees xs (postfix x ++ ns) ≡ trees (x ∷ xs) ns
-trees-postfix (Test p) xs ns = refl
-trees-postfix (Not x) xs ns = rw (append_assoc (postfix x) (nodes.Not ∷ []) ns) (trees-postfix x xs (nodes.Not ∷ ns))
-trees-postfix (Join operator x y) xs ns =
-    rw (append_assoc (postfix x ++ postfix y) (nodes.Join operator ∷ []) ns, append_assoc (postfix x) (postfix y) (nodes.Join operator ∷ ns))
-    (trees-postfix x xs (postfix y ++ nodes.Join operator ∷ ns) ∙ trees-postfix y (x ∷ xs) (nodes.Join operator ∷ ns))
+use Rattle.ether_filter.specs.Expressions.{Expression, Test, Holds}
+use Rattle.ether_filter.specs.Postfix.{trees-postfix, postfix, pushed, trees, first, expression_of}
+use Rattle.ether_filter.specs.Evaluation.{AreTruths}
+use Rattle.std.proofs.lemmas.List.{append-nil, reverse-append, reverse-reverse, drop_all}
 
 -- ---- a step, with the last truth at the end of the list
 
@@ -63,7 +53,3 @@ evaluated w x bs ns i result is le e value =
     let only : bs ≡ last.truth ∷ [] = sym (reverse-reverse bs) ∙ ap reverse last.only in
     let same : result ≡ last.truth = value ∙ ap (λ (l : List Bool). unwrap_or (slice_get l (length l - 1)) false) only in
     rw (same, ap first tree) last.holds
-
--- a list of nodes is that of one expression
-pub expression_of-postfix : (x : Expression) → expression_of (postfix x) ≡ x
-expression_of-postfix x = ap first (ap (trees []) (sym (append-nil (postfix x))) ∙ trees-postfix x [] [])

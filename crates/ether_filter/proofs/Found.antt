@@ -1,6 +1,6 @@
 -- What is found of a primitive at the end of a walk is what the primitive says of it.
-use Rattle.std.proofs.Common.{◌≡◌, ℕ, ◌-◌, ◌^◌, ◌<◌, ◌≤◌, List, [], ◌∷◌, ◌++◌, refl, sym, ap, subst, ◌∙◌, Bool, true, false, ◌||◌, ◌&&◌, nat_eq, IsTrue, IsSome, ◌↔◌, inl, inr, if◌then◌else◌, arith}
-use Rattle.std.specs.Prelude.{Option, Some, None, ◌⊎◌}
+use Rattle.std.proofs.Common.{◌≡◌, ℕ, ◌-◌, ◌^◌, List, [], ◌∷◌, ◌++◌, refl, sym, ap, ◌∙◌, Bool, true, false, ◌||◌, nat_eq, IsTrue, IsSome, ◌↔◌}
+use Rattle.std.specs.Prelude.{Option, Some, None}
 use Rattle.std.specs.List.{list_any}
 use Rattle.std.proofs.Math.Bool.{or-false, or_assoc}
 use Rattle.std.proofs.lemmas.List.Folds.{list_any-append}
@@ -16,8 +16,8 @@ use Rattle.ether_peel.specs.Grammar.Stack.{Ending, Accepted, Fault, Stack}
 use Rattle.ether_peel.specs.Grammar.Endings.{refusal_of}
 use Rattle.ether_filter.specs.declared.primitive.Primitive.{Primitive}
 use Rattle.ether_filter.specs.declared.primitive.Primitive.TheVariants as primitives
-use Rattle.ether_filter.specs.Primitives.{is_tag, is_sec_tag, is_from, is_to, is_group, is_to_group, vlan_ids, ether_type_of, listed, ether_types, Walked, Matches}
-use Rattle.ether_filter.specs.Following.{fields_of, is_some_type, is_tagged, shown, found_after, found_at_fault, found_at_end, found_first}
+use Rattle.ether_filter.specs.Primitives.{is_tag, is_sec_tag, is_from, is_to, is_to_group, vlan_ids, ether_type_of, listed, ether_types, Walked, Matches}
+use Rattle.ether_filter.specs.Following.{fields_of, is_some_type, is_tagged, found_after, found_at_fault, found_at_end, found_first}
 
 -- ---- some header shows it
 

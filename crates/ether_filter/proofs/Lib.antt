@@ -7,3 +7,6 @@ pub mod ReadingLemmas
 pub mod Sound
 pub mod Room
 pub mod TextLemmas
+pub mod Fitting
+pub mod Lacking
+pub mod Refused

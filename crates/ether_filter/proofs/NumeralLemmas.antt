@@ -1,5 +1,5 @@
 -- Digits, one after the other.
-use Rattle.std.proofs.Common.{◌≡◌, ℕ, ◌+◌, ◌*◌, ◌^◌, ◌<◌, ◌≤◌, List, [], ◌∷◌, length, take, inl, inr, refl, sym, ap, subst, ◌∙◌, Bool, true, false, min, nat_lt, arith}
+use Rattle.std.proofs.Common.{◌≡◌, ℕ, ◌+◌, ◌*◌, ◌^◌, ◌<◌, ◌≤◌, List, [], ◌∷◌, length, take, inl, inr, refl, sym, ◌∙◌, Bool, true, false, min, nat_lt, arith}
 use Rattle.std.specs.Prelude.{slice_index, None, Some, Option, ◌&&◌, MatchOption, option_map, ◌⊎◌}
 use Rattle.std.proofs.Math.Bool.{and-false}
 use Rattle.std.specs.List.{list_all}
@@ -11,7 +11,7 @@ use Rattle.std.proofs.lemmas.Int.Digits.{digits_value_more}
 use Rattle.std.proofs.lemmas.List.Folds.{list_all_more, list_all_at}
 use Rattle.std.proofs.lemmas.List.{take_all}
 use Rattle.std.proofs.lemmas.Int.Digits.{digits_value-lt}
-use Rattle.ether_filter.specs.Numerals.{digits_in, IsCapped, within_32_bits, colon_places, digit_places, address_in, whole_number_in, number_in}
+use Rattle.ether_filter.specs.Numerals.{digits_in, IsCapped, within_32_bits}
 
 abbrev pub is_digit : ℕ → ℕ → Bool
 is_digit radix c = nat_lt (digit_value c) radix

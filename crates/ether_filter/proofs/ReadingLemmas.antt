@@ -1,7 +1,7 @@
 -- What is read word after word is what the grammar says.
-use Rattle.std.proofs.Common.{◌≡◌, ℕ, ◌+◌, ◌<◌, ◌≤◌, List, [], ◌∷◌, ◌++◌, length, refl, sym, ap, subst, ◌∙◌, false, true, nat_lt, if◌then◌else◌, arith}
-use Rattle.std.specs.Prelude.{Result, Ok, Err, Some, None}
-use Rattle.std.proofs.lemmas.Bool.{le-ltb, ltb-false}
+use Rattle.std.proofs.Common.{◌≡◌, ℕ, ◌≤◌, List, [], ◌∷◌, ◌++◌, refl, sym, ap, subst, ◌∙◌, false, nat_lt, arith}
+use Rattle.std.specs.Prelude.{Result, Ok, Err}
+use Rattle.std.proofs.lemmas.Bool.{le-ltb}
 use Rattle.std.proofs.lemmas.List.{append_assoc, append-nil}
 use Rattle.ether_filter.specs.declared.node.Operator.{Operator}
 use Rattle.ether_filter.specs.declared.node.Operator.TheVariants.{And, Or}
@@ -13,20 +13,16 @@ use Rattle.ether_filter.specs.declared.token.Token.{Token}
 use Rattle.ether_filter.specs.declared.token.Token.TheVariants as tokens
 use Rattle.ether_filter.specs.declared.filter_error.FilterErrorKind.{FilterErrorKind}
 use Rattle.ether_filter.specs.declared.awaited.Numbered.{Numbered}
-use Rattle.ether_filter.specs.declared.awaited.Numbered.TheVariants as numbers
-use Rattle.ether_filter.specs.declared.awaited.Addressed.TheVariants as addresses
 use Rattle.ether_filter.specs.declared.awaited.Awaited.{Awaited}
 use Rattle.ether_filter.specs.declared.awaited.Awaited.TheVariants as awaits
-use Rattle.ether_filter.specs.declared.awaited.Step.{Step}
-use Rattle.ether_filter.specs.declared.awaited.Step.TheVariants.{Done, More, Fails}
 use Rattle.ether_filter.specs.declared.reading.Pending.{Pending}
 use Rattle.ether_filter.specs.declared.reading.Pending.TheVariants as pendings
-use Rattle.ether_filter.specs.Expressions.{Expression, Test, Not, Join}
+use Rattle.ether_filter.specs.Expressions.{Expression, Join}
 use Rattle.ether_filter.specs.Postfix.{postfix}
 use Rattle.ether_filter.specs.Grammar.{NamesPrimitive, Shape, Operand, Chain, Leads, operand, chain, Means, IsExpression}
 use Rattle.ether_filter.specs.Grammar as grammar
-use Rattle.ether_filter.specs.Steps.{first_step, next_step, numbered, most_of}
-use Rattle.ether_filter.specs.Reading.{State, Outcome, begun, closed, completed, settled, differ, joined_by, closed_group, operator_taken, stepped, operand_taken, id_taken, taken_where, taken, nothing_open, whole, ended_where, ended}
+use Rattle.ether_filter.specs.Steps.{next_step, most_of}
+use Rattle.ether_filter.specs.Reading.{State, Outcome, begun, closed, differ, operator_taken, stepped, taken_where, taken, whole, ended}
 
 pub other_taken : (x : Awaited) (s : State) (t : Token) → (x ≡ awaits.Operand → ⊥) → (x ≡ awaits.Operator → ⊥) → (x ≡ awaits.VlanId → ⊥) → taken_where x s t ≡ stepped s (next_step x t)
 other_taken awaits.Operand s t a b c = absurd (a refl)

@@ -1,13 +1,12 @@
 -- One more word needs room for one more node, or one more thing that is open.
-use Rattle.std.proofs.Common.{◌≡◌, ℕ, ◌+◌, ◌≤◌, List, [], ◌∷◌, ◌++◌, length, refl, sym, ap, subst, ◌∙◌, length-append, if◌then◌else◌, arith}
-use Rattle.std.specs.Prelude.{Result, Ok, Err, Bool, true, false}
+use Rattle.std.proofs.Common.{◌≡◌, ℕ, ◌+◌, ◌≤◌, List, [], ◌∷◌, ◌++◌, length, subst, length-append, if◌then◌else◌, arith}
+use Rattle.std.specs.Prelude.{Ok, Err, Bool, true, false}
 use Rattle.ether_filter.specs.declared.node.Operator.{Operator}
 use Rattle.ether_filter.specs.declared.node.Node.{Node}
 use Rattle.ether_filter.specs.declared.node.Node.TheVariants as nodes
 use Rattle.ether_filter.specs.declared.primitive.Primitive.TheVariants as primitives
 use Rattle.ether_filter.specs.declared.token.Token.{Token}
 use Rattle.ether_filter.specs.declared.token.Token.TheVariants as tokens
-use Rattle.ether_filter.specs.declared.filter_error.FilterErrorKind.{FilterErrorKind}
 use Rattle.ether_filter.specs.declared.filter_error.FilterErrorKind.TheVariants as kinds
 use Rattle.ether_filter.specs.declared.awaited.Numbered.TheVariants as numbers
 use Rattle.ether_filter.specs.declared.awaited.Awaited.{Awaited}
@@ -17,7 +16,7 @@ use Rattle.ether_filter.specs.declared.awaited.Step.TheVariants.{Done, More, Fai
 use Rattle.ether_filter.specs.declared.reading.Pending.{Pending}
 use Rattle.ether_filter.specs.declared.reading.Pending.TheVariants as pendings
 use Rattle.ether_filter.specs.Steps.{first_step, next_step}
-use Rattle.ether_filter.specs.Reading.{State, Outcome, closed, completed, differ, joined_by, closed_group, operator_taken, stepped, operand_taken, id_taken, taken_where, taken, is_begun, size_of}
+use Rattle.ether_filter.specs.Reading.{State, Outcome, closed, differ, joined_by, closed_group, operator_taken, stepped, taken_where, taken, is_begun, size_of}
 
 abbrev pub TakesAtMost : Outcome → ℕ → Type 0
 TakesAtMost (Ok s) n = size_of s ≤ n

@@ -1,13 +1,12 @@
 -- Nodes that are read are those of an expression.
-use Rattle.std.proofs.Common.{◌≡◌, ℕ, ◌+◌, ◌<◌, ◌≤◌, List, [], ◌∷◌, ◌++◌, length, refl, sym, ap, subst, ◌∙◌, inl, inr, false, true, nat_lt, if◌then◌else◌, arith}
-use Rattle.std.specs.Prelude.{Result, Ok, Err, Some, None, Bool, ◌⊎◌}
+use Rattle.std.proofs.Common.{◌≡◌, ℕ, ◌≤◌, List, [], ◌∷◌, ◌++◌, refl, sym, ap, subst, ◌∙◌, inl, inr, false, true, nat_lt, arith}
+use Rattle.std.specs.Prelude.{Result, Ok, Err, Some, Bool, ◌⊎◌}
 use Rattle.std.proofs.lemmas.Bool.{ltb-false}
 use Rattle.std.proofs.lemmas.List.{append_assoc, append-nil}
 use Rattle.ether_filter.specs.declared.node.Operator.{Operator}
 use Rattle.ether_filter.specs.declared.node.Operator.TheVariants.{And, Or}
 use Rattle.ether_filter.specs.declared.node.Node.{Node}
 use Rattle.ether_filter.specs.declared.node.Node.TheVariants as nodes
-use Rattle.ether_filter.specs.declared.primitive.Primitive.{Primitive}
 use Rattle.ether_filter.specs.declared.primitive.Primitive.TheVariants as primitives
 use Rattle.ether_filter.specs.declared.token.Token.{Token}
 use Rattle.ether_filter.specs.declared.token.Token.TheVariants as tokens
@@ -26,7 +25,7 @@ use Rattle.ether_filter.specs.Postfix.{postfix}
 use Rattle.ether_filter.specs.Grammar.{NamesPrimitive, Shape, Operand, Chain, Leads, operand, chain, Means, IsExpression}
 use Rattle.ether_filter.specs.Grammar as grammar
 use Rattle.ether_filter.specs.Steps.{first_step, next_step, numbered, most_of, number_primitive}
-use Rattle.ether_filter.specs.Reading.{State, Outcome, begun, closed, completed, settled, differ, joined_by, closed_group, operator_taken, stepped, operand_taken, id_taken, taken_where, taken, nothing_open, whole, ended_where, ended}
+use Rattle.ether_filter.specs.Reading.{State, Outcome, begun, closed, joined_by, operator_taken, stepped, operand_taken, id_taken, taken_where, taken, whole, ended_where}
 use Rattle.ether_filter.proofs.ReadingLemmas.{IsBase, body, body_whole, going, all_from}
 
 -- ---- what was read
@@ -114,7 +113,7 @@ Was s ts = WasRead s.awaited s.pending s.nodes ts
 
 -- ---- steps
 
-abbrev Goes : Outcome → List Token → Type 0
+abbrev pub Goes : Outcome → List Token → Type 0
 Goes (Ok s) ts = Was s ts
 Goes (Err kind) ts = Unit {0}
 
@@ -286,7 +285,7 @@ id_was : (p : List Pending) (ns : List Node) (ts : List Token) (t : Token) → W
 id_was p ns ts (tokens.Number n) w = within_was awaits.VlanId p ns ts (tokens.Number n) (next_step (awaits.Number numbers.VlanId) (tokens.Number n)) w (λ words b. next_means (awaits.Number numbers.VlanId) (tokens.Number n) words b)
 id_was p ns ts t w = operator_was (closed (ns ++ nodes.Test primitives.Vlan ∷ []) p) ts t (vlan_follows p ns ts w)
 
-taken_was : (a : Awaited) (p : List Pending) (ns : List Node) (ts : List Token) (t : Token) → WasRead a p ns ts → Goes (taken_where a (record { nodes = ns; pending = p; awaited = a }) t) (ts ++ t ∷ [])
+pub taken_was : (a : Awaited) (p : List Pending) (ns : List Node) (ts : List Token) (t : Token) → WasRead a p ns ts → Goes (taken_where a (record { nodes = ns; pending = p; awaited = a }) t) (ts ++ t ∷ [])
 taken_was awaits.Operand p ns ts t was = operand_was p ns ts t was
 taken_was awaits.Operator p ns ts t was = operator_was (record { nodes = ns; pending = p; awaited = awaits.Operator }) ts t was
 taken_was awaits.VlanId p ns ts t was = id_was p ns ts t was

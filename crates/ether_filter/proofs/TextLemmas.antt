@@ -1,19 +1,18 @@
 -- The words of a text, read one after the other.
-use Rattle.std.proofs.Common.{◌≡◌, ℕ, ◌+◌, ◌≤◌, ◌≢◌, List, [], ◌∷◌, length, refl, sym, ap, subst, ◌∙◌, inl, inr, false, true, arith}
-use Rattle.std.specs.Prelude.{Result, Ok, Err, Bool, nat_eq, ◌⊎◌}
+use Rattle.std.proofs.Common.{◌≡◌, ℕ, ◌+◌, ◌≤◌, ◌≢◌, List, [], ◌∷◌, length, refl, sym, ap, subst, ◌∙◌, inl, inr, false, arith}
+use Rattle.std.specs.Prelude.{Result, Ok, Err, nat_eq}
 use Rattle.std.proofs.lemmas.Bool.{ne_eqb, eqb-false}
 use Rattle.ether_filter.specs.declared.node.Node.{Node}
 use Rattle.ether_filter.specs.declared.filter.TheConstants.{MAX_WORDS}
 use Rattle.ether_filter.specs.declared.filter_error.FilterError.{FilterError}
 use Rattle.ether_filter.specs.declared.filter_error.FilterErrorKind.{FilterErrorKind}
 use Rattle.ether_filter.specs.Expressions.{Expression}
-use Rattle.ether_filter.specs.Postfix.{postfix, expression_of}
+use Rattle.ether_filter.specs.Postfix.{postfix, expression_of, expression_of-postfix}
 use Rattle.ether_filter.specs.Words.{Word}
 use Rattle.ether_filter.specs.Tokens.{token_of}
 use Rattle.ether_filter.specs.Reading.{State, Outcome, begun, taken, ended, placed, going_on, read_from, read_text}
 use Rattle.ether_filter.specs.Texts.{words_of, tokens_of, IsExpressionOf}
 use Rattle.ether_filter.proofs.ReadingLemmas.{going, all_from, expression_read}
-use Rattle.ether_filter.proofs.Evaluated.{expression_of-postfix}
 use Rattle.ether_filter.proofs.Sound.{Found, decided, all_was, begun_was_read}
 
 pub word_read : (s u : State) (count end : ℕ) (w : Word) (ws us : List Word) → ws ≡ w ∷ us → nat_eq count MAX_WORDS ≡ false → taken s (token_of w.bytes) ≡ Ok u

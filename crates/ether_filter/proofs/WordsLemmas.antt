@@ -1,7 +1,7 @@
 -- Words of a text, found from a place on.
-use Rattle.std.proofs.Common.{◌≡◌, ℕ, suc, ◌+◌, ◌-◌, ◌<◌, ◌≤◌, List, [], ◌∷◌, ◌++◌, length, take, drop, refl, sym, ap, subst, ◌∙◌, Bool, true, false, add-one, add_assoc, add-zero, drop-cons, arith}
+use Rattle.std.proofs.Common.{◌≡◌, ℕ, ◌+◌, ◌-◌, ◌<◌, ◌≤◌, List, [], ◌∷◌, ◌++◌, length, drop, refl, sym, ap, ◌∙◌, true, false, add-one, drop-cons, arith}
 use Rattle.std.specs.Prelude.{slice_index, slice_range}
-use Rattle.std.proofs.lemmas.List.{drop_all, append-nil, append_assoc}
+use Rattle.std.proofs.lemmas.List.{drop_all}
 use Rattle.etherparse.proofs.SubLists.{part_join, length-part}
 use Rattle.ether_filter.specs.declared.words.Class.{Class}
 use Rattle.ether_filter.specs.declared.words.Class.TheVariants.{Blank, Sign, Connective, Letter}

@@ -1,9 +1,9 @@
 -- A primitive that is followed through the headers of a walk: what is known of it after some of them.
-use Rattle.std.specs.Prelude.{◌≡◌, ℕ, ◌-◌, ◌^◌, List, [], ◌∷◌, Option, Some, None, Bool, true, false, nat_eq, ◌||◌, ◌&&◌, if◌then◌else◌}
+use Rattle.std.specs.Prelude.{ℕ, ◌-◌, ◌^◌, List, [], ◌∷◌, Option, Some, None, Bool, true, false, nat_eq, ◌||◌, ◌&&◌, if◌then◌else◌}
 use Rattle.etherparse.specs.Bytes.{number, spelled}
 use Rattle.etherparse.specs.Header.{Header}
 use Rattle.etherparse.specs.Header as headers
-use Rattle.ether_peel.specs.Grammar.Expectation.{Next, next_after}
+use Rattle.ether_peel.specs.Grammar.Expectation.{next_after}
 use Rattle.ether_peel.specs.Grammar.Stack.{Ending, Accepted, Fault}
 use Rattle.ether_filter.specs.declared.fields.Fields.{Fields}
 use Rattle.ether_filter.specs.declared.fields.Fields.TheVariants.{Link, Tag, SecTag, Other}

@@ -1,5 +1,5 @@
 -- The grammar of expressions (pcap-filter(7)).
-use Rattle.std.specs.Prelude.{◌≡◌, ℕ, ◌<◌, List, [], ◌∷◌, ◌++◌, Some}
+use Rattle.std.specs.Prelude.{ℕ, ◌<◌, List, [], ◌∷◌, ◌++◌, Some}
 use Rattle.ether_filter.specs.declared.node.Operator.{Operator}
 use Rattle.ether_filter.specs.declared.primitive.Primitive.{Primitive}
 use Rattle.ether_filter.specs.declared.primitive.Primitive.TheVariants as primitives

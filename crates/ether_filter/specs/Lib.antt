@@ -9,4 +9,6 @@ pub mod Tokens
 pub mod Grammar
 pub mod Steps
 pub mod Reading
+pub mod ErrorTexts
 pub mod Texts
+pub mod Refusals

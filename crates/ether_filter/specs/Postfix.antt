@@ -1,8 +1,12 @@
 -- The representation of an expression: its nodes, each after its operands.
-use Rattle.std.specs.Prelude.{◌≡◌, List, [], ◌∷◌, ◌++◌}
+use Rattle.std.specs.Prelude.{◌≡◌, List, [], ◌∷◌, ◌++◌, refl}
+use Rattle.std.proofs.Common.{ap, ◌∙◌, sym}
+use Rattle.std.proofs.lemmas.List.{append_assoc, append-nil}
+use Rattle.std.specs.Coded.{Coded, code_by, coded_list}
 use Rattle.ether_filter.specs.declared.primitive.Primitive.TheVariants as primitives
 use Rattle.ether_filter.specs.declared.node.Node.{Node}
 use Rattle.ether_filter.specs.declared.node.Node.TheVariants as nodes
+use Rattle.ether_filter.specs.contracts.node.Node as node
 use Rattle.ether_filter.specs.Expressions.{Expression, Test, Not, Join}
 
 abbrev pub postfix : Expression → List Node
@@ -35,3 +39,19 @@ first (x ∷ xs) = x
 
 abbrev pub expression_of : List Node → Expression
 expression_of ns = first (trees [] ns)
+
+-- what is read of a list that goes on with an expression
+pub trees-postfix : (x : Expression) (xs : List Expression) (ns : List Node) → trees xs (postfix x ++ ns) ≡ trees (x ∷ xs) ns
+trees-postfix (Test p) xs ns = refl
+trees-postfix (Not x) xs ns = ap (trees xs) (append_assoc (postfix x) (nodes.Not ∷ []) ns) ∙ trees-postfix x xs (nodes.Not ∷ ns)
+trees-postfix (Join operator x y) xs ns =
+    ap (trees xs) (append_assoc (postfix x ++ postfix y) (nodes.Join operator ∷ []) ns ∙ append_assoc (postfix x) (postfix y) (nodes.Join operator ∷ ns))
+    ∙ trees-postfix x xs (postfix y ++ nodes.Join operator ∷ ns) ∙ trees-postfix y (x ∷ xs) (nodes.Join operator ∷ ns)
+
+-- a list of nodes is that of one expression
+pub expression_of-postfix : (x : Expression) → expression_of (postfix x) ≡ x
+expression_of-postfix x = ap first (ap (trees []) (sym (append-nil (postfix x))) ∙ trees-postfix x [] [])
+
+-- so an expression is stored as its nodes
+abbrev pub expression_code : Coded Expression
+expression_code = code_by (List Node) (coded_list node.the_row.coded) postfix expression_of expression_of-postfix

@@ -1,5 +1,5 @@
 -- An expression that is read word after word: what is known of it after some of them.
-use Rattle.std.specs.Prelude.{◌≡◌, ℕ, ◌+◌, ◌<◌, List, [], ◌∷◌, ◌++◌, length, reverse, Result, Ok, Err, nat_eq, Bool, true, false, if◌then◌else◌}
+use Rattle.std.specs.Prelude.{ℕ, ◌+◌, List, [], ◌∷◌, ◌++◌, length, reverse, Result, Ok, Err, nat_eq, Bool, true, false, if◌then◌else◌}
 use Rattle.ether_filter.specs.declared.node.Operator.{Operator}
 use Rattle.ether_filter.specs.declared.node.Operator.TheVariants.{And, Or}
 use Rattle.ether_filter.specs.declared.node.Node.{Node}

@@ -1,5 +1,5 @@
 //! A filter.
-ghost use Rattle.std.specs.Prelude.{◌≡◌, ◌↔◌, ◌+◌, ◌<◌, ◌≤◌, List, IsTrue, Ok, Err, IfOk, OnErr, MatchResult, length, reverse};
+ghost use Rattle.std.specs.Prelude.{◌≡◌, ◌↔◌, ◌+◌, ◌<◌, ◌≤◌, List, IsTrue, Ok, Err, IfOk, IfErr, MatchResult, length, reverse};
 ghost use Rattle.arrayvec.specs.ArrayVec.{array_vec_len};
 ghost use Rattle.etherparse.specs.Header.{Header};
 ghost use Rattle.ether_peel.specs.Grammar.Stack.{Ending, Walk};
@@ -9,6 +9,7 @@ ghost use Rattle.ether_filter.specs.Expressions.{Expression, Holds};
 ghost use Rattle.ether_filter.specs.Postfix.{pushed, expression_of};
 ghost use Rattle.ether_filter.specs.Reading.{read_text};
 ghost use Rattle.ether_filter.specs.Texts.{IsExpressionOf};
+ghost use Rattle.ether_filter.specs.Refusals.{RefusesText};
 ghost use Rattle.ether_filter.specs.Evaluation.{AreTruths, joined_truth};
 
 use crate::filter_error::{FilterError, FilterErrorKind};
@@ -21,10 +22,57 @@ use crate::words::next_word;
 use arrayvec::ArrayVec;
 use std::marker::Model;
 
-/// How many words an expression has at most.
+/// The greatest number of words of an expression.
 pub(crate) const MAX_WORDS: usize = 192;
 
-/// A filter of packets: an expression in the words of pcap-filter(7).
+/// A filter of packets: an expression in words of pcap-filter(7).
+///
+/// An expression is one primitive, or several of them with `not` (or `!`), `and` (`&&`), `or` (`||`) and parentheses. `not` takes
+/// what comes directly after it: one primitive, one group in parentheses, or another `not`. `and` and `or` beside each other need
+/// parentheses, since readers disagree on what they mean without.
+///
+/// | Primitive | A packet matches if |
+/// |---|---|
+/// | `vlan` | it has a VLAN tag |
+/// | `vlan N` | one of its VLAN tags has the identifier `N` |
+/// | `outer vlan N` | its first VLAN tag has the identifier `N` |
+/// | `inner vlan N` | it has two or more VLAN tags, and the last one has the identifier `N` |
+/// | `macsec` | it has a MACsec SecTag |
+/// | `ether proto N` | the ether type `N` is announced, by what it begins with or by one of its headers |
+/// | `arp`, `ip`, `ip6` | the same for 0x0806, 0x0800, 0x86DD |
+/// | `ether src A`, `ether dst A`, `ether host A` | its Ethernet II header has the address `A` as source, destination, or either |
+/// | `ether broadcast`, `ether multicast` | its Ethernet II header has the broadcast address, or that of any group, as destination |
+/// | `refused` | one of its headers is refused: cut short or malformed |
+/// | `cut` | fewer bytes were captured than were on the wire |
+/// | `less N`, `greater N` | it had at most, or at least, `N` bytes on the wire |
+///
+/// Each speaks of the whole packet, whatever other words the expression has. All VLAN tags and SecTags are read, and nothing of an
+/// encrypted or modified payload.
+///
+/// A number is decimal, without leading zeros, or hexadecimal after `0x`. An address is six pairs of hexadecimal digits with colons
+/// between them. Blanks, `(`, `)` and `!` separate words.
+///
+/// No call allocates memory.
+///
+/// ```
+/// let tagged_arp = [
+///     0xFF, 0xFF, 0xFF, 0xFF, 0xFF, 0xFF, 0x02, 0x00, 0x00, 0x00, 0x00, 0x01, 0x81, 0x00, // Ethernet II
+///     0x00, 0x05, 0x08, 0x06, // VLAN
+/// ];
+/// let packet = Packet {
+///     start: Start::Ethernet2,
+///     frame: &tagged_arp,
+///     captured_len: 18,
+///     original_len: 64,
+/// };
+/// for (text, wanted) in [
+///     (b"vlan 5 and arp".as_slice(), true),
+///     (b"not (vlan 5 or cut)".as_slice(), false),
+/// ] {
+///     let matches = Filter::parse(text).map(|filter| filter.matches(&packet));
+///     assert_eq!(rt; matches, Ok(wanted));
+/// }
+/// ```
 #[derive(Debug, Drop)]
 pub struct Filter {
     /// The nodes of the expression, each after its operands.
@@ -32,26 +80,29 @@ pub struct Filter {
 }
 
 impl Model for Filter {
-    ghost use Rattle.std.specs.Prelude.{List};
-    ghost use Rattle.ether_filter.specs.declared.node.Node.{Node as ANode};
-    ghost use Rattle.ether_filter.specs.Postfix.{IsPostfix};
+    ghost use Rattle.ether_filter.specs.Expressions.{Expression};
+    ghost use Rattle.ether_filter.specs.Postfix.{IsPostfix, expression_of, expression_code};
 
-    ghost Value = { List ANode };
+    ghost Value = { Expression };
 
-    ghost view = { λ f. f.nodes.items };
+    ghost coded = { expression_code };
+
+    ghost view = { λ f. expression_of f.nodes.items };
 
     ghost invariant = { λ f. IsPostfix f.nodes.items };
 }
 
 impl Filter {
-    /// How many words an expression has at most: every one of up to 64 primitives, negations and operators with no parentheses that it
-    /// doesn't need has fewer.
+    /// The greatest number of words of an expression. One of up to 64 primitives and operators that has no more parentheses than it
+    /// needs has fewer.
     pub const MAX_WORDS: usize = MAX_WORDS;
 
-    /// The filter that a text means.
+    /// The filter that a text means, or why it means none, and where: at the first word that fits nothing after those before it.
+    ///
+    /// See [`Filter`] for the words.
     pub fn parse(text: &[u8]) -> Result<Filter, FilterError>
-        ensures ok { IfOk result (λ ns. IsExpressionOf text.now (expression_of ns)) }
-        ensures err { OnErr result ((x : Expression) → IsExpressionOf text.now x → ⊥) }
+        ensures ok { IfOk result (IsExpressionOf text.now) }
+        ensures err { IfErr result (RefusesText text.now) }
     {
         match read(text) {
             Ok(nodes) => Ok(Filter { nodes }),
@@ -59,10 +110,12 @@ impl Filter {
         }
     }
 
-    /// Whether a packet matches.
+    /// Returns `true` if a packet matches.
+    ///
+    /// Each primitive that asks for headers takes a walk of its own through the frame.
     pub fn matches(&self, packet: &Packet<'_>) -> bool
         ensures { (hs : List Header) (e : Ending) → Walk (start_of packet.now.start) packet.now.frame.now hs e
-            → IsTrue result ↔ Holds (expression_of self.now) (walked packet.now hs e) }
+            → IsTrue result ↔ Holds self.now (walked packet.now hs e) }
     {
         let mut truths = ArrayVec::new();
         for node in self.nodes.as_slice() {

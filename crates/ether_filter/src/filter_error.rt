@@ -1,35 +1,93 @@
 //! Why a text is no expression.
+ghost use Rattle.std.specs.Prelude.{Some};
+ghost use Rattle.ether_filter.specs.ErrorTexts.{kind_text, filter_error_text};
+
+use std::error::Error;
+use std::fmt;
 
 /// Why a text is no expression, and where.
+///
+/// ```
+/// let Err(error) = Filter::parse(b"vlan 4096") else {
+///     return Ok(());
+/// };
+/// assert_eq!(rt; error.offset, 5);
+/// assert_eq!(rt; error.kind, FilterErrorKind::ExpectedNumber(4095));
+/// assert_eq!(rt;
+///     format!(in rt.alloc(); "{error}")?.as_str(),
+///     "At byte 5: expected a number up to 4095."
+/// );
+/// ```
 #[derive(Clone, Copy, PartialEq, Eq, Debug)]
 pub struct FilterError {
-    /// Where the first word begins that fits nothing, in bytes; the length of the text if its end does.
+    /// Where the first word that fits nothing begins, in bytes. It's the length of the text if words are missing at its end.
     pub offset: usize,
-    /// What fits there.
+    /// What is expected there, or why the word doesn't fit.
     pub kind: FilterErrorKind,
 }
 
-/// What fits at a place of an expression, or why a word doesn't.
+/// What is expected at a place of an expression, or why a word doesn't fit there.
 #[derive(Clone, Copy, PartialEq, Eq, Debug)]
 pub enum FilterErrorKind {
-    /// A primitive, `not` or `(`.
+    /// A primitive, `not` or `(` is expected.
     ExpectedOperand,
-    /// `and`, `or`, `)`, or the end of the text.
+    /// `and`, `or`, `)` or the end of the text is expected.
     ExpectedOperator,
-    /// `vlan`.
+    /// `vlan` is expected.
     ExpectedVlan,
-    /// A word that goes on after `ether`.
+    /// `proto`, `src`, `dst`, `host`, `broadcast` or `multicast` is expected.
     ExpectedEtherWord,
-    /// An address.
+    /// An address is expected, in the form `xx:xx:xx:xx:xx:xx`.
     ExpectedAddress,
-    /// A number up to this one.
+    /// A number that is not greater than this one is expected.
     ExpectedNumber(u32),
-    /// `and` and `or` are beside each other, with no parentheses.
+    /// `and` and `or` are beside each other without parentheses.
     MixedOperators,
-    /// `)` closes nothing.
+    /// There is no `(` for a `)`.
     Unopened,
-    /// The text ends before `)`.
+    /// The text ends before the `)` of a `(`.
     Unclosed,
-    /// There are more words than an expression may have.
+    /// There are more words than [`Filter::MAX_WORDS`](crate::Filter::MAX_WORDS).
     TooLong,
 }
+
+impl fmt::Display for FilterErrorKind {
+    ghost output = { λ kind. Some (kind_text kind) };
+
+    fn fmt<W: fmt::Write>(&self, f: &mut fmt::Formatter<W>) -> fmt::Result {
+        match self {
+            FilterErrorKind::ExpectedOperand => {
+                f.write_str("expected a primitive, `not` or `(`.")
+            }
+            FilterErrorKind::ExpectedOperator => {
+                f.write_str("expected `and`, `or`, `)` or the end.")
+            }
+            FilterErrorKind::ExpectedVlan => f.write_str("expected `vlan`."),
+            FilterErrorKind::ExpectedEtherWord => f.write_str(
+                "expected `proto`, `src`, `dst`, `host`, `broadcast` or `multicast`.",
+            ),
+            FilterErrorKind::ExpectedAddress => {
+                f.write_str("expected an address, as 02:00:5e:10:00:01.")
+            }
+            FilterErrorKind::ExpectedNumber(most) => {
+                write!(f, "expected a number up to {most}.")
+            }
+            FilterErrorKind::MixedOperators => {
+                f.write_str("`and` and `or` beside each other need parentheses.")
+            }
+            FilterErrorKind::Unopened => f.write_str("there is no `(` for this `)`."),
+            FilterErrorKind::Unclosed => f.write_str("a `(` is not closed."),
+            FilterErrorKind::TooLong => f.write_str("an expression has at most 192 words."),
+        }
+    }
+}
+
+impl fmt::Display for FilterError {
+    ghost output = { λ error. Some (filter_error_text error) };
+
+    fn fmt<W: fmt::Write>(&self, f: &mut fmt::Formatter<W>) -> fmt::Result {
+        write!(f, "At byte {}: {}", self.offset, self.kind)
+    }
+}
+
+impl Error for FilterError {}

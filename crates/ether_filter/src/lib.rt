@@ -5,6 +5,7 @@ mod awaited;
 mod fields;
 mod filter;
 mod filter_error;
+pub mod laws;
 mod matching;
 mod node;
 mod numeral;

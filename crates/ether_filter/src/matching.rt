@@ -20,7 +20,7 @@ pub(crate) fn matches_primitive(primitive: Primitive, packet: &Packet<'_>) -> bo
         → IsTrue result ↔ Matches primitive (walked packet.now hs e) }
 {
     match primitive {
-        Primitive::Cut => packet.captured_len < packet.original_len,
+        Primitive::Cut => packet.captured_len < packet.original_len as usize,
         Primitive::Less(len) => packet.original_len <= len,
         Primitive::Greater(len) => packet.original_len >= len,
         _ => is_found(primitive, packet.start, packet.frame),

@@ -1,3 +1,4 @@
-//! Which packets match, and where texts are refused.
+//! Which packets match, where texts are refused, and the examples of the documentation.
+mod examples;
 mod matching;
 mod refusals;

@@ -1,7 +1,5 @@
-use Rattle.std.proofs.Common.{◌≡◌, refl, sym, subst, ◌∙◌, Bool, ◌||◌, arith}
-use Rattle.ether_peel.specs.Walker.State.{State}
-use Rattle.ether_filter.specs.Following.{found_after}
-use Rattle.ether_filter.proofs.FollowingLemmas.{Follows, follows_unit, follows_none, follows_fault}
+use Rattle.std.proofs.Common.{arith}
+use Rattle.ether_filter.proofs.FollowingLemmas.{follows_unit}
 use Rattle.ether_filter.proofs.matching.is_found.Goals as goal
 
 pub loop-unit-preserved : goal.loop-unit-preserved

@@ -1,9 +1,7 @@
 use Rattle.std.proofs.Common.{List, false}
-use Rattle.std.specs.Iterator.{size}
 use Rattle.etherparse.specs.Header.{Header}
 use Rattle.ether_peel.specs.Grammar.Stack.{Ending, Walk}
 use Rattle.ether_peel.specs.Walker.Start.{start_of, next_of}
-use Rattle.ether_peel.specs.Walker.Next.{items_left}
 use Rattle.ether_filter.specs.Primitives.{ether_type_of}
 use Rattle.ether_filter.specs.Following.{found_at_end, found_first}
 use Rattle.ether_filter.proofs.FollowingLemmas.{Follows}

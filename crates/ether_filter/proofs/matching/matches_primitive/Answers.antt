@@ -1,7 +1,6 @@
-use Rattle.std.proofs.Common.{refl, sym, subst, IsTrue, ◌↔◌, Bool}
 use Rattle.ether_peel.specs.Grammar.Stack.{whole}
 use Rattle.ether_peel.specs.Walker.Start.{start_of}
-use Rattle.ether_filter.specs.Primitives.{Matches, walked}
+use Rattle.ether_filter.specs.Primitives.{walked}
 use Rattle.ether_filter.proofs.Found.{IsOfWalk, found_matches}
 use Rattle.ether_filter.proofs.matching.matches_primitive.Goals as goal
 

@@ -1,5 +1,3 @@
-use Rattle.std.proofs.Common.{sym, subst, ◌≡◌, ◌<◌, ℕ}
-use Rattle.std.specs.Char.{digit_value}
 use Rattle.ether_filter.proofs.NumeralLemmas.{reads_more}
 use Rattle.ether_filter.proofs.numeral.digits_of.Goals as goal
 

@@ -1,7 +1,5 @@
-use Rattle.std.proofs.Common.{◌≡◌, List, drop}
+use Rattle.std.proofs.Common.{◌≡◌, drop}
 use Rattle.std.specs.Prelude.{map}
-use Rattle.ether_filter.specs.declared.token.Token.{Token}
-use Rattle.ether_filter.specs.declared.token.Keyword.{Keyword}
 use Rattle.ether_filter.specs.Tokens.{meaning_among}
 use Rattle.ether_filter.proofs.token.meaning_in.Given as goal
 

@@ -1,7 +1,6 @@
-use Rattle.std.proofs.Common.{◌≡◌, List, Bool, false, ap, subst, ◌∙◌, IsTrue, ◌↔◌, arith}
+use Rattle.std.proofs.Common.{◌≡◌, Bool, false, ap, subst, ◌∙◌, IsTrue, ◌↔◌, arith}
 use Rattle.std.specs.Prelude.{Option, unwrap_or}
-use Rattle.ether_filter.specs.declared.node.Node.{Node}
-use Rattle.ether_filter.specs.Expressions.{Holds}
+use Rattle.ether_filter.specs.Expressions.{Expression, Holds}
 use Rattle.ether_filter.specs.Postfix.{expression_of}
 use Rattle.ether_filter.specs.Primitives.{walked}
 use Rattle.ether_filter.proofs.Evaluated.{evaluates_next, evaluated}
@@ -16,7 +15,7 @@ pub returns : goal.returns
 returns c hs e walk =
     let w = walked c.args.packet.now hs e in
     let ns = c.as_slice-node-items.result.now in
-    let is : ns ≡ c.args.self.now = c.as_slice-node-items.ensures.value ∙ c.self.view_is in
+    let is : expression_of ns ≡ c.args.self.now = ap expression_of c.as_slice-node-items.ensures.value ∙ c.self.view_is in
     let value = c.unwrap_or.ensures ∙ ap (λ (o : Option Bool). unwrap_or o false) c.pop.ensures.value in
-    subst (λ (l : List Node). IsTrue c.unwrap_or.result ↔ Holds (expression_of l) w) is
+    subst (λ (x : Expression). IsTrue c.unwrap_or.result ↔ Holds x w) is
     (evaluated w c.self.invariant.0 c.loop-node.truths.items ns c.loop-node.node-index c.unwrap_or.result (c.as_slice-node-items.ensures.value ∙ c.self.invariant.1) c.loop-node-test.false (c.loop-node.invariant.1 hs e walk) value)

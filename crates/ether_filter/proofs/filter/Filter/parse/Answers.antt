@@ -1,4 +1,5 @@
-use Rattle.ether_filter.proofs.TextLemmas.{text_means, text_expression, no_expression}
+use Rattle.ether_filter.proofs.Refused.{text_refused}
+use Rattle.ether_filter.proofs.TextLemmas.{text_means, text_expression}
 use Rattle.ether_filter.proofs.filter.Filter.parse.Goals as goal
 
 pub invariant_of-result : goal.invariant_of-result
@@ -8,4 +9,4 @@ pub returns-in-Ok-clause-ok : goal.returns-in-Ok-clause-ok
 returns-in-Ok-clause-ok c = text_expression c.args.text.now c.in-Ok.nodes.items c.in-Ok.ensures
 
 pub returns-in-Err-clause-err : goal.returns-in-Err-clause-err
-returns-in-Err-clause-err c = no_expression c.args.text.now c.in-Err.error c.in-Err.ensures
+returns-in-Err-clause-err c = text_refused c.args.text.now c.in-Err.error c.in-Err.ensures

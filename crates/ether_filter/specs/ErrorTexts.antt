@@ -1,0 +1,21 @@
+-- The texts of the errors.
+use Rattle.std.specs.Prelude.{ℕ, List, ◌++◌, codes}
+use Rattle.std.specs.Fmt.{decimal}
+use Rattle.ether_filter.specs.declared.filter_error.FilterError.{FilterError}
+use Rattle.ether_filter.specs.declared.filter_error.FilterErrorKind.{FilterErrorKind}
+use Rattle.ether_filter.specs.declared.filter_error.FilterErrorKind.TheVariants as kinds
+
+abbrev pub kind_text : FilterErrorKind → List ℕ
+kind_text kinds.ExpectedOperand = codes "expected a primitive, `not` or `(`."
+kind_text kinds.ExpectedOperator = codes "expected `and`, `or`, `)` or the end."
+kind_text kinds.ExpectedVlan = codes "expected `vlan`."
+kind_text kinds.ExpectedEtherWord = codes "expected `proto`, `src`, `dst`, `host`, `broadcast` or `multicast`."
+kind_text kinds.ExpectedAddress = codes "expected an address, as 02:00:5e:10:00:01."
+kind_text (kinds.ExpectedNumber most) = codes "expected a number up to " ++ (decimal most ++ codes ".")
+kind_text kinds.MixedOperators = codes "`and` and `or` beside each other need parentheses."
+kind_text kinds.Unopened = codes "there is no `(` for this `)`."
+kind_text kinds.Unclosed = codes "a `(` is not closed."
+kind_text kinds.TooLong = codes "an expression has at most 192 words."
+
+abbrev pub filter_error_text : FilterError → List ℕ
+filter_error_text error = codes "At byte " ++ (decimal error.offset ++ (codes ": " ++ kind_text error.kind))

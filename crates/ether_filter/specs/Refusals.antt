@@ -1,0 +1,74 @@
+-- The table of refusals: texts that mean no expression, and the error.
+use Rattle.std.specs.Prelude.{◌≡◌, ℕ, ◌+◌, ◌<◌, ◌≤◌, List, [], ◌∷◌, ◌++◌, length, Option, Some, None}
+use Rattle.ether_filter.specs.declared.node.Operator.{Operator}
+use Rattle.ether_filter.specs.declared.token.Token.{Token}
+use Rattle.ether_filter.specs.declared.token.Token.TheVariants as tokens
+use Rattle.ether_filter.specs.declared.filter.TheConstants.{MAX_WORDS}
+use Rattle.ether_filter.specs.declared.filter_error.FilterError.{FilterError}
+use Rattle.ether_filter.specs.declared.filter_error.FilterErrorKind.{FilterErrorKind}
+use Rattle.ether_filter.specs.declared.filter_error.FilterErrorKind.TheVariants as kinds
+use Rattle.ether_filter.specs.Words.{Word}
+use Rattle.ether_filter.specs.Tokens.{token_of}
+use Rattle.ether_filter.specs.Expressions.{Expression}
+use Rattle.ether_filter.specs.Grammar.{IsExpression}
+use Rattle.ether_filter.specs.Texts.{words_of, tokens_of, IsExpressionOf}
+
+-- words that an expression begins with
+pub record Begins (ts : List Token) : Type 0 where
+  pub rest : List Token
+  pub x : Expression
+  pub is : IsExpression (ts ++ rest) x
+
+-- a word fits after these
+abbrev pub Fits : List Token → Token → Type 0
+Fits ts t = Begins (ts ++ t ∷ [])
+
+-- an operator fits
+pub record IsAfterOperand (ts : List Token) : Type 0 where
+  pub operator : Operator
+  pub fits : Fits ts (tokens.Join operator)
+
+-- no operator, parenthesis or number
+abbrev pub IsOther : Token → Type 0
+IsOther (tokens.Join operator) = ⊥
+IsOther tokens.Close = ⊥
+IsOther (tokens.Number n) = ⊥
+IsOther _ = Unit {0}
+
+-- what an error says of words and the one after them, or the end, which doesn't fit: mostly by what does fit there
+pub data Lacks (ts : List Token) : Option Token → FilterErrorKind → Type 0 where
+  operand : (next : Option Token) → Fits ts tokens.Not → Lacks ts next kinds.ExpectedOperand
+  vlan : (next : Option Token) → Fits ts tokens.Vlan → (Fits ts tokens.Not → ⊥) → Lacks ts next kinds.ExpectedVlan
+  ether_word : (next : Option Token) → Fits ts tokens.Proto → Lacks ts next kinds.ExpectedEtherWord
+  address : (next : Option Token) → Fits ts (tokens.Address 0) → Lacks ts next kinds.ExpectedAddress
+  number : (next : Option Token) (most : ℕ) → Fits ts (tokens.Number (Some most)) → (Fits ts (tokens.Number (Some (most + 1))) → ⊥) → (IsAfterOperand ts → ⊥)
+      → Lacks ts next (kinds.ExpectedNumber most)
+  vlan_id : (n : Option ℕ) → IsAfterOperand ts → Fits ts (tokens.Number (Some 4095)) → Lacks ts (Some (tokens.Number n)) (kinds.ExpectedNumber 4095)
+  no_number : (n : Option ℕ) → IsAfterOperand ts → (Fits ts (tokens.Number (Some 4095)) → ⊥) → Lacks ts (Some (tokens.Number n)) kinds.ExpectedOperator
+  operator : (t : Token) → IsAfterOperand ts → IsOther t → Lacks ts (Some t) kinds.ExpectedOperator
+  mixed : (operator : Operator) → IsAfterOperand ts → Lacks ts (Some (tokens.Join operator)) kinds.MixedOperators
+  unopened : IsAfterOperand ts → Lacks ts (Some tokens.Close) kinds.Unopened
+  unclosed : IsAfterOperand ts → Lacks ts None kinds.Unclosed
+
+-- the rows, for the words of a text that ends at a place
+pub data Refuses (ws : List Word) (end : ℕ) : FilterError → Type 0 where
+  -- the first word that fits nothing
+  word : (front rest : List Word) (w : Word) (kind : FilterErrorKind) → ws ≡ front ++ w ∷ rest → length front < MAX_WORDS
+      → Begins (tokens_of front) → (Fits (tokens_of front) (token_of w.bytes) → ⊥) → Lacks (tokens_of front) (Some (token_of w.bytes)) kind
+      → Refuses ws end (record { offset = w.at; kind = kind })
+  -- the end, if more words would have to come
+  ending : (kind : FilterErrorKind) → length ws ≤ MAX_WORDS
+      → Begins (tokens_of ws) → ((x : Expression) → IsExpression (tokens_of ws) x → ⊥) → Lacks (tokens_of ws) None kind
+      → Refuses ws end (record { offset = end; kind = kind })
+  -- the first word of too many, if all before it fit
+  long : (front rest : List Word) (w : Word) → ws ≡ front ++ w ∷ rest → length front ≡ MAX_WORDS → Begins (tokens_of front)
+      → Refuses ws end (record { offset = w.at; kind = kinds.TooLong })
+
+abbrev pub RefusesText : List ℕ → FilterError → Type 0
+RefusesText text error = Refuses (words_of text) (length text) error
+
+-- the law: a text has one expression or one refusal, and no second one
+pub record TextsMeanOne : Type 0 where
+  pub expression : (text : List ℕ) (x y : Expression) → IsExpressionOf text x → IsExpressionOf text y → x ≡ y
+  pub refusal : (text : List ℕ) (a b : FilterError) → RefusesText text a → RefusesText text b → a ≡ b
+  pub either : (text : List ℕ) (x : Expression) (a : FilterError) → IsExpressionOf text x → RefusesText text a → ⊥
