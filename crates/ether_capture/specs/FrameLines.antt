@@ -1,5 +1,5 @@
 -- The lines of a captured packet: one for the packet itself, and those of the walk through its headers.
-use Rattle.std.specs.Prelude.{◌≡◌, ℕ, ◌+◌, ◌-◌, ◌/◌, ◌%◌, ◌^◌, ◌⊎◌, max, min, List, [], ◌∷◌, ◌++◌, length, take, slice_range, codes, nat_eq, nat_lt, Bool, true, false, ◌&&◌, not, Option, Some, None, unwrap_or, if◌then◌else◌}
+use Rattle.std.specs.Prelude.{◌≡◌, ℕ, ◌+◌, ◌-◌, ◌/◌, ◌%◌, ◌^◌, ◌⊎◌, max, List, [], ◌∷◌, ◌++◌, length, take, slice_range, codes, nat_eq, nat_lt, Bool, true, false, ◌&&◌, not, Option, Some, None, unwrap_or, if◌then◌else◌}
 use Rattle.std.specs.Fmt.{decimal}
 use Rattle.etherparse.specs.Kind as kinds
 use Rattle.etherparse.specs.Header.{Header}
@@ -71,12 +71,8 @@ SelectsContent x (LinuxSll2 bytes) captured original =
     × HoldsOf x (EtherType n) (slice_range bytes 20 (length bytes)) captured original
 SelectsContent x Unknown captured original = ⊥
 
--- a captured length stays at the greatest number of 32 bits
-abbrev pub captured_len : PacketValue → ℕ
-captured_len p = min (length p.packet) (2 ^ 32 - 1)
-
 abbrev pub Selects : Expression → PacketValue → Type 0
-Selects x p = SelectsContent x (content_of p) (captured_len p) p.original_len
+Selects x p = SelectsContent x (content_of p) (length p.packet) p.original_len
 
 -- ---- the line of the packet
 

@@ -2,7 +2,6 @@
 use Rattle.std.specs.Prelude.{◌≡◌, ◌≢◌, ℕ, List, [], ◌∷◌, codes, Bool, true, false, Option, Some, None, string_bytes, ⊤}
 use Rattle.std.specs.Option.{option_map}
 use Rattle.ether_filter.specs.Expressions.{Expression}
-use Rattle.ether_filter.specs.Postfix.{expression_of}
 use Rattle.ether_filter.specs.Texts.{IsExpressionOf}
 use Rattle.ether_capture.specs.declared.options.Lines.{Lines}
 use Rattle.ether_capture.specs.declared.options.Request.{Request}
@@ -14,7 +13,7 @@ pub record LinesValue : Type 0 where
   pub select : Option Expression
 
 abbrev pub lines_view : Lines → LinesValue
-lines_view asked = record { plain = asked.is_plain; select = option_map expression_of asked.filter }
+lines_view asked = record { plain = asked.is_plain; select = asked.filter }
 
 -- these lines of the capture in the file of this name, or of standard input; the usage; the version
 pub data RequestValue : Type 0 where

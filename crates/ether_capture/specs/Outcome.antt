@@ -5,6 +5,8 @@ use Rattle.ether_pcap.specs.CaptureTexts.{capture_error_text}
 use Rattle.ether_pcap.specs.declared.capture_error.CaptureError.{CaptureError}
 use Rattle.ether_pcap.specs.declared.capture_error.CaptureError.TheVariants as errors
 use Rattle.ether_pcap.specs.declared.file_header_error.FileHeaderError.TheVariants as file_errors
+use Rattle.ether_filter.specs.ErrorTexts.{filter_error_text}
+use Rattle.ether_filter.specs.declared.filter_error.FilterError.{FilterError}
 use Rattle.ether_text.specs.declared.verdict.Verdict.{Verdict}
 use Rattle.ether_text.specs.declared.verdict.Verdict.TheVariants.{AllAccepted, SomeRefused}
 use Rattle.ether_capture.specs.declared.outcome.Outcome.{Outcome}
@@ -57,9 +59,9 @@ version_text = codes "ether_capture 1.0"
 abbrev pub not_opened_text : (name : List ℕ) → List ℕ
 not_opened_text name = name ++ codes ": can't be opened"
 
--- the place from which the text of a filter is no expression
-abbrev pub no_filter_text : ℕ → List ℕ
-no_filter_text offset = codes "--select: byte " ++ (decimal offset ++ codes ": no expression")
+-- why the text of a filter is no expression
+abbrev pub no_filter_text : FilterError → List ℕ
+no_filter_text error = codes "--select: " ++ filter_error_text error
 
 -- what the program prints last, without its line feed
 abbrev pub last_text : Outcome → Option (List ℕ)
@@ -72,7 +74,7 @@ last_text (outcomes.NotOpened name) = Some (not_opened_text (string_bytes name))
 last_text outcomes.Help = Some help_text
 last_text outcomes.Version = Some version_text
 last_text outcomes.Usage = Some usage_text
-last_text (outcomes.NoFilter error) = Some (no_filter_text error.offset)
+last_text (outcomes.NoFilter error) = Some (no_filter_text error)
 
 -- the exit status of the program, by whether its last line was printed: if not, output failed
 abbrev pub status_of_program : Outcome → (printed : Bool) → ℕ
@@ -91,4 +93,4 @@ last_line_text (last_lines.NotOpened name) = not_opened_text name.now
 last_line_text last_lines.Help = help_text
 last_line_text last_lines.Version = version_text
 last_line_text last_lines.Usage = usage_text
-last_line_text (last_lines.NoFilter offset) = no_filter_text offset
+last_line_text (last_lines.NoFilter error) = no_filter_text error.now

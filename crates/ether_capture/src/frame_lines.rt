@@ -1,11 +1,10 @@
 //! Writes the lines of a captured packet.
-ghost use Rattle.std.specs.Prelude.{◌≡◌, ◌↔◌, ◌<◌, ◌≤◌, ◌+◌, ◌/◌, ◌%◌, ◌^◌, ◌++◌, codes, Some, IsTrue};
+ghost use Rattle.std.specs.Prelude.{◌≡◌, ◌↔◌, ◌<◌, ◌≤◌, ◌+◌, ◌/◌, ◌%◌, ◌^◌, ◌++◌, codes, length, Some, IsTrue};
 ghost use Rattle.std.specs.Option.{option_map};
 ghost use Rattle.ether_pcap.specs.CaptureViews.{captured_packet_view, timestamp_view};
 ghost use Rattle.ether_peel.specs.Walker.Start.{next_of};
-ghost use Rattle.ether_filter.specs.Postfix.{expression_of};
 ghost use Rattle.ether_text.specs.OutputBuffer.{Takes, TakesAnswer};
-ghost use Rattle.ether_capture.specs.FrameLines.{is_cut, is_skipped, fcs_len, has_fcs, without_fcs, content_of, is_unknown, nine_digits, time_text, mark, packet_line_if, captured_len, AnswersPacket, HasLines, HoldsOf, Selects, totals_line_if};
+ghost use Rattle.ether_capture.specs.FrameLines.{is_cut, is_skipped, fcs_len, has_fcs, without_fcs, content_of, is_unknown, nine_digits, time_text, mark, packet_line_if, AnswersPacket, HasLines, HoldsOf, Selects, totals_line_if};
 ghost use Rattle.ether_capture.specs.ContentViews.{content_view};
 ghost use Rattle.ether_capture.specs.Options.{lines_view};
 
@@ -46,7 +45,7 @@ pub fn write_packet<W: Sink>(
 #[inline(never)]
 fn selects(filter: &Filter, content: Content<'_>, packet: &CapturedPacket<'_>) -> bool
     requires { content_view content ≡ content_of (captured_packet_view packet.now) }
-    ensures { IsTrue result ↔ Selects (expression_of filter.now) (captured_packet_view packet.now) }
+    ensures { IsTrue result ↔ Selects filter.now (captured_packet_view packet.now) }
 {
     match content {
         Content::Frame(start, bytes) => holds(filter, start, bytes, packet),
@@ -60,13 +59,13 @@ fn selects(filter: &Filter, content: Content<'_>, packet: &CapturedPacket<'_>) -
 
 /// Whether a filter's expression holds of the walk of a packet.
 fn holds(filter: &Filter, start: Start, frame: &[u8], packet: &CapturedPacket<'_>) -> bool
-    ensures { IsTrue result ↔ HoldsOf (expression_of filter.now) (next_of start) frame.now
-        (captured_len (captured_packet_view packet.now)) packet.now.original_len }
+    ensures { IsTrue result ↔ HoldsOf filter.now (next_of start) frame.now
+        (length packet.now.packet.now) packet.now.original_len }
 {
     filter.matches(&Packet {
         start,
         frame,
-        captured_len: packet.packet.len().min(0xFFFF_FFFF) as u32,
+        captured_len: packet.packet.len(),
         original_len: packet.original_len,
     })
 }

@@ -134,8 +134,8 @@ pub enum LastLine<'a> {
     Version,
     /// The arguments are wrong.
     Usage,
-    /// From this place on the text of the filter is no expression.
-    NoFilter(usize),
+    /// The text of the filter is no expression.
+    NoFilter(&'a FilterError),
 }
 
 impl fmt::Display for LastLine<'_> {
@@ -157,7 +157,7 @@ impl fmt::Display for LastLine<'_> {
             LastLine::Help => write!(f, "{HELP}"),
             LastLine::Version => write!(f, "{VERSION}"),
             LastLine::Usage => write!(f, "{USAGE}"),
-            LastLine::NoFilter(offset) => write!(f, "--select: byte {offset}: no expression"),
+            LastLine::NoFilter(error) => write!(f, "--select: {error}"),
         }
     }
 }
@@ -174,7 +174,7 @@ pub fn last_line(outcome: &Outcome) -> Option<LastLine<'_>>
         Outcome::Help => Some(LastLine::Help),
         Outcome::Version => Some(LastLine::Version),
         Outcome::Usage => Some(LastLine::Usage),
-        Outcome::NoFilter(error) => Some(LastLine::NoFilter(error.offset)),
+        Outcome::NoFilter(error) => Some(LastLine::NoFilter(error)),
     }
 }
 
