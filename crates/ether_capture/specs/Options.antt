@@ -3,7 +3,11 @@ use Rattle.std.specs.Prelude.{◌≡◌, ◌≢◌, ℕ, List, [], ◌∷◌, co
 use Rattle.std.specs.Option.{option_map}
 use Rattle.ether_filter.specs.Expressions.{Expression}
 use Rattle.ether_filter.specs.Texts.{IsExpressionOf}
+use Rattle.ether_filter.specs.Refusals.{RefusesText}
+use Rattle.ether_filter.specs.declared.filter_error.FilterError.{FilterError}
 use Rattle.ether_capture.specs.declared.options.Lines.{Lines}
+use Rattle.ether_capture.specs.declared.options.RequestError.{RequestError}
+use Rattle.ether_capture.specs.declared.options.RequestError.TheVariants as reasons
 use Rattle.ether_capture.specs.declared.options.Request.{Request}
 use Rattle.ether_capture.specs.declared.options.Request.TheVariants as requests
 
@@ -61,8 +65,28 @@ pub data NamesRequest : List (List ℕ) → RequestValue → Type 0 where
 abbrev pub NamesNothing : List (List ℕ) → Type 0
 NamesNothing words = (request : RequestValue) → ¬ (NamesRequest words request)
 
+-- the words would name something, but the text of the filter is refused in this way
+pub data NamesNoFilter : List (List ℕ) → FilterError → Type 0 where
+  select_refused : (text : List ℕ) (e : FilterError) → RefusesText text e → NamesNoFilter (codes "--select" ∷ text ∷ []) e
+  select_file_refused : (text name : List ℕ) (e : FilterError) → RefusesText text e → IsName name
+      → NamesNoFilter (codes "--select" ∷ text ∷ name ∷ []) e
+  plain_select_refused : (text : List ℕ) (e : FilterError) → RefusesText text e
+      → NamesNoFilter (codes "--plain" ∷ codes "--select" ∷ text ∷ []) e
+  plain_select_file_refused : (text name : List ℕ) (e : FilterError) → RefusesText text e → IsName name
+      → NamesNoFilter (codes "--plain" ∷ codes "--select" ∷ text ∷ name ∷ []) e
+
+-- why words are wrong
+abbrev pub RefusesWords : List (List ℕ) → RequestError → Type 0
+RefusesWords words reasons.Usage = NamesNothing words × ((e : FilterError) → ¬ (NamesNoFilter words e))
+RefusesWords words (reasons.Filter e) = NamesNoFilter words e
+
 -- a text means an expression, and this asks for the lines of the packets that it selects
 pub record AsksFor (plain : Bool) (text : List ℕ) (file : Option (List ℕ)) (request : Request) : Type 0 where
   pub expression : Expression
   pub means : IsExpressionOf text expression
   pub is : request_view request ≡ Capture (record { plain = plain; select = Some expression }) file
+
+-- a text is refused for this reason
+abbrev pub RefusesFilter : (text : List ℕ) → RequestError → Type 0
+RefusesFilter text reasons.Usage = ⊥
+RefusesFilter text (reasons.Filter e) = RefusesText text e

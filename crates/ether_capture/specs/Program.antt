@@ -3,7 +3,8 @@ use Rattle.std.specs.Prelude.{◌≡◌, ◌⊎◌, ℕ, List, [], ◌++◌, cod
 use Rattle.std.specs.Io.KnownBytes.{Appends}
 use Rattle.ether_text.specs.Run.{IsEndless}
 use Rattle.ether_text.specs.declared.verdict.Verdict.{Verdict}
-use Rattle.ether_capture.specs.Options.{LinesValue, RequestValue, Capture, Help, Version, NamesRequest, NamesNothing}
+use Rattle.ether_capture.specs.Options.{LinesValue, RequestValue, Capture, Help, Version, NamesRequest, RefusesWords}
+use Rattle.ether_capture.specs.declared.options.RequestError.TheVariants as reasons
 use Rattle.ether_capture.specs.Run.{HasRun, OnStreamFault}
 use Rattle.ether_capture.specs.Outcome.{last_text, status_of_program}
 use Rattle.ether_capture.specs.declared.outcome.Outcome.{Outcome}
@@ -46,9 +47,9 @@ HasAnswered has can_fail can_refuse can_read can_write request before after held
 abbrev pub HasObeyed : (has : List ℕ → Option (List ℕ) → Type 0) (can_fail can_refuse can_read can_write : Type 0) → Option (List (List ℕ))
     → (before after held holds : Option (List ℕ)) → Outcome → Type 0
 HasObeyed has can_fail can_refuse can_read can_write (Some words) before after held holds outcomes.Usage =
-    NamesNothing words × (after ≡ before) × (holds ≡ held)
+    RefusesWords words reasons.Usage × (after ≡ before) × (holds ≡ held)
 HasObeyed has can_fail can_refuse can_read can_write (Some words) before after held holds (outcomes.NoFilter error) =
-    NamesNothing words × (after ≡ before) × (holds ≡ held)
+    RefusesWords words (reasons.Filter error) × (after ≡ before) × (holds ≡ held)
 HasObeyed has can_fail can_refuse can_read can_write (Some words) before after held holds outcome =
     (request : RequestValue) × NamesRequest words request × HasAnswered has can_fail can_refuse can_read can_write request before after held holds outcome
 HasObeyed has can_fail can_refuse can_read can_write None before after held holds outcome =

@@ -1,11 +1,9 @@
 //! What the words after the program's name ask for.
-ghost use Rattle.std.specs.Prelude.{◌≡◌, ◌↔◌, IsTrue, [], ◌∷◌, codes, string_bytes, IfOk, OnErr};
+ghost use Rattle.std.specs.Prelude.{◌≡◌, ◌↔◌, IsTrue, [], ◌∷◌, codes, string_bytes, IfOk, IfErr};
 ghost use Rattle.std.specs.Option.{option_map};
 ghost use Rattle.std.specs.Vec.Iter.{into_iter_items};
 ghost use Rattle.ether_text.specs.Arguments.{words_after};
-ghost use Rattle.ether_filter.specs.Expressions.{Expression};
-ghost use Rattle.ether_filter.specs.Texts.{IsExpressionOf};
-ghost use Rattle.ether_capture.specs.Options.{IsName, AsksFor, NamesRequest, NamesNothing, request_view};
+ghost use Rattle.ether_capture.specs.Options.{IsName, AsksFor, NamesRequest, RefusesFilter, RefusesWords, request_view};
 
 use ether_filter::{Filter, FilterError};
 use std::env;
@@ -45,7 +43,7 @@ pub enum Request {
 /// names a file.
 pub fn request_of_args(mut args: env::Args) -> Result<Request, RequestError>
     ensures ok { IfOk result (λ request. NamesRequest (words_after (into_iter_items args)) (request_view request)) }
-    ensures err { OnErr result (NamesNothing (words_after (into_iter_items args))) }
+    ensures err { IfErr result (RefusesWords (words_after (into_iter_items args))) }
 {
     let _program = args.next();
     let Some(first) = args.next() else {
@@ -76,7 +74,7 @@ fn capture(is_plain: bool, filter: Option<Filter>, file: Option<String>) -> Requ
 /// What one word asks for.
 fn of_one(word: String) -> Result<Request, RequestError>
     ensures ok { IfOk result (λ request. NamesRequest (string_bytes word ∷ []) (request_view request)) }
-    ensures err { OnErr result (NamesNothing (string_bytes word ∷ [])) }
+    ensures err { IfErr result (RefusesWords (string_bytes word ∷ [])) }
 {
     if is_name(word.as_str()) {
         return Ok(capture(false, None, Some(word)));
@@ -92,7 +90,7 @@ fn of_one(word: String) -> Result<Request, RequestError>
 /// What two words ask for.
 fn of_two(first: &str, second: String) -> Result<Request, RequestError>
     ensures ok { IfOk result (λ request. NamesRequest (first.now ∷ string_bytes second ∷ []) (request_view request)) }
-    ensures err { OnErr result (NamesNothing (first.now ∷ string_bytes second ∷ [])) }
+    ensures err { IfErr result (RefusesWords (first.now ∷ string_bytes second ∷ [])) }
 {
     match first {
         "--plain" if is_name(second.as_str()) => Ok(capture(true, None, Some(second))),
@@ -104,7 +102,7 @@ fn of_two(first: &str, second: String) -> Result<Request, RequestError>
 /// What three words ask for.
 fn of_three(first: &str, second: &str, third: String) -> Result<Request, RequestError>
     ensures ok { IfOk result (λ request. NamesRequest (first.now ∷ second.now ∷ string_bytes third ∷ []) (request_view request)) }
-    ensures err { OnErr result (NamesNothing (first.now ∷ second.now ∷ string_bytes third ∷ [])) }
+    ensures err { IfErr result (RefusesWords (first.now ∷ second.now ∷ string_bytes third ∷ [])) }
 {
     match first {
         "--select" if is_name(third.as_str()) => selected(false, second, Some(third)),
@@ -117,7 +115,7 @@ fn of_three(first: &str, second: &str, third: String) -> Result<Request, Request
 fn of_four(first: &str, second: &str, third: &str, fourth: String) -> Result<Request, RequestError>
     ensures ok { IfOk result (λ request. NamesRequest (first.now ∷ second.now ∷ third.now ∷ string_bytes fourth ∷ [])
         (request_view request)) }
-    ensures err { OnErr result (NamesNothing (first.now ∷ second.now ∷ third.now ∷ string_bytes fourth ∷ [])) }
+    ensures err { IfErr result (RefusesWords (first.now ∷ second.now ∷ third.now ∷ string_bytes fourth ∷ [])) }
 {
     match first {
         "--plain" if is_select(second) && is_name(fourth.as_str()) => selected(
@@ -132,7 +130,7 @@ fn of_four(first: &str, second: &str, third: &str, fourth: String) -> Result<Req
 /// Lines of the packets that a text selects.
 fn selected(is_plain: bool, text: &str, file: Option<String>) -> Result<Request, RequestError>
     ensures ok { IfOk result (AsksFor is_plain text.now (option_map string_bytes file)) }
-    ensures err { OnErr result ((x : Expression) → IsExpressionOf text.now x → ⊥) }
+    ensures err { IfErr result (RefusesFilter text.now) }
 {
     match Filter::parse(text.as_bytes()) {
         Ok(filter) => Ok(capture(is_plain, Some(filter), file)),

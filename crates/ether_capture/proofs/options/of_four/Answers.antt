@@ -1,7 +1,7 @@
 use Rattle.std.proofs.Common.{rules, List, ℕ, [], ◌∷◌, Some, true, sym, subst}
 use Rattle.std.specs.Prelude.{string_bytes}
-use Rattle.ether_capture.specs.Options.{Capture, IsName, NamesRequest, plain_select_file}
-use Rattle.ether_capture.proofs.OptionsLemmas.{asks, asks_nothing, four_words}
+use Rattle.ether_capture.specs.Options.{Capture, IsName, NamesRequest, NamesNoFilter, plain_select_file, plain_select_file_refused}
+use Rattle.ether_capture.proofs.OptionsLemmas.{asks, asks_wrongly}
 use Rattle.ether_capture.proofs.options.of_four.Goals as goal
 
 pub returns-in-text-clause-ok : goal.returns-in-text-clause-ok
@@ -22,7 +22,10 @@ returns-in-text-clause-err c =
     let text = c.args.third.now in
     let name = string_bytes c.args.fourth in
     let announced = c.is_select.ensures.0 (search rules) in
-    let words = c.args.first.now ∷ c.args.second.now ∷ text ∷ name ∷ [] in
-    asks_nothing c.selected.result text words
-    (λ request names. four_words words text name request names (λ i. c.in-text.is i ∷ announced i ∷ text ∷ name ∷ []))
+    let named = subst IsName c.as_str.ensures.value (c.is_name.ensures.0 (search rules)) in
+    asks_wrongly c.selected.result text (c.args.first.now ∷ c.args.second.now ∷ text ∷ name ∷ [])
+    (λ e refused.
+    subst (λ (words : List (List ℕ)). NamesNoFilter words e)
+    (λ i. sym c.in-text.is i ∷ sym announced i ∷ text ∷ name ∷ [])
+    (plain_select_file_refused text name e refused named))
     c.selected.ensures.err

@@ -1,7 +1,7 @@
 use Rattle.std.proofs.Common.{rules, List, ℕ, [], ◌∷◌, Some, None, true, false, sym, subst}
 use Rattle.std.specs.Prelude.{string_bytes}
-use Rattle.ether_capture.specs.Options.{Capture, IsName, NamesRequest, select_file, plain_select}
-use Rattle.ether_capture.proofs.OptionsLemmas.{asks, asks_nothing, three_words, three_plain_words}
+use Rattle.ether_capture.specs.Options.{Capture, IsName, NamesRequest, NamesNoFilter, select_file, plain_select, select_file_refused, plain_select_refused}
+use Rattle.ether_capture.proofs.OptionsLemmas.{asks, asks_wrongly}
 use Rattle.ether_capture.proofs.options.of_three.Goals as goal
 
 pub returns-in-text-clause-ok : goal.returns-in-text-clause-ok
@@ -21,9 +21,11 @@ pub returns-in-text-clause-err : goal.returns-in-text-clause-err
 returns-in-text-clause-err c =
     let text = c.args.second.now in
     let name = string_bytes c.args.third in
-    let words = c.args.first.now ∷ text ∷ name ∷ [] in
-    asks_nothing c.selected.result text words
-    (λ request names. three_words words text name request names (λ i. c.in-text.is i ∷ text ∷ name ∷ []))
+    let named = subst IsName c.as_str.ensures.value (c.is_name.ensures.0 (search rules)) in
+    asks_wrongly c.selected.result text (c.args.first.now ∷ text ∷ name ∷ [])
+    (λ e refused.
+    subst (λ (word : List ℕ). NamesNoFilter (word ∷ text ∷ name ∷ []) e) (sym c.in-text.is)
+    (select_file_refused text name e refused named))
     c.selected.ensures.err
 
 pub returns-in-text-2-clause-ok : goal.returns-in-text-2-clause-ok
@@ -42,8 +44,10 @@ pub returns-in-text-2-clause-err : goal.returns-in-text-2-clause-err
 returns-in-text-2-clause-err c =
     let text = c.as_str-in-text-2.result.now in
     let announced = c.is_select.ensures.0 (search rules) in
-    let words = c.args.first.now ∷ c.args.second.now ∷ string_bytes c.args.third ∷ [] in
-    asks_nothing c.selected-in-text-2.result text words
-    (λ request names. three_plain_words words text request names
-    (λ i. c.in-text-2.is i ∷ announced i ∷ sym c.as_str-in-text-2.ensures.value i ∷ []))
+    asks_wrongly c.selected-in-text-2.result text
+    (c.args.first.now ∷ c.args.second.now ∷ string_bytes c.args.third ∷ [])
+    (λ e refused.
+    subst (λ (words : List (List ℕ)). NamesNoFilter words e)
+    (λ i. sym c.in-text-2.is i ∷ sym announced i ∷ c.as_str-in-text-2.ensures.value i ∷ [])
+    (plain_select_refused text e refused))
     c.selected-in-text-2.ensures.err

@@ -1,7 +1,7 @@
 use Rattle.std.proofs.Common.{rules, List, ℕ, [], ◌∷◌, Some, None, false, sym, ap, subst}
 use Rattle.std.specs.Prelude.{string_bytes}
-use Rattle.ether_capture.specs.Options.{Capture, IsName, NamesRequest, request_view, plain_lines, plain_file, select}
-use Rattle.ether_capture.proofs.OptionsLemmas.{asks, asks_nothing, two_words}
+use Rattle.ether_capture.specs.Options.{Capture, IsName, NamesRequest, NamesNoFilter, request_view, plain_lines, plain_file, select, select_refused}
+use Rattle.ether_capture.proofs.OptionsLemmas.{asks, asks_wrongly}
 use Rattle.ether_capture.proofs.options.of_two.Goals as goal
 
 pub returns-in-text-clause-ok : goal.returns-in-text-clause-ok
@@ -24,8 +24,8 @@ returns-in-text-2-clause-ok c =
 pub returns-in-text-2-clause-err : goal.returns-in-text-2-clause-err
 returns-in-text-2-clause-err c =
     let text = c.as_str-in-text-2.result.now in
-    let words = c.args.first.now ∷ string_bytes c.args.second ∷ [] in
-    asks_nothing c.selected.result text words
-    (λ request names. two_words words text request names
-    (λ i. c.in-text-2.is i ∷ sym c.as_str-in-text-2.ensures.value i ∷ []))
+    asks_wrongly c.selected.result text (c.args.first.now ∷ string_bytes c.args.second ∷ [])
+    (λ e refused.
+    subst (λ (words : List (List ℕ)). NamesNoFilter words e)
+    (λ i. sym c.in-text-2.is i ∷ c.as_str-in-text-2.ensures.value i ∷ []) (select_refused text e refused))
     c.selected.ensures.err
