@@ -1,4 +1,4 @@
-"""The walk through the link-layer headers of a frame, by ctypes over ether_c.h.
+"""The walk through the link-layer headers of a frame, by ctypes over etherpeel.h.
 
     lib = load("./libether_c.so")
     for unit in walk(lib, START_ETHERNET2, frame):
@@ -34,13 +34,13 @@ Unit = struct("Unit", offset=size, header_len=size, payload_start=size, payload_
 
 # what each call takes after the frame, and after the limit if it has one
 CALLS = {
-    "ether_summary": [C.POINTER(Found)],
-    "ether_walk": [C.POINTER(Unit), size, C.POINTER(size)],
-    "ether_write_back": [C.c_char_p, size, C.POINTER(size)],
-    "ether_feed": [C.POINTER(Fed)],
-    "ether_completion": [C.c_char_p, size, C.POINTER(size)],
-    "ether_missing": [C.POINTER(size)],
-    "ether_fault_text": [C.c_char_p, size, C.POINTER(size)],
+    "etherpeel_summary": [C.POINTER(Found)],
+    "etherpeel_walk": [C.POINTER(Unit), size, C.POINTER(size)],
+    "etherpeel_write_back": [C.c_char_p, size, C.POINTER(size)],
+    "etherpeel_feed": [C.POINTER(Fed)],
+    "etherpeel_completion": [C.c_char_p, size, C.POINTER(size)],
+    "etherpeel_missing": [C.POINTER(size)],
+    "etherpeel_fault_text": [C.c_char_p, size, C.POINTER(size)],
 }
 
 
@@ -63,19 +63,19 @@ def called(status):
 def summary(lib, start, frame, ether_type=0):
     """The result of the walk through a frame, which is a `bytes`."""
     found = Found()
-    called(lib.ether_summary(start, ether_type, frame, len(frame), C.byref(found)))
+    called(lib.etherpeel_summary(start, ether_type, frame, len(frame), C.byref(found)))
     return found
 
 
 def walk(lib, start, frame, ether_type=0):
     """The units of a frame, from the outermost on."""
     units, count = (Unit * (len(frame) // 4 + 1))(), size()
-    called(lib.ether_walk(start, ether_type, frame, len(frame), units, len(units), C.byref(count)))
+    called(lib.etherpeel_walk(start, ether_type, frame, len(frame), units, len(units), C.byref(count)))
     return units[:count.value]
 
 
 def fault_text(lib, start, frame, ether_type=0):
     """The text of the fault of a frame, "" if it is accepted."""
     text, length = C.create_string_buffer(512), size()
-    called(lib.ether_fault_text(start, ether_type, frame, len(frame), text, len(text), C.byref(length)))
+    called(lib.etherpeel_fault_text(start, ether_type, frame, len(frame), text, len(text), C.byref(length)))
     return text.raw[:length.value].decode("ascii")

@@ -98,6 +98,7 @@ for compiler in "$cc" $(compiler_of c clang); do
         fi
     done
 done
+run "The header beside others" sh tests/beside.sh "$cc" "$cxx" "$library" "$work"
 
 if [ -n "$python" ]; then
     "$cc" -shared -o "$work/libether_c.so" -Wl,--whole-archive "$library" -Wl,--no-whole-archive

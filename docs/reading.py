@@ -46,13 +46,13 @@ ARTEFACTS = {
         "ether_packet/src/laws.rt": ["popped_after_pushed", "pushed_after_popped"],
     },
     "C": {
-        "ether_c/src/walking.rt": ["ether_walk", "ether_walk_limited"],
-        "ether_c/src/summarizing.rt": ["ether_summary", "ether_summary_limited"],
-        "ether_c/src/writing_back.rt": ["ether_write_back", "ether_write_back_limited"],
-        "ether_c/src/feeding.rt": ["ether_feed", "ether_feed_limited"],
-        "ether_c/src/completing.rt": ["ether_completion", "ether_completion_limited"],
-        "ether_c/src/missing_bytes.rt": ["ether_missing", "ether_missing_limited"],
-        "ether_c/src/fault_text.rt": ["ether_fault_text", "ether_fault_text_limited"],
+        "ether_c/src/walking.rt": ["etherpeel_walk", "etherpeel_walk_limited"],
+        "ether_c/src/summarizing.rt": ["etherpeel_summary", "etherpeel_summary_limited"],
+        "ether_c/src/writing_back.rt": ["etherpeel_write_back", "etherpeel_write_back_limited"],
+        "ether_c/src/feeding.rt": ["etherpeel_feed", "etherpeel_feed_limited"],
+        "ether_c/src/completing.rt": ["etherpeel_completion", "etherpeel_completion_limited"],
+        "ether_c/src/missing_bytes.rt": ["etherpeel_missing", "etherpeel_missing_limited"],
+        "ether_c/src/fault_text.rt": ["etherpeel_fault_text", "etherpeel_fault_text_limited"],
     },
 }
 

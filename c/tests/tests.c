@@ -1,4 +1,4 @@
-/* Tests of ether_c.h from C and from C++: prints a line for each check that fails, and at the end
+/* Tests of etherpeel.h from C and from C++: prints a line for each check that fails, and at the end
  * "N passed, M failed". */
 #define _DEFAULT_SOURCE
 #include "check.h"
@@ -31,191 +31,208 @@ static const uint8_t ARP[] = {ADDRESSES, 0x08, 0x06, ARP_REQUEST, 0, 0};
 /* ---- layout: as crates/ether_c asserts the sizes ---- */
 
 static void layout(void) {
-    CHECK(sizeof(ether_fault) == 56 && sizeof(ether_found) == 88 && sizeof(ether_fed) == 72);
-    CHECK(sizeof(ether_ethernet2) == 16 && sizeof(ether_linux_sll) == 16 &&
-          sizeof(ether_vlan) == 6);
-    CHECK(sizeof(ether_macsec) == 24 && sizeof(ether_arp) == 40 && sizeof(ether_unit) == 144);
-    CHECK(offsetof(ether_fault, missing) == 24 && offsetof(ether_fault, kind) == 32 &&
-          offsetof(ether_fault, len_source) == 40);
-    CHECK(offsetof(ether_fault, packet_type) == 44 && offsetof(ether_fault, hardware_type) == 46 &&
-          offsetof(ether_fault, closed) == 48);
-    CHECK(offsetof(ether_found, fault) == 24 && offsetof(ether_found, rest_kind) == 80 &&
-          offsetof(ether_found, rest_protocol) == 84);
-    CHECK(offsetof(ether_fed, taken) == 8 && offsetof(ether_fed, fault) == 16);
-    CHECK(offsetof(ether_ethernet2, source) == 6 && offsetof(ether_ethernet2, ether_type) == 12 &&
-          offsetof(ether_ethernet2, has_fcs) == 14);
-    CHECK(offsetof(ether_linux_sll, address) == 6 && offsetof(ether_linux_sll, protocol) == 14);
-    CHECK(offsetof(ether_vlan, ether_type) == 2 && offsetof(ether_vlan, pcp) == 4 &&
-          offsetof(ether_vlan, dei) == 5);
-    CHECK(offsetof(ether_macsec, packet_number) == 8 && offsetof(ether_macsec, ether_type) == 12);
-    CHECK(offsetof(ether_macsec, end_station) == 14 && offsetof(ether_macsec, short_len) == 20);
-    CHECK(offsetof(ether_arp, target_protocol) == 24 && offsetof(ether_arp, hardware_type) == 32 &&
-          offsetof(ether_arp, protocol_size) == 39);
-    CHECK(offsetof(ether_unit, payload_end) == 24 && offsetof(ether_unit, kind) == 32 &&
-          offsetof(ether_unit, closed) == 36);
-    CHECK(offsetof(ether_unit, ethernet2) == 38 && offsetof(ether_unit, linux_sll) == 54 &&
-          offsetof(ether_unit, vlan) == 70);
-    CHECK(offsetof(ether_unit, macsec) == 80 && offsetof(ether_unit, arp) == 104);
-    CHECK(ETHER_C_VERSION == 1000);
+    CHECK(sizeof(etherpeel_fault) == 56 && sizeof(etherpeel_found) == 88 &&
+          sizeof(etherpeel_fed) == 72);
+    CHECK(sizeof(etherpeel_ethernet2) == 16 && sizeof(etherpeel_linux_sll) == 16 &&
+          sizeof(etherpeel_vlan) == 6);
+    CHECK(sizeof(etherpeel_macsec) == 24 && sizeof(etherpeel_arp) == 40 &&
+          sizeof(etherpeel_unit) == 144);
+    CHECK(offsetof(etherpeel_fault, missing) == 24 && offsetof(etherpeel_fault, kind) == 32 &&
+          offsetof(etherpeel_fault, len_source) == 40);
+    CHECK(offsetof(etherpeel_fault, packet_type) == 44 &&
+          offsetof(etherpeel_fault, hardware_type) == 46 &&
+          offsetof(etherpeel_fault, closed) == 48);
+    CHECK(offsetof(etherpeel_found, fault) == 24 && offsetof(etherpeel_found, rest_kind) == 80 &&
+          offsetof(etherpeel_found, rest_protocol) == 84);
+    CHECK(offsetof(etherpeel_fed, taken) == 8 && offsetof(etherpeel_fed, fault) == 16);
+    CHECK(offsetof(etherpeel_ethernet2, source) == 6 &&
+          offsetof(etherpeel_ethernet2, ether_type) == 12 &&
+          offsetof(etherpeel_ethernet2, has_fcs) == 14);
+    CHECK(offsetof(etherpeel_linux_sll, address) == 6 &&
+          offsetof(etherpeel_linux_sll, protocol) == 14);
+    CHECK(offsetof(etherpeel_vlan, ether_type) == 2 && offsetof(etherpeel_vlan, pcp) == 4 &&
+          offsetof(etherpeel_vlan, dei) == 5);
+    CHECK(offsetof(etherpeel_macsec, packet_number) == 8 &&
+          offsetof(etherpeel_macsec, ether_type) == 12);
+    CHECK(offsetof(etherpeel_macsec, end_station) == 14 &&
+          offsetof(etherpeel_macsec, short_len) == 20);
+    CHECK(offsetof(etherpeel_arp, target_protocol) == 24 &&
+          offsetof(etherpeel_arp, hardware_type) == 32 &&
+          offsetof(etherpeel_arp, protocol_size) == 39);
+    CHECK(offsetof(etherpeel_unit, payload_end) == 24 && offsetof(etherpeel_unit, kind) == 32 &&
+          offsetof(etherpeel_unit, closed) == 36);
+    CHECK(offsetof(etherpeel_unit, ethernet2) == 38 && offsetof(etherpeel_unit, linux_sll) == 54 &&
+          offsetof(etherpeel_unit, vlan) == 70);
+    CHECK(offsetof(etherpeel_unit, macsec) == 80 && offsetof(etherpeel_unit, arp) == 104);
+    CHECK(ETHERPEEL_VERSION == 0x020000);
 }
 
 /* ---- helpers ---- */
 
 /* a refusal has a text, which begins with the offset of the unit; no refusal has none */
 static int has_text(uint32_t start, uint16_t ether_type, const uint8_t *bytes, size_t len,
-                    const ether_fault *fault) {
+                    const etherpeel_fault *fault) {
     char text[512], front[64];
     size_t text_len = 99;
     const int front_len = snprintf(front, sizeof front, "at offset %zu: ", fault->offset);
-    if (ether_fault_text(start, ether_type, bytes, len, text, sizeof text, &text_len) != ETHER_DONE)
+    if (etherpeel_fault_text(start, ether_type, bytes, len, text, sizeof text, &text_len) !=
+        ETHERPEEL_DONE)
         return 0;
-    if (fault->kind == ETHER_FAULT_NONE) return text_len == 0;
+    if (fault->kind == ETHERPEEL_FAULT_NONE) return text_len == 0;
     return text_len > (size_t)front_len && memcmp(text, front, (size_t)front_len) == 0;
 }
 
-static ether_found summary_of(uint32_t start, uint16_t ether_type, const uint8_t *bytes,
-                              size_t len) {
-    ether_found found;
+static etherpeel_found summary_of(uint32_t start, uint16_t ether_type, const uint8_t *bytes,
+                                  size_t len) {
+    etherpeel_found found;
     const guarded page = guarded_page();
     memset(&found, 0xA5, sizeof found);
-    CHECK(ether_summary(start, ether_type, copied(page, bytes, len), len, &found) == ETHER_DONE);
+    CHECK(etherpeel_summary(start, ether_type, copied(page, bytes, len), len, &found) ==
+          ETHERPEEL_DONE);
     release(page);
     CHECK(has_text(start, ether_type, bytes, len, &found.fault));
     return found;
 }
 
-static int is_length(const ether_fault *f, size_t offset, size_t required, size_t len,
+static int is_length(const etherpeel_fault *f, size_t offset, size_t required, size_t len,
                      size_t missing, uint32_t layer, uint32_t source, int closed) {
-    return f->kind == ETHER_FAULT_LENGTH && f->offset == offset && f->required_len == required &&
-           f->len == len && f->missing == missing && f->layer == layer && f->len_source == source &&
-           f->packet_type == 0 && f->hardware_type == 0 && f->closed == closed;
+    return f->kind == ETHERPEEL_FAULT_LENGTH && f->offset == offset &&
+           f->required_len == required && f->len == len && f->missing == missing &&
+           f->layer == layer && f->len_source == source && f->packet_type == 0 &&
+           f->hardware_type == 0 && f->closed == closed;
 }
 
-static int is_content(const ether_fault *f, uint32_t kind, size_t offset, unsigned packet_type,
+static int is_content(const etherpeel_fault *f, uint32_t kind, size_t offset, unsigned packet_type,
                       unsigned hardware_type, int closed) {
     return f->kind == kind && f->offset == offset && f->packet_type == packet_type &&
            f->hardware_type == hardware_type && f->closed == closed && f->required_len == 0 &&
            f->len == 0 && f->missing == 0 && f->layer == 0 && f->len_source == 0;
 }
 
-static int is_none(const ether_fault *f) { return is_content(f, ETHER_FAULT_NONE, 0, 0, 0, 0); }
+static int is_none(const etherpeel_fault *f) {
+    return is_content(f, ETHERPEEL_FAULT_NONE, 0, 0, 0, 0);
+}
 
 /* ---- summaries ---- */
 
 static void accepted(void) {
-    ether_found f = summary_of(ETHER_START_ETHERNET2, 0, TAGGED, sizeof TAGGED);
+    etherpeel_found f = summary_of(ETHERPEEL_START_ETHERNET2, 0, TAGGED, sizeof TAGGED);
     CHECK(f.units == 2 && f.rest_start == 18 && f.rest_end == 19);
-    CHECK(f.rest_kind == ETHER_REST_ETHER_TYPE && f.rest_protocol == 0x0800 && is_none(&f.fault));
-    f = summary_of(ETHER_START_ETHERNET2_FCS, 0, CHECKED, sizeof CHECKED);
+    CHECK(f.rest_kind == ETHERPEEL_REST_ETHER_TYPE && f.rest_protocol == 0x0800 &&
+          is_none(&f.fault));
+    f = summary_of(ETHERPEEL_START_ETHERNET2_FCS, 0, CHECKED, sizeof CHECKED);
     CHECK(f.units == 1 && f.rest_start == 14 && f.rest_end == 15 &&
-          f.rest_kind == ETHER_REST_ETHER_TYPE && is_none(&f.fault));
-    f = summary_of(ETHER_START_ETHER_TYPE, 0x88E5, NAMED, sizeof NAMED);
+          f.rest_kind == ETHERPEEL_REST_ETHER_TYPE && is_none(&f.fault));
+    f = summary_of(ETHERPEEL_START_ETHER_TYPE, 0x88E5, NAMED, sizeof NAMED);
     CHECK(f.units == 2 && f.rest_start == 12 && f.rest_end == 12 && f.rest_protocol == 0xCCDD &&
           is_none(&f.fault));
-    f = summary_of(ETHER_START_ETHER_TYPE, 0x88E5, SEALED, sizeof SEALED);
+    f = summary_of(ETHERPEEL_START_ETHER_TYPE, 0x88E5, SEALED, sizeof SEALED);
     CHECK(f.units == 1 && f.rest_start == 14 && f.rest_end == 15 &&
-          f.rest_kind == ETHER_REST_SEALED && f.rest_protocol == 0);
-    f = summary_of(ETHER_START_ETHERNET2, 0, ARP, sizeof ARP);
+          f.rest_kind == ETHERPEEL_REST_SEALED && f.rest_protocol == 0);
+    f = summary_of(ETHERPEEL_START_ETHERNET2, 0, ARP, sizeof ARP);
     CHECK(f.units == 2 && f.rest_start == 42 && f.rest_end == 44 &&
-          f.rest_kind == ETHER_REST_AFTER_ARP && f.rest_protocol == 0);
-    f = summary_of(ETHER_START_LINUX_SLL, 0, COOKED_GRE, sizeof COOKED_GRE);
-    CHECK(f.units == 1 && f.rest_start == 16 && f.rest_end == 16 && f.rest_kind == ETHER_REST_GRE &&
-          f.rest_protocol == 0x0800);
-    f = summary_of(ETHER_START_ETHER_TYPE, 0x0800, TAGGED, sizeof TAGGED);
+          f.rest_kind == ETHERPEEL_REST_AFTER_ARP && f.rest_protocol == 0);
+    f = summary_of(ETHERPEEL_START_LINUX_SLL, 0, COOKED_GRE, sizeof COOKED_GRE);
+    CHECK(f.units == 1 && f.rest_start == 16 && f.rest_end == 16 &&
+          f.rest_kind == ETHERPEEL_REST_GRE && f.rest_protocol == 0x0800);
+    f = summary_of(ETHERPEEL_START_ETHER_TYPE, 0x0800, TAGGED, sizeof TAGGED);
     CHECK(f.units == 0 && f.rest_start == 0 && f.rest_end == 19 &&
-          f.rest_kind == ETHER_REST_ETHER_TYPE && f.rest_protocol == 0x0800);
+          f.rest_kind == ETHERPEEL_REST_ETHER_TYPE && f.rest_protocol == 0x0800);
 }
 
 static void protocols_of_cooked_captures(void) {
     uint8_t packet[16];
-    ether_found f;
+    etherpeel_found f;
     memcpy(packet, COOKED_GRE, sizeof packet);
     packet[2] = 0x03, packet[3] = 0x38; /* 824 netlink */
-    f = summary_of(ETHER_START_LINUX_SLL, 0, packet, sizeof packet);
-    CHECK(f.rest_kind == ETHER_REST_NETLINK && f.rest_protocol == 0x0800);
+    f = summary_of(ETHERPEEL_START_LINUX_SLL, 0, packet, sizeof packet);
+    CHECK(f.rest_kind == ETHERPEEL_REST_NETLINK && f.rest_protocol == 0x0800);
     packet[2] = 0x03, packet[3] = 0x23; /* 803 radiotap */
-    f = summary_of(ETHER_START_LINUX_SLL, 0, packet, sizeof packet);
-    CHECK(f.rest_kind == ETHER_REST_IGNORED && f.rest_protocol == 0x0800);
+    f = summary_of(ETHERPEEL_START_LINUX_SLL, 0, packet, sizeof packet);
+    CHECK(f.rest_kind == ETHERPEEL_REST_IGNORED && f.rest_protocol == 0x0800);
     packet[2] = 0x03, packet[3] = 0x02; /* 770 frame relay */
-    f = summary_of(ETHER_START_LINUX_SLL, 0, packet, sizeof packet);
-    CHECK(f.rest_kind == ETHER_REST_IGNORED);
+    f = summary_of(ETHERPEEL_START_LINUX_SLL, 0, packet, sizeof packet);
+    CHECK(f.rest_kind == ETHERPEEL_REST_IGNORED);
     packet[2] = 0, packet[3] = 1, packet[14] = 0,
     packet[15] = 1; /* on Ethernet, a number of Linux below the ether types */
-    f = summary_of(ETHER_START_LINUX_SLL, 0, packet, sizeof packet);
-    CHECK(f.rest_kind == ETHER_REST_ETHER_TYPE && f.rest_protocol == 1);
+    f = summary_of(ETHERPEEL_START_LINUX_SLL, 0, packet, sizeof packet);
+    CHECK(f.rest_kind == ETHERPEEL_REST_ETHER_TYPE && f.rest_protocol == 1);
 }
 
 static void refused_for_a_length(void) {
-    ether_found f = summary_of(ETHER_START_ETHERNET2, 0, TAGGED, 13);
+    etherpeel_found f = summary_of(ETHERPEEL_START_ETHERNET2, 0, TAGGED, 13);
     CHECK(f.units == 0 && f.rest_start == 0 && f.rest_end == 13 &&
-          f.rest_kind == ETHER_REST_START && f.rest_protocol == 0);
-    CHECK(is_length(&f.fault, 0, 14, 13, 1, ETHER_LAYER_ETHERNET2_HEADER, ETHER_LEN_SLICE, 0));
-    f = summary_of(ETHER_START_ETHERNET2_FCS, 0, CHECKED, 17);
-    CHECK(is_length(&f.fault, 0, 18, 17, 0, ETHER_LAYER_ETHERNET2_HEADER, ETHER_LEN_SLICE, 1));
-    f = summary_of(ETHER_START_LINUX_SLL, 0, COOKED, 15);
-    CHECK(is_length(&f.fault, 0, 16, 15, 1, ETHER_LAYER_LINUX_SLL_HEADER, ETHER_LEN_SLICE, 0));
-    f = summary_of(ETHER_START_ETHERNET2, 0, TAGGED, 16);
-    CHECK(f.units == 1 && f.rest_start == 14 && f.rest_end == 16 &&
-          f.rest_kind == ETHER_REST_ETHER_TYPE && f.rest_protocol == 0x8100);
-    CHECK(is_length(&f.fault, 14, 4, 2, 2, ETHER_LAYER_VLAN_HEADER, ETHER_LEN_SLICE, 0));
-    f = summary_of(ETHER_START_ETHER_TYPE, 0x88E5, NAMED, 5);
-    CHECK(is_length(&f.fault, 0, 6, 5, 1, ETHER_LAYER_MACSEC_HEADER, ETHER_LEN_SLICE, 0));
-    f = summary_of(ETHER_START_ETHER_TYPE, 0x88E5, SEALED, 13);
-    CHECK(is_length(&f.fault, 0, 14, 13, 1, ETHER_LAYER_MACSEC_HEADER, ETHER_LEN_SLICE, 0));
-    f = summary_of(ETHER_START_ETHER_TYPE, 0x88E5, NAMED, 9);
-    CHECK(is_length(&f.fault, 0, 12, 9, 3, ETHER_LAYER_MACSEC_PACKET, ETHER_LEN_MACSEC_SHORT_LENGTH,
+          f.rest_kind == ETHERPEEL_REST_START && f.rest_protocol == 0);
+    CHECK(is_length(&f.fault, 0, 14, 13, 1, ETHERPEEL_LAYER_ETHERNET2_HEADER, ETHERPEEL_LEN_SLICE,
                     0));
-    f = summary_of(ETHER_START_ETHERNET2, 0, ARP, 21);
-    CHECK(is_length(&f.fault, 14, 8, 7, 1, ETHER_LAYER_ARP, ETHER_LEN_SLICE, 0));
-    f = summary_of(ETHER_START_ETHERNET2, 0, ARP, 41);
-    CHECK(is_length(&f.fault, 14, 28, 27, 1, ETHER_LAYER_ARP, ETHER_LEN_ARP_ADDRESSES, 0));
+    f = summary_of(ETHERPEEL_START_ETHERNET2_FCS, 0, CHECKED, 17);
+    CHECK(is_length(&f.fault, 0, 18, 17, 0, ETHERPEEL_LAYER_ETHERNET2_HEADER, ETHERPEEL_LEN_SLICE,
+                    1));
+    f = summary_of(ETHERPEEL_START_LINUX_SLL, 0, COOKED, 15);
+    CHECK(is_length(&f.fault, 0, 16, 15, 1, ETHERPEEL_LAYER_LINUX_SLL_HEADER, ETHERPEEL_LEN_SLICE,
+                    0));
+    f = summary_of(ETHERPEEL_START_ETHERNET2, 0, TAGGED, 16);
+    CHECK(f.units == 1 && f.rest_start == 14 && f.rest_end == 16 &&
+          f.rest_kind == ETHERPEEL_REST_ETHER_TYPE && f.rest_protocol == 0x8100);
+    CHECK(is_length(&f.fault, 14, 4, 2, 2, ETHERPEEL_LAYER_VLAN_HEADER, ETHERPEEL_LEN_SLICE, 0));
+    f = summary_of(ETHERPEEL_START_ETHER_TYPE, 0x88E5, NAMED, 5);
+    CHECK(is_length(&f.fault, 0, 6, 5, 1, ETHERPEEL_LAYER_MACSEC_HEADER, ETHERPEEL_LEN_SLICE, 0));
+    f = summary_of(ETHERPEEL_START_ETHER_TYPE, 0x88E5, SEALED, 13);
+    CHECK(is_length(&f.fault, 0, 14, 13, 1, ETHERPEEL_LAYER_MACSEC_HEADER, ETHERPEEL_LEN_SLICE, 0));
+    f = summary_of(ETHERPEEL_START_ETHER_TYPE, 0x88E5, NAMED, 9);
+    CHECK(is_length(&f.fault, 0, 12, 9, 3, ETHERPEEL_LAYER_MACSEC_PACKET,
+                    ETHERPEEL_LEN_MACSEC_SHORT_LENGTH, 0));
+    f = summary_of(ETHERPEEL_START_ETHERNET2, 0, ARP, 21);
+    CHECK(is_length(&f.fault, 14, 8, 7, 1, ETHERPEEL_LAYER_ARP, ETHERPEEL_LEN_SLICE, 0));
+    f = summary_of(ETHERPEEL_START_ETHERNET2, 0, ARP, 41);
+    CHECK(is_length(&f.fault, 14, 28, 27, 1, ETHERPEEL_LAYER_ARP, ETHERPEEL_LEN_ARP_ADDRESSES, 0));
 }
 
 static void refused_in_a_closed_window(void) {
     /* a SecTag that names two bytes of payload, with a VLAN tag cut short in these */
     static const uint8_t inner[] = {0x00, 0x04, 0, 0, 0, 1, 0x81, 0x00, 0xAA, 0xBB, 0xCC, 0xDD};
-    ether_found f = summary_of(ETHER_START_ETHER_TYPE, 0x88E5, inner, sizeof inner);
+    etherpeel_found f = summary_of(ETHERPEEL_START_ETHER_TYPE, 0x88E5, inner, sizeof inner);
     CHECK(f.units == 1 && f.rest_start == 8 && f.rest_end == 10 && f.rest_protocol == 0x8100);
-    CHECK(
-        is_length(&f.fault, 8, 4, 2, 0, ETHER_LAYER_VLAN_HEADER, ETHER_LEN_MACSEC_SHORT_LENGTH, 1));
+    CHECK(is_length(&f.fault, 8, 4, 2, 0, ETHERPEEL_LAYER_VLAN_HEADER,
+                    ETHERPEEL_LEN_MACSEC_SHORT_LENGTH, 1));
 }
 
 static void refused_for_contents(void) {
     uint8_t packet[16];
     static const uint8_t version[] = {0x80, 0, 0, 0, 0, 0};
     static const uint8_t short_len[] = {ADDRESSES, 0x88, 0xE5, 0x00, 0x01, 0, 0, 0, 0};
-    ether_found f;
+    etherpeel_found f;
     memcpy(packet, COOKED, sizeof packet);
     packet[1] = 8;
-    f = summary_of(ETHER_START_LINUX_SLL, 0, packet, sizeof packet);
-    CHECK(f.units == 0 && f.rest_kind == ETHER_REST_START &&
-          is_content(&f.fault, ETHER_FAULT_PACKET_TYPE, 0, 8, 0, 0));
+    f = summary_of(ETHERPEEL_START_LINUX_SLL, 0, packet, sizeof packet);
+    CHECK(f.units == 0 && f.rest_kind == ETHERPEEL_REST_START &&
+          is_content(&f.fault, ETHERPEEL_FAULT_PACKET_TYPE, 0, 8, 0, 0));
     packet[1] = 0, packet[2] = 1, packet[3] = 1;
-    f = summary_of(ETHER_START_LINUX_SLL, 0, packet, sizeof packet);
-    CHECK(f.units == 0 && is_content(&f.fault, ETHER_FAULT_HARDWARE_TYPE, 0, 0, 257, 0));
-    f = summary_of(ETHER_START_ETHER_TYPE, 0x88E5, version, sizeof version);
-    CHECK(f.units == 0 && is_content(&f.fault, ETHER_FAULT_MACSEC_VERSION, 0, 0, 0, 0));
-    f = summary_of(ETHER_START_ETHERNET2, 0, short_len, sizeof short_len);
+    f = summary_of(ETHERPEEL_START_LINUX_SLL, 0, packet, sizeof packet);
+    CHECK(f.units == 0 && is_content(&f.fault, ETHERPEEL_FAULT_HARDWARE_TYPE, 0, 0, 257, 0));
+    f = summary_of(ETHERPEEL_START_ETHER_TYPE, 0x88E5, version, sizeof version);
+    CHECK(f.units == 0 && is_content(&f.fault, ETHERPEEL_FAULT_MACSEC_VERSION, 0, 0, 0, 0));
+    f = summary_of(ETHERPEEL_START_ETHERNET2, 0, short_len, sizeof short_len);
     CHECK(f.units == 1 && f.rest_protocol == 0x88E5 &&
-          is_content(&f.fault, ETHER_FAULT_MACSEC_SHORT_LEN, 14, 0, 0, 0));
+          is_content(&f.fault, ETHERPEEL_FAULT_MACSEC_SHORT_LEN, 14, 0, 0, 0));
 }
 
 static void summaries_with_a_limit(void) {
-    ether_found f;
-    CHECK(ether_summary_limited(ETHER_START_ETHERNET2, 0, TAGGED, sizeof TAGGED, 0, &f) ==
-          ETHER_DONE);
+    etherpeel_found f;
+    CHECK(etherpeel_summary_limited(ETHERPEEL_START_ETHERNET2, 0, TAGGED, sizeof TAGGED, 0, &f) ==
+          ETHERPEEL_DONE);
     CHECK(f.units == 1 && f.rest_start == 14 && f.rest_protocol == 0x8100 && is_none(&f.fault));
-    CHECK(ether_summary_limited(ETHER_START_ETHERNET2, 0, TAGGED, sizeof TAGGED, 1, &f) ==
-          ETHER_DONE);
+    CHECK(etherpeel_summary_limited(ETHERPEEL_START_ETHERNET2, 0, TAGGED, sizeof TAGGED, 1, &f) ==
+          ETHERPEEL_DONE);
     CHECK(f.units == 2 && f.rest_protocol == 0x0800);
-    CHECK(ether_summary_limited(ETHER_START_ETHERNET2, 0, TAGGED, sizeof TAGGED, SIZE_MAX, &f) ==
-              ETHER_DONE &&
+    CHECK(etherpeel_summary_limited(ETHERPEEL_START_ETHERNET2, 0, TAGGED, sizeof TAGGED, SIZE_MAX,
+                                    &f) == ETHERPEEL_DONE &&
           f.units == 2);
 }
 
 /* ---- units ---- */
 
-static int has_place(const ether_unit *u, uint32_t kind, size_t offset, size_t header_len,
+static int has_place(const etherpeel_unit *u, uint32_t kind, size_t offset, size_t header_len,
                      size_t end, int closed) {
     return u->kind == kind && u->offset == offset && u->header_len == header_len &&
            u->payload_start == offset + header_len && u->payload_end == end && u->closed == closed;
@@ -223,49 +240,49 @@ static int has_place(const ether_unit *u, uint32_t kind, size_t offset, size_t h
 
 static void walk_of_tags(void) {
     static const uint8_t mac[] = {2, 0, 0, 0, 0, 1};
-    ether_unit u[3];
+    etherpeel_unit u[3];
     size_t count = 99;
     memset(u, 0xA5, sizeof u);
-    CHECK(ether_walk(ETHER_START_ETHERNET2, 0, TAGGED, sizeof TAGGED, u, COUNT(u), &count) ==
-              ETHER_DONE &&
+    CHECK(etherpeel_walk(ETHERPEEL_START_ETHERNET2, 0, TAGGED, sizeof TAGGED, u, COUNT(u),
+                         &count) == ETHERPEEL_DONE &&
           count == 2);
-    CHECK(has_place(&u[0], ETHER_UNIT_ETHERNET2, 0, 14, 19, 0) && others_are_zero(&u[0]));
+    CHECK(has_place(&u[0], ETHERPEEL_UNIT_ETHERNET2, 0, 14, 19, 0) && others_are_zero(&u[0]));
     CHECK(all_are(u[0].ethernet2.destination, 6, 0xFF) &&
           memcmp(u[0].ethernet2.source, mac, 6) == 0);
     CHECK(u[0].ethernet2.ether_type == 0x8100 && u[0].ethernet2.has_fcs == 0);
-    CHECK(has_place(&u[1], ETHER_UNIT_VLAN, 14, 4, 19, 0) && others_are_zero(&u[1]));
+    CHECK(has_place(&u[1], ETHERPEEL_UNIT_VLAN, 14, 4, 19, 0) && others_are_zero(&u[1]));
     CHECK(u[1].vlan.pcp == 5 && u[1].vlan.dei == 1 && u[1].vlan.vid == 0x123 &&
           u[1].vlan.ether_type == 0x0800);
     CHECK(all_are(&u[2], sizeof u[2], 0xA5));
 }
 
 static void walk_with_a_check_sequence(void) {
-    ether_unit u;
+    etherpeel_unit u;
     size_t count;
-    CHECK(ether_walk(ETHER_START_ETHERNET2_FCS, 0, CHECKED, sizeof CHECKED, &u, 1, &count) ==
-              ETHER_DONE &&
+    CHECK(etherpeel_walk(ETHERPEEL_START_ETHERNET2_FCS, 0, CHECKED, sizeof CHECKED, &u, 1,
+                         &count) == ETHERPEEL_DONE &&
           count == 1);
-    CHECK(has_place(&u, ETHER_UNIT_ETHERNET2, 0, 14, 15, 1) && u.ethernet2.has_fcs == 1 &&
+    CHECK(has_place(&u, ETHERPEEL_UNIT_ETHERNET2, 0, 14, 15, 1) && u.ethernet2.has_fcs == 1 &&
           u.ethernet2.ether_type == 0x0800);
 }
 
 static void walk_of_sec_tags(void) {
-    ether_unit u[2];
+    etherpeel_unit u[2];
     size_t count;
-    CHECK(ether_walk(ETHER_START_ETHER_TYPE, 0x88E5, NAMED, sizeof NAMED, u, COUNT(u), &count) ==
-              ETHER_DONE &&
+    CHECK(etherpeel_walk(ETHERPEEL_START_ETHER_TYPE, 0x88E5, NAMED, sizeof NAMED, u, COUNT(u),
+                         &count) == ETHERPEEL_DONE &&
           count == 2);
-    CHECK(has_place(&u[0], ETHER_UNIT_MACSEC, 0, 8, 12, 1) && others_are_zero(&u[0]));
+    CHECK(has_place(&u[0], ETHERPEEL_UNIT_MACSEC, 0, 8, 12, 1) && others_are_zero(&u[0]));
     CHECK(u[0].macsec.ether_type == 0x8100 && u[0].macsec.short_len == 6 &&
           u[0].macsec.packet_number == 1);
     CHECK(u[0].macsec.sci_present == 0 && u[0].macsec.sci == 0 && u[0].macsec.encrypted == 0 &&
           u[0].macsec.changed == 0);
-    CHECK(has_place(&u[1], ETHER_UNIT_VLAN, 8, 4, 12, 1) && u[1].vlan.vid == 0xABB &&
+    CHECK(has_place(&u[1], ETHERPEEL_UNIT_VLAN, 8, 4, 12, 1) && u[1].vlan.vid == 0xABB &&
           u[1].vlan.pcp == 5 && u[1].vlan.dei == 0);
-    CHECK(ether_walk(ETHER_START_ETHER_TYPE, 0x88E5, SEALED, sizeof SEALED, u, COUNT(u), &count) ==
-              ETHER_DONE &&
+    CHECK(etherpeel_walk(ETHERPEEL_START_ETHER_TYPE, 0x88E5, SEALED, sizeof SEALED, u, COUNT(u),
+                         &count) == ETHERPEEL_DONE &&
           count == 1);
-    CHECK(has_place(&u[0], ETHER_UNIT_MACSEC, 0, 14, 15, 0) && u[0].macsec.ether_type == 0 &&
+    CHECK(has_place(&u[0], ETHERPEEL_UNIT_MACSEC, 0, 14, 15, 0) && u[0].macsec.ether_type == 0 &&
           u[0].macsec.packet_number == 0x01020304);
     CHECK(u[0].macsec.sci_present == 1 && u[0].macsec.sci == 0x0011223344556677u &&
           u[0].macsec.association_number == 2);
@@ -279,27 +296,28 @@ static void walk_of_the_example_of_the_standard(void) {
                                     0x99, 0x8D, 0x88, 0xE5, 0x22, 0x2A, 0xB2, 0xC2, 0x84, 0x65,
                                     0x12, 0x15, 0x35, 0x24, 0xC0, 0x89, 0x5E, 0x81, 0x08, 0x00};
     uint8_t frame[86] = {0};
-    ether_unit u[2];
+    etherpeel_unit u[2];
     size_t count;
     memcpy(frame, front, sizeof front);
-    CHECK(ether_walk(ETHER_START_ETHERNET2, 0, frame, sizeof frame, u, COUNT(u), &count) ==
-              ETHER_DONE &&
+    CHECK(etherpeel_walk(ETHERPEEL_START_ETHERNET2, 0, frame, sizeof frame, u, COUNT(u), &count) ==
+              ETHERPEEL_DONE &&
           count == 2);
     CHECK(memcmp(u[0].ethernet2.destination, front, 6) == 0 &&
           memcmp(u[0].ethernet2.source, front + 6, 6) == 0);
-    CHECK(has_place(&u[1], ETHER_UNIT_MACSEC, 14, 16, 70, 1) && u[1].macsec.ether_type == 0x0800);
+    CHECK(has_place(&u[1], ETHERPEEL_UNIT_MACSEC, 14, 16, 70, 1) &&
+          u[1].macsec.ether_type == 0x0800);
     CHECK(u[1].macsec.packet_number == 0xB2C28465u && u[1].macsec.sci == 0x12153524C0895E81u);
     CHECK(u[1].macsec.association_number == 2 && u[1].macsec.short_len == 42 &&
           u[1].macsec.end_station == 0);
 }
 
 static void walk_of_arp(void) {
-    ether_unit u[2];
+    etherpeel_unit u[2];
     size_t count;
-    CHECK(ether_walk(ETHER_START_ETHERNET2, 0, ARP, sizeof ARP, u, COUNT(u), &count) ==
-              ETHER_DONE &&
+    CHECK(etherpeel_walk(ETHERPEEL_START_ETHERNET2, 0, ARP, sizeof ARP, u, COUNT(u), &count) ==
+              ETHERPEEL_DONE &&
           count == 2);
-    CHECK(has_place(&u[1], ETHER_UNIT_ARP, 14, 28, 44, 0) && others_are_zero(&u[1]));
+    CHECK(has_place(&u[1], ETHERPEEL_UNIT_ARP, 14, 28, 44, 0) && others_are_zero(&u[1]));
     CHECK(u[1].arp.hardware_type == 1 && u[1].arp.protocol_type == 0x0800 &&
           u[1].arp.operation == 1);
     CHECK(u[1].arp.hardware_size == 6 && u[1].arp.protocol_size == 4);
@@ -309,39 +327,41 @@ static void walk_of_arp(void) {
 }
 
 static void walk_of_a_cooked_capture(void) {
-    ether_unit u[2];
+    etherpeel_unit u[2];
     size_t count;
     uint8_t packet[sizeof COOKED + 28] = {0};
     static const uint8_t arp[] = {ARP_REQUEST};
     memcpy(packet, COOKED, sizeof COOKED);
     memcpy(packet + sizeof COOKED, arp, sizeof arp);
-    CHECK(ether_walk(ETHER_START_LINUX_SLL, 0, packet, sizeof packet, u, COUNT(u), &count) ==
-              ETHER_DONE &&
+    CHECK(etherpeel_walk(ETHERPEEL_START_LINUX_SLL, 0, packet, sizeof packet, u, COUNT(u),
+                         &count) == ETHERPEEL_DONE &&
           count == 2);
-    CHECK(has_place(&u[0], ETHER_UNIT_LINUX_SLL, 0, 16, 44, 0) && others_are_zero(&u[0]));
+    CHECK(has_place(&u[0], ETHERPEEL_UNIT_LINUX_SLL, 0, 16, 44, 0) && others_are_zero(&u[0]));
     CHECK(u[0].linux_sll.packet_type == 4 && u[0].linux_sll.hardware_type == 1 &&
           u[0].linux_sll.address_len == 6);
     CHECK(memcmp(u[0].linux_sll.address, COOKED + 6, 8) == 0 && u[0].linux_sll.protocol == 0x0806);
-    CHECK(has_place(&u[1], ETHER_UNIT_ARP, 16, 28, 44, 0) && u[1].arp.sender_hardware == 24);
+    CHECK(has_place(&u[1], ETHERPEEL_UNIT_ARP, 16, 28, 44, 0) && u[1].arp.sender_hardware == 24);
 }
 
 static void walk_with_less_room(void) {
-    ether_unit u[2];
+    etherpeel_unit u[2];
     size_t count = 99;
     memset(u, 0xA5, sizeof u);
-    CHECK(ether_walk(ETHER_START_ETHERNET2, 0, TAGGED, sizeof TAGGED, u, 1, &count) == ETHER_DONE &&
+    CHECK(etherpeel_walk(ETHERPEEL_START_ETHERNET2, 0, TAGGED, sizeof TAGGED, u, 1, &count) ==
+              ETHERPEEL_DONE &&
           count == 2);
-    CHECK(u[0].kind == ETHER_UNIT_ETHERNET2 && all_are(&u[1], sizeof u[1], 0xA5));
-    CHECK(ether_walk(ETHER_START_ETHERNET2, 0, TAGGED, sizeof TAGGED, NULL, 0, &count) ==
-              ETHER_DONE &&
+    CHECK(u[0].kind == ETHERPEEL_UNIT_ETHERNET2 && all_are(&u[1], sizeof u[1], 0xA5));
+    CHECK(etherpeel_walk(ETHERPEEL_START_ETHERNET2, 0, TAGGED, sizeof TAGGED, NULL, 0, &count) ==
+              ETHERPEEL_DONE &&
           count == 2);
-    CHECK(ether_walk(ETHER_START_ETHERNET2, 0, TAGGED, 16, u, COUNT(u), &count) == ETHER_DONE &&
+    CHECK(etherpeel_walk(ETHERPEEL_START_ETHERNET2, 0, TAGGED, 16, u, COUNT(u), &count) ==
+              ETHERPEEL_DONE &&
           count == 1);
-    CHECK(ether_walk_limited(ETHER_START_ETHERNET2, 0, TAGGED, sizeof TAGGED, 0, u, COUNT(u),
-                             &count) == ETHER_DONE &&
+    CHECK(etherpeel_walk_limited(ETHERPEEL_START_ETHERNET2, 0, TAGGED, sizeof TAGGED, 0, u,
+                                 COUNT(u), &count) == ETHERPEEL_DONE &&
           count == 1);
-    CHECK(ether_walk_limited(ETHER_START_ETHERNET2, 0, TAGGED, sizeof TAGGED, 1, u, COUNT(u),
-                             &count) == ETHER_DONE &&
+    CHECK(etherpeel_walk_limited(ETHERPEEL_START_ETHERNET2, 0, TAGGED, sizeof TAGGED, 1, u,
+                                 COUNT(u), &count) == ETHERPEEL_DONE &&
           count == 2);
 }
 
@@ -353,36 +373,40 @@ static void writing_back(void) {
     uint8_t target[13];
     size_t len = 99;
     memset(target, 0xA5, sizeof target);
-    CHECK(ether_write_back(ETHER_START_ETHER_TYPE, 0x88E5, NAMED, sizeof NAMED, target,
-                           sizeof target, &len) == ETHER_DONE);
+    CHECK(etherpeel_write_back(ETHERPEEL_START_ETHER_TYPE, 0x88E5, NAMED, sizeof NAMED, target,
+                               sizeof target, &len) == ETHERPEEL_DONE);
     CHECK(len == 12 && memcmp(target, expected, sizeof target) == 0);
     memset(target, 0xA5, sizeof target);
-    CHECK(ether_write_back(ETHER_START_ETHER_TYPE, 0x88E5, NAMED, sizeof NAMED, target, 11, &len) ==
-          ETHER_NO_ROOM);
+    CHECK(etherpeel_write_back(ETHERPEEL_START_ETHER_TYPE, 0x88E5, NAMED, sizeof NAMED, target, 11,
+                               &len) == ETHERPEEL_NO_ROOM);
     CHECK(len == 12 && all_are(target, sizeof target, 0xA5));
-    CHECK(ether_write_back(ETHER_START_ETHERNET2, 0, TAGGED, sizeof TAGGED, NULL, 0, &len) ==
-              ETHER_NO_ROOM &&
+    CHECK(etherpeel_write_back(ETHERPEEL_START_ETHERNET2, 0, TAGGED, sizeof TAGGED, NULL, 0,
+                               &len) == ETHERPEEL_NO_ROOM &&
           len == 19);
-    CHECK(ether_write_back(ETHER_START_ETHERNET2, 0, NULL, 0, NULL, 0, &len) == ETHER_DONE &&
+    CHECK(etherpeel_write_back(ETHERPEEL_START_ETHERNET2, 0, NULL, 0, NULL, 0, &len) ==
+              ETHERPEEL_DONE &&
           len == 0);
-    CHECK(ether_write_back_limited(ETHER_START_ETHER_TYPE, 0x88E5, NAMED, 12, 0, target,
-                                   sizeof target, &len) == ETHER_DONE);
+    CHECK(etherpeel_write_back_limited(ETHERPEEL_START_ETHER_TYPE, 0x88E5, NAMED, 12, 0, target,
+                                       sizeof target, &len) == ETHERPEEL_DONE);
     CHECK(len == 12 && memcmp(target, NAMED, 12) == 0 && target[12] == 0xA5);
 }
 
 static void feeding(void) {
-    ether_fed f;
+    etherpeel_fed f;
     memset(&f, 0xA5, sizeof f);
-    CHECK(ether_feed(ETHER_START_ETHERNET2, 0, TAGGED, sizeof TAGGED, &f) == ETHER_DONE);
+    CHECK(etherpeel_feed(ETHERPEEL_START_ETHERNET2, 0, TAGGED, sizeof TAGGED, &f) ==
+          ETHERPEEL_DONE);
     CHECK(f.refusals == 2 && f.taken == 18 && is_none(&f.fault));
-    CHECK(ether_feed(ETHER_START_ETHERNET2, 0, TAGGED, 16, &f) == ETHER_DONE);
+    CHECK(etherpeel_feed(ETHERPEEL_START_ETHERNET2, 0, TAGGED, 16, &f) == ETHERPEEL_DONE);
     CHECK(f.refusals == 1 && f.taken == 14 &&
-          is_length(&f.fault, 14, 4, 0, 4, ETHER_LAYER_VLAN_HEADER, ETHER_LEN_SLICE, 0));
-    CHECK(ether_feed(ETHER_START_ETHERNET2_FCS, 0, CHECKED, sizeof CHECKED, &f) == ETHER_DONE);
-    CHECK(f.refusals == 0 && f.taken == 0 &&
-          is_length(&f.fault, 0, 18, 0, 0, ETHER_LAYER_ETHERNET2_HEADER, ETHER_LEN_SLICE, 1));
-    CHECK(ether_feed_limited(ETHER_START_ETHERNET2, 0, TAGGED, sizeof TAGGED, 0, &f) ==
-              ETHER_DONE &&
+          is_length(&f.fault, 14, 4, 0, 4, ETHERPEEL_LAYER_VLAN_HEADER, ETHERPEEL_LEN_SLICE, 0));
+    CHECK(etherpeel_feed(ETHERPEEL_START_ETHERNET2_FCS, 0, CHECKED, sizeof CHECKED, &f) ==
+          ETHERPEEL_DONE);
+    CHECK(
+        f.refusals == 0 && f.taken == 0 &&
+        is_length(&f.fault, 0, 18, 0, 0, ETHERPEEL_LAYER_ETHERNET2_HEADER, ETHERPEEL_LEN_SLICE, 1));
+    CHECK(etherpeel_feed_limited(ETHERPEEL_START_ETHERNET2, 0, TAGGED, sizeof TAGGED, 0, &f) ==
+              ETHERPEEL_DONE &&
           f.refusals == 1 && f.taken == 14);
 }
 
@@ -391,41 +415,46 @@ static void completing(void) {
     uint8_t fill[8];
     size_t len = 99;
     memset(fill, 0xA5, sizeof fill);
-    CHECK(ether_completion(ETHER_START_ETHERNET2, 0, TAGGED, 16, fill, sizeof fill, &len) ==
-          ETHER_DONE);
+    CHECK(etherpeel_completion(ETHERPEEL_START_ETHERNET2, 0, TAGGED, 16, fill, sizeof fill, &len) ==
+          ETHERPEEL_DONE);
     CHECK(len == 2 && fill[0] == 0 && fill[1] == 0 && all_are(fill + 2, 6, 0xA5));
-    CHECK(ether_completion(ETHER_START_ETHERNET2, 0, vlan_type, sizeof vlan_type, fill, sizeof fill,
-                           &len) == ETHER_DONE);
+    CHECK(etherpeel_completion(ETHERPEEL_START_ETHERNET2, 0, vlan_type, sizeof vlan_type, fill,
+                               sizeof fill, &len) == ETHERPEEL_DONE);
     CHECK(len == 1 && fill[0] == 1);
     memset(fill, 0xA5, sizeof fill);
-    CHECK(ether_completion(ETHER_START_ETHERNET2, 0, TAGGED, 16, fill, 1, &len) == ETHER_NO_ROOM &&
+    CHECK(etherpeel_completion(ETHERPEEL_START_ETHERNET2, 0, TAGGED, 16, fill, 1, &len) ==
+              ETHERPEEL_NO_ROOM &&
           len == 2 && all_are(fill, 8, 0xA5));
-    CHECK(ether_completion(ETHER_START_ETHERNET2, 0, TAGGED, sizeof TAGGED, fill, sizeof fill,
-                           &len) == ETHER_DONE &&
+    CHECK(etherpeel_completion(ETHERPEEL_START_ETHERNET2, 0, TAGGED, sizeof TAGGED, fill,
+                               sizeof fill, &len) == ETHERPEEL_DONE &&
           len == 0);
-    CHECK(ether_completion(ETHER_START_ETHERNET2_FCS, 0, CHECKED, 17, fill, sizeof fill, &len) ==
-              ETHER_DONE &&
+    CHECK(etherpeel_completion(ETHERPEEL_START_ETHERNET2_FCS, 0, CHECKED, 17, fill, sizeof fill,
+                               &len) == ETHERPEEL_DONE &&
           len == 0);
     CHECK(all_are(fill, 8, 0xA5));
-    CHECK(ether_completion(ETHER_START_ETHERNET2, 0, NULL, 0, NULL, 0, &len) == ETHER_NO_ROOM &&
+    CHECK(etherpeel_completion(ETHERPEEL_START_ETHERNET2, 0, NULL, 0, NULL, 0, &len) ==
+              ETHERPEEL_NO_ROOM &&
           len == 14);
-    CHECK(ether_completion_limited(ETHER_START_ETHERNET2, 0, TAGGED, 16, 0, fill, sizeof fill,
-                                   &len) == ETHER_DONE &&
+    CHECK(etherpeel_completion_limited(ETHERPEEL_START_ETHERNET2, 0, TAGGED, 16, 0, fill,
+                                       sizeof fill, &len) == ETHERPEEL_DONE &&
           len == 0);
 }
 
 static void missing_bytes(void) {
     size_t missing = 99;
-    CHECK(ether_missing(ETHER_START_ETHERNET2, 0, TAGGED, 16, &missing) == ETHER_DONE &&
+    CHECK(etherpeel_missing(ETHERPEEL_START_ETHERNET2, 0, TAGGED, 16, &missing) == ETHERPEEL_DONE &&
           missing == 2);
-    CHECK(ether_missing(ETHER_START_ETHERNET2, 0, TAGGED, sizeof TAGGED, &missing) == ETHER_DONE &&
+    CHECK(etherpeel_missing(ETHERPEEL_START_ETHERNET2, 0, TAGGED, sizeof TAGGED, &missing) ==
+              ETHERPEEL_DONE &&
           missing == 0);
     missing = 99;
-    CHECK(ether_missing(ETHER_START_ETHERNET2_FCS, 0, CHECKED, 17, &missing) == ETHER_DONE &&
+    CHECK(etherpeel_missing(ETHERPEEL_START_ETHERNET2_FCS, 0, CHECKED, 17, &missing) ==
+              ETHERPEEL_DONE &&
           missing == 0);
-    CHECK(ether_missing(ETHER_START_ETHERNET2, 0, NULL, 0, &missing) == ETHER_DONE &&
+    CHECK(etherpeel_missing(ETHERPEEL_START_ETHERNET2, 0, NULL, 0, &missing) == ETHERPEEL_DONE &&
           missing == 14);
-    CHECK(ether_missing_limited(ETHER_START_ETHERNET2, 0, TAGGED, 16, 0, &missing) == ETHER_DONE &&
+    CHECK(etherpeel_missing_limited(ETHERPEEL_START_ETHERNET2, 0, TAGGED, 16, 0, &missing) ==
+              ETHERPEEL_DONE &&
           missing == 0);
 }
 
@@ -438,21 +467,22 @@ static void texts(void) {
     char text[512];
     size_t len = 99;
     memset(text, 0x25, sizeof text);
-    CHECK(ether_fault_text(ETHER_START_ETHERNET2, 0, TAGGED, 16, text, sizeof text, &len) ==
-          ETHER_DONE);
+    CHECK(etherpeel_fault_text(ETHERPEEL_START_ETHERNET2, 0, TAGGED, 16, text, sizeof text, &len) ==
+          ETHERPEEL_DONE);
     CHECK(len == sizeof expected - 1 && memcmp(text, expected, len) == 0 && text[len] == 0x25);
     memset(text, 0x25, sizeof text);
-    CHECK(ether_fault_text(ETHER_START_ETHERNET2, 0, TAGGED, 16, text, sizeof expected - 2, &len) ==
-          ETHER_NO_ROOM);
+    CHECK(etherpeel_fault_text(ETHERPEEL_START_ETHERNET2, 0, TAGGED, 16, text, sizeof expected - 2,
+                               &len) == ETHERPEEL_NO_ROOM);
     CHECK(len == sizeof expected - 1 && all_are(text, sizeof text, 0x25));
-    CHECK(ether_fault_text(ETHER_START_ETHERNET2, 0, TAGGED, 16, NULL, 0, &len) == ETHER_NO_ROOM &&
+    CHECK(etherpeel_fault_text(ETHERPEEL_START_ETHERNET2, 0, TAGGED, 16, NULL, 0, &len) ==
+              ETHERPEEL_NO_ROOM &&
           len == sizeof expected - 1);
-    CHECK(ether_fault_text(ETHER_START_ETHERNET2, 0, TAGGED, sizeof TAGGED, text, sizeof text,
-                           &len) == ETHER_DONE &&
+    CHECK(etherpeel_fault_text(ETHERPEEL_START_ETHERNET2, 0, TAGGED, sizeof TAGGED, text,
+                               sizeof text, &len) == ETHERPEEL_DONE &&
           len == 0);
     len = 99;
-    CHECK(ether_fault_text_limited(ETHER_START_ETHERNET2, 0, TAGGED, 16, 0, text, sizeof text,
-                                   &len) == ETHER_DONE &&
+    CHECK(etherpeel_fault_text_limited(ETHERPEEL_START_ETHERNET2, 0, TAGGED, 16, 0, text,
+                                       sizeof text, &len) == ETHERPEEL_DONE &&
           len == 0);
     CHECK(all_are(text, sizeof text, 0x25));
 }
@@ -465,35 +495,37 @@ static void unknown_starts(void) {
     const size_t n = sizeof TAGGED;
     for (size_t i = 0; i < COUNT(starts); i++) {
         const uint32_t s = starts[i];
-        ether_found found;
-        ether_fed fed;
-        ether_unit units[2];
+        etherpeel_found found;
+        etherpeel_fed fed;
+        etherpeel_unit units[2];
         uint8_t target[32];
         char text[32];
         size_t len = 99;
         memset(&found, 0xA5, sizeof found), memset(&fed, 0xA5, sizeof fed),
             memset(units, 0xA5, sizeof units);
         memset(target, 0xA5, sizeof target), memset(text, 0x25, sizeof text);
-        CHECK(ether_summary(s, 0x8100, b, n, &found) == ETHER_UNKNOWN_START);
-        CHECK(ether_summary_limited(s, 0x8100, b, n, 1, &found) == ETHER_UNKNOWN_START);
-        CHECK(ether_walk(s, 0x8100, b, n, units, COUNT(units), &len) == ETHER_UNKNOWN_START);
-        CHECK(ether_walk_limited(s, 0x8100, b, n, 1, units, COUNT(units), &len) ==
-              ETHER_UNKNOWN_START);
-        CHECK(ether_write_back(s, 0x8100, b, n, target, sizeof target, &len) ==
-              ETHER_UNKNOWN_START);
-        CHECK(ether_write_back_limited(s, 0x8100, b, n, 1, target, sizeof target, &len) ==
-              ETHER_UNKNOWN_START);
-        CHECK(ether_feed(s, 0x8100, b, n, &fed) == ETHER_UNKNOWN_START);
-        CHECK(ether_feed_limited(s, 0x8100, b, n, 1, &fed) == ETHER_UNKNOWN_START);
-        CHECK(ether_completion(s, 0x8100, b, 16, target, sizeof target, &len) ==
-              ETHER_UNKNOWN_START);
-        CHECK(ether_completion_limited(s, 0x8100, b, 16, 1, target, sizeof target, &len) ==
-              ETHER_UNKNOWN_START);
-        CHECK(ether_missing(s, 0x8100, b, 16, &len) == ETHER_UNKNOWN_START);
-        CHECK(ether_missing_limited(s, 0x8100, b, 16, 1, &len) == ETHER_UNKNOWN_START);
-        CHECK(ether_fault_text(s, 0x8100, b, 16, text, sizeof text, &len) == ETHER_UNKNOWN_START);
-        CHECK(ether_fault_text_limited(s, 0x8100, b, 16, 1, text, sizeof text, &len) ==
-              ETHER_UNKNOWN_START);
+        CHECK(etherpeel_summary(s, 0x8100, b, n, &found) == ETHERPEEL_UNKNOWN_START);
+        CHECK(etherpeel_summary_limited(s, 0x8100, b, n, 1, &found) == ETHERPEEL_UNKNOWN_START);
+        CHECK(etherpeel_walk(s, 0x8100, b, n, units, COUNT(units), &len) ==
+              ETHERPEEL_UNKNOWN_START);
+        CHECK(etherpeel_walk_limited(s, 0x8100, b, n, 1, units, COUNT(units), &len) ==
+              ETHERPEEL_UNKNOWN_START);
+        CHECK(etherpeel_write_back(s, 0x8100, b, n, target, sizeof target, &len) ==
+              ETHERPEEL_UNKNOWN_START);
+        CHECK(etherpeel_write_back_limited(s, 0x8100, b, n, 1, target, sizeof target, &len) ==
+              ETHERPEEL_UNKNOWN_START);
+        CHECK(etherpeel_feed(s, 0x8100, b, n, &fed) == ETHERPEEL_UNKNOWN_START);
+        CHECK(etherpeel_feed_limited(s, 0x8100, b, n, 1, &fed) == ETHERPEEL_UNKNOWN_START);
+        CHECK(etherpeel_completion(s, 0x8100, b, 16, target, sizeof target, &len) ==
+              ETHERPEEL_UNKNOWN_START);
+        CHECK(etherpeel_completion_limited(s, 0x8100, b, 16, 1, target, sizeof target, &len) ==
+              ETHERPEEL_UNKNOWN_START);
+        CHECK(etherpeel_missing(s, 0x8100, b, 16, &len) == ETHERPEEL_UNKNOWN_START);
+        CHECK(etherpeel_missing_limited(s, 0x8100, b, 16, 1, &len) == ETHERPEEL_UNKNOWN_START);
+        CHECK(etherpeel_fault_text(s, 0x8100, b, 16, text, sizeof text, &len) ==
+              ETHERPEEL_UNKNOWN_START);
+        CHECK(etherpeel_fault_text_limited(s, 0x8100, b, 16, 1, text, sizeof text, &len) ==
+              ETHERPEEL_UNKNOWN_START);
         CHECK(len == 99 && all_are(&found, sizeof found, 0xA5) && all_are(&fed, sizeof fed, 0xA5) &&
               all_are(units, sizeof units, 0xA5));
         CHECK(all_are(target, sizeof target, 0xA5) && all_are(text, sizeof text, 0x25));
@@ -501,20 +533,21 @@ static void unknown_starts(void) {
 }
 
 static void no_frame(void) {
-    static const uint32_t starts[] = {ETHER_START_ETHERNET2, ETHER_START_ETHERNET2_FCS,
-                                      ETHER_START_LINUX_SLL};
+    static const uint32_t starts[] = {ETHERPEEL_START_ETHERNET2, ETHERPEEL_START_ETHERNET2_FCS,
+                                      ETHERPEEL_START_LINUX_SLL};
     static const size_t required[] = {14, 18, 16};
-    ether_found f;
-    ether_fed fed;
+    etherpeel_found f;
+    etherpeel_fed fed;
     size_t count;
     for (size_t i = 0; i < COUNT(starts); i++) {
-        CHECK(ether_summary(starts[i], 0, NULL, 0, &f) == ETHER_DONE && f.units == 0 &&
+        CHECK(etherpeel_summary(starts[i], 0, NULL, 0, &f) == ETHERPEEL_DONE && f.units == 0 &&
               f.fault.required_len == required[i] && f.fault.len == 0);
-        CHECK(ether_feed(starts[i], 0, NULL, 0, &fed) == ETHER_DONE && fed.taken == 0 &&
+        CHECK(etherpeel_feed(starts[i], 0, NULL, 0, &fed) == ETHERPEEL_DONE && fed.taken == 0 &&
               fed.fault.required_len == required[i]);
-        CHECK(ether_walk(starts[i], 0, NULL, 0, NULL, 0, &count) == ETHER_DONE && count == 0);
+        CHECK(etherpeel_walk(starts[i], 0, NULL, 0, NULL, 0, &count) == ETHERPEEL_DONE &&
+              count == 0);
     }
-    CHECK(ether_summary(ETHER_START_ETHER_TYPE, 0x0800, NULL, 0, &f) == ETHER_DONE &&
+    CHECK(etherpeel_summary(ETHERPEEL_START_ETHER_TYPE, 0x0800, NULL, 0, &f) == ETHERPEEL_DONE &&
           f.rest_end == 0 && is_none(&f.fault));
 }
 
@@ -538,7 +571,8 @@ static size_t draw_frame(uint8_t bytes[64]) {
 
 /* whether the units of a frame follow one another up to the rest, each header at its payload's
  * start */
-static int units_are_chained(const ether_unit *u, size_t count, size_t len, const ether_found *f) {
+static int units_are_chained(const etherpeel_unit *u, size_t count, size_t len,
+                             const etherpeel_found *f) {
     for (size_t i = 0; i < count; i++) {
         const size_t end = i + 1 < count ? u[i + 1].offset : f->rest_start;
         if (u[i].payload_start != end || u[i].offset + u[i].header_len != end) return 0;
@@ -558,25 +592,28 @@ static void drawn_frames(void) {
         const size_t len = draw_frame(bytes);
         const uint32_t start = (uint32_t)(1 + drawn(4));
         const uint8_t *frame = copied(pages[0], bytes, len);
-        ether_found f;
+        etherpeel_found f;
         size_t count, written, missing, fill_len, text_len;
-        ether_summary(start, 0x88E5, frame, len, &f);
-        ether_unit *units = (ether_unit *)(void *)last(pages[1], f.units * sizeof(ether_unit));
+        etherpeel_summary(start, 0x88E5, frame, len, &f);
+        etherpeel_unit *units =
+            (etherpeel_unit *)(void *)last(pages[1], f.units * sizeof(etherpeel_unit));
         uint8_t *target = last(pages[2], f.rest_end);
-        wrong += ether_walk(start, 0x88E5, frame, len, units, f.units, &count) != ETHER_DONE;
-        wrong += count != f.units || !units_are_chained(units, count, len, &f);
         wrong +=
-            ether_write_back(start, 0x88E5, frame, len, target, f.rest_end, &written) != ETHER_DONE;
+            etherpeel_walk(start, 0x88E5, frame, len, units, f.units, &count) != ETHERPEEL_DONE;
+        wrong += count != f.units || !units_are_chained(units, count, len, &f);
+        wrong += etherpeel_write_back(start, 0x88E5, frame, len, target, f.rest_end, &written) !=
+                 ETHERPEEL_DONE;
         wrong += written != f.rest_end;
-        ether_missing(start, 0x88E5, frame, len, &missing);
+        etherpeel_missing(start, 0x88E5, frame, len, &missing);
         wrong += missing != f.fault.missing;
-        ether_completion(start, 0x88E5, frame, len, NULL, 0, &fill_len);
-        ether_completion(start, 0x88E5, frame, len, last(pages[3], fill_len), fill_len, &fill_len);
+        etherpeel_completion(start, 0x88E5, frame, len, NULL, 0, &fill_len);
+        etherpeel_completion(start, 0x88E5, frame, len, last(pages[3], fill_len), fill_len,
+                             &fill_len);
         wrong += fill_len != 0 && fill_len < missing;
-        ether_fault_text(start, 0x88E5, frame, len, NULL, 0, &text_len);
-        wrong += (text_len == 0) != (f.fault.kind == ETHER_FAULT_NONE) || text_len >= 512;
-        wrong += ether_fault_text(start, 0x88E5, frame, len, (char *)last(pages[3], text_len),
-                                  text_len, &text_len) != ETHER_DONE;
+        etherpeel_fault_text(start, 0x88E5, frame, len, NULL, 0, &text_len);
+        wrong += (text_len == 0) != (f.fault.kind == ETHERPEEL_FAULT_NONE) || text_len >= 512;
+        wrong += etherpeel_fault_text(start, 0x88E5, frame, len, (char *)last(pages[3], text_len),
+                                      text_len, &text_len) != ETHERPEEL_DONE;
         if (count > most) most = count;
     }
     CHECK(wrong == 0 && most >= 6);

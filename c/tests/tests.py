@@ -1,4 +1,4 @@
-"""Tests of ether_c.h from Python: tests.py libether_c.so. The last line is 'N passed, M failed'."""
+"""Tests of etherpeel.h from Python: tests.py libether_c.so. The last line is 'N passed, M failed'."""
 import ctypes as C
 import itertools
 import os
@@ -49,8 +49,8 @@ def worked_examples():
 
 
 def no_frame():
-    check("NULL", lib.ether_summary(ether.START_ETHERNET2, 0, None, 0, C.byref(ether.Found())), ether.DONE)
-    check("unknown", lib.ether_summary(0, 0, None, 0, C.byref(ether.Found())), ether.UNKNOWN_START)
+    check("NULL", lib.etherpeel_summary(ether.START_ETHERNET2, 0, None, 0, C.byref(ether.Found())), ether.DONE)
+    check("unknown", lib.etherpeel_summary(0, 0, None, 0, C.byref(ether.Found())), ether.UNKNOWN_START)
 
 
 def plain(value):
@@ -115,8 +115,8 @@ def compare(start, ether_type, frame, limit=None):
     """The library's walk is the second walk: the same units with all fields, the same rest, the same fault."""
     walker = walk_of(start, ether_type, frame, limit)
     units, count, found = (ether.Unit * (len(frame) // 4 + 1))(), ether.size(), ether.Found()
-    call("ether_walk", start, ether_type, frame, limit, units, len(units), C.byref(count))
-    call("ether_summary", start, ether_type, frame, limit, C.byref(found))
+    call("etherpeel_walk", start, ether_type, frame, limit, units, len(units), C.byref(count))
+    call("etherpeel_summary", start, ether_type, frame, limit, C.byref(found))
     told = ([unit_of(unit) for unit in units[:count.value]], (found.rest_start, found.rest_end),
             (found.rest_kind, found.rest_protocol), plain(found.fault))
     expected = (walker.units, (walker.at, walker.end), walker.rest, walker.fault or (0,) * 10)
@@ -129,12 +129,12 @@ def compare_calls(start, ether_type, frame, limit=None):
     """So are the headers written back, and what is asked for while the frame arrives byte by byte."""
     walker, _ = compare(start, ether_type, frame, limit)
     target, written = C.create_string_buffer(b"Z" * (len(frame) + 1), len(frame) + 1), ether.size()
-    call("ether_write_back", start, ether_type, frame, limit, target, len(target), C.byref(written))
+    call("etherpeel_write_back", start, ether_type, frame, limit, target, len(target), C.byref(written))
     front = cleared(frame, walker)
     asked = [n for n in range(1, len(frame) + 1) if named_len(walk_of(start, ether_type, frame[:n - 1], limit)) == n]
     taken = max(asked, default=0)
     fed = ether.Fed()
-    call("ether_feed", start, ether_type, frame, limit, C.byref(fed))
+    call("etherpeel_feed", start, ether_type, frame, limit, C.byref(fed))
     fault = walk_of(start, ether_type, frame[:taken], limit).fault or (0,) * 10
     told = (written.value, target.raw, fed.refusals, fed.taken, plain(fed.fault))
     expected = (len(front), front + b"Z" * (len(frame) + 1 - len(front)), len(asked), taken, fault)

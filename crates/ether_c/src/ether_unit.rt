@@ -14,7 +14,7 @@ use etherparse::{
     ArpPacketSlice, Ethernet2Slice, LinuxSllSlice, MacsecHeaderSlice, MacsecPType, SingleVlanSlice,
 };
 
-/// The fields of an Ethernet II header: `ether_ethernet2` in C.
+/// The fields of an Ethernet II header: `etherpeel_ethernet2` in C.
 #[repr(C)]
 #[derive(Clone, Copy)]
 pub struct EtherEthernet2 {
@@ -28,7 +28,7 @@ pub struct EtherEthernet2 {
     pub has_fcs: u8,
 }
 
-/// The fields of a header of Linux cooked capture v1: `ether_linux_sll` in C.
+/// The fields of a header of Linux cooked capture v1: `etherpeel_linux_sll` in C.
 #[repr(C)]
 #[derive(Clone, Copy)]
 pub struct EtherLinuxSll {
@@ -44,7 +44,7 @@ pub struct EtherLinuxSll {
     pub protocol: u16,
 }
 
-/// The fields of a VLAN tag (IEEE 802.1Q, 9.6): `ether_vlan` in C.
+/// The fields of a VLAN tag (IEEE 802.1Q, 9.6): `etherpeel_vlan` in C.
 #[repr(C)]
 #[derive(Clone, Copy)]
 pub struct EtherVlan {
@@ -58,7 +58,7 @@ pub struct EtherVlan {
     pub dei: u8,
 }
 
-/// The fields of a MACsec SecTag (IEEE 802.1AE, 9.3): `ether_macsec` in C.
+/// The fields of a MACsec SecTag (IEEE 802.1AE, 9.3): `etherpeel_macsec` in C.
 #[repr(C)]
 #[derive(Clone, Copy)]
 pub struct EtherMacsec {
@@ -84,7 +84,7 @@ pub struct EtherMacsec {
     pub short_len: u8,
 }
 
-/// The fields of an ARP packet (RFC 826): `ether_arp` in C.
+/// The fields of an ARP packet (RFC 826): `etherpeel_arp` in C.
 #[repr(C)]
 #[derive(Clone, Copy)]
 pub struct EtherArp {
@@ -108,7 +108,7 @@ pub struct EtherArp {
     pub protocol_size: u8,
 }
 
-/// A header and where its payload is: `ether_unit` in C. Of the five headers, only that of the
+/// A header and where its payload is: `etherpeel_unit` in C. Of the five headers, only that of the
 /// unit's kind is filled; the others are 0.
 ///
 /// Each bit pattern is a value, so that C may pass memory that it has not written to.
@@ -139,7 +139,7 @@ pub struct EtherUnit {
     pub arp: EtherArp,
 }
 
-// as c/ether_c.h lays them out
+// as c/etherpeel.h lays them out
 const _: () = prove!(size_of::<EtherEthernet2>() == 16);
 
 const _: () = prove!(size_of::<EtherLinuxSll>() == 16);

@@ -1,4 +1,4 @@
-//! The walk through the link-layer headers of a frame, for callers in C. `c/ether_c.h` declares and
+//! The walk through the link-layer headers of a frame, for callers in C. `c/etherpeel.h` declares and
 //! documents the calls, and `docs/C.md` says how a program is built with them.
 //!
 //! Each export calls one function of `ether_peel`, and its contract says what that call says. Each

@@ -1,0 +1,374 @@
+/* etherpeel.h - the walk through the link-layer headers of a frame
+ *
+ * Ethernet II, VLAN tags (IEEE 802.1Q), MACsec SecTags (IEEE 802.1AE), Linux cooked capture v1 and
+ * ARP (RFC 826), each announced by the ether type of the header before it. For C99 and C++11, on
+ * Linux on x86-64. Link with libetherpeel, static or shared: pkg-config etherpeel.
+ *
+ * What holds for every call:
+ *
+ *   Frame    `bytes` points to `len` bytes, which are read and never written. NULL is allowed if
+ *            `len` is 0.
+ *   Targets  `units`, `target`, `fill` and `text` point to as many elements as `room` says. NULL is
+ *            allowed if `room` is 0. A pointer to one struct or number (`found`, `fed`, `count`,
+ *            `missing`, `written_len`, `fill_len`, `text_len`) must not be NULL. The memory need
+ *            not be initialized, and must be aligned for its type.
+ *   Overlap  What a call may write to must not overlap the frame, nor anything else that the call
+ *            may write to.
+ *   Keeping  No call keeps a pointer after it returns.
+ *   Units    Lengths count elements: bytes of frames, targets and texts, structs of `units`.
+ *            Offsets count bytes from the start of the frame.
+ *   Order    Numbers are in the byte order of the machine (host byte order), those that are passed
+ *            and those of structs; addresses are bytes in the order of the frame.
+ *   Result   ETHERPEEL_DONE, or why the call did nothing. After ETHERPEEL_UNKNOWN_START nothing was
+ *            written at all; after ETHERPEEL_NO_ROOM only the length that the target needs; after
+ *            ETHERPEEL_NO_TEXT only the length 0.
+ *   Memory   No call allocates, blocks, or stores anything between calls, so each is thread-safe.
+ *            etherpeel_completion and etherpeel_fault_text take some 2.5 KB of stack, the others
+ *            less than 1 KB.
+ *   Time     Linear in the number of headers, of which a frame has at most len / 4;
+ *            etherpeel_write_back also copies the frame.
+ *   Limits   Each call has a form `.._limited`, which reads no more than `limit` VLAN tags and
+ *            SecTags. After these, the ether type of a tag announces nothing: the walk ends there,
+ *            with no fault.
+ */
+#ifndef ETHERPEEL_H
+#define ETHERPEEL_H
+
+#include <stddef.h>
+#include <stdint.h>
+
+/* The version of this interface. The first number changes if a struct, a number or a call changes
+ * its meaning, the second if some are added. */
+#define ETHERPEEL_VERSION_MAJOR 2
+#define ETHERPEEL_VERSION_MINOR 0
+#define ETHERPEEL_VERSION (ETHERPEEL_VERSION_MAJOR * 0x10000 + ETHERPEEL_VERSION_MINOR * 0x100)
+
+#ifdef __cplusplus
+extern "C" {
+#endif
+
+/* ---- Numbers ---- */
+
+/* What a call returns. */
+enum etherpeel_status {
+    ETHERPEEL_DONE = 0,
+    /* `start` is none of enum etherpeel_start. */
+    ETHERPEEL_UNKNOWN_START = 1,
+    /* The target is too short. */
+    ETHERPEEL_NO_ROOM = 2,
+    /* A text can't be made; only etherpeel_fault_text could return it. */
+    ETHERPEEL_NO_TEXT = 3
+};
+
+/* What a frame begins with: the parameter `start` of each call. The parameter `ether_type` is read
+ * for ETHERPEEL_START_ETHER_TYPE alone. */
+enum etherpeel_start {
+    /* An Ethernet II header, of a frame without a frame check sequence. */
+    ETHERPEEL_START_ETHERNET2 = 1,
+    /* An Ethernet II header, of a frame with a frame check sequence in its last 4 bytes. */
+    ETHERPEEL_START_ETHERNET2_FCS = 2,
+    /* A header of Linux cooked capture v1 (LINKTYPE_LINUX_SLL). */
+    ETHERPEEL_START_LINUX_SLL = 3,
+    /* What `ether_type` announces: a VLAN tag, a SecTag, an ARP packet, or a payload that is not
+     * read further. */
+    ETHERPEEL_START_ETHER_TYPE = 4
+};
+
+/* The kind of a unit. */
+enum etherpeel_unit_kind {
+    ETHERPEEL_UNIT_ETHERNET2 = 1,
+    ETHERPEEL_UNIT_LINUX_SLL = 2,
+    /* The tag control information and the ether type after it. */
+    ETHERPEEL_UNIT_VLAN = 3,
+    /* A SecTag without its own ether type, with the one after it if the payload is neither
+     * encrypted nor changed. */
+    ETHERPEEL_UNIT_MACSEC = 4,
+    ETHERPEEL_UNIT_ARP = 5
+};
+
+/* What the bytes that are left are announced as; after a fault, what was expected there. */
+enum etherpeel_rest_kind {
+    /* The header that the frame begins with, which was not read. */
+    ETHERPEEL_REST_START = 0,
+    /* A protocol, by the ether type in `rest_protocol`. */
+    ETHERPEEL_REST_ETHER_TYPE = 1,
+    /* A protocol of netlink (ARPHRD_NETLINK), by the number in `rest_protocol`. */
+    ETHERPEEL_REST_NETLINK = 2,
+    /* A protocol of generic routing encapsulation (ARPHRD_IPGRE), by the number in `rest_protocol`.
+     */
+    ETHERPEEL_REST_GRE = 3,
+    /* A link whose protocol numbers have no meaning (IEEE 802.11 with radiotap, frame relay). */
+    ETHERPEEL_REST_IGNORED = 4,
+    /* A payload that MACsec has encrypted or changed, so that its protocol can't be told. */
+    ETHERPEEL_REST_SEALED = 5,
+    /* What follows an ARP packet: the padding of a short frame. */
+    ETHERPEEL_REST_AFTER_ARP = 6
+};
+
+/* Why a unit is refused. */
+enum etherpeel_fault_kind {
+    /* No unit is refused. Every other field of the fault is 0. */
+    ETHERPEEL_FAULT_NONE = 0,
+    /* The unit needs `required_len` bytes; only `len` are available. `layer` and `len_source` are
+     * set. */
+    ETHERPEEL_FAULT_LENGTH = 1,
+    /* The packet type of a cooked capture, in `packet_type`, is above 7. */
+    ETHERPEEL_FAULT_PACKET_TYPE = 2,
+    /* The meaning of protocol numbers is not known for the hardware type of a cooked capture, in
+     * `hardware_type`. */
+    ETHERPEEL_FAULT_HARDWARE_TYPE = 3,
+    /* The version bit of a SecTag is 1. */
+    ETHERPEEL_FAULT_MACSEC_VERSION = 4,
+    /* The short length of a SecTag with an unmodified payload is 1, which has no room for the ether
+     * type. */
+    ETHERPEEL_FAULT_MACSEC_SHORT_LEN = 5
+};
+
+/* The layer of a length fault; 0 in any other fault. */
+enum etherpeel_layer {
+    ETHERPEEL_LAYER_ETHERNET2_HEADER = 1,
+    ETHERPEEL_LAYER_LINUX_SLL_HEADER = 2,
+    ETHERPEEL_LAYER_VLAN_HEADER = 3,
+    ETHERPEEL_LAYER_MACSEC_HEADER = 4,
+    /* A SecTag, and the payload whose length its short length names. */
+    ETHERPEEL_LAYER_MACSEC_PACKET = 5,
+    ETHERPEEL_LAYER_ARP = 6
+};
+
+/* What gave the length that was available or required in a length fault; 0 in any other fault. */
+enum etherpeel_len_source {
+    /* The length of the frame. */
+    ETHERPEEL_LEN_SLICE = 1,
+    /* The short length of a SecTag. */
+    ETHERPEEL_LEN_MACSEC_SHORT_LENGTH = 2,
+    /* The two address lengths of an ARP packet. */
+    ETHERPEEL_LEN_ARP_ADDRESSES = 3
+};
+
+/* ---- Structs ----
+ *
+ * Numbers are in the byte order of the machine, whatever their order in the frame; addresses are
+ * bytes in the order of the frame. Flags are 0 or 1.
+ */
+
+/* A unit that is refused, or none. */
+typedef struct etherpeel_fault {
+    size_t offset;          /* where the unit starts */
+    size_t required_len;    /* the length that the unit requires, from its start */
+    size_t len;             /* the length that is available to it */
+    size_t missing;         /* the fewest further bytes that it needs, 0 if none would help */
+    uint32_t kind;          /* enum etherpeel_fault_kind */
+    uint32_t layer;         /* enum etherpeel_layer */
+    uint32_t len_source;    /* enum etherpeel_len_source */
+    uint16_t packet_type;   /* of ETHERPEEL_FAULT_PACKET_TYPE, else 0 */
+    uint16_t hardware_type; /* of ETHERPEEL_FAULT_HARDWARE_TYPE, else 0 */
+    uint8_t closed;         /* 1 if bytes appended to the frame would lie outside the unit */
+} etherpeel_fault;
+
+/* The result of a whole walk. */
+typedef struct etherpeel_found {
+    size_t units;           /* the number of units */
+    size_t rest_start;      /* where the bytes that are left start, or the unit that is refused */
+    size_t rest_end;        /* where they end, or the bytes that this unit has */
+    etherpeel_fault fault;  /* the unit that is refused, if one is */
+    uint32_t rest_kind;     /* enum etherpeel_rest_kind */
+    uint16_t rest_protocol; /* the ether type or protocol number, 0 if there is none */
+} etherpeel_found;
+
+/* The result of feeding a walk. */
+typedef struct etherpeel_fed {
+    size_t refusals;       /* how often the walk asked for more bytes and was given them */
+    size_t taken;          /* how many bytes it was given in all */
+    etherpeel_fault fault; /* the fault of the walk of these bytes, if it has one */
+} etherpeel_fed;
+
+/* An Ethernet II header (IEEE 802.3, 3.2.3 to 3.2.6). */
+typedef struct etherpeel_ethernet2 {
+    uint8_t destination[6];
+    uint8_t source[6];
+    uint16_t ether_type;
+    uint8_t has_fcs; /* 1 if a frame check sequence follows, in the 4 bytes from payload_end on */
+} etherpeel_ethernet2;
+
+/* A header of Linux cooked capture v1. */
+typedef struct etherpeel_linux_sll {
+    uint16_t packet_type;   /* 0 to 7: to us, to all, to a group, to someone else, by us .. */
+    uint16_t hardware_type; /* the ARPHRD_ number of the link */
+    uint16_t address_len;   /* may exceed 8, though the field holds only 8 bytes */
+    uint8_t address[8];     /* the sender's address, truncated or padded */
+    uint16_t protocol;
+} etherpeel_linux_sll;
+
+/* A VLAN tag (IEEE 802.1Q, 9.6). */
+typedef struct etherpeel_vlan {
+    uint16_t vid;        /* VLAN identifier, 0 to 4095 */
+    uint16_t ether_type; /* the ether type after the tag */
+    uint8_t pcp;         /* priority code point, 0 to 7 */
+    uint8_t dei;         /* drop eligible indicator */
+} etherpeel_vlan;
+
+/* A MACsec SecTag (IEEE 802.1AE, 9.3). */
+typedef struct etherpeel_macsec {
+    uint64_t sci; /* secure channel identifier, 0 if sci_present is 0 */
+    uint32_t packet_number;
+    uint16_t ether_type;           /* after the tag, 0 if encrypted or changed is 1 */
+    uint8_t end_station;           /* bit ES */
+    uint8_t sci_present;           /* bit SC */
+    uint8_t single_copy_broadcast; /* bit SCB */
+    uint8_t encrypted;             /* bit E */
+    uint8_t changed;               /* bit C */
+    uint8_t association_number;    /* 0 to 3 */
+    uint8_t short_len;             /* 0 to 63 */
+} etherpeel_macsec;
+
+/* An ARP packet (RFC 826). The addresses are read from the frame: sender_hardware ..
+ * sender_hardware + hardware_size, and so on. */
+typedef struct etherpeel_arp {
+    size_t sender_hardware; /* where the address starts, in bytes from the start of the frame */
+    size_t sender_protocol;
+    size_t target_hardware;
+    size_t target_protocol;
+    uint16_t hardware_type;
+    uint16_t protocol_type;
+    uint16_t operation;    /* 1 request, 2 reply */
+    uint8_t hardware_size; /* the length of each hardware address */
+    uint8_t protocol_size; /* the length of each protocol address */
+} etherpeel_arp;
+
+/* A unit: a header, and where its payload is. Of the five headers the one of the unit's kind is
+ * filled, the others are all 0. */
+typedef struct etherpeel_unit {
+    size_t offset;     /* where the header starts */
+    size_t header_len; /* its length; of an ARP packet, that of the whole packet */
+    size_t payload_start;
+    size_t payload_end; /* before a frame check sequence, or where a SecTag says */
+    uint32_t kind;      /* enum etherpeel_unit_kind */
+    uint8_t closed;     /* 1 if bytes appended to the frame would lie outside the payload */
+    etherpeel_ethernet2 ethernet2;
+    etherpeel_linux_sll linux_sll;
+    etherpeel_vlan vlan;
+    etherpeel_macsec macsec;
+    etherpeel_arp arp;
+} etherpeel_unit;
+
+/* ---- Calls ---- */
+
+/* etherpeel_summary - the result of the walk through a frame
+ *
+ * Fills *found with the number of units, the window that is left and its announced kind, and the
+ * fault if a unit is refused.
+ * Returns ETHERPEEL_DONE or ETHERPEEL_UNKNOWN_START. A frame that is refused is ETHERPEEL_DONE,
+ * with found->fault.kind other than ETHERPEEL_FAULT_NONE. The form with a limit above len / 4
+ * fills *found as the form without one does.
+ * Overlap: *found must not overlap the frame. Every number is in host byte order. Thread-safe;
+ * takes no memory.
+ */
+uint32_t etherpeel_summary(uint32_t start, uint16_t ether_type, const uint8_t *bytes, size_t len,
+                           etherpeel_found *found);
+uint32_t etherpeel_summary_limited(uint32_t start, uint16_t ether_type, const uint8_t *bytes,
+                                   size_t len, size_t limit, etherpeel_found *found);
+
+/* etherpeel_walk - the units of a frame
+ *
+ * Fills units[0], units[1] .. with the units of the frame from the outermost on, as many as there
+ * is room for, and *count with how many there are in all, which may exceed `room`. Elements from
+ * *count on stay as they were. If a unit is refused, the ones before it are there:
+ * etherpeel_summary says why the walk ended. The units of a frame are at most len / 4.
+ * Returns ETHERPEEL_DONE or ETHERPEEL_UNKNOWN_START.
+ * Overlap: frame, units and *count must not overlap. Every number is in host byte order, the
+ * addresses of a unit in that of the frame. Thread-safe; takes no memory.
+ */
+uint32_t etherpeel_walk(uint32_t start, uint16_t ether_type, const uint8_t *bytes, size_t len,
+                        etherpeel_unit *units, size_t room, size_t *count);
+uint32_t etherpeel_walk_limited(uint32_t start, uint16_t ether_type, const uint8_t *bytes,
+                                size_t len, size_t limit, etherpeel_unit *units, size_t room,
+                                size_t *count);
+
+/* etherpeel_write_back - writes the headers of a frame, and what is left after them
+ *
+ * Writes each header as its bytes, and after them the bytes of the window that is left, to the
+ * front of `target`: the bytes of the frame up to there, but with the two reserved bits of each
+ * SecTag 0. The bytes of `target` after these stay as they were. A frame check sequence is not
+ * written. *written_len is where that window ends in the frame, which is the number of bytes
+ * written.
+ * Returns ETHERPEEL_DONE, ETHERPEEL_UNKNOWN_START, or ETHERPEEL_NO_ROOM if `room` is smaller than
+ * *written_len; then `target` stays as it was.
+ * Overlap: frame, target and *written_len must not overlap: it does not write in place. Every
+ * number is in host byte order. Thread-safe; takes no memory.
+ */
+uint32_t etherpeel_write_back(uint32_t start, uint16_t ether_type, const uint8_t *bytes, size_t len,
+                              uint8_t *target, size_t room, size_t *written_len);
+uint32_t etherpeel_write_back_limited(uint32_t start, uint16_t ether_type, const uint8_t *bytes,
+                                      size_t len, size_t limit, uint8_t *target, size_t room,
+                                      size_t *written_len);
+
+/* etherpeel_feed - what a reader takes that asks for exactly the bytes that the walk needs next
+ *
+ * The walk begins with no bytes. While it stops at a unit that needs more bytes, in a window that
+ * is open, and the frame has them, it is given as many as the unit needs at least. Of a frame
+ * without a check sequence that is accepted it takes all headers, and each payload whose length a
+ * SecTag names, and no byte more; of one with a check sequence nothing.
+ * Returns ETHERPEEL_DONE or ETHERPEEL_UNKNOWN_START.
+ * Overlap: *fed must not overlap the frame. Every number is in host byte order. Thread-safe; takes
+ * no memory.
+ */
+uint32_t etherpeel_feed(uint32_t start, uint16_t ether_type, const uint8_t *bytes, size_t len,
+                        etherpeel_fed *fed);
+uint32_t etherpeel_feed_limited(uint32_t start, uint16_t ether_type, const uint8_t *bytes,
+                                size_t len, size_t limit, etherpeel_fed *fed);
+
+/* etherpeel_completion - the fewest bytes that, after a frame cut short, make it accepted
+ *
+ * They complete the unit in which the frame ends: an Ethernet II header, a VLAN tag, an ARP packet,
+ * or a SecTag with the payload whose length it names. Each is 0, but 1 if a 0 would end an ether
+ * type that announces a VLAN tag. *fill_len is their number, at most 1028; it is 0 if no bytes
+ * complete the frame: it is accepted, or is refused for its contents or in a closed window, or ends
+ * in a header of cooked capture, in fewer than six bytes of a SecTag, or in the payload of a whole
+ * SecTag.
+ * Returns ETHERPEEL_DONE, ETHERPEEL_UNKNOWN_START, or ETHERPEEL_NO_ROOM if `room` is smaller than
+ * *fill_len; then `fill` stays as it was.
+ * Overlap: frame, fill and *fill_len must not overlap; `fill` may be the memory right after the
+ * frame. Every number is in host byte order. Thread-safe; takes no memory.
+ */
+uint32_t etherpeel_completion(uint32_t start, uint16_t ether_type, const uint8_t *bytes, size_t len,
+                              uint8_t *fill, size_t room, size_t *fill_len);
+uint32_t etherpeel_completion_limited(uint32_t start, uint16_t ether_type, const uint8_t *bytes,
+                                      size_t len, size_t limit, uint8_t *fill, size_t room,
+                                      size_t *fill_len);
+
+/* etherpeel_missing - the minimum number of further bytes that the refused unit needs
+ *
+ * *missing is 0 if more bytes after the frame would not help: it is accepted, or is refused for its
+ * contents or in a closed window. Supplying the missing bytes does not guarantee acceptance. The
+ * number is also the field `missing` of the fault of etherpeel_summary.
+ * Returns ETHERPEEL_DONE or ETHERPEEL_UNKNOWN_START.
+ * Overlap: *missing must not overlap the frame. Every number is in host byte order. Thread-safe;
+ * takes no memory.
+ */
+uint32_t etherpeel_missing(uint32_t start, uint16_t ether_type, const uint8_t *bytes, size_t len,
+                           size_t *missing);
+uint32_t etherpeel_missing_limited(uint32_t start, uint16_t ether_type, const uint8_t *bytes,
+                                   size_t len, size_t limit, size_t *missing);
+
+/* etherpeel_fault_text - the text of the fault of a frame, in English
+ *
+ * Writes the text, such as "at offset 14: VLAN Header Error: ..", to the front of `text`, in ASCII
+ * with no 0 byte at its end. *text_len is its length, fewer than 512 bytes; it is 0 if the frame is
+ * accepted.
+ * Returns ETHERPEEL_DONE, ETHERPEEL_UNKNOWN_START, or ETHERPEEL_NO_ROOM if `room` is smaller than
+ * *text_len; then `text` stays as it was. ETHERPEEL_NO_TEXT is not ruled out by proof, though every
+ * refusal in the tests gives a text; after it *text_len is 0, and `text` stays as it was.
+ * Overlap: frame, text and *text_len must not overlap. Every number is in host byte order.
+ * Thread-safe; takes no memory.
+ */
+uint32_t etherpeel_fault_text(uint32_t start, uint16_t ether_type, const uint8_t *bytes, size_t len,
+                              char *text, size_t room, size_t *text_len);
+uint32_t etherpeel_fault_text_limited(uint32_t start, uint16_t ether_type, const uint8_t *bytes,
+                                      size_t len, size_t limit, char *text, size_t room,
+                                      size_t *text_len);
+
+#ifdef __cplusplus
+}
+#endif
+
+#endif
