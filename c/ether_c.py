@@ -1,6 +1,6 @@
 """The walk through the link-layer headers of a frame, by ctypes over etherpeel.h.
 
-    lib = load("./libether_c.so")
+    lib = load("./libetherpeel.so.2")
     for unit in walk(lib, START_ETHERNET2, frame):
         print(unit.offset, unit.kind)
 """

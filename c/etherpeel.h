@@ -34,6 +34,10 @@
 #ifndef ETHERPEEL_H
 #define ETHERPEEL_H
 
+#if !defined(__linux__) || !defined(__x86_64__) || !defined(__LP64__)
+#error "etherpeel.h is for Linux on x86-64: the library passes slices and structs as they are there"
+#endif
+
 #include <stddef.h>
 #include <stdint.h>
 
@@ -250,6 +254,57 @@ typedef struct etherpeel_unit {
     etherpeel_macsec macsec;
     etherpeel_arp arp;
 } etherpeel_unit;
+
+/* ---- The library ----
+ *
+ * A program that takes the shared library, or that declares the structs in another language, finds
+ * out whether the library that it runs with has the same. Each of these calls takes and returns
+ * numbers alone, in host byte order, is thread-safe and takes no memory.
+ */
+
+/* The structs, for etherpeel_sizeof. */
+enum etherpeel_struct {
+    ETHERPEEL_STRUCT_FAULT = 1,
+    ETHERPEEL_STRUCT_FOUND = 2,
+    ETHERPEEL_STRUCT_FED = 3,
+    ETHERPEEL_STRUCT_ETHERNET2 = 4,
+    ETHERPEEL_STRUCT_LINUX_SLL = 5,
+    ETHERPEEL_STRUCT_VLAN = 6,
+    ETHERPEEL_STRUCT_MACSEC = 7,
+    ETHERPEEL_STRUCT_ARP = 8,
+    ETHERPEEL_STRUCT_UNIT = 9
+};
+
+/* etherpeel_version - the version of the library, as ETHERPEEL_VERSION is that of this header */
+uint32_t etherpeel_version(void);
+
+/* etherpeel_sizeof - the size in bytes of a struct, by its number of enum etherpeel_struct; 0 if no
+ * struct has the number */
+size_t etherpeel_sizeof(uint32_t number);
+
+/* etherpeel_fits - 1 if the library is one for this header: its version has the same first number,
+ * and is not below that of the header, and the structs have the same sizes; else 0 */
+static inline int etherpeel_fits(void) {
+    return etherpeel_version() / 0x10000 == ETHERPEEL_VERSION_MAJOR &&
+           etherpeel_version() >= ETHERPEEL_VERSION &&
+           etherpeel_sizeof(ETHERPEEL_STRUCT_FAULT) == sizeof(etherpeel_fault) &&
+           etherpeel_sizeof(ETHERPEEL_STRUCT_FOUND) == sizeof(etherpeel_found) &&
+           etherpeel_sizeof(ETHERPEEL_STRUCT_FED) == sizeof(etherpeel_fed) &&
+           etherpeel_sizeof(ETHERPEEL_STRUCT_ETHERNET2) == sizeof(etherpeel_ethernet2) &&
+           etherpeel_sizeof(ETHERPEEL_STRUCT_LINUX_SLL) == sizeof(etherpeel_linux_sll) &&
+           etherpeel_sizeof(ETHERPEEL_STRUCT_VLAN) == sizeof(etherpeel_vlan) &&
+           etherpeel_sizeof(ETHERPEEL_STRUCT_MACSEC) == sizeof(etherpeel_macsec) &&
+           etherpeel_sizeof(ETHERPEEL_STRUCT_ARP) == sizeof(etherpeel_arp) &&
+           etherpeel_sizeof(ETHERPEEL_STRUCT_UNIT) == sizeof(etherpeel_unit);
+}
+
+/* etherpeel_start_of_link_type - the number of enum etherpeel_start for packets of a link type, 0
+ * if the walk does not begin with these
+ *
+ * The link type is what pcap_datalink of libpcap returns, or what a capture file says: 1
+ * (DLT_EN10MB) for ETHERPEEL_START_ETHERNET2, 113 (DLT_LINUX_SLL) for ETHERPEEL_START_LINUX_SLL.
+ */
+uint32_t etherpeel_start_of_link_type(uint32_t link_type);
 
 /* ---- Calls ---- */
 

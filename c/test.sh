@@ -99,10 +99,11 @@ for compiler in "$cc" $(compiler_of c clang); do
     done
 done
 run "The header beside others" sh tests/beside.sh "$cc" "$cxx" "$library" "$work"
+sh link.sh "$cc" "$library" "$work/libetherpeel.so.2"
+run "The shared library" sh tests/shared.sh "$cc" "$work/libetherpeel.so.2" "$work"
 
 if [ -n "$python" ]; then
-    "$cc" -shared -o "$work/libether_c.so" -Wl,--whole-archive "$library" -Wl,--no-whole-archive
-    run "Python, $python" "$python" tests/tests.py "$work/libether_c.so"
+    run "Python, $python" "$python" tests/tests.py "$work/libetherpeel.so.2"
     run "The examples" sh tests/examples.sh "$cc" "$library" "$python" "$work"
     run "The lines of the tool" sh tests/lines.sh "$cc" "$library" "$python" "$work"
 fi

@@ -53,6 +53,8 @@ ARTEFACTS = {
         "ether_c/src/completing.rt": ["etherpeel_completion", "etherpeel_completion_limited"],
         "ether_c/src/missing_bytes.rt": ["etherpeel_missing", "etherpeel_missing_limited"],
         "ether_c/src/fault_text.rt": ["etherpeel_fault_text", "etherpeel_fault_text_limited"],
+        "ether_c/src/library.rt": ["etherpeel_version", "etherpeel_sizeof"],
+        "ether_c/src/link_types.rt": ["etherpeel_start_of_link_type"],
     },
 }
 

@@ -19,6 +19,6 @@ cut=FFFFFFFFFFFF0200000000018100B123
 "$cc" -std=c99 -O2 -o "$work/headers" examples/headers.c "$library"
 check headers.c "$("$work/headers" $tagged)" "$tagged_lines"
 check headers.c "$("$work/headers" $cut)" "$cut_lines"
-check headers.py "$("$python" examples/headers.py "$work/libether_c.so" $tagged)" "$tagged_lines"
-check headers.py "$("$python" examples/headers.py "$work/libether_c.so" $cut)" "$cut_lines"
+check headers.py "$("$python" examples/headers.py "$work/libetherpeel.so.2" $tagged)" "$tagged_lines"
+check headers.py "$("$python" examples/headers.py "$work/libetherpeel.so.2" $cut)" "$cut_lines"
 echo "$passed passed, $failed failed"

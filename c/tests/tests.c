@@ -64,7 +64,19 @@ static void layout(void) {
     CHECK(offsetof(etherpeel_unit, ethernet2) == 38 && offsetof(etherpeel_unit, linux_sll) == 54 &&
           offsetof(etherpeel_unit, vlan) == 70);
     CHECK(offsetof(etherpeel_unit, macsec) == 80 && offsetof(etherpeel_unit, arp) == 104);
-    CHECK(ETHERPEEL_VERSION == 0x020000);
+}
+
+/* ---- the library: its version, the sizes of its structs, link types ---- */
+
+static void library(void) {
+    CHECK(ETHERPEEL_VERSION == 0x020000 && etherpeel_version() == 0x020000 && etherpeel_fits());
+    CHECK(etherpeel_sizeof(ETHERPEEL_STRUCT_FAULT) == 56 &&
+          etherpeel_sizeof(ETHERPEEL_STRUCT_UNIT) == 144);
+    CHECK(etherpeel_sizeof(0) == 0 && etherpeel_sizeof(99) == 0 && etherpeel_sizeof(~0u) == 0);
+    CHECK(etherpeel_start_of_link_type(1) == ETHERPEEL_START_ETHERNET2 &&
+          etherpeel_start_of_link_type(113) == ETHERPEEL_START_LINUX_SLL);
+    CHECK(etherpeel_start_of_link_type(0) == 0 && etherpeel_start_of_link_type(276) == 0 &&
+          etherpeel_start_of_link_type(0x10001) == 0);
 }
 
 /* ---- helpers ---- */
@@ -622,6 +634,7 @@ static void drawn_frames(void) {
 
 int main(void) {
     layout();
+    library();
     accepted();
     protocols_of_cooked_captures();
     refused_for_a_length();

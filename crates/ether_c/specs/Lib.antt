@@ -1,4 +1,5 @@
 pub mod Numbers
+pub mod Library
 pub mod Starts
 pub mod Found
 pub mod Calls

@@ -14,6 +14,8 @@ mod ether_found;
 mod ether_unit;
 pub mod fault_text;
 pub mod feeding;
+pub mod library;
+pub mod link_types;
 pub mod missing_bytes;
 mod numbers;
 mod putting;
