@@ -4,7 +4,7 @@
 #include <stdio.h>
 #include <string.h>
 
-#include "../etherpeel.h"
+#include <etherpeel.h>
 
 static size_t parsed(const char *digits, uint8_t *bytes, size_t room) {
     size_t len = 0;

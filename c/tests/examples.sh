@@ -1,4 +1,4 @@
-# Compares what the examples in C and in Python print with what docs/C.md says: examples.sh CC LIBRARY PYTHON FOLDER
+# Compares what the examples in C and in Python print with what docs/C.md says; FOLDER/package has the package: examples.sh CC LIBRARY PYTHON FOLDER
 cc=$1 library=$2 python=$3 work=$4
 passed=0 failed=0
 check() {
@@ -16,9 +16,9 @@ tagged_lines='0: Ethernet II to ff:ff:ff:ff:ff:ff from 02:00:00:00:00:01 type 0x
 cut_lines="0: Ethernet II to ff:ff:ff:ff:ff:ff from 02:00:00:00:00:01 type 0x8100
 refused at offset 14: VLAN Header Error: Not enough data to decode 'VLAN header'. 4 byte(s) would be required, but only 2 byte(s) are available based on the slice length ('VLAN header' starts at overall parsed byte 14)."
 cut=FFFFFFFFFFFF0200000000018100B123
-"$cc" -std=c99 -O2 -o "$work/headers" examples/headers.c "$library"
+"$cc" -std=c99 -O2 -I. -o "$work/headers" examples/headers.c "$library"
 check headers.c "$("$work/headers" $tagged)" "$tagged_lines"
 check headers.c "$("$work/headers" $cut)" "$cut_lines"
-check headers.py "$("$python" examples/headers.py "$work/libetherpeel.so.2" $tagged)" "$tagged_lines"
-check headers.py "$("$python" examples/headers.py "$work/libetherpeel.so.2" $cut)" "$cut_lines"
+check headers.py "$(PYTHONPATH=$work/package "$python" examples/headers.py $tagged)" "$tagged_lines"
+check headers.py "$(PYTHONPATH=$work/package "$python" examples/headers.py $cut)" "$cut_lines"
 echo "$passed passed, $failed failed"

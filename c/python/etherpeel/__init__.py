@@ -1,0 +1,443 @@
+"""The walk through the link-layer headers of a frame: Ethernet II, VLAN tags, MACsec SecTags, Linux cooked capture v1, ARP.
+
+    import etherpeel
+
+    frame = bytes.fromhex("FFFFFFFFFFFF0200000000018100B123080045")
+    for unit in etherpeel.walk(frame):
+        if isinstance(unit.header, etherpeel.Vlan):
+            print(unit.header.vid)
+
+A frame is any object with contiguous memory, as `bytes`, `bytearray`, `memoryview`, `mmap` or an array. It is read where it
+is, without a copy, and never written to. `start` says what it begins with; with `Start.ETHER_TYPE`, `ether_type` says what
+announces it. With a `limit` no more VLAN tags and SecTags than it says are read. Offsets count bytes from the start of the
+frame. docs/C.md of the repository says what is proved of each call.
+"""
+from __future__ import annotations
+
+import ctypes as C
+from enum import IntEnum
+from typing import List, NamedTuple, Optional, Union
+
+from . import _library
+from ._library import WRITE, Status, lent, lib
+
+__all__ = [
+    "Arp", "Error", "Ethernet2", "Fault", "FaultKind", "Fed", "Header", "Layer", "LenSource", "LinuxSll", "Macsec", "Refused",
+    "RestKind", "Start", "Status", "Summary", "Unit", "Vlan", "completion", "fault_text", "feed", "missing",
+    "start_of_link_type", "summary", "walk", "write_back", "write_back_into",
+]
+__version__ = "2.0.0"
+
+Buffer = Union[bytes, bytearray, memoryview]
+
+# ---- numbers
+
+
+class Start(IntEnum):
+    """What a frame begins with."""
+
+    ETHERNET2 = 1
+    """An Ethernet II header, of a frame without a frame check sequence."""
+    ETHERNET2_FCS = 2
+    """An Ethernet II header, of a frame with a frame check sequence in its last 4 bytes."""
+    LINUX_SLL = 3
+    """A header of Linux cooked capture v1."""
+    ETHER_TYPE = 4
+    """What `ether_type` announces."""
+
+
+class RestKind(IntEnum):
+    """What the bytes that are left are announced as; after a fault, what was expected there."""
+
+    START = 0
+    """The header that the frame begins with, which was not read."""
+    ETHER_TYPE = 1
+    """A protocol, by the ether type in `rest_protocol`."""
+    NETLINK = 2
+    """A protocol of netlink, by the number in `rest_protocol`."""
+    GRE = 3
+    """A protocol of generic routing encapsulation, by the number in `rest_protocol`."""
+    IGNORED = 4
+    """A link whose protocol numbers have no meaning."""
+    SEALED = 5
+    """A payload that MACsec has encrypted or changed."""
+    AFTER_ARP = 6
+    """What follows an ARP packet: the padding of a short frame."""
+
+
+class FaultKind(IntEnum):
+    """Why a unit is refused."""
+
+    LENGTH = 1
+    """It needs `required_len` bytes; only `len` are available."""
+    PACKET_TYPE = 2
+    """The packet type of a cooked capture is above 7."""
+    HARDWARE_TYPE = 3
+    """The meaning of protocol numbers is not known for the hardware type of a cooked capture."""
+    MACSEC_VERSION = 4
+    """The version bit of a SecTag is 1."""
+    MACSEC_SHORT_LEN = 5
+    """The short length of a SecTag with an unmodified payload is 1, which has no room for the ether type."""
+
+
+class Layer(IntEnum):
+    """The layer of a length fault."""
+
+    ETHERNET2_HEADER = 1
+    LINUX_SLL_HEADER = 2
+    VLAN_HEADER = 3
+    MACSEC_HEADER = 4
+    MACSEC_PACKET = 5
+    ARP = 6
+
+
+class LenSource(IntEnum):
+    """What gave the length that was available or required in a length fault."""
+
+    SLICE = 1
+    MACSEC_SHORT_LENGTH = 2
+    ARP_ADDRESSES = 3
+
+
+# ---- results
+
+
+class Fault(NamedTuple):
+    """A unit that is refused. Fields that do not belong to its kind are None, or 0 if they are lengths."""
+
+    offset: int
+    """Where the unit starts."""
+    kind: FaultKind
+    closed: bool
+    """Whether bytes appended to the frame would lie outside the unit."""
+    required_len: int
+    """The length that the unit requires, from its start."""
+    len: int
+    """The length that is available to it."""
+    missing: int
+    """The fewest further bytes that it needs, 0 if none would help."""
+    layer: Optional[Layer]
+    len_source: Optional[LenSource]
+    packet_type: Optional[int]
+    hardware_type: Optional[int]
+
+
+class Summary(NamedTuple):
+    """The result of a whole walk."""
+
+    units: int
+    """The number of units."""
+    rest_start: int
+    """Where the bytes that are left start, or the unit that is refused."""
+    rest_end: int
+    """Where they end, or the bytes that this unit has."""
+    rest_kind: RestKind
+    rest_protocol: int
+    """The ether type or protocol number, 0 if there is none."""
+    fault: Optional[Fault]
+    """The unit that is refused, if one is."""
+
+
+class Fed(NamedTuple):
+    """The result of feeding a walk."""
+
+    refusals: int
+    """How often the walk asked for more bytes and was given them."""
+    taken: int
+    """How many bytes it was given in all."""
+    fault: Optional[Fault]
+    """The fault of the walk of these bytes, if it has one."""
+
+
+class Ethernet2(NamedTuple):
+    """An Ethernet II header (IEEE 802.3, 3.2.3 to 3.2.6)."""
+
+    destination: bytes
+    source: bytes
+    ether_type: int
+    has_fcs: bool
+    """Whether a frame check sequence follows, in the 4 bytes from `payload_end` on."""
+
+
+class LinuxSll(NamedTuple):
+    """A header of Linux cooked capture v1."""
+
+    packet_type: int
+    """0 to 7: to us, to all, to a group, to someone else, by us .."""
+    hardware_type: int
+    """The ARPHRD_ number of the link."""
+    address_len: int
+    """May exceed 8, though the field holds only 8 bytes."""
+    address: bytes
+    """The sender's address, truncated or padded to 8 bytes."""
+    protocol: int
+
+
+class Vlan(NamedTuple):
+    """A VLAN tag (IEEE 802.1Q, 9.6): the tag control information, and the ether type after it."""
+
+    vid: int
+    """The VLAN identifier, 0 to 4095."""
+    pcp: int = 0
+    """The priority code point, 0 to 7."""
+    dei: bool = False
+    """The drop eligible indicator."""
+    ether_type: int = 0
+    """The ether type after the tag."""
+
+
+class Macsec(NamedTuple):
+    """A MACsec SecTag (IEEE 802.1AE, 9.3)."""
+
+    packet_number: int
+    association_number: int
+    short_len: int
+    encrypted: bool
+    changed: bool
+    end_station: bool
+    single_copy_broadcast: bool
+    sci: Optional[int]
+    """The secure channel identifier, if there is one."""
+    ether_type: Optional[int]
+    """The ether type after the tag, None if the payload is encrypted or changed."""
+
+
+class Arp(NamedTuple):
+    """An ARP packet (RFC 826)."""
+
+    hardware_type: int
+    protocol_type: int
+    operation: int
+    """1 request, 2 reply."""
+    sender_hardware: bytes
+    sender_protocol: bytes
+    target_hardware: bytes
+    target_protocol: bytes
+
+
+Header = Union[Ethernet2, LinuxSll, Vlan, Macsec, Arp]
+
+
+class Unit(NamedTuple):
+    """A header, and where its payload is."""
+
+    offset: int
+    """Where the header starts."""
+    header_len: int
+    """Its length; of an ARP packet, that of the whole packet."""
+    payload_start: int
+    payload_end: int
+    """Before a frame check sequence, or where a SecTag says."""
+    closed: bool
+    """Whether bytes appended to the frame would lie outside the payload."""
+    header: Header
+
+
+class Error(ValueError):
+    """What an error of this package is."""
+
+
+class Refused(Error):
+    """A unit of a frame is refused: the text says why."""
+
+    def __init__(self, text: str, fault: Fault, units: List[Unit]):
+        super().__init__(text)
+        self.fault = fault
+        """The unit that is refused."""
+        self.units = units
+        """The units before it."""
+
+
+# ---- calls
+
+
+def _begun(start, ether_type):
+    """The two numbers of a start."""
+    start = Start(start)
+    if (start == Start.ETHER_TYPE) != (ether_type is not None):
+        raise ValueError("ether_type is given with Start.ETHER_TYPE, and with no other start")
+    return start, _number("ether_type", ether_type or 0, 16)
+
+
+def _number(name, value, bits):
+    if not 0 <= value < 2**bits:
+        raise ValueError(f"{name} is 0 to {2**bits - 1}, not {value}")
+    return value
+
+
+def _call(name, start, ether_type, at, length, limit, *rest):
+    """A call on a frame that is lent, with a limit or without."""
+    words = (*_begun(start, ether_type), at, length)
+    if limit is None:
+        return getattr(lib, "etherpeel_" + name)(*words, *rest)
+    # no frame has so many tags
+    return getattr(lib, f"etherpeel_{name}_limited")(*words, min(_number("limit", limit, 64), 2**63), *rest)
+
+
+def _required(status):
+    if status != Status.DONE:
+        raise Error(Status(status).name)
+
+
+def _fault(fault):
+    """A fault of C, None if there is none."""
+    if not fault.kind:
+        return None
+    kind = FaultKind(fault.kind)
+    return Fault(fault.offset, kind, bool(fault.closed), fault.required_len, fault.len, fault.missing,
+                 Layer(fault.layer) if fault.layer else None, LenSource(fault.len_source) if fault.len_source else None,
+                 fault.packet_type if kind == FaultKind.PACKET_TYPE else None,
+                 fault.hardware_type if kind == FaultKind.HARDWARE_TYPE else None)
+
+
+def _ethernet2(unit, _):
+    header = unit.ethernet2
+    return Ethernet2(bytes(header.destination), bytes(header.source), header.ether_type, bool(header.has_fcs))
+
+
+def _linux_sll(unit, _):
+    header = unit.linux_sll
+    return LinuxSll(header.packet_type, header.hardware_type, header.address_len, bytes(header.address), header.protocol)
+
+
+def _vlan(tag):
+    return Vlan(tag.vid, tag.pcp, bool(tag.dei), tag.ether_type)
+
+
+def _macsec(unit, _):
+    tag = unit.macsec
+    plain = not (tag.encrypted or tag.changed)
+    return Macsec(tag.packet_number, tag.association_number, tag.short_len, bool(tag.encrypted), bool(tag.changed),
+                  bool(tag.end_station), bool(tag.single_copy_broadcast), tag.sci if tag.sci_present else None,
+                  tag.ether_type if plain else None)
+
+
+def _arp(unit, at):
+    packet = unit.arp
+    hardware, protocol = packet.hardware_size, packet.protocol_size
+    return Arp(packet.hardware_type, packet.protocol_type, packet.operation,
+               C.string_at(at + packet.sender_hardware, hardware), C.string_at(at + packet.sender_protocol, protocol),
+               C.string_at(at + packet.target_hardware, hardware), C.string_at(at + packet.target_protocol, protocol))
+
+
+_HEADERS = [_ethernet2, _linux_sll, lambda unit, _: _vlan(unit.vlan), _macsec, _arp]
+
+
+def _unit(unit, at):
+    """A unit of C, of a frame at an address."""
+    return Unit(unit.offset, unit.header_len, unit.payload_start, unit.payload_end, bool(unit.closed),
+                _HEADERS[unit.kind - 1](unit, at))
+
+
+def _units(at, length, start, ether_type, limit):
+    """The units of a frame that is lent."""
+    room = min(length // 4, 8)
+    while True:
+        units, count = (_library.Unit * room)(), C.c_size_t()
+        _required(_call("walk", start, ether_type, at, length, limit, units, room, C.byref(count)))
+        if count.value <= room:
+            return [_unit(units[i], at) for i in range(count.value)]
+        room = count.value
+
+
+def _found(at, length, start, ether_type, limit):
+    found = _library.Found()
+    _required(_call("summary", start, ether_type, at, length, limit, C.byref(found)))
+    return found
+
+
+def _text(at, length, start, ether_type, limit):
+    text, count = C.create_string_buffer(512), C.c_size_t()
+    _required(_call("fault_text", start, ether_type, at, length, limit, text, len(text), C.byref(count)))
+    return text.raw[:count.value].decode("ascii")
+
+
+def walk(frame: Buffer, start: Start = Start.ETHERNET2, *, ether_type: Optional[int] = None,
+         limit: Optional[int] = None) -> List[Unit]:
+    """The units of a frame, from the outermost on.
+
+    Raises `Refused` if a unit is refused, with the units before it.
+    """
+    with lent(frame) as (at, length):
+        words = (at, length, start, ether_type, limit)
+        units, fault = _units(*words), _fault(_found(*words).fault)
+        if fault:
+            raise Refused(_text(*words), fault, units)
+    return units
+
+
+def summary(frame: Buffer, start: Start = Start.ETHERNET2, *, ether_type: Optional[int] = None,
+            limit: Optional[int] = None) -> Summary:
+    """The result of the walk through a frame. A unit that is refused is its `fault`, and no exception."""
+    with lent(frame) as (at, length):
+        found = _found(at, length, start, ether_type, limit)
+    return Summary(found.units, found.rest_start, found.rest_end, RestKind(found.rest_kind), found.rest_protocol,
+                   _fault(found.fault))
+
+
+def fault_text(frame: Buffer, start: Start = Start.ETHERNET2, *, ether_type: Optional[int] = None,
+               limit: Optional[int] = None) -> str:
+    """The text of the fault of a frame, "" if it is accepted."""
+    with lent(frame) as (at, length):
+        return _text(at, length, start, ether_type, limit)
+
+
+def feed(frame: Buffer, start: Start = Start.ETHERNET2, *, ether_type: Optional[int] = None,
+         limit: Optional[int] = None) -> Fed:
+    """What a reader takes of a frame that asks for exactly the bytes that the walk needs next."""
+    fed = _library.Fed()
+    with lent(frame) as (at, length):
+        _required(_call("feed", start, ether_type, at, length, limit, C.byref(fed)))
+    return Fed(fed.refusals, fed.taken, _fault(fed.fault))
+
+
+def missing(frame: Buffer, start: Start = Start.ETHERNET2, *, ether_type: Optional[int] = None,
+            limit: Optional[int] = None) -> int:
+    """The fewest further bytes that the refused unit needs, 0 if more bytes would not help."""
+    count = C.c_size_t()
+    with lent(frame) as (at, length):
+        _required(_call("missing", start, ether_type, at, length, limit, C.byref(count)))
+    return count.value
+
+
+def completion(frame: Buffer, start: Start = Start.ETHERNET2, *, ether_type: Optional[int] = None,
+               limit: Optional[int] = None) -> bytes:
+    """The fewest bytes that, after a frame cut short, make it accepted; none if no bytes do."""
+    fill, count = C.create_string_buffer(1028), C.c_size_t()
+    with lent(frame) as (at, length):
+        _required(_call("completion", start, ether_type, at, length, limit, fill, len(fill), C.byref(count)))
+    return fill.raw[:count.value]
+
+
+def write_back(frame: Buffer, start: Start = Start.ETHERNET2, *, ether_type: Optional[int] = None,
+               limit: Optional[int] = None) -> bytes:
+    """The headers of a frame as their bytes, and what is left after them: the front of the frame up to `rest_end`, but with
+    the two reserved bits of each SecTag 0."""
+    with lent(frame) as (at, length):
+        target, count = C.create_string_buffer(length), C.c_size_t()
+        _required(_call("write_back", start, ether_type, at, length, limit, target, length, C.byref(count)))
+    return target.raw[:count.value]
+
+
+def write_back_into(target: Union[bytearray, memoryview], frame: Buffer, start: Start = Start.ETHERNET2, *,
+                    ether_type: Optional[int] = None, limit: Optional[int] = None) -> int:
+    """Writes to the front of a target what `write_back` returns, and returns how many bytes that is.
+
+    Raises `Error` if the target is too short, and `BufferError` if it can't be written to. The target must not share memory
+    with the frame: that raises `Error` too. In each case it stays as it was.
+    """
+    count = C.c_size_t()
+    with lent(frame) as (at, length), lent(target, WRITE) as (to, room):
+        if at and to and at < to + room and to < at + length:
+            raise Error("the target shares memory with the frame")
+        status = _call("write_back", start, ether_type, at, length, limit, to, room, C.byref(count))
+    if status == Status.NO_ROOM:
+        raise Error(f"the target has {room} bytes, and {count.value} are needed")
+    _required(status)
+    return count.value
+
+
+def start_of_link_type(link_type: int) -> Optional[Start]:
+    """What packets of a link type of libpcap begin with, None if the walk does not begin with that."""
+    start = lib.etherpeel_start_of_link_type(_number("link_type", link_type, 32))
+    return Start(start) if start else None
