@@ -6,12 +6,14 @@
  *
  * What holds for every call:
  *
- *   Frame    `bytes` points to `len` bytes, which are read and never written. NULL is allowed if
+ *   Frame    `bytes` points to `len` bytes, which are read and never written; `frame` and `buffer`
+ *            to `len` bytes, which the calls that change VLAN tags write to. NULL is allowed if
  *            `len` is 0.
  *   Targets  `units`, `target`, `fill` and `text` point to as many elements as `room` says. NULL is
  *            allowed if `room` is 0. A pointer to one struct or number (`found`, `fed`, `count`,
- *            `missing`, `written_len`, `fill_len`, `text_len`) must not be NULL. The memory need
- *            not be initialized, and must be aligned for its type.
+ *            `missing`, `written_len`, `fill_len`, `text_len`, `tag`) must not be NULL. The memory
+ *            need not be initialized, but for the tag that is put in, and must be aligned for its
+ *            type.
  *   Overlap  What a call may write to must not overlap the frame, nor anything else that the call
  *            may write to.
  *   Keeping  No call keeps a pointer after it returns.
@@ -27,8 +29,8 @@
  *            less than 1 KB.
  *   Time     Linear in the number of headers, of which a frame has at most len / 4;
  *            etherpeel_write_back also copies the frame.
- *   Limits   Each call has a form `.._limited`, which reads no more than `limit` VLAN tags and
- *            SecTags. After these, the ether type of a tag announces nothing: the walk ends there,
+ *   Limits   Each call of the walk has a form `.._limited`, which reads no more than `limit` VLAN
+ *            tags and SecTags. After these, the ether type of a tag announces nothing: the walk ends there,
  *            with no fault.
  */
 #ifndef ETHERPEEL_H
@@ -61,7 +63,26 @@ enum etherpeel_status {
     /* The target is too short. */
     ETHERPEEL_NO_ROOM = 2,
     /* A text can't be made; only etherpeel_fault_text could return it. */
-    ETHERPEEL_NO_TEXT = 3
+    ETHERPEEL_NO_TEXT = 3,
+
+    /* Why a VLAN tag is not taken off, put in or changed: */
+
+    /* `tpid` is none of 0x8100, 0x88A8 and 0x9100. */
+    ETHERPEEL_BAD_TPID = 4,
+    /* The frame does not begin with the header of a link. */
+    ETHERPEEL_NO_LINK = 5,
+    /* The header of cooked capture is of another link than Ethernet. */
+    ETHERPEEL_OTHER_LINK = 6,
+    /* There is no VLAN tag or SecTag at the index. */
+    ETHERPEEL_NO_TAG = 7,
+    /* The ether type of the link announces no VLAN tag, or there is a SecTag at the index. */
+    ETHERPEEL_NO_VLAN = 8,
+    /* A VLAN tag is announced after the header of the link, but it is cut short. */
+    ETHERPEEL_CUT_VLAN = 9,
+    /* The frame begins with the VLAN tag, so that no header before it announces it. */
+    ETHERPEEL_UNANNOUNCED = 10,
+    /* A number that is passed does not fit its field. */
+    ETHERPEEL_BAD_FIELD = 11
 };
 
 /* What a frame begins with: the parameter `start` of each call. The parameter `ether_type` is read
@@ -421,6 +442,53 @@ uint32_t etherpeel_fault_text(uint32_t start, uint16_t ether_type, const uint8_t
 uint32_t etherpeel_fault_text_limited(uint32_t start, uint16_t ether_type, const uint8_t *bytes,
                                       size_t len, size_t limit, char *text, size_t room,
                                       size_t *text_len);
+
+/* ---- VLAN tags changed in place ----
+ *
+ * A frame check sequence and an integrity check value stay as they were, and don't fit the new
+ * bytes. Whatever is not named stays as it was, also if a later header is refused. If a call does
+ * not return ETHERPEEL_DONE, it has written nothing.
+ */
+
+/* etherpeel_pop_vlan - takes off the VLAN tag after the header of a link, in place
+ *
+ * The frame is then `frame + 4` with `len - 4` bytes: the 12 bytes of the addresses, or the 14
+ * bytes of a cooked capture before its protocol type, are moved by four, and the ether type of the
+ * tag becomes that of the link. *tag is the tag that was taken off.
+ * Returns ETHERPEEL_DONE, ETHERPEEL_UNKNOWN_START, ETHERPEEL_NO_LINK, ETHERPEEL_OTHER_LINK,
+ * ETHERPEEL_NO_VLAN or ETHERPEEL_CUT_VLAN.
+ * In place in `frame`, which *tag must not overlap. Every number is in host byte order.
+ * Thread-safe; takes no memory.
+ */
+uint32_t etherpeel_pop_vlan(uint32_t start, uint16_t ether_type, uint8_t *frame, size_t len,
+                            etherpeel_vlan *tag);
+
+/* etherpeel_push_vlan - puts a VLAN tag after the header of a link, in place
+ *
+ * The frame is `buffer + 4` with `len - 4` bytes before, and the whole buffer afterwards: the bytes
+ * of the link before its type are moved by four. `tpid` is the ether type that announces the tag:
+ * 0x8100, 0x88A8 or 0x9100. The tag gets the ether type of the link: tag->ether_type is ignored. So
+ * etherpeel_pop_vlan takes off what was put in, and its tag may be put in again.
+ * Returns ETHERPEEL_DONE, or the first of these that applies: ETHERPEEL_UNKNOWN_START;
+ * ETHERPEEL_BAD_FIELD if tag->vid is above 4095, tag->pcp above 7 or tag->dei above 1;
+ * ETHERPEEL_BAD_TPID; ETHERPEEL_NO_ROOM if `len` is below 4; ETHERPEEL_NO_LINK;
+ * ETHERPEEL_OTHER_LINK.
+ * In place in `buffer`, which *tag must not overlap. Every number is in host byte order.
+ * Thread-safe; takes no memory.
+ */
+uint32_t etherpeel_push_vlan(uint32_t start, uint16_t ether_type, uint8_t *buffer, size_t len,
+                             const etherpeel_vlan *tag, uint16_t tpid);
+
+/* etherpeel_set_vlan_id - sets the identifier of a VLAN tag, in place
+ *
+ * `index` counts the first three VLAN tags and SecTags of the frame, the outermost from 0. Only the
+ * 12 bits of the identifier change.
+ * Returns ETHERPEEL_DONE, or the first of these that applies: ETHERPEEL_UNKNOWN_START;
+ * ETHERPEEL_BAD_FIELD if `vid` is above 4095; ETHERPEEL_NO_TAG; ETHERPEEL_NO_VLAN.
+ * In place in `frame`. Every number is in host byte order. Thread-safe; takes no memory.
+ */
+uint32_t etherpeel_set_vlan_id(uint32_t start, uint16_t ether_type, uint8_t *frame, size_t len,
+                               size_t index, uint16_t vid);
 
 #ifdef __cplusplus
 }

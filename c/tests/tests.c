@@ -499,6 +499,90 @@ static void texts(void) {
     CHECK(all_are(text, sizeof text, 0x25));
 }
 
+/* ---- VLAN tags changed in place ---- */
+
+/* Ethernet II and the first byte of an IPv4 packet, after four bytes that are free */
+static const uint8_t UNTAGGED[] = {0xEE, 0xEE, 0xEE, 0xEE, ADDRESSES, 0x08, 0x00, 0x45};
+
+static void popping(void) {
+    uint8_t frame[sizeof TAGGED];
+    etherpeel_vlan tag;
+    memcpy(frame, TAGGED, sizeof frame);
+    memset(&tag, 0xA5, sizeof tag);
+    CHECK(etherpeel_pop_vlan(ETHERPEEL_START_ETHERNET2, 0, frame, sizeof frame, &tag) ==
+          ETHERPEEL_DONE);
+    CHECK(memcmp(frame + 4, UNTAGGED + 4, sizeof frame - 4) == 0);
+    CHECK(tag.vid == 0x123 && tag.pcp == 5 && tag.dei == 1 && tag.ether_type == 0x0800);
+    CHECK(etherpeel_push_vlan(ETHERPEEL_START_ETHERNET2, 0, frame, sizeof frame, &tag, 0x8100) ==
+          ETHERPEEL_DONE);
+    CHECK(memcmp(frame, TAGGED, sizeof frame) == 0);
+    CHECK(etherpeel_pop_vlan(ETHERPEEL_START_ETHERNET2, 0, frame, 17, &tag) == ETHERPEEL_CUT_VLAN);
+    CHECK(etherpeel_pop_vlan(ETHERPEEL_START_ETHERNET2, 0, frame, 13, &tag) == ETHERPEEL_NO_LINK);
+    CHECK(etherpeel_pop_vlan(ETHERPEEL_START_ETHERNET2, 0, NULL, 0, &tag) == ETHERPEEL_NO_LINK);
+    CHECK(etherpeel_pop_vlan(ETHERPEEL_START_ETHER_TYPE, 0x8100, frame, sizeof frame, &tag) ==
+          ETHERPEEL_NO_LINK);
+    CHECK(etherpeel_pop_vlan(9, 0, frame, sizeof frame, &tag) == ETHERPEEL_UNKNOWN_START);
+    CHECK(memcmp(frame, TAGGED, sizeof frame) == 0 && tag.vid == 0x123 && tag.pcp == 5);
+    memcpy(frame, ARP, sizeof frame);
+    CHECK(etherpeel_pop_vlan(ETHERPEEL_START_ETHERNET2, 0, frame, sizeof frame, &tag) ==
+          ETHERPEEL_NO_VLAN);
+    CHECK(memcmp(frame, ARP, sizeof frame) == 0);
+}
+
+static void pushing(void) {
+    static const uint8_t expected[] = {ADDRESSES, 0x88, 0xA8, 0xEF, 0xFF, 0x08, 0x00, 0x45};
+    uint8_t buffer[sizeof UNTAGGED], cooked[20] = {0xEE, 0xEE, 0xEE, 0xEE};
+    etherpeel_vlan tag = {4095, 0x9999, 7, 0};
+    memcpy(buffer, UNTAGGED, sizeof buffer);
+    CHECK(etherpeel_push_vlan(9, 0, buffer, sizeof buffer, &tag, 0x8100) ==
+          ETHERPEEL_UNKNOWN_START);
+    CHECK(etherpeel_push_vlan(ETHERPEEL_START_ETHERNET2, 0, buffer, sizeof buffer, &tag, 0x0800) ==
+          ETHERPEEL_BAD_TPID);
+    CHECK(etherpeel_push_vlan(ETHERPEEL_START_ETHERNET2, 0, buffer, 3, &tag, 0x8100) ==
+          ETHERPEEL_NO_ROOM);
+    CHECK(etherpeel_push_vlan(ETHERPEEL_START_ETHERNET2, 0, buffer, 17, &tag, 0x8100) ==
+          ETHERPEEL_NO_LINK);
+    memcpy(cooked + 4, COOKED_GRE, sizeof COOKED_GRE);
+    CHECK(etherpeel_push_vlan(ETHERPEEL_START_LINUX_SLL, 0, cooked, sizeof cooked, &tag, 0x8100) ==
+          ETHERPEEL_OTHER_LINK);
+    tag.vid = 4096;
+    CHECK(etherpeel_push_vlan(ETHERPEEL_START_ETHERNET2, 0, buffer, sizeof buffer, &tag, 0x8100) ==
+          ETHERPEEL_BAD_FIELD);
+    tag.vid = 4095, tag.pcp = 8;
+    CHECK(etherpeel_push_vlan(ETHERPEEL_START_ETHERNET2, 0, buffer, sizeof buffer, &tag, 0x8100) ==
+          ETHERPEEL_BAD_FIELD);
+    tag.pcp = 7, tag.dei = 2;
+    CHECK(etherpeel_push_vlan(ETHERPEEL_START_ETHERNET2, 0, buffer, sizeof buffer, &tag, 0x8100) ==
+          ETHERPEEL_BAD_FIELD);
+    CHECK(memcmp(buffer, UNTAGGED, sizeof buffer) == 0 && all_are(cooked, 4, 0xEE));
+    tag.dei = 0;
+    CHECK(etherpeel_push_vlan(ETHERPEEL_START_ETHERNET2, 0, buffer, sizeof buffer, &tag, 0x88A8) ==
+          ETHERPEEL_DONE);
+    CHECK(memcmp(buffer, expected, sizeof buffer) == 0 && tag.ether_type == 0x9999);
+}
+
+static void setting(void) {
+    static const uint8_t expected[] = {ADDRESSES, 0x81, 0x00, 0xB4, 0x56, 0x08, 0x00, 0x45};
+    uint8_t frame[sizeof TAGGED], tag[sizeof NAMED];
+    memcpy(frame, TAGGED, sizeof frame), memcpy(tag, NAMED, sizeof tag);
+    CHECK(etherpeel_set_vlan_id(9, 0, frame, sizeof frame, 0, 1) == ETHERPEEL_UNKNOWN_START);
+    CHECK(etherpeel_set_vlan_id(ETHERPEEL_START_ETHERNET2, 0, frame, sizeof frame, 0, 4096) ==
+          ETHERPEEL_BAD_FIELD);
+    CHECK(etherpeel_set_vlan_id(ETHERPEEL_START_ETHERNET2, 0, frame, sizeof frame, 1, 1) ==
+          ETHERPEEL_NO_TAG);
+    CHECK(etherpeel_set_vlan_id(ETHERPEEL_START_ETHERNET2, 0, frame, sizeof frame, SIZE_MAX, 1) ==
+          ETHERPEEL_NO_TAG);
+    CHECK(etherpeel_set_vlan_id(ETHERPEEL_START_ETHER_TYPE, 0x88E5, tag, sizeof tag, 0, 1) ==
+          ETHERPEEL_NO_VLAN);
+    CHECK(memcmp(frame, TAGGED, sizeof frame) == 0 && memcmp(tag, NAMED, sizeof tag) == 0);
+    CHECK(etherpeel_set_vlan_id(ETHERPEEL_START_ETHERNET2, 0, frame, sizeof frame, 0, 0x456) ==
+          ETHERPEEL_DONE);
+    CHECK(memcmp(frame, expected, sizeof frame) == 0);
+    CHECK(etherpeel_set_vlan_id(ETHERPEEL_START_ETHER_TYPE, 0x88E5, tag, sizeof tag, 1, 0xFFF) ==
+          ETHERPEEL_DONE);
+    CHECK(tag[8] == 0xAF && tag[9] == 0xFF && memcmp(tag, NAMED, 8) == 0 && tag[10] == NAMED[10]);
+}
+
 /* ---- what is common to all calls ---- */
 
 static void unknown_starts(void) {
@@ -653,6 +737,9 @@ int main(void) {
     completing();
     missing_bytes();
     texts();
+    popping();
+    pushing();
+    setting();
     unknown_starts();
     no_frame();
     drawn_frames();

@@ -102,6 +102,39 @@ def buffers():
     check("overlap", raised(etherpeel.write_back_into, target, memoryview(target)[:19]), etherpeel.Error)
 
 
+def tags_in_place():
+    plain = ADDRESSES + bytes.fromhex("080045")
+    frame = bytearray(TAGGED)
+    tag = etherpeel.pop_vlan(frame)
+    check("pop", (tag, frame[4:]), (etherpeel.Vlan(0x123, 5, True, 0x0800), plain))
+    etherpeel.push_vlan(frame, tag)
+    check("push", frame, TAGGED)
+    etherpeel.set_vlan_id(frame, 0, 0x456)
+    check("set", frame, ADDRESSES + bytes.fromhex("8100b456080045"))
+    around = bytearray(b"!" + TAGGED)
+    etherpeel.set_vlan_id(memoryview(around)[1:], 0, 1)
+    check("set in a view", around, b"!" + ADDRESSES + bytes.fromhex("8100b001080045"))
+    inner = bytearray.fromhex("88e5 0006 00000001 8100 aabbccdd eeee")
+    etherpeel.set_vlan_id(memoryview(inner)[2:], 1, 0xFFF, Start.ETHER_TYPE, ether_type=0x88E5)
+    check("set in a SecTag", inner.hex(), "88e5000600000001" + "8100" + "afffccddeeee")
+    for call, words, status in ((etherpeel.pop_vlan, (bytearray(plain),), "NO_VLAN"), (etherpeel.pop_vlan, (bytearray(3),), "NO_LINK"),
+                                (etherpeel.pop_vlan, (frame[:17],), "CUT_VLAN"), (etherpeel.push_vlan, (frame, tag, 0x0800), "BAD_TPID"),
+                                (etherpeel.push_vlan, (bytearray(3), tag), "NO_ROOM"), (etherpeel.set_vlan_id, (frame, 1, 1), "NO_TAG"),
+                                (etherpeel.push_vlan, (frame, etherpeel.Vlan(4096)), "BAD_FIELD"),
+                                (etherpeel.push_vlan, (frame, etherpeel.Vlan(1, pcp=-1)), "BAD_FIELD"),
+                                (etherpeel.set_vlan_id, (frame, 0, 4096), "BAD_FIELD"), (etherpeel.set_vlan_id, (frame, 0, 2**16 + 1), "BAD_FIELD")):
+        before = bytes(words[0])
+        try:
+            call(*words)
+            check(status, False, True)
+        except etherpeel.TagError as error:
+            check(status, (error.status.name, bytes(words[0]) == before), (status, True))
+    frozen = bytes(TAGGED)
+    check("immutable", [raised(call, *words) for call, words in ((etherpeel.pop_vlan, (frozen,)), (etherpeel.set_vlan_id, (frozen, 0, 1)),
+                                                                 (etherpeel.push_vlan, (memoryview(frozen), tag)))], [BufferError] * 3)
+    check("immutable", frozen, TAGGED)
+
+
 def wrong_words():
     check("start", raised(etherpeel.walk, TAGGED, 9), ValueError)
     check("no ether type", raised(etherpeel.walk, TAGGED, Start.ETHER_TYPE), ValueError)
@@ -271,6 +304,7 @@ def fronts():
 layout()
 worked_examples()
 buffers()
+tags_in_place()
 wrong_words()
 drawn_frames(10000)
 short_lists()

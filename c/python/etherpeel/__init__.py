@@ -23,12 +23,13 @@ from ._library import WRITE, Status, lent, lib
 
 __all__ = [
     "Arp", "Error", "Ethernet2", "Fault", "FaultKind", "Fed", "Header", "Layer", "LenSource", "LinuxSll", "Macsec", "Refused",
-    "RestKind", "Start", "Status", "Summary", "Unit", "Vlan", "completion", "fault_text", "feed", "missing",
-    "start_of_link_type", "summary", "walk", "write_back", "write_back_into",
+    "RestKind", "Start", "Status", "Summary", "TagError", "Unit", "Vlan", "completion", "fault_text", "feed", "missing",
+    "pop_vlan", "push_vlan", "set_vlan_id", "start_of_link_type", "summary", "walk", "write_back", "write_back_into",
 ]
 __version__ = "2.0.0"
 
 Buffer = Union[bytes, bytearray, memoryview]
+WritableBuffer = Union[bytearray, memoryview]
 
 # ---- numbers
 
@@ -237,6 +238,28 @@ class Error(ValueError):
     """What an error of this package is."""
 
 
+class TagError(Error):
+    """A VLAN tag is not taken off, put in or changed. The frame is then as it was."""
+
+    def __init__(self, status: Status):
+        super().__init__(_TAG_ERRORS[status])
+        self.status = status
+        """The number of the reason."""
+
+
+_TAG_ERRORS = {
+    Status.NO_ROOM: "the buffer has no room for a VLAN tag",
+    Status.BAD_TPID: "no VLAN tag is announced by this ether type",
+    Status.NO_LINK: "the frame does not begin with the header of a link",
+    Status.OTHER_LINK: "the header of cooked capture is of another link than Ethernet",
+    Status.NO_TAG: "there is no VLAN tag or SecTag at this index",
+    Status.NO_VLAN: "there is no VLAN tag",
+    Status.CUT_VLAN: "the VLAN tag is cut short",
+    Status.UNANNOUNCED: "the frame begins with the VLAN tag",
+    Status.BAD_FIELD: "a number does not fit its field of the tag",
+}
+
+
 class Refused(Error):
     """A unit of a frame is refused: the text says why."""
 
@@ -419,7 +442,7 @@ def write_back(frame: Buffer, start: Start = Start.ETHERNET2, *, ether_type: Opt
     return target.raw[:count.value]
 
 
-def write_back_into(target: Union[bytearray, memoryview], frame: Buffer, start: Start = Start.ETHERNET2, *,
+def write_back_into(target: WritableBuffer, frame: Buffer, start: Start = Start.ETHERNET2, *,
                     ether_type: Optional[int] = None, limit: Optional[int] = None) -> int:
     """Writes to the front of a target what `write_back` returns, and returns how many bytes that is.
 
@@ -435,6 +458,59 @@ def write_back_into(target: Union[bytearray, memoryview], frame: Buffer, start: 
         raise Error(f"the target has {room} bytes, and {count.value} are needed")
     _required(status)
     return count.value
+
+
+# ---- VLAN tags changed in place
+
+
+def _changed(status):
+    if status != Status.DONE:
+        raise TagError(Status(status))
+
+
+def pop_vlan(frame: WritableBuffer, start: Start = Start.ETHERNET2) -> Vlan:
+    """Takes off the VLAN tag after the header of a link, in place, and returns it: the frame is then without its first four
+    bytes, `memoryview(frame)[4:]`.
+
+    Raises `TagError` if there is none, and `BufferError` if the frame can't be written to. A frame check sequence stays as it
+    was, and doesn't fit the new bytes.
+    """
+    tag = _library.Vlan()
+    with lent(frame, WRITE) as (at, length):
+        _changed(lib.etherpeel_pop_vlan(Start(start), 0, at, length, C.byref(tag)))
+    return _vlan(tag)
+
+
+def push_vlan(buffer: WritableBuffer, tag: Vlan, tpid: int = 0x8100, start: Start = Start.ETHERNET2) -> None:
+    """Puts a VLAN tag after the header of a link, in place: the frame is the buffer without its first four bytes, and then
+    the whole buffer. The ether type of the tag is ignored: it becomes that of the link, whose own one becomes `tpid`.
+
+    Raises `TagError` if it is not put in, and `BufferError` if the buffer can't be written to. A frame check sequence stays as
+    it was, and doesn't fit the new bytes.
+    """
+    if not (0 <= tag.vid < 4096 and 0 <= tag.pcp < 8 and 0 <= tag.dei < 2):
+        raise TagError(Status.BAD_FIELD)
+    told = _library.Vlan(tag.vid, 0, tag.pcp, tag.dei)
+    with lent(buffer, WRITE) as (at, length):
+        _changed(lib.etherpeel_push_vlan(Start(start), 0, at, length, C.byref(told), _number("tpid", tpid, 16)))
+
+
+def set_vlan_id(frame: WritableBuffer, index: int, vid: int, start: Start = Start.ETHERNET2, *,
+                ether_type: Optional[int] = None) -> None:
+    """Sets the identifier of a VLAN tag, in place. The index counts the first three VLAN tags and SecTags of the frame, the
+    outermost from 0.
+
+    Raises `TagError` if there is none at the index, or the identifier is above 4095, and `BufferError` if the frame can't be
+    written to.
+    """
+    if not 0 <= vid < 65536:
+        raise TagError(Status.BAD_FIELD)
+    words = _begun(start, ether_type)
+    with lent(frame, WRITE) as (at, length):
+        _changed(lib.etherpeel_set_vlan_id(*words, at, length, _number("index", index, 64), vid))
+
+
+# ---- captures
 
 
 def start_of_link_type(link_type: int) -> Optional[Start]:

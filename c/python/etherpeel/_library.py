@@ -14,6 +14,14 @@ class Status(IntEnum):
     UNKNOWN_START = 1
     NO_ROOM = 2
     NO_TEXT = 3
+    BAD_TPID = 4
+    NO_LINK = 5
+    OTHER_LINK = 6
+    NO_TAG = 7
+    NO_VLAN = 8
+    CUT_VLAN = 9
+    UNANNOUNCED = 10
+    BAD_FIELD = 11
 
 
 def struct(name, **fields):
@@ -65,6 +73,9 @@ def load(path):
         if lib.etherpeel_sizeof(number) != C.sizeof(one):
             raise ImportError(f"the struct {one.__name__} of {path} has another size")
     declare(lib, "start_of_link_type", [u32])
+    declare(lib, "pop_vlan", [u32, u16, C.c_void_p, size, C.POINTER(Vlan)])
+    declare(lib, "push_vlan", [u32, u16, C.c_void_p, size, C.POINTER(Vlan), u16])
+    declare(lib, "set_vlan_id", [u32, u16, C.c_void_p, size, size, u16])
     for name, rest in WALKS.items():
         declare(lib, name, [u32, u16, C.c_void_p, size, *rest])
         declare(lib, name + "_limited", [u32, u16, C.c_void_p, size, size, *rest])

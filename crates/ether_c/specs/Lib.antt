@@ -6,3 +6,4 @@ pub mod Calls
 pub mod Units
 pub mod Walk
 pub mod Views
+pub mod Tags

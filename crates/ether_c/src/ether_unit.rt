@@ -1,17 +1,19 @@
 //! A header of a frame and where its payload is, as a struct of C.
-ghost use Rattle.std.specs.Prelude.{◌≡◌, ◌+◌, ◌<◌, ◌^◌};
+ghost use Rattle.std.specs.Prelude.{◌≡◌, ◌+◌, ◌<◌, ◌^◌, MatchOption};
 ghost use Rattle.etherparse.specs.LinuxSll.{linux_sll_of};
-ghost use Rattle.etherparse.specs.Vlan.{vlan_of};
+ghost use Rattle.etherparse.specs.Vlan.{vlan_of, vlan_view, FitsVlan};
 ghost use Rattle.etherparse.specs.Macsec.{sec_tag_of, tag_bytes};
 ghost use Rattle.etherparse.specs.Arp.{arp_of};
 ghost use Rattle.etherparse.specs.Header as headers;
 ghost use Rattle.etherparse.specs.Header.{header_len};
 ghost use Rattle.ether_c.specs.Units.{told_ethernet2, told_linux_sll, told_vlan, told_macsec, told_arp};
+ghost use Rattle.ether_c.specs.Tags.{vlan_value};
 ghost use Rattle.ether_c.specs.Views.{ethernet2_header, header_of, told_view};
 
 use ether_peel::PeelUnit;
 use etherparse::{
-    ArpPacketSlice, Ethernet2Slice, LinuxSllSlice, MacsecHeaderSlice, MacsecPType, SingleVlanSlice,
+    ArpPacketSlice, EtherType, Ethernet2Slice, LinuxSllSlice, MacsecHeaderSlice, MacsecPType,
+    SingleVlanHeader, SingleVlanSlice, VlanId, VlanPcp,
 };
 
 /// The fields of an Ethernet II header: `etherpeel_ethernet2` in C.
@@ -283,6 +285,37 @@ impl EtherVlan {
             pcp: tag.priority_code_point().value(),
             dei: u8::from(tag.drop_eligible_indicator()),
         }
+    }
+
+    /// The fields of a tag as a value.
+    pub(crate) fn of_header(tag: SingleVlanHeader) -> EtherVlan
+        ensures { result ≡ told_vlan (headers.Vlan (vlan_view tag)) }
+    {
+        EtherVlan {
+            vid: tag.vlan_id.value(),
+            ether_type: tag.ether_type.0,
+            pcp: tag.pcp.value(),
+            dei: u8::from(tag.drop_eligible_indicator),
+        }
+    }
+
+    /// The tag with these fields, `None` if a number does not fit its field.
+    pub(crate) fn to_header(&self) -> Option<SingleVlanHeader>
+        ensures { MatchOption result (FitsVlan (vlan_value self.now) → ⊥)
+            (λ tag. (vlan_view tag ≡ vlan_value self.now) × FitsVlan (vlan_value self.now)) }
+    {
+        let (Ok(vlan_id), Ok(pcp)) = (VlanId::try_new(self.vid), VlanPcp::try_new(self.pcp)) else {
+            return None;
+        };
+        if self.dei > 1 {
+            return None;
+        }
+        Some(SingleVlanHeader {
+            pcp,
+            drop_eligible_indicator: self.dei == 1,
+            vlan_id,
+            ether_type: EtherType(self.ether_type),
+        })
     }
 }
 

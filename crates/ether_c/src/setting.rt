@@ -1,0 +1,36 @@
+//! Identifiers of VLAN tags that are set in place.
+ghost use Rattle.std.specs.Prelude.{◌≡◌, ◌<◌, ◌≤◌};
+ghost use Rattle.ether_packet.specs.Packet.{packet_start};
+ghost use Rattle.ether_c.specs.Starts.{IsUnknown, IsRefused, OfStart};
+ghost use Rattle.ether_c.specs.Tags.{TellsSet, bad_field};
+
+use crate::numbers::{BAD_FIELD, DONE, UNKNOWN_START, start_of, tag_error};
+use ether_packet::set_vlan_id;
+use etherparse::VlanId;
+
+/// Sets the identifier of the VLAN tag at an index of the VLAN tags and SecTags, in place.
+#[unsafe(no_mangle)]
+pub extern "C" fn etherpeel_set_vlan_id(
+    start: u32,
+    ether_type: u16,
+    frame: &mut [u8],
+    index: usize,
+    vid: u16,
+) -> u32
+    ensures unknown { IsUnknown start ether_type → IsRefused result (frame.new ≡ frame.old) }
+    ensures unfit { OfStart start ether_type
+        (λ _. 4096 ≤ vid → (result ≡ bad_field) × (frame.new ≡ frame.old)) }
+    ensures told { OfStart start ether_type
+        (λ s. vid < 4096 → TellsSet (packet_start s) index vid frame.old frame.new result) }
+{
+    let Some(start) = start_of(start, ether_type) else {
+        return UNKNOWN_START;
+    };
+    let Ok(vlan_id) = VlanId::try_new(vid) else {
+        return BAD_FIELD;
+    };
+    match set_vlan_id(start, frame, index, vlan_id) {
+        Ok(()) => DONE,
+        Err(error) => tag_error(&error),
+    }
+}
