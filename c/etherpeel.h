@@ -10,8 +10,8 @@
  *            to `len` bytes, which the calls that change VLAN tags write to. NULL is allowed if
  *            `len` is 0.
  *   Targets  `units`, `target`, `fill` and `text` point to as many elements as `room` says. NULL is
- *            allowed if `room` is 0. A pointer to one struct or number (`found`, `fed`, `count`,
- *            `missing`, `written_len`, `fill_len`, `text_len`, `tag`) must not be NULL. The memory
+ *            allowed if `room` is 0. A pointer to one struct or number (`found`, `headers`, `fed`,
+ *            `count`, `missing`, `written_len`, `fill_len`, `text_len`, `tag`) must not be NULL. The memory
  *            need not be initialized, but for the tag that is put in, and must be aligned for its
  *            type.
  *   Overlap  What a call may write to must not overlap the frame, nor anything else that the call
@@ -29,8 +29,8 @@
  *            less than 1 KB.
  *   Time     Linear in the number of headers, of which a frame has at most len / 4;
  *            etherpeel_write_back also copies the frame.
- *   Limits   Each call of the walk has a form `.._limited`, which reads no more than `limit` VLAN
- *            tags and SecTags. After these, the ether type of a tag announces nothing: the walk ends there,
+ *   Limits   Most calls have a form `.._limited`, which reads no more than `limit` VLAN tags and
+ *            SecTags. After these, the ether type of a tag announces nothing: the walk ends there,
  *            with no fault.
  */
 #ifndef ETHERPEEL_H
@@ -276,6 +276,15 @@ typedef struct etherpeel_unit {
     etherpeel_arp arp;
 } etherpeel_unit;
 
+/* All headers of a packet, and what is asked of it. */
+typedef struct etherpeel_headers {
+    etherpeel_unit units[5]; /* the headers, the outermost first: at most a link, three tags, ARP */
+    etherpeel_found found;   /* how many there are, what is left after them, and the fault */
+    size_t min_snap_len;     /* the least length to which the frame can be cut without losing one */
+    uint16_t vlan_ids[3];    /* the identifiers of the VLAN tags, the outermost first, then 0 */
+    uint16_t vlan_count;     /* how many VLAN tags there are */
+} etherpeel_headers;
+
 /* ---- The library ----
  *
  * A program that takes the shared library, or that declares the structs in another language, finds
@@ -293,7 +302,8 @@ enum etherpeel_struct {
     ETHERPEEL_STRUCT_VLAN = 6,
     ETHERPEEL_STRUCT_MACSEC = 7,
     ETHERPEEL_STRUCT_ARP = 8,
-    ETHERPEEL_STRUCT_UNIT = 9
+    ETHERPEEL_STRUCT_UNIT = 9,
+    ETHERPEEL_STRUCT_HEADERS = 10
 };
 
 /* etherpeel_version - the version of the library, as ETHERPEEL_VERSION is that of this header */
@@ -316,7 +326,8 @@ static inline int etherpeel_fits(void) {
            etherpeel_sizeof(ETHERPEEL_STRUCT_VLAN) == sizeof(etherpeel_vlan) &&
            etherpeel_sizeof(ETHERPEEL_STRUCT_MACSEC) == sizeof(etherpeel_macsec) &&
            etherpeel_sizeof(ETHERPEEL_STRUCT_ARP) == sizeof(etherpeel_arp) &&
-           etherpeel_sizeof(ETHERPEEL_STRUCT_UNIT) == sizeof(etherpeel_unit);
+           etherpeel_sizeof(ETHERPEEL_STRUCT_UNIT) == sizeof(etherpeel_unit) &&
+           etherpeel_sizeof(ETHERPEEL_STRUCT_HEADERS) == sizeof(etherpeel_headers);
 }
 
 /* etherpeel_start_of_link_type - the number of enum etherpeel_start for packets of a link type, 0
@@ -359,6 +370,20 @@ uint32_t etherpeel_walk(uint32_t start, uint16_t ether_type, const uint8_t *byte
 uint32_t etherpeel_walk_limited(uint32_t start, uint16_t ether_type, const uint8_t *bytes,
                                 size_t len, size_t limit, etherpeel_unit *units, size_t room,
                                 size_t *count);
+
+/* etherpeel_packet - all headers of a frame, and what is asked of a packet
+ *
+ * Fills headers->units and headers->found with the units and the result of the walk that reads no
+ * more than three VLAN tags and SecTags; elements from headers->found.units on stay as they were.
+ * Of these headers it says the identifiers of the VLAN tags, and the least snap length that keeps
+ * them all, as a frame without a check sequence.
+ * Returns ETHERPEEL_DONE or ETHERPEEL_UNKNOWN_START. A frame that is refused is ETHERPEEL_DONE, as
+ * of etherpeel_summary, with the headers before the fault.
+ * Overlap: *headers must not overlap the frame. Every number is in host byte order, the addresses
+ * of a unit in that of the frame. Thread-safe; takes no memory.
+ */
+uint32_t etherpeel_packet(uint32_t start, uint16_t ether_type, const uint8_t *bytes, size_t len,
+                          etherpeel_headers *headers);
 
 /* etherpeel_write_back - writes the headers of a frame, and what is left after them
  *

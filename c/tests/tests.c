@@ -64,6 +64,10 @@ static void layout(void) {
     CHECK(offsetof(etherpeel_unit, ethernet2) == 38 && offsetof(etherpeel_unit, linux_sll) == 54 &&
           offsetof(etherpeel_unit, vlan) == 70);
     CHECK(offsetof(etherpeel_unit, macsec) == 80 && offsetof(etherpeel_unit, arp) == 104);
+    CHECK(sizeof(etherpeel_headers) == 824 && offsetof(etherpeel_headers, found) == 720 &&
+          offsetof(etherpeel_headers, min_snap_len) == 808);
+    CHECK(offsetof(etherpeel_headers, vlan_ids) == 816 &&
+          offsetof(etherpeel_headers, vlan_count) == 822);
 }
 
 /* ---- the library: its version, the sizes of its structs, link types ---- */
@@ -499,6 +503,35 @@ static void texts(void) {
     CHECK(all_are(text, sizeof text, 0x25));
 }
 
+/* ---- packets ---- */
+
+static void packets(void) {
+    /* four VLAN tags, of which the last is not read */
+    static const uint8_t many[] = {ADDRESSES, 0x88, 0xA8, 0x00, 0x0A, 0x81, 0x00, 0x20, 0x14, 0x81,
+                                   0x00,      0x00, 0x1E, 0x81, 0x00, 0x00, 0x28, 0x08, 0x00};
+    etherpeel_headers h;
+    memset(&h, 0xA5, sizeof h);
+    CHECK(etherpeel_packet(ETHERPEEL_START_ETHERNET2, 0, many, sizeof many, &h) == ETHERPEEL_DONE);
+    CHECK(h.found.units == 4 && h.found.rest_start == 26 && h.found.rest_end == 30 &&
+          h.found.rest_protocol == 0x8100 && is_none(&h.found.fault));
+    CHECK(h.vlan_count == 3 && h.vlan_ids[0] == 10 && h.vlan_ids[1] == 20 && h.vlan_ids[2] == 30);
+    CHECK(has_place(&h.units[2], ETHERPEEL_UNIT_VLAN, 18, 4, 30, 0) && h.units[2].vlan.pcp == 1);
+    CHECK(h.min_snap_len == 26 && all_are(&h.units[4], sizeof h.units[4], 0xA5));
+    CHECK(etherpeel_packet(ETHERPEEL_START_ETHERNET2, 0, ARP, sizeof ARP, &h) == ETHERPEEL_DONE);
+    CHECK(h.found.units == 2 && h.units[1].kind == ETHERPEEL_UNIT_ARP && h.vlan_count == 0 &&
+          h.vlan_ids[0] == 0 && h.vlan_ids[2] == 0 && h.min_snap_len == 42);
+    /* the payload that a SecTag names counts */
+    CHECK(etherpeel_packet(ETHERPEEL_START_ETHER_TYPE, 0x88E5, NAMED, sizeof NAMED, &h) ==
+          ETHERPEEL_DONE);
+    CHECK(h.found.units == 2 && h.vlan_count == 1 && h.vlan_ids[0] == 0xABB && h.vlan_ids[1] == 0 &&
+          h.min_snap_len == 12);
+    CHECK(etherpeel_packet(ETHERPEEL_START_ETHERNET2, 0, TAGGED, 16, &h) == ETHERPEEL_DONE);
+    CHECK(h.found.units == 1 && h.found.fault.missing == 2 && h.min_snap_len == 14);
+    memset(&h, 0xA5, sizeof h);
+    CHECK(etherpeel_packet(5, 0, TAGGED, sizeof TAGGED, &h) == ETHERPEEL_UNKNOWN_START);
+    CHECK(all_are(&h, sizeof h, 0xA5));
+}
+
 /* ---- VLAN tags changed in place ---- */
 
 /* Ethernet II and the first byte of an IPv4 packet, after four bytes that are free */
@@ -737,6 +770,7 @@ int main(void) {
     completing();
     missing_bytes();
     texts();
+    packets();
     popping();
     pushing();
     setting();

@@ -102,6 +102,17 @@ def buffers():
     check("overlap", raised(etherpeel.write_back_into, target, memoryview(target)[:19]), etherpeel.Error)
 
 
+def packets():
+    tagged = ADDRESSES + bytes.fromhex("88a8000a 81002014 0806") + ARP[14:]
+    packet = etherpeel.packet(tagged)
+    check("packet", (packet.units, packet.summary, packet.vlan_ids, packet.min_snap_len),
+          (etherpeel.walk(tagged), etherpeel.summary(tagged), (10, 20), len(tagged)))
+    check("first", (packet.first(etherpeel.Vlan).vid, packet.first(etherpeel.Arp).operation, packet.first(etherpeel.Macsec)), (10, 1, None))
+    cut = etherpeel.packet(memoryview(tagged)[:20])
+    check("cut packet", (len(cut.units), cut.summary.fault.missing, cut.vlan_ids, cut.min_snap_len), (2, 2, (10,), 18))
+    check("tags alone", etherpeel.packet(tagged[14:], Start.ETHER_TYPE, ether_type=0x88A8).vlan_ids, (10, 20))
+
+
 def tags_in_place():
     plain = ADDRESSES + bytes.fromhex("080045")
     frame = bytearray(TAGGED)
@@ -304,6 +315,7 @@ def fronts():
 layout()
 worked_examples()
 buffers()
+packets()
 tags_in_place()
 wrong_words()
 drawn_frames(10000)

@@ -16,15 +16,15 @@ from __future__ import annotations
 
 import ctypes as C
 from enum import IntEnum
-from typing import List, NamedTuple, Optional, Union
+from typing import List, NamedTuple, Optional, Tuple, Type, TypeVar, Union
 
 from . import _library
 from ._library import WRITE, Status, lent, lib
 
 __all__ = [
-    "Arp", "Error", "Ethernet2", "Fault", "FaultKind", "Fed", "Header", "Layer", "LenSource", "LinuxSll", "Macsec", "Refused",
+    "Arp", "Error", "Ethernet2", "Fault", "FaultKind", "Fed", "Header", "Layer", "LenSource", "LinuxSll", "Macsec", "Packet", "Refused",
     "RestKind", "Start", "Status", "Summary", "TagError", "Unit", "Vlan", "completion", "fault_text", "feed", "missing",
-    "pop_vlan", "push_vlan", "set_vlan_id", "start_of_link_type", "summary", "walk", "write_back", "write_back_into",
+    "packet", "pop_vlan", "push_vlan", "set_vlan_id", "start_of_link_type", "summary", "walk", "write_back", "write_back_into",
 ]
 __version__ = "2.0.0"
 
@@ -217,6 +217,7 @@ class Arp(NamedTuple):
 
 
 Header = Union[Ethernet2, LinuxSll, Vlan, Macsec, Arp]
+H = TypeVar("H", Ethernet2, LinuxSll, Vlan, Macsec, Arp)
 
 
 class Unit(NamedTuple):
@@ -232,6 +233,23 @@ class Unit(NamedTuple):
     closed: bool
     """Whether bytes appended to the frame would lie outside the payload."""
     header: Header
+
+
+class Packet(NamedTuple):
+    """All headers of a frame with no more than three VLAN tags and SecTags, and what is asked of them."""
+
+    units: List[Unit]
+    """The headers, the outermost first, up to the fault if there is one."""
+    summary: Summary
+    """What is left after them, and the fault if one is refused."""
+    vlan_ids: Tuple[int, ...]
+    """The identifiers of the VLAN tags, the outermost first."""
+    min_snap_len: int
+    """The least length to which the frame can be cut so that all headers stay, as a frame without a check sequence."""
+
+    def first(self, kind: Type[H]) -> Optional[H]:
+        """The first header of a kind, as `packet.first(Arp)`; None if there is none."""
+        return next((unit.header for unit in self.units if isinstance(unit.header, kind)), None)
 
 
 class Error(ValueError):
@@ -369,6 +387,11 @@ def _found(at, length, start, ether_type, limit):
     return found
 
 
+def _summary(found):
+    return Summary(found.units, found.rest_start, found.rest_end, RestKind(found.rest_kind), found.rest_protocol,
+                   _fault(found.fault))
+
+
 def _text(at, length, start, ether_type, limit):
     text, count = C.create_string_buffer(512), C.c_size_t()
     _required(_call("fault_text", start, ether_type, at, length, limit, text, len(text), C.byref(count)))
@@ -393,9 +416,17 @@ def summary(frame: Buffer, start: Start = Start.ETHERNET2, *, ether_type: Option
             limit: Optional[int] = None) -> Summary:
     """The result of the walk through a frame. A unit that is refused is its `fault`, and no exception."""
     with lent(frame) as (at, length):
-        found = _found(at, length, start, ether_type, limit)
-    return Summary(found.units, found.rest_start, found.rest_end, RestKind(found.rest_kind), found.rest_protocol,
-                   _fault(found.fault))
+        return _summary(_found(at, length, start, ether_type, limit))
+
+
+def packet(frame: Buffer, start: Start = Start.ETHERNET2, *, ether_type: Optional[int] = None) -> Packet:
+    """All headers of a frame in one call, with no more than three VLAN tags and SecTags. A unit that is refused is the
+    `fault` of the `summary`, and no exception."""
+    headers = _library.Headers()
+    with lent(frame) as (at, length):
+        _required(_call("packet", start, ether_type, at, length, None, C.byref(headers)))
+        units = [_unit(headers.units[i], at) for i in range(headers.found.units)]
+    return Packet(units, _summary(headers.found), tuple(headers.vlan_ids[:headers.vlan_count]), headers.min_snap_len)
 
 
 def fault_text(frame: Buffer, start: Start = Start.ETHERNET2, *, ether_type: Optional[int] = None,

@@ -42,8 +42,10 @@ Arp = struct("Arp", sender_hardware=size, sender_protocol=size, target_hardware=
 Unit = struct("Unit", offset=size, header_len=size, payload_start=size, payload_end=size, kind=u32, closed=u8,
               ethernet2=Ethernet2, linux_sll=LinuxSll, vlan=Vlan, macsec=Macsec, arp=Arp)
 
+Headers = struct("Headers", units=Unit * 5, found=Found, min_snap_len=size, vlan_ids=u16 * 3, vlan_count=u16)
+
 # the structs in the order of enum etherpeel_struct, from 1 on
-STRUCTS = [Fault, Found, Fed, Ethernet2, LinuxSll, Vlan, Macsec, Arp, Unit]
+STRUCTS = [Fault, Found, Fed, Ethernet2, LinuxSll, Vlan, Macsec, Arp, Unit, Headers]
 
 # what each call takes after the frame, and after the limit of its form with one
 WALKS = {
@@ -73,6 +75,7 @@ def load(path):
         if lib.etherpeel_sizeof(number) != C.sizeof(one):
             raise ImportError(f"the struct {one.__name__} of {path} has another size")
     declare(lib, "start_of_link_type", [u32])
+    declare(lib, "packet", [u32, u16, C.c_void_p, size, C.POINTER(Headers)])
     declare(lib, "pop_vlan", [u32, u16, C.c_void_p, size, C.POINTER(Vlan)])
     declare(lib, "push_vlan", [u32, u16, C.c_void_p, size, C.POINTER(Vlan), u16])
     declare(lib, "set_vlan_id", [u32, u16, C.c_void_p, size, size, u16])

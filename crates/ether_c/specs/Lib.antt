@@ -7,3 +7,4 @@ pub mod Units
 pub mod Walk
 pub mod Views
 pub mod Tags
+pub mod Packet

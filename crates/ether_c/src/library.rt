@@ -3,8 +3,8 @@ ghost use Rattle.std.specs.Prelude.{◌≡◌};
 ghost use Rattle.ether_c.specs.Library.{version_number, struct_size};
 
 use crate::{
-    EtherArp, EtherEthernet2, EtherFault, EtherFed, EtherFound, EtherLinuxSll, EtherMacsec,
-    EtherUnit, EtherVlan,
+    EtherArp, EtherEthernet2, EtherFault, EtherFed, EtherFound, EtherHeaders, EtherLinuxSll,
+    EtherMacsec, EtherUnit, EtherVlan,
 };
 
 /// The version of the library: 0x10000 times the first number, 0x100 times the second, and the third.
@@ -30,6 +30,7 @@ pub extern "C" fn etherpeel_sizeof(number: u32) -> usize
         7 => size_of::<EtherMacsec>(),
         8 => size_of::<EtherArp>(),
         9 => size_of::<EtherUnit>(),
+        10 => size_of::<EtherHeaders>(),
         _ => 0,
     }
 }

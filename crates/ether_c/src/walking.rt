@@ -56,7 +56,12 @@ pub extern "C" fn etherpeel_walk_limited(
 
 /// The units of a walk with a limit on extensions or without, and how many there are in all.
 #[inline(always)]
-fn walked(start: Start, bytes: &[u8], limit: Option<usize>, units: &mut [EtherUnit]) -> usize
+pub(crate) fn walked(
+    start: Start,
+    bytes: &[u8],
+    limit: Option<usize>,
+    units: &mut [EtherUnit],
+) -> usize
     ensures { TellsUnits (start_with start limit) bytes.now units.old units.new result }
 {
     let mut peel = begun_walk(start, bytes, limit);
