@@ -25,10 +25,11 @@
  *            written at all; after ETHERPEEL_NO_ROOM only the length that the target needs; after
  *            ETHERPEEL_NO_TEXT only the length 0.
  *   Memory   No call allocates, blocks, or stores anything between calls, so each is thread-safe.
- *            etherpeel_completion and etherpeel_fault_text take some 2.5 KB of stack, the others
- *            less than 1 KB.
+ *            etherpeel_completion and etherpeel_fault_text take some 2.5 KB of stack, those of
+ *            capture files 100 KB, the others less than 1 KB.
  *   Time     Linear in the number of headers, of which a frame has at most len / 4;
- *            etherpeel_write_back also copies the frame.
+ *            etherpeel_write_back also copies the frame. Of capture files linear in that of their
+ *            units.
  *   Limits   Most calls have a form `.._limited`, which reads no more than `limit` VLAN tags and
  *            SecTags. After these, the ether type of a tag announces nothing: the walk ends there,
  *            with no fault.
@@ -82,7 +83,14 @@ enum etherpeel_status {
     /* The frame begins with the VLAN tag, so that no header before it announces it. */
     ETHERPEEL_UNANNOUNCED = 10,
     /* A number that is passed does not fit its field. */
-    ETHERPEEL_BAD_FIELD = 11
+    ETHERPEEL_BAD_FIELD = 11,
+
+    /* Why the packets of a capture file end before the file does: */
+
+    /* It ends within a header, record or block. */
+    ETHERPEEL_SHORT = 12,
+    /* A header, record or block can't be read. */
+    ETHERPEEL_BAD_CAPTURE = 13
 };
 
 /* What a frame begins with: the parameter `start` of each call. The parameter `ether_type` is read
@@ -285,6 +293,25 @@ typedef struct etherpeel_headers {
     uint16_t vlan_count;     /* how many VLAN tags there are */
 } etherpeel_headers;
 
+/* A packet of a capture file. */
+typedef struct etherpeel_captured {
+    const uint8_t *packet; /* the bytes that were captured, in the file */
+    size_t packet_len;
+    uint64_t seconds;      /* the time of the capture since 1970, UTC; 0 if it has none */
+    uint32_t nanoseconds;  /* after the seconds, rounded down */
+    uint32_t original_len; /* how many bytes the packet had before it was cut */
+    uint16_t link_type;    /* what it begins with: etherpeel_start_of_link_type */
+    uint8_t has_time;      /* 1 if it has a time: one of a simple packet block has none */
+    uint8_t has_fcs_len;   /* 1 if the file says the length of the frame check sequence */
+    uint8_t fcs_len;       /* that length in bytes, of the packet before it was cut; else 0 */
+} etherpeel_captured;
+
+/* Where the packets of a capture file end. */
+typedef struct etherpeel_capture_end {
+    size_t offset; /* the length of the file, or where the unit starts that can't be read */
+    size_t needed; /* how many bytes this unit needs at least, of ETHERPEEL_SHORT, else 0 */
+} etherpeel_capture_end;
+
 /* ---- The library ----
  *
  * A program that takes the shared library, or that declares the structs in another language, finds
@@ -303,7 +330,9 @@ enum etherpeel_struct {
     ETHERPEEL_STRUCT_MACSEC = 7,
     ETHERPEEL_STRUCT_ARP = 8,
     ETHERPEEL_STRUCT_UNIT = 9,
-    ETHERPEEL_STRUCT_HEADERS = 10
+    ETHERPEEL_STRUCT_HEADERS = 10,
+    ETHERPEEL_STRUCT_CAPTURED = 11,
+    ETHERPEEL_STRUCT_CAPTURE_END = 12
 };
 
 /* etherpeel_version - the version of the library, as ETHERPEEL_VERSION is that of this header */
@@ -327,7 +356,9 @@ static inline int etherpeel_fits(void) {
            etherpeel_sizeof(ETHERPEEL_STRUCT_MACSEC) == sizeof(etherpeel_macsec) &&
            etherpeel_sizeof(ETHERPEEL_STRUCT_ARP) == sizeof(etherpeel_arp) &&
            etherpeel_sizeof(ETHERPEEL_STRUCT_UNIT) == sizeof(etherpeel_unit) &&
-           etherpeel_sizeof(ETHERPEEL_STRUCT_HEADERS) == sizeof(etherpeel_headers);
+           etherpeel_sizeof(ETHERPEEL_STRUCT_HEADERS) == sizeof(etherpeel_headers) &&
+           etherpeel_sizeof(ETHERPEEL_STRUCT_CAPTURED) == sizeof(etherpeel_captured) &&
+           etherpeel_sizeof(ETHERPEEL_STRUCT_CAPTURE_END) == sizeof(etherpeel_capture_end);
 }
 
 /* etherpeel_start_of_link_type - the number of enum etherpeel_start for packets of a link type, 0
@@ -514,6 +545,41 @@ uint32_t etherpeel_push_vlan(uint32_t start, uint16_t ether_type, uint8_t *buffe
  */
 uint32_t etherpeel_set_vlan_id(uint32_t start, uint16_t ether_type, uint8_t *frame, size_t len,
                                size_t index, uint16_t vid);
+
+/* ---- Capture files ----
+ *
+ * Classic pcap and pcapng files, of either byte order. `file` points to the `len` bytes of a whole
+ * file, as mmap gives it; NULL is allowed if `len` is 0.
+ */
+
+/* etherpeel_capture - the packets of a capture file
+ *
+ * Fills packets[0], packets[1] .. with the packets of the file in order, as many as there is room
+ * for, and *count with how many there are in all, which may exceed `room`. Elements from *count on
+ * stay as they were. *end says where they end. So a first call with `room` 0 says how many there
+ * are. The packets point into the file.
+ * Returns ETHERPEEL_DONE if they end with the file. If not, the packets before are there: it
+ * returns ETHERPEEL_SHORT, also of an empty file, or ETHERPEEL_BAD_CAPTURE.
+ * The array `packets` must be initialized, as by calloc: an element may be all 0.
+ * Overlap: file, packets, *count and *end must not overlap. Every number is in host byte order,
+ * whatever its order in the file. Thread-safe; takes no memory, and some 100 KB of stack.
+ */
+uint32_t etherpeel_capture(const uint8_t *file, size_t len, etherpeel_captured *packets,
+                           size_t room, size_t *count, etherpeel_capture_end *end);
+
+/* etherpeel_capture_fault_text - why the packets of a capture file end before it does, in English
+ *
+ * Writes the text, such as "At byte 24: A packet ..", to the front of `text`, in ASCII with no 0
+ * byte at its end. *text_len is its length, fewer than 512 bytes; it is 0 if they end with the
+ * file.
+ * Returns ETHERPEEL_DONE, or ETHERPEEL_NO_ROOM if `room` is smaller than *text_len; then `text`
+ * stays as it was. ETHERPEEL_NO_TEXT is not ruled out by proof; after it *text_len is 0, and `text`
+ * stays as it was.
+ * Overlap: file, text and *text_len must not overlap. Every number is in host byte order.
+ * Thread-safe; takes no memory, and some 100 KB of stack.
+ */
+uint32_t etherpeel_capture_fault_text(const uint8_t *file, size_t len, char *text, size_t room,
+                                      size_t *text_len);
 
 #ifdef __cplusplus
 }

@@ -54,6 +54,8 @@ ARTEFACTS = {
         "ether_c/src/missing_bytes.rt": ["etherpeel_missing", "etherpeel_missing_limited"],
         "ether_c/src/fault_text.rt": ["etherpeel_fault_text", "etherpeel_fault_text_limited"],
         "ether_c/src/reading_packet.rt": ["etherpeel_packet"],
+        "ether_c/src/capturing.rt": ["etherpeel_capture"],
+        "ether_c/src/capture_fault_text.rt": ["etherpeel_capture_fault_text"],
         "ether_c/src/popping.rt": ["etherpeel_pop_vlan"],
         "ether_c/src/pushing.rt": ["etherpeel_push_vlan"],
         "ether_c/src/setting.rt": ["etherpeel_set_vlan_id"],

@@ -85,9 +85,10 @@ def main():
         elif language == "c":
             codes.append(text)
         elif language == "python" and not missing("environment"):
-            with open(f"{clone}/example.py", "w") as file:
+            name = f"example{len(commands)}.py"
+            with open(f"{clone}/{name}", "w") as file:
                 file.write(text)
-            commands.append("environment/bin/python example.py\n")
+            commands.append(f"environment/bin/python {name}\n")
     said = run(commands)
     for i, text in expected.items():
         check(f"after {commands[i]}", i < len(said) and said[i].endswith(text), said[i] if i < len(said) else "")

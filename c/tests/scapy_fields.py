@@ -1,11 +1,13 @@
 """Compares the package with scapy, field by field, on 20,000 made frames: scapy_fields.py FOLDER, where FOLDER has the package.
 
-The frames are whole, with each of their fields drawn from a fixed seed. The last line is 'N passed, M failed'.
+The frames are whole, with each of their fields drawn from a fixed seed. Then captures of them that scapy writes, packet by packet. The
+last line is 'N passed, M failed'.
 """
 import logging
 import random
 import socket
 import sys
+import tempfile
 
 logging.getLogger("scapy").setLevel(logging.ERROR)
 sys.path.insert(0, sys.argv[1])
@@ -13,6 +15,7 @@ import etherpeel
 from scapy.contrib.macsec import MACsec
 from scapy.layers.l2 import ARP, CookedLinux, Dot1AD, Dot1Q, Ether
 from scapy.packet import bind_layers
+from scapy.utils import PcapNgWriter, PcapWriter, RawPcapReader
 
 FRAMES = 20000
 VLAN_TYPES, MACSEC, ARP_TYPE = (0x8100, 0x88A8, 0x9100), 0x88E5, 0x0806
@@ -133,6 +136,28 @@ def by_package(start, frame):
     return headers, frame[found.rest_start:found.rest_end]
 
 
+def captures_differ():
+    """How many of a classic file, one with nanoseconds and a pcapng file have other packets than those that scapy wrote."""
+    made = [it for start, it in (frame() for _ in range(2000)) if start == etherpeel.Start.ETHERNET2]
+    times = [1_700_000_000 + draw.randrange(10**6) / 2**10 for _ in made]
+    differ = 0
+    for writer, words in ((PcapWriter, {}), (PcapWriter, {"nano": True}), (PcapNgWriter, {})):
+        with tempfile.NamedTemporaryFile() as file:
+            with writer(file.name, **words) as written:
+                for time, it in zip(times, made):
+                    packet = Ether(it)
+                    packet.time = time
+                    written.write(packet)
+            found = [(bytes(it.packet), it.start, it.original_len) for it in etherpeel.capture(open(file.name, "rb"))]
+            late = max(abs(it.time_ns / 10**9 - time) for it, time in zip(etherpeel.capture(open(file.name, "rb")), times))
+            expected = [(it, etherpeel.Start.ETHERNET2, len(it)) for it in made]
+            read = [it for it, _ in RawPcapReader(file.name)]
+        if found != expected or read != made or late > 2e-6:
+            print(f"the packets of {writer.__name__} {words} differ, or their times by {late}")
+            differ += 1
+    return differ
+
+
 def main():
     differ, seen = 0, {}
     for _ in range(FRAMES):
@@ -147,8 +172,8 @@ def main():
     enough = len(seen) == 5 and min(seen.values()) > 2000
     if not enough:
         print(f"too few headers: {seen}")
-    failed = (differ > 0) + (not enough)
-    print(f"{2 - failed} passed, {failed} failed")
+    failed = (differ > 0) + (not enough) + captures_differ()
+    print(f"{5 - failed} passed, {failed} failed")
 
 
 main()

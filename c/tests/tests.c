@@ -532,6 +532,81 @@ static void packets(void) {
     CHECK(all_are(&h, sizeof h, 0xA5));
 }
 
+/* ---- capture files ---- */
+
+/* a classic file, most significant byte first, with two packets of one and no byte; the second was
+ * cut */
+static const uint8_t CLASSIC[] = {0xA1, 0xB2, 0xC3, 0xD4, 0, 2, 0, 4, 0,    0, 0, 0, 0, 0, 0, 0,
+                                  0,    0,    0xFF, 0xFF, 0, 0, 0, 1, 0,    0, 0, 1, 0, 0, 0, 2,
+                                  0,    0,    0,    1,    0, 0, 0, 1, 0xFF, /* 1.000002 s */
+                                  0,    0,    0,    3,    0, 0, 0, 4, 0,    0, 0, 0, 0, 0, 0, 9};
+/* a pcapng file, least significant byte first: a section header, an interface of link type 113, an
+ * enhanced packet at 2^32 + 5 microseconds, a simple packet */
+static const uint8_t BLOCKS[] = {
+    0x0A, 0x0D, 0x0D, 0x0A, 28,   0,    0,    0,    0x4D, 0x3C, 0x2B, 0x1A, 1, 0, 0,  0, 0xFF, 0xFF,
+    0xFF, 0xFF, 0xFF, 0xFF, 0xFF, 0xFF, 28,   0,    0,    0,    1,    0,    0, 0, 20, 0, 0,    0,
+    113,  0,    0,    0,    0,    0,    0,    0,    20,   0,    0,    0,    6, 0, 0,  0, 36,   0,
+    0,    0,    0,    0,    0,    0,    1,    0,    0,    0,    5,    0,    0, 0, 1,  0, 0,    0,
+    7,    0,    0,    0,    0xAB, 0,    0,    0,    36,   0,    0,    0,    3, 0, 0,  0, 20,   0,
+    0,    0,    2,    0,    0,    0,    0xCD, 0xEF, 0,    0,    20,   0,    0, 0};
+
+static int is_captured(const etherpeel_captured *p, const uint8_t *packet, size_t len,
+                       uint64_t seconds, uint32_t nanoseconds, uint32_t original, unsigned link,
+                       int has_time) {
+    return p->packet_len == len && (len == 0 || p->packet == packet) && p->seconds == seconds &&
+           p->nanoseconds == nanoseconds && p->original_len == original && p->link_type == link &&
+           p->has_time == has_time && p->has_fcs_len == 0 && p->fcs_len == 0;
+}
+
+static void captures(void) {
+    etherpeel_captured p[3];
+    etherpeel_capture_end end;
+    size_t count = 99;
+    CHECK(sizeof(etherpeel_captured) == 40 && offsetof(etherpeel_captured, seconds) == 16 &&
+          offsetof(etherpeel_captured, link_type) == 32 &&
+          offsetof(etherpeel_captured, fcs_len) == 36 && sizeof(etherpeel_capture_end) == 16);
+    memset(p, 0, sizeof p);
+    CHECK(etherpeel_capture(CLASSIC, sizeof CLASSIC, p, 3, &count, &end) == ETHERPEEL_DONE);
+    CHECK(count == 2 && end.offset == sizeof CLASSIC && end.needed == 0);
+    CHECK(is_captured(&p[0], CLASSIC + 40, 1, 1, 2000, 1, 1, 1) &&
+          is_captured(&p[1], NULL, 0, 3, 4000, 9, 1, 1) && all_are(&p[2], sizeof p[2], 0));
+    CHECK(etherpeel_capture(BLOCKS, sizeof BLOCKS, p, 3, &count, &end) == ETHERPEEL_DONE);
+    CHECK(count == 2 && end.offset == sizeof BLOCKS && end.needed == 0);
+    CHECK(is_captured(&p[0], BLOCKS + 76, 1, 4294, 967301000, 7, 113, 1) &&
+          is_captured(&p[1], BLOCKS + 96, 2, 0, 0, 2, 113, 0));
+    /* as many as there is room for */
+    memset(p, 0, sizeof p);
+    CHECK(etherpeel_capture(CLASSIC, sizeof CLASSIC, p, 1, &count, &end) == ETHERPEEL_DONE);
+    CHECK(count == 2 && p[0].packet == CLASSIC + 40 && all_are(&p[1], sizeof p[1], 0));
+    CHECK(etherpeel_capture(BLOCKS, sizeof BLOCKS, NULL, 0, &count, &end) == ETHERPEEL_DONE &&
+          count == 2);
+}
+
+static void captures_that_end_early(void) {
+    static const char expected[] = "At byte 41: ";
+    static const uint8_t other[24] = {0x12, 0x34, 0x56, 0x78};
+    char text[512];
+    etherpeel_capture_end end;
+    size_t count, len = 99;
+    const guarded page = guarded_page();
+    for (size_t n = 0; n < sizeof CLASSIC; n++) {
+        /* a cut is refused but after a header or a record; what it needs is beyond its end */
+        const int whole = n == 24 || n == 41;
+        const uint8_t *cut = copied(page, CLASSIC, n);
+        const uint32_t status = etherpeel_capture(cut, n, NULL, 0, &count, &end);
+        CHECK(status == (whole ? ETHERPEEL_DONE : ETHERPEEL_SHORT) && count == (n >= 41));
+        CHECK(whole ? end.needed == 0 && end.offset == n : end.offset + end.needed > n);
+        CHECK(etherpeel_capture_fault_text(cut, n, text, sizeof text, &len) == ETHERPEEL_DONE);
+        CHECK((len == 0) == whole && len < sizeof text);
+    }
+    release(page);
+    CHECK(end.offset == 41 && end.needed == 16 && memcmp(text, expected, 12) == 0);
+    CHECK(etherpeel_capture_fault_text(CLASSIC, 50, text, 5, &len) == ETHERPEEL_NO_ROOM && len > 5);
+    CHECK(etherpeel_capture(NULL, 0, NULL, 0, &count, &end) == ETHERPEEL_SHORT && count == 0);
+    CHECK(etherpeel_capture(other, sizeof other, NULL, 0, &count, &end) == ETHERPEEL_BAD_CAPTURE);
+    CHECK(count == 0 && end.offset == 0 && end.needed == 0);
+}
+
 /* ---- VLAN tags changed in place ---- */
 
 /* Ethernet II and the first byte of an IPv4 packet, after four bytes that are free */
@@ -771,6 +846,8 @@ int main(void) {
     missing_bytes();
     texts();
     packets();
+    captures();
+    captures_that_end_early();
     popping();
     pushing();
     setting();

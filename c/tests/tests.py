@@ -1,11 +1,12 @@
 """Tests of the Python package: tests.py FOLDER, where FOLDER has the package. The last line is 'N passed, M failed'."""
 import array
 import ctypes as C
+import io
 import itertools
 import mmap
-import os
 import random
 import sys
+import tempfile
 
 sys.path.insert(0, sys.argv[1])
 import etherpeel
@@ -111,6 +112,45 @@ def packets():
     cut = etherpeel.packet(memoryview(tagged)[:20])
     check("cut packet", (len(cut.units), cut.summary.fault.missing, cut.vlan_ids, cut.min_snap_len), (2, 2, (10,), 18))
     check("tags alone", etherpeel.packet(tagged[14:], Start.ETHER_TYPE, ether_type=0x88A8).vlan_ids, (10, 20))
+
+
+# a classic file with two packets, and a pcapng file with an enhanced and a simple packet
+CLASSIC = bytes.fromhex("a1b2c3d4 00020004 00000000 00000000 0000ffff 00000001"
+                        "00000001 00000002 00000001 00000001 ff 00000003 00000004 00000000 00000009")
+BLOCKS = bytes.fromhex("0a0d0d0a 1c000000 4d3c2b1a 01000000 ffffffffffffffff 1c000000"
+                       "01000000 14000000 71000000 00000000 14000000"
+                       "06000000 24000000 00000000 01000000 05000000 01000000 07000000 ab000000 24000000"
+                       "03000000 14000000 02000000 cdef0000 14000000")
+
+
+def captures():
+    classic = [(b"\xff", 1_000_002_000, 1, 1, None), (b"", 3_000_004_000, 1, 9, None)]
+    blocks = [(b"\xab", 4_294_967_301_000, 113, 7, None), (b"\xcd\xef", None, 113, 2, None)]
+    for file, expected in ((CLASSIC, classic), (BLOCKS, blocks)):
+        with tempfile.TemporaryFile() as on_disk:
+            on_disk.write(b"??" + file)
+            on_disk.seek(2)
+            for source in (file, bytearray(file), memoryview(b"!" + file)[1:], io.BytesIO(file), on_disk):
+                found = [(bytes(it.packet), *it[1:]) for it in etherpeel.capture(source)]
+                check(type(source).__name__, found, expected)
+    check("starts", [it.start for file in (CLASSIC, BLOCKS) for it in etherpeel.capture(file)], [Start.ETHERNET2] * 2 + [Start.LINUX_SLL] * 2)
+    # the file says a check sequence of 4 bytes (bits 28 to 31, and 26), which a packet that was cut has lost
+    sums = bytearray(CLASSIC)
+    sums[20] = 0x24
+    check("check sequences", [(it.fcs_len, it.start) for it in etherpeel.capture(sums)], [(4, Start.ETHERNET2_FCS), (4, Start.ETHERNET2)])
+    mine = bytearray(CLASSIC)
+    first = next(etherpeel.capture(mine))
+    mine[40] = 7
+    check("no copy of a packet", bytes(first.packet), b"\x07")
+    packets = etherpeel.capture(CLASSIC[:50])
+    check("before the fault", bytes(next(packets).packet), b"\xff")
+    try:
+        next(packets)
+        check("cut file", False, True)
+    except etherpeel.CaptureError as error:
+        check("cut file", (error.offset, error.needed, str(error)[:12]), (41, 16, "At byte 41: "))
+    for file in (b"", bytes(24), CLASSIC[:23]):
+        check("no capture", raised(list, etherpeel.capture(file)), etherpeel.CaptureError)
 
 
 def tags_in_place():
@@ -316,6 +356,7 @@ layout()
 worked_examples()
 buffers()
 packets()
+captures()
 tags_in_place()
 wrong_words()
 drawn_frames(10000)

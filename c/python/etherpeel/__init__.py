@@ -15,16 +15,18 @@ frame. docs/C.md of the repository says what is proved of each call.
 from __future__ import annotations
 
 import ctypes as C
+import mmap
 from enum import IntEnum
-from typing import List, NamedTuple, Optional, Tuple, Type, TypeVar, Union
+from typing import BinaryIO, Iterator, List, NamedTuple, Optional, Tuple, Type, TypeVar, Union
 
 from . import _library
 from ._library import WRITE, Status, lent, lib
 
 __all__ = [
-    "Arp", "Error", "Ethernet2", "Fault", "FaultKind", "Fed", "Header", "Layer", "LenSource", "LinuxSll", "Macsec", "Packet", "Refused",
-    "RestKind", "Start", "Status", "Summary", "TagError", "Unit", "Vlan", "completion", "fault_text", "feed", "missing",
-    "packet", "pop_vlan", "push_vlan", "set_vlan_id", "start_of_link_type", "summary", "walk", "write_back", "write_back_into",
+    "Arp", "CaptureError", "Captured", "Error", "Ethernet2", "Fault", "FaultKind", "Fed", "Header", "Layer", "LenSource",
+    "LinuxSll", "Macsec", "Packet", "Refused", "RestKind", "Start", "Status", "Summary", "TagError", "Unit", "Vlan", "capture",
+    "completion", "fault_text", "feed", "missing", "packet", "pop_vlan", "push_vlan", "set_vlan_id", "start_of_link_type",
+    "summary", "walk", "write_back", "write_back_into",
 ]
 __version__ = "2.0.0"
 
@@ -548,3 +550,81 @@ def start_of_link_type(link_type: int) -> Optional[Start]:
     """What packets of a link type of libpcap begin with, None if the walk does not begin with that."""
     start = lib.etherpeel_start_of_link_type(_number("link_type", link_type, 32))
     return Start(start) if start else None
+
+
+class Captured(NamedTuple):
+    """A packet of a capture file."""
+
+    packet: memoryview
+    """The bytes that were captured, where they are in the file."""
+    time_ns: Optional[int]
+    """The time of the capture in nanoseconds since 1970, UTC, if it has one."""
+    link_type: int
+    original_len: int
+    """How many bytes the packet had before it was cut."""
+    fcs_len: Optional[int]
+    """The length in bytes of the frame check sequence, of the packet before it was cut, if the file says it."""
+
+    @property
+    def start(self) -> Optional[Start]:
+        """What the packet begins with, None if the walk does not begin with that. An Ethernet frame that was not cut has a
+        frame check sequence if the file gives it 4 bytes."""
+        start = start_of_link_type(self.link_type)
+        if start == Start.ETHERNET2 and self.fcs_len == 4 and len(self.packet) == self.original_len:
+            return Start.ETHERNET2_FCS
+        return start
+
+
+class CaptureError(Error):
+    """The packets of a capture file end before the file does: the text says why."""
+
+    def __init__(self, text: str, offset: int, needed: int):
+        super().__init__(text)
+        self.offset = offset
+        """Where the header, record or block starts that can't be read."""
+        self.needed = needed
+        """How many bytes it needs at least, if the file ends within it; else 0."""
+
+
+def capture(source: Union[Buffer, BinaryIO]) -> Iterator[Captured]:
+    """The packets of a classic pcap or pcapng file, which is in memory or open for reading.
+
+        with open("f.pcap", "rb") as file:
+            for packet in etherpeel.capture(file):
+                if packet.start:
+                    print(etherpeel.packet(packet.packet, packet.start).vlan_ids)
+
+    Raises `CaptureError` after the last packet if the file can't be read to its end. A file is mapped into memory if it can
+    be, and else read at once; each packet takes 40 bytes besides.
+    """
+    view = _memory(source)
+    with lent(view) as (at, length):
+        count, end = C.c_size_t(), _library.CaptureEnd()
+        lib.etherpeel_capture(at, length, None, 0, C.byref(count), C.byref(end))
+        packets = (_library.Captured * count.value)()
+        status = lib.etherpeel_capture(at, length, packets, count.value, C.byref(count), C.byref(end))
+        text, text_len = C.create_string_buffer(512), C.c_size_t()
+        lib.etherpeel_capture_fault_text(at, length, text, len(text), C.byref(text_len))
+    error = CaptureError(text.raw[:text_len.value].decode("ascii"), end.offset, end.needed) if status != Status.DONE else None
+    return _captured(view, at, packets, error)
+
+
+def _memory(source):
+    """A view of the bytes of what is in memory, or of a file from where it is on."""
+    if not hasattr(source, "read") or isinstance(source, mmap.mmap):
+        return memoryview(source).cast("B")
+    try:
+        where = source.tell()
+        return memoryview(mmap.mmap(source.fileno(), 0, access=mmap.ACCESS_READ))[where:]
+    except (OSError, ValueError, AttributeError):
+        return memoryview(source.read())
+
+
+def _captured(view, at, packets, error):
+    for it in packets:
+        start = it.packet - at if it.packet_len else 0
+        time_ns = it.seconds * 10**9 + it.nanoseconds if it.has_time else None
+        yield Captured(view[start:start + it.packet_len], time_ns, it.link_type, it.original_len,
+                       it.fcs_len if it.has_fcs_len else None)
+    if error:
+        raise error

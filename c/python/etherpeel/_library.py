@@ -22,6 +22,8 @@ class Status(IntEnum):
     CUT_VLAN = 9
     UNANNOUNCED = 10
     BAD_FIELD = 11
+    SHORT = 12
+    BAD_CAPTURE = 13
 
 
 def struct(name, **fields):
@@ -44,8 +46,12 @@ Unit = struct("Unit", offset=size, header_len=size, payload_start=size, payload_
 
 Headers = struct("Headers", units=Unit * 5, found=Found, min_snap_len=size, vlan_ids=u16 * 3, vlan_count=u16)
 
+Captured = struct("Captured", packet=C.c_void_p, packet_len=size, seconds=u64, nanoseconds=u32, original_len=u32,
+                  link_type=u16, has_time=u8, has_fcs_len=u8, fcs_len=u8)
+CaptureEnd = struct("CaptureEnd", offset=size, needed=size)
+
 # the structs in the order of enum etherpeel_struct, from 1 on
-STRUCTS = [Fault, Found, Fed, Ethernet2, LinuxSll, Vlan, Macsec, Arp, Unit, Headers]
+STRUCTS = [Fault, Found, Fed, Ethernet2, LinuxSll, Vlan, Macsec, Arp, Unit, Headers, Captured, CaptureEnd]
 
 # what each call takes after the frame, and after the limit of its form with one
 WALKS = {
@@ -76,6 +82,8 @@ def load(path):
             raise ImportError(f"the struct {one.__name__} of {path} has another size")
     declare(lib, "start_of_link_type", [u32])
     declare(lib, "packet", [u32, u16, C.c_void_p, size, C.POINTER(Headers)])
+    declare(lib, "capture", [C.c_void_p, size, C.POINTER(Captured), size, C.POINTER(size), C.POINTER(CaptureEnd)])
+    declare(lib, "capture_fault_text", [C.c_void_p, size, C.c_void_p, size, C.POINTER(size)])
     declare(lib, "pop_vlan", [u32, u16, C.c_void_p, size, C.POINTER(Vlan)])
     declare(lib, "push_vlan", [u32, u16, C.c_void_p, size, C.POINTER(Vlan), u16])
     declare(lib, "set_vlan_id", [u32, u16, C.c_void_p, size, size, u16])

@@ -8,3 +8,4 @@ pub mod Walk
 pub mod Views
 pub mod Tags
 pub mod Packet
+pub mod Captured

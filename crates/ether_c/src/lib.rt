@@ -1,13 +1,17 @@
-//! The walk through the link-layer headers of a frame, for callers in C. `c/etherpeel.h` declares and
-//! documents the calls, and `docs/C.md` says how a program is built with them.
+//! The walk through the link-layer headers of a frame, packets and capture files, for callers in C.
+//! `c/etherpeel.h` declares and documents the calls, and `docs/C.md` says how a program is built with
+//! them.
 //!
-//! Each export calls one function of `ether_peel`, and its contract says what that call says. Each
-//! struct that is passed has a file of its own, and `specs/` says each of its fields. Enumerations are
-//! passed as numbers (`specs/Numbers.antt`), and a start that has no number is refused. No call
-//! allocates memory or keeps a pointer.
+//! Each export calls `ether_peel`, `ether_packet` or `ether_pcap`, and its contract says what those
+//! calls say. Each struct that is passed has a file of its own, and `specs/` says each of its fields.
+//! Enumerations are passed as numbers (`specs/Numbers.antt`), and a start that has no number is
+//! refused. No call allocates memory or keeps a pointer.
 #![tactic(auto)]
 
+pub mod capture_fault_text;
+pub mod capturing;
 pub mod completing;
+mod ether_captured;
 mod ether_fault;
 mod ether_fed;
 mod ether_found;
@@ -28,6 +32,8 @@ pub mod summarizing;
 pub mod walking;
 pub mod writing_back;
 
+pub use capturing::EtherCaptureEnd;
+pub use ether_captured::EtherCaptured;
 pub use ether_fault::EtherFault;
 pub use ether_fed::EtherFed;
 pub use ether_found::EtherFound;

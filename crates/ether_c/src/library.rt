@@ -3,8 +3,8 @@ ghost use Rattle.std.specs.Prelude.{◌≡◌};
 ghost use Rattle.ether_c.specs.Library.{version_number, struct_size};
 
 use crate::{
-    EtherArp, EtherEthernet2, EtherFault, EtherFed, EtherFound, EtherHeaders, EtherLinuxSll,
-    EtherMacsec, EtherUnit, EtherVlan,
+    EtherArp, EtherCaptureEnd, EtherCaptured, EtherEthernet2, EtherFault, EtherFed, EtherFound,
+    EtherHeaders, EtherLinuxSll, EtherMacsec, EtherUnit, EtherVlan,
 };
 
 /// The version of the library: 0x10000 times the first number, 0x100 times the second, and the third.
@@ -31,6 +31,8 @@ pub extern "C" fn etherpeel_sizeof(number: u32) -> usize
         8 => size_of::<EtherArp>(),
         9 => size_of::<EtherUnit>(),
         10 => size_of::<EtherHeaders>(),
+        11 => size_of::<EtherCaptured<'_>>(),
+        12 => size_of::<EtherCaptureEnd>(),
         _ => 0,
     }
 }

@@ -23,6 +23,12 @@ pub(crate) const NO_TEXT: u32 = 3;
 /// A number does not fit its field, and nothing was written.
 pub(crate) const BAD_FIELD: u32 = 11;
 
+/// The bytes end within a unit of a capture file.
+pub(crate) const SHORT: u32 = 12;
+
+/// A capture file can't be read on.
+pub(crate) const BAD_CAPTURE: u32 = 13;
+
 /// The start with a number, if there is one. Only the fourth has the ether type.
 #[inline(always)]
 pub(crate) fn start_of(number: u32, ether_type: u16) -> Option<Start>
