@@ -112,7 +112,7 @@ for compiler in "$cc" $(compiler_of c clang); do
 done
 run "The header beside others" sh tests/beside.sh "$cc" "$cxx" "$library" "$work"
 sh link.sh "$cc" "$library" "$work/libetherpeel.so.2"
-run "The shared library" sh tests/shared.sh "$cc" "$work/libetherpeel.so.2" "$work"
+run "The shared library" sh tests/shared.sh "$cc" "$library" "$work/libetherpeel.so.2" "$work"
 
 if [ -n "$python" ]; then
     mkdir "$work/package"

@@ -1,6 +1,6 @@
-# The shared library exports what the header declares and nothing else, under its name; and the header is refused elsewhere than on
-# Linux on x86-64: shared.sh CC SHARED FOLDER
-cc=$1 shared=$2 work=$3
+# The shared library exports what the header declares and nothing else, under its name, and the libraries need what docs/C.md says; and
+# the header is refused elsewhere than on Linux on x86-64: shared.sh CC LIBRARY SHARED FOLDER
+cc=$1 library=$2 shared=$3 work=$4
 passed=0 failed=0
 check() {
     if [ "$2" = "$3" ]; then
@@ -15,7 +15,8 @@ if command -v nm > "$work/shared.log" && command -v readelf > "$work/shared.log"
     exported=$(nm -D --defined-only "$shared" | awk '$2 != "A" { sub(/@.*/, "", $3); print $3 }' | sort)
     check "exported names" "$exported" "$declared"
     check "soname" "$(readelf -d "$shared" | sed -n 's/.*SONAME.*\[\(.*\)\]/\1/p')" libetherpeel.so.2
-    check "needed names" "$(nm -D --undefined-only "$shared" | awk '$1 == "U" { sub(/@.*/, "", $2); print $2 }' | grep -vxE 'mem(cpy|move|set)')" ""
+    check "names that the static library needs" "$(nm -u "$library" | awk '$1 == "U" { printf "%s ", $2 }')" '__udivti3 memcpy memmove memset '
+    check "names that the shared one needs" "$(nm -D -u "$shared" | awk '$1 == "U" { sub(/@.*/, "", $2); printf "%s ", $2 }')" 'memcpy memmove memset '
 else
     echo "left out: the names that the shared library exports, since nm and readelf were not found"
 fi
