@@ -1,8 +1,8 @@
 /* The calls from C over made frames, beside a C function that fills the same struct.
  *
  *   calls compare     compares the structs of etherpeel_summary with those of the function by hand
- *   calls SET CALL    one call for each frame of a set, for callgrind: 0 the function by hand, 1 etherpeel_summary, 2 etherpeel_walk, 3 etherpeel_write_back,
- *                     4 etherpeel_feed */
+ *   calls SET CALL    one call for each frame of a set, for callgrind: 0 the function by hand, 1 etherpeel_summary, 2 etherpeel_walk,
+ *                     3 etherpeel_write_back, 4 etherpeel_feed, 5 etherpeel_packet */
 #include "../walk/frames.h"
 #include "../../c/etherpeel.h"
 
@@ -138,6 +138,7 @@ static void call(int which, const u8 *frame, size_t len) {
   static etherpeel_found found;
   static etherpeel_fed fed;
   static etherpeel_unit units[8];
+  static etherpeel_headers headers;
   size_t count;
   switch (which) {
     case 0: by_hand(ETHERPEEL_START_ETHERNET2, 0, frame, len, &found); break;
@@ -145,6 +146,7 @@ static void call(int which, const u8 *frame, size_t len) {
     case 2: etherpeel_walk(ETHERPEEL_START_ETHERNET2, 0, frame, len, units, 8, &count); break;
     case 3: etherpeel_write_back(ETHERPEEL_START_ETHERNET2, 0, frame, len, target, sizeof target, &count); break;
     case 4: etherpeel_feed(ETHERPEEL_START_ETHERNET2, 0, frame, len, &fed); break;
+    case 5: etherpeel_packet(ETHERPEEL_START_ETHERNET2, 0, frame, len, &headers); break;
   }
 }
 

@@ -14,7 +14,10 @@ count() {
 }
 
 for set in 0 1 2 3 4 5; do
-    echo "$set $(count by_hand "$set" 0) $(count etherpeel_summary "$set" 1) $(count etherpeel_walk "$set" 2) $(count etherpeel_write_back "$set" 3) $(count etherpeel_feed "$set" 4)" |
+    counts="$(count by_hand "$set" 0) $(count etherpeel_summary "$set" 1) $(count etherpeel_walk "$set" 2)"
+    counts="$counts $(count etherpeel_write_back "$set" 3) $(count etherpeel_feed "$set" 4) $(count etherpeel_packet "$set" 5)"
+    echo "$set $counts" |
         awk '{ split("mixed,plain,one to three tags,one or two SecTags,ARP,cut short", name, ",")
-               printf "%s: by hand %.0f, etherpeel_summary %.0f (%.2f), etherpeel_walk %.0f, etherpeel_write_back %.0f, etherpeel_feed %.0f\n", name[$1 + 1], $2, $3, $3 / $2, $4, $5, $6 }'
+               printf "%s: by hand %.0f, etherpeel_summary %.0f (%.2f), etherpeel_walk %.0f, etherpeel_write_back %.0f,", name[$1 + 1], $2, $3, $3 / $2, $4, $5
+               printf " etherpeel_feed %.0f, etherpeel_packet %.0f\n", $6, $7 }'
 done

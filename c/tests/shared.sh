@@ -15,7 +15,7 @@ if command -v nm > "$work/shared.log" && command -v readelf > "$work/shared.log"
     exported=$(nm -D --defined-only "$shared" | awk '$2 != "A" { sub(/@.*/, "", $3); print $3 }' | sort)
     check "exported names" "$exported" "$declared"
     check "soname" "$(readelf -d "$shared" | sed -n 's/.*SONAME.*\[\(.*\)\]/\1/p')" libetherpeel.so.2
-    check "names that the static library needs" "$(nm -u "$library" | awk '$1 == "U" { printf "%s ", $2 }')" '__udivti3 memcpy memmove memset '
+    check "names that the static one needs" "$(nm -u "$library" | awk '$1 == "U" { printf "%s ", $2 }')" '__udivti3 memcpy memmove memset '
     check "names that the shared one needs" "$(nm -D -u "$shared" | awk '$1 == "U" { sub(/@.*/, "", $2); printf "%s ", $2 }')" 'memcpy memmove memset '
 else
     echo "left out: the names that the shared library exports, since nm and readelf were not found"
