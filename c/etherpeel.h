@@ -546,6 +546,31 @@ uint32_t etherpeel_push_vlan(uint32_t start, uint16_t ether_type, uint8_t *buffe
 uint32_t etherpeel_set_vlan_id(uint32_t start, uint16_t ether_type, uint8_t *frame, size_t len,
                                size_t index, uint16_t vid);
 
+/* etherpeel_set_vlan_tag - sets the tag control information of a VLAN tag, in place
+ *
+ * The same with tag->pcp, tag->dei and tag->vid. The ether type after the tag stays: tag->ether_type
+ * is ignored.
+ * Returns ETHERPEEL_DONE, or the first of these that applies: ETHERPEEL_UNKNOWN_START;
+ * ETHERPEEL_BAD_FIELD if tag->vid is above 4095, tag->pcp above 7 or tag->dei above 1;
+ * ETHERPEEL_NO_TAG; ETHERPEEL_NO_VLAN.
+ * In place in `frame`, which *tag must not overlap. Every number is in host byte order.
+ * Thread-safe; takes no memory.
+ */
+uint32_t etherpeel_set_vlan_tag(uint32_t start, uint16_t ether_type, uint8_t *frame, size_t len,
+                                size_t index, const etherpeel_vlan *tag);
+
+/* etherpeel_set_tpid - sets the ether type that announces a VLAN tag, in place
+ *
+ * It is the ether type of the header before the tag: of the link, or of another VLAN tag or SecTag.
+ * `index` counts as in etherpeel_set_vlan_id; `tpid` is 0x8100, 0x88A8 or 0x9100.
+ * Returns ETHERPEEL_DONE, or the first of these that applies: ETHERPEEL_UNKNOWN_START;
+ * ETHERPEEL_BAD_TPID; ETHERPEEL_NO_TAG; ETHERPEEL_NO_VLAN; ETHERPEEL_UNANNOUNCED if the frame
+ * begins with the tag.
+ * In place in `frame`. Every number is in host byte order. Thread-safe; takes no memory.
+ */
+uint32_t etherpeel_set_tpid(uint32_t start, uint16_t ether_type, uint8_t *frame, size_t len,
+                            size_t index, uint16_t tpid);
+
 /* ---- Capture files ----
  *
  * Classic pcap and pcapng files, of either byte order. `file` points to the `len` bytes of a whole

@@ -58,7 +58,7 @@ ARTEFACTS = {
         "ether_c/src/capture_fault_text.rt": ["etherpeel_capture_fault_text"],
         "ether_c/src/popping.rt": ["etherpeel_pop_vlan"],
         "ether_c/src/pushing.rt": ["etherpeel_push_vlan"],
-        "ether_c/src/setting.rt": ["etherpeel_set_vlan_id"],
+        "ether_c/src/setting.rt": ["etherpeel_set_vlan_id", "etherpeel_set_vlan_tag", "etherpeel_set_tpid"],
         "ether_c/src/library.rt": ["etherpeel_version", "etherpeel_sizeof"],
         "ether_c/src/link_types.rt": ["etherpeel_start_of_link_type"],
     },

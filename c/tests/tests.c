@@ -691,6 +691,40 @@ static void setting(void) {
     CHECK(tag[8] == 0xAF && tag[9] == 0xFF && memcmp(tag, NAMED, 8) == 0 && tag[10] == NAMED[10]);
 }
 
+static void setting_more(void) {
+    static const uint8_t expected[] = {ADDRESSES, 0x81, 0x00, 0x64, 0x56, 0x08, 0x00, 0x45};
+    etherpeel_vlan tag = {0x456, 0x9999, 8, 0};
+    uint8_t frame[sizeof TAGGED], sec_tag[sizeof NAMED];
+    memcpy(frame, TAGGED, sizeof frame), memcpy(sec_tag, NAMED, sizeof sec_tag);
+    CHECK(etherpeel_set_vlan_tag(9, 0, frame, sizeof frame, 0, &tag) == ETHERPEEL_UNKNOWN_START);
+    CHECK(etherpeel_set_vlan_tag(ETHERPEEL_START_ETHERNET2, 0, frame, sizeof frame, 0, &tag) ==
+          ETHERPEEL_BAD_FIELD);
+    CHECK(memcmp(frame, TAGGED, sizeof frame) == 0);
+    tag.pcp = 3;
+    CHECK(etherpeel_set_vlan_tag(ETHERPEEL_START_ETHERNET2, 0, frame, sizeof frame, 1, &tag) ==
+          ETHERPEEL_NO_TAG);
+    CHECK(etherpeel_set_vlan_tag(ETHERPEEL_START_ETHERNET2, 0, frame, sizeof frame, 0, &tag) ==
+          ETHERPEEL_DONE);
+    CHECK(memcmp(frame, expected, sizeof frame) == 0);
+    CHECK(etherpeel_set_tpid(9, 0, frame, sizeof frame, 0, 0x88A8) == ETHERPEEL_UNKNOWN_START);
+    CHECK(etherpeel_set_tpid(ETHERPEEL_START_ETHERNET2, 0, frame, sizeof frame, 0, 0x0800) ==
+          ETHERPEEL_BAD_TPID);
+    CHECK(etherpeel_set_tpid(ETHERPEEL_START_ETHERNET2, 0, frame, sizeof frame, 1, 0x88A8) ==
+          ETHERPEEL_NO_TAG);
+    CHECK(etherpeel_set_tpid(ETHERPEEL_START_ETHER_TYPE, 0x88E5, sec_tag, sizeof sec_tag, 0,
+                             0x88A8) == ETHERPEEL_NO_VLAN);
+    CHECK(etherpeel_set_tpid(ETHERPEEL_START_ETHER_TYPE, 0x8100, frame + 14, 5, 0, 0x88A8) ==
+          ETHERPEEL_UNANNOUNCED);
+    CHECK(memcmp(frame, expected, sizeof frame) == 0);
+    CHECK(etherpeel_set_tpid(ETHERPEEL_START_ETHERNET2, 0, frame, sizeof frame, 0, 0x88A8) ==
+          ETHERPEEL_DONE);
+    CHECK(frame[12] == 0x88 && frame[13] == 0xA8 && memcmp(frame + 14, expected + 14, 5) == 0);
+    /* the type of the SecTag announces the VLAN tag in it */
+    CHECK(etherpeel_set_tpid(ETHERPEEL_START_ETHER_TYPE, 0x88E5, sec_tag, sizeof sec_tag, 1,
+                             0x9100) == ETHERPEEL_DONE);
+    CHECK(sec_tag[6] == 0x91 && sec_tag[7] == 0x00 && memcmp(sec_tag, NAMED, 6) == 0);
+}
+
 /* ---- what is common to all calls ---- */
 
 static void unknown_starts(void) {
@@ -851,6 +885,7 @@ int main(void) {
     popping();
     pushing();
     setting();
+    setting_more();
     unknown_starts();
     no_frame();
     drawn_frames();

@@ -162,6 +162,9 @@ def tags_in_place():
     check("push", frame, TAGGED)
     etherpeel.set_vlan_id(frame, 0, 0x456)
     check("set", frame, ADDRESSES + bytes.fromhex("8100b456080045"))
+    etherpeel.set_vlan_tag(frame, 0, etherpeel.Vlan(0x456, pcp=3, ether_type=0x9999))
+    etherpeel.set_tpid(frame, 0, 0x88A8)
+    check("set more", frame, ADDRESSES + bytes.fromhex("88a86456080045"))
     around = bytearray(b"!" + TAGGED)
     etherpeel.set_vlan_id(memoryview(around)[1:], 0, 1)
     check("set in a view", around, b"!" + ADDRESSES + bytes.fromhex("8100b001080045"))
@@ -173,6 +176,8 @@ def tags_in_place():
                                 (etherpeel.push_vlan, (bytearray(3), tag), "NO_ROOM"), (etherpeel.set_vlan_id, (frame, 1, 1), "NO_TAG"),
                                 (etherpeel.push_vlan, (frame, etherpeel.Vlan(4096)), "BAD_FIELD"),
                                 (etherpeel.push_vlan, (frame, etherpeel.Vlan(1, pcp=-1)), "BAD_FIELD"),
+                                (etherpeel.set_vlan_tag, (frame, 0, etherpeel.Vlan(1, dei=2)), "BAD_FIELD"),
+                                (etherpeel.set_tpid, (frame, 0, 0x0800), "BAD_TPID"), (etherpeel.set_tpid, (frame, 1, 0x8100), "NO_TAG"),
                                 (etherpeel.set_vlan_id, (frame, 0, 4096), "BAD_FIELD"), (etherpeel.set_vlan_id, (frame, 0, 2**16 + 1), "BAD_FIELD")):
         before = bytes(words[0])
         try:

@@ -25,8 +25,8 @@ from ._library import WRITE, Status, lent, lib
 __all__ = [
     "Arp", "CaptureError", "Captured", "Error", "Ethernet2", "Fault", "FaultKind", "Fed", "Header", "Layer", "LenSource",
     "LinuxSll", "Macsec", "Packet", "Refused", "RestKind", "Start", "Status", "Summary", "TagError", "Unit", "Vlan", "capture",
-    "completion", "fault_text", "feed", "missing", "packet", "pop_vlan", "push_vlan", "set_vlan_id", "start_of_link_type",
-    "summary", "walk", "write_back", "write_back_into",
+    "completion", "fault_text", "feed", "missing", "packet", "pop_vlan", "push_vlan", "set_tpid", "set_vlan_id", "set_vlan_tag",
+    "start_of_link_type", "summary", "walk", "write_back", "write_back_into",
 ]
 __version__ = "2.0.0"
 
@@ -501,6 +501,13 @@ def _changed(status):
         raise TagError(Status(status))
 
 
+def _told(tag):
+    """A tag as a struct of C."""
+    if not (0 <= tag.vid < 4096 and 0 <= tag.pcp < 8 and 0 <= tag.dei < 2):
+        raise TagError(Status.BAD_FIELD)
+    return _library.Vlan(tag.vid, 0, tag.pcp, tag.dei)
+
+
 def pop_vlan(frame: WritableBuffer, start: Start = Start.ETHERNET2) -> Vlan:
     """Takes off the VLAN tag after the header of a link, in place, and returns it: the frame is then without its first four
     bytes, `memoryview(frame)[4:]`.
@@ -521,9 +528,7 @@ def push_vlan(buffer: WritableBuffer, tag: Vlan, tpid: int = 0x8100, start: Star
     Raises `TagError` if it is not put in, and `BufferError` if the buffer can't be written to. A frame check sequence stays as
     it was, and doesn't fit the new bytes.
     """
-    if not (0 <= tag.vid < 4096 and 0 <= tag.pcp < 8 and 0 <= tag.dei < 2):
-        raise TagError(Status.BAD_FIELD)
-    told = _library.Vlan(tag.vid, 0, tag.pcp, tag.dei)
+    told = _told(tag)
     with lent(buffer, WRITE) as (at, length):
         _changed(lib.etherpeel_push_vlan(Start(start), 0, at, length, C.byref(told), _number("tpid", tpid, 16)))
 
@@ -541,6 +546,24 @@ def set_vlan_id(frame: WritableBuffer, index: int, vid: int, start: Start = Star
     words = _begun(start, ether_type)
     with lent(frame, WRITE) as (at, length):
         _changed(lib.etherpeel_set_vlan_id(*words, at, length, _number("index", index, 64), vid))
+
+
+def set_vlan_tag(frame: WritableBuffer, index: int, tag: Vlan, start: Start = Start.ETHERNET2, *,
+                 ether_type: Optional[int] = None) -> None:
+    """Sets priority code point, drop eligible indicator and identifier of a VLAN tag, in place, as `set_vlan_id` the last
+    one. The ether type after the tag stays."""
+    told, words = _told(tag), _begun(start, ether_type)
+    with lent(frame, WRITE) as (at, length):
+        _changed(lib.etherpeel_set_vlan_tag(*words, at, length, _number("index", index, 64), C.byref(told)))
+
+
+def set_tpid(frame: WritableBuffer, index: int, tpid: int, start: Start = Start.ETHERNET2, *,
+             ether_type: Optional[int] = None) -> None:
+    """Sets the ether type that announces a VLAN tag to 0x8100, 0x88A8 or 0x9100, in place: that of the header before the
+    tag at the index. Raises as `set_vlan_id`, and also if the frame begins with the tag."""
+    words = _begun(start, ether_type)
+    with lent(frame, WRITE) as (at, length):
+        _changed(lib.etherpeel_set_tpid(*words, at, length, _number("index", index, 64), _number("tpid", tpid, 16)))
 
 
 # ---- captures

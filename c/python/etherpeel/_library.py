@@ -87,6 +87,8 @@ def load(path):
     declare(lib, "pop_vlan", [u32, u16, C.c_void_p, size, C.POINTER(Vlan)])
     declare(lib, "push_vlan", [u32, u16, C.c_void_p, size, C.POINTER(Vlan), u16])
     declare(lib, "set_vlan_id", [u32, u16, C.c_void_p, size, size, u16])
+    declare(lib, "set_vlan_tag", [u32, u16, C.c_void_p, size, size, C.POINTER(Vlan)])
+    declare(lib, "set_tpid", [u32, u16, C.c_void_p, size, size, u16])
     for name, rest in WALKS.items():
         declare(lib, name, [u32, u16, C.c_void_p, size, *rest])
         declare(lib, name + "_limited", [u32, u16, C.c_void_p, size, size, *rest])

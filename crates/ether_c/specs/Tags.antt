@@ -10,7 +10,7 @@ use Rattle.ether_packet.specs.declared.tag_error.TagError.{TagError}
 use Rattle.ether_packet.specs.declared.tag_error.TagError.TheVariants as errors
 use Rattle.ether_packet.specs.Popping.{IsPopped, RefusesPop}
 use Rattle.ether_packet.specs.Pushing.{IsPushed, RefusesPush}
-use Rattle.ether_packet.specs.Setting.{SetsTag, RefusesTag}
+use Rattle.ether_packet.specs.Setting.{SetsTag, RefusesTag, SetsTpid, RefusesTpid}
 use Rattle.ether_c.specs.declared.ether_unit.EtherVlan.{EtherVlan}
 use Rattle.ether_c.specs.Numbers.{done, no_room}
 use Rattle.ether_c.specs.Units.{told_vlan}
@@ -62,14 +62,33 @@ pub record TellsPush (start : Expectation) (tag : VlanValue) (tpid : ℕ) (old n
   pub status_done : IfOk pushed (λ _. status ≡ done)
   pub status_error : IfErr pushed (λ error. status ≡ tag_error_status error)
 
--- the identifier of a tag is set, or nothing is written, for a reason
-pub record TellsSet (start : Expectation) (index vid : ℕ) (old new : List ℕ)
+-- fields of a tag in place of those of another: the identifier, or the whole tag control information
+abbrev pub with_vid : (vid : ℕ) → VlanValue → VlanValue
+with_vid vid tag = record tag { vid = vid }
+
+abbrev pub with_control : (control tag : VlanValue) → VlanValue
+with_control control tag = record tag { pcp = control.pcp; dei = control.dei; vid = control.vid }
+
+-- a tag is changed, or nothing is written, for a reason
+pub record TellsSet (start : Expectation) (index : ℕ) (change : VlanValue → VlanValue)
+    (old new : List ℕ) (status : ℕ) : Type 0 where
+  pub put : Result (Unit {0}) TagError
+  pub ok : IfOk put (λ _. (hs : List Header) (e : Ending)
+      → Walk start old hs e → SetsTag start old hs e index change new)
+  pub refused : IfErr put (λ error. (hs : List Header) (e : Ending)
+      → Walk start old hs e → RefusesTag hs index error)
+  pub kept : IfErr put (λ _. new ≡ old)
+  pub status_done : IfOk put (λ _. status ≡ done)
+  pub status_error : IfErr put (λ error. status ≡ tag_error_status error)
+
+-- what announces a tag is changed, or nothing is written, for a reason
+pub record TellsSetTpid (start : Expectation) (index tpid : ℕ) (old new : List ℕ)
     (status : ℕ) : Type 0 where
   pub put : Result (Unit {0}) TagError
   pub ok : IfOk put (λ _. (hs : List Header) (e : Ending)
-      → Walk start old hs e → SetsTag start old hs e index (λ tag. record tag { vid = vid }) new)
+      → Walk start old hs e → SetsTpid start old hs e index tpid new)
   pub refused : IfErr put (λ error. (hs : List Header) (e : Ending)
-      → Walk start old hs e → RefusesTag hs index error)
+      → Walk start old hs e → RefusesTpid hs index tpid error)
   pub kept : IfErr put (λ _. new ≡ old)
   pub status_done : IfOk put (λ _. status ≡ done)
   pub status_error : IfErr put (λ error. status ≡ tag_error_status error)
