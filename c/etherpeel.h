@@ -315,8 +315,7 @@ typedef struct etherpeel_capture_end {
 /* ---- The library ----
  *
  * A program that takes the shared library, or that declares the structs in another language, finds
- * out whether the library that it runs with has the same. Each of these calls takes and returns
- * numbers alone, in host byte order, is thread-safe and takes no memory.
+ * out whether the library that it runs with has the same.
  */
 
 /* The structs, for etherpeel_sizeof. */
@@ -335,15 +334,24 @@ enum etherpeel_struct {
     ETHERPEEL_STRUCT_CAPTURE_END = 12
 };
 
-/* etherpeel_version - the version of the library, as ETHERPEEL_VERSION is that of this header */
+/* etherpeel_version - the version of the library, as ETHERPEEL_VERSION is that of this header
+ *
+ * A number in host byte order. Thread-safe; takes no memory.
+ */
 uint32_t etherpeel_version(void);
 
 /* etherpeel_sizeof - the size in bytes of a struct, by its number of enum etherpeel_struct; 0 if no
- * struct has the number */
+ * struct has the number
+ *
+ * Both are in host byte order. Thread-safe; takes no memory.
+ */
 size_t etherpeel_sizeof(uint32_t number);
 
 /* etherpeel_fits - 1 if the library is one for this header: its version has the same first number,
- * and is not below that of the header, and the structs have the same sizes; else 0 */
+ * and is not below that of the header, and the structs have the same sizes; else 0
+ *
+ * Thread-safe; takes no memory.
+ */
 static inline int etherpeel_fits(void) {
     return etherpeel_version() / 0x10000 == ETHERPEEL_VERSION_MAJOR &&
            etherpeel_version() >= ETHERPEEL_VERSION &&
@@ -366,6 +374,7 @@ static inline int etherpeel_fits(void) {
  *
  * The link type is what pcap_datalink of libpcap returns, or what a capture file says: 1
  * (DLT_EN10MB) for ETHERPEEL_START_ETHERNET2, 113 (DLT_LINUX_SLL) for ETHERPEEL_START_LINUX_SLL.
+ * Both numbers are in host byte order. Thread-safe; takes no memory.
  */
 uint32_t etherpeel_start_of_link_type(uint32_t link_type);
 

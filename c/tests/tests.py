@@ -313,6 +313,61 @@ def compare_calls(start, ether_type, frame, limit=None):
         check(f"calls: start {start} ether type {ether_type} limit {limit} frame {frame.hex()}", told, expected)
 
 
+def placed(walker):
+    """The headers of the second walk with their places, without their windows, which a cut changes."""
+    return [(kind, offset, header_len, fields) for kind, offset, header_len, _, _, fields in walker.units]
+
+
+def compare_packet(start, ether_type, frame):
+    """The packet is the second walk with a limit of three; its least cut is found by trying each."""
+    walker = walk_of(start, ether_type, frame, 3)
+    packet = etherpeel.packet(frame, start, ether_type=ether_type)
+    cuts = (n for n in range(len(frame) + 1) if placed(walk_of(start, ether_type, frame[:n], 3)) == placed(walker))
+    told = ([unit_of(unit) for unit in packet.units], fault_of(packet.summary.fault), packet.vlan_ids,
+            packet.min_snap_len if start != 2 else None)
+    expected = ([expected_unit(frame, unit) for unit in walker.units], walker.fault,
+                tuple(fields[0] for kind, *_, fields in walker.units if kind == 3), next(cuts) if start != 2 else None)
+    if told != expected:
+        check(f"packet: start {start} ether type {ether_type} frame {frame.hex()}", told, expected)
+
+
+def compare_tags(start, frame, tpid, vid):
+    """A tag that is put in and taken off again, and an identifier that is set, by slices of the frame."""
+    at = 14 if start == 3 else 12
+    walker = walk_of(start, None, frame, 1)
+    buffer = bytearray(4) + frame
+    tci = (5 << 13 | vid).to_bytes(2, "big")
+    pushed = frame[:at] + tpid.to_bytes(2, "big") + tci + frame[at:]
+    if raised(etherpeel.push_vlan, buffer, etherpeel.Vlan(vid, pcp=5), tpid, start):
+        ok = not walker.units or start == 3 and walker.units[0][5][1] != 1
+        check_quietly("push is refused", (ok, buffer), (True, bytearray(4) + frame))
+        return
+    check_quietly("push", (bool(walker.units), buffer), (True, pushed))
+    etherpeel.set_vlan_id(buffer, 0, 4095 - vid, start)
+    check_quietly("set", buffer, pushed[:at + 2] + (5 << 13 | 4095 - vid).to_bytes(2, "big") + frame[at:])
+    tag = etherpeel.pop_vlan(buffer, start)
+    check_quietly("pop", (tag, buffer[4:]), (etherpeel.Vlan(4095 - vid, 5, False, number_at(frame, at)), frame))
+
+
+def number_at(frame, at):
+    return int.from_bytes(frame[at:at + 2], "big")
+
+
+def check_quietly(what, found, expected):
+    """Counts only what differs."""
+    if found != expected:
+        check(what, found, expected)
+
+
+def drawn_packets(rounds):
+    draw = random.Random(3)
+    for _ in range(rounds):
+        frame, start = drawn_frame(draw), draw.randrange(1, 5)
+        compare_packet(start, draw.choice((0x8100, 0x88E5, 0x0806)) if start == 4 else None, frame)
+        compare_tags(draw.randrange(1, 4), frame, draw.choice((0x8100, 0x88A8, 0x9100)), draw.randrange(4096))
+    check(f"{rounds} packets", counts[False], 0)
+
+
 def drawn_frames(rounds):
     """The second walk on drawn frames, with a limit in half of them."""
     draw = random.Random(1)
@@ -365,6 +420,7 @@ captures()
 tags_in_place()
 wrong_words()
 drawn_frames(10000)
+drawn_packets(3000)
 short_lists()
 fronts()
 print(f"{counts[True]} passed, {counts[False]} failed")

@@ -296,10 +296,11 @@ class Refused(Error):
 
 def _begun(start, ether_type):
     """The two numbers of a start."""
-    start = Start(start)
-    if (start == Start.ETHER_TYPE) != (ether_type is not None):
+    if type(start) is not Start:
+        start = Start(start)
+    if (start is Start.ETHER_TYPE) != (ether_type is not None):
         raise ValueError("ether_type is given with Start.ETHER_TYPE, and with no other start")
-    return start, _number("ether_type", ether_type or 0, 16)
+    return start, 0 if ether_type is None else _number("ether_type", ether_type, 16)
 
 
 def _number(name, value, bits):
@@ -310,11 +311,10 @@ def _number(name, value, bits):
 
 def _call(name, start, ether_type, at, length, limit, *rest):
     """A call on a frame that is lent, with a limit or without."""
-    words = (*_begun(start, ether_type), at, length)
+    start, ether_type = _begun(start, ether_type)
     if limit is None:
-        return getattr(lib, "etherpeel_" + name)(*words, *rest)
-    # no frame has so many tags
-    return getattr(lib, f"etherpeel_{name}_limited")(*words, min(_number("limit", limit, 64), 2**63), *rest)
+        return _library.CALLS[name](start, ether_type, at, length, *rest)
+    return _library.CALLS[name + "_limited"](start, ether_type, at, length, _number("limit", limit, 64), *rest)
 
 
 def _required(status):
@@ -374,7 +374,7 @@ def _unit(unit, at):
 
 def _units(at, length, start, ether_type, limit):
     """The units of a frame that is lent."""
-    room = min(length // 4, 8)
+    room = 8
     while True:
         units, count = (_library.Unit * room)(), C.c_size_t()
         _required(_call("walk", start, ether_type, at, length, limit, units, room, C.byref(count)))

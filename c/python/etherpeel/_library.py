@@ -95,7 +95,14 @@ def load(path):
     return lib
 
 
+def calls(lib):
+    """The calls that take a frame, by their names."""
+    names = [name + form for name in WALKS for form in ("", "_limited")]
+    return {name: getattr(lib, "etherpeel_" + name) for name in [*names, "packet"]}
+
+
 lib = load(os.path.join(os.path.dirname(os.path.abspath(__file__)), "libetherpeel.so.2"))
+CALLS = calls(lib)
 
 # ---- memory that is lent: `Py_buffer` of Python's C API
 
