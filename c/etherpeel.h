@@ -1,4 +1,4 @@
-/* etherpeel.h - the walk through the link-layer headers of a frame
+/* etherpeel.h - the link-layer headers of frames, packets and captures
  *
  * Ethernet II, VLAN tags (IEEE 802.1Q), MACsec SecTags (IEEE 802.1AE), Linux cooked capture v1 and
  * ARP (RFC 826), each announced by the ether type of the header before it. For C99 and C++11, on
@@ -6,14 +6,13 @@
  *
  * What holds for every call:
  *
- *   Frame    `bytes` points to `len` bytes, which are read and never written; `frame` and `buffer`
- *            to `len` bytes, which the calls that change VLAN tags write to. NULL is allowed if
- *            `len` is 0.
- *   Targets  `units`, `target`, `fill` and `text` point to as many elements as `room` says. NULL is
- *            allowed if `room` is 0. A pointer to one struct or number (`found`, `headers`, `fed`,
- *            `count`, `missing`, `written_len`, `fill_len`, `text_len`, `tag`) must not be NULL. The memory
- *            need not be initialized, but for the tag that is put in, and must be aligned for its
- *            type.
+ *   Frame    `bytes` and `file` point to `len` bytes, which are read and never written; `frame` and
+ *            `buffer` to `len` bytes, which the calls that change VLAN tags write to. NULL is
+ *            allowed if `len` is 0.
+ *   Targets  `units`, `packets`, `target`, `fill` and `text` point to as many elements as `room`
+ *            says. NULL is allowed if `room` is 0. A pointer to one struct or number must not be
+ *            NULL. The memory must be aligned for its type. What is only written to need not be
+ *            initialized, but for `packets`.
  *   Overlap  What a call may write to must not overlap the frame, nor anything else that the call
  *            may write to.
  *   Keeping  No call keeps a pointer after it returns.
@@ -21,12 +20,12 @@
  *            Offsets count bytes from the start of the frame.
  *   Order    Numbers are in the byte order of the machine (host byte order), those that are passed
  *            and those of structs; addresses are bytes in the order of the frame.
- *   Result   ETHERPEEL_DONE, or why the call did nothing. After ETHERPEEL_UNKNOWN_START nothing was
- *            written at all; after ETHERPEEL_NO_ROOM only the length that the target needs; after
- *            ETHERPEEL_NO_TEXT only the length 0.
+ *   Result   ETHERPEEL_DONE, or why the call did nothing, but for etherpeel_capture. After
+ *            ETHERPEEL_UNKNOWN_START nothing was written at all; after ETHERPEEL_NO_ROOM only the
+ *            length that the target needs; after ETHERPEEL_NO_TEXT only the length 0.
  *   Memory   No call allocates, blocks, or stores anything between calls, so each is thread-safe.
  *            etherpeel_completion and etherpeel_fault_text take some 2.5 KB of stack, those of
- *            capture files 100 KB, the others less than 1 KB.
+ *            capture files 300 KB, the others less than 1 KB.
  *   Time     Linear in the number of headers, of which a frame has at most len / 4;
  *            etherpeel_write_back also copies the frame. Of capture files linear in that of their
  *            units.
@@ -557,8 +556,8 @@ uint32_t etherpeel_set_vlan_id(uint32_t start, uint16_t ether_type, uint8_t *fra
 
 /* etherpeel_set_vlan_tag - sets the tag control information of a VLAN tag, in place
  *
- * The same with tag->pcp, tag->dei and tag->vid. The ether type after the tag stays: tag->ether_type
- * is ignored.
+ * The same with tag->pcp, tag->dei and tag->vid. The ether type after the tag stays:
+ * tag->ether_type is ignored.
  * Returns ETHERPEEL_DONE, or the first of these that applies: ETHERPEEL_UNKNOWN_START;
  * ETHERPEEL_BAD_FIELD if tag->vid is above 4095, tag->pcp above 7 or tag->dei above 1;
  * ETHERPEEL_NO_TAG; ETHERPEEL_NO_VLAN.
@@ -596,7 +595,7 @@ uint32_t etherpeel_set_tpid(uint32_t start, uint16_t ether_type, uint8_t *frame,
  * returns ETHERPEEL_SHORT, also of an empty file, or ETHERPEEL_BAD_CAPTURE.
  * The array `packets` must be initialized, as by calloc: an element may be all 0.
  * Overlap: file, packets, *count and *end must not overlap. Every number is in host byte order,
- * whatever its order in the file. Thread-safe; takes no memory, and some 100 KB of stack.
+ * whatever its order in the file. Thread-safe; takes no memory, and some 300 KB of stack.
  */
 uint32_t etherpeel_capture(const uint8_t *file, size_t len, etherpeel_captured *packets,
                            size_t room, size_t *count, etherpeel_capture_end *end);
@@ -610,7 +609,7 @@ uint32_t etherpeel_capture(const uint8_t *file, size_t len, etherpeel_captured *
  * stays as it was. ETHERPEEL_NO_TEXT is not ruled out by proof; after it *text_len is 0, and `text`
  * stays as it was.
  * Overlap: file, text and *text_len must not overlap. Every number is in host byte order.
- * Thread-safe; takes no memory, and some 100 KB of stack.
+ * Thread-safe; takes no memory, and some 300 KB of stack.
  */
 uint32_t etherpeel_capture_fault_text(const uint8_t *file, size_t len, char *text, size_t room,
                                       size_t *text_len);

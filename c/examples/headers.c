@@ -1,10 +1,9 @@
 /* Prints the headers of a frame, which is given as hexadecimal digits: headers
  * FFFFFFFFFFFF0200000000018100B123080045 */
+#include <etherpeel.h>
 #include <inttypes.h>
 #include <stdio.h>
 #include <string.h>
-
-#include <etherpeel.h>
 
 static size_t parsed(const char *digits, uint8_t *bytes, size_t room) {
     size_t len = 0;
