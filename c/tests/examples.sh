@@ -21,4 +21,13 @@ check headers.c "$("$work/headers" $tagged)" "$tagged_lines"
 check headers.c "$("$work/headers" $cut)" "$cut_lines"
 check headers.py "$(PYTHONPATH=$work/package "$python" examples/headers.py $tagged)" "$tagged_lines"
 check headers.py "$(PYTHONPATH=$work/package "$python" examples/headers.py $cut)" "$cut_lines"
+vlans_lines='VLAN 10: 1 packets
+VLAN 291: 2 packets'
+"$cc" -std=c99 -O2 -Wall -Wextra -Wpedantic -Werror -I. -o "$work/vlans" examples/vlans.c "$library"
+check vlans.c "$("$work/vlans" examples/sample.pcap)" "$vlans_lines"
+check vlans.py "$(PYTHONPATH=$work/package "$python" examples/vlans.py examples/sample.pcap)" "$vlans_lines"
+head -c 100 examples/sample.pcap > "$work/cut.pcap"
+cut_text='At byte 59: A record of a pcap file needs 58 byte(s); only 41 are available.'
+check vlans.c "$("$work/vlans" "$work/cut.pcap" 2>&1 > /dev/null)" "$cut_text"
+check vlans.py "$(PYTHONPATH=$work/package "$python" examples/vlans.py "$work/cut.pcap" 2>&1 > /dev/null)" "$cut_text"
 echo "$passed passed, $failed failed"
