@@ -74,21 +74,25 @@ def main():
     copy()
     program("python3", f'exec "{sys.executable}" "$@"')
     commands, expected, codes = [], {}, []
+    ran = False  # whether the last block that prints something is among the commands
     for language, text in blocks():
-        lacking = missing(text)
+        lacking = missing("environment" if language == "python" else text)
+        if language == "text":
+            if ran:
+                expected[len(commands) - 1] = text
+            continue
+        ran = lacking is None and language != "c"
         if lacking:
             print(f"left out: a block of docs/C.md, since {lacking} was not found")
         elif language == "sh":
             commands.append(text)
-        elif language == "text" and commands:
-            expected[len(commands) - 1] = text
-        elif language == "c":
-            codes.append(text)
-        elif language == "python" and not missing("environment"):
+        elif language == "python":
             name = f"example{len(commands)}.py"
             with open(f"{clone}/{name}", "w") as file:
                 file.write(text)
             commands.append(f"environment/bin/python {name}\n")
+        else:
+            codes.append(text)
     said = run(commands)
     for i, text in expected.items():
         check(f"after {commands[i]}", i < len(said) and said[i].endswith(text), said[i] if i < len(said) else "")
