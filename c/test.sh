@@ -77,6 +77,18 @@ build_and_run() {
     fi
 }
 
+# the first Python that has a module
+python_with() {
+    module=$1
+    shift
+    for it in "$@"; do
+        if "$it" -c "import $module" > "$work/probe.log" 2>&1; then
+            echo "$it"
+            return
+        fi
+    done
+}
+
 # whether a compiler links and runs a program with these flags
 has() {
     "$@" "$work/probe.c" -x none -o "$work/probe" > "$work/probe.log" 2>&1 && "$work/probe" > "$work/probe.log" 2>&1
@@ -98,11 +110,23 @@ for compiler in "$cc" $(compiler_of c clang); do
         fi
     done
 done
+run "The header beside others" sh tests/beside.sh "$cc" "$cxx" "$library" "$work"
+sh link.sh "$cc" "$library" "$work/libetherpeel.so.2"
+run "The shared library" sh tests/shared.sh "$cc" "$library" "$work/libetherpeel.so.2" "$work"
 
 if [ -n "$python" ]; then
-    "$cc" -shared -o "$work/libether_c.so" -Wl,--whole-archive "$library" -Wl,--no-whole-archive
-    run "Python, $python" "$python" tests/tests.py "$work/libether_c.so"
+    mkdir "$work/package"
+    cp -r python/etherpeel "$work/package"
+    cp "$work/libetherpeel.so.2" "$work/package/etherpeel"
+    run "Python, $python" "$python" tests/tests.py "$work/package"
     run "The examples" sh tests/examples.sh "$cc" "$library" "$python" "$work"
+    run "docs/C.md" "$python" tests/page.py "$cc" "$PWD/$library" "$work/page"
+    scapy=$(python_with scapy "$python" /usr/bin/python3)
+    if [ -n "$scapy" ]; then
+        run "Python beside scapy, $scapy" "$scapy" tests/scapy_fields.py "$work/package"
+    else
+        echo "left out: the package beside scapy, since no Python with scapy was found"
+    fi
     run "The lines of the tool" sh tests/lines.sh "$cc" "$library" "$python" "$work"
 fi
 

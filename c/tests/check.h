@@ -3,13 +3,13 @@
 #ifndef CHECK_H
 #define CHECK_H
 
-#include "../ether_c.h"
-
 #include <stdio.h>
 #include <stdlib.h>
 #include <string.h>
 #include <sys/mman.h>
 #include <unistd.h>
+
+#include "../etherpeel.h"
 
 static unsigned passed, failed;
 
@@ -61,14 +61,15 @@ static uint8_t *copied(guarded g, const uint8_t *bytes, size_t len) {
 }
 
 /* the headers of the other kinds are 0, byte for byte but for the padding at the ends */
-static int others_are_zero(const ether_unit *u) {
-    return (u->kind == ETHER_UNIT_ETHERNET2 ||
-            all_are(&u->ethernet2, offsetof(ether_ethernet2, has_fcs) + 1, 0)) &&
-           (u->kind == ETHER_UNIT_LINUX_SLL || all_are(&u->linux_sll, sizeof u->linux_sll, 0)) &&
-           (u->kind == ETHER_UNIT_VLAN || all_are(&u->vlan, sizeof u->vlan, 0)) &&
-           (u->kind == ETHER_UNIT_MACSEC ||
-            all_are(&u->macsec, offsetof(ether_macsec, short_len) + 1, 0)) &&
-           (u->kind == ETHER_UNIT_ARP || all_are(&u->arp, sizeof u->arp, 0));
+static int others_are_zero(const etherpeel_unit *u) {
+    return (u->kind == ETHERPEEL_UNIT_ETHERNET2 ||
+            all_are(&u->ethernet2, offsetof(etherpeel_ethernet2, has_fcs) + 1, 0)) &&
+           (u->kind == ETHERPEEL_UNIT_LINUX_SLL ||
+            all_are(&u->linux_sll, sizeof u->linux_sll, 0)) &&
+           (u->kind == ETHERPEEL_UNIT_VLAN || all_are(&u->vlan, sizeof u->vlan, 0)) &&
+           (u->kind == ETHERPEEL_UNIT_MACSEC ||
+            all_are(&u->macsec, offsetof(etherpeel_macsec, short_len) + 1, 0)) &&
+           (u->kind == ETHERPEEL_UNIT_ARP || all_are(&u->arp, sizeof u->arp, 0));
 }
 
 #endif

@@ -1,4 +1,4 @@
-# Compares what the examples in C and in Python print with what docs/C.md says: examples.sh CC LIBRARY PYTHON FOLDER
+# Compares what the examples in C and in Python print with what docs/C.md says; FOLDER/package has the package: examples.sh CC LIBRARY PYTHON FOLDER
 cc=$1 library=$2 python=$3 work=$4
 passed=0 failed=0
 check() {
@@ -16,9 +16,18 @@ tagged_lines='0: Ethernet II to ff:ff:ff:ff:ff:ff from 02:00:00:00:00:01 type 0x
 cut_lines="0: Ethernet II to ff:ff:ff:ff:ff:ff from 02:00:00:00:00:01 type 0x8100
 refused at offset 14: VLAN Header Error: Not enough data to decode 'VLAN header'. 4 byte(s) would be required, but only 2 byte(s) are available based on the slice length ('VLAN header' starts at overall parsed byte 14)."
 cut=FFFFFFFFFFFF0200000000018100B123
-"$cc" -std=c99 -O2 -o "$work/headers" examples/headers.c "$library"
+"$cc" -std=c99 -O2 -I. -o "$work/headers" examples/headers.c "$library"
 check headers.c "$("$work/headers" $tagged)" "$tagged_lines"
 check headers.c "$("$work/headers" $cut)" "$cut_lines"
-check headers.py "$("$python" examples/headers.py "$work/libether_c.so" $tagged)" "$tagged_lines"
-check headers.py "$("$python" examples/headers.py "$work/libether_c.so" $cut)" "$cut_lines"
+check headers.py "$(PYTHONPATH=$work/package "$python" examples/headers.py $tagged)" "$tagged_lines"
+check headers.py "$(PYTHONPATH=$work/package "$python" examples/headers.py $cut)" "$cut_lines"
+vlans_lines='VLAN 10: 1 packets
+VLAN 291: 2 packets'
+"$cc" -std=c99 -O2 -Wall -Wextra -Wpedantic -Werror -I. -o "$work/vlans" examples/vlans.c "$library"
+check vlans.c "$("$work/vlans" examples/sample.pcap)" "$vlans_lines"
+check vlans.py "$(PYTHONPATH=$work/package "$python" examples/vlans.py examples/sample.pcap)" "$vlans_lines"
+head -c 100 examples/sample.pcap > "$work/cut.pcap"
+cut_text='At byte 59: A record of a pcap file needs 58 byte(s); only 41 are available.'
+check vlans.c "$("$work/vlans" "$work/cut.pcap" 2>&1 > /dev/null)" "$cut_text"
+check vlans.py "$(PYTHONPATH=$work/package "$python" examples/vlans.py "$work/cut.pcap" 2>&1 > /dev/null)" "$cut_text"
 echo "$passed passed, $failed failed"

@@ -1,4 +1,4 @@
-/* Tests of ether_c.h from C and from C++: prints a line for each check that fails, and at the end
+/* Tests of etherpeel.h from C and from C++: prints a line for each check that fails, and at the end
  * "N passed, M failed". */
 #define _DEFAULT_SOURCE
 #include "check.h"
@@ -31,191 +31,224 @@ static const uint8_t ARP[] = {ADDRESSES, 0x08, 0x06, ARP_REQUEST, 0, 0};
 /* ---- layout: as crates/ether_c asserts the sizes ---- */
 
 static void layout(void) {
-    CHECK(sizeof(ether_fault) == 56 && sizeof(ether_found) == 88 && sizeof(ether_fed) == 72);
-    CHECK(sizeof(ether_ethernet2) == 16 && sizeof(ether_linux_sll) == 16 &&
-          sizeof(ether_vlan) == 6);
-    CHECK(sizeof(ether_macsec) == 24 && sizeof(ether_arp) == 40 && sizeof(ether_unit) == 144);
-    CHECK(offsetof(ether_fault, missing) == 24 && offsetof(ether_fault, kind) == 32 &&
-          offsetof(ether_fault, len_source) == 40);
-    CHECK(offsetof(ether_fault, packet_type) == 44 && offsetof(ether_fault, hardware_type) == 46 &&
-          offsetof(ether_fault, closed) == 48);
-    CHECK(offsetof(ether_found, fault) == 24 && offsetof(ether_found, rest_kind) == 80 &&
-          offsetof(ether_found, rest_protocol) == 84);
-    CHECK(offsetof(ether_fed, taken) == 8 && offsetof(ether_fed, fault) == 16);
-    CHECK(offsetof(ether_ethernet2, source) == 6 && offsetof(ether_ethernet2, ether_type) == 12 &&
-          offsetof(ether_ethernet2, has_fcs) == 14);
-    CHECK(offsetof(ether_linux_sll, address) == 6 && offsetof(ether_linux_sll, protocol) == 14);
-    CHECK(offsetof(ether_vlan, ether_type) == 2 && offsetof(ether_vlan, pcp) == 4 &&
-          offsetof(ether_vlan, dei) == 5);
-    CHECK(offsetof(ether_macsec, packet_number) == 8 && offsetof(ether_macsec, ether_type) == 12);
-    CHECK(offsetof(ether_macsec, end_station) == 14 && offsetof(ether_macsec, short_len) == 20);
-    CHECK(offsetof(ether_arp, target_protocol) == 24 && offsetof(ether_arp, hardware_type) == 32 &&
-          offsetof(ether_arp, protocol_size) == 39);
-    CHECK(offsetof(ether_unit, payload_end) == 24 && offsetof(ether_unit, kind) == 32 &&
-          offsetof(ether_unit, closed) == 36);
-    CHECK(offsetof(ether_unit, ethernet2) == 38 && offsetof(ether_unit, linux_sll) == 54 &&
-          offsetof(ether_unit, vlan) == 70);
-    CHECK(offsetof(ether_unit, macsec) == 80 && offsetof(ether_unit, arp) == 104);
-    CHECK(ETHER_C_VERSION == 1000);
+    CHECK(sizeof(etherpeel_fault) == 56 && sizeof(etherpeel_found) == 88 &&
+          sizeof(etherpeel_fed) == 72);
+    CHECK(sizeof(etherpeel_ethernet2) == 16 && sizeof(etherpeel_linux_sll) == 16 &&
+          sizeof(etherpeel_vlan) == 6);
+    CHECK(sizeof(etherpeel_macsec) == 24 && sizeof(etherpeel_arp) == 40 &&
+          sizeof(etherpeel_unit) == 144);
+    CHECK(offsetof(etherpeel_fault, missing) == 24 && offsetof(etherpeel_fault, kind) == 32 &&
+          offsetof(etherpeel_fault, len_source) == 40);
+    CHECK(offsetof(etherpeel_fault, packet_type) == 44 &&
+          offsetof(etherpeel_fault, hardware_type) == 46 &&
+          offsetof(etherpeel_fault, closed) == 48);
+    CHECK(offsetof(etherpeel_found, fault) == 24 && offsetof(etherpeel_found, rest_kind) == 80 &&
+          offsetof(etherpeel_found, rest_protocol) == 84);
+    CHECK(offsetof(etherpeel_fed, taken) == 8 && offsetof(etherpeel_fed, fault) == 16);
+    CHECK(offsetof(etherpeel_ethernet2, source) == 6 &&
+          offsetof(etherpeel_ethernet2, ether_type) == 12 &&
+          offsetof(etherpeel_ethernet2, has_fcs) == 14);
+    CHECK(offsetof(etherpeel_linux_sll, address) == 6 &&
+          offsetof(etherpeel_linux_sll, protocol) == 14);
+    CHECK(offsetof(etherpeel_vlan, ether_type) == 2 && offsetof(etherpeel_vlan, pcp) == 4 &&
+          offsetof(etherpeel_vlan, dei) == 5);
+    CHECK(offsetof(etherpeel_macsec, packet_number) == 8 &&
+          offsetof(etherpeel_macsec, ether_type) == 12);
+    CHECK(offsetof(etherpeel_macsec, end_station) == 14 &&
+          offsetof(etherpeel_macsec, short_len) == 20);
+    CHECK(offsetof(etherpeel_arp, target_protocol) == 24 &&
+          offsetof(etherpeel_arp, hardware_type) == 32 &&
+          offsetof(etherpeel_arp, protocol_size) == 39);
+    CHECK(offsetof(etherpeel_unit, payload_end) == 24 && offsetof(etherpeel_unit, kind) == 32 &&
+          offsetof(etherpeel_unit, closed) == 36);
+    CHECK(offsetof(etherpeel_unit, ethernet2) == 38 && offsetof(etherpeel_unit, linux_sll) == 54 &&
+          offsetof(etherpeel_unit, vlan) == 70);
+    CHECK(offsetof(etherpeel_unit, macsec) == 80 && offsetof(etherpeel_unit, arp) == 104);
+    CHECK(sizeof(etherpeel_headers) == 824 && offsetof(etherpeel_headers, found) == 720 &&
+          offsetof(etherpeel_headers, min_snap_len) == 808);
+    CHECK(offsetof(etherpeel_headers, vlan_ids) == 816 &&
+          offsetof(etherpeel_headers, vlan_count) == 822);
+}
+
+/* ---- the library: its version, the sizes of its structs, link types ---- */
+
+static void library(void) {
+    CHECK(ETHERPEEL_VERSION == 0x020000 && etherpeel_version() == 0x020000 && etherpeel_fits());
+    CHECK(etherpeel_sizeof(ETHERPEEL_STRUCT_FAULT) == 56 &&
+          etherpeel_sizeof(ETHERPEEL_STRUCT_UNIT) == 144);
+    CHECK(etherpeel_sizeof(0) == 0 && etherpeel_sizeof(99) == 0 && etherpeel_sizeof(~0u) == 0);
+    CHECK(etherpeel_start_of_link_type(1) == ETHERPEEL_START_ETHERNET2 &&
+          etherpeel_start_of_link_type(113) == ETHERPEEL_START_LINUX_SLL);
+    CHECK(etherpeel_start_of_link_type(0) == 0 && etherpeel_start_of_link_type(276) == 0 &&
+          etherpeel_start_of_link_type(0x10001) == 0);
 }
 
 /* ---- helpers ---- */
 
 /* a refusal has a text, which begins with the offset of the unit; no refusal has none */
 static int has_text(uint32_t start, uint16_t ether_type, const uint8_t *bytes, size_t len,
-                    const ether_fault *fault) {
+                    const etherpeel_fault *fault) {
     char text[512], front[64];
     size_t text_len = 99;
     const int front_len = snprintf(front, sizeof front, "at offset %zu: ", fault->offset);
-    if (ether_fault_text(start, ether_type, bytes, len, text, sizeof text, &text_len) != ETHER_DONE)
+    if (etherpeel_fault_text(start, ether_type, bytes, len, text, sizeof text, &text_len) !=
+        ETHERPEEL_DONE)
         return 0;
-    if (fault->kind == ETHER_FAULT_NONE) return text_len == 0;
+    if (fault->kind == ETHERPEEL_FAULT_NONE) return text_len == 0;
     return text_len > (size_t)front_len && memcmp(text, front, (size_t)front_len) == 0;
 }
 
-static ether_found summary_of(uint32_t start, uint16_t ether_type, const uint8_t *bytes,
-                              size_t len) {
-    ether_found found;
+static etherpeel_found summary_of(uint32_t start, uint16_t ether_type, const uint8_t *bytes,
+                                  size_t len) {
+    etherpeel_found found;
     const guarded page = guarded_page();
     memset(&found, 0xA5, sizeof found);
-    CHECK(ether_summary(start, ether_type, copied(page, bytes, len), len, &found) == ETHER_DONE);
+    CHECK(etherpeel_summary(start, ether_type, copied(page, bytes, len), len, &found) ==
+          ETHERPEEL_DONE);
     release(page);
     CHECK(has_text(start, ether_type, bytes, len, &found.fault));
     return found;
 }
 
-static int is_length(const ether_fault *f, size_t offset, size_t required, size_t len,
+static int is_length(const etherpeel_fault *f, size_t offset, size_t required, size_t len,
                      size_t missing, uint32_t layer, uint32_t source, int closed) {
-    return f->kind == ETHER_FAULT_LENGTH && f->offset == offset && f->required_len == required &&
-           f->len == len && f->missing == missing && f->layer == layer && f->len_source == source &&
-           f->packet_type == 0 && f->hardware_type == 0 && f->closed == closed;
+    return f->kind == ETHERPEEL_FAULT_LENGTH && f->offset == offset &&
+           f->required_len == required && f->len == len && f->missing == missing &&
+           f->layer == layer && f->len_source == source && f->packet_type == 0 &&
+           f->hardware_type == 0 && f->closed == closed;
 }
 
-static int is_content(const ether_fault *f, uint32_t kind, size_t offset, unsigned packet_type,
+static int is_content(const etherpeel_fault *f, uint32_t kind, size_t offset, unsigned packet_type,
                       unsigned hardware_type, int closed) {
     return f->kind == kind && f->offset == offset && f->packet_type == packet_type &&
            f->hardware_type == hardware_type && f->closed == closed && f->required_len == 0 &&
            f->len == 0 && f->missing == 0 && f->layer == 0 && f->len_source == 0;
 }
 
-static int is_none(const ether_fault *f) { return is_content(f, ETHER_FAULT_NONE, 0, 0, 0, 0); }
+static int is_none(const etherpeel_fault *f) {
+    return is_content(f, ETHERPEEL_FAULT_NONE, 0, 0, 0, 0);
+}
 
 /* ---- summaries ---- */
 
 static void accepted(void) {
-    ether_found f = summary_of(ETHER_START_ETHERNET2, 0, TAGGED, sizeof TAGGED);
+    etherpeel_found f = summary_of(ETHERPEEL_START_ETHERNET2, 0, TAGGED, sizeof TAGGED);
     CHECK(f.units == 2 && f.rest_start == 18 && f.rest_end == 19);
-    CHECK(f.rest_kind == ETHER_REST_ETHER_TYPE && f.rest_protocol == 0x0800 && is_none(&f.fault));
-    f = summary_of(ETHER_START_ETHERNET2_FCS, 0, CHECKED, sizeof CHECKED);
+    CHECK(f.rest_kind == ETHERPEEL_REST_ETHER_TYPE && f.rest_protocol == 0x0800 &&
+          is_none(&f.fault));
+    f = summary_of(ETHERPEEL_START_ETHERNET2_FCS, 0, CHECKED, sizeof CHECKED);
     CHECK(f.units == 1 && f.rest_start == 14 && f.rest_end == 15 &&
-          f.rest_kind == ETHER_REST_ETHER_TYPE && is_none(&f.fault));
-    f = summary_of(ETHER_START_ETHER_TYPE, 0x88E5, NAMED, sizeof NAMED);
+          f.rest_kind == ETHERPEEL_REST_ETHER_TYPE && is_none(&f.fault));
+    f = summary_of(ETHERPEEL_START_ETHER_TYPE, 0x88E5, NAMED, sizeof NAMED);
     CHECK(f.units == 2 && f.rest_start == 12 && f.rest_end == 12 && f.rest_protocol == 0xCCDD &&
           is_none(&f.fault));
-    f = summary_of(ETHER_START_ETHER_TYPE, 0x88E5, SEALED, sizeof SEALED);
+    f = summary_of(ETHERPEEL_START_ETHER_TYPE, 0x88E5, SEALED, sizeof SEALED);
     CHECK(f.units == 1 && f.rest_start == 14 && f.rest_end == 15 &&
-          f.rest_kind == ETHER_REST_SEALED && f.rest_protocol == 0);
-    f = summary_of(ETHER_START_ETHERNET2, 0, ARP, sizeof ARP);
+          f.rest_kind == ETHERPEEL_REST_SEALED && f.rest_protocol == 0);
+    f = summary_of(ETHERPEEL_START_ETHERNET2, 0, ARP, sizeof ARP);
     CHECK(f.units == 2 && f.rest_start == 42 && f.rest_end == 44 &&
-          f.rest_kind == ETHER_REST_AFTER_ARP && f.rest_protocol == 0);
-    f = summary_of(ETHER_START_LINUX_SLL, 0, COOKED_GRE, sizeof COOKED_GRE);
-    CHECK(f.units == 1 && f.rest_start == 16 && f.rest_end == 16 && f.rest_kind == ETHER_REST_GRE &&
-          f.rest_protocol == 0x0800);
-    f = summary_of(ETHER_START_ETHER_TYPE, 0x0800, TAGGED, sizeof TAGGED);
+          f.rest_kind == ETHERPEEL_REST_AFTER_ARP && f.rest_protocol == 0);
+    f = summary_of(ETHERPEEL_START_LINUX_SLL, 0, COOKED_GRE, sizeof COOKED_GRE);
+    CHECK(f.units == 1 && f.rest_start == 16 && f.rest_end == 16 &&
+          f.rest_kind == ETHERPEEL_REST_GRE && f.rest_protocol == 0x0800);
+    f = summary_of(ETHERPEEL_START_ETHER_TYPE, 0x0800, TAGGED, sizeof TAGGED);
     CHECK(f.units == 0 && f.rest_start == 0 && f.rest_end == 19 &&
-          f.rest_kind == ETHER_REST_ETHER_TYPE && f.rest_protocol == 0x0800);
+          f.rest_kind == ETHERPEEL_REST_ETHER_TYPE && f.rest_protocol == 0x0800);
 }
 
 static void protocols_of_cooked_captures(void) {
     uint8_t packet[16];
-    ether_found f;
+    etherpeel_found f;
     memcpy(packet, COOKED_GRE, sizeof packet);
     packet[2] = 0x03, packet[3] = 0x38; /* 824 netlink */
-    f = summary_of(ETHER_START_LINUX_SLL, 0, packet, sizeof packet);
-    CHECK(f.rest_kind == ETHER_REST_NETLINK && f.rest_protocol == 0x0800);
+    f = summary_of(ETHERPEEL_START_LINUX_SLL, 0, packet, sizeof packet);
+    CHECK(f.rest_kind == ETHERPEEL_REST_NETLINK && f.rest_protocol == 0x0800);
     packet[2] = 0x03, packet[3] = 0x23; /* 803 radiotap */
-    f = summary_of(ETHER_START_LINUX_SLL, 0, packet, sizeof packet);
-    CHECK(f.rest_kind == ETHER_REST_IGNORED && f.rest_protocol == 0x0800);
+    f = summary_of(ETHERPEEL_START_LINUX_SLL, 0, packet, sizeof packet);
+    CHECK(f.rest_kind == ETHERPEEL_REST_IGNORED && f.rest_protocol == 0x0800);
     packet[2] = 0x03, packet[3] = 0x02; /* 770 frame relay */
-    f = summary_of(ETHER_START_LINUX_SLL, 0, packet, sizeof packet);
-    CHECK(f.rest_kind == ETHER_REST_IGNORED);
+    f = summary_of(ETHERPEEL_START_LINUX_SLL, 0, packet, sizeof packet);
+    CHECK(f.rest_kind == ETHERPEEL_REST_IGNORED);
     packet[2] = 0, packet[3] = 1, packet[14] = 0,
     packet[15] = 1; /* on Ethernet, a number of Linux below the ether types */
-    f = summary_of(ETHER_START_LINUX_SLL, 0, packet, sizeof packet);
-    CHECK(f.rest_kind == ETHER_REST_ETHER_TYPE && f.rest_protocol == 1);
+    f = summary_of(ETHERPEEL_START_LINUX_SLL, 0, packet, sizeof packet);
+    CHECK(f.rest_kind == ETHERPEEL_REST_ETHER_TYPE && f.rest_protocol == 1);
 }
 
 static void refused_for_a_length(void) {
-    ether_found f = summary_of(ETHER_START_ETHERNET2, 0, TAGGED, 13);
+    etherpeel_found f = summary_of(ETHERPEEL_START_ETHERNET2, 0, TAGGED, 13);
     CHECK(f.units == 0 && f.rest_start == 0 && f.rest_end == 13 &&
-          f.rest_kind == ETHER_REST_START && f.rest_protocol == 0);
-    CHECK(is_length(&f.fault, 0, 14, 13, 1, ETHER_LAYER_ETHERNET2_HEADER, ETHER_LEN_SLICE, 0));
-    f = summary_of(ETHER_START_ETHERNET2_FCS, 0, CHECKED, 17);
-    CHECK(is_length(&f.fault, 0, 18, 17, 0, ETHER_LAYER_ETHERNET2_HEADER, ETHER_LEN_SLICE, 1));
-    f = summary_of(ETHER_START_LINUX_SLL, 0, COOKED, 15);
-    CHECK(is_length(&f.fault, 0, 16, 15, 1, ETHER_LAYER_LINUX_SLL_HEADER, ETHER_LEN_SLICE, 0));
-    f = summary_of(ETHER_START_ETHERNET2, 0, TAGGED, 16);
-    CHECK(f.units == 1 && f.rest_start == 14 && f.rest_end == 16 &&
-          f.rest_kind == ETHER_REST_ETHER_TYPE && f.rest_protocol == 0x8100);
-    CHECK(is_length(&f.fault, 14, 4, 2, 2, ETHER_LAYER_VLAN_HEADER, ETHER_LEN_SLICE, 0));
-    f = summary_of(ETHER_START_ETHER_TYPE, 0x88E5, NAMED, 5);
-    CHECK(is_length(&f.fault, 0, 6, 5, 1, ETHER_LAYER_MACSEC_HEADER, ETHER_LEN_SLICE, 0));
-    f = summary_of(ETHER_START_ETHER_TYPE, 0x88E5, SEALED, 13);
-    CHECK(is_length(&f.fault, 0, 14, 13, 1, ETHER_LAYER_MACSEC_HEADER, ETHER_LEN_SLICE, 0));
-    f = summary_of(ETHER_START_ETHER_TYPE, 0x88E5, NAMED, 9);
-    CHECK(is_length(&f.fault, 0, 12, 9, 3, ETHER_LAYER_MACSEC_PACKET, ETHER_LEN_MACSEC_SHORT_LENGTH,
+          f.rest_kind == ETHERPEEL_REST_START && f.rest_protocol == 0);
+    CHECK(is_length(&f.fault, 0, 14, 13, 1, ETHERPEEL_LAYER_ETHERNET2_HEADER, ETHERPEEL_LEN_SLICE,
                     0));
-    f = summary_of(ETHER_START_ETHERNET2, 0, ARP, 21);
-    CHECK(is_length(&f.fault, 14, 8, 7, 1, ETHER_LAYER_ARP, ETHER_LEN_SLICE, 0));
-    f = summary_of(ETHER_START_ETHERNET2, 0, ARP, 41);
-    CHECK(is_length(&f.fault, 14, 28, 27, 1, ETHER_LAYER_ARP, ETHER_LEN_ARP_ADDRESSES, 0));
+    f = summary_of(ETHERPEEL_START_ETHERNET2_FCS, 0, CHECKED, 17);
+    CHECK(is_length(&f.fault, 0, 18, 17, 0, ETHERPEEL_LAYER_ETHERNET2_HEADER, ETHERPEEL_LEN_SLICE,
+                    1));
+    f = summary_of(ETHERPEEL_START_LINUX_SLL, 0, COOKED, 15);
+    CHECK(is_length(&f.fault, 0, 16, 15, 1, ETHERPEEL_LAYER_LINUX_SLL_HEADER, ETHERPEEL_LEN_SLICE,
+                    0));
+    f = summary_of(ETHERPEEL_START_ETHERNET2, 0, TAGGED, 16);
+    CHECK(f.units == 1 && f.rest_start == 14 && f.rest_end == 16 &&
+          f.rest_kind == ETHERPEEL_REST_ETHER_TYPE && f.rest_protocol == 0x8100);
+    CHECK(is_length(&f.fault, 14, 4, 2, 2, ETHERPEEL_LAYER_VLAN_HEADER, ETHERPEEL_LEN_SLICE, 0));
+    f = summary_of(ETHERPEEL_START_ETHER_TYPE, 0x88E5, NAMED, 5);
+    CHECK(is_length(&f.fault, 0, 6, 5, 1, ETHERPEEL_LAYER_MACSEC_HEADER, ETHERPEEL_LEN_SLICE, 0));
+    f = summary_of(ETHERPEEL_START_ETHER_TYPE, 0x88E5, SEALED, 13);
+    CHECK(is_length(&f.fault, 0, 14, 13, 1, ETHERPEEL_LAYER_MACSEC_HEADER, ETHERPEEL_LEN_SLICE, 0));
+    f = summary_of(ETHERPEEL_START_ETHER_TYPE, 0x88E5, NAMED, 9);
+    CHECK(is_length(&f.fault, 0, 12, 9, 3, ETHERPEEL_LAYER_MACSEC_PACKET,
+                    ETHERPEEL_LEN_MACSEC_SHORT_LENGTH, 0));
+    f = summary_of(ETHERPEEL_START_ETHERNET2, 0, ARP, 21);
+    CHECK(is_length(&f.fault, 14, 8, 7, 1, ETHERPEEL_LAYER_ARP, ETHERPEEL_LEN_SLICE, 0));
+    f = summary_of(ETHERPEEL_START_ETHERNET2, 0, ARP, 41);
+    CHECK(is_length(&f.fault, 14, 28, 27, 1, ETHERPEEL_LAYER_ARP, ETHERPEEL_LEN_ARP_ADDRESSES, 0));
 }
 
 static void refused_in_a_closed_window(void) {
     /* a SecTag that names two bytes of payload, with a VLAN tag cut short in these */
     static const uint8_t inner[] = {0x00, 0x04, 0, 0, 0, 1, 0x81, 0x00, 0xAA, 0xBB, 0xCC, 0xDD};
-    ether_found f = summary_of(ETHER_START_ETHER_TYPE, 0x88E5, inner, sizeof inner);
+    etherpeel_found f = summary_of(ETHERPEEL_START_ETHER_TYPE, 0x88E5, inner, sizeof inner);
     CHECK(f.units == 1 && f.rest_start == 8 && f.rest_end == 10 && f.rest_protocol == 0x8100);
-    CHECK(
-        is_length(&f.fault, 8, 4, 2, 0, ETHER_LAYER_VLAN_HEADER, ETHER_LEN_MACSEC_SHORT_LENGTH, 1));
+    CHECK(is_length(&f.fault, 8, 4, 2, 0, ETHERPEEL_LAYER_VLAN_HEADER,
+                    ETHERPEEL_LEN_MACSEC_SHORT_LENGTH, 1));
 }
 
 static void refused_for_contents(void) {
     uint8_t packet[16];
     static const uint8_t version[] = {0x80, 0, 0, 0, 0, 0};
     static const uint8_t short_len[] = {ADDRESSES, 0x88, 0xE5, 0x00, 0x01, 0, 0, 0, 0};
-    ether_found f;
+    etherpeel_found f;
     memcpy(packet, COOKED, sizeof packet);
     packet[1] = 8;
-    f = summary_of(ETHER_START_LINUX_SLL, 0, packet, sizeof packet);
-    CHECK(f.units == 0 && f.rest_kind == ETHER_REST_START &&
-          is_content(&f.fault, ETHER_FAULT_PACKET_TYPE, 0, 8, 0, 0));
+    f = summary_of(ETHERPEEL_START_LINUX_SLL, 0, packet, sizeof packet);
+    CHECK(f.units == 0 && f.rest_kind == ETHERPEEL_REST_START &&
+          is_content(&f.fault, ETHERPEEL_FAULT_PACKET_TYPE, 0, 8, 0, 0));
     packet[1] = 0, packet[2] = 1, packet[3] = 1;
-    f = summary_of(ETHER_START_LINUX_SLL, 0, packet, sizeof packet);
-    CHECK(f.units == 0 && is_content(&f.fault, ETHER_FAULT_HARDWARE_TYPE, 0, 0, 257, 0));
-    f = summary_of(ETHER_START_ETHER_TYPE, 0x88E5, version, sizeof version);
-    CHECK(f.units == 0 && is_content(&f.fault, ETHER_FAULT_MACSEC_VERSION, 0, 0, 0, 0));
-    f = summary_of(ETHER_START_ETHERNET2, 0, short_len, sizeof short_len);
+    f = summary_of(ETHERPEEL_START_LINUX_SLL, 0, packet, sizeof packet);
+    CHECK(f.units == 0 && is_content(&f.fault, ETHERPEEL_FAULT_HARDWARE_TYPE, 0, 0, 257, 0));
+    f = summary_of(ETHERPEEL_START_ETHER_TYPE, 0x88E5, version, sizeof version);
+    CHECK(f.units == 0 && is_content(&f.fault, ETHERPEEL_FAULT_MACSEC_VERSION, 0, 0, 0, 0));
+    f = summary_of(ETHERPEEL_START_ETHERNET2, 0, short_len, sizeof short_len);
     CHECK(f.units == 1 && f.rest_protocol == 0x88E5 &&
-          is_content(&f.fault, ETHER_FAULT_MACSEC_SHORT_LEN, 14, 0, 0, 0));
+          is_content(&f.fault, ETHERPEEL_FAULT_MACSEC_SHORT_LEN, 14, 0, 0, 0));
 }
 
 static void summaries_with_a_limit(void) {
-    ether_found f;
-    CHECK(ether_summary_limited(ETHER_START_ETHERNET2, 0, TAGGED, sizeof TAGGED, 0, &f) ==
-          ETHER_DONE);
+    etherpeel_found f;
+    CHECK(etherpeel_summary_limited(ETHERPEEL_START_ETHERNET2, 0, TAGGED, sizeof TAGGED, 0, &f) ==
+          ETHERPEEL_DONE);
     CHECK(f.units == 1 && f.rest_start == 14 && f.rest_protocol == 0x8100 && is_none(&f.fault));
-    CHECK(ether_summary_limited(ETHER_START_ETHERNET2, 0, TAGGED, sizeof TAGGED, 1, &f) ==
-          ETHER_DONE);
+    CHECK(etherpeel_summary_limited(ETHERPEEL_START_ETHERNET2, 0, TAGGED, sizeof TAGGED, 1, &f) ==
+          ETHERPEEL_DONE);
     CHECK(f.units == 2 && f.rest_protocol == 0x0800);
-    CHECK(ether_summary_limited(ETHER_START_ETHERNET2, 0, TAGGED, sizeof TAGGED, SIZE_MAX, &f) ==
-              ETHER_DONE &&
+    CHECK(etherpeel_summary_limited(ETHERPEEL_START_ETHERNET2, 0, TAGGED, sizeof TAGGED, SIZE_MAX,
+                                    &f) == ETHERPEEL_DONE &&
           f.units == 2);
 }
 
 /* ---- units ---- */
 
-static int has_place(const ether_unit *u, uint32_t kind, size_t offset, size_t header_len,
+static int has_place(const etherpeel_unit *u, uint32_t kind, size_t offset, size_t header_len,
                      size_t end, int closed) {
     return u->kind == kind && u->offset == offset && u->header_len == header_len &&
            u->payload_start == offset + header_len && u->payload_end == end && u->closed == closed;
@@ -223,49 +256,49 @@ static int has_place(const ether_unit *u, uint32_t kind, size_t offset, size_t h
 
 static void walk_of_tags(void) {
     static const uint8_t mac[] = {2, 0, 0, 0, 0, 1};
-    ether_unit u[3];
+    etherpeel_unit u[3];
     size_t count = 99;
     memset(u, 0xA5, sizeof u);
-    CHECK(ether_walk(ETHER_START_ETHERNET2, 0, TAGGED, sizeof TAGGED, u, COUNT(u), &count) ==
-              ETHER_DONE &&
+    CHECK(etherpeel_walk(ETHERPEEL_START_ETHERNET2, 0, TAGGED, sizeof TAGGED, u, COUNT(u),
+                         &count) == ETHERPEEL_DONE &&
           count == 2);
-    CHECK(has_place(&u[0], ETHER_UNIT_ETHERNET2, 0, 14, 19, 0) && others_are_zero(&u[0]));
+    CHECK(has_place(&u[0], ETHERPEEL_UNIT_ETHERNET2, 0, 14, 19, 0) && others_are_zero(&u[0]));
     CHECK(all_are(u[0].ethernet2.destination, 6, 0xFF) &&
           memcmp(u[0].ethernet2.source, mac, 6) == 0);
     CHECK(u[0].ethernet2.ether_type == 0x8100 && u[0].ethernet2.has_fcs == 0);
-    CHECK(has_place(&u[1], ETHER_UNIT_VLAN, 14, 4, 19, 0) && others_are_zero(&u[1]));
+    CHECK(has_place(&u[1], ETHERPEEL_UNIT_VLAN, 14, 4, 19, 0) && others_are_zero(&u[1]));
     CHECK(u[1].vlan.pcp == 5 && u[1].vlan.dei == 1 && u[1].vlan.vid == 0x123 &&
           u[1].vlan.ether_type == 0x0800);
     CHECK(all_are(&u[2], sizeof u[2], 0xA5));
 }
 
 static void walk_with_a_check_sequence(void) {
-    ether_unit u;
+    etherpeel_unit u;
     size_t count;
-    CHECK(ether_walk(ETHER_START_ETHERNET2_FCS, 0, CHECKED, sizeof CHECKED, &u, 1, &count) ==
-              ETHER_DONE &&
+    CHECK(etherpeel_walk(ETHERPEEL_START_ETHERNET2_FCS, 0, CHECKED, sizeof CHECKED, &u, 1,
+                         &count) == ETHERPEEL_DONE &&
           count == 1);
-    CHECK(has_place(&u, ETHER_UNIT_ETHERNET2, 0, 14, 15, 1) && u.ethernet2.has_fcs == 1 &&
+    CHECK(has_place(&u, ETHERPEEL_UNIT_ETHERNET2, 0, 14, 15, 1) && u.ethernet2.has_fcs == 1 &&
           u.ethernet2.ether_type == 0x0800);
 }
 
 static void walk_of_sec_tags(void) {
-    ether_unit u[2];
+    etherpeel_unit u[2];
     size_t count;
-    CHECK(ether_walk(ETHER_START_ETHER_TYPE, 0x88E5, NAMED, sizeof NAMED, u, COUNT(u), &count) ==
-              ETHER_DONE &&
+    CHECK(etherpeel_walk(ETHERPEEL_START_ETHER_TYPE, 0x88E5, NAMED, sizeof NAMED, u, COUNT(u),
+                         &count) == ETHERPEEL_DONE &&
           count == 2);
-    CHECK(has_place(&u[0], ETHER_UNIT_MACSEC, 0, 8, 12, 1) && others_are_zero(&u[0]));
+    CHECK(has_place(&u[0], ETHERPEEL_UNIT_MACSEC, 0, 8, 12, 1) && others_are_zero(&u[0]));
     CHECK(u[0].macsec.ether_type == 0x8100 && u[0].macsec.short_len == 6 &&
           u[0].macsec.packet_number == 1);
     CHECK(u[0].macsec.sci_present == 0 && u[0].macsec.sci == 0 && u[0].macsec.encrypted == 0 &&
           u[0].macsec.changed == 0);
-    CHECK(has_place(&u[1], ETHER_UNIT_VLAN, 8, 4, 12, 1) && u[1].vlan.vid == 0xABB &&
+    CHECK(has_place(&u[1], ETHERPEEL_UNIT_VLAN, 8, 4, 12, 1) && u[1].vlan.vid == 0xABB &&
           u[1].vlan.pcp == 5 && u[1].vlan.dei == 0);
-    CHECK(ether_walk(ETHER_START_ETHER_TYPE, 0x88E5, SEALED, sizeof SEALED, u, COUNT(u), &count) ==
-              ETHER_DONE &&
+    CHECK(etherpeel_walk(ETHERPEEL_START_ETHER_TYPE, 0x88E5, SEALED, sizeof SEALED, u, COUNT(u),
+                         &count) == ETHERPEEL_DONE &&
           count == 1);
-    CHECK(has_place(&u[0], ETHER_UNIT_MACSEC, 0, 14, 15, 0) && u[0].macsec.ether_type == 0 &&
+    CHECK(has_place(&u[0], ETHERPEEL_UNIT_MACSEC, 0, 14, 15, 0) && u[0].macsec.ether_type == 0 &&
           u[0].macsec.packet_number == 0x01020304);
     CHECK(u[0].macsec.sci_present == 1 && u[0].macsec.sci == 0x0011223344556677u &&
           u[0].macsec.association_number == 2);
@@ -279,27 +312,28 @@ static void walk_of_the_example_of_the_standard(void) {
                                     0x99, 0x8D, 0x88, 0xE5, 0x22, 0x2A, 0xB2, 0xC2, 0x84, 0x65,
                                     0x12, 0x15, 0x35, 0x24, 0xC0, 0x89, 0x5E, 0x81, 0x08, 0x00};
     uint8_t frame[86] = {0};
-    ether_unit u[2];
+    etherpeel_unit u[2];
     size_t count;
     memcpy(frame, front, sizeof front);
-    CHECK(ether_walk(ETHER_START_ETHERNET2, 0, frame, sizeof frame, u, COUNT(u), &count) ==
-              ETHER_DONE &&
+    CHECK(etherpeel_walk(ETHERPEEL_START_ETHERNET2, 0, frame, sizeof frame, u, COUNT(u), &count) ==
+              ETHERPEEL_DONE &&
           count == 2);
     CHECK(memcmp(u[0].ethernet2.destination, front, 6) == 0 &&
           memcmp(u[0].ethernet2.source, front + 6, 6) == 0);
-    CHECK(has_place(&u[1], ETHER_UNIT_MACSEC, 14, 16, 70, 1) && u[1].macsec.ether_type == 0x0800);
+    CHECK(has_place(&u[1], ETHERPEEL_UNIT_MACSEC, 14, 16, 70, 1) &&
+          u[1].macsec.ether_type == 0x0800);
     CHECK(u[1].macsec.packet_number == 0xB2C28465u && u[1].macsec.sci == 0x12153524C0895E81u);
     CHECK(u[1].macsec.association_number == 2 && u[1].macsec.short_len == 42 &&
           u[1].macsec.end_station == 0);
 }
 
 static void walk_of_arp(void) {
-    ether_unit u[2];
+    etherpeel_unit u[2];
     size_t count;
-    CHECK(ether_walk(ETHER_START_ETHERNET2, 0, ARP, sizeof ARP, u, COUNT(u), &count) ==
-              ETHER_DONE &&
+    CHECK(etherpeel_walk(ETHERPEEL_START_ETHERNET2, 0, ARP, sizeof ARP, u, COUNT(u), &count) ==
+              ETHERPEEL_DONE &&
           count == 2);
-    CHECK(has_place(&u[1], ETHER_UNIT_ARP, 14, 28, 44, 0) && others_are_zero(&u[1]));
+    CHECK(has_place(&u[1], ETHERPEEL_UNIT_ARP, 14, 28, 44, 0) && others_are_zero(&u[1]));
     CHECK(u[1].arp.hardware_type == 1 && u[1].arp.protocol_type == 0x0800 &&
           u[1].arp.operation == 1);
     CHECK(u[1].arp.hardware_size == 6 && u[1].arp.protocol_size == 4);
@@ -309,39 +343,41 @@ static void walk_of_arp(void) {
 }
 
 static void walk_of_a_cooked_capture(void) {
-    ether_unit u[2];
+    etherpeel_unit u[2];
     size_t count;
     uint8_t packet[sizeof COOKED + 28] = {0};
     static const uint8_t arp[] = {ARP_REQUEST};
     memcpy(packet, COOKED, sizeof COOKED);
     memcpy(packet + sizeof COOKED, arp, sizeof arp);
-    CHECK(ether_walk(ETHER_START_LINUX_SLL, 0, packet, sizeof packet, u, COUNT(u), &count) ==
-              ETHER_DONE &&
+    CHECK(etherpeel_walk(ETHERPEEL_START_LINUX_SLL, 0, packet, sizeof packet, u, COUNT(u),
+                         &count) == ETHERPEEL_DONE &&
           count == 2);
-    CHECK(has_place(&u[0], ETHER_UNIT_LINUX_SLL, 0, 16, 44, 0) && others_are_zero(&u[0]));
+    CHECK(has_place(&u[0], ETHERPEEL_UNIT_LINUX_SLL, 0, 16, 44, 0) && others_are_zero(&u[0]));
     CHECK(u[0].linux_sll.packet_type == 4 && u[0].linux_sll.hardware_type == 1 &&
           u[0].linux_sll.address_len == 6);
     CHECK(memcmp(u[0].linux_sll.address, COOKED + 6, 8) == 0 && u[0].linux_sll.protocol == 0x0806);
-    CHECK(has_place(&u[1], ETHER_UNIT_ARP, 16, 28, 44, 0) && u[1].arp.sender_hardware == 24);
+    CHECK(has_place(&u[1], ETHERPEEL_UNIT_ARP, 16, 28, 44, 0) && u[1].arp.sender_hardware == 24);
 }
 
 static void walk_with_less_room(void) {
-    ether_unit u[2];
+    etherpeel_unit u[2];
     size_t count = 99;
     memset(u, 0xA5, sizeof u);
-    CHECK(ether_walk(ETHER_START_ETHERNET2, 0, TAGGED, sizeof TAGGED, u, 1, &count) == ETHER_DONE &&
+    CHECK(etherpeel_walk(ETHERPEEL_START_ETHERNET2, 0, TAGGED, sizeof TAGGED, u, 1, &count) ==
+              ETHERPEEL_DONE &&
           count == 2);
-    CHECK(u[0].kind == ETHER_UNIT_ETHERNET2 && all_are(&u[1], sizeof u[1], 0xA5));
-    CHECK(ether_walk(ETHER_START_ETHERNET2, 0, TAGGED, sizeof TAGGED, NULL, 0, &count) ==
-              ETHER_DONE &&
+    CHECK(u[0].kind == ETHERPEEL_UNIT_ETHERNET2 && all_are(&u[1], sizeof u[1], 0xA5));
+    CHECK(etherpeel_walk(ETHERPEEL_START_ETHERNET2, 0, TAGGED, sizeof TAGGED, NULL, 0, &count) ==
+              ETHERPEEL_DONE &&
           count == 2);
-    CHECK(ether_walk(ETHER_START_ETHERNET2, 0, TAGGED, 16, u, COUNT(u), &count) == ETHER_DONE &&
+    CHECK(etherpeel_walk(ETHERPEEL_START_ETHERNET2, 0, TAGGED, 16, u, COUNT(u), &count) ==
+              ETHERPEEL_DONE &&
           count == 1);
-    CHECK(ether_walk_limited(ETHER_START_ETHERNET2, 0, TAGGED, sizeof TAGGED, 0, u, COUNT(u),
-                             &count) == ETHER_DONE &&
+    CHECK(etherpeel_walk_limited(ETHERPEEL_START_ETHERNET2, 0, TAGGED, sizeof TAGGED, 0, u,
+                                 COUNT(u), &count) == ETHERPEEL_DONE &&
           count == 1);
-    CHECK(ether_walk_limited(ETHER_START_ETHERNET2, 0, TAGGED, sizeof TAGGED, 1, u, COUNT(u),
-                             &count) == ETHER_DONE &&
+    CHECK(etherpeel_walk_limited(ETHERPEEL_START_ETHERNET2, 0, TAGGED, sizeof TAGGED, 1, u,
+                                 COUNT(u), &count) == ETHERPEEL_DONE &&
           count == 2);
 }
 
@@ -353,36 +389,40 @@ static void writing_back(void) {
     uint8_t target[13];
     size_t len = 99;
     memset(target, 0xA5, sizeof target);
-    CHECK(ether_write_back(ETHER_START_ETHER_TYPE, 0x88E5, NAMED, sizeof NAMED, target,
-                           sizeof target, &len) == ETHER_DONE);
+    CHECK(etherpeel_write_back(ETHERPEEL_START_ETHER_TYPE, 0x88E5, NAMED, sizeof NAMED, target,
+                               sizeof target, &len) == ETHERPEEL_DONE);
     CHECK(len == 12 && memcmp(target, expected, sizeof target) == 0);
     memset(target, 0xA5, sizeof target);
-    CHECK(ether_write_back(ETHER_START_ETHER_TYPE, 0x88E5, NAMED, sizeof NAMED, target, 11, &len) ==
-          ETHER_NO_ROOM);
+    CHECK(etherpeel_write_back(ETHERPEEL_START_ETHER_TYPE, 0x88E5, NAMED, sizeof NAMED, target, 11,
+                               &len) == ETHERPEEL_NO_ROOM);
     CHECK(len == 12 && all_are(target, sizeof target, 0xA5));
-    CHECK(ether_write_back(ETHER_START_ETHERNET2, 0, TAGGED, sizeof TAGGED, NULL, 0, &len) ==
-              ETHER_NO_ROOM &&
+    CHECK(etherpeel_write_back(ETHERPEEL_START_ETHERNET2, 0, TAGGED, sizeof TAGGED, NULL, 0,
+                               &len) == ETHERPEEL_NO_ROOM &&
           len == 19);
-    CHECK(ether_write_back(ETHER_START_ETHERNET2, 0, NULL, 0, NULL, 0, &len) == ETHER_DONE &&
+    CHECK(etherpeel_write_back(ETHERPEEL_START_ETHERNET2, 0, NULL, 0, NULL, 0, &len) ==
+              ETHERPEEL_DONE &&
           len == 0);
-    CHECK(ether_write_back_limited(ETHER_START_ETHER_TYPE, 0x88E5, NAMED, 12, 0, target,
-                                   sizeof target, &len) == ETHER_DONE);
+    CHECK(etherpeel_write_back_limited(ETHERPEEL_START_ETHER_TYPE, 0x88E5, NAMED, 12, 0, target,
+                                       sizeof target, &len) == ETHERPEEL_DONE);
     CHECK(len == 12 && memcmp(target, NAMED, 12) == 0 && target[12] == 0xA5);
 }
 
 static void feeding(void) {
-    ether_fed f;
+    etherpeel_fed f;
     memset(&f, 0xA5, sizeof f);
-    CHECK(ether_feed(ETHER_START_ETHERNET2, 0, TAGGED, sizeof TAGGED, &f) == ETHER_DONE);
+    CHECK(etherpeel_feed(ETHERPEEL_START_ETHERNET2, 0, TAGGED, sizeof TAGGED, &f) ==
+          ETHERPEEL_DONE);
     CHECK(f.refusals == 2 && f.taken == 18 && is_none(&f.fault));
-    CHECK(ether_feed(ETHER_START_ETHERNET2, 0, TAGGED, 16, &f) == ETHER_DONE);
+    CHECK(etherpeel_feed(ETHERPEEL_START_ETHERNET2, 0, TAGGED, 16, &f) == ETHERPEEL_DONE);
     CHECK(f.refusals == 1 && f.taken == 14 &&
-          is_length(&f.fault, 14, 4, 0, 4, ETHER_LAYER_VLAN_HEADER, ETHER_LEN_SLICE, 0));
-    CHECK(ether_feed(ETHER_START_ETHERNET2_FCS, 0, CHECKED, sizeof CHECKED, &f) == ETHER_DONE);
-    CHECK(f.refusals == 0 && f.taken == 0 &&
-          is_length(&f.fault, 0, 18, 0, 0, ETHER_LAYER_ETHERNET2_HEADER, ETHER_LEN_SLICE, 1));
-    CHECK(ether_feed_limited(ETHER_START_ETHERNET2, 0, TAGGED, sizeof TAGGED, 0, &f) ==
-              ETHER_DONE &&
+          is_length(&f.fault, 14, 4, 0, 4, ETHERPEEL_LAYER_VLAN_HEADER, ETHERPEEL_LEN_SLICE, 0));
+    CHECK(etherpeel_feed(ETHERPEEL_START_ETHERNET2_FCS, 0, CHECKED, sizeof CHECKED, &f) ==
+          ETHERPEEL_DONE);
+    CHECK(
+        f.refusals == 0 && f.taken == 0 &&
+        is_length(&f.fault, 0, 18, 0, 0, ETHERPEEL_LAYER_ETHERNET2_HEADER, ETHERPEEL_LEN_SLICE, 1));
+    CHECK(etherpeel_feed_limited(ETHERPEEL_START_ETHERNET2, 0, TAGGED, sizeof TAGGED, 0, &f) ==
+              ETHERPEEL_DONE &&
           f.refusals == 1 && f.taken == 14);
 }
 
@@ -391,41 +431,46 @@ static void completing(void) {
     uint8_t fill[8];
     size_t len = 99;
     memset(fill, 0xA5, sizeof fill);
-    CHECK(ether_completion(ETHER_START_ETHERNET2, 0, TAGGED, 16, fill, sizeof fill, &len) ==
-          ETHER_DONE);
+    CHECK(etherpeel_completion(ETHERPEEL_START_ETHERNET2, 0, TAGGED, 16, fill, sizeof fill, &len) ==
+          ETHERPEEL_DONE);
     CHECK(len == 2 && fill[0] == 0 && fill[1] == 0 && all_are(fill + 2, 6, 0xA5));
-    CHECK(ether_completion(ETHER_START_ETHERNET2, 0, vlan_type, sizeof vlan_type, fill, sizeof fill,
-                           &len) == ETHER_DONE);
+    CHECK(etherpeel_completion(ETHERPEEL_START_ETHERNET2, 0, vlan_type, sizeof vlan_type, fill,
+                               sizeof fill, &len) == ETHERPEEL_DONE);
     CHECK(len == 1 && fill[0] == 1);
     memset(fill, 0xA5, sizeof fill);
-    CHECK(ether_completion(ETHER_START_ETHERNET2, 0, TAGGED, 16, fill, 1, &len) == ETHER_NO_ROOM &&
+    CHECK(etherpeel_completion(ETHERPEEL_START_ETHERNET2, 0, TAGGED, 16, fill, 1, &len) ==
+              ETHERPEEL_NO_ROOM &&
           len == 2 && all_are(fill, 8, 0xA5));
-    CHECK(ether_completion(ETHER_START_ETHERNET2, 0, TAGGED, sizeof TAGGED, fill, sizeof fill,
-                           &len) == ETHER_DONE &&
+    CHECK(etherpeel_completion(ETHERPEEL_START_ETHERNET2, 0, TAGGED, sizeof TAGGED, fill,
+                               sizeof fill, &len) == ETHERPEEL_DONE &&
           len == 0);
-    CHECK(ether_completion(ETHER_START_ETHERNET2_FCS, 0, CHECKED, 17, fill, sizeof fill, &len) ==
-              ETHER_DONE &&
+    CHECK(etherpeel_completion(ETHERPEEL_START_ETHERNET2_FCS, 0, CHECKED, 17, fill, sizeof fill,
+                               &len) == ETHERPEEL_DONE &&
           len == 0);
     CHECK(all_are(fill, 8, 0xA5));
-    CHECK(ether_completion(ETHER_START_ETHERNET2, 0, NULL, 0, NULL, 0, &len) == ETHER_NO_ROOM &&
+    CHECK(etherpeel_completion(ETHERPEEL_START_ETHERNET2, 0, NULL, 0, NULL, 0, &len) ==
+              ETHERPEEL_NO_ROOM &&
           len == 14);
-    CHECK(ether_completion_limited(ETHER_START_ETHERNET2, 0, TAGGED, 16, 0, fill, sizeof fill,
-                                   &len) == ETHER_DONE &&
+    CHECK(etherpeel_completion_limited(ETHERPEEL_START_ETHERNET2, 0, TAGGED, 16, 0, fill,
+                                       sizeof fill, &len) == ETHERPEEL_DONE &&
           len == 0);
 }
 
 static void missing_bytes(void) {
     size_t missing = 99;
-    CHECK(ether_missing(ETHER_START_ETHERNET2, 0, TAGGED, 16, &missing) == ETHER_DONE &&
+    CHECK(etherpeel_missing(ETHERPEEL_START_ETHERNET2, 0, TAGGED, 16, &missing) == ETHERPEEL_DONE &&
           missing == 2);
-    CHECK(ether_missing(ETHER_START_ETHERNET2, 0, TAGGED, sizeof TAGGED, &missing) == ETHER_DONE &&
+    CHECK(etherpeel_missing(ETHERPEEL_START_ETHERNET2, 0, TAGGED, sizeof TAGGED, &missing) ==
+              ETHERPEEL_DONE &&
           missing == 0);
     missing = 99;
-    CHECK(ether_missing(ETHER_START_ETHERNET2_FCS, 0, CHECKED, 17, &missing) == ETHER_DONE &&
+    CHECK(etherpeel_missing(ETHERPEEL_START_ETHERNET2_FCS, 0, CHECKED, 17, &missing) ==
+              ETHERPEEL_DONE &&
           missing == 0);
-    CHECK(ether_missing(ETHER_START_ETHERNET2, 0, NULL, 0, &missing) == ETHER_DONE &&
+    CHECK(etherpeel_missing(ETHERPEEL_START_ETHERNET2, 0, NULL, 0, &missing) == ETHERPEEL_DONE &&
           missing == 14);
-    CHECK(ether_missing_limited(ETHER_START_ETHERNET2, 0, TAGGED, 16, 0, &missing) == ETHER_DONE &&
+    CHECK(etherpeel_missing_limited(ETHERPEEL_START_ETHERNET2, 0, TAGGED, 16, 0, &missing) ==
+              ETHERPEEL_DONE &&
           missing == 0);
 }
 
@@ -438,23 +483,246 @@ static void texts(void) {
     char text[512];
     size_t len = 99;
     memset(text, 0x25, sizeof text);
-    CHECK(ether_fault_text(ETHER_START_ETHERNET2, 0, TAGGED, 16, text, sizeof text, &len) ==
-          ETHER_DONE);
+    CHECK(etherpeel_fault_text(ETHERPEEL_START_ETHERNET2, 0, TAGGED, 16, text, sizeof text, &len) ==
+          ETHERPEEL_DONE);
     CHECK(len == sizeof expected - 1 && memcmp(text, expected, len) == 0 && text[len] == 0x25);
     memset(text, 0x25, sizeof text);
-    CHECK(ether_fault_text(ETHER_START_ETHERNET2, 0, TAGGED, 16, text, sizeof expected - 2, &len) ==
-          ETHER_NO_ROOM);
+    CHECK(etherpeel_fault_text(ETHERPEEL_START_ETHERNET2, 0, TAGGED, 16, text, sizeof expected - 2,
+                               &len) == ETHERPEEL_NO_ROOM);
     CHECK(len == sizeof expected - 1 && all_are(text, sizeof text, 0x25));
-    CHECK(ether_fault_text(ETHER_START_ETHERNET2, 0, TAGGED, 16, NULL, 0, &len) == ETHER_NO_ROOM &&
+    CHECK(etherpeel_fault_text(ETHERPEEL_START_ETHERNET2, 0, TAGGED, 16, NULL, 0, &len) ==
+              ETHERPEEL_NO_ROOM &&
           len == sizeof expected - 1);
-    CHECK(ether_fault_text(ETHER_START_ETHERNET2, 0, TAGGED, sizeof TAGGED, text, sizeof text,
-                           &len) == ETHER_DONE &&
+    CHECK(etherpeel_fault_text(ETHERPEEL_START_ETHERNET2, 0, TAGGED, sizeof TAGGED, text,
+                               sizeof text, &len) == ETHERPEEL_DONE &&
           len == 0);
     len = 99;
-    CHECK(ether_fault_text_limited(ETHER_START_ETHERNET2, 0, TAGGED, 16, 0, text, sizeof text,
-                                   &len) == ETHER_DONE &&
+    CHECK(etherpeel_fault_text_limited(ETHERPEEL_START_ETHERNET2, 0, TAGGED, 16, 0, text,
+                                       sizeof text, &len) == ETHERPEEL_DONE &&
           len == 0);
     CHECK(all_are(text, sizeof text, 0x25));
+}
+
+/* ---- packets ---- */
+
+static void packets(void) {
+    /* four VLAN tags, of which the last is not read */
+    static const uint8_t many[] = {ADDRESSES, 0x88, 0xA8, 0x00, 0x0A, 0x81, 0x00, 0x20, 0x14, 0x81,
+                                   0x00,      0x00, 0x1E, 0x81, 0x00, 0x00, 0x28, 0x08, 0x00};
+    etherpeel_headers h;
+    memset(&h, 0xA5, sizeof h);
+    CHECK(etherpeel_packet(ETHERPEEL_START_ETHERNET2, 0, many, sizeof many, &h) == ETHERPEEL_DONE);
+    CHECK(h.found.units == 4 && h.found.rest_start == 26 && h.found.rest_end == 30 &&
+          h.found.rest_protocol == 0x8100 && is_none(&h.found.fault));
+    CHECK(h.vlan_count == 3 && h.vlan_ids[0] == 10 && h.vlan_ids[1] == 20 && h.vlan_ids[2] == 30);
+    CHECK(has_place(&h.units[2], ETHERPEEL_UNIT_VLAN, 18, 4, 30, 0) && h.units[2].vlan.pcp == 1);
+    CHECK(h.min_snap_len == 26 && all_are(&h.units[4], sizeof h.units[4], 0xA5));
+    CHECK(etherpeel_packet(ETHERPEEL_START_ETHERNET2, 0, ARP, sizeof ARP, &h) == ETHERPEEL_DONE);
+    CHECK(h.found.units == 2 && h.units[1].kind == ETHERPEEL_UNIT_ARP && h.vlan_count == 0 &&
+          h.vlan_ids[0] == 0 && h.vlan_ids[2] == 0 && h.min_snap_len == 42);
+    /* the payload that a SecTag names counts */
+    CHECK(etherpeel_packet(ETHERPEEL_START_ETHER_TYPE, 0x88E5, NAMED, sizeof NAMED, &h) ==
+          ETHERPEEL_DONE);
+    CHECK(h.found.units == 2 && h.vlan_count == 1 && h.vlan_ids[0] == 0xABB && h.vlan_ids[1] == 0 &&
+          h.min_snap_len == 12);
+    CHECK(etherpeel_packet(ETHERPEEL_START_ETHERNET2, 0, TAGGED, 16, &h) == ETHERPEEL_DONE);
+    CHECK(h.found.units == 1 && h.found.fault.missing == 2 && h.min_snap_len == 14);
+    memset(&h, 0xA5, sizeof h);
+    CHECK(etherpeel_packet(5, 0, TAGGED, sizeof TAGGED, &h) == ETHERPEEL_UNKNOWN_START);
+    CHECK(all_are(&h, sizeof h, 0xA5));
+}
+
+/* ---- capture files ---- */
+
+/* a classic file, most significant byte first, with two packets of one and no byte; the second was
+ * cut */
+static const uint8_t CLASSIC[] = {0xA1, 0xB2, 0xC3, 0xD4, 0, 2, 0, 4, 0,    0, 0, 0, 0, 0, 0, 0,
+                                  0,    0,    0xFF, 0xFF, 0, 0, 0, 1, 0,    0, 0, 1, 0, 0, 0, 2,
+                                  0,    0,    0,    1,    0, 0, 0, 1, 0xFF, /* 1.000002 s */
+                                  0,    0,    0,    3,    0, 0, 0, 4, 0,    0, 0, 0, 0, 0, 0, 9};
+/* a pcapng file, least significant byte first: a section header, an interface of link type 113, an
+ * enhanced packet at 2^32 + 5 microseconds, a simple packet */
+static const uint8_t BLOCKS[] = {
+    0x0A, 0x0D, 0x0D, 0x0A, 28,   0,    0,    0,    0x4D, 0x3C, 0x2B, 0x1A, 1, 0, 0,  0, 0xFF, 0xFF,
+    0xFF, 0xFF, 0xFF, 0xFF, 0xFF, 0xFF, 28,   0,    0,    0,    1,    0,    0, 0, 20, 0, 0,    0,
+    113,  0,    0,    0,    0,    0,    0,    0,    20,   0,    0,    0,    6, 0, 0,  0, 36,   0,
+    0,    0,    0,    0,    0,    0,    1,    0,    0,    0,    5,    0,    0, 0, 1,  0, 0,    0,
+    7,    0,    0,    0,    0xAB, 0,    0,    0,    36,   0,    0,    0,    3, 0, 0,  0, 20,   0,
+    0,    0,    2,    0,    0,    0,    0xCD, 0xEF, 0,    0,    20,   0,    0, 0};
+
+static int is_captured(const etherpeel_captured *p, const uint8_t *packet, size_t len,
+                       uint64_t seconds, uint32_t nanoseconds, uint32_t original, unsigned link,
+                       int has_time) {
+    return p->packet_len == len && (len == 0 || p->packet == packet) && p->seconds == seconds &&
+           p->nanoseconds == nanoseconds && p->original_len == original && p->link_type == link &&
+           p->has_time == has_time && p->has_fcs_len == 0 && p->fcs_len == 0;
+}
+
+static void captures(void) {
+    etherpeel_captured p[3];
+    etherpeel_capture_end end;
+    size_t count = 99;
+    CHECK(sizeof(etherpeel_captured) == 40 && offsetof(etherpeel_captured, seconds) == 16 &&
+          offsetof(etherpeel_captured, link_type) == 32 &&
+          offsetof(etherpeel_captured, fcs_len) == 36 && sizeof(etherpeel_capture_end) == 16);
+    memset(p, 0, sizeof p);
+    CHECK(etherpeel_capture(CLASSIC, sizeof CLASSIC, p, 3, &count, &end) == ETHERPEEL_DONE);
+    CHECK(count == 2 && end.offset == sizeof CLASSIC && end.needed == 0);
+    CHECK(is_captured(&p[0], CLASSIC + 40, 1, 1, 2000, 1, 1, 1) &&
+          is_captured(&p[1], NULL, 0, 3, 4000, 9, 1, 1) && all_are(&p[2], sizeof p[2], 0));
+    CHECK(etherpeel_capture(BLOCKS, sizeof BLOCKS, p, 3, &count, &end) == ETHERPEEL_DONE);
+    CHECK(count == 2 && end.offset == sizeof BLOCKS && end.needed == 0);
+    CHECK(is_captured(&p[0], BLOCKS + 76, 1, 4294, 967301000, 7, 113, 1) &&
+          is_captured(&p[1], BLOCKS + 96, 2, 0, 0, 2, 113, 0));
+    /* as many as there is room for */
+    memset(p, 0, sizeof p);
+    CHECK(etherpeel_capture(CLASSIC, sizeof CLASSIC, p, 1, &count, &end) == ETHERPEEL_DONE);
+    CHECK(count == 2 && p[0].packet == CLASSIC + 40 && all_are(&p[1], sizeof p[1], 0));
+    CHECK(etherpeel_capture(BLOCKS, sizeof BLOCKS, NULL, 0, &count, &end) == ETHERPEEL_DONE &&
+          count == 2);
+}
+
+static void captures_that_end_early(void) {
+    static const char expected[] = "At byte 41: ";
+    static const uint8_t other[24] = {0x12, 0x34, 0x56, 0x78};
+    char text[512];
+    etherpeel_capture_end end;
+    size_t count, len = 99;
+    const guarded page = guarded_page();
+    for (size_t n = 0; n < sizeof CLASSIC; n++) {
+        /* a cut is refused but after a header or a record; what it needs is beyond its end */
+        const int whole = n == 24 || n == 41;
+        const uint8_t *cut = copied(page, CLASSIC, n);
+        const uint32_t status = etherpeel_capture(cut, n, NULL, 0, &count, &end);
+        CHECK(status == (whole ? ETHERPEEL_DONE : ETHERPEEL_SHORT) && count == (n >= 41));
+        CHECK(whole ? end.needed == 0 && end.offset == n : end.offset + end.needed > n);
+        CHECK(etherpeel_capture_fault_text(cut, n, text, sizeof text, &len) == ETHERPEEL_DONE);
+        CHECK((len == 0) == whole && len < sizeof text);
+    }
+    release(page);
+    CHECK(end.offset == 41 && end.needed == 16 && memcmp(text, expected, 12) == 0);
+    CHECK(etherpeel_capture_fault_text(CLASSIC, 50, text, 5, &len) == ETHERPEEL_NO_ROOM && len > 5);
+    CHECK(etherpeel_capture(NULL, 0, NULL, 0, &count, &end) == ETHERPEEL_SHORT && count == 0);
+    CHECK(etherpeel_capture(other, sizeof other, NULL, 0, &count, &end) == ETHERPEEL_BAD_CAPTURE);
+    CHECK(count == 0 && end.offset == 0 && end.needed == 0);
+}
+
+/* ---- VLAN tags changed in place ---- */
+
+/* Ethernet II and the first byte of an IPv4 packet, after four bytes that are free */
+static const uint8_t UNTAGGED[] = {0xEE, 0xEE, 0xEE, 0xEE, ADDRESSES, 0x08, 0x00, 0x45};
+
+static void popping(void) {
+    uint8_t frame[sizeof TAGGED];
+    etherpeel_vlan tag;
+    memcpy(frame, TAGGED, sizeof frame);
+    memset(&tag, 0xA5, sizeof tag);
+    CHECK(etherpeel_pop_vlan(ETHERPEEL_START_ETHERNET2, 0, frame, sizeof frame, &tag) ==
+          ETHERPEEL_DONE);
+    CHECK(memcmp(frame + 4, UNTAGGED + 4, sizeof frame - 4) == 0);
+    CHECK(tag.vid == 0x123 && tag.pcp == 5 && tag.dei == 1 && tag.ether_type == 0x0800);
+    CHECK(etherpeel_push_vlan(ETHERPEEL_START_ETHERNET2, 0, frame, sizeof frame, &tag, 0x8100) ==
+          ETHERPEEL_DONE);
+    CHECK(memcmp(frame, TAGGED, sizeof frame) == 0);
+    CHECK(etherpeel_pop_vlan(ETHERPEEL_START_ETHERNET2, 0, frame, 17, &tag) == ETHERPEEL_CUT_VLAN);
+    CHECK(etherpeel_pop_vlan(ETHERPEEL_START_ETHERNET2, 0, frame, 13, &tag) == ETHERPEEL_NO_LINK);
+    CHECK(etherpeel_pop_vlan(ETHERPEEL_START_ETHERNET2, 0, NULL, 0, &tag) == ETHERPEEL_NO_LINK);
+    CHECK(etherpeel_pop_vlan(ETHERPEEL_START_ETHER_TYPE, 0x8100, frame, sizeof frame, &tag) ==
+          ETHERPEEL_NO_LINK);
+    CHECK(etherpeel_pop_vlan(9, 0, frame, sizeof frame, &tag) == ETHERPEEL_UNKNOWN_START);
+    CHECK(memcmp(frame, TAGGED, sizeof frame) == 0 && tag.vid == 0x123 && tag.pcp == 5);
+    memcpy(frame, ARP, sizeof frame);
+    CHECK(etherpeel_pop_vlan(ETHERPEEL_START_ETHERNET2, 0, frame, sizeof frame, &tag) ==
+          ETHERPEEL_NO_VLAN);
+    CHECK(memcmp(frame, ARP, sizeof frame) == 0);
+}
+
+static void pushing(void) {
+    static const uint8_t expected[] = {ADDRESSES, 0x88, 0xA8, 0xEF, 0xFF, 0x08, 0x00, 0x45};
+    uint8_t buffer[sizeof UNTAGGED], cooked[20] = {0xEE, 0xEE, 0xEE, 0xEE};
+    etherpeel_vlan tag = {4095, 0x9999, 7, 0};
+    memcpy(buffer, UNTAGGED, sizeof buffer);
+    CHECK(etherpeel_push_vlan(9, 0, buffer, sizeof buffer, &tag, 0x8100) ==
+          ETHERPEEL_UNKNOWN_START);
+    CHECK(etherpeel_push_vlan(ETHERPEEL_START_ETHERNET2, 0, buffer, sizeof buffer, &tag, 0x0800) ==
+          ETHERPEEL_BAD_TPID);
+    CHECK(etherpeel_push_vlan(ETHERPEEL_START_ETHERNET2, 0, buffer, 3, &tag, 0x8100) ==
+          ETHERPEEL_NO_ROOM);
+    CHECK(etherpeel_push_vlan(ETHERPEEL_START_ETHERNET2, 0, buffer, 17, &tag, 0x8100) ==
+          ETHERPEEL_NO_LINK);
+    memcpy(cooked + 4, COOKED_GRE, sizeof COOKED_GRE);
+    CHECK(etherpeel_push_vlan(ETHERPEEL_START_LINUX_SLL, 0, cooked, sizeof cooked, &tag, 0x8100) ==
+          ETHERPEEL_OTHER_LINK);
+    tag.vid = 4096;
+    CHECK(etherpeel_push_vlan(ETHERPEEL_START_ETHERNET2, 0, buffer, sizeof buffer, &tag, 0x8100) ==
+          ETHERPEEL_BAD_FIELD);
+    tag.vid = 4095, tag.pcp = 8;
+    CHECK(etherpeel_push_vlan(ETHERPEEL_START_ETHERNET2, 0, buffer, sizeof buffer, &tag, 0x8100) ==
+          ETHERPEEL_BAD_FIELD);
+    tag.pcp = 7, tag.dei = 2;
+    CHECK(etherpeel_push_vlan(ETHERPEEL_START_ETHERNET2, 0, buffer, sizeof buffer, &tag, 0x8100) ==
+          ETHERPEEL_BAD_FIELD);
+    CHECK(memcmp(buffer, UNTAGGED, sizeof buffer) == 0 && all_are(cooked, 4, 0xEE));
+    tag.dei = 0;
+    CHECK(etherpeel_push_vlan(ETHERPEEL_START_ETHERNET2, 0, buffer, sizeof buffer, &tag, 0x88A8) ==
+          ETHERPEEL_DONE);
+    CHECK(memcmp(buffer, expected, sizeof buffer) == 0 && tag.ether_type == 0x9999);
+}
+
+static void setting(void) {
+    static const uint8_t expected[] = {ADDRESSES, 0x81, 0x00, 0xB4, 0x56, 0x08, 0x00, 0x45};
+    uint8_t frame[sizeof TAGGED], tag[sizeof NAMED];
+    memcpy(frame, TAGGED, sizeof frame), memcpy(tag, NAMED, sizeof tag);
+    CHECK(etherpeel_set_vlan_id(9, 0, frame, sizeof frame, 0, 1) == ETHERPEEL_UNKNOWN_START);
+    CHECK(etherpeel_set_vlan_id(ETHERPEEL_START_ETHERNET2, 0, frame, sizeof frame, 0, 4096) ==
+          ETHERPEEL_BAD_FIELD);
+    CHECK(etherpeel_set_vlan_id(ETHERPEEL_START_ETHERNET2, 0, frame, sizeof frame, 1, 1) ==
+          ETHERPEEL_NO_TAG);
+    CHECK(etherpeel_set_vlan_id(ETHERPEEL_START_ETHERNET2, 0, frame, sizeof frame, SIZE_MAX, 1) ==
+          ETHERPEEL_NO_TAG);
+    CHECK(etherpeel_set_vlan_id(ETHERPEEL_START_ETHER_TYPE, 0x88E5, tag, sizeof tag, 0, 1) ==
+          ETHERPEEL_NO_VLAN);
+    CHECK(memcmp(frame, TAGGED, sizeof frame) == 0 && memcmp(tag, NAMED, sizeof tag) == 0);
+    CHECK(etherpeel_set_vlan_id(ETHERPEEL_START_ETHERNET2, 0, frame, sizeof frame, 0, 0x456) ==
+          ETHERPEEL_DONE);
+    CHECK(memcmp(frame, expected, sizeof frame) == 0);
+    CHECK(etherpeel_set_vlan_id(ETHERPEEL_START_ETHER_TYPE, 0x88E5, tag, sizeof tag, 1, 0xFFF) ==
+          ETHERPEEL_DONE);
+    CHECK(tag[8] == 0xAF && tag[9] == 0xFF && memcmp(tag, NAMED, 8) == 0 && tag[10] == NAMED[10]);
+}
+
+static void setting_more(void) {
+    static const uint8_t expected[] = {ADDRESSES, 0x81, 0x00, 0x64, 0x56, 0x08, 0x00, 0x45};
+    etherpeel_vlan tag = {0x456, 0x9999, 8, 0};
+    uint8_t frame[sizeof TAGGED], sec_tag[sizeof NAMED];
+    memcpy(frame, TAGGED, sizeof frame), memcpy(sec_tag, NAMED, sizeof sec_tag);
+    CHECK(etherpeel_set_vlan_tag(9, 0, frame, sizeof frame, 0, &tag) == ETHERPEEL_UNKNOWN_START);
+    CHECK(etherpeel_set_vlan_tag(ETHERPEEL_START_ETHERNET2, 0, frame, sizeof frame, 0, &tag) ==
+          ETHERPEEL_BAD_FIELD);
+    CHECK(memcmp(frame, TAGGED, sizeof frame) == 0);
+    tag.pcp = 3;
+    CHECK(etherpeel_set_vlan_tag(ETHERPEEL_START_ETHERNET2, 0, frame, sizeof frame, 1, &tag) ==
+          ETHERPEEL_NO_TAG);
+    CHECK(etherpeel_set_vlan_tag(ETHERPEEL_START_ETHERNET2, 0, frame, sizeof frame, 0, &tag) ==
+          ETHERPEEL_DONE);
+    CHECK(memcmp(frame, expected, sizeof frame) == 0);
+    CHECK(etherpeel_set_tpid(9, 0, frame, sizeof frame, 0, 0x88A8) == ETHERPEEL_UNKNOWN_START);
+    CHECK(etherpeel_set_tpid(ETHERPEEL_START_ETHERNET2, 0, frame, sizeof frame, 0, 0x0800) ==
+          ETHERPEEL_BAD_TPID);
+    CHECK(etherpeel_set_tpid(ETHERPEEL_START_ETHERNET2, 0, frame, sizeof frame, 1, 0x88A8) ==
+          ETHERPEEL_NO_TAG);
+    CHECK(etherpeel_set_tpid(ETHERPEEL_START_ETHER_TYPE, 0x88E5, sec_tag, sizeof sec_tag, 0,
+                             0x88A8) == ETHERPEEL_NO_VLAN);
+    CHECK(etherpeel_set_tpid(ETHERPEEL_START_ETHER_TYPE, 0x8100, frame + 14, 5, 0, 0x88A8) ==
+          ETHERPEEL_UNANNOUNCED);
+    CHECK(memcmp(frame, expected, sizeof frame) == 0);
+    CHECK(etherpeel_set_tpid(ETHERPEEL_START_ETHERNET2, 0, frame, sizeof frame, 0, 0x88A8) ==
+          ETHERPEEL_DONE);
+    CHECK(frame[12] == 0x88 && frame[13] == 0xA8 && memcmp(frame + 14, expected + 14, 5) == 0);
+    /* the type of the SecTag announces the VLAN tag in it */
+    CHECK(etherpeel_set_tpid(ETHERPEEL_START_ETHER_TYPE, 0x88E5, sec_tag, sizeof sec_tag, 1,
+                             0x9100) == ETHERPEEL_DONE);
+    CHECK(sec_tag[6] == 0x91 && sec_tag[7] == 0x00 && memcmp(sec_tag, NAMED, 6) == 0);
 }
 
 /* ---- what is common to all calls ---- */
@@ -465,35 +733,37 @@ static void unknown_starts(void) {
     const size_t n = sizeof TAGGED;
     for (size_t i = 0; i < COUNT(starts); i++) {
         const uint32_t s = starts[i];
-        ether_found found;
-        ether_fed fed;
-        ether_unit units[2];
+        etherpeel_found found;
+        etherpeel_fed fed;
+        etherpeel_unit units[2];
         uint8_t target[32];
         char text[32];
         size_t len = 99;
         memset(&found, 0xA5, sizeof found), memset(&fed, 0xA5, sizeof fed),
             memset(units, 0xA5, sizeof units);
         memset(target, 0xA5, sizeof target), memset(text, 0x25, sizeof text);
-        CHECK(ether_summary(s, 0x8100, b, n, &found) == ETHER_UNKNOWN_START);
-        CHECK(ether_summary_limited(s, 0x8100, b, n, 1, &found) == ETHER_UNKNOWN_START);
-        CHECK(ether_walk(s, 0x8100, b, n, units, COUNT(units), &len) == ETHER_UNKNOWN_START);
-        CHECK(ether_walk_limited(s, 0x8100, b, n, 1, units, COUNT(units), &len) ==
-              ETHER_UNKNOWN_START);
-        CHECK(ether_write_back(s, 0x8100, b, n, target, sizeof target, &len) ==
-              ETHER_UNKNOWN_START);
-        CHECK(ether_write_back_limited(s, 0x8100, b, n, 1, target, sizeof target, &len) ==
-              ETHER_UNKNOWN_START);
-        CHECK(ether_feed(s, 0x8100, b, n, &fed) == ETHER_UNKNOWN_START);
-        CHECK(ether_feed_limited(s, 0x8100, b, n, 1, &fed) == ETHER_UNKNOWN_START);
-        CHECK(ether_completion(s, 0x8100, b, 16, target, sizeof target, &len) ==
-              ETHER_UNKNOWN_START);
-        CHECK(ether_completion_limited(s, 0x8100, b, 16, 1, target, sizeof target, &len) ==
-              ETHER_UNKNOWN_START);
-        CHECK(ether_missing(s, 0x8100, b, 16, &len) == ETHER_UNKNOWN_START);
-        CHECK(ether_missing_limited(s, 0x8100, b, 16, 1, &len) == ETHER_UNKNOWN_START);
-        CHECK(ether_fault_text(s, 0x8100, b, 16, text, sizeof text, &len) == ETHER_UNKNOWN_START);
-        CHECK(ether_fault_text_limited(s, 0x8100, b, 16, 1, text, sizeof text, &len) ==
-              ETHER_UNKNOWN_START);
+        CHECK(etherpeel_summary(s, 0x8100, b, n, &found) == ETHERPEEL_UNKNOWN_START);
+        CHECK(etherpeel_summary_limited(s, 0x8100, b, n, 1, &found) == ETHERPEEL_UNKNOWN_START);
+        CHECK(etherpeel_walk(s, 0x8100, b, n, units, COUNT(units), &len) ==
+              ETHERPEEL_UNKNOWN_START);
+        CHECK(etherpeel_walk_limited(s, 0x8100, b, n, 1, units, COUNT(units), &len) ==
+              ETHERPEEL_UNKNOWN_START);
+        CHECK(etherpeel_write_back(s, 0x8100, b, n, target, sizeof target, &len) ==
+              ETHERPEEL_UNKNOWN_START);
+        CHECK(etherpeel_write_back_limited(s, 0x8100, b, n, 1, target, sizeof target, &len) ==
+              ETHERPEEL_UNKNOWN_START);
+        CHECK(etherpeel_feed(s, 0x8100, b, n, &fed) == ETHERPEEL_UNKNOWN_START);
+        CHECK(etherpeel_feed_limited(s, 0x8100, b, n, 1, &fed) == ETHERPEEL_UNKNOWN_START);
+        CHECK(etherpeel_completion(s, 0x8100, b, 16, target, sizeof target, &len) ==
+              ETHERPEEL_UNKNOWN_START);
+        CHECK(etherpeel_completion_limited(s, 0x8100, b, 16, 1, target, sizeof target, &len) ==
+              ETHERPEEL_UNKNOWN_START);
+        CHECK(etherpeel_missing(s, 0x8100, b, 16, &len) == ETHERPEEL_UNKNOWN_START);
+        CHECK(etherpeel_missing_limited(s, 0x8100, b, 16, 1, &len) == ETHERPEEL_UNKNOWN_START);
+        CHECK(etherpeel_fault_text(s, 0x8100, b, 16, text, sizeof text, &len) ==
+              ETHERPEEL_UNKNOWN_START);
+        CHECK(etherpeel_fault_text_limited(s, 0x8100, b, 16, 1, text, sizeof text, &len) ==
+              ETHERPEEL_UNKNOWN_START);
         CHECK(len == 99 && all_are(&found, sizeof found, 0xA5) && all_are(&fed, sizeof fed, 0xA5) &&
               all_are(units, sizeof units, 0xA5));
         CHECK(all_are(target, sizeof target, 0xA5) && all_are(text, sizeof text, 0x25));
@@ -501,20 +771,21 @@ static void unknown_starts(void) {
 }
 
 static void no_frame(void) {
-    static const uint32_t starts[] = {ETHER_START_ETHERNET2, ETHER_START_ETHERNET2_FCS,
-                                      ETHER_START_LINUX_SLL};
+    static const uint32_t starts[] = {ETHERPEEL_START_ETHERNET2, ETHERPEEL_START_ETHERNET2_FCS,
+                                      ETHERPEEL_START_LINUX_SLL};
     static const size_t required[] = {14, 18, 16};
-    ether_found f;
-    ether_fed fed;
+    etherpeel_found f;
+    etherpeel_fed fed;
     size_t count;
     for (size_t i = 0; i < COUNT(starts); i++) {
-        CHECK(ether_summary(starts[i], 0, NULL, 0, &f) == ETHER_DONE && f.units == 0 &&
+        CHECK(etherpeel_summary(starts[i], 0, NULL, 0, &f) == ETHERPEEL_DONE && f.units == 0 &&
               f.fault.required_len == required[i] && f.fault.len == 0);
-        CHECK(ether_feed(starts[i], 0, NULL, 0, &fed) == ETHER_DONE && fed.taken == 0 &&
+        CHECK(etherpeel_feed(starts[i], 0, NULL, 0, &fed) == ETHERPEEL_DONE && fed.taken == 0 &&
               fed.fault.required_len == required[i]);
-        CHECK(ether_walk(starts[i], 0, NULL, 0, NULL, 0, &count) == ETHER_DONE && count == 0);
+        CHECK(etherpeel_walk(starts[i], 0, NULL, 0, NULL, 0, &count) == ETHERPEEL_DONE &&
+              count == 0);
     }
-    CHECK(ether_summary(ETHER_START_ETHER_TYPE, 0x0800, NULL, 0, &f) == ETHER_DONE &&
+    CHECK(etherpeel_summary(ETHERPEEL_START_ETHER_TYPE, 0x0800, NULL, 0, &f) == ETHERPEEL_DONE &&
           f.rest_end == 0 && is_none(&f.fault));
 }
 
@@ -538,7 +809,8 @@ static size_t draw_frame(uint8_t bytes[64]) {
 
 /* whether the units of a frame follow one another up to the rest, each header at its payload's
  * start */
-static int units_are_chained(const ether_unit *u, size_t count, size_t len, const ether_found *f) {
+static int units_are_chained(const etherpeel_unit *u, size_t count, size_t len,
+                             const etherpeel_found *f) {
     for (size_t i = 0; i < count; i++) {
         const size_t end = i + 1 < count ? u[i + 1].offset : f->rest_start;
         if (u[i].payload_start != end || u[i].offset + u[i].header_len != end) return 0;
@@ -558,25 +830,28 @@ static void drawn_frames(void) {
         const size_t len = draw_frame(bytes);
         const uint32_t start = (uint32_t)(1 + drawn(4));
         const uint8_t *frame = copied(pages[0], bytes, len);
-        ether_found f;
+        etherpeel_found f;
         size_t count, written, missing, fill_len, text_len;
-        ether_summary(start, 0x88E5, frame, len, &f);
-        ether_unit *units = (ether_unit *)(void *)last(pages[1], f.units * sizeof(ether_unit));
+        etherpeel_summary(start, 0x88E5, frame, len, &f);
+        etherpeel_unit *units =
+            (etherpeel_unit *)(void *)last(pages[1], f.units * sizeof(etherpeel_unit));
         uint8_t *target = last(pages[2], f.rest_end);
-        wrong += ether_walk(start, 0x88E5, frame, len, units, f.units, &count) != ETHER_DONE;
-        wrong += count != f.units || !units_are_chained(units, count, len, &f);
         wrong +=
-            ether_write_back(start, 0x88E5, frame, len, target, f.rest_end, &written) != ETHER_DONE;
+            etherpeel_walk(start, 0x88E5, frame, len, units, f.units, &count) != ETHERPEEL_DONE;
+        wrong += count != f.units || !units_are_chained(units, count, len, &f);
+        wrong += etherpeel_write_back(start, 0x88E5, frame, len, target, f.rest_end, &written) !=
+                 ETHERPEEL_DONE;
         wrong += written != f.rest_end;
-        ether_missing(start, 0x88E5, frame, len, &missing);
+        etherpeel_missing(start, 0x88E5, frame, len, &missing);
         wrong += missing != f.fault.missing;
-        ether_completion(start, 0x88E5, frame, len, NULL, 0, &fill_len);
-        ether_completion(start, 0x88E5, frame, len, last(pages[3], fill_len), fill_len, &fill_len);
+        etherpeel_completion(start, 0x88E5, frame, len, NULL, 0, &fill_len);
+        etherpeel_completion(start, 0x88E5, frame, len, last(pages[3], fill_len), fill_len,
+                             &fill_len);
         wrong += fill_len != 0 && fill_len < missing;
-        ether_fault_text(start, 0x88E5, frame, len, NULL, 0, &text_len);
-        wrong += (text_len == 0) != (f.fault.kind == ETHER_FAULT_NONE) || text_len >= 512;
-        wrong += ether_fault_text(start, 0x88E5, frame, len, (char *)last(pages[3], text_len),
-                                  text_len, &text_len) != ETHER_DONE;
+        etherpeel_fault_text(start, 0x88E5, frame, len, NULL, 0, &text_len);
+        wrong += (text_len == 0) != (f.fault.kind == ETHERPEEL_FAULT_NONE) || text_len >= 512;
+        wrong += etherpeel_fault_text(start, 0x88E5, frame, len, (char *)last(pages[3], text_len),
+                                      text_len, &text_len) != ETHERPEEL_DONE;
         if (count > most) most = count;
     }
     CHECK(wrong == 0 && most >= 6);
@@ -585,6 +860,7 @@ static void drawn_frames(void) {
 
 int main(void) {
     layout();
+    library();
     accepted();
     protocols_of_cooked_captures();
     refused_for_a_length();
@@ -603,6 +879,13 @@ int main(void) {
     completing();
     missing_bytes();
     texts();
+    packets();
+    captures();
+    captures_that_end_early();
+    popping();
+    pushing();
+    setting();
+    setting_more();
     unknown_starts();
     no_frame();
     drawn_frames();

@@ -1,15 +1,18 @@
-"""Tests of ether_c.h from Python: tests.py libether_c.so. The last line is 'N passed, M failed'."""
+"""Tests of the Python package: tests.py FOLDER, where FOLDER has the package. The last line is 'N passed, M failed'."""
+import array
 import ctypes as C
+import io
 import itertools
-import os
+import mmap
 import random
 import sys
+import tempfile
 
-sys.path.insert(0, os.path.join(os.path.dirname(os.path.abspath(__file__)), ".."))
-import ether_c as ether
+sys.path.insert(0, sys.argv[1])
+import etherpeel
+from etherpeel import FaultKind, Layer, LenSource, RestKind, Start, _library
 from walker import ETHERNET2, LINUX_SLL, Walker
 
-lib = ether.load(sys.argv[1])
 counts = {True: 0, False: 0}
 
 
@@ -19,54 +22,226 @@ def check(what, found, expected):
         print(f"{what}: {found!r} and not {expected!r}")
 
 
+def raised(call, *words, **named):
+    """The kind of exception that a call raises, or None."""
+    try:
+        call(*words, **named)
+    except Exception as error:
+        return type(error)
+    return None
+
+
 ADDRESSES = bytes.fromhex("ffffffffffff020000000001")
 TAGGED = ADDRESSES + bytes.fromhex("8100b123080045")
 ARP = ADDRESSES + bytes.fromhex("0806 0001080006040001 020000000001 0a000001 000000000000 0a000002")
 
 
 def layout():
-    sizes = [C.sizeof(t) for t in (ether.Fault, ether.Found, ether.Fed, ether.Ethernet2, ether.LinuxSll, ether.Vlan,
-                                   ether.Macsec, ether.Arp, ether.Unit)]
-    check("sizes", sizes, [56, 88, 72, 16, 16, 6, 24, 40, 144])
-    check("offsets", [getattr(ether.Unit, f).offset for f in ("kind", "closed", "ethernet2", "linux_sll", "vlan", "macsec", "arp")],
-          [32, 36, 38, 54, 70, 80, 104])
+    sizes = [C.sizeof(t) for t in _library.STRUCTS]
+    check("sizes", sizes[:9], [56, 88, 72, 16, 16, 6, 24, 40, 144])
+    check("offsets", [getattr(_library.Unit, f).offset for f in
+                      ("kind", "closed", "ethernet2", "linux_sll", "vlan", "macsec", "arp")], [32, 36, 38, 54, 70, 80, 104])
+    check("version", _library.lib.etherpeel_version(), 0x020000)
+    check("no struct", [_library.lib.etherpeel_sizeof(n) for n in (0, 99, 2**32 - 1)], [0, 0, 0])
 
 
 def worked_examples():
-    first, tag = ether.walk(lib, ether.START_ETHERNET2, TAGGED)
-    check("kinds", (first.kind, tag.kind), (ether.UNIT_ETHERNET2, ether.UNIT_VLAN))
-    check("source", bytes(first.ethernet2.source), TAGGED[6:12])
-    check("tag", (tag.offset, tag.vlan.pcp, tag.vlan.dei, tag.vlan.vid, tag.vlan.ether_type), (14, 5, 1, 0x123, 0x0800))
-    _, packet = ether.walk(lib, ether.START_ETHERNET2, ARP)
-    asked = packet.arp.target_protocol
-    check("asked for", ARP[asked:asked + packet.arp.protocol_size], bytes([10, 0, 0, 2]))
-    found = ether.summary(lib, ether.START_ETHERNET2, TAGGED)
-    check("rest", (found.rest_start, found.rest_end, found.rest_kind, found.rest_protocol), (18, 19, ether.REST_ETHER_TYPE, 0x0800))
-    fault = ether.summary(lib, ether.START_ETHERNET2, TAGGED[:16]).fault
-    check("fault", (fault.kind, fault.offset, fault.required_len, fault.len, fault.missing), (ether.FAULT_LENGTH, 14, 4, 2, 2))
-    check("no text", ether.fault_text(lib, ether.START_ETHERNET2, TAGGED), "")
-    check("text", ether.fault_text(lib, ether.START_ETHERNET2, TAGGED[:16])[:31], "at offset 14: VLAN Header Error")
+    first, tag = etherpeel.walk(TAGGED)
+    check("Ethernet II", first, (0, 14, 14, 19, False, etherpeel.Ethernet2(b"\xff" * 6, TAGGED[6:12], 0x8100, False)))
+    check("tag", tag, (14, 4, 18, 19, False, etherpeel.Vlan(vid=0x123, pcp=5, dei=True, ether_type=0x0800)))
+    check("repr", repr(tag.header), "Vlan(vid=291, pcp=5, dei=True, ether_type=2048)")
+    packet = etherpeel.walk(ARP)[1].header
+    check("ARP", packet, etherpeel.Arp(1, 0x0800, 1, ADDRESSES[6:], bytes((10, 0, 0, 1)), bytes(6), bytes((10, 0, 0, 2))))
+    check("rest", etherpeel.summary(TAGGED), (2, 18, 19, RestKind.ETHER_TYPE, 0x0800, None))
+    fault = etherpeel.Fault(14, FaultKind.LENGTH, False, 4, 2, 2, Layer.VLAN_HEADER, LenSource.SLICE, None, None)
+    check("fault", etherpeel.summary(TAGGED[:16]).fault, fault)
+    try:
+        etherpeel.walk(TAGGED[:16])
+        check("refused", False, True)
+    except etherpeel.Refused as refused:
+        check("refused", (refused.fault, [unit.offset for unit in refused.units], str(refused)[:31]),
+              (fault, [0], "at offset 14: VLAN Header Error"))
+        check("text", str(refused), etherpeel.fault_text(TAGGED[:16]))
+    check("no text", etherpeel.fault_text(TAGGED), "")
+    check("limit", [len(etherpeel.walk(TAGGED, limit=n)) for n in (0, 1, 2**64 - 1)], [1, 2, 2])
+    check("feed", etherpeel.feed(TAGGED), (2, 18, None))
+    check("missing", (etherpeel.missing(TAGGED[:16]), etherpeel.missing(TAGGED)), (2, 0))
+    check("completion", (etherpeel.completion(TAGGED[:15]), etherpeel.completion(TAGGED)), (bytes(3), b""))
+    check("write back", etherpeel.write_back(TAGGED), TAGGED)
+    check("link types", [etherpeel.start_of_link_type(n) for n in (1, 113, 0, 276)], [Start.ETHERNET2, Start.LINUX_SLL, None, None])
+    many = ADDRESSES + bytes.fromhex("8100 0001" * 400 + "8100 0001 0800")
+    check("many", [unit.offset for unit in etherpeel.walk(many)], [0, *range(14, len(many), 4)])
 
 
-def no_frame():
-    check("NULL", lib.ether_summary(ether.START_ETHERNET2, 0, None, 0, C.byref(ether.Found())), ether.DONE)
-    check("unknown", lib.ether_summary(0, 0, None, 0, C.byref(ether.Found())), ether.UNKNOWN_START)
+def buffers():
+    """A frame is read where it is, whatever has it, and never written to; nor is a target that can't be."""
+    with mmap.mmap(-1, len(TAGGED)) as mapped:
+        mapped[:] = TAGGED
+        around = bytearray(b"!!" + TAGGED + b"!!")
+        kinds = [TAGGED, bytearray(TAGGED), memoryview(TAGGED), memoryview(around)[2:-2], memoryview(b"!" + TAGGED)[1:],
+                 mapped, array.array("B", TAGGED)]
+        for kind in kinds:
+            what = type(kind).__name__
+            check(what, etherpeel.walk(kind), etherpeel.walk(TAGGED))
+            check(what, (etherpeel.write_back(kind), etherpeel.feed(kind), etherpeel.missing(kind)), (TAGGED, (2, 18, None), 0))
+            check(what, (bytes(kind), bytes(around)), (TAGGED, b"!!" + TAGGED + b"!!"))
+    mine = bytearray(TAGGED)
+    with _library.lent(memoryview(mine)[2:]) as (at, length):
+        check("no copy", (at, length), (C.addressof(C.c_char.from_buffer(mine)) + 2, len(mine) - 2))
+        check("no change of size", raised(mine.append, 0), BufferError)
+    mine.append(0)
+    letter = b"q"
+    check("immutable", raised(etherpeel.write_back_into, letter, bytes(1), ether_type=0x0800, start=Start.ETHER_TYPE), BufferError)
+    check("immutable view", raised(etherpeel.write_back_into, memoryview(letter), b"r", ether_type=0x0800, start=Start.ETHER_TYPE),
+          BufferError)
+    etherpeel.completion(letter), etherpeel.write_back(letter)
+    check("letter", (letter, bytes((113,))), (b"q", b"\x71"))
+    target = bytearray(b"Z" * 20)
+    check("into", (etherpeel.write_back_into(target, TAGGED), target), (19, bytearray(TAGGED + b"Z")))
+    short = bytearray(18)
+    check("short", (raised(etherpeel.write_back_into, short, TAGGED), short), (etherpeel.Error, bytearray(18)))
+    check("overlap", raised(etherpeel.write_back_into, target, memoryview(target)[:19]), etherpeel.Error)
 
 
-def plain(value):
-    """A struct as the tuple of its fields."""
-    if isinstance(value, C.Structure):
-        return tuple(plain(getattr(value, name)) for name, _ in value._fields_)
-    return bytes(value) if isinstance(value, C.Array) else value
+def packets():
+    tagged = ADDRESSES + bytes.fromhex("88a8000a 81002014 0806") + ARP[14:]
+    packet = etherpeel.packet(tagged)
+    check("packet", (packet.units, packet.summary, packet.vlan_ids, packet.min_snap_len),
+          (etherpeel.walk(tagged), etherpeel.summary(tagged), (10, 20), len(tagged)))
+    check("first", (packet.first(etherpeel.Vlan).vid, packet.first(etherpeel.Arp).operation, packet.first(etherpeel.Macsec)), (10, 1, None))
+    cut = etherpeel.packet(memoryview(tagged)[:20])
+    check("cut packet", (len(cut.units), cut.summary.fault.missing, cut.vlan_ids, cut.min_snap_len), (2, 2, (10,), 18))
+    check("tags alone", etherpeel.packet(tagged[14:], Start.ETHER_TYPE, ether_type=0x88A8).vlan_ids, (10, 20))
+
+
+# a classic file with two packets, and a pcapng file with an enhanced and a simple packet
+CLASSIC = bytes.fromhex("a1b2c3d4 00020004 00000000 00000000 0000ffff 00000001"
+                        "00000001 00000002 00000001 00000001 ff 00000003 00000004 00000000 00000009")
+BLOCKS = bytes.fromhex("0a0d0d0a 1c000000 4d3c2b1a 01000000 ffffffffffffffff 1c000000"
+                       "01000000 14000000 71000000 00000000 14000000"
+                       "06000000 24000000 00000000 01000000 05000000 01000000 07000000 ab000000 24000000"
+                       "03000000 14000000 02000000 cdef0000 14000000")
+
+
+def captures():
+    classic = [(b"\xff", 1_000_002_000, 1, 1, None), (b"", 3_000_004_000, 1, 9, None)]
+    blocks = [(b"\xab", 4_294_967_301_000, 113, 7, None), (b"\xcd\xef", None, 113, 2, None)]
+    for file, expected in ((CLASSIC, classic), (BLOCKS, blocks)):
+        with tempfile.TemporaryFile() as on_disk:
+            on_disk.write(b"??" + file)
+            on_disk.seek(2)
+            for source in (file, bytearray(file), memoryview(b"!" + file)[1:], io.BytesIO(file), on_disk):
+                found = [(bytes(it.packet), *it[1:]) for it in etherpeel.capture(source)]
+                check(type(source).__name__, found, expected)
+    check("starts", [it.start for file in (CLASSIC, BLOCKS) for it in etherpeel.capture(file)], [Start.ETHERNET2] * 2 + [Start.LINUX_SLL] * 2)
+    # the file says a check sequence of 4 bytes (bits 28 to 31, and 26), which a packet that was cut has lost
+    sums = bytearray(CLASSIC)
+    sums[20] = 0x24
+    check("check sequences", [(it.fcs_len, it.start) for it in etherpeel.capture(sums)], [(4, Start.ETHERNET2_FCS), (4, Start.ETHERNET2)])
+    mine = bytearray(CLASSIC)
+    first = next(etherpeel.capture(mine))
+    mine[40] = 7
+    check("no copy of a packet", bytes(first.packet), b"\x07")
+    packets = etherpeel.capture(CLASSIC[:50])
+    check("before the fault", bytes(next(packets).packet), b"\xff")
+    try:
+        next(packets)
+        check("cut file", False, True)
+    except etherpeel.CaptureError as error:
+        check("cut file", (error.offset, error.needed, str(error)[:12]), (41, 16, "At byte 41: "))
+    for file in (b"", bytes(24), CLASSIC[:23]):
+        check("no capture", raised(list, etherpeel.capture(file)), etherpeel.CaptureError)
+
+
+def tags_in_place():
+    plain = ADDRESSES + bytes.fromhex("080045")
+    frame = bytearray(TAGGED)
+    tag = etherpeel.pop_vlan(frame)
+    check("pop", (tag, frame[4:]), (etherpeel.Vlan(0x123, 5, True, 0x0800), plain))
+    etherpeel.push_vlan(frame, tag)
+    check("push", frame, TAGGED)
+    etherpeel.set_vlan_id(frame, 0, 0x456)
+    check("set", frame, ADDRESSES + bytes.fromhex("8100b456080045"))
+    etherpeel.set_vlan_tag(frame, 0, etherpeel.Vlan(0x456, pcp=3, ether_type=0x9999))
+    etherpeel.set_tpid(frame, 0, 0x88A8)
+    check("set more", frame, ADDRESSES + bytes.fromhex("88a86456080045"))
+    around = bytearray(b"!" + TAGGED)
+    etherpeel.set_vlan_id(memoryview(around)[1:], 0, 1)
+    check("set in a view", around, b"!" + ADDRESSES + bytes.fromhex("8100b001080045"))
+    inner = bytearray.fromhex("88e5 0006 00000001 8100 aabbccdd eeee")
+    etherpeel.set_vlan_id(memoryview(inner)[2:], 1, 0xFFF, Start.ETHER_TYPE, ether_type=0x88E5)
+    check("set in a SecTag", inner.hex(), "88e5000600000001" + "8100" + "afffccddeeee")
+    for call, words, status in ((etherpeel.pop_vlan, (bytearray(plain),), "NO_VLAN"), (etherpeel.pop_vlan, (bytearray(3),), "NO_LINK"),
+                                (etherpeel.pop_vlan, (frame[:17],), "CUT_VLAN"), (etherpeel.push_vlan, (frame, tag, 0x0800), "BAD_TPID"),
+                                (etherpeel.push_vlan, (bytearray(3), tag), "NO_ROOM"), (etherpeel.set_vlan_id, (frame, 1, 1), "NO_TAG"),
+                                (etherpeel.push_vlan, (frame, etherpeel.Vlan(4096)), "BAD_FIELD"),
+                                (etherpeel.push_vlan, (frame, etherpeel.Vlan(1, pcp=-1)), "BAD_FIELD"),
+                                (etherpeel.set_vlan_tag, (frame, 0, etherpeel.Vlan(1, dei=2)), "BAD_FIELD"),
+                                (etherpeel.set_tpid, (frame, 0, 0x0800), "BAD_TPID"), (etherpeel.set_tpid, (frame, 1, 0x8100), "NO_TAG"),
+                                (etherpeel.set_vlan_id, (frame, 0, 4096), "BAD_FIELD"), (etherpeel.set_vlan_id, (frame, 0, 2**16 + 1), "BAD_FIELD")):
+        before = bytes(words[0])
+        try:
+            call(*words)
+            check(status, False, True)
+        except etherpeel.TagError as error:
+            check(status, (error.status.name, bytes(words[0]) == before), (status, True))
+    frozen = bytes(TAGGED)
+    check("immutable", [raised(call, *words) for call, words in ((etherpeel.pop_vlan, (frozen,)), (etherpeel.set_vlan_id, (frozen, 0, 1)),
+                                                                 (etherpeel.push_vlan, (memoryview(frozen), tag)))], [BufferError] * 3)
+    check("immutable", frozen, TAGGED)
+
+
+def wrong_words():
+    check("start", raised(etherpeel.walk, TAGGED, 9), ValueError)
+    check("no ether type", raised(etherpeel.walk, TAGGED, Start.ETHER_TYPE), ValueError)
+    check("an ether type", raised(etherpeel.walk, TAGGED, ether_type=0x8100), ValueError)
+    check("ether type", raised(etherpeel.walk, TAGGED, Start.ETHER_TYPE, ether_type=65536), ValueError)
+    check("limit", raised(etherpeel.walk, TAGGED, limit=-1), ValueError)
+    check("text", raised(etherpeel.walk, "ff"), TypeError)
+    check("not contiguous", raised(etherpeel.walk, memoryview(TAGGED)[::2]), BufferError)
+
+
+# ---- the second walk
+
+
+def number(value):
+    return int(value or 0)
+
+
+def header_of(header):
+    """The fields of a header as the second walk has them, with the addresses of an ARP packet."""
+    if isinstance(header, etherpeel.Macsec):
+        return (number(header.sci), header.packet_number, number(header.ether_type), header.end_station, header.sci is not None,
+                header.single_copy_broadcast, header.encrypted, header.changed, header.association_number, header.short_len)
+    if isinstance(header, etherpeel.Vlan):
+        return header.vid, header.ether_type, header.pcp, header.dei
+    return tuple(header)
+
+
+KINDS = [etherpeel.Ethernet2, etherpeel.LinuxSll, etherpeel.Vlan, etherpeel.Macsec, etherpeel.Arp]
 
 
 def unit_of(unit):
-    headers = [unit.ethernet2, unit.linux_sll, unit.vlan, unit.macsec, unit.arp]
-    own = headers.pop(unit.kind - 1)
-    zero = all(bytes(value).count(0) == len(value) if isinstance(value, bytes) else value == 0
-               for header in headers for value in plain(header))
-    placed = zero and unit.payload_start == unit.offset + unit.header_len
-    return (unit.kind if placed else None, unit.offset, unit.header_len, unit.payload_end, unit.closed, plain(own))
+    placed = unit.payload_start == unit.offset + unit.header_len
+    return (KINDS.index(type(unit.header)) + 1 if placed else None, unit.offset, unit.header_len, unit.payload_end, unit.closed,
+            header_of(unit.header))
+
+
+def expected_unit(frame, unit):
+    """A unit of the second walk, with the addresses in place of their places."""
+    if unit[0] != 5:
+        return unit
+    *places, hardware, protocol, operation, n, m = unit[5]
+    addresses = [frame[at:at + size] for at, size in zip(places, (n, m, n, m))]
+    return (*unit[:5], (hardware, protocol, operation, *addresses))
+
+
+def fault_of(fault):
+    """A fault as the second walk has it."""
+    if fault is None:
+        return None
+    return (fault.offset, fault.required_len, fault.len, fault.missing, fault.kind, number(fault.layer), number(fault.len_source),
+            number(fault.packet_type), number(fault.hardware_type), fault.closed)
 
 
 def drawn_frame(draw):
@@ -80,21 +255,13 @@ def drawn_frame(draw):
     return bytes(frame)
 
 
-STARTS = [(1, 0), (2, 0), (3, 0), (4, 0x8100), (4, 0x88A8), (4, 0x9100), (4, 0x88E5), (4, 0x0806), (4, 0x0800)]
+STARTS = [(1, None), (2, None), (3, None), (4, 0x8100), (4, 0x88A8), (4, 0x9100), (4, 0x88E5), (4, 0x0806), (4, 0x0800)]
 
 
 def walk_of(start, ether_type, frame, limit=None):
     """The second walk of a frame."""
     first = {1: ETHERNET2, 2: ETHERNET2, 3: LINUX_SLL}.get(start)
     return Walker(frame, first, has_fcs=start == 2, ether_type=ether_type, limit=limit)
-
-
-def call(name, start, ether_type, frame, limit, *rest):
-    """A call with a limit or without."""
-    words = (start, ether_type, frame, len(frame))
-    if limit is None:
-        return getattr(lib, name)(*words, *rest)
-    return getattr(lib, name + "_limited")(*words, limit, *rest)
 
 
 def named_len(walker):
@@ -106,7 +273,7 @@ def cleared(frame, walker):
     """The front of the frame up to the walk's last window, with two bits of each SecTag cleared."""
     front = bytearray(frame[:walker.end])
     for kind, offset, *_ in walker.units:
-        if kind == ether.UNIT_MACSEC:
+        if kind == 4:
             front[offset + 1] %= 64
     return bytes(front)
 
@@ -114,32 +281,91 @@ def cleared(frame, walker):
 def compare(start, ether_type, frame, limit=None):
     """The library's walk is the second walk: the same units with all fields, the same rest, the same fault."""
     walker = walk_of(start, ether_type, frame, limit)
-    units, count, found = (ether.Unit * (len(frame) // 4 + 1))(), ether.size(), ether.Found()
-    call("ether_walk", start, ether_type, frame, limit, units, len(units), C.byref(count))
-    call("ether_summary", start, ether_type, frame, limit, C.byref(found))
-    told = ([unit_of(unit) for unit in units[:count.value]], (found.rest_start, found.rest_end),
-            (found.rest_kind, found.rest_protocol), plain(found.fault))
-    expected = (walker.units, (walker.at, walker.end), walker.rest, walker.fault or (0,) * 10)
+    words = {"ether_type": ether_type, "limit": limit}
+    try:
+        units, fault = etherpeel.walk(frame, start, **words), None
+    except etherpeel.Refused as refused:
+        units, fault = refused.units, refused.fault
+    found = etherpeel.summary(frame, start, **words)
+    told = ([unit_of(unit) for unit in units], found.units, (found.rest_start, found.rest_end),
+            (found.rest_kind, found.rest_protocol), fault_of(fault), fault_of(found.fault))
+    expected = ([expected_unit(frame, unit) for unit in walker.units], len(walker.units), (walker.at, walker.end), walker.rest,
+                walker.fault, walker.fault)
     if told != expected:
-        check(f"start {start} ether type {ether_type:04X} limit {limit} frame {frame.hex()}", told, expected)
+        check(f"start {start} ether type {ether_type} limit {limit} frame {frame.hex()}", told, expected)
     return walker, found
 
 
 def compare_calls(start, ether_type, frame, limit=None):
     """So are the headers written back, and what is asked for while the frame arrives byte by byte."""
     walker, _ = compare(start, ether_type, frame, limit)
-    target, written = C.create_string_buffer(b"Z" * (len(frame) + 1), len(frame) + 1), ether.size()
-    call("ether_write_back", start, ether_type, frame, limit, target, len(target), C.byref(written))
+    words = {"ether_type": ether_type, "limit": limit}
+    target = bytearray(b"Z" * (len(frame) + 1))
+    written = etherpeel.write_back_into(target, frame, start, **words)
     front = cleared(frame, walker)
     asked = [n for n in range(1, len(frame) + 1) if named_len(walk_of(start, ether_type, frame[:n - 1], limit)) == n]
     taken = max(asked, default=0)
-    fed = ether.Fed()
-    call("ether_feed", start, ether_type, frame, limit, C.byref(fed))
-    fault = walk_of(start, ether_type, frame[:taken], limit).fault or (0,) * 10
-    told = (written.value, target.raw, fed.refusals, fed.taken, plain(fed.fault))
-    expected = (len(front), front + b"Z" * (len(frame) + 1 - len(front)), len(asked), taken, fault)
+    fed = etherpeel.feed(frame, start, **words)
+    told = (written, bytes(target), fed.refusals, fed.taken, fault_of(fed.fault))
+    expected = (len(front), front + b"Z" * (len(frame) + 1 - len(front)), len(asked), taken,
+                walk_of(start, ether_type, frame[:taken], limit).fault)
     if told != expected:
-        check(f"calls: start {start} ether type {ether_type:04X} limit {limit} frame {frame.hex()}", told, expected)
+        check(f"calls: start {start} ether type {ether_type} limit {limit} frame {frame.hex()}", told, expected)
+
+
+def placed(walker):
+    """The headers of the second walk with their places, without their windows, which a cut changes."""
+    return [(kind, offset, header_len, fields) for kind, offset, header_len, _, _, fields in walker.units]
+
+
+def compare_packet(start, ether_type, frame):
+    """The packet is the second walk with a limit of three; its least cut is found by trying each."""
+    walker = walk_of(start, ether_type, frame, 3)
+    packet = etherpeel.packet(frame, start, ether_type=ether_type)
+    cuts = (n for n in range(len(frame) + 1) if placed(walk_of(start, ether_type, frame[:n], 3)) == placed(walker))
+    told = ([unit_of(unit) for unit in packet.units], fault_of(packet.summary.fault), packet.vlan_ids,
+            packet.min_snap_len if start != 2 else None)
+    expected = ([expected_unit(frame, unit) for unit in walker.units], walker.fault,
+                tuple(fields[0] for kind, *_, fields in walker.units if kind == 3), next(cuts) if start != 2 else None)
+    if told != expected:
+        check(f"packet: start {start} ether type {ether_type} frame {frame.hex()}", told, expected)
+
+
+def compare_tags(start, frame, tpid, vid):
+    """A tag that is put in and taken off again, and an identifier that is set, by slices of the frame."""
+    at = 14 if start == 3 else 12
+    walker = walk_of(start, None, frame, 1)
+    buffer = bytearray(4) + frame
+    tci = (5 << 13 | vid).to_bytes(2, "big")
+    pushed = frame[:at] + tpid.to_bytes(2, "big") + tci + frame[at:]
+    if raised(etherpeel.push_vlan, buffer, etherpeel.Vlan(vid, pcp=5), tpid, start):
+        ok = not walker.units or start == 3 and walker.units[0][5][1] != 1
+        check_quietly("push is refused", (ok, buffer), (True, bytearray(4) + frame))
+        return
+    check_quietly("push", (bool(walker.units), buffer), (True, pushed))
+    etherpeel.set_vlan_id(buffer, 0, 4095 - vid, start)
+    check_quietly("set", buffer, pushed[:at + 2] + (5 << 13 | 4095 - vid).to_bytes(2, "big") + frame[at:])
+    tag = etherpeel.pop_vlan(buffer, start)
+    check_quietly("pop", (tag, buffer[4:]), (etherpeel.Vlan(4095 - vid, 5, False, number_at(frame, at)), frame))
+
+
+def number_at(frame, at):
+    return int.from_bytes(frame[at:at + 2], "big")
+
+
+def check_quietly(what, found, expected):
+    """Counts only what differs."""
+    if found != expected:
+        check(what, found, expected)
+
+
+def drawn_packets(rounds):
+    draw = random.Random(3)
+    for _ in range(rounds):
+        frame, start = drawn_frame(draw), draw.randrange(1, 5)
+        compare_packet(start, draw.choice((0x8100, 0x88E5, 0x0806)) if start == 4 else None, frame)
+        compare_tags(draw.randrange(1, 4), frame, draw.choice((0x8100, 0x88A8, 0x9100)), draw.randrange(4096))
+    check(f"{rounds} packets", counts[False], 0)
 
 
 def drawn_frames(rounds):
@@ -148,13 +374,14 @@ def drawn_frames(rounds):
     faults, most = set(), 0
     for turn in range(rounds):
         frame = drawn_frame(draw)
-        start, ether_type = draw.randrange(1, 5), draw.choice((0x8100, 0x88E5, 0x0806, 0x0800))
+        start = draw.randrange(1, 5)
+        ether_type = draw.choice((0x8100, 0x88E5, 0x0806, 0x0800)) if start == 4 else None
         walker, found = compare(start, ether_type, frame)
         compare_calls(start, ether_type, frame[:40], (None, 0, 1, 2)[turn % 4])
-        faults.add((found.fault.kind, found.fault.layer, found.fault.len_source, found.fault.closed))
+        faults.add(found.fault and found.fault.kind)
         most = max(most, len(walker.units))
     check(f"{rounds} frames", counts[False], 0)
-    check("many units and all kinds of faults", most >= 6 and {kind for kind, *_ in faults} == set(range(6)), True)
+    check("many units and all kinds of faults", most >= 6 and faults == {None, *FaultKind}, True)
 
 
 def short_lists():
@@ -187,8 +414,13 @@ def fronts():
 
 layout()
 worked_examples()
-no_frame()
+buffers()
+packets()
+captures()
+tags_in_place()
+wrong_words()
 drawn_frames(10000)
+drawn_packets(3000)
 short_lists()
 fronts()
 print(f"{counts[True]} passed, {counts[False]} failed")

@@ -1,2 +1,3 @@
 pub mod Missing
 pub mod UnitsTold
+pub mod CapturedTold

@@ -1,7 +1,11 @@
 pub mod Numbers
+pub mod Library
 pub mod Starts
 pub mod Found
 pub mod Calls
 pub mod Units
 pub mod Walk
 pub mod Views
+pub mod Tags
+pub mod Packet
+pub mod Captured

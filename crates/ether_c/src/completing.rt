@@ -11,7 +11,7 @@ use ether_peel::{completion, completion_limited};
 
 /// The fewest bytes that, after a frame cut short, make it accepted.
 #[unsafe(no_mangle)]
-pub extern "C" fn ether_completion(
+pub extern "C" fn etherpeel_completion(
     start: u32,
     ether_type: u16,
     bytes: &[u8],
@@ -34,7 +34,7 @@ pub extern "C" fn ether_completion(
 
 /// The same for the walk that reads no more than `limit` VLAN tags and MACsec SecTags.
 #[unsafe(no_mangle)]
-pub extern "C" fn ether_completion_limited(
+pub extern "C" fn etherpeel_completion_limited(
     start: u32,
     ether_type: u16,
     bytes: &[u8],

@@ -11,7 +11,7 @@ use etherparse::err::linux_sll::HeaderError::{
 };
 use etherparse::err::macsec::HeaderError::{InvalidUnmodifiedShortLen, UnexpectedVersion};
 
-/// A unit that is refused, or none: `ether_fault` in C.
+/// A unit that is refused, or none: `etherpeel_fault` in C.
 ///
 /// Each bit pattern is a value, so that C may pass memory that it has not written to.
 #[repr(C)]
@@ -40,7 +40,7 @@ pub struct EtherFault {
     pub closed: u8,
 }
 
-// as c/ether_c.h lays it out
+// as c/etherpeel.h lays it out
 const _: () = prove!(size_of::<EtherFault>() == 56);
 
 impl EtherFault {

@@ -5,7 +5,7 @@ ghost use Rattle.ether_c.specs.Found.{told_feed};
 use crate::EtherFault;
 use ether_peel::Feed;
 
-/// The result of feeding a walk: `ether_fed` in C.
+/// The result of feeding a walk: `etherpeel_fed` in C.
 ///
 /// Each bit pattern is a value, so that C may pass memory that it has not written to.
 #[repr(C)]
@@ -19,7 +19,7 @@ pub struct EtherFed {
     pub fault: EtherFault,
 }
 
-// as c/ether_c.h lays it out
+// as c/etherpeel.h lays it out
 const _: () = prove!(size_of::<EtherFed>() == 72);
 
 impl EtherFed {

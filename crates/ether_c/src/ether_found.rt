@@ -5,7 +5,7 @@ ghost use Rattle.ether_c.specs.Found.{told_summary};
 use crate::{EtherFault, numbers};
 use ether_peel::Summary;
 
-/// The result of a whole walk: `ether_found` in C.
+/// The result of a whole walk: `etherpeel_found` in C.
 ///
 /// Each bit pattern is a value, so that C may pass memory that it has not written to.
 #[repr(C)]
@@ -26,7 +26,7 @@ pub struct EtherFound {
     pub rest_protocol: u16,
 }
 
-// as c/ether_c.h lays it out
+// as c/etherpeel.h lays it out
 const _: () = prove!(size_of::<EtherFound>() == 88);
 
 impl EtherFound {

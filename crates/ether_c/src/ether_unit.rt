@@ -1,20 +1,22 @@
 //! A header of a frame and where its payload is, as a struct of C.
-ghost use Rattle.std.specs.Prelude.{◌≡◌, ◌+◌, ◌<◌, ◌^◌};
+ghost use Rattle.std.specs.Prelude.{◌≡◌, ◌+◌, ◌<◌, ◌^◌, MatchOption};
 ghost use Rattle.etherparse.specs.LinuxSll.{linux_sll_of};
-ghost use Rattle.etherparse.specs.Vlan.{vlan_of};
+ghost use Rattle.etherparse.specs.Vlan.{vlan_of, vlan_view, FitsVlan};
 ghost use Rattle.etherparse.specs.Macsec.{sec_tag_of, tag_bytes};
 ghost use Rattle.etherparse.specs.Arp.{arp_of};
 ghost use Rattle.etherparse.specs.Header as headers;
 ghost use Rattle.etherparse.specs.Header.{header_len};
 ghost use Rattle.ether_c.specs.Units.{told_ethernet2, told_linux_sll, told_vlan, told_macsec, told_arp};
+ghost use Rattle.ether_c.specs.Tags.{vlan_value};
 ghost use Rattle.ether_c.specs.Views.{ethernet2_header, header_of, told_view};
 
 use ether_peel::PeelUnit;
 use etherparse::{
-    ArpPacketSlice, Ethernet2Slice, LinuxSllSlice, MacsecHeaderSlice, MacsecPType, SingleVlanSlice,
+    ArpPacketSlice, EtherType, Ethernet2Slice, LinuxSllSlice, MacsecHeaderSlice, MacsecPType,
+    SingleVlanHeader, SingleVlanSlice, VlanId, VlanPcp,
 };
 
-/// The fields of an Ethernet II header: `ether_ethernet2` in C.
+/// The fields of an Ethernet II header: `etherpeel_ethernet2` in C.
 #[repr(C)]
 #[derive(Clone, Copy)]
 pub struct EtherEthernet2 {
@@ -28,7 +30,7 @@ pub struct EtherEthernet2 {
     pub has_fcs: u8,
 }
 
-/// The fields of a header of Linux cooked capture v1: `ether_linux_sll` in C.
+/// The fields of a header of Linux cooked capture v1: `etherpeel_linux_sll` in C.
 #[repr(C)]
 #[derive(Clone, Copy)]
 pub struct EtherLinuxSll {
@@ -44,7 +46,7 @@ pub struct EtherLinuxSll {
     pub protocol: u16,
 }
 
-/// The fields of a VLAN tag (IEEE 802.1Q, 9.6): `ether_vlan` in C.
+/// The fields of a VLAN tag (IEEE 802.1Q, 9.6): `etherpeel_vlan` in C.
 #[repr(C)]
 #[derive(Clone, Copy)]
 pub struct EtherVlan {
@@ -58,7 +60,7 @@ pub struct EtherVlan {
     pub dei: u8,
 }
 
-/// The fields of a MACsec SecTag (IEEE 802.1AE, 9.3): `ether_macsec` in C.
+/// The fields of a MACsec SecTag (IEEE 802.1AE, 9.3): `etherpeel_macsec` in C.
 #[repr(C)]
 #[derive(Clone, Copy)]
 pub struct EtherMacsec {
@@ -84,7 +86,7 @@ pub struct EtherMacsec {
     pub short_len: u8,
 }
 
-/// The fields of an ARP packet (RFC 826): `ether_arp` in C.
+/// The fields of an ARP packet (RFC 826): `etherpeel_arp` in C.
 #[repr(C)]
 #[derive(Clone, Copy)]
 pub struct EtherArp {
@@ -108,7 +110,7 @@ pub struct EtherArp {
     pub protocol_size: u8,
 }
 
-/// A header and where its payload is: `ether_unit` in C. Of the five headers, only that of the
+/// A header and where its payload is: `etherpeel_unit` in C. Of the five headers, only that of the
 /// unit's kind is filled; the others are 0.
 ///
 /// Each bit pattern is a value, so that C may pass memory that it has not written to.
@@ -139,7 +141,7 @@ pub struct EtherUnit {
     pub arp: EtherArp,
 }
 
-// as c/ether_c.h lays them out
+// as c/etherpeel.h lays them out
 const _: () = prove!(size_of::<EtherEthernet2>() == 16);
 
 const _: () = prove!(size_of::<EtherLinuxSll>() == 16);
@@ -283,6 +285,37 @@ impl EtherVlan {
             pcp: tag.priority_code_point().value(),
             dei: u8::from(tag.drop_eligible_indicator()),
         }
+    }
+
+    /// The fields of a tag as a value.
+    pub(crate) fn of_header(tag: SingleVlanHeader) -> EtherVlan
+        ensures { result ≡ told_vlan (headers.Vlan (vlan_view tag)) }
+    {
+        EtherVlan {
+            vid: tag.vlan_id.value(),
+            ether_type: tag.ether_type.0,
+            pcp: tag.pcp.value(),
+            dei: u8::from(tag.drop_eligible_indicator),
+        }
+    }
+
+    /// The tag with these fields, `None` if a number does not fit its field.
+    pub(crate) fn to_header(&self) -> Option<SingleVlanHeader>
+        ensures { MatchOption result (FitsVlan (vlan_value self.now) → ⊥)
+            (λ tag. (vlan_view tag ≡ vlan_value self.now) × FitsVlan (vlan_value self.now)) }
+    {
+        let (Ok(vlan_id), Ok(pcp)) = (VlanId::try_new(self.vid), VlanPcp::try_new(self.pcp)) else {
+            return None;
+        };
+        if self.dei > 1 {
+            return None;
+        }
+        Some(SingleVlanHeader {
+            pcp,
+            drop_eligible_indicator: self.dei == 1,
+            vlan_id,
+            ether_type: EtherType(self.ether_type),
+        })
     }
 }
 

@@ -17,7 +17,7 @@ const LONGEST: usize = 512;
 /// The text of the fault in which the walk through a frame ends, with no 0 byte at its end; it is
 /// empty if there is no fault.
 #[unsafe(no_mangle)]
-pub extern "C" fn ether_fault_text(
+pub extern "C" fn etherpeel_fault_text(
     start: u32,
     ether_type: u16,
     bytes: &[u8],
@@ -40,7 +40,7 @@ pub extern "C" fn ether_fault_text(
 
 /// The same for the walk that reads no more than `limit` VLAN tags and MACsec SecTags.
 #[unsafe(no_mangle)]
-pub extern "C" fn ether_fault_text_limited(
+pub extern "C" fn etherpeel_fault_text_limited(
     start: u32,
     ether_type: u16,
     bytes: &[u8],

@@ -10,7 +10,12 @@ use ether_peel::{feed, feed_limited};
 
 /// What a reader takes of a frame if it asks for exactly the bytes that the walk needs next.
 #[unsafe(no_mangle)]
-pub extern "C" fn ether_feed(start: u32, ether_type: u16, bytes: &[u8], fed: &mut EtherFed) -> u32
+pub extern "C" fn etherpeel_feed(
+    start: u32,
+    ether_type: u16,
+    bytes: &[u8],
+    fed: &mut EtherFed,
+) -> u32
     ensures unknown { IsUnknown start ether_type → IsRefused result (fed.new ≡ fed.old) }
     ensures told { OfStart start ether_type
         (λ s. TellsFeed (start_meant s) bytes.now result fed.new) }
@@ -24,7 +29,7 @@ pub extern "C" fn ether_feed(start: u32, ether_type: u16, bytes: &[u8], fed: &mu
 
 /// Feeds the walk that reads no more than `limit` VLAN tags and MACsec SecTags.
 #[unsafe(no_mangle)]
-pub extern "C" fn ether_feed_limited(
+pub extern "C" fn etherpeel_feed_limited(
     start: u32,
     ether_type: u16,
     bytes: &[u8],

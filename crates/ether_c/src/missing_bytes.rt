@@ -9,7 +9,7 @@ use ether_peel::{PeelFault, summary, summary_limited};
 
 /// The minimum number of further bytes that the refused unit needs, 0 if more bytes would not help.
 #[unsafe(no_mangle)]
-pub extern "C" fn ether_missing(
+pub extern "C" fn etherpeel_missing(
     start: u32,
     ether_type: u16,
     bytes: &[u8],
@@ -28,7 +28,7 @@ pub extern "C" fn ether_missing(
 
 /// The same for the walk that reads no more than `limit` VLAN tags and MACsec SecTags.
 #[unsafe(no_mangle)]
-pub extern "C" fn ether_missing_limited(
+pub extern "C" fn etherpeel_missing_limited(
     start: u32,
     ether_type: u16,
     bytes: &[u8],

@@ -1,7 +1,9 @@
 //! The numbers that stand for enumerations in C.
 ghost use Rattle.std.specs.Prelude.{◌≡◌};
 ghost use Rattle.ether_c.specs.Numbers.{start_numbered, rest_kind_number, rest_protocol_of, layer_number, len_source_number};
+ghost use Rattle.ether_c.specs.Tags.{tag_error_status};
 
+use ether_packet::TagError;
 use ether_peel::{RestKind, Start};
 use etherparse::err::Layer;
 use etherparse::{EtherType, LenSource, LinuxSllProtocolType};
@@ -17,6 +19,15 @@ pub(crate) const NO_ROOM: u32 = 2;
 
 /// A text can't be made, and nothing was written.
 pub(crate) const NO_TEXT: u32 = 3;
+
+/// A number does not fit its field, and nothing was written.
+pub(crate) const BAD_FIELD: u32 = 11;
+
+/// The bytes end within a unit of a capture file.
+pub(crate) const SHORT: u32 = 12;
+
+/// A capture file can't be read on.
+pub(crate) const BAD_CAPTURE: u32 = 13;
 
 /// The start with a number, if there is one. Only the fourth has the ether type.
 #[inline(always)]
@@ -88,5 +99,21 @@ pub(crate) fn len_source(source: LenSource) -> u32
         LenSource::MacsecShortLength => 2,
         LenSource::ArpAddrLengths => 3,
         _ => 0,
+    }
+}
+
+/// The number of the reason why a VLAN tag is not taken off, put in or changed.
+pub(crate) fn tag_error(error: &TagError) -> u32
+    ensures { result ≡ tag_error_status error.now }
+{
+    match error {
+        TagError::NoRoom => NO_ROOM,
+        TagError::Tpid(_) => 4,
+        TagError::NoLink => 5,
+        TagError::HardwareType(_) => 6,
+        TagError::NoLinkExt(_) => 7,
+        TagError::NoVlan => 8,
+        TagError::CutVlan => 9,
+        TagError::Unannounced => 10,
     }
 }

@@ -11,7 +11,7 @@ use ether_peel::{summary, summary_limited};
 
 /// The result of the walk through a frame.
 #[unsafe(no_mangle)]
-pub extern "C" fn ether_summary(
+pub extern "C" fn etherpeel_summary(
     start: u32,
     ether_type: u16,
     bytes: &[u8],
@@ -30,7 +30,7 @@ pub extern "C" fn ether_summary(
 
 /// The result of the walk that reads no more than `limit` VLAN tags and MACsec SecTags.
 #[unsafe(no_mangle)]
-pub extern "C" fn ether_summary_limited(
+pub extern "C" fn etherpeel_summary_limited(
     start: u32,
     ether_type: u16,
     bytes: &[u8],

@@ -12,7 +12,7 @@ use ether_peel::{Peel, Start};
 
 /// The units of a frame, as many as the array has room for, and how many there are in all.
 #[unsafe(no_mangle)]
-pub extern "C" fn ether_walk(
+pub extern "C" fn etherpeel_walk(
     start: u32,
     ether_type: u16,
     bytes: &[u8],
@@ -34,7 +34,7 @@ pub extern "C" fn ether_walk(
 /// The units of the walk that reads no more than `limit` VLAN tags and MACsec SecTags, as many as
 /// the array has room for, and how many there are in all.
 #[unsafe(no_mangle)]
-pub extern "C" fn ether_walk_limited(
+pub extern "C" fn etherpeel_walk_limited(
     start: u32,
     ether_type: u16,
     bytes: &[u8],
@@ -56,7 +56,12 @@ pub extern "C" fn ether_walk_limited(
 
 /// The units of a walk with a limit on extensions or without, and how many there are in all.
 #[inline(always)]
-fn walked(start: Start, bytes: &[u8], limit: Option<usize>, units: &mut [EtherUnit]) -> usize
+pub(crate) fn walked(
+    start: Start,
+    bytes: &[u8],
+    limit: Option<usize>,
+    units: &mut [EtherUnit],
+) -> usize
     ensures { TellsUnits (start_with start limit) bytes.now units.old units.new result }
 {
     let mut peel = begun_walk(start, bytes, limit);

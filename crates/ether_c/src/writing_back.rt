@@ -10,7 +10,7 @@ use etherparse::err::SliceWriteSpaceError;
 
 /// Writes the headers of a frame, and what is left after them, to the front of a target.
 #[unsafe(no_mangle)]
-pub extern "C" fn ether_write_back(
+pub extern "C" fn etherpeel_write_back(
     start: u32,
     ether_type: u16,
     bytes: &[u8],
@@ -33,7 +33,7 @@ pub extern "C" fn ether_write_back(
 /// Writes the headers of the walk that reads no more than `limit` VLAN tags and MACsec SecTags, and
 /// what is left after them.
 #[unsafe(no_mangle)]
-pub extern "C" fn ether_write_back_limited(
+pub extern "C" fn etherpeel_write_back_limited(
     start: u32,
     ether_type: u16,
     bytes: &[u8],

@@ -1,0 +1,621 @@
+/* etherpeel.h - the link-layer headers of frames, packets and captures
+ *
+ * Ethernet II, VLAN tags (IEEE 802.1Q), MACsec SecTags (IEEE 802.1AE), Linux cooked capture v1 and
+ * ARP (RFC 826), each announced by the ether type of the header before it. For C99 and C++11, on
+ * Linux on x86-64. Link with libetherpeel, static or shared: pkg-config etherpeel.
+ *
+ * What holds for every call:
+ *
+ *   Frame    `bytes` and `file` point to `len` bytes, which are read and never written; `frame` and
+ *            `buffer` to `len` bytes, which the calls that change VLAN tags write to. NULL is
+ *            allowed if `len` is 0.
+ *   Targets  `units`, `packets`, `target`, `fill` and `text` point to as many elements as `room`
+ *            says. NULL is allowed if `room` is 0. A pointer to one struct or number must not be
+ *            NULL. The memory must be aligned for its type. What is only written to need not be
+ *            initialized, but for `packets`.
+ *   Overlap  What a call may write to must not overlap the frame, nor anything else that the call
+ *            may write to.
+ *   Keeping  No call keeps a pointer after it returns.
+ *   Units    Lengths count elements: bytes of frames, targets and texts, structs of `units`.
+ *            Offsets count bytes from the start of the frame.
+ *   Order    Numbers are in the byte order of the machine (host byte order), those that are passed
+ *            and those of structs; addresses are bytes in the order of the frame.
+ *   Result   ETHERPEEL_DONE, or why the call did nothing, but for etherpeel_capture. After
+ *            ETHERPEEL_UNKNOWN_START nothing was written at all; after ETHERPEEL_NO_ROOM only the
+ *            length that the target needs; after ETHERPEEL_NO_TEXT only the length 0.
+ *   Memory   No call allocates, blocks, or stores anything between calls, so each is thread-safe.
+ *            etherpeel_completion and etherpeel_fault_text take some 2.5 KB of stack, those of
+ *            capture files 300 KB, the others less than 1 KB.
+ *   Time     Linear in the number of headers, of which a frame has at most len / 4;
+ *            etherpeel_write_back also copies the frame. Of capture files linear in that of their
+ *            units.
+ *   Limits   Most calls have a form `.._limited`, which reads no more than `limit` VLAN tags and
+ *            SecTags. After these, the ether type of a tag announces nothing: the walk ends there,
+ *            with no fault.
+ */
+#ifndef ETHERPEEL_H
+#define ETHERPEEL_H
+
+#if !defined(__linux__) || !defined(__x86_64__) || !defined(__LP64__)
+#error "etherpeel.h is for Linux on x86-64: the library passes slices and structs as they are there"
+#endif
+
+#include <stddef.h>
+#include <stdint.h>
+
+/* The version of this interface. The first number changes if a struct, a number or a call changes
+ * its meaning, the second if some are added. */
+#define ETHERPEEL_VERSION_MAJOR 2
+#define ETHERPEEL_VERSION_MINOR 0
+#define ETHERPEEL_VERSION (ETHERPEEL_VERSION_MAJOR * 0x10000 + ETHERPEEL_VERSION_MINOR * 0x100)
+
+#ifdef __cplusplus
+extern "C" {
+#endif
+
+/* ---- Numbers ---- */
+
+/* What a call returns. */
+enum etherpeel_status {
+    ETHERPEEL_DONE = 0,
+    /* `start` is none of enum etherpeel_start. */
+    ETHERPEEL_UNKNOWN_START = 1,
+    /* The target is too short. */
+    ETHERPEEL_NO_ROOM = 2,
+    /* A text can't be made; only etherpeel_fault_text could return it. */
+    ETHERPEEL_NO_TEXT = 3,
+
+    /* Why a VLAN tag is not taken off, put in or changed: */
+
+    /* `tpid` is none of 0x8100, 0x88A8 and 0x9100. */
+    ETHERPEEL_BAD_TPID = 4,
+    /* The frame does not begin with the header of a link. */
+    ETHERPEEL_NO_LINK = 5,
+    /* The header of cooked capture is of another link than Ethernet. */
+    ETHERPEEL_OTHER_LINK = 6,
+    /* There is no VLAN tag or SecTag at the index. */
+    ETHERPEEL_NO_TAG = 7,
+    /* The ether type of the link announces no VLAN tag, or there is a SecTag at the index. */
+    ETHERPEEL_NO_VLAN = 8,
+    /* A VLAN tag is announced after the header of the link, but it is cut short. */
+    ETHERPEEL_CUT_VLAN = 9,
+    /* The frame begins with the VLAN tag, so that no header before it announces it. */
+    ETHERPEEL_UNANNOUNCED = 10,
+    /* A number that is passed does not fit its field. */
+    ETHERPEEL_BAD_FIELD = 11,
+
+    /* Why the packets of a capture file end before the file does: */
+
+    /* It ends within a header, record or block. */
+    ETHERPEEL_SHORT = 12,
+    /* A header, record or block can't be read. */
+    ETHERPEEL_BAD_CAPTURE = 13
+};
+
+/* What a frame begins with: the parameter `start` of each call. The parameter `ether_type` is read
+ * for ETHERPEEL_START_ETHER_TYPE alone. */
+enum etherpeel_start {
+    /* An Ethernet II header, of a frame without a frame check sequence. */
+    ETHERPEEL_START_ETHERNET2 = 1,
+    /* An Ethernet II header, of a frame with a frame check sequence in its last 4 bytes. */
+    ETHERPEEL_START_ETHERNET2_FCS = 2,
+    /* A header of Linux cooked capture v1 (LINKTYPE_LINUX_SLL). */
+    ETHERPEEL_START_LINUX_SLL = 3,
+    /* What `ether_type` announces: a VLAN tag, a SecTag, an ARP packet, or a payload that is not
+     * read further. */
+    ETHERPEEL_START_ETHER_TYPE = 4
+};
+
+/* The kind of a unit. */
+enum etherpeel_unit_kind {
+    ETHERPEEL_UNIT_ETHERNET2 = 1,
+    ETHERPEEL_UNIT_LINUX_SLL = 2,
+    /* The tag control information and the ether type after it. */
+    ETHERPEEL_UNIT_VLAN = 3,
+    /* A SecTag without its own ether type, with the one after it if the payload is neither
+     * encrypted nor changed. */
+    ETHERPEEL_UNIT_MACSEC = 4,
+    ETHERPEEL_UNIT_ARP = 5
+};
+
+/* What the bytes that are left are announced as; after a fault, what was expected there. */
+enum etherpeel_rest_kind {
+    /* The header that the frame begins with, which was not read. */
+    ETHERPEEL_REST_START = 0,
+    /* A protocol, by the ether type in `rest_protocol`. */
+    ETHERPEEL_REST_ETHER_TYPE = 1,
+    /* A protocol of netlink (ARPHRD_NETLINK), by the number in `rest_protocol`. */
+    ETHERPEEL_REST_NETLINK = 2,
+    /* A protocol of generic routing encapsulation (ARPHRD_IPGRE), by the number in `rest_protocol`.
+     */
+    ETHERPEEL_REST_GRE = 3,
+    /* A link whose protocol numbers have no meaning (IEEE 802.11 with radiotap, frame relay). */
+    ETHERPEEL_REST_IGNORED = 4,
+    /* A payload that MACsec has encrypted or changed, so that its protocol can't be told. */
+    ETHERPEEL_REST_SEALED = 5,
+    /* What follows an ARP packet: the padding of a short frame. */
+    ETHERPEEL_REST_AFTER_ARP = 6
+};
+
+/* Why a unit is refused. */
+enum etherpeel_fault_kind {
+    /* No unit is refused. Every other field of the fault is 0. */
+    ETHERPEEL_FAULT_NONE = 0,
+    /* The unit needs `required_len` bytes; only `len` are available. `layer` and `len_source` are
+     * set. */
+    ETHERPEEL_FAULT_LENGTH = 1,
+    /* The packet type of a cooked capture, in `packet_type`, is above 7. */
+    ETHERPEEL_FAULT_PACKET_TYPE = 2,
+    /* The meaning of protocol numbers is not known for the hardware type of a cooked capture, in
+     * `hardware_type`. */
+    ETHERPEEL_FAULT_HARDWARE_TYPE = 3,
+    /* The version bit of a SecTag is 1. */
+    ETHERPEEL_FAULT_MACSEC_VERSION = 4,
+    /* The short length of a SecTag with an unmodified payload is 1, which has no room for the ether
+     * type. */
+    ETHERPEEL_FAULT_MACSEC_SHORT_LEN = 5
+};
+
+/* The layer of a length fault; 0 in any other fault. */
+enum etherpeel_layer {
+    ETHERPEEL_LAYER_ETHERNET2_HEADER = 1,
+    ETHERPEEL_LAYER_LINUX_SLL_HEADER = 2,
+    ETHERPEEL_LAYER_VLAN_HEADER = 3,
+    ETHERPEEL_LAYER_MACSEC_HEADER = 4,
+    /* A SecTag, and the payload whose length its short length names. */
+    ETHERPEEL_LAYER_MACSEC_PACKET = 5,
+    ETHERPEEL_LAYER_ARP = 6
+};
+
+/* What gave the length that was available or required in a length fault; 0 in any other fault. */
+enum etherpeel_len_source {
+    /* The length of the frame. */
+    ETHERPEEL_LEN_SLICE = 1,
+    /* The short length of a SecTag. */
+    ETHERPEEL_LEN_MACSEC_SHORT_LENGTH = 2,
+    /* The two address lengths of an ARP packet. */
+    ETHERPEEL_LEN_ARP_ADDRESSES = 3
+};
+
+/* ---- Structs ----
+ *
+ * Numbers are in the byte order of the machine, whatever their order in the frame; addresses are
+ * bytes in the order of the frame. Flags are 0 or 1.
+ */
+
+/* A unit that is refused, or none. */
+typedef struct etherpeel_fault {
+    size_t offset;          /* where the unit starts */
+    size_t required_len;    /* the length that the unit requires, from its start */
+    size_t len;             /* the length that is available to it */
+    size_t missing;         /* the fewest further bytes that it needs, 0 if none would help */
+    uint32_t kind;          /* enum etherpeel_fault_kind */
+    uint32_t layer;         /* enum etherpeel_layer */
+    uint32_t len_source;    /* enum etherpeel_len_source */
+    uint16_t packet_type;   /* of ETHERPEEL_FAULT_PACKET_TYPE, else 0 */
+    uint16_t hardware_type; /* of ETHERPEEL_FAULT_HARDWARE_TYPE, else 0 */
+    uint8_t closed;         /* 1 if bytes appended to the frame would lie outside the unit */
+} etherpeel_fault;
+
+/* The result of a whole walk. */
+typedef struct etherpeel_found {
+    size_t units;           /* the number of units */
+    size_t rest_start;      /* where the bytes that are left start, or the unit that is refused */
+    size_t rest_end;        /* where they end, or the bytes that this unit has */
+    etherpeel_fault fault;  /* the unit that is refused, if one is */
+    uint32_t rest_kind;     /* enum etherpeel_rest_kind */
+    uint16_t rest_protocol; /* the ether type or protocol number, 0 if there is none */
+} etherpeel_found;
+
+/* The result of feeding a walk. */
+typedef struct etherpeel_fed {
+    size_t refusals;       /* how often the walk asked for more bytes and was given them */
+    size_t taken;          /* how many bytes it was given in all */
+    etherpeel_fault fault; /* the fault of the walk of these bytes, if it has one */
+} etherpeel_fed;
+
+/* An Ethernet II header (IEEE 802.3, 3.2.3 to 3.2.6). */
+typedef struct etherpeel_ethernet2 {
+    uint8_t destination[6];
+    uint8_t source[6];
+    uint16_t ether_type;
+    uint8_t has_fcs; /* 1 if a frame check sequence follows, in the 4 bytes from payload_end on */
+} etherpeel_ethernet2;
+
+/* A header of Linux cooked capture v1. */
+typedef struct etherpeel_linux_sll {
+    uint16_t packet_type;   /* 0 to 7: to us, to all, to a group, to someone else, by us .. */
+    uint16_t hardware_type; /* the ARPHRD_ number of the link */
+    uint16_t address_len;   /* may exceed 8, though the field holds only 8 bytes */
+    uint8_t address[8];     /* the sender's address, truncated or padded */
+    uint16_t protocol;
+} etherpeel_linux_sll;
+
+/* A VLAN tag (IEEE 802.1Q, 9.6). */
+typedef struct etherpeel_vlan {
+    uint16_t vid;        /* VLAN identifier, 0 to 4095 */
+    uint16_t ether_type; /* the ether type after the tag */
+    uint8_t pcp;         /* priority code point, 0 to 7 */
+    uint8_t dei;         /* drop eligible indicator */
+} etherpeel_vlan;
+
+/* A MACsec SecTag (IEEE 802.1AE, 9.3). */
+typedef struct etherpeel_macsec {
+    uint64_t sci; /* secure channel identifier, 0 if sci_present is 0 */
+    uint32_t packet_number;
+    uint16_t ether_type;           /* after the tag, 0 if encrypted or changed is 1 */
+    uint8_t end_station;           /* bit ES */
+    uint8_t sci_present;           /* bit SC */
+    uint8_t single_copy_broadcast; /* bit SCB */
+    uint8_t encrypted;             /* bit E */
+    uint8_t changed;               /* bit C */
+    uint8_t association_number;    /* 0 to 3 */
+    uint8_t short_len;             /* 0 to 63 */
+} etherpeel_macsec;
+
+/* An ARP packet (RFC 826). The addresses are read from the frame: sender_hardware ..
+ * sender_hardware + hardware_size, and so on. */
+typedef struct etherpeel_arp {
+    size_t sender_hardware; /* where the address starts, in bytes from the start of the frame */
+    size_t sender_protocol;
+    size_t target_hardware;
+    size_t target_protocol;
+    uint16_t hardware_type;
+    uint16_t protocol_type;
+    uint16_t operation;    /* 1 request, 2 reply */
+    uint8_t hardware_size; /* the length of each hardware address */
+    uint8_t protocol_size; /* the length of each protocol address */
+} etherpeel_arp;
+
+/* A unit: a header, and where its payload is. Of the five headers the one of the unit's kind is
+ * filled, the others are all 0. */
+typedef struct etherpeel_unit {
+    size_t offset;     /* where the header starts */
+    size_t header_len; /* its length; of an ARP packet, that of the whole packet */
+    size_t payload_start;
+    size_t payload_end; /* before a frame check sequence, or where a SecTag says */
+    uint32_t kind;      /* enum etherpeel_unit_kind */
+    uint8_t closed;     /* 1 if bytes appended to the frame would lie outside the payload */
+    etherpeel_ethernet2 ethernet2;
+    etherpeel_linux_sll linux_sll;
+    etherpeel_vlan vlan;
+    etherpeel_macsec macsec;
+    etherpeel_arp arp;
+} etherpeel_unit;
+
+/* All headers of a packet, and what is asked of it. */
+typedef struct etherpeel_headers {
+    etherpeel_unit units[5]; /* the headers, the outermost first: at most a link, three tags, ARP */
+    etherpeel_found found;   /* how many there are, what is left after them, and the fault */
+    size_t min_snap_len;     /* the least length to which the frame can be cut without losing one */
+    uint16_t vlan_ids[3];    /* the identifiers of the VLAN tags, the outermost first, then 0 */
+    uint16_t vlan_count;     /* how many VLAN tags there are */
+} etherpeel_headers;
+
+/* A packet of a capture file. */
+typedef struct etherpeel_captured {
+    const uint8_t *packet; /* the bytes that were captured, in the file */
+    size_t packet_len;
+    uint64_t seconds;      /* the time of the capture since 1970, UTC; 0 if it has none */
+    uint32_t nanoseconds;  /* after the seconds, rounded down */
+    uint32_t original_len; /* how many bytes the packet had before it was cut */
+    uint16_t link_type;    /* what it begins with: etherpeel_start_of_link_type */
+    uint8_t has_time;      /* 1 if it has a time: one of a simple packet block has none */
+    uint8_t has_fcs_len;   /* 1 if the file says the length of the frame check sequence */
+    uint8_t fcs_len;       /* that length in bytes, of the packet before it was cut; else 0 */
+} etherpeel_captured;
+
+/* Where the packets of a capture file end. */
+typedef struct etherpeel_capture_end {
+    size_t offset; /* the length of the file, or where the unit starts that can't be read */
+    size_t needed; /* how many bytes this unit needs at least, of ETHERPEEL_SHORT, else 0 */
+} etherpeel_capture_end;
+
+/* ---- The library ----
+ *
+ * A program that takes the shared library, or that declares the structs in another language, finds
+ * out whether the library that it runs with has the same.
+ */
+
+/* The structs, for etherpeel_sizeof. */
+enum etherpeel_struct {
+    ETHERPEEL_STRUCT_FAULT = 1,
+    ETHERPEEL_STRUCT_FOUND = 2,
+    ETHERPEEL_STRUCT_FED = 3,
+    ETHERPEEL_STRUCT_ETHERNET2 = 4,
+    ETHERPEEL_STRUCT_LINUX_SLL = 5,
+    ETHERPEEL_STRUCT_VLAN = 6,
+    ETHERPEEL_STRUCT_MACSEC = 7,
+    ETHERPEEL_STRUCT_ARP = 8,
+    ETHERPEEL_STRUCT_UNIT = 9,
+    ETHERPEEL_STRUCT_HEADERS = 10,
+    ETHERPEEL_STRUCT_CAPTURED = 11,
+    ETHERPEEL_STRUCT_CAPTURE_END = 12
+};
+
+/* etherpeel_version - the version of the library, as ETHERPEEL_VERSION is that of this header
+ *
+ * A number in host byte order. Thread-safe; takes no memory.
+ */
+uint32_t etherpeel_version(void);
+
+/* etherpeel_sizeof - the size in bytes of a struct, by its number of enum etherpeel_struct; 0 if no
+ * struct has the number
+ *
+ * Both are in host byte order. Thread-safe; takes no memory.
+ */
+size_t etherpeel_sizeof(uint32_t number);
+
+/* etherpeel_fits - 1 if the library is one for this header: its version has the same first number,
+ * and is not below that of the header, and the structs have the same sizes; else 0
+ *
+ * Thread-safe; takes no memory.
+ */
+static inline int etherpeel_fits(void) {
+    return etherpeel_version() / 0x10000 == ETHERPEEL_VERSION_MAJOR &&
+           etherpeel_version() >= ETHERPEEL_VERSION &&
+           etherpeel_sizeof(ETHERPEEL_STRUCT_FAULT) == sizeof(etherpeel_fault) &&
+           etherpeel_sizeof(ETHERPEEL_STRUCT_FOUND) == sizeof(etherpeel_found) &&
+           etherpeel_sizeof(ETHERPEEL_STRUCT_FED) == sizeof(etherpeel_fed) &&
+           etherpeel_sizeof(ETHERPEEL_STRUCT_ETHERNET2) == sizeof(etherpeel_ethernet2) &&
+           etherpeel_sizeof(ETHERPEEL_STRUCT_LINUX_SLL) == sizeof(etherpeel_linux_sll) &&
+           etherpeel_sizeof(ETHERPEEL_STRUCT_VLAN) == sizeof(etherpeel_vlan) &&
+           etherpeel_sizeof(ETHERPEEL_STRUCT_MACSEC) == sizeof(etherpeel_macsec) &&
+           etherpeel_sizeof(ETHERPEEL_STRUCT_ARP) == sizeof(etherpeel_arp) &&
+           etherpeel_sizeof(ETHERPEEL_STRUCT_UNIT) == sizeof(etherpeel_unit) &&
+           etherpeel_sizeof(ETHERPEEL_STRUCT_HEADERS) == sizeof(etherpeel_headers) &&
+           etherpeel_sizeof(ETHERPEEL_STRUCT_CAPTURED) == sizeof(etherpeel_captured) &&
+           etherpeel_sizeof(ETHERPEEL_STRUCT_CAPTURE_END) == sizeof(etherpeel_capture_end);
+}
+
+/* etherpeel_start_of_link_type - the number of enum etherpeel_start for packets of a link type, 0
+ * if the walk does not begin with these
+ *
+ * The link type is what pcap_datalink of libpcap returns, or what a capture file says: 1
+ * (DLT_EN10MB) for ETHERPEEL_START_ETHERNET2, 113 (DLT_LINUX_SLL) for ETHERPEEL_START_LINUX_SLL.
+ * Both numbers are in host byte order. Thread-safe; takes no memory.
+ */
+uint32_t etherpeel_start_of_link_type(uint32_t link_type);
+
+/* ---- Calls ---- */
+
+/* etherpeel_summary - the result of the walk through a frame
+ *
+ * Fills *found with the number of units, the window that is left and its announced kind, and the
+ * fault if a unit is refused.
+ * Returns ETHERPEEL_DONE or ETHERPEEL_UNKNOWN_START. A frame that is refused is ETHERPEEL_DONE,
+ * with found->fault.kind other than ETHERPEEL_FAULT_NONE. The form with a limit above len / 4
+ * fills *found as the form without one does.
+ * Overlap: *found must not overlap the frame. Every number is in host byte order. Thread-safe;
+ * takes no memory.
+ */
+uint32_t etherpeel_summary(uint32_t start, uint16_t ether_type, const uint8_t *bytes, size_t len,
+                           etherpeel_found *found);
+uint32_t etherpeel_summary_limited(uint32_t start, uint16_t ether_type, const uint8_t *bytes,
+                                   size_t len, size_t limit, etherpeel_found *found);
+
+/* etherpeel_walk - the units of a frame
+ *
+ * Fills units[0], units[1] .. with the units of the frame from the outermost on, as many as there
+ * is room for, and *count with how many there are in all, which may exceed `room`. Elements from
+ * *count on stay as they were. If a unit is refused, the ones before it are there:
+ * etherpeel_summary says why the walk ended. The units of a frame are at most len / 4.
+ * Returns ETHERPEEL_DONE or ETHERPEEL_UNKNOWN_START.
+ * Overlap: frame, units and *count must not overlap. Every number is in host byte order, the
+ * addresses of a unit in that of the frame. Thread-safe; takes no memory.
+ */
+uint32_t etherpeel_walk(uint32_t start, uint16_t ether_type, const uint8_t *bytes, size_t len,
+                        etherpeel_unit *units, size_t room, size_t *count);
+uint32_t etherpeel_walk_limited(uint32_t start, uint16_t ether_type, const uint8_t *bytes,
+                                size_t len, size_t limit, etherpeel_unit *units, size_t room,
+                                size_t *count);
+
+/* etherpeel_packet - all headers of a frame, and what is asked of a packet
+ *
+ * Fills headers->units and headers->found with the units and the result of the walk that reads no
+ * more than three VLAN tags and SecTags; elements from headers->found.units on stay as they were.
+ * Of these headers it says the identifiers of the VLAN tags, and the least snap length that keeps
+ * them all, as a frame without a check sequence.
+ * Returns ETHERPEEL_DONE or ETHERPEEL_UNKNOWN_START. A frame that is refused is ETHERPEEL_DONE, as
+ * of etherpeel_summary, with the headers before the fault.
+ * Overlap: *headers must not overlap the frame. Every number is in host byte order, the addresses
+ * of a unit in that of the frame. Thread-safe; takes no memory.
+ */
+uint32_t etherpeel_packet(uint32_t start, uint16_t ether_type, const uint8_t *bytes, size_t len,
+                          etherpeel_headers *headers);
+
+/* etherpeel_write_back - writes the headers of a frame, and what is left after them
+ *
+ * Writes each header as its bytes, and after them the bytes of the window that is left, to the
+ * front of `target`: the bytes of the frame up to there, but with the two reserved bits of each
+ * SecTag 0. The bytes of `target` after these stay as they were. A frame check sequence is not
+ * written. *written_len is where that window ends in the frame, which is the number of bytes
+ * written.
+ * Returns ETHERPEEL_DONE, ETHERPEEL_UNKNOWN_START, or ETHERPEEL_NO_ROOM if `room` is smaller than
+ * *written_len; then `target` stays as it was.
+ * Overlap: frame, target and *written_len must not overlap: it does not write in place. Every
+ * number is in host byte order. Thread-safe; takes no memory.
+ */
+uint32_t etherpeel_write_back(uint32_t start, uint16_t ether_type, const uint8_t *bytes, size_t len,
+                              uint8_t *target, size_t room, size_t *written_len);
+uint32_t etherpeel_write_back_limited(uint32_t start, uint16_t ether_type, const uint8_t *bytes,
+                                      size_t len, size_t limit, uint8_t *target, size_t room,
+                                      size_t *written_len);
+
+/* etherpeel_feed - what a reader takes that asks for exactly the bytes that the walk needs next
+ *
+ * The walk begins with no bytes. While it stops at a unit that needs more bytes, in a window that
+ * is open, and the frame has them, it is given as many as the unit needs at least. Of a frame
+ * without a check sequence that is accepted it takes all headers, and each payload whose length a
+ * SecTag names, and no byte more; of one with a check sequence nothing.
+ * Returns ETHERPEEL_DONE or ETHERPEEL_UNKNOWN_START.
+ * Overlap: *fed must not overlap the frame. Every number is in host byte order. Thread-safe; takes
+ * no memory.
+ */
+uint32_t etherpeel_feed(uint32_t start, uint16_t ether_type, const uint8_t *bytes, size_t len,
+                        etherpeel_fed *fed);
+uint32_t etherpeel_feed_limited(uint32_t start, uint16_t ether_type, const uint8_t *bytes,
+                                size_t len, size_t limit, etherpeel_fed *fed);
+
+/* etherpeel_completion - the fewest bytes that, after a frame cut short, make it accepted
+ *
+ * They complete the unit in which the frame ends: an Ethernet II header, a VLAN tag, an ARP packet,
+ * or a SecTag with the payload whose length it names. Each is 0, but 1 if a 0 would end an ether
+ * type that announces a VLAN tag. *fill_len is their number, at most 1028; it is 0 if no bytes
+ * complete the frame: it is accepted, or is refused for its contents or in a closed window, or ends
+ * in a header of cooked capture, in fewer than six bytes of a SecTag, or in the payload of a whole
+ * SecTag.
+ * Returns ETHERPEEL_DONE, ETHERPEEL_UNKNOWN_START, or ETHERPEEL_NO_ROOM if `room` is smaller than
+ * *fill_len; then `fill` stays as it was.
+ * Overlap: frame, fill and *fill_len must not overlap; `fill` may be the memory right after the
+ * frame. Every number is in host byte order. Thread-safe; takes no memory.
+ */
+uint32_t etherpeel_completion(uint32_t start, uint16_t ether_type, const uint8_t *bytes, size_t len,
+                              uint8_t *fill, size_t room, size_t *fill_len);
+uint32_t etherpeel_completion_limited(uint32_t start, uint16_t ether_type, const uint8_t *bytes,
+                                      size_t len, size_t limit, uint8_t *fill, size_t room,
+                                      size_t *fill_len);
+
+/* etherpeel_missing - the minimum number of further bytes that the refused unit needs
+ *
+ * *missing is 0 if more bytes after the frame would not help: it is accepted, or is refused for its
+ * contents or in a closed window. Supplying the missing bytes does not guarantee acceptance. The
+ * number is also the field `missing` of the fault of etherpeel_summary.
+ * Returns ETHERPEEL_DONE or ETHERPEEL_UNKNOWN_START.
+ * Overlap: *missing must not overlap the frame. Every number is in host byte order. Thread-safe;
+ * takes no memory.
+ */
+uint32_t etherpeel_missing(uint32_t start, uint16_t ether_type, const uint8_t *bytes, size_t len,
+                           size_t *missing);
+uint32_t etherpeel_missing_limited(uint32_t start, uint16_t ether_type, const uint8_t *bytes,
+                                   size_t len, size_t limit, size_t *missing);
+
+/* etherpeel_fault_text - the text of the fault of a frame, in English
+ *
+ * Writes the text, such as "at offset 14: VLAN Header Error: ..", to the front of `text`, in ASCII
+ * with no 0 byte at its end. *text_len is its length, fewer than 512 bytes; it is 0 if the frame is
+ * accepted.
+ * Returns ETHERPEEL_DONE, ETHERPEEL_UNKNOWN_START, or ETHERPEEL_NO_ROOM if `room` is smaller than
+ * *text_len; then `text` stays as it was. ETHERPEEL_NO_TEXT is not ruled out by proof, though every
+ * refusal in the tests gives a text; after it *text_len is 0, and `text` stays as it was.
+ * Overlap: frame, text and *text_len must not overlap. Every number is in host byte order.
+ * Thread-safe; takes no memory.
+ */
+uint32_t etherpeel_fault_text(uint32_t start, uint16_t ether_type, const uint8_t *bytes, size_t len,
+                              char *text, size_t room, size_t *text_len);
+uint32_t etherpeel_fault_text_limited(uint32_t start, uint16_t ether_type, const uint8_t *bytes,
+                                      size_t len, size_t limit, char *text, size_t room,
+                                      size_t *text_len);
+
+/* ---- VLAN tags changed in place ----
+ *
+ * A frame check sequence and an integrity check value stay as they were, and don't fit the new
+ * bytes. Whatever is not named stays as it was, also if a later header is refused. If a call does
+ * not return ETHERPEEL_DONE, it has written nothing.
+ */
+
+/* etherpeel_pop_vlan - takes off the VLAN tag after the header of a link, in place
+ *
+ * The frame is then `frame + 4` with `len - 4` bytes: the 12 bytes of the addresses, or the 14
+ * bytes of a cooked capture before its protocol type, are moved by four, and the ether type of the
+ * tag becomes that of the link. *tag is the tag that was taken off.
+ * Returns ETHERPEEL_DONE, ETHERPEEL_UNKNOWN_START, ETHERPEEL_NO_LINK, ETHERPEEL_OTHER_LINK,
+ * ETHERPEEL_NO_VLAN or ETHERPEEL_CUT_VLAN.
+ * In place in `frame`, which *tag must not overlap. Every number is in host byte order.
+ * Thread-safe; takes no memory.
+ */
+uint32_t etherpeel_pop_vlan(uint32_t start, uint16_t ether_type, uint8_t *frame, size_t len,
+                            etherpeel_vlan *tag);
+
+/* etherpeel_push_vlan - puts a VLAN tag after the header of a link, in place
+ *
+ * The frame is `buffer + 4` with `len - 4` bytes before, and the whole buffer afterwards: the bytes
+ * of the link before its type are moved by four. `tpid` is the ether type that announces the tag:
+ * 0x8100, 0x88A8 or 0x9100. The tag gets the ether type of the link: tag->ether_type is ignored. So
+ * etherpeel_pop_vlan takes off what was put in, and its tag may be put in again.
+ * Returns ETHERPEEL_DONE, or the first of these that applies: ETHERPEEL_UNKNOWN_START;
+ * ETHERPEEL_BAD_FIELD if tag->vid is above 4095, tag->pcp above 7 or tag->dei above 1;
+ * ETHERPEEL_BAD_TPID; ETHERPEEL_NO_ROOM if `len` is below 4; ETHERPEEL_NO_LINK;
+ * ETHERPEEL_OTHER_LINK.
+ * In place in `buffer`, which *tag must not overlap. Every number is in host byte order.
+ * Thread-safe; takes no memory.
+ */
+uint32_t etherpeel_push_vlan(uint32_t start, uint16_t ether_type, uint8_t *buffer, size_t len,
+                             const etherpeel_vlan *tag, uint16_t tpid);
+
+/* etherpeel_set_vlan_id - sets the identifier of a VLAN tag, in place
+ *
+ * `index` counts the first three VLAN tags and SecTags of the frame, the outermost from 0. Only the
+ * 12 bits of the identifier change.
+ * Returns ETHERPEEL_DONE, or the first of these that applies: ETHERPEEL_UNKNOWN_START;
+ * ETHERPEEL_BAD_FIELD if `vid` is above 4095; ETHERPEEL_NO_TAG; ETHERPEEL_NO_VLAN.
+ * In place in `frame`. Every number is in host byte order. Thread-safe; takes no memory.
+ */
+uint32_t etherpeel_set_vlan_id(uint32_t start, uint16_t ether_type, uint8_t *frame, size_t len,
+                               size_t index, uint16_t vid);
+
+/* etherpeel_set_vlan_tag - sets the tag control information of a VLAN tag, in place
+ *
+ * The same with tag->pcp, tag->dei and tag->vid. The ether type after the tag stays:
+ * tag->ether_type is ignored.
+ * Returns ETHERPEEL_DONE, or the first of these that applies: ETHERPEEL_UNKNOWN_START;
+ * ETHERPEEL_BAD_FIELD if tag->vid is above 4095, tag->pcp above 7 or tag->dei above 1;
+ * ETHERPEEL_NO_TAG; ETHERPEEL_NO_VLAN.
+ * In place in `frame`, which *tag must not overlap. Every number is in host byte order.
+ * Thread-safe; takes no memory.
+ */
+uint32_t etherpeel_set_vlan_tag(uint32_t start, uint16_t ether_type, uint8_t *frame, size_t len,
+                                size_t index, const etherpeel_vlan *tag);
+
+/* etherpeel_set_tpid - sets the ether type that announces a VLAN tag, in place
+ *
+ * It is the ether type of the header before the tag: of the link, or of another VLAN tag or SecTag.
+ * `index` counts as in etherpeel_set_vlan_id; `tpid` is 0x8100, 0x88A8 or 0x9100.
+ * Returns ETHERPEEL_DONE, or the first of these that applies: ETHERPEEL_UNKNOWN_START;
+ * ETHERPEEL_BAD_TPID; ETHERPEEL_NO_TAG; ETHERPEEL_NO_VLAN; ETHERPEEL_UNANNOUNCED if the frame
+ * begins with the tag.
+ * In place in `frame`. Every number is in host byte order. Thread-safe; takes no memory.
+ */
+uint32_t etherpeel_set_tpid(uint32_t start, uint16_t ether_type, uint8_t *frame, size_t len,
+                            size_t index, uint16_t tpid);
+
+/* ---- Capture files ----
+ *
+ * Classic pcap and pcapng files, of either byte order. `file` points to the `len` bytes of a whole
+ * file, as mmap gives it; NULL is allowed if `len` is 0.
+ */
+
+/* etherpeel_capture - the packets of a capture file
+ *
+ * Fills packets[0], packets[1] .. with the packets of the file in order, as many as there is room
+ * for, and *count with how many there are in all, which may exceed `room`. Elements from *count on
+ * stay as they were. *end says where they end. So a first call with `room` 0 says how many there
+ * are. The packets point into the file.
+ * Returns ETHERPEEL_DONE if they end with the file. If not, the packets before are there: it
+ * returns ETHERPEEL_SHORT, also of an empty file, or ETHERPEEL_BAD_CAPTURE.
+ * The array `packets` must be initialized, as by calloc: an element may be all 0.
+ * Overlap: file, packets, *count and *end must not overlap. Every number is in host byte order,
+ * whatever its order in the file. Thread-safe; takes no memory, and some 300 KB of stack.
+ */
+uint32_t etherpeel_capture(const uint8_t *file, size_t len, etherpeel_captured *packets,
+                           size_t room, size_t *count, etherpeel_capture_end *end);
+
+/* etherpeel_capture_fault_text - why the packets of a capture file end before it does, in English
+ *
+ * Writes the text, such as "At byte 24: A packet ..", to the front of `text`, in ASCII with no 0
+ * byte at its end. *text_len is its length, fewer than 512 bytes; it is 0 if they end with the
+ * file.
+ * Returns ETHERPEEL_DONE, or ETHERPEEL_NO_ROOM if `room` is smaller than *text_len; then `text`
+ * stays as it was. ETHERPEEL_NO_TEXT is not ruled out by proof; after it *text_len is 0, and `text`
+ * stays as it was.
+ * Overlap: file, text and *text_len must not overlap. Every number is in host byte order.
+ * Thread-safe; takes no memory, and some 300 KB of stack.
+ */
+uint32_t etherpeel_capture_fault_text(const uint8_t *file, size_t len, char *text, size_t room,
+                                      size_t *text_len);
+
+#ifdef __cplusplus
+}
+#endif
+
+#endif

@@ -1,0 +1,27 @@
+#!/bin/sh
+# install.sh PREFIX: the header, the static and the shared library, the file for pkg-config and the manual page, for all programs that
+# look below PREFIX. `rt lib` in crates/ether_c comes before it. CC names another C compiler than cc, DESTDIR a folder to put it all into.
+set -eu
+if [ $# -ne 1 ]; then
+    echo "usage: install.sh PREFIX" >&2
+    exit 2
+fi
+case $1 in
+/*) prefix=${1%/} ;;
+*) prefix=$PWD/${1%/} ;;
+esac
+here=$(cd "$(dirname "$0")" && pwd)
+archive=${ETHERPEEL_LIBRARY:-$here/../crates/ether_c/out/libether_c.a}
+if [ ! -f "$archive" ]; then
+    echo "install.sh: $archive is missing: run 'rt lib' in crates/ether_c first" >&2
+    exit 1
+fi
+to=${DESTDIR:-}$prefix
+install -D -m 644 "$here/etherpeel.h" "$to/include/etherpeel.h"
+install -D -m 644 "$archive" "$to/lib/libetherpeel.a"
+sh "$here/link.sh" "${CC:-cc}" "$archive" "$to/lib/libetherpeel.so.2.0.0"
+ln -sf libetherpeel.so.2.0.0 "$to/lib/libetherpeel.so.2"
+ln -sf libetherpeel.so.2 "$to/lib/libetherpeel.so"
+mkdir -p "$to/lib/pkgconfig"
+sed "s|@PREFIX@|$prefix|" "$here/etherpeel.pc.in" > "$to/lib/pkgconfig/etherpeel.pc"
+install -D -m 644 "$here/etherpeel.3" "$to/share/man/man3/etherpeel.3"

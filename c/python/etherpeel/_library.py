@@ -1,0 +1,132 @@
+"""The shared library by ctypes: structs and calls as etherpeel.h has them, and memory that is lent to a call."""
+import ctypes as C
+import os
+from enum import IntEnum
+
+u8, u16, u32, u64, size = C.c_uint8, C.c_uint16, C.c_uint32, C.c_uint64, C.c_size_t
+MAJOR, VERSION = 2, 0x020000
+
+
+class Status(IntEnum):
+    """What a call returns."""
+
+    DONE = 0
+    UNKNOWN_START = 1
+    NO_ROOM = 2
+    NO_TEXT = 3
+    BAD_TPID = 4
+    NO_LINK = 5
+    OTHER_LINK = 6
+    NO_TAG = 7
+    NO_VLAN = 8
+    CUT_VLAN = 9
+    UNANNOUNCED = 10
+    BAD_FIELD = 11
+    SHORT = 12
+    BAD_CAPTURE = 13
+
+
+def struct(name, **fields):
+    return type(name, (C.Structure,), {"_fields_": list(fields.items())})
+
+
+Fault = struct("Fault", offset=size, required_len=size, len=size, missing=size, kind=u32, layer=u32, len_source=u32,
+               packet_type=u16, hardware_type=u16, closed=u8)
+Found = struct("Found", units=size, rest_start=size, rest_end=size, fault=Fault, rest_kind=u32, rest_protocol=u16)
+Fed = struct("Fed", refusals=size, taken=size, fault=Fault)
+Ethernet2 = struct("Ethernet2", destination=u8 * 6, source=u8 * 6, ether_type=u16, has_fcs=u8)
+LinuxSll = struct("LinuxSll", packet_type=u16, hardware_type=u16, address_len=u16, address=u8 * 8, protocol=u16)
+Vlan = struct("Vlan", vid=u16, ether_type=u16, pcp=u8, dei=u8)
+Macsec = struct("Macsec", sci=u64, packet_number=u32, ether_type=u16, end_station=u8, sci_present=u8,
+                single_copy_broadcast=u8, encrypted=u8, changed=u8, association_number=u8, short_len=u8)
+Arp = struct("Arp", sender_hardware=size, sender_protocol=size, target_hardware=size, target_protocol=size,
+             hardware_type=u16, protocol_type=u16, operation=u16, hardware_size=u8, protocol_size=u8)
+Unit = struct("Unit", offset=size, header_len=size, payload_start=size, payload_end=size, kind=u32, closed=u8,
+              ethernet2=Ethernet2, linux_sll=LinuxSll, vlan=Vlan, macsec=Macsec, arp=Arp)
+
+Headers = struct("Headers", units=Unit * 5, found=Found, min_snap_len=size, vlan_ids=u16 * 3, vlan_count=u16)
+
+Captured = struct("Captured", packet=C.c_void_p, packet_len=size, seconds=u64, nanoseconds=u32, original_len=u32,
+                  link_type=u16, has_time=u8, has_fcs_len=u8, fcs_len=u8)
+CaptureEnd = struct("CaptureEnd", offset=size, needed=size)
+
+# the structs in the order of enum etherpeel_struct, from 1 on
+STRUCTS = [Fault, Found, Fed, Ethernet2, LinuxSll, Vlan, Macsec, Arp, Unit, Headers, Captured, CaptureEnd]
+
+# what each call takes after the frame, and after the limit of its form with one
+WALKS = {
+    "summary": [C.POINTER(Found)],
+    "walk": [C.POINTER(Unit), size, C.POINTER(size)],
+    "write_back": [C.c_void_p, size, C.POINTER(size)],
+    "feed": [C.POINTER(Fed)],
+    "completion": [C.c_void_p, size, C.POINTER(size)],
+    "missing": [C.POINTER(size)],
+    "fault_text": [C.c_void_p, size, C.POINTER(size)],
+}
+
+
+def declare(lib, name, words, result=u32):
+    function = getattr(lib, "etherpeel_" + name)
+    function.restype, function.argtypes = result, words
+
+
+def load(path):
+    """The library at a path, with the types of its calls. An `ImportError` if it is not of this version."""
+    lib = C.CDLL(path)
+    declare(lib, "version", [])
+    declare(lib, "sizeof", [u32], size)
+    if lib.etherpeel_version() >> 16 != MAJOR or lib.etherpeel_version() < VERSION:
+        raise ImportError(f"{path} is of version {lib.etherpeel_version():#08x}, and {VERSION:#08x} is needed")
+    for number, one in enumerate(STRUCTS, 1):
+        if lib.etherpeel_sizeof(number) != C.sizeof(one):
+            raise ImportError(f"the struct {one.__name__} of {path} has another size")
+    declare(lib, "start_of_link_type", [u32])
+    declare(lib, "packet", [u32, u16, C.c_void_p, size, C.POINTER(Headers)])
+    declare(lib, "capture", [C.c_void_p, size, C.POINTER(Captured), size, C.POINTER(size), C.POINTER(CaptureEnd)])
+    declare(lib, "capture_fault_text", [C.c_void_p, size, C.c_void_p, size, C.POINTER(size)])
+    declare(lib, "pop_vlan", [u32, u16, C.c_void_p, size, C.POINTER(Vlan)])
+    declare(lib, "push_vlan", [u32, u16, C.c_void_p, size, C.POINTER(Vlan), u16])
+    declare(lib, "set_vlan_id", [u32, u16, C.c_void_p, size, size, u16])
+    declare(lib, "set_vlan_tag", [u32, u16, C.c_void_p, size, size, C.POINTER(Vlan)])
+    declare(lib, "set_tpid", [u32, u16, C.c_void_p, size, size, u16])
+    for name, rest in WALKS.items():
+        declare(lib, name, [u32, u16, C.c_void_p, size, *rest])
+        declare(lib, name + "_limited", [u32, u16, C.c_void_p, size, size, *rest])
+    return lib
+
+
+def calls(lib):
+    """The calls that take a frame, by their names."""
+    names = [name + form for name in WALKS for form in ("", "_limited")]
+    return {name: getattr(lib, "etherpeel_" + name) for name in [*names, "packet"]}
+
+
+lib = load(os.path.join(os.path.dirname(os.path.abspath(__file__)), "libetherpeel.so.2"))
+CALLS = calls(lib)
+
+# ---- memory that is lent: `Py_buffer` of Python's C API
+
+Lent = struct("Lent", buf=C.c_void_p, obj=C.c_void_p, len=C.c_ssize_t, itemsize=C.c_ssize_t, readonly=C.c_int,
+              ndim=C.c_int, format=C.c_void_p, shape=C.c_void_p, strides=C.c_void_p, suboffsets=C.c_void_p,
+              internal=C.c_void_p)
+get_buffer, release_buffer = C.pythonapi.PyObject_GetBuffer, C.pythonapi.PyBuffer_Release
+get_buffer.restype, get_buffer.argtypes = C.c_int, [C.py_object, C.POINTER(Lent), C.c_int]
+release_buffer.restype, release_buffer.argtypes = None, [C.POINTER(Lent)]
+READ, WRITE = 0, 1  # PyBUF_SIMPLE, PyBUF_WRITABLE
+
+
+class lent:
+    """The address and the length of an object's memory, while a call has it: no copy is made, and meanwhile the object
+    can't be resized. What is to be written must be writable: Python raises a `BufferError` if it is not."""
+
+    __slots__ = ("memory", "thing", "flags")
+
+    def __init__(self, thing, flags=READ):
+        self.memory, self.thing, self.flags = Lent(), thing, flags
+
+    def __enter__(self):
+        get_buffer(self.thing, C.byref(self.memory), self.flags)
+        return self.memory.buf, self.memory.len
+
+    def __exit__(self, *_):
+        release_buffer(C.byref(self.memory))

@@ -1,0 +1,107 @@
+"""Runs docs/C.md by its words alone: page.py CC libether_c.a FOLDER. The last line is 'N passed, M failed'.
+
+The commands are run in order in a copy of the repository's files, with the library that is given in place of what `rt lib`
+makes, and without a network. What they print last is compared with the text after them; examples in C are compiled, examples in Python
+are run. What needs a program that is missing is left out, and a line says so.
+"""
+import os
+import re
+import shutil
+import subprocess
+import sys
+
+TOP = os.path.dirname(os.path.dirname(os.path.dirname(os.path.abspath(__file__))))
+cc, library, work = sys.argv[1:]
+clone, bin = f"{work}/clone", f"{work}/bin"
+counts = {True: 0, False: 0}
+
+
+def check(what, holds, said):
+    counts[holds] += 1
+    if not holds:
+        print(f"{what}: {said}")
+
+
+def program(name, text):
+    with open(f"{bin}/{name}", "w") as file:
+        file.write(f"#!/bin/sh\n{text}\n")
+    os.chmod(f"{bin}/{name}", 0o755)
+
+
+def copy():
+    """The files that the page names, and programs: `rt`, which has nothing to do, and the compiler."""
+    os.makedirs(f"{clone}/crates/ether_c/out")
+    shutil.copy(library, f"{clone}/crates/ether_c/out/libether_c.a")
+    shutil.copytree(f"{TOP}/c", f"{clone}/c", ignore=shutil.ignore_patterns("__pycache__"))
+    os.makedirs(bin)
+    program("rt", 'test "$*" = lib && test -f out/libether_c.a')
+    program("cc", f'exec "{shutil.which(cc) or cc}" "$@"')
+
+
+def blocks():
+    """The language and the text of each block of the page."""
+    with open(f"{TOP}/docs/C.md", encoding="utf-8") as file:
+        return re.findall(r"^```(\w+)\n(.*?)^```$", file.read(), re.M | re.S)
+
+
+def missing(text):
+    """What a block needs and is not there, or None."""
+    if "pkg-config" in text and not shutil.which("pkg-config"):
+        return "pkg-config"
+    if "pcap.h" in text and subprocess.run([cc, "-x", "c", "-fsyntax-only", "-include", "pcap/pcap.h", "/dev/null"],
+                                           capture_output=True).returncode:
+        return "pcap/pcap.h"
+    if "environment" in text and subprocess.run([sys.executable, "-c", "import ensurepip, venv"], capture_output=True).returncode:
+        return "a Python with venv"
+    return None
+
+
+def run(commands):
+    """Runs blocks of commands in one shell, and returns what each prints; the last one that began if one fails."""
+    script = "".join(f"{{\n{text}}} > {work}/out{i} 2>&1\n" for i, text in enumerate(commands))
+    done = subprocess.run(["sh", "-ec", script], cwd=clone, stdin=subprocess.DEVNULL, env={
+        **os.environ, "PATH": f"{bin}:{os.environ['PATH']}", "PIP_NO_INDEX": "1", "PIP_DISABLE_PIP_VERSION_CHECK": "1"})
+    said = []
+    for i in range(len(commands)):
+        if os.path.exists(f"{work}/out{i}"):
+            with open(f"{work}/out{i}") as file:
+                said.append(file.read())
+    check("the commands", done.returncode == 0, said[-1] if said else "nothing ran")
+    return said
+
+
+def main():
+    copy()
+    program("python3", f'exec "{sys.executable}" "$@"')
+    commands, expected, codes = [], {}, []
+    ran = False  # whether the last block that prints something is among the commands
+    for language, text in blocks():
+        lacking = missing("environment" if language == "python" else text)
+        if language == "text":
+            if ran:
+                expected[len(commands) - 1] = text
+            continue
+        ran = lacking is None and language != "c"
+        if lacking:
+            print(f"left out: a block of docs/C.md, since {lacking} was not found")
+        elif language == "sh":
+            commands.append(text)
+        elif language == "python":
+            name = f"example{len(commands)}.py"
+            with open(f"{clone}/{name}", "w") as file:
+                file.write(text)
+            commands.append(f"environment/bin/python {name}\n")
+        else:
+            codes.append(text)
+    said = run(commands)
+    for i, text in expected.items():
+        check(f"after {commands[i]}", i < len(said) and said[i].endswith(text), said[i] if i < len(said) else "")
+    for code in codes:
+        done = subprocess.run([cc, "-std=c99", "-D_DEFAULT_SOURCE", "-Wall", "-Wextra", "-Werror", f"-I{TOP}/c", "-x", "c", "-c",
+                               "-o", os.devnull, "-"], input=code, capture_output=True, text=True)
+        check("an example in C", done.returncode == 0, done.stderr)
+    print(f"{counts[True]} passed, {counts[False]} failed")
+
+
+if __name__ == "__main__":
+    main()

@@ -1,0 +1,27 @@
+# The shared library exports what the header declares and nothing else, under its name, and the libraries need what docs/C.md says; and
+# the header is refused elsewhere than on Linux on x86-64: shared.sh CC LIBRARY SHARED FOLDER
+cc=$1 library=$2 shared=$3 work=$4
+passed=0 failed=0
+check() {
+    if [ "$2" = "$3" ]; then
+        passed=$((passed + 1))
+    else
+        failed=$((failed + 1))
+        printf '%s:\n%s\nand not:\n%s\n' "$1" "$2" "$3"
+    fi
+}
+declared=$(sed -nE 's/^(uint32_t|size_t) (etherpeel_[a-z0-9_]+)\(.*/\2/p' etherpeel.h | sort)
+if command -v nm > "$work/shared.log" && command -v readelf > "$work/shared.log"; then
+    exported=$(nm -D --defined-only "$shared" | awk '$2 != "A" { sub(/@.*/, "", $3); print $3 }' | sort)
+    check "exported names" "$exported" "$declared"
+    check "soname" "$(readelf -d "$shared" | sed -n 's/.*SONAME.*\[\(.*\)\]/\1/p')" libetherpeel.so.2
+    check "names that the static one needs" "$(nm -u "$library" | awk '$1 == "U" { printf "%s ", $2 }')" '__udivti3 memcpy memmove memset '
+    check "names that the shared one needs" "$(nm -D -u "$shared" | awk '$1 == "U" { sub(/@.*/, "", $2); printf "%s ", $2 }')" 'memcpy memmove memset '
+else
+    echo "left out: the names that the shared library exports, since nm and readelf were not found"
+fi
+for macro in __linux__ __x86_64__; do
+    refusal=$("$cc" -U$macro -x c -fsyntax-only etherpeel.h 2>&1 | grep -om 1 'is for Linux on x86-64')
+    check "without $macro" "$refusal" 'is for Linux on x86-64'
+done
+echo "$passed passed, $failed failed"

@@ -1,0 +1,176 @@
+-- The packets of a capture file that is under way, in an array.
+use Rattle.std.proofs.Common.{◌≡◌, ℕ, ◌+◌, suc, List, [], ◌∷◌, ◌++◌, length, set, false, refl, sym, ap, subst, ◌∙◌, arith}
+use Rattle.std.specs.Prelude.{Option, Some, None, Ok, Err}
+use Rattle.std.proofs.Math.Seq.{take-nil}
+use Rattle.std.proofs.lemmas.List.{append_assoc, append-nil, length-append}
+use Rattle.ether_pcap.specs.Capture.{PacketValue, Beginning, CaptureRefusal, HasPackets}
+use Rattle.ether_pcap.specs.CaptureReading.{State, start, GivesNext, Gives}
+use Rattle.ether_pcap.specs.CaptureViews.{captured_packet_view, capture_refusal_view}
+use Rattle.ether_pcap.specs.declared.captured_packet.CapturedPacket.{CapturedPacket}
+use Rattle.ether_pcap.specs.declared.capture_fault.CaptureFault.{CaptureFault}
+use Rattle.ether_pcap.proofs.CaptureSome.{some_packets}
+use Rattle.ether_c.specs.declared.ether_captured.EtherCaptured.{EtherCaptured}
+use Rattle.ether_c.specs.Captured.{IsToldPacket, AreTold, HasCaptured}
+use Rattle.ether_c.proofs.UnitsTold.{Holds, put_next}
+
+-- ---- packets that are told
+
+told-append : (cs : List EtherCaptured) (ps : List PacketValue) (c : EtherCaptured) (p : PacketValue) → AreTold cs ps → IsToldPacket c p
+    → AreTold (cs ++ c ∷ []) (ps ++ p ∷ [])
+told-append [] [] c p are is = (is, tt)
+told-append [] (q ∷ qs) c p are is = absurd are
+told-append (d ∷ ds) [] c p are is = absurd are
+told-append (d ∷ ds) (q ∷ qs) c p are is = (are.0, told-append ds qs c p are.1 is)
+
+told-length : (cs : List EtherCaptured) (ps : List PacketValue) → AreTold cs ps → length cs ≡ length ps
+told-length [] [] are = refl
+told-length [] (q ∷ qs) are = absurd are
+told-length (d ∷ ds) [] are = absurd are
+told-length (d ∷ ds) (q ∷ qs) are = ap suc (told-length ds qs are.1)
+
+-- ---- what comes next
+
+pub record PacketNext (todo : List PacketValue) (left : List ℕ) (fault : Option CaptureRefusal) (t : State) (q : CapturedPacket) : Type 0 where
+  pub later : List PacketValue
+  pub parts : todo ≡ captured_packet_view q ∷ later
+  pub has : HasPackets t.expected t.rest later left fault
+  pub going : t.over ≡ false
+
+packet_next : (todo : List PacketValue) (left : List ℕ) (fault : Option CaptureRefusal) (s t : State) (q : CapturedPacket) → GivesNext todo left fault s (Some (Ok q)) t
+    → PacketNext todo left fault t q
+packet_next [] left None s t q g = let none = g.0 in absurd cc
+packet_next [] left (Some r) s t q g = let given = g.1 in absurd cc
+packet_next (p ∷ ps) left fault s t q g =
+    let given = g.1 in
+    let is : g.0 ≡ q = cc in
+    record { later = ps; parts = ap (λ (v : PacketValue). v ∷ ps) (sym g.2 ∙ ap captured_packet_view is); has = g.3; going = g.4 }
+
+pub record FaultNext (todo : List PacketValue) (left : List ℕ) (fault : Option CaptureRefusal) (t : State) (f : CaptureFault) : Type 0 where
+  pub none_left : todo ≡ []
+  pub refusal : fault ≡ Some (capture_refusal_view f.error)
+  pub place : f.offset ≡ t.offset
+  pub rest : t.rest ≡ left
+
+fault_next : (todo : List PacketValue) (left : List ℕ) (fault : Option CaptureRefusal) (s t : State) (f : CaptureFault) → GivesNext todo left fault s (Some (Err f)) t
+    → FaultNext todo left fault t f
+fault_next [] left None s t f g = let none = g.0 in absurd cc
+fault_next [] left (Some r) s t f g =
+    let given = g.1 in
+    let is : g.0 ≡ f = cc in
+    record {
+      none_left = refl;
+      refusal = ap Some (sym g.2 ∙ ap (λ (h : CaptureFault). capture_refusal_view h.error) is);
+      place = ap (λ (h : CaptureFault). h.offset) (sym is) ∙ g.3;
+      rest = g.4;
+    }
+fault_next (p ∷ ps) left fault s t f g = let given = g.1 in absurd cc
+
+pub record NoneNext (todo : List PacketValue) (fault : Option CaptureRefusal) : Type 0 where
+  pub none_left : todo ≡ []
+  pub no_fault : fault ≡ None
+
+none_next : (todo : List PacketValue) (left : List ℕ) (fault : Option CaptureRefusal) (s t : State) → GivesNext todo left fault s None t → NoneNext todo fault
+none_next [] left None s t g = record { none_left = refl; no_fault = refl }
+none_next [] left (Some r) s t g = let given = g.1 in absurd cc
+none_next (p ∷ ps) left fault s t g = let given = g.1 in absurd cc
+
+-- ---- a file that is under way
+
+pub record CapturedSoFar (file : List ℕ) (s : State) (count : ℕ) (old new : List EtherCaptured) : Type 0 where
+  pub packets : List PacketValue
+  pub left : List ℕ
+  pub fault : Option CaptureRefusal
+  pub has : HasPackets Beginning file packets left fault
+  pub todo : List PacketValue
+  pub rest : HasPackets s.expected s.rest todo left fault
+  pub going : s.over ≡ false
+  pub place : s.offset + length s.rest ≡ length file
+  pub before : List PacketValue
+  pub parts : packets ≡ before ++ todo
+  pub told : List EtherCaptured
+  pub are : AreTold told before
+  pub counted : count ≡ length told
+  pub held : Holds told old new count
+
+pub captured_first : (file : List ℕ) (old : List EtherCaptured) → CapturedSoFar file (start file) 0 old old
+captured_first file old =
+    let c = some_packets Beginning file in
+    record {
+      packets = c.packets;
+      left = c.rest;
+      fault = c.fault;
+      has = c.has;
+      todo = c.packets;
+      rest = c.has;
+      going = refl;
+      place = omega arith;
+      before = [];
+      parts = refl;
+      told = [];
+      are = tt;
+      counted = refl;
+      held = ap (λ (l : List EtherCaptured). l ++ old) (sym (take-nil (length old)));
+    }
+
+pub captured_packet : (file : List ℕ) (s t : State) (q : CapturedPacket) (count : ℕ) (old mid new : List EtherCaptured) (c : EtherCaptured) → CapturedSoFar file s count old mid
+    → Gives s (Some (Ok q)) t → IsToldPacket c (captured_packet_view q) → new ≡ set mid count c → CapturedSoFar file t (count + 1) old new
+captured_packet file s t q count old mid new c a gives is put =
+    let n = packet_next a.todo a.left a.fault s t q (gives.next a.going a.todo a.left a.fault a.rest) in
+    let p = captured_packet_view q in
+    let counted = a.counted in
+    record {
+      packets = a.packets;
+      left = a.left;
+      fault = a.fault;
+      has = a.has;
+      todo = n.later;
+      rest = n.has;
+      going = n.going;
+      place = gives.place a.going ∙ a.place;
+      before = a.before ++ p ∷ [];
+      parts = a.parts ∙ ap (λ (l : List PacketValue). a.before ++ l) n.parts ∙ sym (append_assoc a.before (p ∷ []) n.later);
+      told = a.told ++ c ∷ [];
+      are = told-append a.told a.before c p a.are is;
+      counted = let e = length-append a.told (c ∷ []) in omega arith;
+      held = put ∙ put_next a.told old mid c count a.counted a.held;
+    }
+
+-- ---- the end
+
+all_told : (file : List ℕ) (s : State) (count : ℕ) (old new : List EtherCaptured) (a : CapturedSoFar file s count old new) → a.todo ≡ [] → a.packets ≡ a.before
+all_told file s count old new a none = a.parts ∙ ap (λ (l : List PacketValue). a.before ++ l) none ∙ append-nil a.before
+
+pub captured_fault : (file : List ℕ) (s t : State) (f : CaptureFault) (count : ℕ) (old new : List EtherCaptured) → CapturedSoFar file s count old new
+    → Gives s (Some (Err f)) t → HasCaptured file old new count (Some f)
+captured_fault file s t f count old new a gives =
+    let n = fault_next a.todo a.left a.fault s t f (gives.next a.going a.todo a.left a.fault a.rest) in
+    let all = all_told file s count old new a n.none_left in
+    let place = gives.place a.going ∙ a.place in
+    let at = n.place in
+    let rest : length t.rest ≡ length a.left = ap length n.rest in
+    record {
+      packets = a.packets;
+      left = a.left;
+      has = subst (λ (r : Option CaptureRefusal). HasPackets Beginning file a.packets a.left r) n.refusal a.has;
+      place = omega arith;
+      told = a.told;
+      are = subst (λ (ps : List PacketValue). AreTold a.told ps) (sym all) a.are;
+      counted = a.counted ∙ told-length a.told a.before a.are ∙ ap length (sym all);
+      held = a.held;
+    }
+
+pub captured_none : (file : List ℕ) (s t : State) (count : ℕ) (old new : List EtherCaptured) → CapturedSoFar file s count old new
+    → Gives s None t → HasCaptured file old new count None
+captured_none file s t count old new a gives =
+    let n = none_next a.todo a.left a.fault s t (gives.next a.going a.todo a.left a.fault a.rest) in
+    let all = all_told file s count old new a n.none_left in
+    record {
+      packets = a.packets;
+      left = a.left;
+      has = subst (λ (r : Option CaptureRefusal). HasPackets Beginning file a.packets a.left r) n.no_fault a.has;
+      place = tt;
+      told = a.told;
+      are = subst (λ (ps : List PacketValue). AreTold a.told ps) (sym all) a.are;
+      counted = a.counted ∙ told-length a.told a.before a.are ∙ ap length (sym all);
+      held = a.held;
+    }

@@ -1,0 +1,85 @@
+//! The packets of a capture file in an array.
+ghost use Rattle.std.specs.Prelude.{◌≡◌, slice_set};
+ghost use Rattle.ether_c.specs.Captured.{HasCaptured, TellsCapture};
+
+use crate::EtherCaptured;
+use crate::numbers::{BAD_CAPTURE, DONE, SHORT};
+use ether_pcap::{CaptureFault, CapturePackets};
+
+/// Where a capture file ends: `etherpeel_capture_end` in C.
+///
+/// Each bit pattern is a value, so that C may pass memory that it has not written to.
+#[repr(C)]
+#[derive(Clone, Copy)]
+pub struct EtherCaptureEnd {
+    /// The length of the file, or where what can't be read starts.
+    pub offset: usize,
+    /// How many bytes this needs at least, if the file ends within it; else 0.
+    pub needed: usize,
+}
+
+// as c/etherpeel.h lays it out
+const _: () = prove!(size_of::<EtherCaptureEnd>() == 16);
+
+/// The packets of a capture file, as many as the array has room for, how many there are in all, and
+/// where and why they end.
+#[unsafe(no_mangle)]
+pub extern "C" fn etherpeel_capture<'a>(
+    file: &'a [u8],
+    packets: &mut [EtherCaptured<'a>],
+    count: &mut usize,
+    end: &mut EtherCaptureEnd,
+) -> u32
+    ensures { TellsCapture file.now packets.old packets.new count.new end.new result }
+{
+    let (found, fault) = captured(file, packets);
+    *count = found;
+    match fault {
+        None => {
+            *end = EtherCaptureEnd {
+                offset: file.len(),
+                needed: 0,
+            };
+            DONE
+        }
+        Some(fault) => {
+            let needed = fault.error.required_len();
+            *end = EtherCaptureEnd {
+                offset: fault.offset,
+                needed: needed.unwrap_or(0),
+            };
+            if needed.is_some() { SHORT } else { BAD_CAPTURE }
+        }
+    }
+}
+
+/// The packets of a capture file, as many as the array has room for, how many there are in all, and
+/// the fault in which they end.
+pub(crate) fn captured<'a>(
+    file: &'a [u8],
+    packets: &mut [EtherCaptured<'a>],
+) -> (usize, Option<CaptureFault>)
+    ensures { HasCaptured file.now packets.old packets.new result.0 result.1 }
+{
+    let mut reader = CapturePackets::from_slice(file);
+    let mut count = 0;
+    loop {
+        match reader.next() {
+            Some(Ok(packet)) => {
+                put(packets, count, EtherCaptured::of(packet));
+                count += 1;
+            }
+            Some(Err(fault)) => return (count, Some(fault)),
+            None => return (count, None),
+        }
+    }
+}
+
+/// Writes a packet to its place, if the array has it.
+fn put<'a>(packets: &mut [EtherCaptured<'a>], at: usize, packet: EtherCaptured<'a>)
+    ensures { packets.new ≡ slice_set packets.old at packet.entry }
+{
+    if at < packets.len() {
+        packets[at] = packet;
+    }
+}

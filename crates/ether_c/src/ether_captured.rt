@@ -1,0 +1,57 @@
+//! A packet of a capture file, as a struct of C.
+ghost use Rattle.std.specs.Prelude.{◌≡◌};
+ghost use Rattle.ether_pcap.specs.CaptureViews.{captured_packet_view};
+ghost use Rattle.ether_c.specs.Captured.{IsToldPacket};
+
+use ether_pcap::CapturedPacket;
+
+/// A packet of a capture file: `etherpeel_captured` in C.
+#[repr(C)]
+#[derive(Clone, Copy)]
+pub struct EtherCaptured<'a> {
+    /// The bytes that were captured of the packet, in the file.
+    pub packet: &'a [u8],
+    /// The time of the capture in whole seconds since 1970, UTC.
+    pub seconds: u64,
+    /// The nanoseconds after them.
+    pub nanoseconds: u32,
+    /// How many bytes the packet had before it was cut.
+    pub original_len: u32,
+    /// What the packet begins with.
+    pub link_type: u16,
+    /// 1 if the packet has a time, else 0.
+    pub has_time: u8,
+    /// 1 if the file says the length of the frame check sequence, else 0.
+    pub has_fcs_len: u8,
+    /// The length of the frame check sequence at the end of the packet before it was cut.
+    pub fcs_len: u8,
+}
+
+// as c/etherpeel.h lays it out
+const _: () = prove!(size_of::<EtherCaptured<'_>>() == 40);
+
+impl<'a> EtherCaptured<'a> {
+    /// A packet of a capture file.
+    pub(crate) fn of(packet: CapturedPacket<'a>) -> EtherCaptured<'a>
+        ensures { IsToldPacket result (captured_packet_view packet.entry) }
+    {
+        let (has_time, seconds, nanoseconds) = match packet.time {
+            Some(time) => (1, time.seconds, time.nanoseconds),
+            None => (0, 0, 0),
+        };
+        let (has_fcs_len, fcs_len) = match packet.fcs_len {
+            Some(fcs_len) => (1, fcs_len),
+            None => (0, 0),
+        };
+        EtherCaptured {
+            packet: packet.packet,
+            seconds,
+            nanoseconds,
+            original_len: packet.original_len,
+            link_type: packet.link_type.0,
+            has_time,
+            has_fcs_len,
+            fcs_len,
+        }
+    }
+}

@@ -1,0 +1,38 @@
+//! What a program can ask of the library that it runs with, so that the two fit.
+ghost use Rattle.std.specs.Prelude.{◌≡◌};
+ghost use Rattle.ether_c.specs.Library.{version_number, struct_size};
+
+use crate::{
+    EtherArp, EtherCaptureEnd, EtherCaptured, EtherEthernet2, EtherFault, EtherFed, EtherFound,
+    EtherHeaders, EtherLinuxSll, EtherMacsec, EtherUnit, EtherVlan,
+};
+
+/// The version of the library: 0x10000 times the first number, 0x100 times the second, and the third.
+#[unsafe(no_mangle)]
+pub extern "C" fn etherpeel_version() -> u32
+    ensures { result ≡ version_number 2 0 0 }
+{
+    0x02_00_00
+}
+
+/// The size in bytes of the struct with a number, 0 if none has it.
+#[unsafe(no_mangle)]
+pub extern "C" fn etherpeel_sizeof(number: u32) -> usize
+    ensures { result ≡ struct_size number }
+{
+    match number {
+        1 => size_of::<EtherFault>(),
+        2 => size_of::<EtherFound>(),
+        3 => size_of::<EtherFed>(),
+        4 => size_of::<EtherEthernet2>(),
+        5 => size_of::<EtherLinuxSll>(),
+        6 => size_of::<EtherVlan>(),
+        7 => size_of::<EtherMacsec>(),
+        8 => size_of::<EtherArp>(),
+        9 => size_of::<EtherUnit>(),
+        10 => size_of::<EtherHeaders>(),
+        11 => size_of::<EtherCaptured<'_>>(),
+        12 => size_of::<EtherCaptureEnd>(),
+        _ => 0,
+    }
+}

@@ -1,0 +1,35 @@
+//! VLAN tags that are taken off in place.
+ghost use Rattle.std.specs.Prelude.{◌≡◌};
+ghost use Rattle.ether_peel.specs.Walker.Start.{start_of as start_meant};
+ghost use Rattle.ether_c.specs.Starts.{IsUnknown, IsRefused, OfStart};
+ghost use Rattle.ether_c.specs.Tags.{TellsPop};
+
+use crate::EtherVlan;
+use crate::numbers::{DONE, UNKNOWN_START, start_of, tag_error};
+use ether_packet::pop_vlan;
+
+/// Takes off the VLAN tag after the header of a link, in place: the frame is then without its first
+/// four bytes.
+#[unsafe(no_mangle)]
+pub extern "C" fn etherpeel_pop_vlan(
+    start: u32,
+    ether_type: u16,
+    frame: &mut [u8],
+    tag: &mut EtherVlan,
+) -> u32
+    ensures unknown { IsUnknown start ether_type
+        → IsRefused result ((frame.new ≡ frame.old) × (tag.new ≡ tag.old)) }
+    ensures told { OfStart start ether_type
+        (λ s. TellsPop (start_meant s) frame.old frame.new tag.old tag.new result) }
+{
+    let Some(start) = start_of(start, ether_type) else {
+        return UNKNOWN_START;
+    };
+    match pop_vlan(start, frame) {
+        Ok(popped) => {
+            *tag = EtherVlan::of_header(popped);
+            DONE
+        }
+        Err(error) => tag_error(&error),
+    }
+}

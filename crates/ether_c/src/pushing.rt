@@ -1,0 +1,41 @@
+//! VLAN tags that are put in in place.
+ghost use Rattle.std.specs.Prelude.{◌≡◌};
+ghost use Rattle.etherparse.specs.Vlan.{FitsVlan};
+ghost use Rattle.ether_peel.specs.Walker.Start.{start_of as start_meant};
+ghost use Rattle.ether_c.specs.Starts.{IsUnknown, IsRefused, OfStart};
+ghost use Rattle.ether_c.specs.Tags.{TellsPush, vlan_value, bad_field};
+
+use crate::EtherVlan;
+use crate::numbers::{BAD_FIELD, DONE, UNKNOWN_START, start_of, tag_error};
+use ether_packet::push_vlan;
+use etherparse::EtherType;
+
+/// Puts a VLAN tag after the header of a link, in place: the frame is the buffer without its first
+/// four bytes, and then the whole buffer.
+#[unsafe(no_mangle)]
+pub extern "C" fn etherpeel_push_vlan(
+    start: u32,
+    ether_type: u16,
+    buffer: &mut [u8],
+    tag: &EtherVlan,
+    tpid: u16,
+) -> u32
+    ensures unknown { IsUnknown start ether_type → IsRefused result (buffer.new ≡ buffer.old) }
+    ensures unfit { OfStart start ether_type
+        (λ _. (FitsVlan (vlan_value tag.now) → ⊥)
+        → (result ≡ bad_field) × (buffer.new ≡ buffer.old)) }
+    ensures told { OfStart start ether_type
+        (λ s. FitsVlan (vlan_value tag.now)
+        → TellsPush (start_meant s) (vlan_value tag.now) tpid buffer.old buffer.new result) }
+{
+    let Some(start) = start_of(start, ether_type) else {
+        return UNKNOWN_START;
+    };
+    let Some(tag) = tag.to_header() else {
+        return BAD_FIELD;
+    };
+    match push_vlan(start, buffer, tag, EtherType(tpid)) {
+        Ok(()) => DONE,
+        Err(error) => tag_error(&error),
+    }
+}
