@@ -32,6 +32,13 @@ ARTEFACTS = {
         "ether_tool/src/run.rt": ["run", "run_limited"],
         "ether_tool/src/program.rt": ["program"],
     },
+    "Filters": {
+        "ether_filter/src/filter.rt": ["parse", "matches"],
+        "ether_filter/src/laws.rt": ["texts_mean_one"],
+    },
+    "Capture files": {
+        "ether_pcap/src/capture_packets.rt": ["from_slice", "rest", "offset", "ghost"],
+    },
     "Captures": {
         "ether_capture/src/run.rt": ["run"],
         "ether_capture/src/program.rt": ["program"],
@@ -47,10 +54,6 @@ ARTEFACTS = {
         "ether_packet/src/pushing.rt": ["push_vlan"],
         "ether_packet/src/setting.rt": ["set_vlan_id", "set_vlan_tag", "set_tpid"],
         "ether_packet/src/laws.rt": ["popped_after_pushed", "pushed_after_popped"],
-    },
-    "Filters": {
-        "ether_filter/src/filter.rt": ["parse", "matches"],
-        "ether_filter/src/laws.rt": ["texts_mean_one"],
     },
     "C": {
         "ether_c/src/walking.rt": ["etherpeel_walk", "etherpeel_walk_limited"],
@@ -80,7 +83,7 @@ class Module:
         self.names, self.aliases, self.passed_on = {}, {}, []
         current = None
         for line in open(path, encoding="utf-8"):
-            code = line.split("--")[0].rstrip()
+            code = re.sub(r'("(?:[^"\\]|\\.)*")|--.*', lambda it: it[1] or "", line).rstrip()
             if not code:
                 continue
             used = re.match(r"(pub )?use (Rattle\.[\w.]+?)(?:\.\{(.*)\})?(?: as (\w+))?$", code)

@@ -16,7 +16,7 @@ from dataclasses import dataclass
 from programs import count, run, run_in_pieces, run_until_a_fault, on_a_full_disk
 
 FAILED = ("ether_capture: input or output failed\n", 4)
-USAGE = "usage: ether_capture [--plain] [FILE]\n"
+USAGE = "usage: ether_capture [--plain] [--select EXPR] [FILE]\n"
 
 
 def joined(*parts):
@@ -270,6 +270,52 @@ CASES += [
 ]
 
 
+def classic(*frames, original=0):
+    """A classic capture of these frames of Ethernet."""
+    records = [joined("6553f100 00000000") + len(it).to_bytes(4, "big") + max(len(it), original).to_bytes(4, "big") + it for it in frames]
+    return CLASSIC[:24] + b"".join(records)
+
+
+# ARP; VLAN 5, ARP; VLAN 7, ARP; VLAN 5, IPv4; IPv4; service tag 100, VLAN 5, IPv4. Which packets an expression selects is read off its words.
+MACS = "ffffffffffff 020000000001"
+SIX = [joined(MACS, it) for it in (
+    "0806" + 28 * "00", "8100 0005 0806" + 28 * "00", "8100 0007 0806" + 28 * "00", "8100 0005 0800 45", "0800 45", "88a8 0064 8100 0005 0800 45")]
+SELECTED = {
+    "vlan 5 or arp": (1, 2, 3, 4, 6), "arp or vlan 5": (1, 2, 3, 4, 6), "vlan 7 or vlan 5": (2, 3, 4, 6), "vlan and arp": (2, 3), "arp": (1, 2, 3),
+    "outer vlan 100": (6,), "inner vlan 5": (6,), "not vlan": (1, 5), "ether src 02:00:00:00:00:01 and ip": (4, 5, 6), "macsec": (), "cut": (),
+}
+
+
+def selections(program):
+    """The packets of the six that each expression selects, by the numbers in their lines."""
+    tried = []
+    for text, wanted in SELECTED.items():
+        lines, status = run(program, ["--select", text], classic(*SIX))
+        found = tuple(int(line.split()[1]) for line in lines.splitlines() if line.startswith("frame"))
+        tried.append((f"--select {text!r}", (found, lines.splitlines()[-1:], status), (wanted, ["total frames 6 skipped 0"], 0)))
+    return tried
+
+
+CASES += [
+    Case("a filter that selects a packet", ["--select", "refused"], CLASSIC, FIRST_LINES + "total frames 2 skipped 0\n", 1),
+    Case("one that leaves the refused frame out", ["--plain", "--select", "not refused"], CLASSIC,
+         plain(CLASSIC_LINES).replace(plain(FIRST_LINES), ""), 0),
+    Case("cut packets", ["--select", "cut"], CLASSIC, FIRST_LINES + "total frames 2 skipped 0\n", 1),
+    Case("a filter after a header of cooked capture v2", ["--select", "vlan 291"],
+         cooked("8100 0000 00000003 0001 04 06 0200000000010000 b123 0800 45"),
+         cooked_lines(25, "linux_sll2 0 packet 4 hw 1 if 3 alen 6 addr 0200000000010000 0x8100\n"
+                          "vlan 20 pcp 5 dei 1 vid 291 0x0800\nrest 24 25 type 0x0800\n"), 0),
+    Case("netlink, which no filter selects", ["--select", "not arp"], cooked("0010 0000 00000002 0338 04 00 0000000000000000 14000000"),
+         "total frames 1 skipped 0\n", 0),
+    Case("no expression", ["--select", "vlan 4096"], CLASSIC, "--select: At byte 5: expected a number up to 4095.\n", 2),
+    Case("and beside or", ["--select", "arp and ip or vlan"], CLASSIC,
+         "--select: At byte 11: `and` and `or` beside each other need parentheses.\n", 2),
+    Case("an expression that is missing", ["--select"], CLASSIC, USAGE, 2),
+    Case("options in another order", ["--select", "arp", "--plain"], CLASSIC, USAGE, 2),
+    Case("five words", ["--plain", "--select", "arp", "one", "two"], CLASSIC, USAGE, 2),
+]
+
+
 def without_memory(program, capture):
     """What the program prints, and its status, if it may have 4 MiB."""
     limit = lambda: resource.setrlimit(resource.RLIMIT_AS, (4 << 20, 4 << 20))  # noqa: E731
@@ -292,6 +338,12 @@ def main():
             with open(name, "wb") as file:
                 file.write(case.capture)
             tried.append((f"{case.name} from a file", run(program, [*case.words, name], b""), (case.text, case.status)))
+        name = os.path.join(folder, "six")
+        with open(name, "wb") as file:
+            file.write(classic(*SIX))
+        wanted = run(program, ["--plain", "--select", "arp"], classic(*SIX))
+        tried.append(("a filter and a file", run(program, ["--plain", "--select", "arp", name], b""), wanted))
+    tried += selections(program)
     help_text, status = run(program, ["--help"], CLASSIC)
     tried.append(("the usage", (help_text[: len(USAGE)], status), (USAGE, 0)))
     tried.append(("no memory for a block", without_memory(program, secrets(16_777_216, 16_777_216)), (ONE_LINES + "out of memory\n", 5)))
