@@ -32,22 +32,20 @@ pub fn write_packet<W: Sink>(
     ensures { TakesAnswer W.contents W.can_fail (AnswersPacket (lines_view asked.now) number (captured_packet_view packet.now))
         out.old out.new result }
 {
-    let content = walked(packet);
     if let Some(filter) = &asked.filter {
-        if !selects(filter, content, packet) {
+        if !selects(filter, packet) {
             return true;
         }
     }
-    write_lines(asked.is_plain, number, packet, content, out)
+    write_lines(asked.is_plain, number, packet, out)
 }
 
 /// Whether a filter selects a packet.
 #[inline(never)]
-fn selects(filter: &Filter, content: Content<'_>, packet: &CapturedPacket<'_>) -> bool
-    requires { content_view content ≡ content_of (captured_packet_view packet.now) }
+fn selects(filter: &Filter, packet: &CapturedPacket<'_>) -> bool
     ensures { IsTrue result ↔ Selects filter.now (captured_packet_view packet.now) }
 {
-    match content {
+    match walked(packet) {
         Content::Frame(start, bytes) => holds(filter, start, bytes, packet),
         Content::LinuxSll2(bytes) => match payload_of(bytes) {
             Some((start, payload)) => holds(filter, start, payload, packet),
@@ -71,18 +69,16 @@ fn holds(filter: &Filter, start: Start, frame: &[u8], packet: &CapturedPacket<'_
 }
 
 /// Writes the line of a packet unless `is_plain`, and the lines of the walk through its headers. Returns whether the walk ends in no fault.
-#[inline(always)]
 fn write_lines<W: Sink>(
     is_plain: bool,
     number: usize,
     packet: &CapturedPacket<'_>,
-    content: Content<'_>,
     out: &mut OutputBuffer<'_, W>,
 ) -> bool
-    requires { content_view content ≡ content_of (captured_packet_view packet.now) }
     ensures { TakesAnswer W.contents W.can_fail (HasLines is_plain number (captured_packet_view packet.now))
         out.old out.new result }
 {
+    let content = walked(packet);
     write_packet_line(is_plain, number, packet, content, out);
     let (header_len, start, bytes) = match content {
         Content::Frame(start, bytes) => (0, start, bytes),

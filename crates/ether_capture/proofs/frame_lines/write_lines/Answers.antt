@@ -17,7 +17,7 @@ use Rattle.ether_capture.proofs.frame_lines.write_lines.Goals as goal
 pub returns-in-Err : goal.returns-in-Err
 returns-in-Err g c =
     let walk = c.in-Err.ensures.ended in
-    let is = rw c.in-LinuxSll2.is at c.requires in
+    let is = rw c.in-LinuxSll2.is at c.walked-content.ensures in
     record {
       text = packet_line_if c.args.is_plain c.args.number (captured_packet_view c.args.packet.now) ++ walk.text;
       answers = record {
@@ -31,7 +31,7 @@ returns-in-Err g c =
 pub returns-in-Unknown : goal.returns-in-Unknown
 returns-in-Unknown g c =
     let line = packet_line_if c.args.is_plain c.args.number (captured_packet_view c.args.packet.now) in
-    let is = rw c.in-Unknown.is at c.requires in
+    let is = rw c.in-Unknown.is at c.walked-content.ensures in
     record {
       text = line;
       answers = record {
@@ -52,7 +52,7 @@ returns g c =
     let new = c.write_walk_after.new.out in
     elim c.match-content.branch [
       | in-Frame w ↦
-          let is = rw w.in-Frame.is at c.requires in
+          let is = rw w.in-Frame.is at c.walked-content.ensures in
           let answers =
           subst
           (λ (t : ℕ × Start × Bor (List ℕ)).
@@ -72,7 +72,7 @@ returns g c =
                 walk.taken);
           }
       | in-LinuxSll2+in-Ok w ↦
-          let is = rw w.in-LinuxSll2.is at c.requires in
+          let is = rw w.in-LinuxSll2.is at c.walked-content.ensures in
           let bytes = w.in-LinuxSll2.bytes.now in
           let (begins, header) = w.in-Ok.ensures.walked in
           let answers =
