@@ -77,6 +77,7 @@ pub record Walked : Type 0 where
 abbrev pub walked : Packet → List Header → Ending → Walked
 walked packet hs e = record { start = next_of packet.start; headers = hs; ending = e; captured = packet.captured_len; original = packet.original_len }
 
+-- what each primitive says of it
 abbrev pub Matches : Primitive → Walked → Type 0
 Matches primitives.Vlan p = IsTrue (list_any is_tag p.headers)
 Matches (primitives.VlanId id) p = IsTrue (list_any (nat_eq id) (vlan_ids p.headers))

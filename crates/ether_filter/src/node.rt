@@ -2,14 +2,14 @@
 use crate::primitive::Primitive;
 
 /// An operator between two operands.
-#[derive(Clone, Copy, PartialEq, Eq, Debug)]
+#[derive(Clone, Copy, Debug)]
 pub(crate) enum Operator {
     And,
     Or,
 }
 
 /// A node of an expression in postfix order.
-#[derive(Clone, Copy, PartialEq, Eq, Debug)]
+#[derive(Clone, Copy, Debug)]
 pub(crate) enum Node {
     Test(Primitive),
     Not,

@@ -3,7 +3,7 @@
 /// What an expression asks of a packet, in one primitive of pcap-filter(7).
 ///
 /// An address is one number, whose first byte is the most significant one.
-#[derive(Clone, Copy, PartialEq, Eq, Debug)]
+#[derive(Clone, Copy, Debug)]
 pub(crate) enum Primitive {
     Vlan,
     VlanId(u16),

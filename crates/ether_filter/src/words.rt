@@ -3,7 +3,7 @@ ghost use Rattle.std.specs.Prelude.{◌≡◌, ◌+◌, ◌<◌, ◌≤◌, ◌�
 ghost use Rattle.ether_filter.specs.Words.{class_of as class_of_byte, is_blank, are_joined as are_joined_of, words_from, IsNextWord};
 
 /// What a character of a text is.
-#[derive(Clone, Copy, PartialEq, Eq)]
+#[derive(Clone, Copy)]
 pub(crate) enum Class {
     /// Between words.
     Blank,
@@ -46,7 +46,7 @@ fn word_start(text: &[u8], from: usize) -> usize
 {
     let mut start = from;
     while start < text.len() {
-        if class_of(text[start]) != Class::Blank {
+        if !matches!(class_of(text[start]), Class::Blank) {
             return start;
         }
         start += 1;

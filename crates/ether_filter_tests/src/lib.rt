@@ -1,5 +1,8 @@
-//! Tests of `ether_filter`, which stand above it so that it is proved once.
+//! Tests of `ether_filter`, and what callers learn of the derived traits of its types. They stand above it so that it is proved
+//! once.
 #![tactic(auto)]
 
+#[cfg(test)]
+mod derived_traits;
 #[cfg(test)]
 mod tests;

@@ -1,6 +1,7 @@
 //! Packets that match, by what the words of an expression say.
 use ether_filter::{Filter, Packet};
 use ether_peel::Start;
+use etherparse::EtherType;
 use std::test::Fail;
 
 /// ARP; VLAN 5, ARP; VLAN 7, ARP; VLAN 5, IPv4; IPv4; service tag 100, VLAN 5, IPv4. The ARP packets have 28 bytes.
@@ -68,6 +69,85 @@ fn of_six_packets(rt: HostRuntime) -> Result<(), Fail> {
     ];
     for (expression, wanted) in examples {
         assert_eq!(rt; matching(expression), Some(wanted), "{expression:?}");
+    }
+    Ok(())
+}
+
+/// Four VLAN tags, 1 to 4, before IPv4.
+const FOUR_TAGS: &[u8] =
+    b"\x02\x00\x5E\x10\x00\x02\x02\x00\x5E\x10\x00\x01\x81\x00\x00\x01\x81\x00\x00\x02\x81\x00\x00\x03\x81\x00\x00\x04\x08\x00";
+
+/// VLAN 9 and no more of an ARP packet in a SecTag that leaves its payload readable.
+const IN_SEC_TAG: &[u8] =
+    b"\x02\x00\x5E\x10\x00\x02\x02\x00\x5E\x10\x00\x01\x88\xE5\x00\x00\x00\x00\x00\x01\x81\x00\x00\x09\x08\x06";
+
+/// The same in a SecTag that encrypts its payload.
+const ENCRYPTED: &[u8] =
+    b"\x02\x00\x5E\x10\x00\x02\x02\x00\x5E\x10\x00\x01\x88\xE5\x0C\x00\x00\x00\x00\x01\x81\x00\x00\x09\x08\x06";
+
+/// A broadcast of IPv6 in Linux cooked capture v1, from Ethernet.
+const COOKED: &[u8] = b"\x00\x01\x00\x01\x00\x06\xFF\xFF\xFF\xFF\xFF\xFF\x00\x00\x86\xDD\x60";
+
+#[test]
+fn of_other_packets(rt: HostRuntime) -> Result<(), Fail> {
+    let tag = Start::EtherType(EtherType::VLAN_TAGGED_FRAME);
+    let examples: [(Start, &[u8], &[u8], bool); 16] = [
+        (
+            Start::Ethernet2,
+            FOUR_TAGS,
+            b"outer vlan 1 and inner vlan 4",
+            true,
+        ),
+        (Start::Ethernet2, FOUR_TAGS, b"vlan 3 and vlan 2", true),
+        (
+            Start::Ethernet2,
+            FOUR_TAGS,
+            b"inner vlan 2 or inner vlan 3",
+            false,
+        ),
+        (
+            Start::Ethernet2,
+            &FOUR_TAGS[..29],
+            b"refused and vlan 3",
+            true,
+        ),
+        (Start::Ethernet2, &FOUR_TAGS[..29], b"vlan 4 or ip", false),
+        (
+            Start::Ethernet2,
+            IN_SEC_TAG,
+            b"macsec and vlan 9 and arp",
+            true,
+        ),
+        (Start::Ethernet2, IN_SEC_TAG, b"refused", true),
+        (Start::Ethernet2, ENCRYPTED, b"macsec", true),
+        (
+            Start::Ethernet2,
+            ENCRYPTED,
+            b"vlan or arp or refused",
+            false,
+        ),
+        (Start::LinuxSll, COOKED, b"ip6", true),
+        (
+            Start::LinuxSll,
+            COOKED,
+            b"ether broadcast or ether src ff:ff:ff:ff:ff:ff",
+            false,
+        ),
+        (Start::LinuxSll, &COOKED[..15], b"refused", true),
+        (tag, b"\x00\x05\x08\x00\x45", b"vlan 5 and ip", true),
+        (tag, b"\x00", b"ether proto 0x8100 and refused", true),
+        (tag, b"\x00", b"vlan", false),
+        (Start::Ethernet2Fcs, FOUR_TAGS, b"vlan 3 and refused", true),
+    ];
+    for (start, frame, expression, wanted) in examples {
+        let packet = Packet {
+            start,
+            frame,
+            captured_len: frame.len(),
+            original_len: 60,
+        };
+        let matches = Filter::parse(expression).map(|filter| filter.matches(&packet));
+        assert_eq!(rt; matches, Ok(wanted), "{expression:?}");
     }
     Ok(())
 }
