@@ -1,9 +1,9 @@
 #!/bin/sh
 # Builds the static library, and runs the tests of its callers: in C99 and C++11, with sanitizers if the compiler has
 # them, and from Python. Builds the tool, and compares its lines with those that calls from C give. The last line is
-# 'N passed, M failed'. CC, CXX and PYTHON name other programs; what needs one that is not there is left out, and a line says so.
-# With the word `proved` both stand on what `rt ci` has just proved and left in the crates' out/, so that nothing below the library
-# is proved once more.
+# 'N passed, M failed'. CC, CXX and PYTHON name other programs; what needs one that is not there is left out, and a line says so. Without
+# a C compiler the clang of the kit links the shared library for Python. With the word `proved` both stand on what `rt ci` has just proved
+# and left in the crates' out/, so that nothing below the library is proved once more.
 set -eu
 cd "$(dirname "$0")"
 export PYTHONDONTWRITEBYTECODE=1
@@ -24,21 +24,27 @@ compiler_of() {
     done
 }
 
-# the clang of the kit is in its toolchain, next to the page that `rt doc` names; it has no headers of its own
+# the clang of the kit is in its toolchain, next to the page that `rt doc` names; it has no headers of its own, but links
+toolchain=$(dirname "$(rt doc)")/toolchain
 kit_clang=$work/kit-clang
-printf '#!/bin/sh\nexec %s -isystem %s "$@"\n' "$(dirname "$(rt doc)")/toolchain/bin/clang" "$PWD/tests/freestanding" > "$kit_clang"
-chmod +x "$kit_clang"
+kit_linker=$work/kit-linker
+printf '#!/bin/sh\nexec %s -isystem %s "$@"\n' "$toolchain/bin/clang" "$PWD/tests/freestanding" > "$kit_clang"
+printf '#!/bin/sh\nexec %s -nostdlib -fuse-ld=lld "$@" %s\n' "$toolchain/bin/clang" "$toolchain/lib/libgcc.a" > "$kit_linker"
+chmod +x "$kit_clang" "$kit_linker"
 cc=$(compiler_of c "${CC:-}" gcc cc clang "$kit_clang")
 cxx=$(compiler_of c++ "${CXX:-}" g++ c++ clang++ "$cc")
 python=${PYTHON:-python3}
 if [ -z "$cc" ]; then
-    echo "left out: the tests in C, C++ and Python, since no C compiler was found that has the headers of the C library"
-    echo "0 passed, 0 failed"
-    exit
+    echo "left out: the tests in C and C++, the examples, docs/C.md and the lines of the tool, since no C compiler was found that has the" \
+        "headers of the C library"
 fi
 if ! "$python" -c 'import ctypes' > /dev/null 2>&1; then
     echo "left out: the tests in Python and the lines of the tool, since no Python with ctypes was found"
     python=
+fi
+if [ -z "$cc$python" ]; then
+    echo "0 passed, 0 failed"
+    exit
 fi
 
 if [ "${1:-}" = proved ]; then
@@ -94,39 +100,46 @@ has() {
     "$@" "$work/probe.c" -x none -o "$work/probe" > "$work/probe.log" 2>&1 && "$work/probe" > "$work/probe.log" 2>&1
 }
 
-build_and_run "C99, $cc" c99 "$cc" -std=c99 -O2 $warnings -x c
-if [ -n "$cxx" ]; then
-    build_and_run "C++11, $cxx" cxx11 "$cxx" -std=c++11 -O2 $warnings -x c++
-else
-    echo "left out: the tests in C++, since no C++ compiler was found"
-fi
-for compiler in "$cc" $(compiler_of c clang); do
-    for sanitizer in address undefined; do
-        flags="-fsanitize=$sanitizer -fno-sanitize-recover=all -g"
-        if has "$compiler" $flags -x c; then
-            build_and_run "C99, $compiler, $sanitizer sanitizer" "$sanitizer" "$compiler" -std=c99 -O1 $flags $warnings -x c
-        else
-            echo "C99, $compiler: no $sanitizer sanitizer"
-        fi
+callers_in_c() {
+    build_and_run "C99, $cc" c99 "$cc" -std=c99 -O2 $warnings -x c
+    if [ -n "$cxx" ]; then
+        build_and_run "C++11, $cxx" cxx11 "$cxx" -std=c++11 -O2 $warnings -x c++
+    else
+        echo "left out: the tests in C++, since no C++ compiler was found"
+    fi
+    for compiler in "$cc" $(compiler_of c clang); do
+        for sanitizer in address undefined; do
+            flags="-fsanitize=$sanitizer -fno-sanitize-recover=all -g"
+            if has "$compiler" $flags -x c; then
+                build_and_run "C99, $compiler, $sanitizer sanitizer" "$sanitizer" "$compiler" -std=c99 -O1 $flags $warnings -x c
+            else
+                echo "C99, $compiler: no $sanitizer sanitizer"
+            fi
+        done
     done
-done
-run "The header beside others" sh tests/beside.sh "$cc" "$cxx" "$library" "$work"
-sh link.sh "$cc" "$library" "$work/libetherpeel.so.2"
-run "The shared library" sh tests/shared.sh "$cc" "$library" "$work/libetherpeel.so.2" "$work"
+    run "The header beside others" sh tests/beside.sh "$cc" "$cxx" "$library" "$work"
+    run "The shared library" sh tests/shared.sh "$cc" "$library" "$work/libetherpeel.so.2" "$work"
+}
 
-if [ -n "$python" ]; then
+callers_in_python() {
     mkdir "$work/package"
     cp -r python/etherpeel "$work/package"
     cp "$work/libetherpeel.so.2" "$work/package/etherpeel"
     run "Python, $python" "$python" tests/tests.py "$work/package"
-    run "The examples" sh tests/examples.sh "$cc" "$library" "$python" "$work"
-    run "docs/C.md" "$python" tests/page.py "$cc" "$PWD/$library" "$work/page"
     scapy=$(python_with scapy "$python" /usr/bin/python3)
     if [ -n "$scapy" ]; then
         run "Python beside scapy, $scapy" "$scapy" tests/scapy_fields.py "$work/package"
     else
         echo "left out: the package beside scapy, since no Python with scapy was found"
     fi
+}
+
+sh link.sh "${cc:-$kit_linker}" "$library" "$work/libetherpeel.so.2"
+if [ -n "$cc" ]; then callers_in_c; fi
+if [ -n "$python" ]; then callers_in_python; fi
+if [ -n "$cc" ] && [ -n "$python" ]; then
+    run "The examples" sh tests/examples.sh "$cc" "$library" "$python" "$work"
+    run "docs/C.md" "$python" tests/page.py "$cc" "$PWD/$library" "$work/page"
     run "The lines of the tool" sh tests/lines.sh "$cc" "$library" "$python" "$work"
 fi
 

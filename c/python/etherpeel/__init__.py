@@ -1,4 +1,4 @@
-"""The walk through the link-layer headers of a frame: Ethernet II, VLAN tags, MACsec SecTags, Linux cooked capture v1, ARP.
+"""The link-layer headers of frames, packets and captures: Ethernet II, VLAN tags, MACsec SecTags, Linux cooked capture v1, ARP.
 
     import etherpeel
 
@@ -8,9 +8,9 @@
             print(unit.header.vid)
 
 A frame is any object with contiguous memory, as `bytes`, `bytearray`, `memoryview`, `mmap` or an array. It is read where it
-is, without a copy, and never written to. `start` says what it begins with; with `Start.ETHER_TYPE`, `ether_type` says what
-announces it. With a `limit` no more VLAN tags and SecTags than it says are read. Offsets count bytes from the start of the
-frame. docs/C.md of the repository says what is proved of each call.
+is, without a copy; only `pop_vlan`, `push_vlan` and `set_..` write to it. `start` says what it begins with; with
+`Start.ETHER_TYPE`, `ether_type` says what announces it. With a `limit` no more VLAN tags and SecTags than it says are read.
+Offsets count bytes from the start of the frame. docs/C.md of the repository says what is proved of each call.
 """
 from __future__ import annotations
 

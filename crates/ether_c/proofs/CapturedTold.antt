@@ -1,6 +1,6 @@
 -- The packets of a capture file that is under way, in an array.
 use Rattle.std.proofs.Common.{◌≡◌, ℕ, ◌+◌, suc, List, [], ◌∷◌, ◌++◌, length, set, false, refl, sym, ap, subst, ◌∙◌, arith}
-use Rattle.std.specs.Prelude.{Option, Some, None, Ok, Err}
+use Rattle.std.specs.Prelude.{Option, Some, None, Result, Ok, Err}
 use Rattle.std.proofs.Math.Seq.{take-nil}
 use Rattle.std.proofs.lemmas.List.{append_assoc, append-nil, length-append}
 use Rattle.ether_pcap.specs.Capture.{PacketValue, Beginning, CaptureRefusal, HasPackets}
@@ -30,6 +30,9 @@ told-length (d ∷ ds) (q ∷ qs) are = ap suc (told-length ds qs are.1)
 
 -- ---- what comes next
 
+abbrev Returns : (result returned : Option (Result CapturedPacket CaptureFault)) → Type 0
+Returns result returned = result ≡ returned
+
 pub record PacketNext (todo : List PacketValue) (left : List ℕ) (fault : Option CaptureRefusal) (t : State) (q : CapturedPacket) : Type 0 where
   pub later : List PacketValue
   pub parts : todo ≡ captured_packet_view q ∷ later
@@ -41,9 +44,15 @@ packet_next : (todo : List PacketValue) (left : List ℕ) (fault : Option Captur
 packet_next [] left None s t q g = let none = g.0 in absurd cc
 packet_next [] left (Some r) s t q g = let given = g.1 in absurd cc
 packet_next (p ∷ ps) left fault s t q g =
-    let given = g.1 in
+    let given : Returns (Some (Ok q)) (Some (Ok g.0)) = assumption g in
     let is : g.0 ≡ q = cc in
-    record { later = ps; parts = ap (λ (v : PacketValue). v ∷ ps) (sym g.2 ∙ ap captured_packet_view is); has = g.3; going = g.4 }
+    let view : captured_packet_view g.0 ≡ p = assumption g in
+    record {
+      later = ps;
+      parts = ap (λ (v : PacketValue). v ∷ ps) (sym view ∙ ap captured_packet_view is);
+      has = assumption g;
+      going = assumption g;
+    }
 
 pub record FaultNext (todo : List PacketValue) (left : List ℕ) (fault : Option CaptureRefusal) (t : State) (f : CaptureFault) : Type 0 where
   pub none_left : todo ≡ []
@@ -63,7 +72,7 @@ fault_next [] left (Some r) s t f g =
       place = ap (λ (h : CaptureFault). h.offset) (sym is) ∙ g.3;
       rest = g.4;
     }
-fault_next (p ∷ ps) left fault s t f g = let given = g.1 in absurd cc
+fault_next (p ∷ ps) left fault s t f g = let given : Returns (Some (Err f)) (Some (Ok g.0)) = assumption g in absurd cc
 
 pub record NoneNext (todo : List PacketValue) (fault : Option CaptureRefusal) : Type 0 where
   pub none_left : todo ≡ []
@@ -72,7 +81,7 @@ pub record NoneNext (todo : List PacketValue) (fault : Option CaptureRefusal) : 
 none_next : (todo : List PacketValue) (left : List ℕ) (fault : Option CaptureRefusal) (s t : State) → GivesNext todo left fault s None t → NoneNext todo fault
 none_next [] left None s t g = record { none_left = refl; no_fault = refl }
 none_next [] left (Some r) s t g = let given = g.1 in absurd cc
-none_next (p ∷ ps) left fault s t g = let given = g.1 in absurd cc
+none_next (p ∷ ps) left fault s t g = let given : Returns None (Some (Ok g.0)) = assumption g in absurd cc
 
 -- ---- a file that is under way
 
