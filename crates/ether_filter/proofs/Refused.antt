@@ -1,6 +1,6 @@
 -- A text that is refused, by the table.
 use Rattle.std.proofs.Common.{◌≡◌, ℕ, ◌+◌, ◌≤◌, ◌≢◌, List, [], ◌∷◌, ◌++◌, length, refl, sym, ap, subst, ◌∙◌, inl, inr, length-append, arith}
-use Rattle.std.specs.Prelude.{Result, Ok, Err, Some, None, nat_eq}
+use Rattle.std.specs.Prelude.{Result, Ok, Err, Some, None, nat_eq, ◌⊎◌}
 use Rattle.std.proofs.lemmas.Bool.{ne_eqb, eqb-false, eqb-true, eq-eqb}
 use Rattle.std.proofs.lemmas.List.{append_assoc, append-nil}
 use Rattle.ether_filter.specs.declared.node.Node.{Node}
@@ -22,7 +22,7 @@ use Rattle.ether_filter.proofs.ReadingLemmas.{going, all_from, expression_read}
 use Rattle.ether_filter.proofs.Sound.{Found, decided, all_was, begun_was_read}
 use Rattle.ether_filter.proofs.Fitting.{run, Stands, all_run, run_more, stands_begins, begins_stands, taken_fits, going_ok}
 use Rattle.ether_filter.proofs.Lacking.{taken_kind, ended_kind, stands_lacks, row_kind}
-use Rattle.ether_filter.proofs.TextLemmas.{text_read}
+use Rattle.ether_filter.proofs.TextLemmas.{text_expression, text_read}
 
 tokens-more : (front : List Word) (w : Word) → tokens_of (front ++ w ∷ []) ≡ tokens_of front ++ token_of w.bytes ∷ []
 tokens-more [] w = refl
@@ -142,5 +142,9 @@ one_refusal text a b p q = let same = sym (refused_text text a p) ∙ refused_te
 one_of_both : (text : List ℕ) (x : Expression) (a : FilterError) → IsExpressionOf text x → RefusesText text a → ⊥
 one_of_both text x a p q = let both = sym (text_read text x p) ∙ refused_text text a q in cc
 
+as_read : (text : List ℕ) (r : Result (List Node) FilterError) → read_text text ≡ r → ((x : Expression) × IsExpressionOf text x) ⊎ ((a : FilterError) × RefusesText text a)
+as_read text (Ok ns) is = inl (expression_of ns, text_expression text ns is)
+as_read text (Err error) is = inr (error, text_refused text error is)
+
 pub texts_mean_one : TextsMeanOne
-texts_mean_one = record { expression = one_expression; refusal = one_refusal; either = one_of_both }
+texts_mean_one = record { some = λ text. as_read text (read_text text) refl; expression = one_expression; refusal = one_refusal; either = one_of_both }

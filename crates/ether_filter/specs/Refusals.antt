@@ -1,5 +1,5 @@
 -- The table of refusals: texts that mean no expression, and the error.
-use Rattle.std.specs.Prelude.{◌≡◌, ℕ, ◌+◌, ◌<◌, ◌≤◌, List, [], ◌∷◌, ◌++◌, length, Option, Some, None}
+use Rattle.std.specs.Prelude.{◌≡◌, ◌⊎◌, ℕ, ◌+◌, ◌<◌, ◌≤◌, List, [], ◌∷◌, ◌++◌, length, Option, Some, None}
 use Rattle.ether_filter.specs.declared.node.Operator.{Operator}
 use Rattle.ether_filter.specs.declared.token.Token.{Token}
 use Rattle.ether_filter.specs.declared.token.Token.TheVariants as tokens
@@ -28,7 +28,7 @@ pub record IsAfterOperand (ts : List Token) : Type 0 where
   pub operator : Operator
   pub fits : Fits ts (tokens.Join operator)
 
--- no operator, parenthesis or number
+-- no operator, closing parenthesis or number
 abbrev pub IsOther : Token → Type 0
 IsOther (tokens.Join operator) = ⊥
 IsOther tokens.Close = ⊥
@@ -69,6 +69,7 @@ RefusesText text error = Refuses (words_of text) (length text) error
 
 -- the law: a text has one expression or one refusal, and no second one
 pub record TextsMeanOne : Type 0 where
+  pub some : (text : List ℕ) → ((x : Expression) × IsExpressionOf text x) ⊎ ((a : FilterError) × RefusesText text a)
   pub expression : (text : List ℕ) (x y : Expression) → IsExpressionOf text x → IsExpressionOf text y → x ≡ y
   pub refusal : (text : List ℕ) (a b : FilterError) → RefusesText text a → RefusesText text b → a ≡ b
   pub either : (text : List ℕ) (x : Expression) (a : FilterError) → IsExpressionOf text x → RefusesText text a → ⊥
