@@ -1,5 +1,6 @@
 mod Records
 mod FileHeaders
+mod Writing
 mod Blocks
 mod Bodies
 mod Sections

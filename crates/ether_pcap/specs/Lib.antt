@@ -1,6 +1,7 @@
 pub mod Numbers
 pub mod FileHeader
 pub mod Record
+pub mod Writing
 pub mod Views
 pub mod Reading
 pub mod Laws

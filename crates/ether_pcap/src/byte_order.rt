@@ -11,6 +11,7 @@ use ether_base::big_endian::u64_of;
 /// ```
 /// assert_eq!(rt; ByteOrder::BigEndian.u16_of([0x02, 0x01]), 513);
 /// assert_eq!(rt; ByteOrder::LittleEndian.u16_of([0x02, 0x01]), 258);
+/// assert_eq!(rt; ByteOrder::LittleEndian.bytes_of_u16(258), [0x02, 0x01]);
 /// ```
 #[derive(Clone, Copy, PartialEq, Eq, Debug)]
 pub enum ByteOrder {
@@ -48,6 +49,26 @@ impl ByteOrder {
         match self {
             ByteOrder::BigEndian => u64_of(bytes),
             ByteOrder::LittleEndian => u64_from_low(bytes),
+        }
+    }
+
+    /// The bytes of a number of 16 bits in this order.
+    pub fn bytes_of_u16(self, number: u16) -> [u8; 2]
+        ensures { number_in (order_of self) result ≡ number }
+    {
+        match self {
+            ByteOrder::BigEndian => number.to_be_bytes(),
+            ByteOrder::LittleEndian => number.to_le_bytes(),
+        }
+    }
+
+    /// The bytes of a number of 32 bits in this order.
+    pub fn bytes_of_u32(self, number: u32) -> [u8; 4]
+        ensures { number_in (order_of self) result ≡ number }
+    {
+        match self {
+            ByteOrder::BigEndian => number.to_be_bytes(),
+            ByteOrder::LittleEndian => number.to_le_bytes(),
         }
     }
 

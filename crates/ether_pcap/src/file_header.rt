@@ -1,6 +1,7 @@
 //! The header of a classic pcap file.
-ghost use Rattle.std.specs.Prelude.{◌≡◌, ◌≤◌, length, IfOk, IfErr};
+ghost use Rattle.std.specs.Prelude.{◌≡◌, ◌<◌, ◌≤◌, ℕ, List, length, ◌++◌, slice_range, IfOk, IfErr};
 ghost use Rattle.ether_pcap.specs.FileHeader.{IsFileHeader, RefusesFile, HasMagic, fcs_len_of};
+ghost use Rattle.ether_pcap.specs.Writing.{WritesFileHeader, HasFcsLen, link_word_of, zeros};
 ghost use Rattle.ether_pcap.specs.Views.{order_of, resolution_of, file_header_view, file_refusal_view};
 
 use crate::{ByteOrder, FileHeaderError, LinkType, TimeUnit};
@@ -29,6 +30,7 @@ use crate::{ByteOrder, FileHeaderError, LinkType, TimeUnit};
 /// assert_eq!(rt; header.snap_len, 65535);
 /// assert_eq!(rt; header.link_type, LinkType::ETHERNET);
 /// assert_eq!(rt; header.fcs_len, Some(4));
+/// assert_eq!(rt; header.to_bytes(), bytes);
 /// ```
 #[derive(Clone, Copy, PartialEq, Eq, Debug)]
 pub struct FileHeader {
@@ -82,6 +84,61 @@ impl FileHeader {
             link_type: LinkType((link % 0x1_0000) as u16),
             fcs_len: fcs_len(link),
         })
+    }
+
+    /// The bytes of the header, with those that are not read and the reserved bits 0.
+    ///
+    /// A length of the frame check sequence is even and at most 30; of another one half of it, rounded down, is taken modulo 16.
+    pub fn to_bytes(&self) -> [u8; 24]
+        ensures value { WritesFileHeader result (file_header_view self.now) }
+        ensures len { length result ≡ 24 }
+        ensures read_back { HasFcsLen self.now.fcs_len → (rest : List ℕ) → IsFileHeader (result ++ rest) (file_header_view self.now) }
+    {
+        let order = self.byte_order;
+        joined(
+            order.bytes_of_u32(self.time_unit.magic()),
+            order.bytes_of_u16(2),
+            order.bytes_of_u16(4),
+            order.bytes_of_u32(self.snap_len),
+            order.bytes_of_u32(link_word(self.link_type, self.fcs_len)),
+        )
+    }
+}
+
+/// Three numbers, eight zeros, and two numbers, one after the other.
+fn joined(
+    magic: [u8; 4],
+    major: [u8; 2],
+    minor: [u8; 2],
+    snap_len: [u8; 4],
+    link: [u8; 4],
+) -> [u8; 24]
+    ensures magic { slice_range result 0 4 ≡ magic }
+    ensures major { slice_range result 4 6 ≡ major }
+    ensures minor { slice_range result 6 8 ≡ minor }
+    ensures not_read { slice_range result 8 16 ≡ zeros 8 }
+    ensures snap_len { slice_range result 16 20 ≡ snap_len }
+    ensures link { slice_range result 20 24 ≡ link }
+{
+    let [m0, m1, m2, m3] = magic;
+    let [a0, a1] = major;
+    let [i0, i1] = minor;
+    let [s0, s1, s2, s3] = snap_len;
+    let [l0, l1, l2, l3] = link;
+    [
+        m0, m1, m2, m3, a0, a1, i0, i1, 0, 0, 0, 0, 0, 0, 0, 0, s0, s1, s2, s3, l0, l1, l2, l3,
+    ]
+}
+
+/// The last number of the header.
+fn link_word(link_type: LinkType, fcs_len: Option<u8>) -> u32
+    ensures value { result ≡ link_word_of link_type.0 fcs_len }
+    ensures fits { link_type.0 < 65536 }
+{
+    let link_type = u32::from(link_type.0);
+    match fcs_len {
+        None => link_type,
+        Some(len) => u32::from(len / 2 % 16) * 0x1000_0000 + 0x400_0000 + link_type,
     }
 }
 

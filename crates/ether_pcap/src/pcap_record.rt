@@ -1,9 +1,10 @@
 //! A record: a captured packet.
-ghost use Rattle.std.specs.Prelude.{◌≡◌, ◌+◌, length, IfOk, IfErr};
-ghost use Rattle.ether_pcap.specs.Record.{BeginsRecord, RefusesRecord, nanoseconds_of};
+ghost use Rattle.std.specs.Prelude.{◌≡◌, ◌≤◌, ◌+◌, ℕ, List, length, ◌++◌, slice_range, IfOk, IfErr};
+ghost use Rattle.ether_pcap.specs.Record.{BeginsRecord, RefusesRecord, max_captured_len, nanoseconds_of};
+ghost use Rattle.ether_pcap.specs.Writing.{WritesRecordHeader};
 ghost use Rattle.ether_pcap.specs.Views.{order_of, resolution_of, record_view, record_refusal_view};
 
-use crate::{FileHeader, RecordError, TimeUnit};
+use crate::{ByteOrder, FileHeader, RecordError, TimeUnit};
 
 /// A view of a record of a classic pcap file (draft-ietf-opsawg-pcap, section 5): a captured packet, with a header of 16 bytes
 /// before it.
@@ -114,4 +115,52 @@ impl<'a> PcapRecord<'a> {
         };
         u64::from(self.seconds) * 1_000_000_000 + nanoseconds
     }
+
+    /// The bytes of the record's header in a file of this byte order. The bytes of `packet` follow them.
+    ///
+    /// A packet of more than [`PcapRecord::MAX_CAPTURED_LEN`] bytes is not read back; the length of one of 4 GiB or more is written
+    /// modulo 2^32.
+    ///
+    /// ```
+    /// let record = PcapRecord {
+    ///     seconds: 1_700_000_000,
+    ///     fraction: 5,
+    ///     original_len: 60,
+    ///     packet: &[0xFF, 0xFF],
+    /// };
+    /// let bytes = record.header_to_bytes(ByteOrder::BigEndian);
+    /// let wanted = [
+    ///     0x65, 0x53, 0xF1, 0x00, 0x00, 0x00, 0x00, 0x05, 0x00, 0x00, 0x00, 0x02, 0x00, 0x00, 0x00, 0x3C,
+    /// ];
+    /// assert_eq!(rt; bytes, wanted);
+    /// ```
+    pub fn header_to_bytes(&self, byte_order: ByteOrder) -> [u8; 16]
+        ensures value { WritesRecordHeader (order_of byte_order) result (record_view self.now) }
+        ensures len { length result ≡ 16 }
+        ensures read_back { length self.now.packet.now ≤ max_captured_len → (rest : List ℕ)
+            → BeginsRecord (order_of byte_order) (result ++ self.now.packet.now ++ rest) (record_view self.now) }
+    {
+        joined(
+            byte_order.bytes_of_u32(self.seconds),
+            byte_order.bytes_of_u32(self.fraction),
+            byte_order.bytes_of_u32((self.packet.len() % 0x1_0000_0000) as u32),
+            byte_order.bytes_of_u32(self.original_len),
+        )
+    }
+}
+
+/// Four numbers, one after the other.
+fn joined(seconds: [u8; 4], fraction: [u8; 4], captured_len: [u8; 4], original_len: [u8; 4]) -> [u8; 16]
+    ensures seconds { slice_range result 0 4 ≡ seconds }
+    ensures fraction { slice_range result 4 8 ≡ fraction }
+    ensures captured_len { slice_range result 8 12 ≡ captured_len }
+    ensures original_len { slice_range result 12 16 ≡ original_len }
+{
+    let [s0, s1, s2, s3] = seconds;
+    let [f0, f1, f2, f3] = fraction;
+    let [c0, c1, c2, c3] = captured_len;
+    let [o0, o1, o2, o3] = original_len;
+    [
+        s0, s1, s2, s3, f0, f1, f2, f3, c0, c1, c2, c3, o0, o1, o2, o3,
+    ]
 }

@@ -27,4 +27,14 @@ impl TimeUnit {
             _ => None,
         }
     }
+
+    /// The magic number of a file with this unit.
+    pub fn magic(self) -> u32
+        ensures { result ≡ magic_of (resolution_of self) }
+    {
+        match self {
+            TimeUnit::Microseconds => 0xA1B2_C3D4,
+            TimeUnit::Nanoseconds => 0xA1B2_3C4D,
+        }
+    }
 }

@@ -1,0 +1,35 @@
+-- What a classic capture file is written as: all that is read of it, and 0 for the rest (draft-ietf-opsawg-pcap, sections 4 and 5).
+use Rattle.std.specs.Prelude.{◌≡◌, ℕ, zero, suc, ◌+◌, ◌*◌, ◌/◌, ◌%◌, ◌^◌, ◌≤◌, List, [], ◌∷◌, length, slice_range, Option, Some, None, ⊤}
+use Rattle.ether_pcap.specs.Numbers.{Order, field}
+use Rattle.ether_pcap.specs.FileHeader.{FileHeaderValue, HasMagic}
+use Rattle.ether_pcap.specs.Record.{RecordValue}
+
+abbrev pub zeros : ℕ → List ℕ
+zeros zero = []
+zeros (suc n) = 0 ∷ zeros n
+
+-- a length of a frame check sequence that the header can give: none, or pairs of bytes, whose number has four bits
+abbrev pub HasFcsLen : Option ℕ → Type 0
+HasFcsLen None = ⊤
+HasFcsLen (Some len) = (len % 2 ≡ 0) × (len ≤ 30)
+
+-- the last number of the header: the link type; and, if there is a length, bit 26 (P) and the number of its pairs from bit 28 on
+abbrev pub link_word_of : ℕ → Option ℕ → ℕ
+link_word_of link_type None = link_type
+link_word_of link_type (Some len) = len / 2 % 16 * 2 ^ 28 + 2 ^ 26 + link_type
+
+-- magic number 4 bytes, version 2.4 in 2 bytes each, 8 bytes of 0, snap length 4 bytes, the last number 4 bytes
+pub record WritesFileHeader (bytes : List ℕ) (h : FileHeaderValue) : Type 0 where
+  pub magic : HasMagic bytes h.order h.resolution
+  pub major : field h.order bytes 4 6 ≡ 2
+  pub minor : field h.order bytes 6 8 ≡ 4
+  pub not_read : slice_range bytes 8 16 ≡ zeros 8
+  pub snap_len : field h.order bytes 16 20 ≡ h.snap_len
+  pub link : field h.order bytes 20 24 ≡ link_word_of h.link_type h.fcs_len
+
+-- seconds, fraction, number of captured bytes, original length, 4 bytes each
+pub record WritesRecordHeader (order : Order) (bytes : List ℕ) (r : RecordValue) : Type 0 where
+  pub seconds : field order bytes 0 4 ≡ r.seconds
+  pub fraction : field order bytes 4 8 ≡ r.fraction
+  pub captured_len : field order bytes 8 12 ≡ length r.packet % 2 ^ 32
+  pub original_len : field order bytes 12 16 ≡ r.original_len
