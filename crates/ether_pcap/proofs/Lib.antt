@@ -1,6 +1,7 @@
 mod Records
 mod FileHeaders
 mod Writing
+mod WrittenFiles
 mod Blocks
 mod Bodies
 mod Sections

@@ -1,7 +1,6 @@
 pub mod Numbers
 pub mod FileHeader
 pub mod Record
-pub mod Writing
 pub mod Views
 pub mod Reading
 pub mod Laws
@@ -13,6 +12,7 @@ pub mod PcapngViews
 pub mod Texts
 pub mod PcapngTexts
 pub mod Capture
+pub mod Writing
 pub mod CaptureViews
 pub mod CaptureTexts
 pub mod CaptureReading

@@ -1,8 +1,10 @@
 -- What a classic capture file is written as: all that is read of it, and 0 for the rest (draft-ietf-opsawg-pcap, sections 4 and 5).
-use Rattle.std.specs.Prelude.{◌≡◌, ℕ, zero, suc, ◌+◌, ◌*◌, ◌/◌, ◌%◌, ◌^◌, ◌≤◌, List, [], ◌∷◌, length, slice_range, Option, Some, None, ⊤}
+use Rattle.std.specs.Prelude.{◌≡◌, ℕ, zero, suc, ◌+◌, ◌*◌, ◌/◌, ◌%◌, ◌^◌, ◌<◌, ◌≤◌, List, [], ◌∷◌, ◌++◌, length, slice_range, map, Option, Some, None, ⊤}
+use Rattle.ether_base.specs.Bytes.{IsBytes}
 use Rattle.ether_pcap.specs.Numbers.{Order, field}
 use Rattle.ether_pcap.specs.FileHeader.{FileHeaderValue, HasMagic}
-use Rattle.ether_pcap.specs.Record.{RecordValue}
+use Rattle.ether_pcap.specs.Record.{RecordValue, max_captured_len}
+use Rattle.ether_pcap.specs.Capture.{packet_of_record, Beginning, HasPackets}
 
 abbrev pub zeros : ℕ → List ℕ
 zeros zero = []
@@ -33,3 +35,16 @@ pub record WritesRecordHeader (order : Order) (bytes : List ℕ) (r : RecordValu
   pub fraction : field order bytes 4 8 ≡ r.fraction
   pub captured_len : field order bytes 8 12 ≡ length r.packet % 2 ^ 32
   pub original_len : field order bytes 12 16 ≡ r.original_len
+
+-- records, each as the bytes of its header and its packet, one after the other
+pub data WritesRecords (order : Order) : List ℕ → List RecordValue → Type 0 where
+  none : WritesRecords order [] []
+  more : (header bytes : List ℕ) (r : RecordValue) (records : List RecordValue) → length header ≡ 16 → WritesRecordHeader order header r
+      → length r.packet ≤ max_captured_len → WritesRecords order bytes records → WritesRecords order (header ++ r.packet ++ bytes) (r ∷ records)
+
+-- A file that is written as a header and records has exactly their packets, and nothing else.
+abbrev pub WrittenFilesAreRead : Type 0
+WrittenFilesAreRead =
+    (header bytes : List ℕ) (h : FileHeaderValue) (records : List RecordValue) → IsBytes header → length header ≡ 24 → h.link_type < 2 ^ 16
+    → HasFcsLen h.fcs_len → WritesFileHeader header h → WritesRecords h.order bytes records
+    → HasPackets Beginning (header ++ bytes) (map (packet_of_record h) records) [] None

@@ -1,5 +1,6 @@
 //! The laws of the format. Each is the contract of a function that does nothing.
 ghost use Rattle.ether_pcap.specs.Laws.{FileHeadersAreOne, RecordsAreOne, ContentsAreOne, BlocksAreOne, BodiesAreOne, SectionsAreOne, OptionsAreOne};
+ghost use Rattle.ether_pcap.specs.Writing.{WrittenFilesAreRead};
 ghost use Rattle.ether_pcap.specs.CaptureLaws.{UnitsAreLocal, UnitLengths, UnitsAreOne, PacketsAreOne};
 
 /// Bytes begin with at most one file header, or are refused for one reason.
@@ -56,4 +57,9 @@ pub fn units_are_one()
 /// Any bytes have packets, in one way: these, what is left after them, and why it is refused.
 pub fn packets_are_one()
     ensures { PacketsAreOne }
+{}
+
+/// A classic file that is written as a header and records has exactly their packets, and nothing else.
+pub fn written_files_are_read()
+    ensures { WrittenFilesAreRead }
 {}

@@ -150,7 +150,12 @@ impl<'a> PcapRecord<'a> {
 }
 
 /// Four numbers, one after the other.
-fn joined(seconds: [u8; 4], fraction: [u8; 4], captured_len: [u8; 4], original_len: [u8; 4]) -> [u8; 16]
+fn joined(
+    seconds: [u8; 4],
+    fraction: [u8; 4],
+    captured_len: [u8; 4],
+    original_len: [u8; 4],
+) -> [u8; 16]
     ensures seconds { slice_range result 0 4 ≡ seconds }
     ensures fraction { slice_range result 4 8 ≡ fraction }
     ensures captured_len { slice_range result 8 12 ≡ captured_len }

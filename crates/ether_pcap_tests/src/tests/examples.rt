@@ -18,8 +18,9 @@ fn of_numbers(rt: HostRuntime) {
             little.u16_of([0x02, 0x01]),
             big.u32_of([0x04, 0x03, 0x02, 0x01]),
             little.u32_of([0x04, 0x03, 0x02, 0x01]),
+            little.bytes_of_u16(258),
         ),
-        &(513, 258, 0x0403_0201, 0x0102_0304),
+        &(513, 258, 0x0403_0201, 0x0102_0304, [0x02, 0x01]),
     );
     let early = Timestamp {
         seconds: 1_700_000_000,
@@ -65,8 +66,8 @@ fn of_classic_files(rt: HostRuntime) -> Result<(), Fail> {
     equal(
         &rt,
         "a file header",
-        &FileHeader::from_slice(&bytes),
-        &Ok(header),
+        &(FileHeader::from_slice(&bytes), header.to_bytes()),
+        &(Ok(header), bytes),
     );
     let file = FileHeader {
         byte_order: ByteOrder::BigEndian,
@@ -87,6 +88,16 @@ fn of_classic_files(rt: HostRuntime) -> Result<(), Fail> {
         "a record",
         &(nanoseconds, record.original_len, record.packet),
         &(1_700_000_000_000_005_000, 60, [0xFF, 0xFF].as_slice()),
+    );
+    let wanted = [
+        0x65, 0x53, 0xF1, 0x00, 0x00, 0x00, 0x00, 0x05, 0x00, 0x00, 0x00, 0x02, 0x00, 0x00, 0x00,
+        0x3C,
+    ];
+    equal(
+        &rt,
+        "a written header of a record",
+        &record.header_to_bytes(ByteOrder::BigEndian),
+        &wanted,
     );
     let mut records = PcapRecords::from_slice(&FILE)?;
     let link_type = records.header().link_type;
