@@ -39,6 +39,11 @@ ARTEFACTS = {
     "Capture files": {
         "ether_pcap/src/capture_packets.rt": ["from_slice", "rest", "offset", "ghost"],
     },
+    "Captures written": {
+        "ether_pcap/src/file_header.rt": ["to_bytes"],
+        "ether_pcap/src/pcap_record.rt": ["header_to_bytes"],
+        "ether_pcap/src/laws.rt": ["written_files_are_read"],
+    },
     "Captures": {
         "ether_capture/src/run.rt": ["run"],
         "ether_capture/src/program.rt": ["program"],
