@@ -15,12 +15,14 @@ link_type_back t (Some n) lt = omega arith
 
 fcs_len_back : (t : ℕ) (f : Option ℕ) → t < 65536 → HasFcsLen f → fcs_len_of (link_word_of t f) ≡ f
 fcs_len_back t None lt has =
-    ap (λ (b : Bool). if b then Some (2 * (t / 2 ^ 28)) else None) (ne_eqb (t / 2 ^ 26 % 2) 1 (λ e. omega (arith, e, lt)))
+    ap (λ (b : Bool). if b then Some (2 * (t / 2 ^ 28)) else None)
+    (ne_eqb (t / 2 ^ 26 % 2) 1 (λ e. omega (arith, e, lt)))
 fcs_len_back t (Some n) lt has =
     let word = link_word_of t (Some n) in
     let even = has.0 in
     let le = has.1 in
-    ap (λ (b : Bool). if b then Some (2 * (word / 2 ^ 28)) else None) (eq-eqb (word / 2 ^ 26 % 2) 1 (omega (arith, lt, even, le)))
+    ap (λ (b : Bool). if b then Some (2 * (word / 2 ^ 28)) else None)
+    (eq-eqb (word / 2 ^ 26 % 2) 1 (omega (arith, lt, even, le)))
     ∙ ap Some (omega (arith, lt, even, le))
 
 pub file_header_back : (bytes rest : List ℕ) (h : FileHeaderValue) → length bytes ≡ 24 → WritesFileHeader bytes h
@@ -39,8 +41,8 @@ file_header_back bytes rest h len w lt has =
       fcs_len = ap fcs_len_of word ∙ fcs_len_back h.link_type h.fcs_len lt has;
     }
 
-pub record_back : (order : Order) (bytes rest : List ℕ) (r : RecordValue) → length bytes ≡ 16 → WritesRecordHeader order bytes r
-    → length r.packet ≤ 262144 → BeginsRecord order (bytes ++ r.packet ++ rest) r
+pub record_back : (order : Order) (bytes rest : List ℕ) (r : RecordValue) → length bytes ≡ 16
+    → WritesRecordHeader order bytes r → length r.packet ≤ 262144 → BeginsRecord order (bytes ++ r.packet ++ rest) r
 record_back order bytes rest r len w le =
     let more = r.packet ++ rest in
     let at : (i j : ℕ) → i ≤ j → j ≤ 16 → field order (bytes ++ r.packet ++ rest) i j ≡ field order bytes i j =

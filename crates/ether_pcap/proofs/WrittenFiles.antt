@@ -13,7 +13,8 @@ use Rattle.ether_pcap.specs.Writing.{WritesRecords, none, more, WrittenFilesAreR
 use Rattle.ether_pcap.proofs.Writing.{file_header_back, record_back}
 
 -- four bytes that are a magic number in the other order are no type of a section header
-not_from_low : (l : List ℕ) → length l ≡ 4 → IsBytes l → (r : Resolution) → number_from_low l ≡ magic_of r → number l ≡ 0x0A0D0D0A → ⊥
+not_from_low : (l : List ℕ) → length l ≡ 4 → IsBytes l → (r : Resolution) → number_from_low l ≡ magic_of r
+    → number l ≡ 0x0A0D0D0A → ⊥
 not_from_low [] len ok r p q = omega arith
 not_from_low (a ∷ []) len ok r p q = omega arith
 not_from_low (a ∷ b ∷ []) len ok r p q = omega arith
@@ -28,29 +29,33 @@ not_from_high : (n : ℕ) (r : Resolution) → n ≡ magic_of r → n ≡ 0x0A0D
 not_from_high n Microseconds p q = omega (arith, p, q)
 not_from_high n Nanoseconds p q = omega (arith, p, q)
 
-no_section : (header : List ℕ) (order : Order) (r : Resolution) → IsBytes header → length header ≡ 24 → HasMagic header order r
-    → HasSectionType header → ⊥
+no_section : (header : List ℕ) (order : Order) (r : Resolution) → IsBytes header → length header ≡ 24
+    → HasMagic header order r → HasSectionType header → ⊥
 no_section header BigEndian r ok len has is = not_from_high _ r has is
 no_section header LittleEndian r ok len has is =
-    not_from_low (slice_range header 0 4) (length-part header 0 4 (omega (arith, len)) ∙ omega arith) (IsBytes-part 0 4 header ok) r
-    has is
+    not_from_low (slice_range header 0 4) (length-part header 0 4 (omega (arith, len)) ∙ omega arith)
+    (IsBytes-part 0 4 header ok)
+    r has is
 
-written_records : (h : FileHeaderValue) (bytes : List ℕ) (records : List RecordValue) → WritesRecords h.order bytes records
-    → HasPackets (Records h) bytes (map (packet_of_record h) records) [] None
+written_records : (h : FileHeaderValue) (bytes : List ℕ) (records : List RecordValue)
+    → WritesRecords h.order bytes records → HasPackets (Records h) bytes (map (packet_of_record h) records) [] None
 written_records h [] [] none = ended (Records h) [] (λ e. cc, refl)
 written_records h _ _ (more header bytes r records len is le rest) =
     let front = header ++ r.packet in
     let end = drop_at front bytes (record_len r) (length-append header r.packet ∙ omega (arith, len)) in
     let others = written_records h bytes records rest in
-    packet (Records h) (Records h) (front ++ bytes) (record_len r) (packet_of_record h r) (map (packet_of_record h) records) [] None
+    packet (Records h) (Records h) (front ++ bytes) (record_len r) (packet_of_record h r)
+    (map (packet_of_record h) records) [] None
     (file_record h r (record_back h.order header bytes r len is le))
     (subst (λ (l : List ℕ). HasPackets (Records h) l (map (packet_of_record h) records) [] None) (sym end) others)
 
 pub written_files_are_read : WrittenFilesAreRead
 written_files_are_read header bytes h records ok len lt has writes rest =
     let type_of = part-append header bytes 0 4 (omega arith) (omega (arith, len)) in
-    let none = λ (t : HasSectionType (header ++ bytes)). no_section header h.order h.resolution ok len writes.magic (ap number (sym type_of) ∙ t) in
+    let none = λ (t : HasSectionType (header ++ bytes)).
+    no_section header h.order h.resolution ok len writes.magic (ap number (sym type_of) ∙ t) in
     let packets = map (packet_of_record h) records in
     unit Beginning (Records h) (header ++ bytes) 24 packets [] None
     (file_header h none (file_header_back header bytes h len writes lt has))
-    (subst (λ (l : List ℕ). HasPackets (Records h) l packets [] None) (sym (drop_at header bytes 24 len)) (written_records h bytes records rest))
+    (subst (λ (l : List ℕ). HasPackets (Records h) l packets [] None) (sym (drop_at header bytes 24 len))
+    (written_records h bytes records rest))
