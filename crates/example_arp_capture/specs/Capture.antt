@@ -1,0 +1,14 @@
+-- A capture of an ARP request.
+use Rattle.std.specs.Prelude.{ℕ, ◌*◌, ◌^◌, List, [], ◌∷◌, Some, None}
+use Rattle.ether_pcap.specs.Capture.{PacketValue, time_of, Beginning, HasPackets}
+use Rattle.example_arp_generator.specs.Request.{IsRequest}
+
+-- on Ethernet (1), without a check sequence, not cut
+abbrev pub packet_at : (seconds : ℕ) → List ℕ → PacketValue
+packet_at seconds frame = record { time = Some (time_of (seconds * 10 ^ 9)); original_len = 46; link_type = 1; fcs_len = None; packet = frame }
+
+-- The file has exactly one packet, which is the request, and nothing else.
+pub record IsCaptureOfRequest (seconds vlan_id : ℕ) (mac ipv4 target bytes : List ℕ) : Type 0 where
+  pub frame : List ℕ
+  pub request : IsRequest vlan_id mac ipv4 target frame
+  pub has : HasPackets Beginning bytes (packet_at seconds frame ∷ []) [] None
