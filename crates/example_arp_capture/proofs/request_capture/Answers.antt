@@ -27,7 +27,8 @@ returns c =
     let front_writes : WritesRecordHeader LittleEndian front r = c.header_to_bytes.ensures.value in
     let records : WritesRecords LittleEndian (front ++ frame ++ []) (r ∷ []) =
     more front [] r [] c.header_to_bytes.ensures.len front_writes (omega (arith, frame_len)) none in
-    let has = c.written_files_are_read.ensures file (front ++ frame ++ []) h (r ∷ []) bytes c.to_bytes.ensures.len (omega arith) tt writes records in
+    let has = c.written_files_are_read.ensures file (front ++ frame ++ []) h (r ∷ []) bytes c.to_bytes.ensures.len
+    (omega arith) tt writes records in
     let joined : file ++ (front ++ frame ++ []) ≡ file ++ front ++ frame =
     ap (λ (l : List ℕ). file ++ l) (append-nil (front ++ frame)) ∙ sym (append_assoc file front frame) in
     let packet_of : ℕ → PacketValue = λ n. record (packet_at a.seconds frame) { time = Some (time_of n) } in
