@@ -26,7 +26,7 @@
  *   Memory   No call allocates, blocks, or stores anything between calls, so each is thread-safe.
  *            etherpeel_completion and etherpeel_fault_text take some 2.5 KB of stack, those of
  *            capture files 300 KB, the others less than 1 KB.
- *   Time     Linear in the number of headers, of which a frame has at most len / 4;
+ *   Time     Linear in the number of headers, at most len / 4 in a frame;
  *            etherpeel_write_back also copies the frame. Of capture files linear in that of their
  *            units.
  *   Limits   Most calls have a form `.._limited`, which reads no more than `limit` VLAN tags and

@@ -117,7 +117,7 @@ callers_in_c() {
             fi
         done
     done
-    run "The header beside others" sh tests/beside.sh "$cc" "$cxx" "$library" "$work"
+    run "The header with others" sh tests/beside.sh "$cc" "$cxx" "$library" "$work"
     run "The shared library" sh tests/shared.sh "$cc" "$library" "$work/libetherpeel.so.2" "$work"
 }
 
@@ -128,9 +128,9 @@ callers_in_python() {
     run "Python, $python" "$python" tests/tests.py "$work/package"
     scapy=$(python_with scapy "$python" /usr/bin/python3)
     if [ -n "$scapy" ]; then
-        run "Python beside scapy, $scapy" "$scapy" tests/scapy_fields.py "$work/package"
+        run "Python and scapy, $scapy" "$scapy" tests/scapy_fields.py "$work/package"
     else
-        echo "left out: the package beside scapy, since no Python with scapy was found"
+        echo "left out: the package compared with scapy, since no Python with scapy was found"
     fi
 }
 

@@ -1,4 +1,4 @@
-"""Builds the wheel of the package: its files, and beside them the shared library, linked from libether_c.a by c/link.sh.
+"""Builds the wheel of the package: its files and the shared library, linked from libether_c.a by c/link.sh.
 
 pip calls it, as pyproject.toml says. ETHERPEEL_LIBRARY names another libether_c.a than the one that `rt lib` leaves in
 crates/ether_c/out, CC another C compiler than cc.

@@ -5,7 +5,7 @@ pcap=
 if "$cc" -D_DEFAULT_SOURCE -x c -fsyntax-only -include pcap/pcap.h /dev/null 2> "$work/beside.log"; then
     pcap=-DPCAP
 else
-    echo "left out: etherpeel.h beside the headers of libpcap, since they were not found"
+    echo "left out: etherpeel.h with the headers of libpcap, since they were not found"
 fi
 # a compiler with its words: each order, without libpcap's headers and with them
 compile() {

@@ -506,7 +506,7 @@ static void texts(void) {
 /* ---- packets ---- */
 
 static void packets(void) {
-    /* four VLAN tags, of which the last is not read */
+    /* four VLAN tags: the last is not read */
     static const uint8_t many[] = {ADDRESSES, 0x88, 0xA8, 0x00, 0x0A, 0x81, 0x00, 0x20, 0x14, 0x81,
                                    0x00,      0x00, 0x1E, 0x81, 0x00, 0x00, 0x28, 0x08, 0x00};
     etherpeel_headers h;

@@ -1,7 +1,13 @@
 -- A capture of an ARP request.
 use Rattle.std.specs.Prelude.{ℕ, ◌*◌, ◌^◌, List, [], ◌∷◌, Some, None}
+use Rattle.ether_pcap.specs.Numbers.{LittleEndian}
+use Rattle.ether_pcap.specs.FileHeader.{FileHeaderValue, Nanoseconds}
 use Rattle.ether_pcap.specs.Capture.{PacketValue, time_of, Beginning, HasPackets}
 use Rattle.example_arp_generator.specs.Request.{IsRequest}
+
+-- times in nanoseconds, no packet cut below 256 KiB, Ethernet (1), no length of a check sequence
+abbrev pub header_of_capture : FileHeaderValue
+header_of_capture = record { order = LittleEndian; resolution = Nanoseconds; snap_len = 262144; link_type = 1; fcs_len = None }
 
 -- on Ethernet (1), without a check sequence, not cut
 abbrev pub packet_at : (seconds : ℕ) → List ℕ → PacketValue

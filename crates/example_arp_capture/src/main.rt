@@ -2,7 +2,8 @@
 #![tactic(auto)]
 
 ghost use Rattle.std.specs.Prelude.{◌++◌};
-ghost use Rattle.example_arp_capture.specs.Capture.{IsCaptureOfRequest};
+ghost use Rattle.example_arp_capture.specs.Capture.{header_of_capture, IsCaptureOfRequest};
+ghost use Rattle.ether_pcap.specs.Writing.{WritesFileHeader};
 
 use ether_pcap::laws::written_files_are_read;
 use ether_pcap::{ByteOrder, FileHeader, LinkType, PcapRecord, TimeUnit};
@@ -30,7 +31,9 @@ pub fn request_capture(
     sender_ipv4: [u8; 4],
     target_ipv4: [u8; 4],
 ) -> RequestCapture
-    ensures { IsCaptureOfRequest seconds vlan_id sender_mac sender_ipv4 target_ipv4 (result.file_header ++ result.record_header ++ result.frame) }
+    ensures header { WritesFileHeader result.file_header header_of_capture }
+    ensures packets { IsCaptureOfRequest seconds vlan_id sender_mac sender_ipv4 target_ipv4
+        (result.file_header ++ result.record_header ++ result.frame) }
 {
     written_files_are_read();
     let mut frame = [0; REQUEST_LEN];

@@ -3,22 +3,20 @@ use Rattle.std.specs.Prelude.{Some, None}
 use Rattle.std.proofs.lemmas.List.{append_assoc, append-nil, take_all}
 use Rattle.etherparse.specs.Bytes.{IsBytes}
 use Rattle.ether_pcap.specs.Numbers.{LittleEndian}
-use Rattle.ether_pcap.specs.FileHeader.{FileHeaderValue, Nanoseconds}
 use Rattle.ether_pcap.specs.Record.{RecordValue}
 use Rattle.ether_pcap.specs.Writing.{WritesFileHeader, WritesRecordHeader, WritesRecords, none, more}
 use Rattle.ether_pcap.specs.Capture.{PacketValue, time_of, Beginning, HasPackets}
 use Rattle.example_arp_generator.specs.Request.{IsRequest}
-use Rattle.example_arp_capture.specs.Capture.{packet_at}
+use Rattle.example_arp_capture.specs.Capture.{header_of_capture, packet_at}
 use Rattle.example_arp_capture.proofs.request_capture.Goals as goal
 
-pub returns : goal.returns
-returns c =
+pub returns-clause-packets : goal.returns-clause-packets
+returns-clause-packets c =
     let a = c.args in
     let file = c.to_bytes.result in
     let front = c.header_to_bytes.result in
     let frame = c.write_arp_request.new.target in
-    let h : FileHeaderValue =
-    record { order = LittleEndian; resolution = Nanoseconds; snap_len = 262144; link_type = 1; fcs_len = None } in
+    let h = header_of_capture in
     let r : RecordValue = record { seconds = a.seconds; fraction = 0; original_len = 46; packet = frame } in
     let bytes : IsBytes file = search rules in
     let frame_len : length frame ≡ 46 = search rules in
