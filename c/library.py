@@ -1,9 +1,10 @@
-"""Builds libether_c.a over the libraries that `rt ci` has proved and left in crates/*/out/rlib, so that only `ether_c` itself is
-proved again. Called after `rt ci`; `rt lib` in crates/ether_c proves all that is below it by itself."""
+"""Builds libether_c.a over the libraries that are proved and left in crates/*/out/rlib, as by `rt ci`, so that only `ether_c` itself is
+proved again; `rt lib` in crates/ether_c proves all that is below it by itself. With the word wasm64 builds the module ether_c.wasm instead."""
 import os
 import subprocess
 import sys
 
+WASM64 = ["--target", "wasm64-unknown-unknown"]
 TOP = os.path.dirname(os.path.dirname(os.path.abspath(__file__)))
 
 
@@ -18,7 +19,7 @@ def crates():
     return found
 
 
-def words(kit, name):
+def words(kit, name, archive, target):
     """The words of the compiler for a static library."""
     listed = crates()
     rlib = lambda it: f"{TOP}/crates/{it}/out/rlib/{it}.rlib" if it in listed else f"{kit}/rlibs/{it}.rlib"
@@ -32,8 +33,8 @@ def words(kit, name):
         if it in listed:
             said += ["-L", f"dependency={os.path.dirname(rlib(it))}"]
     said += ["--antt-project", f"{kit}/rattle/logic/antt-project.json", "--logic-built", f"{kit}/logic_built"]
-    said += ["--links", f"{name}=", "--crate-type", "staticlib"]
-    return [*said, "--toolchain", f"{kit}/toolchain", "--backend", "llvm", "-o", f"out/lib{name}.a"]
+    said += ["--links", f"{name}=", "--crate-type", "staticlib", *target]
+    return [*said, "--toolchain", f"{kit}/toolchain", "--backend", "llvm", "-o", archive]
 
 
 def main():
@@ -41,7 +42,13 @@ def main():
     kit = os.path.dirname(doc)
     folder = f"{TOP}/crates/ether_c"
     os.makedirs(f"{folder}/out", exist_ok=True)
-    return subprocess.run([f"{kit}/bin/rattle", "build", *words(kit, "ether_c")], cwd=folder).returncode
+    target = WASM64 if sys.argv[1:] == ["wasm64"] else []
+    archive = "out/libether_c.wasm.a" if target else "out/libether_c.a"
+    status = subprocess.run([f"{kit}/bin/rattle", "build", *words(kit, "ether_c", archive, target)], cwd=folder).returncode
+    if status or not target:
+        return status
+    link = [f"{kit}/bin/rattle-link", *target, "--toolchain", f"{kit}/toolchain", "-o", "out/ether_c.wasm", archive]
+    return subprocess.run(link, cwd=folder).returncode
 
 
 if __name__ == "__main__":

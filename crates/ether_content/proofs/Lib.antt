@@ -1,0 +1,2 @@
+pub mod SelectingLemmas
+pub mod ContentLemmas

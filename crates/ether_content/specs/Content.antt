@@ -1,0 +1,48 @@
+-- What is walked of a captured packet.
+use Rattle.std.specs.Prelude.{◌≡◌, ℕ, ◌-◌, max, List, length, take, slice_range, nat_eq, nat_lt, Bool, true, false, ◌&&◌, not, Some, unwrap_or, if◌then◌else◌}
+use Rattle.etherparse.specs.Kind as kinds
+use Rattle.ether_base.specs.Formats.LinuxSllProtocolType.{told_ether_type}
+use Rattle.ether_peel.specs.Grammar.Expectation.{Next, Start, EtherType}
+use Rattle.ether_sll2.specs.LinuxSll2.{AcceptsLinuxSll2, protocol_of_header}
+use Rattle.ether_pcap.specs.Capture.{PacketValue}
+
+-- some bytes of the packet were not captured
+abbrev pub is_cut : PacketValue → Bool
+is_cut p = nat_lt (length p.packet) p.original_len
+
+-- the length of the frame check sequence at the end of the packet before it was cut
+abbrev pub fcs_len : PacketValue → ℕ
+fcs_len p = unwrap_or p.fcs_len 0
+
+-- the captured bytes without those of the frame check sequence
+abbrev pub without_fcs : PacketValue → List ℕ
+without_fcs p = take (max p.original_len (length p.packet) - fcs_len p) p.packet
+
+-- the whole frame check sequence of Ethernet is there
+abbrev pub has_fcs : PacketValue → Bool
+has_fcs p = not (is_cut p) && nat_eq (fcs_len p) 4
+
+-- what is walked of a packet: a frame, with what it begins with; a packet of Linux cooked capture v2; or nothing
+pub data ContentValue : Type 0 where
+  Frame : Next → List ℕ → ContentValue
+  LinuxSll2 : List ℕ → ContentValue
+  Unknown : ContentValue
+
+-- .. by its link type: 1 is Ethernet, 113 and 276 are Linux cooked capture v1 and v2 (the list of link types of the tcpdump group). A frame
+-- check sequence of four bytes is part of a frame of Ethernet if it is all there.
+abbrev pub content_of : PacketValue → ContentValue
+content_of p =
+    if nat_eq p.link_type 1 then (if has_fcs p then Frame (Start kinds.Ethernet2Fcs) p.packet else Frame (Start kinds.Ethernet2) (without_fcs p))
+    else (if nat_eq p.link_type 113 then Frame (Start kinds.LinuxSll) (without_fcs p)
+    else (if nat_eq p.link_type 276 then LinuxSll2 (without_fcs p) else Unknown))
+
+abbrev pub is_unknown : ContentValue → Bool
+is_unknown (Frame next bytes) = false
+is_unknown (LinuxSll2 bytes) = false
+is_unknown Unknown = true
+
+-- The walk begins with this, and goes through these bytes: of a frame, or of the payload of cooked capture v2 that an ether type announces.
+pub data IsWalked : ContentValue → Next → List ℕ → Type 0 where
+  frame : (next : Next) (bytes : List ℕ) → IsWalked (Frame next bytes) next bytes
+  payload : (bytes : List ℕ) (n : ℕ) → AcceptsLinuxSll2 bytes → told_ether_type (protocol_of_header bytes) ≡ Some n
+      → IsWalked (LinuxSll2 bytes) (EtherType n) (slice_range bytes 20 (length bytes))

@@ -1,0 +1,3 @@
+pub mod Content
+pub mod ContentViews
+pub mod Selecting

@@ -1,0 +1,25 @@
+#!/bin/sh
+# Makes page/out/index.html: the page, its script and the module in one file. The module is the library for C, built for WebAssembly: its crate is
+# proved, and those below it unless the word `proved` says that they are.
+set -eu
+cd "$(dirname "$0")"
+[ "${1:-}" = proved ] || (cd ../crates/ether_c && rt lib)
+python3 ../c/library.py wasm64
+mkdir -p out
+python3 - <<'END'
+import base64
+import re
+
+def part(match):
+    if match[1] == "module":
+        with open("../crates/ether_c/out/ether_c.wasm", "rb") as file:
+            return f'const MODULE = "{base64.b64encode(file.read()).decode()}";'
+    with open(match[1], encoding="utf-8") as file:
+        return file.read().rstrip("\n")
+
+with open("page.html", encoding="utf-8") as file:
+    page = re.sub(r"^@([\w.]+)@$", part, file.read(), flags=re.M)
+with open("out/index.html", "w", encoding="utf-8") as file:
+    file.write(page)
+END
+echo "page/out/index.html"

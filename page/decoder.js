@@ -1,0 +1,210 @@
+// The calls of the module, and the structs and numbers of c/etherpeel.h that they pass.
+
+const DONE = 0;
+const STARTS = { eth: 1, fcs: 2, sll: 3, type: 4 };
+const PAGE = 65536;
+const SCRATCH_LEN = 16 * PAGE;
+const SIZES = { captured: 40, unit: 144, field: 32, frame: 32 };
+const TEXT_LEN = 512;
+
+const decodeText = (bytes) => new TextDecoder().decode(bytes);
+const encodeText = (text) => new TextEncoder().encode(text);
+
+class Decoder {
+  static async fromBase64(text) {
+    const bytes = Uint8Array.from(atob(text), (letter) => letter.charCodeAt(0));
+    const { instance } = await WebAssembly.instantiate(bytes, {});
+    return new Decoder(instance.exports);
+  }
+
+  constructor(calls) {
+    this.calls = calls;
+    this.scratch = Math.ceil(Number(calls.__heap_base.value) / PAGE) * PAGE;
+    this.begin = this.scratch + SCRATCH_LEN;
+    this.clear();
+  }
+
+  // ---- memory: small structs in the scratch, files and arrays after it, one after the other
+
+  clear() {
+    this.end = this.begin;
+    this.grow(this.end);
+  }
+
+  grow(end) {
+    const pages = Math.ceil((end - this.calls.memory.buffer.byteLength) / PAGE);
+    if (pages > 0) this.calls.memory.grow(BigInt(pages));
+  }
+
+  place(len) {
+    const at = Math.ceil(this.end / 16) * 16;
+    this.end = at + len;
+    this.grow(this.end);
+    return at;
+  }
+
+  put(bytes) {
+    const at = this.place(bytes.length);
+    this.bytes(at, bytes.length).set(bytes);
+    return at;
+  }
+
+  bytes(at, len) {
+    return new Uint8Array(this.calls.memory.buffer, at, len);
+  }
+
+  // numbers of structs, each read by its size in bytes
+  number(at, size) {
+    const view = new DataView(this.calls.memory.buffer);
+    switch (size) {
+      case 1: return view.getUint8(at);
+      case 2: return view.getUint16(at, true);
+      case 4: return view.getUint32(at, true);
+      default: return Number(view.getBigUint64(at, true));
+    }
+  }
+
+  big(at) {
+    return new DataView(this.calls.memory.buffer).getBigUint64(at, true);
+  }
+
+  // the text that a call writes to a target of TEXT_LEN bytes
+  text(call) {
+    const [target, len] = [this.scratch, this.scratch + TEXT_LEN];
+    const status = call(BigInt(target), BigInt(TEXT_LEN), BigInt(len));
+    return status === DONE ? decodeText(this.bytes(target, this.number(len, 8)).slice()) : "";
+  }
+
+  // ---- captures
+
+  // the number of packets of a file, which is kept until the next one, and where and why they end
+  openCapture(bytes) {
+    this.clear();
+    const [count, end] = [this.scratch, this.scratch + 8];
+    const file = [BigInt(this.put(bytes)), BigInt(bytes.length)];
+    const status = this.calls.etherpeel_capture(...file, 16n, 0n, BigInt(count), BigInt(end));
+    this.count = this.number(count, 8);
+    const needed = this.number(end + 8, 8);
+    this.packets = this.place(this.count * SIZES.captured);
+    this.bytes(this.packets, this.count * SIZES.captured).fill(0);
+    this.calls.etherpeel_capture(...file, BigInt(this.packets), BigInt(this.count), BigInt(count), BigInt(end));
+    const fault = this.text((...target) => this.calls.etherpeel_capture_fault_text(...file, ...target));
+    this.matches = this.place(this.count);
+    return { count: this.count, isWhole: status === DONE, needed, fault };
+  }
+
+  packet(index) {
+    const at = this.packets + index * SIZES.captured;
+    return {
+      at: this.number(at, 8),
+      len: this.number(at + 8, 8),
+      seconds: this.number(at + 16, 8),
+      nanoseconds: this.number(at + 24, 4),
+      originalLen: this.number(at + 28, 4),
+      linkType: this.number(at + 32, 2),
+      hasTime: this.number(at + 34, 1) === 1,
+    };
+  }
+
+  // what is walked of a packet: its frame, and what that begins with; none of a link type that isn't known
+  frameOf(index) {
+    const frame = this.scratch;
+    const status = this.calls.etherpeel_captured_frame(BigInt(this.packets + index * SIZES.captured), BigInt(frame));
+    if (status !== DONE) return null;
+    return {
+      at: this.number(frame, 8),
+      len: this.number(frame + 8, 8),
+      offset: this.number(frame + 16, 8),
+      start: this.number(frame + 24, 4),
+      etherType: this.number(frame + 28, 2),
+    };
+  }
+
+  // the indices of the packets that an expression selects, or why it is none
+  select(expression) {
+    const text = encodeText(expression);
+    const [at, error] = [this.scratch + 4096, this.scratch];
+    if (text.length > TEXT_LEN * 8) return { error: "The expression is too long." };
+    this.bytes(at, text.length).set(text);
+    const words = [BigInt(at), BigInt(text.length)];
+    const packets = [BigInt(this.packets), BigInt(this.count), BigInt(this.matches), BigInt(this.count)];
+    if (this.calls.etherpeel_select(...words, ...packets, BigInt(error)) !== DONE) {
+      return { error: this.text((...target) => this.calls.etherpeel_filter_error_text(...words, ...target)) };
+    }
+    const matches = this.bytes(this.matches, this.count);
+    const selected = [];
+    matches.forEach((match, index) => match && selected.push(index));
+    return { selected };
+  }
+
+  // ---- frames
+
+  // a frame alone
+  openFrame(bytes, start, etherType) {
+    this.clear();
+    return { at: this.put(bytes), len: bytes.length, offset: 0, start, etherType };
+  }
+
+  // an array that a call fills: it is called again with room for all elements if they are more than `room`
+  array(call, size, room, read) {
+    const [count, array] = [this.scratch, this.scratch + 4096];
+    call(BigInt(array), BigInt(room), BigInt(count));
+    const found = this.number(count, 8);
+    if (found > room) {
+      const end = this.end;
+      const more = this.place(found * size);
+      call(BigInt(more), BigInt(found), BigInt(count));
+      const elements = Array.from({ length: found }, (_, index) => read(more + index * size));
+      this.end = end;
+      return elements;
+    }
+    return Array.from({ length: found }, (_, index) => read(array + index * size));
+  }
+
+  words(frame) {
+    return [frame.start, frame.etherType, BigInt(frame.at), BigInt(frame.len)];
+  }
+
+  units(frame) {
+    return this.array((...to) => this.calls.etherpeel_walk(...this.words(frame), ...to), SIZES.unit, 64, (at) => ({
+      offset: this.number(at, 8),
+      headerLen: this.number(at + 8, 8),
+      payloadStart: this.number(at + 16, 8),
+      payloadEnd: this.number(at + 24, 8),
+      kind: this.number(at + 32, 4),
+      isClosed: this.number(at + 36, 1) === 1,
+    }));
+  }
+
+  fields(frame) {
+    return this.array((...to) => this.calls.etherpeel_fields(...this.words(frame), ...to), SIZES.field, 64, (at) => this.field(at));
+  }
+
+  field(at) {
+    return {
+      bit: this.number(at, 8),
+      bits: this.number(at + 8, 8),
+      value: this.big(at + 16),
+      unit: this.number(at + 24, 4),
+      name: this.number(at + 28, 4),
+    };
+  }
+
+  // what is left after the headers, and why the walk ends
+  ending(frame) {
+    const found = this.scratch;
+    this.calls.etherpeel_summary(...this.words(frame), BigInt(found));
+    const ending = {
+      restStart: this.number(found + 8, 8),
+      restEnd: this.number(found + 16, 8),
+      restKind: this.number(found + 80, 4),
+      restProtocol: this.number(found + 84, 2),
+      isFault: this.number(found + 24 + 32, 4) !== 0,
+      faultOffset: this.number(found + 24, 8),
+      requiredLen: this.number(found + 24 + 8, 8),
+      missing: this.number(found + 24 + 24, 8),
+    };
+    ending.fault = this.text((...target) => this.calls.etherpeel_fault_text(...this.words(frame), ...target));
+    return ending;
+  }
+}

@@ -1,0 +1,253 @@
+// The page: a capture or a frame comes in, its packets are listed, and one of them is shown.
+
+const ROW_HEIGHT = 28;
+const MOST_HEIGHT = 8_000_000;
+
+const $ = (id) => document.getElementById(id);
+
+// the day and the time of a packet, UTC
+function dayAndTime(packet) {
+  if (!packet.hasTime) return ["", "no time"];
+  const date = new Date(packet.seconds * 1000);
+  if (isNaN(date)) return ["", `${packet.seconds} s`];
+  const [day, time] = date.toISOString().slice(0, 19).split("T");
+  return [day, `${time}.${String(packet.nanoseconds).padStart(9, "0").slice(0, 6)}`];
+}
+
+// what a packet has after its first header, in a line
+function line(read) {
+  const parts = read.units.map((unit, index) => {
+    if (unit.kind !== 3) return HEADERS[unit.kind];
+    return `VLAN ${read.fields.find((field) => field.unit === index && field.name === 11).value}`;
+  });
+  if (read.ending.isFault) parts.push("not read further");
+  else if (read.ending.restKind === 1) parts.push(protocolName(read.ending.restProtocol));
+  return parts.slice(parts.length > 1 ? 1 : 0).join(" › ");
+}
+
+class PacketList {
+  constructor(decoder, onChosen) {
+    this.decoder = decoder;
+    this.onChosen = onChosen;
+    this.list = $("list");
+    this.indices = [];
+    this.chosen = 0;
+    this.list.addEventListener("scroll", () => this.draw());
+    this.list.addEventListener("keydown", (event) => this.key(event));
+    this.list.addEventListener("click", (event) => {
+      const row = event.target.closest("[data-row]");
+      if (row) this.choose(Number(row.dataset.row));
+    });
+    new ResizeObserver(() => this.draw()).observe(this.list);
+  }
+
+  show(indices) {
+    this.indices = indices;
+    this.chosen = 0;
+    this.list.scrollTop = 0;
+    $("height").style.height = `${Math.min(indices.length * ROW_HEIGHT, MOST_HEIGHT)}px`;
+    this.draw();
+  }
+
+  visible() {
+    return Math.max(1, Math.floor(this.list.clientHeight / ROW_HEIGHT));
+  }
+
+  // the rows between the first one that is seen and the last; of very long lists the place of the scroll bar is a share of the rows
+  draw() {
+    const seen = this.visible();
+    const hidden = Math.max(0, this.indices.length - seen);
+    const way = Math.max(1, $("height").offsetHeight - this.list.clientHeight);
+    this.first = Math.min(hidden, Math.round(this.list.scrollTop / way * hidden));
+    const rows = this.indices.slice(this.first, this.first + seen + 1);
+    $("rows").replaceChildren(...rows.map((index, at) => this.row(index, this.first + at)));
+    const active = $(`row${this.chosen}`);
+    if (active) this.list.setAttribute("aria-activedescendant", active.id);
+    else this.list.removeAttribute("aria-activedescendant");
+  }
+
+  row(index, at) {
+    const packet = this.decoder.packet(index);
+    const frame = this.decoder.frameOf(index);
+    const text = frame ? line(readHeaders(this.decoder, frame, packet)) : `link type ${packet.linkType}`;
+    const [day, time] = dayAndTime(packet);
+    const isCut = packet.len < packet.originalLen;
+    const node = element("div", { className: "row", id: `row${at}`, role: "option" },
+      element("span", { className: "number", textContent: (index + 1).toLocaleString("en") }),
+      element("span", { className: "day", textContent: day }),
+      element("span", { className: "time", textContent: time }),
+      element("span", { className: "length", textContent: isCut ? `${packet.len} of ${packet.originalLen}` : packet.len }),
+      element("span", { className: "line", textContent: text }));
+    node.dataset.row = at;
+    node.setAttribute("aria-selected", at === this.chosen);
+    return node;
+  }
+
+  choose(at) {
+    if (!this.indices.length) return;
+    this.chosen = Math.max(0, Math.min(at, this.indices.length - 1));
+    const seen = this.visible();
+    const hidden = Math.max(1, this.indices.length - seen);
+    const way = $("height").offsetHeight - this.list.clientHeight;
+    if (this.chosen < this.first) this.list.scrollTop = this.chosen / hidden * way;
+    if (this.chosen >= this.first + seen) this.list.scrollTop = (this.chosen - seen + 1) / hidden * way;
+    this.draw();
+    this.onChosen(this.indices[this.chosen]);
+  }
+
+  key(event) {
+    const steps = { ArrowUp: -1, ArrowDown: 1, PageUp: -this.visible(), PageDown: this.visible(), Home: -Infinity, End: Infinity };
+    if (!(event.key in steps)) return;
+    event.preventDefault();
+    this.choose(this.chosen + steps[event.key]);
+  }
+}
+
+class Page {
+  constructor(decoder) {
+    this.decoder = decoder;
+    this.frame = new FrameView(decoder);
+    this.list = new PacketList(decoder, (index) => this.showPacket(index));
+    this.listen();
+    this.readAddress();
+  }
+
+  // ---- what comes in
+
+  listen() {
+    $("file").addEventListener("change", () => this.openFile($("file").files[0]));
+    $("open").addEventListener("keydown", (event) => {
+      if (event.key === "Enter" || event.key === " ") { event.preventDefault(); $("file").click(); }
+    });
+    $("input").addEventListener("submit", (event) => { event.preventDefault(); this.openDigits(); });
+    $("digits").addEventListener("input", () => this.openDigits());
+    $("start").addEventListener("change", () => { if ($("digits").value) this.openDigits(); });
+    $("selection").addEventListener("submit", (event) => { event.preventDefault(); this.select(); });
+    $("expression").addEventListener("input", () => this.select());
+    window.addEventListener("hashchange", () => this.readAddress());
+    document.addEventListener("dragover", (event) => event.preventDefault());
+    document.addEventListener("drop", (event) => {
+      event.preventDefault();
+      if (event.dataTransfer.files.length) this.openFile(event.dataTransfer.files[0]);
+    });
+  }
+
+  // `#eth:` and digits, as the words of the page's links
+  readAddress() {
+    const told = /^#(eth|fcs|sll|type-[0-9a-fA-F]{4}):([0-9a-fA-F]*)$/.exec(location.hash);
+    if (!told || this.address === location.hash) return;
+    $("digits").value = told[2];
+    this.openFrame(told[1].toLowerCase(), told[2]);
+  }
+
+  openDigits() {
+    const text = $("digits").value.replace(/[\s:.-]/g, "").replace(/^0x/i, "");
+    if (!text) return;
+    this.openFrame($("start").value, text);
+  }
+
+  openFrame(word, text) {
+    if (/[^0-9a-fA-F]/.test(text) || text.length % 2) {
+      return this.notice("A frame is written as pairs of hexadecimal digits.");
+    }
+    const bytes = Uint8Array.from(text.match(/../g) ?? [], (pair) => parseInt(pair, 16));
+    const [start, etherType] = word.startsWith("type-") ? [STARTS.type, parseInt(word.slice(5), 16)] : [STARTS[word], 0];
+    const frame = this.decoder.openFrame(bytes, start, etherType);
+    this.address = `#${word}:${text}`;
+    if (location.hash !== this.address) history.replaceState(null, "", this.address);
+    if ([...$("start").options].some((option) => option.value === word)) $("start").value = word;
+    this.notice("");
+    this.toggle({ frame: true });
+    this.showFrame(frame, frame, [count(frame.len, "byte")]);
+  }
+
+  async openFile(file) {
+    if (!file) return;
+    let found;
+    try {
+      found = this.decoder.openCapture(new Uint8Array(await file.arrayBuffer()));
+    } catch (error) {
+      return this.notice(`${file.name} could not be read: ${error.message}`);
+    }
+    this.name = file.name;
+    history.replaceState(null, "", location.pathname + location.search);
+    this.address = "";
+    $("digits").value = "";
+    $("expression").value = "";
+    document.title = `${file.name} · Packet headers`;
+    this.notice(found.count ? "" : `${file.name} has no packets. ${found.fault}`);
+    $("ending").hidden = found.isWhole;
+    $("ending").textContent = found.fault;
+    this.toggle({ packets: found.count > 0, frame: found.count > 0, selection: found.count > 0, empty: found.count === 0 });
+    this.select();
+  }
+
+  // ---- what is shown
+
+  toggle(shown) {
+    for (const id of ["empty", "packets", "frame", "selection"]) $(id).hidden = !shown[id];
+    document.body.classList.toggle("capture", Boolean(shown.packets));
+  }
+
+  notice(text) {
+    $("notice").textContent = text;
+    $("notice").hidden = !text;
+  }
+
+  select() {
+    const expression = $("expression").value.trim();
+    const found = expression ? this.decoder.select(expression) : { selected: [...Array(this.decoder.count).keys()] };
+    $("expression").setAttribute("aria-invalid", Boolean(found.error));
+    if (found.error) {
+      $("selected").textContent = found.error;
+      return;
+    }
+    const all = count(this.decoder.count, "packet");
+    $("selected").textContent = expression ? `${found.selected.length.toLocaleString("en")} of ${all}` : all;
+    this.list.show(found.selected);
+    $("frame").hidden = !found.selected.length;
+    this.list.choose(0);
+  }
+
+  showPacket(index) {
+    const packet = this.decoder.packet(index);
+    const about = [`Packet ${(index + 1).toLocaleString("en")}`, dayAndTime(packet).join(" "), count(packet.len, "byte")];
+    if (packet.len < packet.originalLen) about.push(`cut from ${count(packet.originalLen, "byte")}`);
+    const frame = this.decoder.frameOf(index);
+    about.push(LINK_TYPES[packet.linkType] ?? `link type ${packet.linkType}`);
+    this.showFrame(frame, packet, about);
+  }
+
+  showFrame(frame, packet, about) {
+    $("about").replaceChildren(about.join(" · "));
+    if (!frame) {
+      $("about").append(" · headers of this link type are not read");
+      this.frame.show({ units: [], fields: [], ending: { restStart: 0, restEnd: packet.len, restKind: 4 }, offset: 0, at: packet.at, len: packet.len });
+      return;
+    }
+    this.frame.show(readHeaders(this.decoder, frame, packet));
+    if (this.name && !this.address) $("about").append(" · ", this.link(frame));
+  }
+
+  // the frame's own address
+  link(frame) {
+    const word = { 1: "eth", 2: "fcs", 3: "sll", 4: `type-${frame.etherType.toString(16).padStart(4, "0")}` }[frame.start];
+    return element("a", { href: `#${word}:${digits(0, this.decoder.bytes(frame.at, frame.len))}`, textContent: "link to this frame" });
+  }
+}
+
+async function begin() {
+  try {
+    window.page = new Page(await Decoder.fromBase64(MODULE));
+  } catch (error) {
+    const isMissing = error instanceof WebAssembly.CompileError;
+    const notice = $("notice");
+    notice.hidden = false;
+    notice.textContent = isMissing
+      ? "This browser has no 64-bit memories for WebAssembly. Chromium, Chrome and Edge have them from version 133 on, Firefox from 134 on."
+      : `The page could not start: ${error.message}`;
+    $("input").hidden = true;
+  }
+  window.isReady = true;
+}
+begin();
