@@ -309,7 +309,7 @@ CASES += [
          "total frames 1 skipped 0\n", 0),
     Case("no expression", ["--select", "vlan 4096"], CLASSIC, "--select: At byte 5: expected a number up to 4095.\n", 2),
     Case("and beside or", ["--select", "arp and ip or vlan"], CLASSIC,
-         "--select: At byte 11: `and` and `or` beside each other need parentheses.\n", 2),
+         "--select: At byte 11: `and` and `or` can be mixed only with parentheses.\n", 2),
     Case("an expression that is missing", ["--select"], CLASSIC, USAGE, 2),
     Case("options in another order", ["--select", "arp", "--plain"], CLASSIC, USAGE, 2),
     Case("five words", ["--plain", "--select", "arp", "one", "two"], CLASSIC, USAGE, 2),

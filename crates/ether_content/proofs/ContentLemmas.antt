@@ -30,13 +30,15 @@ walked_payload bytes n start payload accepted announced is rest =
     (content.payload bytes n accepted announced))
 
 -- what is walked is one start and one frame
-pub walked_once : (c : ContentValue) (next other : Next) (list bytes : List ℕ) → IsWalked c next list → IsWalked c other bytes
+pub walked_once : (c : ContentValue) (next other : Next) (list bytes : List ℕ) → IsWalked c next list
+    → IsWalked c other bytes
     → (next ≡ other) × (list ≡ bytes)
 walked_once c next other list bytes (content.frame _ _) (content.frame _ _) = (refl, refl)
 walked_once c next other list bytes (content.payload _ n a e) (content.payload _ m b f) =
     let same : n ≡ m = cc in (ap EtherType same, refl)
 
 -- no payload is walked if no ether type announces it
-pub not_walked : (list : List ℕ) → (AcceptsLinuxSll2 list → told_ether_type (protocol_of_header list) ≡ None) → (next : Next)
+pub not_walked : (list : List ℕ) → (AcceptsLinuxSll2 list → told_ether_type (protocol_of_header list) ≡ None)
+    → (next : Next)
     (bytes : List ℕ) → IsWalked (LinuxSll2 list) next bytes → ⊥
 not_walked list none next bytes (content.payload _ n a e) = let is = none a in absurd cc

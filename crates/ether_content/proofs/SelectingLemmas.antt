@@ -31,7 +31,8 @@ holds_of x next frame captured original result ok matches = (
 )
 
 -- an expression selects a packet exactly if it holds of the one frame that is walked
-pub selected : (x : Expression) (p : PacketValue) (next : Next) (frame : List ℕ) (result : Bool) → IsWalked (content_of p) next frame
+pub selected : (x : Expression) (p : PacketValue) (next : Next) (frame : List ℕ) (result : Bool)
+    → IsWalked (content_of p) next frame
     → IsTrue result ↔ HoldsOf x next frame (length p.packet) p.original_len → IsTrue result ↔ Selects x p
 selected x p next frame result walked holds = (
   λ true. record { next = next; frame = frame; walked = walked; holds = holds.0 true },

@@ -12,10 +12,12 @@ use Rattle.std.proofs.lemmas.List.{append-nil, reverse-append, reverse-reverse, 
 
 -- ---- a step, with the last truth at the end of the list
 
-pub test_step : (w : Walked) (old new : List Bool) (xs : List Expression) (b : Bool) (p : Primitive) → new ≡ old ++ b ∷ [] → IsTrue b ↔ Matches p w → AreTruths w (reverse old) xs
+pub test_step : (w : Walked) (old new : List Bool) (xs : List Expression) (b : Bool) (p : Primitive) → new ≡ old
+    ++ b ∷ [] → IsTrue b ↔ Matches p w → AreTruths w (reverse old) xs
     → AreTruths w (reverse new) (pushed xs (nodes.Test p))
 test_step w old new xs b p is matches are =
-    subst (λ (bs : List Bool). AreTruths w bs (Test p ∷ xs)) (sym (ap reverse is ∙ reverse-append old (b ∷ []))) (matches, are)
+    subst (λ (bs : List Bool). AreTruths w bs (Test p ∷ xs)) (sym (ap reverse is ∙ reverse-append old (b ∷ [])))
+    (matches, are)
 
 -- ---- a loop over the nodes
 
@@ -25,8 +27,10 @@ pub record Evaluates (w : Walked) (bs : List Bool) (ns : List Node) (i : ℕ) : 
   pub truths : AreTruths w (reverse bs) stack
   pub rest : trees stack (drop i ns) ≡ trees [] ns
 
-pub evaluates_next : (w : Walked) (old new : List Bool) (ns : List Node) (i : ℕ) (d : Node) → i < length ns → Evaluates w old ns i
-    → ((xs : List Expression) → AreTruths w (reverse old) xs → AreTruths w (reverse new) (pushed xs (slice_index_or ns i d))) → Evaluates w new ns (i + 1)
+pub evaluates_next : (w : Walked) (old new : List Bool) (ns : List Node) (i : ℕ) (d : Node) → i < length ns
+    → Evaluates w old ns i
+    → ((xs : List Expression) → AreTruths w (reverse old) xs
+    → AreTruths w (reverse new) (pushed xs (slice_index_or ns i d))) → Evaluates w new ns (i + 1)
 evaluates_next w old new ns i d lt e step = record {
   stack = pushed e.stack (slice_index_or ns i d);
   truths = step e.stack e.truths;
@@ -44,12 +48,14 @@ only_truth w x [] are = absurd are
 only_truth w x (b ∷ []) are = record { truth = b; only = refl; holds = are.0 }
 only_truth w x (b ∷ c ∷ bs) are = absurd are.1
 
-pub evaluated : (w : Walked) (x : Expression) (bs : List Bool) (ns : List Node) (i : ℕ) (result : Bool) → ns ≡ postfix x → length ns ≤ i → Evaluates w bs ns i
+pub evaluated : (w : Walked) (x : Expression) (bs : List Bool) (ns : List Node) (i : ℕ) (result : Bool) → ns
+    ≡ postfix x → length ns ≤ i → Evaluates w bs ns i
     → result ≡ unwrap_or (slice_get bs (length bs - 1)) false → IsTrue result ↔ Holds (expression_of ns) w
 evaluated w x bs ns i result is le e value =
     let tree : trees [] ns ≡ x ∷ [] = ap (trees []) (is ∙ sym (append-nil (postfix x))) ∙ trees-postfix x [] [] in
     let stack : e.stack ≡ x ∷ [] = sym (ap (trees e.stack) (drop_all i ns le)) ∙ e.rest ∙ tree in
     let last = only_truth w x (reverse bs) (subst (AreTruths w (reverse bs)) stack e.truths) in
     let only : bs ≡ last.truth ∷ [] = sym (reverse-reverse bs) ∙ ap reverse last.only in
-    let same : result ≡ last.truth = value ∙ ap (λ (l : List Bool). unwrap_or (slice_get l (length l - 1)) false) only in
+    let same : result ≡ last.truth = value
+    ∙ ap (λ (l : List Bool). unwrap_or (slice_get l (length l - 1)) false) only in
     rw (same, ap first tree) last.holds

@@ -30,10 +30,12 @@ abbrev pub run : State → List Token → Outcome
 run s [] = Ok s
 run s (t ∷ ts) = going (taken s t) (λ u. run u ts)
 
-abbrev pub Stands : List Token → State → Type 0
-Stands ts s = run begun ts ≡ Ok s
+-- the tokens lead to the state
+abbrev pub Reaches : List Token → State → Type 0
+Reaches ts s = run begun ts ≡ Ok s
 
-going_all : (o : Outcome) (ts us : List Token) → ((s : State) → all_from s (ts ++ us) ≡ going (run s ts) (λ u. all_from u us))
+going_all : (o : Outcome) (ts us : List Token)
+    → ((s : State) → all_from s (ts ++ us) ≡ going (run s ts) (λ u. all_from u us))
     → going o (λ s. all_from s (ts ++ us)) ≡ going (going o (λ s. run s ts)) (λ u. all_from u us)
 going_all (Ok s) ts us each = each s
 going_all (Err kind) ts us each = refl
@@ -56,12 +58,14 @@ one_run (Ok s) = refl
 one_run (Err kind) = refl
 
 -- after one word more it is what the word is taken as
-pub run_more : (ts : List Token) (s : State) (t : Token) → Stands ts s → run begun (ts ++ t ∷ []) ≡ taken s t
-run_more ts s t stands = run-append begun ts (t ∷ []) ∙ ap (λ (o : Outcome). going o (λ u. run u (t ∷ []))) stands ∙ one_run (taken s t)
+pub run_more : (ts : List Token) (s : State) (t : Token) → Reaches ts s → run begun (ts ++ t ∷ []) ≡ taken s t
+run_more ts s t reaches = run-append begun ts (t ∷ []) ∙ ap (λ (o : Outcome). going o (λ u. run u (t ∷ []))) reaches
+    ∙ one_run (taken s t)
 
--- ---- what stands was read
+-- ---- a state that is reached, and the tokens that were read
 
-going_goes : (o : Outcome) (ts us : List Token) → Goes o ts → ((s : State) → Was s ts → Goes (run s us) (ts ++ us)) → Goes (going o (λ s. run s us)) (ts ++ us)
+going_goes : (o : Outcome) (ts us : List Token) → Goes o ts → ((s : State) → Was s ts → Goes (run s us) (ts ++ us))
+    → Goes (going o (λ s. run s us)) (ts ++ us)
 going_goes (Ok s) ts us goes each = each s goes
 going_goes (Err kind) ts us goes each = tt
 
@@ -69,55 +73,79 @@ run_was : (s : State) (ts us : List Token) → Was s ts → Goes (run s us) (ts 
 run_was s ts [] was = rw (append-nil ts) was
 run_was s ts (t ∷ us) was =
     subst (Goes (going (taken s t) (λ u. run u us))) (append_assoc ts (t ∷ []) us)
-    (going_goes (taken s t) (ts ++ t ∷ []) us (taken_was s.awaited s.pending s.nodes ts t was) (λ u now. run_was u (ts ++ t ∷ []) us now))
+    (going_goes (taken s t) (ts ++ t ∷ []) us (taken_was s.awaited s.pending s.nodes ts t was)
+    (λ u now. run_was u (ts ++ t ∷ []) us now))
 
-pub stands_was : (ts : List Token) (s : State) → Stands ts s → Was s ts
-stands_was ts s stands = subst (λ (o : Outcome). Goes o ts) stands (run_was begun [] ts begun_was_read)
+pub reached_was : (ts : List Token) (s : State) → Reaches ts s → Was s ts
+reached_was ts s reaches = subst (λ (o : Outcome). Goes o ts) reaches (run_was begun [] ts begun_was_read)
 
 -- ---- what was read can be gone on with
 
 shorter : (ts us : List Token) → Begins (ts ++ us) → Begins ts
-shorter ts us b = record { rest = us ++ b.rest; x = b.x; is = subst (λ (l : List Token). IsExpression l b.x) (append_assoc ts us b.rest) b.is }
+shorter ts us b = record {
+  rest = us ++ b.rest;
+  x = b.x;
+  is = subst (λ (l : List Token). IsExpression l b.x) (append_assoc ts us b.rest)
+      b.is;
+}
 
 same_begins : {ts us : List Token} → ts ≡ us → Begins ts → Begins us
 same_begins is b = subst Begins is b
 
-all_of : (shape : Shape) (ns : List Node) (front words : List Token) (x : Expression) → Awaits [] ns front → Means shape words x → Begins (front ++ words)
-all_of shape ns front words x e m = rw (e.1) (record { rest = []; x = x; is = rw (append-nil words) (record { shape = shape; means = m }) })
+all_of : (shape : Shape) (ns : List Node) (front words : List Token) (x : Expression) → Awaits [] ns front
+    → Means shape words x → Begins (front ++ words)
+all_of shape ns front words x e m = rw (e.1)
+    (record { rest = []; x = x; is = rw (append-nil words) (record { shape = shape; means = m }) })
 
-group_back : (front f words : List Token) → front ≡ f ++ tokens.Open ∷ [] → Begins (f ++ tokens.Open ∷ (words ++ tokens.Close ∷ [])) → Begins (front ++ words)
+group_back : (front f words : List Token) → front ≡ f ++ tokens.Open ∷ []
+    → Begins (f ++ tokens.Open ∷ (words ++ tokens.Close ∷ [])) → Begins (front ++ words)
 group_back front f words is b =
     shorter (front ++ words) (tokens.Close ∷ [])
-    (same_begins (sym (append_assoc front words (tokens.Close ∷ []) ∙ ap (λ (l : List Token). l ++ (words ++ tokens.Close ∷ [])) is ∙ append_assoc f (tokens.Open ∷ []) (words ++ tokens.Close ∷ []))) b)
+    (same_begins
+    (sym (append_assoc front words (tokens.Close ∷ [])
+    ∙ ap (λ (l : List Token). l ++ (words ++ tokens.Close ∷ [])) is
+    ∙ append_assoc f (tokens.Open ∷ []) (words ++ tokens.Close ∷ []))) b)
 
 -- operands that an operator joins, in words
-chain_back : (operator : Operator) (front f us words : List Token) → front ≡ (f ++ us) ++ tokens.Join operator ∷ [] → Begins (f ++ (us ++ tokens.Join operator ∷ words)) → Begins (front ++ words)
+chain_back : (operator : Operator) (front f us words : List Token) → front ≡ (f ++ us) ++ tokens.Join operator ∷ []
+    → Begins (f ++ (us ++ tokens.Join operator ∷ words)) → Begins (front ++ words)
 chain_back operator front f us words is b =
-    same_begins (sym (ap (λ (l : List Token). l ++ words) is ∙ append_assoc (f ++ us) (tokens.Join operator ∷ []) words ∙ append_assoc f us (tokens.Join operator ∷ words))) b
+    same_begins
+    (sym (ap (λ (l : List Token). l ++ words) is ∙ append_assoc (f ++ us) (tokens.Join operator ∷ []) words
+    ∙ append_assoc f us (tokens.Join operator ∷ words))) b
 
-operand_goes_on : (p : List Pending) (ns : List Node) (front words : List Token) (x : Expression) → Awaits p ns front → Means Operand words x → Begins (front ++ words)
+operand_goes_on : (p : List Pending) (ns : List Node) (front words : List Token) (x : Expression) → Awaits p ns front
+    → Means Operand words x → Begins (front ++ words)
 operand_goes_on [] ns front words x e m = all_of Operand ns front words x e m
 operand_goes_on (pendings.Open ∷ p) ns front words x e m =
-    group_back front e.front words e.tokens (operand_goes_on p ns e.front (tokens.Open ∷ (words ++ tokens.Close ∷ [])) x e.earlier (grammar.group Operand words x m))
+    group_back front e.front words e.tokens
+    (operand_goes_on p ns e.front (tokens.Open ∷ (words ++ tokens.Close ∷ [])) x e.earlier
+    (grammar.group Operand words x m))
 operand_goes_on (pendings.Not ∷ p) ns front words x e m =
     same_begins (sym (ap (λ (l : List Token). l ++ words) e.tokens ∙ append_assoc e.front (tokens.Not ∷ []) words))
     (operand_goes_on p ns e.front (tokens.Not ∷ words) (Not x) e.earlier (grammar.negation words x m))
 operand_goes_on (pendings.Join operator ∷ []) ns front words x e m =
     chain_back operator front e.front e.words words e.tokens
-    (all_of (Chain operator) e.old e.front (e.words ++ tokens.Join operator ∷ words) (Join operator e.x x) e.earlier (grammar.join operator e.shape e.words words e.x x e.leads e.means m))
+    (all_of (Chain operator) e.old e.front (e.words ++ tokens.Join operator ∷ words) (Join operator e.x x) e.earlier
+    (grammar.join operator e.shape e.words words e.x x e.leads e.means m))
 operand_goes_on (pendings.Join operator ∷ pendings.Open ∷ p) ns front words x e m =
     let us = e.words ++ tokens.Join operator ∷ words in
     let joined = grammar.join operator e.shape e.words words e.x x e.leads e.means m in
     let f = e.earlier in
     chain_back operator front e.front e.words words e.tokens
-    (group_back e.front f.front us f.tokens (operand_goes_on p e.old f.front (tokens.Open ∷ (us ++ tokens.Close ∷ [])) (Join operator e.x x) f.earlier (grammar.group (Chain operator) us (Join operator e.x x) joined)))
+    (group_back e.front f.front us f.tokens
+    (operand_goes_on p e.old f.front (tokens.Open ∷ (us ++ tokens.Close ∷ [])) (Join operator e.x x) f.earlier
+    (grammar.group (Chain operator) us (Join operator e.x x) joined)))
 operand_goes_on (pendings.Join operator ∷ q ∷ p) ns front words x e m = absurd e.base
 
 -- an expression of a shape, after what is open before it
-goes_on : (shape : Shape) (p : List Pending) (ns : List Node) (front words : List Token) (x : Expression) → IsBase p → Awaits p ns front → Means shape words x → Begins (front ++ words)
+goes_on : (shape : Shape) (p : List Pending) (ns : List Node) (front words : List Token) (x : Expression) → IsBase p
+    → Awaits p ns front → Means shape words x → Begins (front ++ words)
 goes_on shape [] ns front words x base e m = all_of shape ns front words x e m
 goes_on shape (pendings.Open ∷ p) ns front words x base e m =
-    group_back front e.front words e.tokens (operand_goes_on p ns e.front (tokens.Open ∷ (words ++ tokens.Close ∷ [])) x e.earlier (grammar.group shape words x m))
+    group_back front e.front words e.tokens
+    (operand_goes_on p ns e.front (tokens.Open ∷ (words ++ tokens.Close ∷ [])) x e.earlier
+    (grammar.group shape words x m))
 goes_on shape (q ∷ p) ns front words x base e m = absurd base
 
 -- a primitive that is begun, with words that make it whole
@@ -128,47 +156,95 @@ record Whole (words : List Token) : Type 0 where
 
 made_whole : (a : Awaited) (words : List Token) → Begun a words → Whole words
 made_whole awaits.VlanId words is = record { more = []; primitive = primitives.Vlan; names = rw is grammar.vlan }
-made_whole (awaits.Vlan numbers.OuterVlan) words is = record { more = tokens.Vlan ∷ tokens.Number (Some 0) ∷ []; primitive = primitives.OuterVlan 0; names = rw is (grammar.outer_vlan 0 (omega arith)) }
-made_whole (awaits.Vlan numbers.InnerVlan) words is = record { more = tokens.Vlan ∷ tokens.Number (Some 0) ∷ []; primitive = primitives.InnerVlan 0; names = rw is (grammar.inner_vlan 0 (omega arith)) }
+made_whole (awaits.Vlan numbers.OuterVlan) words is = record {
+  more = tokens.Vlan ∷ tokens.Number (Some 0) ∷ [];
+  primitive = primitives.OuterVlan 0;
+  names = rw is
+      (grammar.outer_vlan 0 (omega arith));
+}
+made_whole (awaits.Vlan numbers.InnerVlan) words is = record {
+  more = tokens.Vlan ∷ tokens.Number (Some 0) ∷ [];
+  primitive = primitives.InnerVlan 0;
+  names = rw is
+      (grammar.inner_vlan 0 (omega arith));
+}
 made_whole (awaits.Vlan of) words is = absurd is
-made_whole (awaits.Number numbers.VlanId) words is = record { more = tokens.Number (Some 0) ∷ []; primitive = primitives.VlanId 0; names = rw is (grammar.vlan_id 0 (omega arith)) }
-made_whole (awaits.Number numbers.OuterVlan) words is = record { more = tokens.Number (Some 0) ∷ []; primitive = primitives.OuterVlan 0; names = rw is (grammar.outer_vlan 0 (omega arith)) }
-made_whole (awaits.Number numbers.InnerVlan) words is = record { more = tokens.Number (Some 0) ∷ []; primitive = primitives.InnerVlan 0; names = rw is (grammar.inner_vlan 0 (omega arith)) }
-made_whole (awaits.Number numbers.EtherType) words is = record { more = tokens.Number (Some 0) ∷ []; primitive = primitives.EtherType 0; names = rw is (grammar.proto 0 (omega arith)) }
-made_whole (awaits.Number numbers.Less) words is = record { more = tokens.Number (Some 0) ∷ []; primitive = primitives.Less 0; names = rw is (grammar.less 0 (omega arith)) }
-made_whole (awaits.Number numbers.Greater) words is = record { more = tokens.Number (Some 0) ∷ []; primitive = primitives.Greater 0; names = rw is (grammar.greater 0 (omega arith)) }
-made_whole awaits.EtherWord words is = record { more = tokens.Broadcast ∷ []; primitive = primitives.Broadcast; names = rw is grammar.broadcast }
-made_whole (awaits.Address addresses.Source) words is = record { more = tokens.Address 0 ∷ []; primitive = primitives.Source 0; names = rw is (grammar.src 0) }
-made_whole (awaits.Address addresses.Destination) words is = record { more = tokens.Address 0 ∷ []; primitive = primitives.Destination 0; names = rw is (grammar.dst 0) }
-made_whole (awaits.Address addresses.Host) words is = record { more = tokens.Address 0 ∷ []; primitive = primitives.Host 0; names = rw is (grammar.host 0) }
+made_whole (awaits.Number numbers.VlanId) words is = record {
+  more = tokens.Number (Some 0) ∷ [];
+  primitive = primitives.VlanId 0;
+  names = rw is
+      (grammar.vlan_id 0 (omega arith));
+}
+made_whole (awaits.Number numbers.OuterVlan) words is = record {
+  more = tokens.Number (Some 0) ∷ [];
+  primitive = primitives.OuterVlan 0;
+  names = rw is
+      (grammar.outer_vlan 0 (omega arith));
+}
+made_whole (awaits.Number numbers.InnerVlan) words is = record {
+  more = tokens.Number (Some 0) ∷ [];
+  primitive = primitives.InnerVlan 0;
+  names = rw is
+      (grammar.inner_vlan 0 (omega arith));
+}
+made_whole (awaits.Number numbers.EtherType) words is = record {
+  more = tokens.Number (Some 0) ∷ [];
+  primitive = primitives.EtherType 0;
+  names = rw is
+      (grammar.proto 0 (omega arith));
+}
+made_whole (awaits.Number numbers.Less) words is = record
+    { more = tokens.Number (Some 0) ∷ []; primitive = primitives.Less 0; names = rw is (grammar.less 0 (omega arith)) }
+made_whole (awaits.Number numbers.Greater) words is = record {
+  more = tokens.Number (Some 0) ∷ [];
+  primitive = primitives.Greater 0;
+  names = rw is
+      (grammar.greater 0 (omega arith));
+}
+made_whole awaits.EtherWord words is = record
+    { more = tokens.Broadcast ∷ []; primitive = primitives.Broadcast; names = rw is grammar.broadcast }
+made_whole (awaits.Address addresses.Source) words is = record
+    { more = tokens.Address 0 ∷ []; primitive = primitives.Source 0; names = rw is (grammar.src 0) }
+made_whole (awaits.Address addresses.Destination) words is = record
+    { more = tokens.Address 0 ∷ []; primitive = primitives.Destination 0; names = rw is (grammar.dst 0) }
+made_whole (awaits.Address addresses.Host) words is = record
+    { more = tokens.Address 0 ∷ []; primitive = primitives.Host 0; names = rw is (grammar.host 0) }
 made_whole awaits.Operand words is = absurd is
 made_whole awaits.Operator words is = absurd is
 
 within_begins : (a : Awaited) (p : List Pending) (ns : List Node) (ts : List Token) → Within a p ns ts → Begins ts
 within_begins a p ns ts w =
     let whole = made_whole a w.words w.begun in
-    let b = operand_goes_on p ns w.front (w.words ++ whole.more) (Test whole.primitive) w.earlier (grammar.primitive (w.words ++ whole.more) whole.primitive whole.names) in
-    same_begins (sym w.tokens) (shorter (w.front ++ w.words) whole.more (same_begins (sym (append_assoc w.front w.words whole.more)) b))
+    let b = operand_goes_on p ns w.front (w.words ++ whole.more) (Test whole.primitive) w.earlier
+    (grammar.primitive (w.words ++ whole.more) whole.primitive whole.names) in
+    same_begins (sym w.tokens)
+    (shorter (w.front ++ w.words) whole.more (same_begins (sym (append_assoc w.front w.words whole.more)) b))
 
 read_begins : (a : Awaited) (p : List Pending) (ns : List Node) (ts : List Token) → WasRead a p ns ts → Begins ts
-read_begins awaits.Operand p ns ts was = shorter ts (tokens.Macsec ∷ []) (operand_goes_on p ns ts (tokens.Macsec ∷ []) (Test primitives.Macsec) was (grammar.primitive (tokens.Macsec ∷ []) primitives.Macsec grammar.macsec))
-read_begins awaits.Operator p ns ts f = same_begins (sym f.tokens) (goes_on f.shape f.pending f.old f.front f.words f.x f.base f.earlier f.means)
+read_begins awaits.Operand p ns ts was = shorter ts (tokens.Macsec ∷ [])
+    (operand_goes_on p ns ts (tokens.Macsec ∷ []) (Test primitives.Macsec) was
+    (grammar.primitive (tokens.Macsec ∷ []) primitives.Macsec grammar.macsec))
+read_begins awaits.Operator p ns ts f = same_begins (sym f.tokens)
+    (goes_on f.shape f.pending f.old f.front f.words f.x f.base f.earlier f.means)
 read_begins a p ns ts was = within_begins a p ns ts was
 
-pub stands_begins : (ts : List Token) (s : State) → Stands ts s → Begins ts
-stands_begins ts s stands = read_begins s.awaited s.pending s.nodes ts (stands_was ts s stands)
+pub reached_begins : (ts : List Token) (s : State) → Reaches ts s → Begins ts
+reached_begins ts s reaches = read_begins s.awaited s.pending s.nodes ts (reached_was ts s reaches)
 
 -- ---- both ways
 
-pub going_ok : {A : Type 0} (o : Outcome) (rest : State → Result A FilterErrorKind) (a : A) → going o rest ≡ Ok a → (s : State) × (o ≡ Ok s)
+pub going_ok : {A : Type 0} (o : Outcome) (rest : State → Result A FilterErrorKind) (a : A) → going o rest ≡ Ok a
+    → (s : State) × (o ≡ Ok s)
 going_ok (Ok s) rest a is = (s, refl)
 going_ok (Err kind) rest a is = absurd cc
 
-pub begins_stands : (ts : List Token) → Begins ts → (s : State) × Stands ts s
-begins_stands ts b = going_ok (run begun ts) (λ u. all_from u b.rest) (postfix b.x) (sym (all_run begun ts b.rest) ∙ expression_read (ts ++ b.rest) b.x b.is)
+pub begins_reached : (ts : List Token) → Begins ts → (s : State) × Reaches ts s
+begins_reached ts b = going_ok (run begun ts) (λ u. all_from u b.rest) (postfix b.x)
+    (sym (all_run begun ts b.rest) ∙ expression_read (ts ++ b.rest) b.x b.is)
 
-pub fits_taken : (ts : List Token) (s : State) (t : Token) → Stands ts s → Fits ts t → (u : State) × (taken s t ≡ Ok u)
-fits_taken ts s t stands fits = let next = begins_stands (ts ++ t ∷ []) fits in (next.0, sym (run_more ts s t stands) ∙ next.1)
+pub fits_taken : (ts : List Token) (s : State) (t : Token) → Reaches ts s → Fits ts t → (u : State) × (taken s t ≡ Ok u)
+fits_taken ts s t reaches fits = let next = begins_reached (ts ++ t ∷ []) fits
+    in (next.0, sym (run_more ts s t reaches) ∙ next.1)
 
-pub taken_fits : (ts : List Token) (s u : State) (t : Token) → Stands ts s → taken s t ≡ Ok u → Fits ts t
-taken_fits ts s u t stands is = stands_begins (ts ++ t ∷ []) u (run_more ts s t stands ∙ is)
+pub taken_fits : (ts : List Token) (s u : State) (t : Token) → Reaches ts s → taken s t ≡ Ok u → Fits ts t
+taken_fits ts s u t reaches is = reached_begins (ts ++ t ∷ []) u (run_more ts s t reaches ∙ is)

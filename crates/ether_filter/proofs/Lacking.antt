@@ -24,9 +24,9 @@ use Rattle.ether_filter.specs.Reading.{State, completed, joined_by, closed_group
 use Rattle.ether_filter.specs.Refusals.{Fits, IsAfterOperand, IsOther, Lacks}
 use Rattle.ether_filter.specs.Refusals as rows
 use Rattle.ether_filter.proofs.Sound.{decided}
-use Rattle.ether_filter.proofs.Fitting.{Stands, fits_taken, taken_fits}
+use Rattle.ether_filter.proofs.Fitting.{Reaches, fits_taken, taken_fits}
 
--- ---- what is told
+-- ---- the kind of an error
 
 abbrev pub kind_after : Option Token → FilterErrorKind
 kind_after None = kinds.Unclosed
@@ -44,14 +44,15 @@ kind_at awaits.Operator next = kind_after next
 kind_at awaits.VlanId next = kind_after_vlan next
 kind_at a next = kind_of a
 
--- ---- it is told
+-- ---- .. is that of the word that is refused
 
 stepped_kind : (s : State) (step : Step) (kind : FilterErrorKind) → stepped s step ≡ Err kind → kind ≡ kind_of s.awaited
 stepped_kind s (Done p) kind is = absurd cc
 stepped_kind s (More a) kind is = absurd cc
 stepped_kind s Fails kind is = cc
 
-joined_kind : (operator : Operator) (ns : List Node) (p : List Pending) (kind : FilterErrorKind) → joined_by operator ns p ≡ Err kind → kind ≡ kinds.MixedOperators
+joined_kind : (operator : Operator) (ns : List Node) (p : List Pending) (kind : FilterErrorKind)
+    → joined_by operator ns p ≡ Err kind → kind ≡ kinds.MixedOperators
 joined_kind operator ns [] kind is = absurd cc
 joined_kind operator ns (pendings.Open ∷ p) kind is = absurd cc
 joined_kind operator ns (pendings.Not ∷ p) kind is = absurd cc
@@ -60,45 +61,58 @@ joined_kind And ns (pendings.Join Or ∷ p) kind is = cc
 joined_kind Or ns (pendings.Join And ∷ p) kind is = cc
 joined_kind Or ns (pendings.Join Or ∷ p) kind is = absurd cc
 
-group_kind : (ns : List Node) (p : List Pending) (kind : FilterErrorKind) → closed_group ns p ≡ Err kind → kind ≡ kinds.Unopened
+group_kind : (ns : List Node) (p : List Pending) (kind : FilterErrorKind) → closed_group ns p ≡ Err kind → kind
+    ≡ kinds.Unopened
 group_kind ns [] kind is = cc
 group_kind ns (pendings.Open ∷ p) kind is = absurd cc
 group_kind ns (q ∷ p) kind is = cc
 
-closing_kind : (ns : List Node) (p : List Pending) (a : Awaited) (kind : FilterErrorKind) → operator_taken (record { nodes = ns; pending = p; awaited = a }) tokens.Close ≡ Err kind → kind ≡ kinds.Unopened
+closing_kind : (ns : List Node) (p : List Pending) (a : Awaited) (kind : FilterErrorKind)
+    → operator_taken (record { nodes = ns; pending = p; awaited = a }) tokens.Close ≡ Err kind → kind ≡ kinds.Unopened
 closing_kind ns [] a kind is = group_kind ns [] kind is
 closing_kind ns (pendings.Join operator ∷ p) a kind is = group_kind (ns ++ nodes.Join operator ∷ []) p kind is
 closing_kind ns (pendings.Open ∷ p) a kind is = group_kind ns (pendings.Open ∷ p) kind is
 closing_kind ns (pendings.Not ∷ p) a kind is = group_kind ns (pendings.Not ∷ p) kind is
 
-operator_kind : (s : State) (t : Token) (kind : FilterErrorKind) → operator_taken s t ≡ Err kind → kind ≡ kind_after (Some t)
+operator_kind : (s : State) (t : Token) (kind : FilterErrorKind) → operator_taken s t ≡ Err kind → kind
+    ≡ kind_after (Some t)
 operator_kind s (tokens.Join operator) kind is = joined_kind operator s.nodes s.pending kind is
 operator_kind s tokens.Close kind is = closing_kind s.nodes s.pending s.awaited kind is
 operator_kind s t kind is = cc
 
-operand_kind : (s : State) (t : Token) (kind : FilterErrorKind) → operand_taken s t ≡ Err kind → kind ≡ kind_of s.awaited
+operand_kind : (s : State) (t : Token) (kind : FilterErrorKind) → operand_taken s t ≡ Err kind → kind
+    ≡ kind_of s.awaited
 operand_kind s tokens.Not kind is = absurd cc
 operand_kind s tokens.Open kind is = absurd cc
 operand_kind s t kind is = stepped_kind s (first_step t) kind is
 
-id_kind : (s : State) (t : Token) (kind : FilterErrorKind) → s.awaited ≡ awaits.VlanId → id_taken s t ≡ Err kind → kind ≡ kind_after_vlan (Some t)
-id_kind s (tokens.Number n) kind a is = stepped_kind s (next_step (awaits.Number numbers.VlanId) (tokens.Number n)) kind is ∙ ap kind_of a
+id_kind : (s : State) (t : Token) (kind : FilterErrorKind) → s.awaited ≡ awaits.VlanId → id_taken s t ≡ Err kind
+    → kind ≡ kind_after_vlan (Some t)
+id_kind s (tokens.Number n) kind a is = stepped_kind s (next_step (awaits.Number numbers.VlanId) (tokens.Number n))
+    kind is ∙ ap kind_of a
 id_kind s t kind a is = operator_kind (completed s primitives.Vlan) t kind is
 
-taken_kind_at : (a : Awaited) (ns : List Node) (p : List Pending) (t : Token) (kind : FilterErrorKind) → taken_where a (record { nodes = ns; pending = p; awaited = a }) t ≡ Err kind → kind ≡ kind_at a (Some t)
-taken_kind_at awaits.Operand ns p t kind is = operand_kind (record { nodes = ns; pending = p; awaited = awaits.Operand }) t kind is
-taken_kind_at awaits.Operator ns p t kind is = operator_kind (record { nodes = ns; pending = p; awaited = awaits.Operator }) t kind is
-taken_kind_at awaits.VlanId ns p t kind is = id_kind (record { nodes = ns; pending = p; awaited = awaits.VlanId }) t kind refl is
+taken_kind_at : (a : Awaited) (ns : List Node) (p : List Pending) (t : Token) (kind : FilterErrorKind)
+    → taken_where a (record { nodes = ns; pending = p; awaited = a }) t ≡ Err kind → kind ≡ kind_at a (Some t)
+taken_kind_at awaits.Operand ns p t kind is = operand_kind
+    (record { nodes = ns; pending = p; awaited = awaits.Operand }) t kind is
+taken_kind_at awaits.Operator ns p t kind is = operator_kind
+    (record { nodes = ns; pending = p; awaited = awaits.Operator }) t kind is
+taken_kind_at awaits.VlanId ns p t kind is = id_kind (record { nodes = ns; pending = p; awaited = awaits.VlanId }) t
+    kind refl is
 taken_kind_at a ns p t kind is = stepped_kind (record { nodes = ns; pending = p; awaited = a }) (next_step a t) kind is
 
-pub taken_kind : (s : State) (t : Token) (kind : FilterErrorKind) → taken s t ≡ Err kind → kind ≡ kind_at s.awaited (Some t)
+pub taken_kind : (s : State) (t : Token) (kind : FilterErrorKind) → taken s t ≡ Err kind → kind
+    ≡ kind_at s.awaited (Some t)
 taken_kind s t kind is = taken_kind_at s.awaited s.nodes s.pending t kind is
 
-open_kind : (ns : List Node) (p : List Pending) (kind : FilterErrorKind) → nothing_open ns p ≡ Err kind → kind ≡ kinds.Unclosed
+open_kind : (ns : List Node) (p : List Pending) (kind : FilterErrorKind) → nothing_open ns p ≡ Err kind → kind
+    ≡ kinds.Unclosed
 open_kind ns [] kind is = absurd cc
 open_kind ns (q ∷ p) kind is = cc
 
-whole_kind : (ns : List Node) (p : List Pending) (a : Awaited) (kind : FilterErrorKind) → whole (record { nodes = ns; pending = p; awaited = a }) ≡ Err kind → kind ≡ kinds.Unclosed
+whole_kind : (ns : List Node) (p : List Pending) (a : Awaited) (kind : FilterErrorKind)
+    → whole (record { nodes = ns; pending = p; awaited = a }) ≡ Err kind → kind ≡ kinds.Unclosed
 whole_kind ns [] a kind is = open_kind ns [] kind is
 whole_kind ns (pendings.Join operator ∷ p) a kind is = open_kind (ns ++ nodes.Join operator ∷ []) p kind is
 whole_kind ns (pendings.Open ∷ p) a kind is = cc
@@ -106,7 +120,8 @@ whole_kind ns (pendings.Not ∷ p) a kind is = cc
 
 ended_kind_at : (a : Awaited) (s : State) (kind : FilterErrorKind) → ended_where a s ≡ Err kind → kind ≡ kind_at a None
 ended_kind_at awaits.Operator s kind is = whole_kind s.nodes s.pending s.awaited kind is
-ended_kind_at awaits.VlanId s kind is = let t = completed s primitives.Vlan in whole_kind t.nodes t.pending t.awaited kind is
+ended_kind_at awaits.VlanId s kind is = let t = completed s primitives.Vlan
+    in whole_kind t.nodes t.pending t.awaited kind is
 ended_kind_at a s kind is = cc
 
 pub ended_kind : (s : State) (kind : FilterErrorKind) → ended s ≡ Err kind → kind ≡ kind_at s.awaited None
@@ -121,23 +136,33 @@ joins ns (pendings.Not ∷ p) = (And, _, refl)
 joins ns (pendings.Join And ∷ p) = (And, _, refl)
 joins ns (pendings.Join Or ∷ p) = (Or, _, refl)
 
-after_operator : (ts : List Token) (ns : List Node) (p : List Pending) → Stands ts (record { nodes = ns; pending = p; awaited = awaits.Operator }) → IsAfterOperand ts
-after_operator ts ns p stands = let next = joins ns p in record { operator = next.0; fits = taken_fits ts (record { nodes = ns; pending = p; awaited = awaits.Operator }) next.1 (tokens.Join next.0) stands next.2 }
+after_operator : (ts : List Token) (ns : List Node) (p : List Pending)
+    → Reaches ts (record { nodes = ns; pending = p; awaited = awaits.Operator }) → IsAfterOperand ts
+after_operator ts ns p reaches = let next = joins ns p
+    in record {
+      operator = next.0;
+      fits = taken_fits ts (record { nodes = ns; pending = p; awaited = awaits.Operator }) next.1
+          (tokens.Join next.0) reaches next.2;
+    }
 
-after_vlan : (ts : List Token) (ns : List Node) (p : List Pending) → Stands ts (record { nodes = ns; pending = p; awaited = awaits.VlanId }) → IsAfterOperand ts
-after_vlan ts ns p stands =
+after_vlan : (ts : List Token) (ns : List Node) (p : List Pending)
+    → Reaches ts (record { nodes = ns; pending = p; awaited = awaits.VlanId }) → IsAfterOperand ts
+after_vlan ts ns p reaches =
     let s : State = record { nodes = ns; pending = p; awaited = awaits.VlanId } in
     let t = completed s primitives.Vlan in
-    let next = joins t.nodes t.pending in record { operator = next.0; fits = taken_fits ts s next.1 (tokens.Join next.0) stands next.2 }
+    let next = joins t.nodes t.pending
+    in record { operator = next.0; fits = taken_fits ts s next.1 (tokens.Join next.0) reaches next.2 }
 
-after_lacks : (ts : List Token) (next : Option Token) → IsAfterOperand ts → (Fits ts (tokens.Number (Some 4095)) → ⊥) → Lacks ts next (kind_after next)
+after_lacks : (ts : List Token) (next : Option Token) → IsAfterOperand ts → (Fits ts (tokens.Number (Some 4095)) → ⊥)
+    → Lacks ts next (kind_after next)
 after_lacks ts None after none = rows.unclosed after
 after_lacks ts (Some (tokens.Join operator)) after none = rows.mixed operator after
 after_lacks ts (Some tokens.Close) after none = rows.unopened after
 after_lacks ts (Some (tokens.Number n)) after none = rows.no_number n after none
 after_lacks ts (Some t) after none = rows.operator t after tt
 
-vlan_lacks : (ts : List Token) (next : Option Token) → IsAfterOperand ts → Fits ts (tokens.Number (Some 4095)) → Lacks ts next (kind_after_vlan next)
+vlan_lacks : (ts : List Token) (next : Option Token) → IsAfterOperand ts → Fits ts (tokens.Number (Some 4095))
+    → Lacks ts next (kind_after_vlan next)
 vlan_lacks ts None after fits = rows.unclosed after
 vlan_lacks ts (Some (tokens.Join operator)) after fits = rows.mixed operator after
 vlan_lacks ts (Some tokens.Close) after fits = rows.unopened after
@@ -145,36 +170,51 @@ vlan_lacks ts (Some (tokens.Number n)) after fits = rows.vlan_id n after fits
 vlan_lacks ts (Some t) after fits = rows.operator t after tt
 
 -- a number up to the greatest one is taken, and no other
-number_taken : (of : Numbered) (s : State) (n : ℕ) → n ≤ most_of of → stepped s (next_step (awaits.Number of) (tokens.Number (Some n))) ≡ Ok (completed s (number_primitive of n))
+number_taken : (of : Numbered) (s : State) (n : ℕ) → n ≤ most_of of
+    → stepped s (next_step (awaits.Number of) (tokens.Number (Some n))) ≡ Ok (completed s (number_primitive of n))
 number_taken of s n le = rw (le-ltb (most_of of) n le) refl
 
-number_above : (of : Numbered) (s u : State) (n : ℕ) → most_of of < n → stepped s (next_step (awaits.Number of) (tokens.Number (Some n))) ≡ Ok u → ⊥
+number_above : (of : Numbered) (s u : State) (n : ℕ) → most_of of < n
+    → stepped s (next_step (awaits.Number of) (tokens.Number (Some n))) ≡ Ok u → ⊥
 number_above of s u n lt is = let no = rw (lt-ltb (most_of of) n lt) at is in cc
 
-lacks_at : (a : Awaited) (ns : List Node) (p : List Pending) (ts : List Token) (next : Option Token) → Stands ts (record { nodes = ns; pending = p; awaited = a }) → Lacks ts next (kind_at a next)
-lacks_at awaits.Operand ns p ts next stands = rows.operand next (taken_fits ts (record { nodes = ns; pending = p; awaited = awaits.Operand }) (record { nodes = ns; pending = pendings.Not ∷ p; awaited = awaits.Operand }) tokens.Not stands refl)
-lacks_at awaits.Operator ns p ts next stands =
-    after_lacks ts next (after_operator ts ns p stands)
-    (λ fits. let u = fits_taken ts (record { nodes = ns; pending = p; awaited = awaits.Operator }) (tokens.Number (Some 4095)) stands fits in let is = u.1 in cc)
-lacks_at awaits.VlanId ns p ts next stands =
+lacks_at : (a : Awaited) (ns : List Node) (p : List Pending) (ts : List Token) (next : Option Token)
+    → Reaches ts (record { nodes = ns; pending = p; awaited = a }) → Lacks ts next (kind_at a next)
+lacks_at awaits.Operand ns p ts next reaches = rows.operand next
+    (taken_fits ts (record { nodes = ns; pending = p; awaited = awaits.Operand })
+    (record { nodes = ns; pending = pendings.Not ∷ p; awaited = awaits.Operand }) tokens.Not reaches refl)
+lacks_at awaits.Operator ns p ts next reaches =
+    after_lacks ts next (after_operator ts ns p reaches)
+    (λ fits. let u = fits_taken ts (record { nodes = ns; pending = p; awaited = awaits.Operator })
+    (tokens.Number (Some 4095)) reaches fits in let is = u.1 in cc)
+lacks_at awaits.VlanId ns p ts next reaches =
     let s : State = record { nodes = ns; pending = p; awaited = awaits.VlanId } in
-    vlan_lacks ts next (after_vlan ts ns p stands) (taken_fits ts s (completed s (primitives.VlanId 4095)) (tokens.Number (Some 4095)) stands refl)
-lacks_at (awaits.Vlan of) ns p ts next stands =
+    vlan_lacks ts next (after_vlan ts ns p reaches)
+    (taken_fits ts s (completed s (primitives.VlanId 4095)) (tokens.Number (Some 4095)) reaches refl)
+lacks_at (awaits.Vlan of) ns p ts next reaches =
     let s : State = record { nodes = ns; pending = p; awaited = awaits.Vlan of } in
-    rows.vlan next (taken_fits ts s (record s { awaited = awaits.Number of }) tokens.Vlan stands refl)
-    (λ fits. let u = fits_taken ts s tokens.Not stands fits in let is = u.1 in cc)
-lacks_at (awaits.Number of) ns p ts next stands =
+    rows.vlan next (taken_fits ts s (record s { awaited = awaits.Number of }) tokens.Vlan reaches refl)
+    (λ fits. let u = fits_taken ts s tokens.Not reaches fits in let is = u.1 in cc)
+lacks_at (awaits.Number of) ns p ts next reaches =
     let s : State = record { nodes = ns; pending = p; awaited = awaits.Number of } in
-    rows.number next (most_of of) (taken_fits ts s (completed s (number_primitive of (most_of of))) (tokens.Number (Some (most_of of))) stands (number_taken of s (most_of of) (omega arith)))
-    (λ fits. let u = fits_taken ts s (tokens.Number (Some (most_of of + 1))) stands fits in number_above of s u.0 (most_of of + 1) (omega arith) u.1)
-    (λ after. let u = fits_taken ts s (tokens.Join after.operator) stands after.fits in let is = u.1 in cc)
-lacks_at awaits.EtherWord ns p ts next stands =
-    rows.ether_word next (taken_fits ts (record { nodes = ns; pending = p; awaited = awaits.EtherWord }) (record { nodes = ns; pending = p; awaited = awaits.Number numbers.EtherType }) tokens.Proto stands refl)
-lacks_at (awaits.Address of) ns p ts next stands =
-    rows.address next (taken_fits ts (record { nodes = ns; pending = p; awaited = awaits.Address of }) _ (tokens.Address 0) stands refl)
+    rows.number next (most_of of)
+    (taken_fits ts s (completed s (number_primitive of (most_of of))) (tokens.Number (Some (most_of of))) reaches
+    (number_taken of s (most_of of) (omega arith)))
+    (λ fits. let u = fits_taken ts s (tokens.Number (Some (most_of of + 1))) reaches fits
+    in number_above of s u.0 (most_of of + 1) (omega arith) u.1)
+    (λ after. let u = fits_taken ts s (tokens.Join after.operator) reaches after.fits in let is = u.1 in cc)
+lacks_at awaits.EtherWord ns p ts next reaches =
+    rows.ether_word next
+    (taken_fits ts (record { nodes = ns; pending = p; awaited = awaits.EtherWord })
+    (record { nodes = ns; pending = p; awaited = awaits.Number numbers.EtherType }) tokens.Proto reaches refl)
+lacks_at (awaits.Address of) ns p ts next reaches =
+    rows.address next
+    (taken_fits ts (record { nodes = ns; pending = p; awaited = awaits.Address of }) _ (tokens.Address 0) reaches
+    refl)
 
-pub stands_lacks : (ts : List Token) (s : State) (next : Option Token) → Stands ts s → Lacks ts next (kind_at s.awaited next)
-stands_lacks ts s next stands = lacks_at s.awaited s.nodes s.pending ts next stands
+pub reached_lacks : (ts : List Token) (s : State) (next : Option Token) → Reaches ts s
+    → Lacks ts next (kind_at s.awaited next)
+reached_lacks ts s next reaches = lacks_at s.awaited s.nodes s.pending ts next reaches
 
 -- ---- and no other row
 
@@ -202,7 +242,8 @@ vlan_at awaits.Operator s (u, is) = absurd cc
 vlan_at awaits.VlanId s (u, is) = absurd cc
 vlan_at a s (u, is) = absurd cc
 
-join_at : (a : Awaited) (s : State) (operator : Operator) → Takes a s (tokens.Join operator) → (a ≡ awaits.Operator) ⊎ (a ≡ awaits.VlanId)
+join_at : (a : Awaited) (s : State) (operator : Operator) → Takes a s (tokens.Join operator) → (a ≡ awaits.Operator)
+    ⊎ (a ≡ awaits.VlanId)
 join_at awaits.Operator s operator (u, is) = inl refl
 join_at awaits.VlanId s operator (u, is) = inr refl
 join_at awaits.Operand s operator (u, is) = absurd cc
@@ -212,7 +253,8 @@ vlan_row : (a : Awaited) (next : Option Token) → kind_of a ≡ kinds.ExpectedV
 vlan_row (awaits.Vlan of) next is = refl
 vlan_row a next is = absurd cc
 
-address_row : (a : Awaited) (s : State) (next : Option Token) → Takes a s (tokens.Address 0) → kinds.ExpectedAddress ≡ kind_at a next
+address_row : (a : Awaited) (s : State) (next : Option Token) → Takes a s (tokens.Address 0) → kinds.ExpectedAddress
+    ≡ kind_at a next
 address_row (awaits.Address of) s next (u, is) = refl
 address_row awaits.Operand s next (u, is) = absurd cc
 address_row awaits.Operator s next (u, is) = absurd cc
@@ -220,20 +262,26 @@ address_row awaits.VlanId s next (u, is) = absurd cc
 address_row a s next (u, is) = absurd cc
 
 -- a number that is taken is no greater than the greatest one
-number_within : (of : Numbered) (s u : State) (n : ℕ) → stepped s (next_step (awaits.Number of) (tokens.Number (Some n))) ≡ Ok u → n ≤ most_of of
+number_within : (of : Numbered) (s u : State) (n : ℕ)
+    → stepped s (next_step (awaits.Number of) (tokens.Number (Some n))) ≡ Ok u → n ≤ most_of of
 number_within of s u n is = elim (decided (nat_lt (most_of of) n)) [
   | inl above ↦ absurd (let refused = rw above at is in cc)
   | inr below ↦ ltb-false (most_of of) n below
 ]
 
-greatest : (of : Numbered) (s : State) (most : ℕ) (next : Option Token) → Takes (awaits.Number of) s (tokens.Number (Some most)) → (Takes (awaits.Number of) s (tokens.Number (Some (most + 1))) → ⊥)
+greatest : (of : Numbered) (s : State) (most : ℕ) (next : Option Token)
+    → Takes (awaits.Number of) s (tokens.Number (Some most))
+    → (Takes (awaits.Number of) s (tokens.Number (Some (most + 1))) → ⊥)
     → kinds.ExpectedNumber most ≡ kinds.ExpectedNumber (most_of of)
 greatest of s most next at above = elim (cases_lt most (most_of of)) [
   | inl lt ↦ absurd (above (completed s (number_primitive of (most + 1)), number_taken of s (most + 1) (omega arith)))
-  | inr ge ↦ (let le = number_within of s at.0 most at.1 in let same : most ≡ most_of of = omega arith in ap kinds.ExpectedNumber same)
+  | inr ge ↦
+      (let le = number_within of s at.0 most at.1 in let same : most ≡ most_of of = omega arith
+      in ap kinds.ExpectedNumber same)
 ]
 
-number_row : (a : Awaited) (s : State) (most : ℕ) (next : Option Token) → Takes a s (tokens.Number (Some most)) → (Takes a s (tokens.Number (Some (most + 1))) → ⊥) → (a ≡ awaits.VlanId → ⊥)
+number_row : (a : Awaited) (s : State) (most : ℕ) (next : Option Token) → Takes a s (tokens.Number (Some most))
+    → (Takes a s (tokens.Number (Some (most + 1))) → ⊥) → (a ≡ awaits.VlanId → ⊥)
     → kinds.ExpectedNumber most ≡ kind_at a next
 number_row (awaits.Number of) s most next at above vlan = greatest of s most next at above
 number_row awaits.VlanId s most next at above vlan = absurd (vlan refl)
@@ -242,59 +290,80 @@ number_row awaits.Operator s most next (u, is) above vlan = absurd cc
 number_row a s most next (u, is) above vlan = absurd cc
 
 -- after an operand, by whether a number fits
-after_row : (a : Awaited) (s : State) (operator : Operator) (next : Option Token) → Takes a s (tokens.Join operator) → (Takes a s (tokens.Number (Some 4095)) → ⊥) → kind_after next ≡ kind_at a next
+after_row : (a : Awaited) (s : State) (operator : Operator) (next : Option Token) → Takes a s (tokens.Join operator)
+    → (Takes a s (tokens.Number (Some 4095)) → ⊥) → kind_after next ≡ kind_at a next
 after_row awaits.Operator s operator next at none = refl
 after_row awaits.VlanId s operator next at none = absurd (none (completed s (primitives.VlanId 4095), refl))
 after_row awaits.Operand s operator next (u, is) none = absurd cc
 after_row a s operator next (u, is) none = absurd cc
 
-id_row : (a : Awaited) (s : State) (operator : Operator) (n : Option ℕ) → Takes a s (tokens.Join operator) → Takes a s (tokens.Number (Some 4095)) → kinds.ExpectedNumber 4095 ≡ kind_at a (Some (tokens.Number n))
+id_row : (a : Awaited) (s : State) (operator : Operator) (n : Option ℕ) → Takes a s (tokens.Join operator)
+    → Takes a s (tokens.Number (Some 4095)) → kinds.ExpectedNumber 4095 ≡ kind_at a (Some (tokens.Number n))
 id_row awaits.VlanId s operator n at number = refl
 id_row awaits.Operator s operator n at (u, is) = absurd cc
 id_row awaits.Operand s operator n (u, is) number = absurd cc
 id_row a s operator n (u, is) number = absurd cc
 
--- what is no number is told of after an operand in one way
-plain : (next : Option Token) → kind_after next ≡ kind_after_vlan next → (a : Awaited) → (a ≡ awaits.Operator) ⊎ (a ≡ awaits.VlanId) → kind_after next ≡ kind_at a next
+-- after an operand, what is no number has one kind of error
+plain : (next : Option Token) → kind_after next ≡ kind_after_vlan next → (a : Awaited) → (a ≡ awaits.Operator)
+    ⊎ (a ≡ awaits.VlanId) → kind_after next ≡ kind_at a next
 plain next same a either = elim either [
   | inl operator ↦ rw operator refl
   | inr vlan ↦ rw vlan same
 ]
 
-other_row : (t : Token) → IsOther t → (a : Awaited) → (a ≡ awaits.Operator) ⊎ (a ≡ awaits.VlanId) → kinds.ExpectedOperator ≡ kind_at a (Some t)
+other_row : (t : Token) → IsOther t → (a : Awaited) → (a ≡ awaits.Operator) ⊎ (a ≡ awaits.VlanId)
+    → kinds.ExpectedOperator ≡ kind_at a (Some t)
 other_row (tokens.Join operator) other a either = absurd other
 other_row tokens.Close other a either = absurd other
 other_row (tokens.Number n) other a either = absurd other
 other_row t other a either = plain (Some t) refl a either
 
 -- the tokens that fit are taken
-takes : (ts : List Token) (s : State) (t : Token) → Stands ts s → Fits ts t → Takes s.awaited s t
-takes ts s t stands fits = fits_taken ts s t stands fits
+takes : (ts : List Token) (s : State) (t : Token) → Reaches ts s → Fits ts t → Takes s.awaited s t
+takes ts s t reaches fits = fits_taken ts s t reaches fits
 
-untaken : (ts : List Token) (s : State) (t : Token) → Stands ts s → (Fits ts t → ⊥) → Takes s.awaited s t → ⊥
-untaken ts s t stands none (u, is) = none (taken_fits ts s u t stands is)
+untaken : (ts : List Token) (s : State) (t : Token) → Reaches ts s → (Fits ts t → ⊥) → Takes s.awaited s t → ⊥
+untaken ts s t reaches none (u, is) = none (taken_fits ts s u t reaches is)
 
-after_at : (ts : List Token) (s : State) → Stands ts s → IsAfterOperand ts → (s.awaited ≡ awaits.Operator) ⊎ (s.awaited ≡ awaits.VlanId)
-after_at ts s stands after = join_at s.awaited s after.operator (takes ts s (tokens.Join after.operator) stands after.fits)
+after_at : (ts : List Token) (s : State) → Reaches ts s → IsAfterOperand ts → (s.awaited ≡ awaits.Operator)
+    ⊎ (s.awaited ≡ awaits.VlanId)
+after_at ts s reaches after = join_at s.awaited s after.operator
+    (takes ts s (tokens.Join after.operator) reaches after.fits)
 
-id_is_after : (ts : List Token) (s : State) → Stands ts s → s.awaited ≡ awaits.VlanId → IsAfterOperand ts
-id_is_after ts s stands is = after_vlan ts s.nodes s.pending (subst (λ (a : Awaited). Stands ts (record { nodes = s.nodes; pending = s.pending; awaited = a })) is stands)
+id_is_after : (ts : List Token) (s : State) → Reaches ts s → s.awaited ≡ awaits.VlanId → IsAfterOperand ts
+id_is_after ts s reaches is = after_vlan ts s.nodes s.pending
+    (subst (λ (a : Awaited). Reaches ts (record { nodes = s.nodes; pending = s.pending; awaited = a })) is reaches)
 
-pub row_kind : (ts : List Token) (s : State) (next : Option Token) (kind : FilterErrorKind) → Stands ts s → Lacks ts next kind → kind ≡ kind_at s.awaited next
-row_kind ts s next kind stands (rows.operand n fits) = let at = not_at s.awaited s (takes ts s tokens.Not stands fits) in rw at refl
-row_kind ts s next kind stands (rows.vlan n fits none) = elim (vlan_at s.awaited s (takes ts s tokens.Vlan stands fits)) [
-  | inl operand ↦ absurd (untaken ts s tokens.Not stands none (rw operand (record { nodes = s.nodes; pending = pendings.Not ∷ s.pending; awaited = awaits.Operand }, refl)))
-  | inr is ↦ vlan_row s.awaited next is
-]
-row_kind ts s next kind stands (rows.ether_word n fits) = let at = proto_at s.awaited s (takes ts s tokens.Proto stands fits) in rw at refl
-row_kind ts s next kind stands (rows.address n fits) = address_row s.awaited s next (takes ts s (tokens.Address 0) stands fits)
-row_kind ts s next kind stands (rows.number n most fits none after) =
-    number_row s.awaited s most next (takes ts s (tokens.Number (Some most)) stands fits) (untaken ts s (tokens.Number (Some (most + 1))) stands none) (λ is. after (id_is_after ts s stands is))
-row_kind ts s next kind stands (rows.vlan_id n after fits) =
-    id_row s.awaited s after.operator n (takes ts s (tokens.Join after.operator) stands after.fits) (takes ts s (tokens.Number (Some 4095)) stands fits)
-row_kind ts s next kind stands (rows.no_number n after none) =
-    after_row s.awaited s after.operator (Some (tokens.Number n)) (takes ts s (tokens.Join after.operator) stands after.fits) (untaken ts s (tokens.Number (Some 4095)) stands none)
-row_kind ts s next kind stands (rows.operator t after other) = other_row t other s.awaited (after_at ts s stands after)
-row_kind ts s next kind stands (rows.mixed operator after) = plain (Some (tokens.Join operator)) refl s.awaited (after_at ts s stands after)
-row_kind ts s next kind stands (rows.unopened after) = plain (Some tokens.Close) refl s.awaited (after_at ts s stands after)
-row_kind ts s next kind stands (rows.unclosed after) = plain None refl s.awaited (after_at ts s stands after)
+pub row_kind : (ts : List Token) (s : State) (next : Option Token) (kind : FilterErrorKind) → Reaches ts s
+    → Lacks ts next kind → kind ≡ kind_at s.awaited next
+row_kind ts s next kind reaches (rows.operand n fits) = let at = not_at s.awaited s
+    (takes ts s tokens.Not reaches fits) in rw at refl
+row_kind ts s next kind reaches (rows.vlan n fits none) = elim
+    (vlan_at s.awaited s (takes ts s tokens.Vlan reaches fits)) [
+      | inl operand ↦ absurd
+          (untaken ts s tokens.Not reaches none
+          (rw operand (record { nodes = s.nodes; pending = pendings.Not ∷ s.pending; awaited = awaits.Operand }, refl)))
+      | inr is ↦ vlan_row s.awaited next is
+    ]
+row_kind ts s next kind reaches (rows.ether_word n fits) = let at = proto_at s.awaited s
+    (takes ts s tokens.Proto reaches fits) in rw at refl
+row_kind ts s next kind reaches (rows.address n fits) = address_row s.awaited s next
+    (takes ts s (tokens.Address 0) reaches fits)
+row_kind ts s next kind reaches (rows.number n most fits none after) =
+    number_row s.awaited s most next (takes ts s (tokens.Number (Some most)) reaches fits)
+    (untaken ts s (tokens.Number (Some (most + 1))) reaches none) (λ is. after (id_is_after ts s reaches is))
+row_kind ts s next kind reaches (rows.vlan_id n after fits) =
+    id_row s.awaited s after.operator n (takes ts s (tokens.Join after.operator) reaches after.fits)
+    (takes ts s (tokens.Number (Some 4095)) reaches fits)
+row_kind ts s next kind reaches (rows.no_number n after none) =
+    after_row s.awaited s after.operator (Some (tokens.Number n))
+    (takes ts s (tokens.Join after.operator) reaches after.fits)
+    (untaken ts s (tokens.Number (Some 4095)) reaches none)
+row_kind ts s next kind reaches (rows.operator t after other) = other_row t other s.awaited
+    (after_at ts s reaches after)
+row_kind ts s next kind reaches (rows.mixed operator after) = plain (Some (tokens.Join operator)) refl s.awaited
+    (after_at ts s reaches after)
+row_kind ts s next kind reaches (rows.unopened after) = plain (Some tokens.Close) refl s.awaited
+    (after_at ts s reaches after)
+row_kind ts s next kind reaches (rows.unclosed after) = plain None refl s.awaited (after_at ts s reaches after)

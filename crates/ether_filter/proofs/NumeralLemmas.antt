@@ -21,7 +21,8 @@ pub record Reads (radix : ℕ) (ds : List ℕ) (i number : ℕ) : Type 0 where
   pub digits : list_all (is_digit radix) (take i ds) ≡ true
   pub value : number ≡ min (digits_value radix (take i ds)) (2 ^ 48)
 
-capped_more : (n radix digit : ℕ) → 1 ≤ radix → min (min n (2 ^ 48) * radix + digit) (2 ^ 48) ≡ min (n * radix + digit) (2 ^ 48)
+capped_more : (n radix digit : ℕ) → 1 ≤ radix → min (min n (2 ^ 48) * radix + digit) (2 ^ 48)
+    ≡ min (n * radix + digit) (2 ^ 48)
 capped_more n radix digit le = elim (cases_lt n (2 ^ 48)) [
   | inl small ↦ (let same : min n (2 ^ 48) ≡ n = omega arith in rw same refl)
   | inr great ↦ (let same : min n (2 ^ 48) ≡ 2 ^ 48 = omega arith in
@@ -31,13 +32,17 @@ capped_more n radix digit le = elim (cases_lt n (2 ^ 48)) [
 ]
 
 pub reads_more : (radix : ℕ) (ds : List ℕ) (i value digit next : ℕ) → 2 ≤ radix → i < length ds → Reads radix ds i value
-    → digit_value (slice_index ds i) < radix → digit ≡ digit_value (slice_index ds i) → next ≡ min (value * radix + digit) (2 ^ 48) → Reads radix ds (i + 1) next
+    → digit_value (slice_index ds i) < radix → digit ≡ digit_value (slice_index ds i) → next
+    ≡ min (value * radix + digit) (2 ^ 48) → Reads radix ds (i + 1) next
 reads_more radix ds i value digit next two lt r below is more = record {
   digits = list_all_more (is_digit radix) ds i 0 lt ∙ rw (r.digits, lt-ltb _ _ below) refl;
-  value = more ∙ rw (is, r.value, digits_value_more radix ds i lt) (capped_more (digits_value radix (take i ds)) radix (digit_value (slice_index ds i)) (omega arith));
+  value = more
+      ∙ rw (is, r.value, digits_value_more radix ds i lt)
+      (capped_more (digits_value radix (take i ds)) radix (digit_value (slice_index ds i)) (omega arith));
 }
 
-pub reads_all : (radix : ℕ) (ds : List ℕ) (i number : ℕ) → 0 < length ds → length ds ≤ i → Reads radix ds i number → IsCapped radix ds number
+pub reads_all : (radix : ℕ) (ds : List ℕ) (i number : ℕ) → 0 < length ds → length ds ≤ i → Reads radix ds i number
+    → IsCapped radix ds number
 reads_all radix ds i number some le r =
     let all : take i ds ≡ ds = take_all i ds le in
     let digits : list_all (is_digit radix) ds ≡ true = rw all at r.digits in
@@ -45,9 +50,11 @@ reads_all radix ds i number some le r =
     record { number = digits_value radix ds; is = rw (lt-ltb 0 (length ds) some, digits) refl; capped = value }
 
 -- something that is no digit
-pub reads_none : (radix : ℕ) (ds : List ℕ) (i : ℕ) → i < length ds → radix ≤ digit_value (slice_index ds i) → digits_in radix ds ≡ None
+pub reads_none : (radix : ℕ) (ds : List ℕ) (i : ℕ) → i < length ds → radix ≤ digit_value (slice_index ds i)
+    → digits_in radix ds ≡ None
 reads_none radix ds i lt other =
-    let no : list_all (is_digit radix) ds ≡ false = list_all_at (is_digit radix) ds i 0 lt (le-ltb (digit_value (slice_index ds i)) radix other) in
+    let no : list_all (is_digit radix) ds
+    ≡ false = list_all_at (is_digit radix) ds i 0 lt (le-ltb (digit_value (slice_index ds i)) radix other) in
     rw (no, and-false (nat_lt 0 (length ds))) refl
 
 decided : (b : Bool) → (b ≡ true) ⊎ (b ≡ false)
@@ -60,10 +67,12 @@ both false b is = absurd cc
 
 all_digits : (radix : ℕ) (ds : List ℕ) → list_all (is_digit radix) ds ≡ true → AllDigits radix ds
 all_digits radix [] all = tt
-all_digits radix (c ∷ cs) all = let p = both (is_digit radix c) (list_all (is_digit radix) cs) all in (ltb-true _ _ p.0, all_digits radix cs p.1)
+all_digits radix (c ∷ cs) all = let p = both (is_digit radix c) (list_all (is_digit radix) cs) all
+    in (ltb-true _ _ p.0, all_digits radix cs p.1)
 
 -- twelve hexadecimal digits have 48 bits at most
-pub address_read : (ds : List ℕ) (result : Option ℕ) → length ds ≡ 12 → MatchOption result (digits_in 16 ds ≡ None) (IsCapped 16 ds) → result ≡ digits_in 16 ds
+pub address_read : (ds : List ℕ) (result : Option ℕ) → length ds ≡ 12
+    → MatchOption result (digits_in 16 ds ≡ None) (IsCapped 16 ds) → result ≡ digits_in 16 ds
 address_read ds None len none = sym none
 address_read ds (Some v) len capped = elim (decided (list_all (is_digit 16) ds)) [
   | inl all ↦ (let lt = digits_value-lt 16 ds (all_digits 16 ds all) in
@@ -78,8 +87,11 @@ address_read ds (Some v) len capped = elim (decided (list_all (is_digit 16) ds))
 ]
 
 -- a number below the cap was read as it is
-pub capped_within : (radix : ℕ) (ds : List ℕ) (v : ℕ) → IsCapped radix ds v → option_map within_32_bits (digits_in radix ds) ≡ Some (within_32_bits v)
+pub capped_within : (radix : ℕ) (ds : List ℕ) (v : ℕ) → IsCapped radix ds v
+    → option_map within_32_bits (digits_in radix ds) ≡ Some (within_32_bits v)
 capped_within radix ds v capped = elim (cases_lt capped.number (2 ^ 32)) [
   | inl small ↦ (let same : v ≡ capped.number = omega (arith, capped.capped) in rw (capped.is, same) refl)
-  | inr great ↦ (let above : 2 ^ 32 ≤ v = omega (arith, capped.capped) in rw (capped.is, le-ltb capped.number (2 ^ 32) great, le-ltb v (2 ^ 32) above) refl)
+  | inr great ↦
+      (let above : 2 ^ 32 ≤ v = omega (arith, capped.capped)
+      in rw (capped.is, le-ltb capped.number (2 ^ 32) great, le-ltb v (2 ^ 32) above) refl)
 ]

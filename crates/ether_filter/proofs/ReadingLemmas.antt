@@ -24,7 +24,8 @@ use Rattle.ether_filter.specs.Grammar as grammar
 use Rattle.ether_filter.specs.Steps.{next_step, most_of}
 use Rattle.ether_filter.specs.Reading.{State, Outcome, begun, closed, differ, operator_taken, stepped, taken_where, taken, whole, ended}
 
-pub other_taken : (x : Awaited) (s : State) (t : Token) → (x ≡ awaits.Operand → ⊥) → (x ≡ awaits.Operator → ⊥) → (x ≡ awaits.VlanId → ⊥) → taken_where x s t ≡ stepped s (next_step x t)
+pub other_taken : (x : Awaited) (s : State) (t : Token) → (x ≡ awaits.Operand → ⊥) → (x ≡ awaits.Operator → ⊥)
+    → (x ≡ awaits.VlanId → ⊥) → taken_where x s t ≡ stepped s (next_step x t)
 other_taken awaits.Operand s t a b c = absurd (a refl)
 other_taken awaits.Operator s t a b c = absurd (b refl)
 other_taken awaits.VlanId s t a b c = absurd (c refl)
@@ -78,23 +79,30 @@ body x = postfix x
 
 abbrev after : Shape → List Node → List Pending → Expression → State
 after Operand ns p x = closed (ns ++ postfix x) p
-after (Chain operator) ns p x = record { nodes = ns ++ body x; pending = pendings.Join operator ∷ p; awaited = awaits.Operator }
+after (Chain operator) ns p x = record
+    { nodes = ns ++ body x; pending = pendings.Join operator ∷ p; awaited = awaits.Operator }
 
-pub body_whole : (operator : Operator) (ts : List Token) (x : Expression) → Means (Chain operator) ts x → postfix x ≡ body x ++ nodes.Join operator ∷ []
+pub body_whole : (operator : Operator) (ts : List Token) (x : Expression) → Means (Chain operator) ts x → postfix x
+    ≡ body x ++ nodes.Join operator ∷ []
 body_whole operator ts x (grammar.join o shape us vs y z leads m n) = refl
 
 vlan_ends : (ns : List Node) (p : List Pending) (rest : List Token) → Ends rest
-    → all_from (record { nodes = ns; pending = p; awaited = awaits.VlanId }) rest ≡ all_from (closed (ns ++ nodes.Test primitives.Vlan ∷ []) p) rest
+    → all_from (record { nodes = ns; pending = p; awaited = awaits.VlanId }) rest
+    ≡ all_from (closed (ns ++ nodes.Test primitives.Vlan ∷ []) p) rest
 vlan_ends ns p [] e = sym (closed_ended (ns ++ nodes.Test primitives.Vlan ∷ []) p)
-vlan_ends ns p (tokens.Close ∷ ts) e = ap (λ (o : Outcome). going o (λ u. all_from u ts)) (sym (closed_taken (ns ++ nodes.Test primitives.Vlan ∷ []) p tokens.Close))
-vlan_ends ns p (tokens.Join operator ∷ ts) e = ap (λ (o : Outcome). going o (λ u. all_from u ts)) (sym (closed_taken (ns ++ nodes.Test primitives.Vlan ∷ []) p (tokens.Join operator)))
+vlan_ends ns p (tokens.Close ∷ ts) e = ap (λ (o : Outcome). going o (λ u. all_from u ts))
+    (sym (closed_taken (ns ++ nodes.Test primitives.Vlan ∷ []) p tokens.Close))
+vlan_ends ns p (tokens.Join operator ∷ ts) e = ap (λ (o : Outcome). going o (λ u. all_from u ts))
+    (sym (closed_taken (ns ++ nodes.Test primitives.Vlan ∷ []) p (tokens.Join operator)))
 vlan_ends ns p (t ∷ ts) e = absurd e
 
 within : (of : Numbered) (n m : ℕ) → m ≡ most_of of → n ≤ m → nat_lt (most_of of) n ≡ false
 within of n m is le = subst (λ (k : ℕ). nat_lt k n ≡ false) is (le-ltb m n le)
 
-primitive_read : (ts : List Token) (q : Primitive) → NamesPrimitive ts q → (ns : List Node) (p : List Pending) (rest : List Token) → Ends rest
-    → all_from (record { nodes = ns; pending = p; awaited = awaits.Operand }) (ts ++ rest) ≡ all_from (closed (ns ++ nodes.Test q ∷ []) p) rest
+primitive_read : (ts : List Token) (q : Primitive) → NamesPrimitive ts q
+    → (ns : List Node) (p : List Pending) (rest : List Token) → Ends rest
+    → all_from (record { nodes = ns; pending = p; awaited = awaits.Operand }) (ts ++ rest)
+    ≡ all_from (closed (ns ++ nodes.Test q ∷ []) p) rest
 primitive_read ts q grammar.vlan ns p rest e = vlan_ends ns p rest e
 primitive_read ts q (grammar.vlan_id n lt) ns p rest e = rw (le-ltb 4095 n (omega arith)) refl
 primitive_read ts q (grammar.outer_vlan n lt) ns p rest e = rw (le-ltb 4095 n (omega arith)) refl
@@ -123,37 +131,54 @@ same_operator And = refl
 same_operator Or = refl
 
 -- an operator after its left operand
-left_read : (operator : Operator) (shape : Shape) (ts : List Token) (x : Expression) → Leads operator shape → Means shape ts x → (ns : List Node) (p : List Pending) (rest : List Token) → IsBase p
-    → {result : Result (List Node) FilterErrorKind} → result ≡ all_from (after shape ns p x) (tokens.Join operator ∷ rest)
-    → result ≡ all_from (record { nodes = ns ++ postfix x; pending = pendings.Join operator ∷ p; awaited = awaits.Operand }) rest
+left_read : (operator : Operator) (shape : Shape) (ts : List Token) (x : Expression) → Leads operator shape
+    → Means shape ts x → (ns : List Node) (p : List Pending) (rest : List Token) → IsBase p
+    → {result : Result (List Node) FilterErrorKind} → result
+    ≡ all_from (after shape ns p x) (tokens.Join operator ∷ rest)
+    → result ≡ all_from
+    (record { nodes = ns ++ postfix x; pending = pendings.Join operator ∷ p; awaited = awaits.Operand }) rest
 left_read operator shape ts x operand m ns [] rest base is = is
 left_read operator shape ts x operand m ns (pendings.Open ∷ p) rest base is = is
 left_read operator shape ts x operand m ns (q ∷ p) rest base is = absurd base
 left_read operator shape ts x chain m ns p rest base is =
     is ∙ rw (same_operator operator)
-    (ap (λ (l : List Node). all_from (record { nodes = l; pending = pendings.Join operator ∷ p; awaited = awaits.Operand }) rest)
-    (append_assoc ns (body x) (nodes.Join operator ∷ []) ∙ ap (λ (l : List Node). ns ++ l) (sym (body_whole operator ts x m))))
+    (ap (λ (l : List Node). all_from
+    (record { nodes = l; pending = pendings.Join operator ∷ p; awaited = awaits.Operand }) rest)
+    (append_assoc ns (body x) (nodes.Join operator ∷ [])
+    ∙ ap (λ (l : List Node). ns ++ l) (sym (body_whole operator ts x m))))
 
 -- the words of an expression are read as its nodes
-read : (shape : Shape) (ts : List Token) (x : Expression) → Means shape ts x → (ns : List Node) (p : List Pending) (rest : List Token) → Fits shape p → Ends rest
-    → all_from (record { nodes = ns; pending = p; awaited = awaits.Operand }) (ts ++ rest) ≡ all_from (after shape ns p x) rest
+read : (shape : Shape) (ts : List Token) (x : Expression) → Means shape ts x
+    → (ns : List Node) (p : List Pending) (rest : List Token) → Fits shape p → Ends rest
+    → all_from (record { nodes = ns; pending = p; awaited = awaits.Operand }) (ts ++ rest)
+    ≡ all_from (after shape ns p x) rest
 read shape ts x (grammar.primitive us q names) ns p rest fit e = primitive_read us q names ns p rest e
 read shape ts x (grammar.negation us y m) ns p rest fit e =
-    read Operand us y m ns (pendings.Not ∷ p) rest tt e ∙ ap (λ (l : List Node). all_from (closed l p) rest) (append_assoc ns (postfix y) (nodes.Not ∷ []))
+    read Operand us y m ns (pendings.Not ∷ p) rest tt e
+    ∙ ap (λ (l : List Node). all_from (closed l p) rest) (append_assoc ns (postfix y) (nodes.Not ∷ []))
 read shape ts x (grammar.group Operand us y m) ns p rest fit e =
-    ap (λ (l : List Token). all_from (record { nodes = ns; pending = pendings.Open ∷ p; awaited = awaits.Operand }) l) (append_assoc us (tokens.Close ∷ []) rest)
+    ap (λ (l : List Token). all_from (record { nodes = ns; pending = pendings.Open ∷ p; awaited = awaits.Operand }) l)
+    (append_assoc us (tokens.Close ∷ []) rest)
     ∙ read Operand us y m ns (pendings.Open ∷ p) (tokens.Close ∷ rest) tt tt
 read shape ts x (grammar.group (Chain operator) us y m) ns p rest fit e =
-    ap (λ (l : List Token). all_from (record { nodes = ns; pending = pendings.Open ∷ p; awaited = awaits.Operand }) l) (append_assoc us (tokens.Close ∷ []) rest)
+    ap (λ (l : List Token). all_from (record { nodes = ns; pending = pendings.Open ∷ p; awaited = awaits.Operand }) l)
+    (append_assoc us (tokens.Close ∷ []) rest)
     ∙ read (Chain operator) us y m ns (pendings.Open ∷ p) (tokens.Close ∷ rest) tt tt
-    ∙ ap (λ (l : List Node). all_from (closed l p) rest) (append_assoc ns (body y) (nodes.Join operator ∷ []) ∙ ap (λ (l : List Node). ns ++ l) (sym (body_whole operator us y m)))
+    ∙ ap (λ (l : List Node). all_from (closed l p) rest)
+    (append_assoc ns (body y) (nodes.Join operator ∷ [])
+    ∙ ap (λ (l : List Node). ns ++ l) (sym (body_whole operator us y m)))
 read shape ts x (grammar.join operator before us vs y z leads m n) ns p rest fit e =
-    ap (λ (l : List Token). all_from (record { nodes = ns; pending = p; awaited = awaits.Operand }) l) (append_assoc us (tokens.Join operator ∷ vs) rest)
-    ∙ left_read operator before us y leads m ns p (vs ++ rest) fit (read before us y m ns p (tokens.Join operator ∷ (vs ++ rest)) (fits operator before leads p fit) tt)
+    ap (λ (l : List Token). all_from (record { nodes = ns; pending = p; awaited = awaits.Operand }) l)
+    (append_assoc us (tokens.Join operator ∷ vs) rest)
+    ∙ left_read operator before us y leads m ns p (vs ++ rest) fit
+    (read before us y m ns p (tokens.Join operator ∷ (vs ++ rest)) (fits operator before leads p fit) tt)
     ∙ read Operand vs z n (ns ++ postfix y) (pendings.Join operator ∷ p) rest tt e
-    ∙ ap (λ (l : List Node). all_from (record { nodes = l; pending = pendings.Join operator ∷ p; awaited = awaits.Operator }) rest) (append_assoc ns (postfix y) (postfix z))
+    ∙ ap (λ (l : List Node). all_from
+    (record { nodes = l; pending = pendings.Join operator ∷ p; awaited = awaits.Operator }) rest)
+    (append_assoc ns (postfix y) (postfix z))
 
-whole_read : (shape : Shape) (ts : List Token) (x : Expression) → Means shape ts x → all_from begun (ts ++ []) ≡ Ok (postfix x)
+whole_read : (shape : Shape) (ts : List Token) (x : Expression) → Means shape ts x → all_from begun (ts ++ [])
+    ≡ Ok (postfix x)
 whole_read Operand ts x m = read Operand ts x m [] [] [] tt tt
 whole_read (Chain operator) ts x m =
     let found : List Node → Result (List Node) FilterErrorKind = λ l. Ok l in

@@ -25,7 +25,8 @@ TakesAtMost (Err kind) n = Unit {0}
 closed_room : (ns : List Node) (p : List Pending) → size_of (closed ns p) ≡ length ns + length p
 closed_room ns [] = omega arith
 closed_room ns (pendings.Open ∷ p) = omega arith
-closed_room ns (pendings.Not ∷ p) = let rest = closed_room (ns ++ nodes.Not ∷ []) p in let len = length-append ns (nodes.Not ∷ []) in omega arith
+closed_room ns (pendings.Not ∷ p) = let rest = closed_room (ns ++ nodes.Not ∷ []) p
+    in let len = length-append ns (nodes.Not ∷ []) in omega arith
 closed_room ns (pendings.Join operator ∷ p) = omega arith
 
 begun_room : (a : Awaited) → is_begun a ≤ 1
@@ -33,8 +34,10 @@ begun_room awaits.Operand = omega arith
 begun_room awaits.Operator = omega arith
 begun_room a = omega arith
 
-stepped_room : (ns : List Node) (p : List Pending) (a : Awaited) (step : Step) → TakesAtMost (stepped (record { nodes = ns; pending = p; awaited = a }) step) (length ns + length p + 1)
-stepped_room ns p a (Done q) = let room = closed_room (ns ++ nodes.Test q ∷ []) p in let len = length-append ns (nodes.Test q ∷ []) in omega arith
+stepped_room : (ns : List Node) (p : List Pending) (a : Awaited) (step : Step)
+    → TakesAtMost (stepped (record { nodes = ns; pending = p; awaited = a }) step) (length ns + length p + 1)
+stepped_room ns p a (Done q) = let room = closed_room (ns ++ nodes.Test q ∷ []) p
+    in let len = length-append ns (nodes.Test q ∷ []) in omega arith
 stepped_room ns p a (More next) = let one = begun_room next in omega arith
 stepped_room ns p a Fails = tt
 
@@ -42,23 +45,35 @@ chosen : (b : Bool) (s : State) (n : ℕ) → size_of s ≤ n → TakesAtMost (i
 chosen true s n le = tt
 chosen false s n le = le
 
-joined_room : (operator : Operator) (ns : List Node) (p : List Pending) → TakesAtMost (joined_by operator ns p) (length ns + length p + 1)
+joined_room : (operator : Operator) (ns : List Node) (p : List Pending)
+    → TakesAtMost (joined_by operator ns p) (length ns + length p + 1)
 joined_room operator ns [] = omega arith
 joined_room operator ns (pendings.Open ∷ p) = omega arith
 joined_room operator ns (pendings.Not ∷ p) = omega arith
 joined_room operator ns (pendings.Join last ∷ p) =
     let len = length-append ns (nodes.Join last ∷ []) in
-    chosen (differ last operator) (record { nodes = ns ++ nodes.Join last ∷ []; pending = pendings.Join operator ∷ p; awaited = awaits.Operand }) (length ns + length (pendings.Join last ∷ p) + 1) (omega arith)
+    chosen (differ last operator)
+    (record {
+      nodes = ns
+          ++ nodes.Join last ∷ [];
+      pending = pendings.Join operator ∷ p;
+      awaited = awaits.Operand;
+    })
+    (length ns + length (pendings.Join last ∷ p) + 1) (omega arith)
 
 group_room : (ns : List Node) (p : List Pending) (n : ℕ) → length ns + length p ≤ n → TakesAtMost (closed_group ns p) n
 group_room ns [] n le = tt
 group_room ns (pendings.Open ∷ p) n le = let room = closed_room ns p in omega arith
 group_room ns (q ∷ p) n le = tt
 
-closing_room : (ns : List Node) (p : List Pending) (a : Awaited) → TakesAtMost (operator_taken (record { nodes = ns; pending = p; awaited = a }) tokens.Close) (length ns + length p + 1)
-closing_room ns (pendings.Join operator ∷ p) a = let len = length-append ns (nodes.Join operator ∷ []) in group_room (ns ++ nodes.Join operator ∷ []) p (length ns + length (pendings.Join operator ∷ p) + 1) (omega arith)
+closing_room : (ns : List Node) (p : List Pending) (a : Awaited)
+    → TakesAtMost (operator_taken (record { nodes = ns; pending = p; awaited = a }) tokens.Close)
+    (length ns + length p + 1)
+closing_room ns (pendings.Join operator ∷ p) a = let len = length-append ns (nodes.Join operator ∷ [])
+    in group_room (ns ++ nodes.Join operator ∷ []) p (length ns + length (pendings.Join operator ∷ p) + 1) (omega arith)
 closing_room ns [] a = tt
-closing_room ns (pendings.Open ∷ p) a = group_room ns (pendings.Open ∷ p) (length ns + length (pendings.Open ∷ p) + 1) (omega arith)
+closing_room ns (pendings.Open ∷ p) a = group_room ns (pendings.Open ∷ p) (length ns + length (pendings.Open ∷ p) + 1)
+    (omega arith)
 closing_room ns (pendings.Not ∷ p) a = tt
 
 operator_room : (s : State) (t : Token) → TakesAtMost (operator_taken s t) (length s.nodes + length s.pending + 1)
@@ -70,20 +85,31 @@ more : (o : Outcome) (n m : ℕ) → n ≤ m → TakesAtMost o n → TakesAtMost
 more (Ok s) n m le at = omega arith
 more (Err kind) n m le at = tt
 
-taken_room : (a : Awaited) (ns : List Node) (p : List Pending) (t : Token) → TakesAtMost (taken_where a (record { nodes = ns; pending = p; awaited = a }) t) (length ns + length p + is_begun a + 1)
+taken_room : (a : Awaited) (ns : List Node) (p : List Pending) (t : Token)
+    → TakesAtMost (taken_where a (record { nodes = ns; pending = p; awaited = a }) t)
+    (length ns + length p + is_begun a + 1)
 taken_room awaits.Operand ns p tokens.Not = omega arith
 taken_room awaits.Operand ns p tokens.Open = omega arith
-taken_room awaits.Operand ns p t = more (stepped (record { nodes = ns; pending = p; awaited = awaits.Operand }) (first_step t)) (length ns + length p + 1) (length ns + length p + 0 + 1) (omega arith) (stepped_room ns p awaits.Operand (first_step t))
-taken_room awaits.Operator ns p t = more (operator_taken (record { nodes = ns; pending = p; awaited = awaits.Operator }) t) (length ns + length p + 1) (length ns + length p + 0 + 1) (omega arith) (operator_room (record { nodes = ns; pending = p; awaited = awaits.Operator }) t)
+taken_room awaits.Operand ns p t = more
+    (stepped (record { nodes = ns; pending = p; awaited = awaits.Operand }) (first_step t)) (length ns + length p + 1)
+    (length ns + length p + 0 + 1) (omega arith) (stepped_room ns p awaits.Operand (first_step t))
+taken_room awaits.Operator ns p t = more
+    (operator_taken (record { nodes = ns; pending = p; awaited = awaits.Operator }) t) (length ns + length p + 1)
+    (length ns + length p + 0 + 1) (omega arith)
+    (operator_room (record { nodes = ns; pending = p; awaited = awaits.Operator }) t)
 taken_room awaits.VlanId ns p (tokens.Number n) =
-    more (stepped (record { nodes = ns; pending = p; awaited = awaits.VlanId }) (next_step (awaits.Number numbers.VlanId) (tokens.Number n))) (length ns + length p + 1) (length ns + length p + 1 + 1) (omega arith)
+    more (stepped (record { nodes = ns; pending = p; awaited = awaits.VlanId })
+    (next_step (awaits.Number numbers.VlanId) (tokens.Number n))) (length ns + length p + 1)
+    (length ns + length p + 1 + 1) (omega arith)
     (stepped_room ns p awaits.VlanId (next_step (awaits.Number numbers.VlanId) (tokens.Number n)))
 taken_room awaits.VlanId ns p t =
     let s = closed (ns ++ nodes.Test primitives.Vlan ∷ []) p in
     let room = closed_room (ns ++ nodes.Test primitives.Vlan ∷ []) p in
     let len = length-append ns (nodes.Test primitives.Vlan ∷ []) in
-    more (operator_taken s t) (length s.nodes + length s.pending + 1) (length ns + length p + 1 + 1) (omega arith) (operator_room s t)
-taken_room a ns p t = more (stepped (record { nodes = ns; pending = p; awaited = a }) (next_step a t)) (length ns + length p + 1) (length ns + length p + 1 + 1) (omega arith) (stepped_room ns p a (next_step a t))
+    more (operator_taken s t) (length s.nodes + length s.pending + 1) (length ns + length p + 1 + 1) (omega arith)
+    (operator_room s t)
+taken_room a ns p t = more (stepped (record { nodes = ns; pending = p; awaited = a }) (next_step a t))
+    (length ns + length p + 1) (length ns + length p + 1 + 1) (omega arith) (stepped_room ns p a (next_step a t))
 
 fewer : (o : Outcome) (u : State) (n : ℕ) → o ≡ Ok u → TakesAtMost o n → size_of u ≤ n
 fewer (Ok s) u n is at = let same : s ≡ u = cc in subst (λ (v : State). size_of v ≤ n) same at

@@ -31,7 +31,8 @@ use Rattle.ether_filter.proofs.ReadingLemmas.{IsBase, body, body_whole, going, a
 -- ---- what was read
 
 -- before an operand that an operator joins
-pub record Left (before : List Node → List Token → Type 0) (operator : Operator) (p : List Pending) (ns : List Node) (ts : List Token) : Type 0 where
+pub record Left (before : List Node → List Token → Type 0) (operator : Operator) (p : List Pending) (ns : List Node)
+    (ts : List Token) : Type 0 where
   pub old : List Node
   pub front : List Token
   pub shape : Shape
@@ -44,7 +45,8 @@ pub record Left (before : List Node → List Token → Type 0) (operator : Opera
   pub nodes : ns ≡ old ++ postfix x
   pub tokens : ts ≡ (front ++ words) ++ tokens.Join operator ∷ []
 
-pub record Opened (before : List Node → List Token → Type 0) (sign : Token) (ns : List Node) (ts : List Token) : Type 0 where
+pub record Opened (before : List Node → List Token → Type 0) (sign : Token) (ns : List Node) (ts : List Token) : Type
+    0 where
   pub front : List Token
   pub earlier : before ns front
   pub tokens : ts ≡ front ++ sign ∷ []
@@ -118,13 +120,42 @@ Goes (Ok s) ts = Was s ts
 Goes (Err kind) ts = Unit {0}
 
 -- after an operand
-closed_was : (p : List Pending) (old : List Node) (front words : List Token) (x : Expression) → Awaits p old front → Means Operand words x → Was (closed (old ++ postfix x) p) (front ++ words)
-closed_was [] old front words x a m = record { pending = []; old = old; front = front; shape = Operand; words = words; x = x; base = tt; means = m; earlier = a; is = refl; nodes = refl; tokens = refl }
+closed_was : (p : List Pending) (old : List Node) (front words : List Token) (x : Expression) → Awaits p old front
+    → Means Operand words x → Was (closed (old ++ postfix x) p) (front ++ words)
+closed_was [] old front words x a m = record {
+  pending = [];
+  old = old;
+  front = front;
+  shape = Operand;
+  words = words;
+  x = x;
+  base = tt;
+  means = m;
+  earlier =
+      a;
+  is = refl;
+  nodes = refl;
+  tokens = refl;
+}
 closed_was (pendings.Open ∷ p) old front words x a m =
-    record { pending = pendings.Open ∷ p; old = old; front = front; shape = Operand; words = words; x = x; base = tt; means = m; earlier = a; is = refl; nodes = refl; tokens = refl }
+    record {
+      pending = pendings.Open ∷ p;
+      old = old;
+      front = front;
+      shape = Operand;
+      words = words;
+      x = x;
+      base = tt;
+      means = m;
+      earlier = a;
+      is = refl;
+      nodes = refl;
+      tokens = refl;
+    }
 closed_was (pendings.Not ∷ p) old front words x a m =
     let was = closed_was p old a.front (tokens.Not ∷ words) (Not x) a.earlier (grammar.negation words x m) in
-    let words_are : a.front ++ tokens.Not ∷ words ≡ front ++ words = sym (ap (λ (l : List Token). l ++ words) a.tokens ∙ append_assoc a.front (tokens.Not ∷ []) words) in
+    let words_are : a.front ++ tokens.Not ∷ words ≡ front
+    ++ words = sym (ap (λ (l : List Token). l ++ words) a.tokens ∙ append_assoc a.front (tokens.Not ∷ []) words) in
     subst (λ (l : List Node). Was (closed l p) (front ++ words)) (sym (append_assoc old (postfix x) (nodes.Not ∷ [])))
     (subst (λ (l : List Token). Was (closed (old ++ postfix (Not x)) p) l) words_are was)
 closed_was (pendings.Join operator ∷ p) old front words x a m = record {
@@ -139,7 +170,9 @@ closed_was (pendings.Join operator ∷ p) old front words x a m = record {
   earlier = a.earlier;
   is = refl;
   nodes = ap (λ (l : List Node). l ++ postfix x) a.nodes ∙ append_assoc a.old (postfix a.x) (postfix x);
-  tokens = ap (λ (l : List Token). l ++ words) a.tokens ∙ append_assoc (a.front ++ a.words) (tokens.Join operator ∷ []) words ∙ append_assoc a.front a.words (tokens.Join operator ∷ words);
+  tokens = ap (λ (l : List Token). l ++ words) a.tokens
+      ∙ append_assoc (a.front ++ a.words) (tokens.Join operator ∷ []) words
+      ∙ append_assoc a.front a.words (tokens.Join operator ∷ words);
 }
 
 -- ---- a primitive
@@ -168,14 +201,16 @@ pub decided : (b : Bool) → (b ≡ true) ⊎ (b ≡ false)
 decided true = inl refl
 decided false = inr refl
 
-number_means : (of : Numbered) (n : ℕ) (ts : List Token) → (n ≤ most_of of → NamesPrimitive ts (number_primitive of n)) → StepMeans (numbered of n) ts
+number_means : (of : Numbered) (n : ℕ) (ts : List Token)
+    → (n ≤ most_of of → NamesPrimitive ts (number_primitive of n)) → StepMeans (numbered of n) ts
 number_means of n ts names = elim (decided (nat_lt (most_of of) n)) [
   | inl above ↦ rw above tt
   | inr below ↦ rw below (names (ltb-false (most_of of) n below))
 ]
 
 -- with its number
-counted : (of : Numbered) (n : ℕ) (ts : List Token) → Begun (awaits.Number of) ts → n ≤ most_of of → NamesPrimitive (ts ++ tokens.Number (Some n) ∷ []) (number_primitive of n)
+counted : (of : Numbered) (n : ℕ) (ts : List Token) → Begun (awaits.Number of) ts → n ≤ most_of of
+    → NamesPrimitive (ts ++ tokens.Number (Some n) ∷ []) (number_primitive of n)
 counted numbers.VlanId n ts is le = rw is (grammar.vlan_id n (omega arith))
 counted numbers.OuterVlan n ts is le = rw is (grammar.outer_vlan n (omega arith))
 counted numbers.InnerVlan n ts is le = rw is (grammar.inner_vlan n (omega arith))
@@ -190,7 +225,8 @@ next_means : (a : Awaited) (t : Token) (ts : List Token) → Begun a ts → Step
 next_means (awaits.Vlan numbers.OuterVlan) tokens.Vlan ts is = with_more tokens.Vlan is
 next_means (awaits.Vlan numbers.InnerVlan) tokens.Vlan ts is = with_more tokens.Vlan is
 next_means (awaits.Vlan of) tokens.Vlan ts is = absurd is
-next_means (awaits.Number of) (tokens.Number (Some n)) ts is = number_means of n (ts ++ tokens.Number (Some n) ∷ []) (counted of n ts is)
+next_means (awaits.Number of) (tokens.Number (Some n)) ts is = number_means of n (ts ++ tokens.Number (Some n) ∷ [])
+    (counted of n ts is)
 next_means (awaits.Address addresses.Source) (tokens.Address a) ts is = rw is (grammar.src a)
 next_means (awaits.Address addresses.Destination) (tokens.Address a) ts is = rw is (grammar.dst a)
 next_means (awaits.Address addresses.Host) (tokens.Address a) ts is = rw is (grammar.host a)
@@ -202,92 +238,139 @@ next_means awaits.EtherWord tokens.Broadcast ts is = rw is grammar.broadcast
 next_means awaits.EtherWord tokens.Multicast ts is = rw is grammar.multicast
 next_means a t ts is = tt
 
-begun_was : (a : Awaited) (p : List Pending) (ns : List Node) (front words : List Token) → Begun a words → Awaits p ns front → WasRead a p ns (front ++ words)
+begun_was : (a : Awaited) (p : List Pending) (ns : List Node) (front words : List Token) → Begun a words
+    → Awaits p ns front → WasRead a p ns (front ++ words)
 begun_was awaits.Operand p ns front words b e = absurd b
 begun_was awaits.Operator p ns front words b e = absurd b
 begun_was a p ns front words b e = record { front = front; words = words; begun = b; earlier = e; tokens = refl }
 
-stepped_was : (a : Awaited) (p : List Pending) (ns : List Node) (front words : List Token) (step : Step) → Awaits p ns front → StepMeans step words
+stepped_was : (a : Awaited) (p : List Pending) (ns : List Node) (front words : List Token) (step : Step)
+    → Awaits p ns front → StepMeans step words
     → Goes (stepped (record { nodes = ns; pending = p; awaited = a }) step) (front ++ words)
-stepped_was a p ns front words (Done q) e means = closed_was p ns front words (Test q) e (grammar.primitive words q means)
+stepped_was a p ns front words (Done q) e means = closed_was p ns front words (Test q) e
+    (grammar.primitive words q means)
 stepped_was a p ns front words (More next) e means = begun_was next p ns front words means e
 stepped_was a p ns front words Fails e means = tt
 
-operand_was : (p : List Pending) (ns : List Node) (ts : List Token) (t : Token) → Awaits p ns ts → Goes (operand_taken (record { nodes = ns; pending = p; awaited = awaits.Operand }) t) (ts ++ t ∷ [])
+operand_was : (p : List Pending) (ns : List Node) (ts : List Token) (t : Token) → Awaits p ns ts
+    → Goes (operand_taken (record { nodes = ns; pending = p; awaited = awaits.Operand }) t) (ts ++ t ∷ [])
 operand_was p ns ts tokens.Not e = record { front = ts; earlier = e; tokens = refl }
 operand_was p ns ts tokens.Open e = record { front = ts; earlier = e; tokens = refl }
 operand_was p ns ts t e = stepped_was awaits.Operand p ns ts (t ∷ []) (first_step t) e (first_means t)
 
 -- ---- after an operand
 
-left_of : (operator : Operator) (p : List Pending) (old ns : List Node) (front words : List Token) (shape : Shape) (x : Expression) → IsBase p → Leads operator shape → Means shape words x → Awaits p old front
+left_of : (operator : Operator) (p : List Pending) (old ns : List Node) (front words : List Token) (shape : Shape)
+    (x : Expression) → IsBase p → Leads operator shape → Means shape words x → Awaits p old front
     → ns ≡ old ++ postfix x → Awaits (pendings.Join operator ∷ p) ns ((front ++ words) ++ tokens.Join operator ∷ [])
 left_of operator p old ns front words shape x base leads m e is =
-    record { old = old; front = front; shape = shape; words = words; x = x; base = base; leads = leads; means = m; earlier = e; nodes = is; tokens = refl }
+    record {
+      old = old;
+      front = front;
+      shape = shape;
+      words = words;
+      x = x;
+      base = base;
+      leads = leads;
+      means = m;
+      earlier = e;
+      nodes = is;
+      tokens = refl;
+    }
 
-chained : (operator : Operator) (old : List Node) (words : List Token) (x : Expression) → Means (Chain operator) words x → (old ++ body x) ++ nodes.Join operator ∷ [] ≡ old ++ postfix x
-chained operator old words x m = append_assoc old (body x) (nodes.Join operator ∷ []) ∙ ap (λ (l : List Node). old ++ l) (sym (body_whole operator words x m))
+chained : (operator : Operator) (old : List Node) (words : List Token) (x : Expression)
+    → Means (Chain operator) words x → (old ++ body x) ++ nodes.Join operator ∷ [] ≡ old ++ postfix x
+chained operator old words x m = append_assoc old (body x) (nodes.Join operator ∷ [])
+    ∙ ap (λ (l : List Node). old ++ l) (sym (body_whole operator words x m))
 
-joined_was : (operator : Operator) (shape : Shape) (p : List Pending) (old : List Node) (front words : List Token) (x : Expression) → IsBase p → Means shape words x → Awaits p old front
+joined_was : (operator : Operator) (shape : Shape) (p : List Pending) (old : List Node) (front words : List Token)
+    (x : Expression) → IsBase p → Means shape words x → Awaits p old front
     → Goes (joined_by operator (old ++ trunk shape x) (marked shape p)) ((front ++ words) ++ tokens.Join operator ∷ [])
-joined_was operator Operand [] old front words x base m e = left_of operator [] old (old ++ postfix x) front words Operand x base operand m e refl
-joined_was operator Operand (pendings.Open ∷ p) old front words x base m e = left_of operator (pendings.Open ∷ p) old (old ++ postfix x) front words Operand x base operand m e refl
+joined_was operator Operand [] old front words x base m e = left_of operator [] old (old ++ postfix x) front words
+    Operand x base operand m e refl
+joined_was operator Operand (pendings.Open ∷ p) old front words x base m e = left_of operator (pendings.Open ∷ p) old
+    (old ++ postfix x) front words Operand x base operand m e refl
 joined_was operator Operand (q ∷ p) old front words x base m e = absurd base
-joined_was And (Chain And) p old front words x base m e = left_of And p old ((old ++ body x) ++ nodes.Join And ∷ []) front words (Chain And) x base chain m e (chained And old words x m)
-joined_was Or (Chain Or) p old front words x base m e = left_of Or p old ((old ++ body x) ++ nodes.Join Or ∷ []) front words (Chain Or) x base chain m e (chained Or old words x m)
+joined_was And (Chain And) p old front words x base m e = left_of And p old ((old ++ body x) ++ nodes.Join And ∷ [])
+    front words (Chain And) x base chain m e (chained And old words x m)
+joined_was Or (Chain Or) p old front words x base m e = left_of Or p old ((old ++ body x) ++ nodes.Join Or ∷ []) front
+    words (Chain Or) x base chain m e (chained Or old words x m)
 joined_was operator (Chain other) p old front words x base m e = tt
 
-group_was : (shape : Shape) (p : List Pending) (old ns : List Node) (front words : List Token) (x : Expression) → Means shape words x → Awaits (pendings.Open ∷ p) old front → ns ≡ old ++ postfix x
+group_was : (shape : Shape) (p : List Pending) (old ns : List Node) (front words : List Token) (x : Expression)
+    → Means shape words x → Awaits (pendings.Open ∷ p) old front → ns ≡ old ++ postfix x
     → Was (closed ns p) ((front ++ words) ++ tokens.Close ∷ [])
 group_was shape p old ns front words x m e is =
-    let was = closed_was p old e.front (tokens.Open ∷ (words ++ tokens.Close ∷ [])) x e.earlier (grammar.group shape words x m) in
+    let was = closed_was p old e.front (tokens.Open ∷ (words ++ tokens.Close ∷ [])) x e.earlier
+    (grammar.group shape words x m) in
     let words_are : e.front ++ tokens.Open ∷ (words ++ tokens.Close ∷ []) ≡ (front ++ words) ++ tokens.Close ∷ [] =
-    sym (append_assoc front words (tokens.Close ∷ []) ∙ ap (λ (l : List Token). l ++ (words ++ tokens.Close ∷ [])) e.tokens ∙ append_assoc e.front (tokens.Open ∷ []) (words ++ tokens.Close ∷ [])) in
-    subst (λ (l : List Node). Was (closed l p) ((front ++ words) ++ tokens.Close ∷ [])) (sym is) (subst (λ (l : List Token). Was (closed (old ++ postfix x) p) l) words_are was)
+    sym (append_assoc front words (tokens.Close ∷ [])
+    ∙ ap (λ (l : List Token). l ++ (words ++ tokens.Close ∷ [])) e.tokens
+    ∙ append_assoc e.front (tokens.Open ∷ []) (words ++ tokens.Close ∷ [])) in
+    subst (λ (l : List Node). Was (closed l p) ((front ++ words) ++ tokens.Close ∷ [])) (sym is)
+    (subst (λ (l : List Token). Was (closed (old ++ postfix x) p) l) words_are was)
 
-closing_was : (shape : Shape) (p : List Pending) (old : List Node) (front words : List Token) (x : Expression) (a : Awaited) → IsBase p → Means shape words x → Awaits p old front
-    → Goes (operator_taken (record { nodes = old ++ trunk shape x; pending = marked shape p; awaited = a }) tokens.Close) ((front ++ words) ++ tokens.Close ∷ [])
+closing_was : (shape : Shape) (p : List Pending) (old : List Node) (front words : List Token) (x : Expression)
+    (a : Awaited) → IsBase p → Means shape words x → Awaits p old front
+    → Goes (operator_taken (record { nodes = old ++ trunk shape x; pending = marked shape p; awaited = a })
+    tokens.Close) ((front ++ words) ++ tokens.Close ∷ [])
 closing_was Operand [] old front words x a base m e = tt
-closing_was Operand (pendings.Open ∷ p) old front words x a base m e = group_was Operand p old (old ++ postfix x) front words x m e refl
+closing_was Operand (pendings.Open ∷ p) old front words x a base m e = group_was Operand p old (old ++ postfix x)
+    front words x m e refl
 closing_was Operand (q ∷ p) old front words x a base m e = absurd base
 closing_was (Chain operator) [] old front words x a base m e = tt
 closing_was (Chain operator) (pendings.Open ∷ p) old front words x a base m e =
-    group_was (Chain operator) p old ((old ++ body x) ++ nodes.Join operator ∷ []) front words x m e (chained operator old words x m)
+    group_was (Chain operator) p old ((old ++ body x) ++ nodes.Join operator ∷ []) front words x m e
+    (chained operator old words x m)
 closing_was (Chain operator) (q ∷ p) old front words x a base m e = absurd base
 
-operator_was : (s : State) (ts : List Token) (t : Token) → Follows s.pending s.nodes ts → Goes (operator_taken s t) (ts ++ t ∷ [])
+operator_was : (s : State) (ts : List Token) (t : Token) → Follows s.pending s.nodes ts
+    → Goes (operator_taken s t) (ts ++ t ∷ [])
 operator_was s ts (tokens.Join operator) f =
-    rw (f.is, f.nodes, f.tokens) (joined_was operator f.shape f.pending f.old f.front f.words f.x f.base f.means f.earlier)
-operator_was s ts tokens.Close f = rw (f.is, f.nodes, f.tokens) (closing_was f.shape f.pending f.old f.front f.words f.x s.awaited f.base f.means f.earlier)
+    rw (f.is, f.nodes, f.tokens)
+    (joined_was operator f.shape f.pending f.old f.front f.words f.x f.base f.means f.earlier)
+operator_was s ts tokens.Close f = rw (f.is, f.nodes, f.tokens)
+    (closing_was f.shape f.pending f.old f.front f.words f.x s.awaited f.base f.means f.earlier)
 operator_was s ts t f = tt
 
 -- what is closed awaits an operator
-closed_follows : (ns : List Node) (p : List Pending) (ts : List Token) → Was (closed ns p) ts → Follows (closed ns p).pending (closed ns p).nodes ts
+closed_follows : (ns : List Node) (p : List Pending) (ts : List Token) → Was (closed ns p) ts
+    → Follows (closed ns p).pending (closed ns p).nodes ts
 closed_follows ns [] ts was = was
 closed_follows ns (pendings.Open ∷ p) ts was = was
 closed_follows ns (pendings.Not ∷ p) ts was = closed_follows (ns ++ nodes.Not ∷ []) p ts was
 closed_follows ns (pendings.Join operator ∷ p) ts was = was
 
 vlan_follows : (p : List Pending) (ns : List Node) (ts : List Token) → Within awaits.VlanId p ns ts
-    → Follows (closed (ns ++ nodes.Test primitives.Vlan ∷ []) p).pending (closed (ns ++ nodes.Test primitives.Vlan ∷ []) p).nodes ts
+    → Follows (closed (ns ++ nodes.Test primitives.Vlan ∷ []) p).pending
+    (closed (ns ++ nodes.Test primitives.Vlan ∷ []) p).nodes ts
 vlan_follows p ns ts w =
     let names = subst (λ (l : List Token). NamesPrimitive l primitives.Vlan) (sym w.begun) grammar.vlan in
     closed_follows (ns ++ nodes.Test primitives.Vlan ∷ []) p ts
-    (subst (Was (closed (ns ++ nodes.Test primitives.Vlan ∷ []) p)) (sym w.tokens) (closed_was p ns w.front w.words (Test primitives.Vlan) w.earlier (grammar.primitive w.words primitives.Vlan names)))
+    (subst (Was (closed (ns ++ nodes.Test primitives.Vlan ∷ []) p)) (sym w.tokens)
+    (closed_was p ns w.front w.words (Test primitives.Vlan) w.earlier
+    (grammar.primitive w.words primitives.Vlan names)))
 
-within_was : (a : Awaited) (p : List Pending) (ns : List Node) (ts : List Token) (t : Token) (step : Step) → Within a p ns ts → ((words : List Token) → Begun a words → StepMeans step (words ++ t ∷ []))
+within_was : (a : Awaited) (p : List Pending) (ns : List Node) (ts : List Token) (t : Token) (step : Step)
+    → Within a p ns ts → ((words : List Token) → Begun a words → StepMeans step (words ++ t ∷ []))
     → Goes (stepped (record { nodes = ns; pending = p; awaited = a }) step) (ts ++ t ∷ [])
 within_was a p ns ts t step w means =
-    subst (Goes (stepped (record { nodes = ns; pending = p; awaited = a }) step)) (sym (ap (λ (l : List Token). l ++ t ∷ []) w.tokens ∙ append_assoc w.front w.words (t ∷ [])))
+    subst (Goes (stepped (record { nodes = ns; pending = p; awaited = a }) step))
+    (sym (ap (λ (l : List Token). l ++ t ∷ []) w.tokens ∙ append_assoc w.front w.words (t ∷ [])))
     (stepped_was a p ns w.front (w.words ++ t ∷ []) step w.earlier (means w.words w.begun))
 
-id_was : (p : List Pending) (ns : List Node) (ts : List Token) (t : Token) → Within awaits.VlanId p ns ts → Goes (id_taken (record { nodes = ns; pending = p; awaited = awaits.VlanId }) t) (ts ++ t ∷ [])
-id_was p ns ts (tokens.Number n) w = within_was awaits.VlanId p ns ts (tokens.Number n) (next_step (awaits.Number numbers.VlanId) (tokens.Number n)) w (λ words b. next_means (awaits.Number numbers.VlanId) (tokens.Number n) words b)
+id_was : (p : List Pending) (ns : List Node) (ts : List Token) (t : Token) → Within awaits.VlanId p ns ts
+    → Goes (id_taken (record { nodes = ns; pending = p; awaited = awaits.VlanId }) t) (ts ++ t ∷ [])
+id_was p ns ts (tokens.Number n) w = within_was awaits.VlanId p ns ts (tokens.Number n)
+    (next_step (awaits.Number numbers.VlanId) (tokens.Number n)) w
+    (λ words b. next_means (awaits.Number numbers.VlanId) (tokens.Number n) words b)
 id_was p ns ts t w = operator_was (closed (ns ++ nodes.Test primitives.Vlan ∷ []) p) ts t (vlan_follows p ns ts w)
 
-pub taken_was : (a : Awaited) (p : List Pending) (ns : List Node) (ts : List Token) (t : Token) → WasRead a p ns ts → Goes (taken_where a (record { nodes = ns; pending = p; awaited = a }) t) (ts ++ t ∷ [])
+pub taken_was : (a : Awaited) (p : List Pending) (ns : List Node) (ts : List Token) (t : Token) → WasRead a p ns ts
+    → Goes (taken_where a (record { nodes = ns; pending = p; awaited = a }) t) (ts ++ t ∷ [])
 taken_was awaits.Operand p ns ts t was = operand_was p ns ts t was
-taken_was awaits.Operator p ns ts t was = operator_was (record { nodes = ns; pending = p; awaited = awaits.Operator }) ts t was
+taken_was awaits.Operator p ns ts t was = operator_was (record { nodes = ns; pending = p; awaited = awaits.Operator })
+    ts t was
 taken_was awaits.VlanId p ns ts t was = id_was p ns ts t was
 taken_was a p ns ts t was = within_was a p ns ts t (next_step a t) was (λ words b. next_means a t words b)
 
@@ -303,27 +386,36 @@ abbrev pub Found : Result (List Node) FilterErrorKind → List Token → Type 0
 Found (Ok ns) ts = AreOf ts ns
 Found (Err kind) ts = Unit {0}
 
-none_earlier : (old : List Node) (front words : List Token) (x : Expression) (shape : Shape) (ns : List Node) → Means shape words x → Awaits [] old front → ns ≡ old ++ postfix x → AreOf (front ++ words) ns
-none_earlier old front words x shape ns m e is = rw (e.1, is, e.0) (record { x = x; is = record { shape = shape; means = m }; nodes = refl })
+none_earlier : (old : List Node) (front words : List Token) (x : Expression) (shape : Shape) (ns : List Node)
+    → Means shape words x → Awaits [] old front → ns ≡ old ++ postfix x → AreOf (front ++ words) ns
+none_earlier old front words x shape ns m e is = rw (e.1, is, e.0)
+    (record { x = x; is = record { shape = shape; means = m }; nodes = refl })
 
-whole_was : (shape : Shape) (p : List Pending) (old : List Node) (front words : List Token) (x : Expression) (a : Awaited) → IsBase p → Means shape words x → Awaits p old front
+whole_was : (shape : Shape) (p : List Pending) (old : List Node) (front words : List Token) (x : Expression)
+    (a : Awaited) → IsBase p → Means shape words x → Awaits p old front
     → Found (whole (record { nodes = old ++ trunk shape x; pending = marked shape p; awaited = a })) (front ++ words)
 whole_was Operand [] old front words x a base m e = none_earlier old front words x Operand (old ++ postfix x) m e refl
 whole_was Operand (pendings.Open ∷ p) old front words x a base m e = tt
 whole_was Operand (q ∷ p) old front words x a base m e = absurd base
-whole_was (Chain operator) [] old front words x a base m e = none_earlier old front words x (Chain operator) ((old ++ body x) ++ nodes.Join operator ∷ []) m e (chained operator old words x m)
+whole_was (Chain operator) [] old front words x a base m e = none_earlier old front words x (Chain operator)
+    ((old ++ body x) ++ nodes.Join operator ∷ []) m e (chained operator old words x m)
 whole_was (Chain operator) (pendings.Open ∷ p) old front words x a base m e = tt
 whole_was (Chain operator) (q ∷ p) old front words x a base m e = absurd base
 
 follows_whole : (s : State) (ts : List Token) → Follows s.pending s.nodes ts → Found (whole s) ts
-follows_whole s ts f = rw (f.is, f.nodes, f.tokens) (whole_was f.shape f.pending f.old f.front f.words f.x s.awaited f.base f.means f.earlier)
+follows_whole s ts f = rw (f.is, f.nodes, f.tokens)
+    (whole_was f.shape f.pending f.old f.front f.words f.x s.awaited f.base f.means f.earlier)
 
-ended_was : (a : Awaited) (p : List Pending) (ns : List Node) (ts : List Token) → WasRead a p ns ts → Found (ended_where a (record { nodes = ns; pending = p; awaited = a })) ts
-ended_was awaits.Operator p ns ts was = follows_whole (record { nodes = ns; pending = p; awaited = awaits.Operator }) ts was
-ended_was awaits.VlanId p ns ts was = follows_whole (closed (ns ++ nodes.Test primitives.Vlan ∷ []) p) ts (vlan_follows p ns ts was)
+ended_was : (a : Awaited) (p : List Pending) (ns : List Node) (ts : List Token) → WasRead a p ns ts
+    → Found (ended_where a (record { nodes = ns; pending = p; awaited = a })) ts
+ended_was awaits.Operator p ns ts was = follows_whole (record { nodes = ns; pending = p; awaited = awaits.Operator })
+    ts was
+ended_was awaits.VlanId p ns ts was = follows_whole (closed (ns ++ nodes.Test primitives.Vlan ∷ []) p) ts
+    (vlan_follows p ns ts was)
 ended_was a p ns ts was = tt
 
-going_was : (o : Outcome) (ts us : List Token) → Goes o ts → ((s : State) → Was s ts → Found (all_from s us) (ts ++ us)) → Found (going o (λ s. all_from s us)) (ts ++ us)
+going_was : (o : Outcome) (ts us : List Token) → Goes o ts
+    → ((s : State) → Was s ts → Found (all_from s us) (ts ++ us)) → Found (going o (λ s. all_from s us)) (ts ++ us)
 going_was (Ok s) ts us was rest = rest s was
 going_was (Err kind) ts us was rest = tt
 
@@ -331,7 +423,8 @@ pub all_was : (s : State) (ts us : List Token) → Was s ts → Found (all_from 
 all_was s ts [] was = rw (append-nil ts) (ended_was s.awaited s.pending s.nodes ts was)
 all_was s ts (t ∷ us) was =
     subst (Found (going (taken s t) (λ u. all_from u us))) (append_assoc ts (t ∷ []) us)
-    (going_was (taken s t) (ts ++ t ∷ []) us (taken_was s.awaited s.pending s.nodes ts t was) (λ u now. all_was u (ts ++ t ∷ []) us now))
+    (going_was (taken s t) (ts ++ t ∷ []) us (taken_was s.awaited s.pending s.nodes ts t was)
+    (λ u now. all_was u (ts ++ t ∷ []) us now))
 
 pub begun_was_read : Was begun []
 begun_was_read = (refl, refl)

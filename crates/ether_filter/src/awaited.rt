@@ -71,7 +71,7 @@ pub(crate) fn first_step(token: Token) -> Step
     }
 }
 
-/// What a word makes of a primitive of which this is awaited.
+/// What a word does to a primitive that awaits this.
 pub(crate) fn next_step(awaited: Awaited, token: Token) -> Step
     ensures { result ≡ next_step_of awaited token }
 {

@@ -28,8 +28,8 @@ pub(crate) const MAX_WORDS: usize = 192;
 /// A filter of packets: an expression in words of pcap-filter(7).
 ///
 /// An expression is one primitive, or several of them with `not` (or `!`), `and` (`&&`), `or` (`||`) and parentheses. `not` takes
-/// what comes directly after it: one primitive, one group in parentheses, or another `not`. `and` and `or` beside each other need
-/// parentheses, since readers disagree on what they mean without.
+/// what comes directly after it: one primitive, one group in parentheses, or another `not`. `and` and `or` can be mixed
+/// only with parentheses, since readers disagree on what they mean without.
 ///
 /// | Primitive | A packet matches if |
 /// |---|---|

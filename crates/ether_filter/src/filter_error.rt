@@ -41,7 +41,7 @@ pub enum FilterErrorKind {
     ExpectedAddress,
     /// A number that is not greater than this one is expected.
     ExpectedNumber(u32),
-    /// `and` and `or` are beside each other without parentheses.
+    /// `and` and `or` are mixed without parentheses.
     MixedOperators,
     /// There is no `(` for a `)`.
     Unopened,
@@ -73,7 +73,7 @@ impl fmt::Display for FilterErrorKind {
                 write!(f, "expected a number up to {most}.")
             }
             FilterErrorKind::MixedOperators => {
-                f.write_str("`and` and `or` beside each other need parentheses.")
+                f.write_str("`and` and `or` can be mixed only with parentheses.")
             }
             FilterErrorKind::Unopened => f.write_str("there is no `(` for this `)`."),
             FilterErrorKind::Unclosed => f.write_str("a `(` is not closed."),

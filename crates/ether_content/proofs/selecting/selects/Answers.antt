@@ -7,6 +7,8 @@ use Rattle.ether_content.proofs.selecting.selects.Goals as goal
 
 pub returns-in-Some : goal.returns-in-Some
 returns-in-Some c =
-    selected c.args.filter.now (captured_packet_view c.args.packet.now) (next_of c.in-Some.start) c.in-Some.frame.now c.holds.result
-    (subst (λ (content : ContentValue). IsWalked content (next_of c.in-Some.start) c.in-Some.frame.now) c.of.ensures c.in-Some.ensures.some)
+    selected c.args.filter.now (captured_packet_view c.args.packet.now) (next_of c.in-Some.start) c.in-Some.frame.now
+    c.holds.result
+    (subst (λ (content : ContentValue). IsWalked content (next_of c.in-Some.start) c.in-Some.frame.now) c.of.ensures
+    c.in-Some.ensures.some)
     c.holds.ensures

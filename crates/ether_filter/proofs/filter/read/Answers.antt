@@ -16,7 +16,9 @@ returns-in-Err c =
     let is = rw c.token_of.ensures at c.in-Err.ensures in
     let here = c.loop-word in
     here.invariant.3
-    ∙ word_refused (state_of here.reading) here.count (length text) word (words_from text here.at) (words_from text span.end) c.in-Err.kind c.in-Some.ensures.some.words (ne_eqb here.count MAX_WORDS c.if-count-eq-MAX_WORDS.false) is
+    ∙ word_refused (state_of here.reading) here.count (length text) word (words_from text here.at)
+    (words_from text span.end) c.in-Err.kind c.in-Some.ensures.some.words
+    (ne_eqb here.count MAX_WORDS c.if-count-eq-MAX_WORDS.false) is
 
 pub loop-word-smaller : goal.loop-word-smaller
 loop-word-smaller c = let next = c.in-Some.ensures.some in omega (arith, next.nonempty, next.after, next.inside)
@@ -32,5 +34,7 @@ loop-word-preserved c =
       c.in-Some.ensures.some.inside,
       omega (arith, here.invariant.1, room),
       omega (arith, here.invariant.2, c.if-count-eq-MAX_WORDS.false),
-      here.invariant.3 ∙ word_read (state_of here.reading) (state_of c.take.new.self) here.count (length text) word (words_from text here.at) (words_from text span.end) c.in-Some.ensures.some.words (ne_eqb here.count MAX_WORDS c.if-count-eq-MAX_WORDS.false) is,
+      here.invariant.3 ∙ word_read (state_of here.reading) (state_of c.take.new.self) here.count (length text) word
+          (words_from text here.at) (words_from text span.end) c.in-Some.ensures.some.words
+          (ne_eqb here.count MAX_WORDS c.if-count-eq-MAX_WORDS.false) is,
     )

@@ -11,4 +11,5 @@ pub returns-in-Test-clause-truths : goal.returns-in-Test-clause-truths
 returns-in-Test-clause-truths c hs e walk xs are =
     let w = walked c.args.packet.now hs e in
     subst (λ (n : Node). AreTruths w (reverse c.push.new.self.items) (pushed xs n)) (sym c.in-Test.is)
-    (test_step w c.args.truths.now.items c.push.new.self.items xs c.matches_primitive.result c.in-Test.primitive c.push.ensures.items (c.matches_primitive.ensures hs e walk) are)
+    (test_step w c.args.truths.now.items c.push.new.self.items xs c.matches_primitive.result c.in-Test.primitive
+    c.push.ensures.items (c.matches_primitive.ensures hs e walk) are)

@@ -9,4 +9,5 @@ use Rattle.ether_filter.proofs.matching.is_found.Given as goal
 
 abbrev pub invariant-loop-unit : goal.invariant-loop-unit
 invariant-loop-unit l = (hs : List Header) (e : Ending) → Walk (start_of l.fn.start) l.fn.frame hs e
-    → Follows l.fn.frame l.peel e l.primitive l.found l.tagged (found_at_end l.fn.primitive (found_first l.fn.primitive (ether_type_of (next_of l.fn.start))) false hs e)
+    → Follows l.fn.frame l.peel e l.primitive l.found l.tagged
+    (found_at_end l.fn.primitive (found_first l.fn.primitive (ether_type_of (next_of l.fn.start))) false hs e)

@@ -8,5 +8,8 @@ pub returns-in_default : goal.returns-in_default
 returns-in_default c hs e walk =
     let packet = c.args.packet.now in
     let start = start_of packet.start in
-    let of : IsOfWalk c.args.primitive = record { not_cut = c.in_default.not-Cut; not_less = c.in_default.not-Less; not_greater = c.in_default.not-Greater } in
-    rw (c.is_found.ensures hs e walk) (found_matches c.args.primitive (walked packet hs e) packet.frame.now start (whole start packet.frame.now) of walk)
+    let of : IsOfWalk c.args.primitive = record
+    { not_cut = c.in_default.not-Cut; not_less = c.in_default.not-Less; not_greater = c.in_default.not-Greater } in
+    rw (c.is_found.ensures hs e walk)
+    (found_matches c.args.primitive (walked packet hs e) packet.frame.now start (whole start packet.frame.now) of
+    walk)

@@ -9,4 +9,5 @@ pub returns-then-word-ne17 : goal.returns-then-word-ne17
 returns-then-word-ne17 c = rw (ne_eqb (length c.args.word.now) 17 c.if-word-ne17.true) refl
 
 pub returns : goal.returns
-returns c = rw (c.if-word-ne17.false, sym c.has_colons.ensures ∙ c.if-not-has_colons.false) (address_read (map (slice_index c.args.word.now) digit_places) c.digits_of.result refl c.digits_of.ensures)
+returns c = rw (c.if-word-ne17.false, sym c.has_colons.ensures ∙ c.if-not-has_colons.false)
+    (address_read (map (slice_index c.args.word.now) digit_places) c.digits_of.result refl c.digits_of.ensures)

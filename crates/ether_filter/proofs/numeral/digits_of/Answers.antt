@@ -4,5 +4,6 @@ use Rattle.ether_filter.proofs.numeral.digits_of.Goals as goal
 pub loop-digit-preserved : goal.loop-digit-preserved
 loop-digit-preserved c =
     let value = c.in-Some.ensures.value in
-    reads_more c.args.radix c.args.digits.now c.loop-digit.digit-index c.loop-digit.number c.in-Some.digit c.appended-number.result c.requires.least c.loop-digit-test.true c.loop-digit.invariant
+    reads_more c.args.radix c.args.digits.now c.loop-digit.digit-index c.loop-digit.number c.in-Some.digit
+    c.appended-number.result c.requires.least c.loop-digit-test.true c.loop-digit.invariant
     (rw c.from.ensures at value.0) (rw c.from.ensures at value.1) c.appended-number.ensures

@@ -9,7 +9,8 @@ use Rattle.ether_content.proofs.content.Content.frame.Goals as goal
 
 pub returns-in-Frame-clause-some : goal.returns-in-Frame-clause-some
 returns-in-Frame-clause-some c =
-    subst (λ (s : Content). IsWalked (content_view s) (next_of c.in-Frame.start) c.in-Frame.bytes.now) (sym c.in-Frame.is)
+    subst (λ (s : Content). IsWalked (content_view s) (next_of c.in-Frame.start) c.in-Frame.bytes.now)
+    (sym c.in-Frame.is)
     (contents.frame (next_of c.in-Frame.start) c.in-Frame.bytes.now)
 
 pub returns-in-LinuxSll2-clause-none : goal.returns-in-LinuxSll2-clause-none

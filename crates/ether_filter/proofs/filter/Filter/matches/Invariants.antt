@@ -10,4 +10,5 @@ use Rattle.ether_filter.proofs.filter.Filter.matches.Given as goal
 abbrev pub invariant-loop-node : goal.invariant-loop-node
 invariant-loop-node l =
     (array_vec_len l.truths ≤ l.node-index)
-    × ((hs : List Header) (e : Ending) → Walk (start_of l.packet.start) l.packet.frame.now hs e → Evaluates (walked l.packet hs e) l.truths.items l.node-items l.node-index)
+    × ((hs : List Header) (e : Ending) → Walk (start_of l.packet.start) l.packet.frame.now hs e
+    → Evaluates (walked l.packet hs e) l.truths.items l.node-items l.node-index)

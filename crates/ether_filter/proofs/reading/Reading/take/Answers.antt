@@ -5,5 +5,6 @@ use Rattle.ether_filter.proofs.reading.Reading.take.Goals as goal
 pub returns-in_default : goal.returns-in_default
 returns-in_default c =
     let s = c.args.self.now in
-    rw (other_taken s.awaited (state_of s) c.args.token c.in_default.not-Operand c.in_default.not-Operator c.in_default.not-VlanId)
+    rw (other_taken s.awaited (state_of s) c.args.token c.in_default.not-Operand c.in_default.not-Operator
+    c.in_default.not-VlanId)
     (rw c.next_step-in_default.ensures at c.step-in_default.ensures)
