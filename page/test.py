@@ -1,10 +1,11 @@
 #!/usr/bin/env python3
 """Tests the page in a headless Chromium, as a user sees it.
 
-    python3 page/test.py [--pictures FOLDER]
+    python3 page/test.py [--proved] [--pictures FOLDER]
 
-Tests page/out/index.html, which `sh page/build.sh` makes. With --pictures its states are also saved as pictures, light and dark, wide and narrow.
-The last line is 'N passed, M failed'; without a browser (on Debian `apt-get install chromium`) a line says so, and nothing is tested.
+Tests page/out/index.html, which `sh page/build.sh` makes; with --proved it is made first, over crates that are proved. With --pictures its states are
+saved as pictures, light and dark, wide and narrow. The last line is 'N passed, M failed'; without a browser (on Debian `apt-get install chromium`) a
+line says so, and nothing is tested.
 """
 
 import argparse
@@ -328,12 +329,23 @@ def pictures(page, target, folder):
                 page.picture(f"{target}/{state}-{scheme}-{size}.png")
 
 
+def build():
+    """Makes the page over crates that are proved."""
+    ran = subprocess.run(["sh", f"{TOP}/build.sh", "proved"], stdout=subprocess.PIPE, stderr=subprocess.STDOUT, text=True, errors="replace")
+    if ran.returncode:
+        print(ran.stdout)
+    return ran.returncode == 0
+
+
 def main():
     words = argparse.ArgumentParser(description=__doc__.split("\n")[0])
+    words.add_argument("--proved", action="store_true")
     words.add_argument("--pictures", metavar="FOLDER")
     given = words.parse_args()
     if not browser():
         print("page: skipped: no Chromium is installed (on Debian: apt-get install chromium)")
+    elif given.proved and not build():
+        counts[False] += 1
     else:
         with Page() as page, tempfile.TemporaryDirectory() as folder:
             test_examples(page)

@@ -1,5 +1,5 @@
-"""Runs the gate: the check of the documents, `rt ci`, the tests of both programs, and those of the calls from C. Stops at the first
-that fails.
+"""Runs the gate: the check of the documents, `rt ci`, the tests of both programs, those of the calls from C, and those of the page. Stops
+at the first that fails.
 
 Each line of these is passed on. After each proof a line says how many minutes have passed and how many minutes of processor time
 it took; where the wrong bodies of a crate begin, how many have passed. The last line adds up what passed. With --table FILE the
@@ -23,6 +23,7 @@ COMMANDS = {
     "tool": [sys.executable, "tests/ether_tool.py", "crates/ether_tool/out/ether_tool"],
     "captures": [sys.executable, "tests/ether_capture.py", "crates/ether_capture/out/ether_capture"],
     "C": ["sh", "c/test.sh", "proved"],
+    "page": [sys.executable, "page/test.py", "--proved"],
 }
 PARTS = ["proof", "with tests", "wrong bodies"]
 
