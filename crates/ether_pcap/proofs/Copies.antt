@@ -241,8 +241,12 @@ module _ (Keeps : PacketValue → Type 0) where
       (a ∙ ap (λ (l : List ℕ). front ++ l) e ∙ sym c, b ∙ f ∙ sym d)
   same_joined (Some p) front others more copy other ps qs kept left e f (inl (is, a, b)) (inl (is2, c, d)) =
       (a ∙ ap (λ (l : List ℕ). front ++ l) e ∙ sym c, b ∙ ap (λ (l : List PacketValue). p ∷ l) f ∙ sym d)
-  same_joined (Some p) front others more copy other ps qs kept left e f (inl (is, a, b)) (inr (not_kept, c, d)) = absurd (not_kept is)
-  same_joined (Some p) front others more copy other ps qs kept left e f (inr (not_kept, a, b)) (inl (is, c, d)) = absurd (not_kept is)
+  same_joined (Some p) front others more copy other ps qs kept left e f (inl (is, a, b))
+      (inr (not_kept, c, d)) =
+      absurd (not_kept is)
+  same_joined (Some p) front others more copy other ps qs kept left e f (inr (not_kept, a, b))
+      (inl (is, c, d)) =
+      absurd (not_kept is)
   same_joined (Some p) front others more copy other ps qs kept left e f (inr (not_kept, a, b)) (inr (no2, c, d)) =
       (a ∙ e ∙ sym c, b ∙ f ∙ sym d)
 

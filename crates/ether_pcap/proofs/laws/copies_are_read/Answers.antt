@@ -7,6 +7,7 @@ pub returns : goal.returns
 returns c = record {
   read = λ test. copy_read (λ p. IsTrue (test p));
   source = λ test. copy_source (λ p. IsTrue (test p));
-  nothing = λ test bytes kept rest fault copies. copy_nothing (λ p. IsTrue (test p)) _ bytes [] kept rest fault copies refl refl;
+  nothing = λ test bytes kept rest fault copies.
+      copy_nothing (λ p. IsTrue (test p)) _ bytes [] kept rest fault copies refl refl;
   all = copy_all;
 }
