@@ -6,6 +6,8 @@
 #![tactic(auto)]
 
 pub mod captures;
+mod copy_loop;
+pub mod copying;
 mod frame_lines;
 mod frame_loop;
 pub mod input_buffer;
