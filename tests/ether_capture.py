@@ -16,7 +16,7 @@ from dataclasses import dataclass
 from programs import count, run, run_in_pieces, run_until_a_fault, on_a_full_disk
 
 FAILED = ("ether_capture: input or output failed\n", 4)
-USAGE = "usage: ether_capture [--plain] [--select EXPR] [FILE]\n"
+USAGE = "usage: ether_capture [--plain | --write] [--select EXPR] [FILE]\n"
 
 
 def joined(*parts):
@@ -311,9 +311,113 @@ CASES += [
     Case("and beside or", ["--select", "arp and ip or vlan"], CLASSIC,
          "--select: At byte 11: `and` and `or` can be mixed only with parentheses.\n", 2),
     Case("an expression that is missing", ["--select"], CLASSIC, USAGE, 2),
-    Case("options in another order", ["--select", "arp", "--plain"], CLASSIC, USAGE, 2),
+    Case("options in another order", ["--select", "refused", "--plain"], CLASSIC, plain(FIRST_LINES), 1),
+    Case("a filter that looks like an option", ["--select", "--plain"], CLASSIC, "--select: At byte 0: expected a primitive, `not` or `(`.\n", 2),
+    Case("lines and a copy", ["--plain", "--write"], CLASSIC, USAGE, 2),
+    Case("a copy twice", ["--write", "--select", "arp", "--write"], CLASSIC, USAGE, 2),
+    Case("two filters", ["--select", "arp", "--select", "arp"], CLASSIC, USAGE, 2),
+    Case("a copy after a file", ["one", "--write"], CLASSIC, USAGE, 2),
+    Case("help and a copy", ["--write", "--help"], CLASSIC, USAGE, 2),
+    Case("the version and a file", ["--version", "one"], CLASSIC, USAGE, 2),
     Case("five words", ["--plain", "--select", "arp", "one", "two"], CLASSIC, USAGE, 2),
 ]
+
+
+@dataclass
+class Copy:
+    """A capture, the words after `--write`, the bytes that are written, the text on standard error and the exit status."""
+
+    name: str
+    words: list
+    capture: bytes
+    copy: bytes
+    text: str = ""
+    status: int = 0
+
+
+# The units of the captures above that are no packets, and each packet.
+SIMPLE = joined("03000000 24000000 12000000 ffffffffffff 3aeeb62ff6d7 8100 b123 0800 0000 24000000")
+SECOND_SECTION = SECTIONS[SECTIONS.index(SIMPLE) + len(SIMPLE):][:48]
+NO_PACKETS = SECTION_HEADER + ETHERNET + COOKED + UNKNOWN
+
+COPIES = [Copy(f"all of capture {number}", [], capture, capture) for number, capture in enumerate((
+    CLASSIC, WITH_FCS, SECTIONS, CLASSIC[:24], SECTION_HEADER, classic(*SIX), secrets(100_000, 100_000), secrets(16_777_216, 16_777_216),
+    long_record(262_144, 262_144), interface("0e000800 100e000000000000") + frame(*OBSOLETE, "02000400 40000000")))]
+COPIES += [Copy(f"only {text!r}", ["--select", text], classic(*SIX), classic(*(SIX[it - 1] for it in wanted))) for text, wanted in SELECTED.items()]
+COPIES += [
+    Copy("a cut packet, least significant byte first", ["--select", "cut"], WITH_FCS, WITH_FCS[:24] + WITH_FCS[60:]),
+    Copy("a whole one", ["--select", "not cut"], WITH_FCS, WITH_FCS[:60]),
+    Copy("one packet of two sections", ["--select", "vlan 291"], SECTIONS, NO_PACKETS + SIMPLE + SECOND_SECTION),
+    Copy("the cut one of them", ["--select", "cut"], SECTIONS, NO_PACKETS + CUT_PACKET + SECOND_SECTION),
+    Copy("none of them", ["--select", "macsec"], SECTIONS, NO_PACKETS + SECOND_SECTION),
+    Copy("no packet of a link type that is not walked", ["--select", "greater 1"], SECTIONS, SECTIONS[:-36]),
+    Copy("a long block between packets", ["--select", "macsec"], secrets(100_000, 100_000), secrets(100_000, 100_000)[:48]
+         + secrets(100_000, 100_000)[96:-48]),
+    Copy("a record that is cut", [], CLASSIC[:120], CLASSIC[:59], record_is_cut(59, 62, 61), 3),
+    Copy("one that would be left out", ["--select", "refused"], CLASSIC[:120], CLASSIC[:59], record_is_cut(59, 62, 61), 3),
+    Copy("a packet before it that is left out", ["--select", "not refused"], CLASSIC[:120], CLASSIC[:24], record_is_cut(59, 62, 61), 3),
+    Copy("no byte", [], b"", b"", "byte 0: The header of a pcap file needs 24 byte(s); only 0 are available.\n", 3),
+    Copy("another magic number", [], CLASSIC[4:], b"", "byte 0: The magic number 0x00020004 is not that of a pcap file.\n", 3),
+    Copy("a long block with another length", [], secrets(100_000, 99_996), secrets(100_000, 99_996)[:96],
+         "byte 96: A block of a pcapng file begins with length 100000 and ends with 99996.\n", 3),
+    Copy("a file that is not there", ["no/such.pcap"], CLASSIC, b"", "no/such.pcap: can't be opened\n" + FAILED[0], 4),
+    Copy("no expression", ["--select", "vlan 4096"], CLASSIC, b"", "--select: At byte 5: expected a number up to 4095.\n", 2),
+]
+
+
+def copied(program, words, capture, **how):
+    """What the program writes, what it says on standard error, and its status."""
+    with tempfile.TemporaryFile() as file:
+        file.write(capture)
+        file.seek(0)
+        done = subprocess.run([program, *words], stdin=file, capture_output=True, check=False, **how)
+    return done.stdout, done.stderr.decode(), done.returncode
+
+
+def copied_in_pieces(program, words, capture, step):
+    """The same of a capture that comes some bytes at a time."""
+    with subprocess.Popen([program, *words], stdin=subprocess.PIPE, stdout=subprocess.PIPE, stderr=subprocess.PIPE, bufsize=0) as child:
+        for at in range(0, len(capture), step):
+            child.stdin.write(capture[at:at + step])
+        out, said = child.communicate()
+    return out, said.decode(), child.returncode
+
+
+def copies(program):
+    """Each copy, and each again of what was written; some in pieces, and with options in another order."""
+    tried = []
+    for it in COPIES:
+        wanted = (it.copy, it.text, it.status)
+        tried.append((f"a copy: {it.name}", copied(program, ["--write", *it.words], it.capture), wanted))
+        if it.words[:1] == ["--select"]:
+            tried.append((f"a copy after its filter: {it.name}", copied(program, [*it.words, "--write"], it.capture), wanted))
+        if it.copy:
+            tried.append((f"a copy of it: {it.name}", copied(program, ["--write", *it.words], it.copy), (it.copy, "", 0)))
+        if len(it.capture) < 500 and it.status == 0:
+            for step in (1, 7, 59):
+                found = copied_in_pieces(program, ["--write", *it.words], it.capture, step)
+                tried.append((f"a copy in pieces of {step}: {it.name}", found, wanted))
+    return tried
+
+
+def copies_that_fail(program):
+    """Copies to a full disk and to a reader that has gone, without standard error, and from a reader that fails."""
+    gone, end = os.pipe()
+    os.close(gone)
+    with os.fdopen(end, "wb") as out:
+        done = subprocess.run([program, "--write"], input=CLASSIC, stdout=out, stderr=subprocess.PIPE, check=False)
+    silent = subprocess.run([program, "--write"], input=CLASSIC[:120], stdout=subprocess.PIPE, preexec_fn=lambda: os.close(2), check=False)
+    limit = lambda: resource.setrlimit(resource.RLIMIT_AS, (4 << 20, 4 << 20))  # noqa: E731
+    large = secrets(16_777_216, 16_777_216)
+    text = SECTION_HEADER.replace(b"\xff", b"\0") + ETHERNET  # no byte above 127
+    return [
+        ("a copy to a full disk", on_a_full_disk(program, ["--write"], CLASSIC), FAILED),
+        ("a copy that nobody reads", (done.stderr.decode(), done.returncode), FAILED),
+        ("a copy without standard error", (silent.stdout, silent.returncode), (CLASSIC[:59], 3)),
+        ("a copy without memory", copied(program, ["--write"], large, preexec_fn=limit), (large[:96], "out of memory\n", 5)),
+        ("a copy of a reader that fails", run_until_a_fault(program, ["--write", "--select", "arp"], text + CUT_PACKET + CUT_PACKET[:20]),
+         (text.decode(), 4)),
+    ]
 
 
 def without_memory(program, capture):
@@ -344,6 +448,8 @@ def main():
         wanted = run(program, ["--plain", "--select", "arp"], classic(*SIX))
         tried.append(("a filter and a file", run(program, ["--plain", "--select", "arp", name], b""), wanted))
     tried += selections(program)
+    tried += copies(program)
+    tried += copies_that_fail(program)
     help_text, status = run(program, ["--help"], CLASSIC)
     tried.append(("the usage", (help_text[: len(USAGE)], status), (USAGE, 0)))
     tried.append(("no memory for a block", without_memory(program, secrets(16_777_216, 16_777_216)), (ONE_LINES + "out of memory\n", 5)))

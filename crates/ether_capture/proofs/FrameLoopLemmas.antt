@@ -66,6 +66,18 @@ skipped-push packets p = sum_by-append skip_count packets (p ∷ []) ∙ last
     last : sum_by skip_count packets + sum_by skip_count (p ∷ []) ≡ sum_by skip_count packets + skip_count p
     last = omega arith
 
+-- the front with a unit more
+pub front_after : (input front buffered : List ℕ) (len : ℕ) → input ≡ front ++ buffered
+    → input ≡ (front ++ take len buffered) ++ drop len buffered
+front_after input front buffered len is =
+    is ∙ ap (λ (l : List ℕ). front ++ l) (sym (take-append-drop len buffered))
+    ∙ sym (append_assoc front (take len buffered) (drop len buffered))
+
+pub front_len : (front buffered : List ℕ) (len : ℕ) → len ≤ length buffered
+    → length (front ++ take len buffered) ≡ length front + len
+front_len front buffered len within =
+    length-append front (take len buffered) ∙ ap (λ (n : ℕ). length front + n) (length-take-le len buffered within)
+
 module _ {W : Type 0} (asked : LinesValue) (contents : W → Option (List ℕ)) where
   -- nothing is read
   pub Reached-start : (start : FrameLoop) (out : OutputBuffer W) → IsStart start
@@ -125,18 +137,6 @@ module _ {W : Type 0} (asked : LinesValue) (contents : W → Option (List ℕ)) 
     is_offset = so_far.is_offset;
     written = so_far.written;
   }
-
-  -- the front with a unit more
-  front_after : (input front buffered : List ℕ) (len : ℕ) → input ≡ front ++ buffered
-      → input ≡ (front ++ take len buffered) ++ drop len buffered
-  front_after input front buffered len is =
-      is ∙ ap (λ (l : List ℕ). front ++ l) (sym (take-append-drop len buffered))
-      ∙ sym (append_assoc front (take len buffered) (drop len buffered))
-
-  front_len : (front buffered : List ℕ) (len : ℕ) → len ≤ length buffered
-      → length (front ++ take len buffered) ≡ length front + len
-  front_len front buffered len within =
-      length-append front (take len buffered) ∙ ap (λ (n : ℕ). length front + n) (length-take-le len buffered within)
 
   -- a unit is taken
   pub Reached-unit : (held : Option (List ℕ)) (input buffered : List ℕ) (old new : FrameLoop) (y : Expectation)

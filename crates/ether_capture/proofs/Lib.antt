@@ -3,6 +3,8 @@ pub mod PacketsLemmas
 pub mod FrameLinesLemmas
 pub mod FrameLoopLemmas
 pub mod RunLemmas
+pub mod CopyLoopLemmas
+pub mod CopyingLemmas
 pub mod OptionsLemmas
 pub mod LinuxSll2LinesLemmas
 pub mod SelectionLemmas

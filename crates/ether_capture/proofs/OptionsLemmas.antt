@@ -1,27 +1,293 @@
--- Words that name a filter.
-use Rattle.std.proofs.Common.{ℕ, List, Bool, Option, Some, Result, Ok, Err, IfOk, IfErr, sym, subst}
-use Rattle.ether_filter.specs.Expressions.{Expression}
-use Rattle.ether_filter.specs.Texts.{IsExpressionOf}
-use Rattle.ether_filter.specs.Refusals.{RefusesText}
-use Rattle.ether_filter.specs.declared.filter_error.FilterError.{FilterError}
-use Rattle.ether_capture.specs.Options.{Capture, AsksFor, NamesRequest, NamesNoFilter, RefusesFilter, RefusesWords, request_view}
+-- What words ask for, one after the other.
+use Rattle.std.proofs.Common.{◌≡◌, ◌≢◌, ℕ, List, [], ◌∷◌, codes, Bool, true, false, ◌&&◌, Option, Some, None, Result, Ok, Err, IfOk, IfErr, OnOk, refl, sym, ap, subst, ◌∙◌, arith}
+use Rattle.std.specs.Prelude.{◌↔◌, map, String, string_bytes}
+use Rattle.std.specs.Option.{option_map, is_none}
+use Rattle.std.specs.Vec.Iter.{into_iter_steps}
+use Rattle.std.specs.declared.vec.IntoIter.{IntoIter}
+use Rattle.ether_text.proofs.ArgumentsLemmas.{words_end}
+use Rattle.ether_capture.specs.Options.{AskedValue, nothing_asked, Asks, no_word, file, plain, write, select, IsName, IsWord, AskSame, words_left, IsRequestOf, OptionsAsk, lines, copy, RequestValue, NamesRequest, help, version, options, HasNoFilter, NamesNoFilter, RefusesAsked, RefusesOptions, RefusesWords, request_view}
 use Rattle.ether_capture.specs.declared.options.Request.{Request}
 use Rattle.ether_capture.specs.declared.options.RequestError.{RequestError}
 use Rattle.ether_capture.specs.declared.options.RequestError.TheVariants as reasons
+use Rattle.ether_capture.specs.declared.options.Word.{Word}
+use Rattle.ether_capture.specs.declared.options.Word.TheVariants as kinds
 
-pub asks : (r : Result Request RequestError) (only : Bool) (text : List ℕ) (name : Option (List ℕ))
-    (words : List (List ℕ))
-    → ((x : Expression) → IsExpressionOf text x
-    → NamesRequest words (Capture (record { plain = only; select = Some x }) name))
-    → IfOk r (AsksFor only text name) → IfOk r (λ request. NamesRequest words (request_view request))
-asks (Ok request) only text name words names is =
-    subst (NamesRequest words) (sym is.is) (names is.expression is.means)
-asks (Err error) only text name words names is = tt
+-- ---- one word
 
--- a text that is refused
-pub asks_wrongly : (r : Result Request RequestError) (text : List ℕ) (words : List (List ℕ))
-    → ((e : FilterError) → RefusesText text e → NamesNoFilter words e)
-    → IfErr r (RefusesFilter text) → IfErr r (RefusesWords words)
-asks_wrongly (Ok request) text words names refused = tt
-asks_wrongly (Err reasons.Usage) text words names refused = absurd refused
-asks_wrongly (Err (reasons.Filter e)) text words names refused = names e refused
+-- the letter after two hyphens tells options apart
+abbrev third : List ℕ → ℕ
+third [] = 0
+third (a ∷ []) = 0
+third (a ∷ b ∷ []) = 0
+third (a ∷ b ∷ c ∷ bytes) = c
+
+-- what follows a word, by its kind
+abbrev pub Follows : Word → AskedValue → (word : List ℕ) → (words : List (List ℕ)) → AskedValue → Type 0
+Follows kinds.Name a word words c = (words ≡ []) × (c ≡ record a { file = Some word })
+Follows kinds.Plain a word words c = (a.plain ≡ false) × Asks (record a { plain = true }) words c
+Follows kinds.Write a word words c = (a.write ≡ false) × Asks (record a { write = true }) words c
+Follows kinds.Select a word words c =
+    (text : List ℕ) × (others : List (List ℕ)) × (words ≡ text ∷ others) × (a.text ≡ None)
+    × Asks (record a { text = Some text }) others c
+Follows kinds.Help a word words c = ⊥
+Follows kinds.Version a word words c = ⊥
+Follows kinds.Unknown a word words c = ⊥
+
+no_hyphen : (name rest : List ℕ) → IsName name → name ≡ 45 ∷ rest → ⊥
+no_hyphen name rest named is = subst IsName is named refl
+
+follows_file : (kind : Word) (a : AskedValue) (name : List ℕ) → IsName name → IsWord name kind
+    → Follows kind a name [] (record a { file = Some name })
+follows_file kinds.Name a name named is = (refl, refl)
+follows_file kinds.Plain a name named is = absurd (no_hyphen name (codes "-plain") named is)
+follows_file kinds.Write a name named is = absurd (no_hyphen name (codes "-write") named is)
+follows_file kinds.Select a name named is = absurd (no_hyphen name (codes "-select") named is)
+follows_file kinds.Help a name named is = absurd (no_hyphen name (codes "-help") named is)
+follows_file kinds.Version a name named is = absurd (no_hyphen name (codes "-version") named is)
+follows_file kinds.Unknown a name named is = absurd (is.0 named)
+
+differ : (m n : ℕ) (v w : List ℕ) → third v ≡ m → third w ≡ n → (m ≡ n → ⊥) → v ≡ w → ⊥
+differ m n v w e f other same = other (sym e ∙ ap third same ∙ f)
+
+follows_plain : (kind : Word) (a c : AskedValue) (words : List (List ℕ)) → IsWord (codes "--plain") kind
+    → (a.plain ≡ false) × Asks (record a { plain = true }) words c → Follows kind a (codes "--plain") words c
+follows_plain kinds.Name a c words is rest = absurd (is refl)
+follows_plain kinds.Plain a c words is rest = rest
+follows_plain kinds.Write a c words is rest = absurd (differ 112 119 _ _ refl refl (λ e. omega (arith, e)) is)
+follows_plain kinds.Select a c words is rest = absurd (differ 112 115 _ _ refl refl (λ e. omega (arith, e)) is)
+follows_plain kinds.Help a c words is rest = absurd (differ 112 104 _ _ refl refl (λ e. omega (arith, e)) is)
+follows_plain kinds.Version a c words is rest = absurd (differ 112 118 _ _ refl refl (λ e. omega (arith, e)) is)
+follows_plain kinds.Unknown a c words is rest = absurd (is.1 refl)
+
+follows_write : (kind : Word) (a c : AskedValue) (words : List (List ℕ)) → IsWord (codes "--write") kind
+    → (a.write ≡ false) × Asks (record a { write = true }) words c → Follows kind a (codes "--write") words c
+follows_write kinds.Name a c words is rest = absurd (is refl)
+follows_write kinds.Plain a c words is rest = absurd (differ 119 112 _ _ refl refl (λ e. omega (arith, e)) is)
+follows_write kinds.Write a c words is rest = rest
+follows_write kinds.Select a c words is rest = absurd (differ 119 115 _ _ refl refl (λ e. omega (arith, e)) is)
+follows_write kinds.Help a c words is rest = absurd (differ 119 104 _ _ refl refl (λ e. omega (arith, e)) is)
+follows_write kinds.Version a c words is rest = absurd (differ 119 118 _ _ refl refl (λ e. omega (arith, e)) is)
+follows_write kinds.Unknown a c words is rest = absurd (is.2 refl)
+
+follows_select : (kind : Word) (a c : AskedValue) (text : List ℕ) (words : List (List ℕ))
+    → IsWord (codes "--select") kind → (a.text ≡ None) × Asks (record a { text = Some text }) words c
+    → Follows kind a (codes "--select") (text ∷ words) c
+follows_select kinds.Name a c text words is rest = absurd (is refl)
+follows_select kinds.Plain a c text words is rest = absurd (differ 115 112 _ _ refl refl (λ e. omega (arith, e)) is)
+follows_select kinds.Write a c text words is rest = absurd (differ 115 119 _ _ refl refl (λ e. omega (arith, e)) is)
+follows_select kinds.Select a c text words is rest = (text, words, refl, rest.0, rest.1)
+follows_select kinds.Help a c text words is rest = absurd (differ 115 104 _ _ refl refl (λ e. omega (arith, e)) is)
+follows_select kinds.Version a c text words is rest = absurd (differ 115 118 _ _ refl refl (λ e. omega (arith, e)) is)
+follows_select kinds.Unknown a c text words is rest = absurd (is.3 refl)
+
+pub follows : (kind : Word) (a c : AskedValue) (word : List ℕ) (words : List (List ℕ)) → IsWord word kind
+    → Asks a (word ∷ words) c → Follows kind a word words c
+follows kind a c word words is (file _ _ named) = follows_file kind a word named is
+follows kind a c word words is (plain _ _ _ first asks) = follows_plain kind a c words is (first, asks)
+follows kind a c word words is (write _ _ _ first asks) = follows_write kind a c words is (first, asks)
+follows kind a c word words is (select _ _ text others first asks) =
+    follows_select kind a c text others is (first, asks)
+
+pub precedes : (kind : Word) (a c : AskedValue) (word : List ℕ) (words : List (List ℕ)) → IsWord word kind
+    → Follows kind a word words c → Asks a (word ∷ words) c
+precedes kinds.Name a c word words is (none, same) =
+    subst (λ (l : List (List ℕ)). Asks a (word ∷ l) c) (sym none)
+    (subst (λ (b : AskedValue). Asks a (word ∷ []) b) (sym same) (file a word is))
+precedes kinds.Plain a c word words is (first, asks) =
+    subst (λ (w : List ℕ). Asks a (w ∷ words) c) (sym is) (plain a c words first asks)
+precedes kinds.Write a c word words is (first, asks) =
+    subst (λ (w : List ℕ). Asks a (w ∷ words) c) (sym is) (write a c words first asks)
+precedes kinds.Select a c word words is (text, others, same, first, asks) =
+    subst (λ (l : List (List ℕ)). Asks a (word ∷ l) c) (sym same)
+    (subst (λ (w : List ℕ). Asks a (w ∷ text ∷ others) c) (sym is) (select a c text others first asks))
+precedes kinds.Help a c word words is rest = absurd rest
+precedes kinds.Version a c word words is rest = absurd rest
+precedes kinds.Unknown a c word words is rest = absurd rest
+
+-- ---- the last word
+
+pub last_asked : (a c : AskedValue) → Asks a [] c → c ≡ a
+last_asked a c (no_word _) = refl
+
+-- the name of a file is the last word
+pub ask_name : (a : AskedValue) (word : List ℕ) (words : List (List ℕ)) → IsWord word kinds.Name → words ≡ []
+    → AskSame a (word ∷ words) (record a { file = Some word }) words
+ask_name a word words is none c = (
+  λ asks.
+      precedes kinds.Name a c word words is (
+        none,
+        last_asked (record a { file = Some word }) c
+            (subst (λ (l : List (List ℕ)). Asks (record a { file = Some word }) l c) none asks),
+      ),
+  λ asks.
+      let f = follows kinds.Name a c word words is asks in
+      subst (λ (l : List (List ℕ)). Asks (record a { file = Some word }) l c) (sym none)
+      (subst (λ (b : AskedValue). Asks (record a { file = Some word }) [] b) (sym f.1) (no_word _)),
+)
+
+pub ask_plain : (a : AskedValue) (word : List ℕ) (words : List (List ℕ)) → IsWord word kinds.Plain → a.plain ≡ false
+    → AskSame a (word ∷ words) (record a { plain = true }) words
+ask_plain a word words is first c = (
+  λ asks. precedes kinds.Plain a c word words is (first, asks),
+  λ asks. (follows kinds.Plain a c word words is asks).1,
+)
+
+pub ask_write : (a : AskedValue) (word : List ℕ) (words : List (List ℕ)) → IsWord word kinds.Write → a.write ≡ false
+    → AskSame a (word ∷ words) (record a { write = true }) words
+ask_write a word words is first c = (
+  λ asks. precedes kinds.Write a c word words is (first, asks),
+  λ asks. (follows kinds.Write a c word words is asks).1,
+)
+
+abbrev tail_of : List (List ℕ) → List (List ℕ)
+tail_of [] = []
+tail_of (w ∷ words) = words
+
+abbrev head_of : List (List ℕ) → List ℕ
+head_of [] = []
+head_of (w ∷ words) = w
+
+pub ask_select : (a : AskedValue) (word text : List ℕ) (words others : List (List ℕ)) → IsWord word kinds.Select
+    → a.text ≡ None → words ≡ text ∷ others → AskSame a (word ∷ words) (record a { text = Some text }) others
+ask_select a word text words others is first same c = (
+  λ asks. precedes kinds.Select a c word words is (text, others, same, first, asks),
+  λ asks.
+      let f = follows kinds.Select a c word words is asks in
+      let both = sym f.2 ∙ same in
+      subst (λ (l : List (List ℕ)). Asks (record a { text = Some text }) l c) (ap tail_of both)
+      (subst (λ (t : List ℕ). Asks (record a { text = Some t }) f.1 c) (ap head_of both) f.4),
+)
+
+-- .. also once it was tried to take another
+pub ask_name_last : (a : AskedValue) (word : List ℕ) (words left : List (List ℕ)) → IsWord word kinds.Name → words ≡ []
+    → left ≡ [] → AskSame a (word ∷ words) (record a { file = Some word }) left
+ask_name_last a word words left is none none_left c =
+    subst
+    (λ (l : List (List ℕ)). Asks (record a { file = Some word }) l c ↔ Asks a (word ∷ words) c) (none ∙ sym none_left)
+    (ask_name a word words is none c)
+
+-- no word was left to take
+pub none_taken : {A : Type 0} (args others : IntoIter (String A) A) (word : Option (String A))
+    → into_iter_steps args word others → is_none word ≡ true → (words_left args ≡ []) × (words_left others ≡ [])
+none_taken args others None ended none = (
+  ap (map string_bytes) (words_end args others None ended refl),
+  ap (map string_bytes) (words_end others others None (ended.1, ended.1) refl),
+)
+none_taken args others (Some word) next none = absurd cc
+
+pub none_mapped : {X Y : Type 0} (f : X → Y) (o : Option X) → is_none o ≡ true → option_map f o ≡ None
+none_mapped f None none = refl
+none_mapped f (Some x) none = absurd cc
+
+-- ---- all words
+
+-- the words together ask for something that is no request
+pub refused_asked : (words : List (List ℕ)) (a : AskedValue) (r : RequestError) → AskSame nothing_asked words a []
+    → RefusesAsked a r → RefusesOptions words r
+refused_asked words a reasons.Usage same both = λ c asks.
+    let e = last_asked a c ((same c).1 asks) in
+    (ap (λ (b : AskedValue). b.plain) e ∙ both.0, ap (λ (b : AskedValue). b.write) e ∙ both.1)
+refused_asked words a (reasons.Filter e) same no_filter =
+    record { asked = a; asks = (same a).0 (no_word a); no_filter = no_filter }
+refused_asked words a (reasons.CopyFilter e) same no_filter =
+    record { asked = a; asks = (same a).0 (no_word a); no_filter = no_filter }
+
+two_forms : (a : AskedValue) (request : RequestValue) → (a.plain ≡ true) × (a.write ≡ true) → IsRequestOf a request → ⊥
+two_forms a request both (lines s not_copy is) = let e : true ≡ false = sym both.1 ∙ not_copy in absurd cc
+two_forms a request both (copy s is_copy not_plain is) = let e : true ≡ false = sym both.0 ∙ not_plain in absurd cc
+
+names_none : (words : List (List ℕ)) (request : RequestValue) → words ≢ codes "--help" ∷ []
+    → words ≢ codes "--version" ∷ []
+    → RefusesOptions words reasons.Usage → NamesRequest words request → ⊥
+names_none words request not_help not_version refused help = not_help refl
+names_none words request not_help not_version refused version = not_version refl
+names_none words request not_help not_version refused (options _ a _ asks is) = two_forms a request (refused a asks) is
+
+no_filter_both : (a : AskedValue) (form : Bool) → (a.plain ≡ true) × (a.write ≡ true)
+    → (a.write ≡ form) × ((a.plain && form) ≡ false) → ⊥
+no_filter_both a form both is =
+    let e : form ≡ true = sym is.0 ∙ both.1 in
+    let f : (true && true) ≡ false = (λ i. sym both.0 i && sym e i) ∙ is.1 in
+    absurd cc
+
+-- words that are no lone option, and are wrong as options, are wrong
+pub refused_words : (words : List (List ℕ)) (r : RequestError) → words ≢ codes "--help" ∷ []
+    → words ≢ codes "--version" ∷ [] → RefusesOptions words r → RefusesWords words r
+refused_words words reasons.Usage not_help not_version refused = (
+  λ request named. names_none words request not_help not_version refused named,
+  λ form e none. no_filter_both none.asked form (refused none.asked none.asks) none.no_filter.form,
+)
+refused_words words (reasons.Filter e) not_help not_version refused = refused
+refused_words words (reasons.CopyFilter e) not_help not_version refused = refused
+
+-- ---- requests
+
+pub options_ask : (words : List (List ℕ)) (a : AskedValue) (r : Result Request RequestError)
+    → AskSame nothing_asked words a [] → IfOk r (λ request. IsRequestOf a (request_view request))
+    → IfOk r (λ request. OptionsAsk words (request_view request))
+options_ask words a (Ok request) same is = (a, (same a).0 (no_word a), is)
+options_ask words a (Err error) same is = tt
+
+pub options_refused : (words : List (List ℕ)) (a : AskedValue) (r : Result Request RequestError)
+    → AskSame nothing_asked words a [] → IfErr r (RefusesAsked a) → IfErr r (RefusesOptions words)
+options_refused words a (Ok request) same refused = tt
+options_refused words a (Err error) same refused = refused_asked words a error same refused
+
+-- no word asks for all lines
+pub no_word_named : (words : List (List ℕ)) (a : AskedValue) (r : Result Request RequestError) → words ≡ []
+    → a ≡ nothing_asked → IfOk r (λ request. IsRequestOf a (request_view request))
+    → IfOk r (λ request. NamesRequest words (request_view request))
+no_word_named words a (Ok request) none first is =
+    options words a (request_view request)
+    (subst (λ (l : List (List ℕ)). Asks nothing_asked l a) (sym none)
+    (subst (λ (b : AskedValue). Asks nothing_asked [] b) (sym first) (no_word nothing_asked)))
+    is
+no_word_named words a (Err error) none first is = tt
+
+-- a word that comes alone
+pub lone_named : (words left : List (List ℕ)) (word : List ℕ) (request : Request) (r : Result Request RequestError)
+    → words ≡ word ∷ left → NamesRequest (word ∷ []) (request_view request) → IfOk r (λ it. it ≡ request)
+    → OnOk r (left ≡ []) → IfOk r (λ it. NamesRequest words (request_view it))
+lone_named words left word request (Ok it) same named is last =
+    subst (λ (l : List (List ℕ)). NamesRequest l (request_view it))
+    (sym (same ∙ ap (λ (l : List (List ℕ)). word ∷ l) last))
+    (subst (λ (q : Request). NamesRequest (word ∷ []) (request_view q)) (sym is) named)
+lone_named words left word request (Err error) same named is last = tt
+
+help_word : (kind : Word) (word : List ℕ) → IsWord word kind → word ≡ codes "--help" → kind ≡ kinds.Help
+help_word kinds.Name word is e = absurd (no_hyphen word (codes "-help") is e)
+help_word kinds.Plain word is e = absurd (differ 112 104 _ _ refl refl (λ n. omega (arith, n)) (sym is ∙ e))
+help_word kinds.Write word is e = absurd (differ 119 104 _ _ refl refl (λ n. omega (arith, n)) (sym is ∙ e))
+help_word kinds.Select word is e = absurd (differ 115 104 _ _ refl refl (λ n. omega (arith, n)) (sym is ∙ e))
+help_word kinds.Help word is e = refl
+help_word kinds.Version word is e = absurd (differ 118 104 _ _ refl refl (λ n. omega (arith, n)) (sym is ∙ e))
+help_word kinds.Unknown word is e = absurd (is.4 e)
+
+version_word : (kind : Word) (word : List ℕ) → IsWord word kind → word ≡ codes "--version" → kind ≡ kinds.Version
+version_word kinds.Name word is e = absurd (no_hyphen word (codes "-version") is e)
+version_word kinds.Plain word is e = absurd (differ 112 118 _ _ refl refl (λ n. omega (arith, n)) (sym is ∙ e))
+version_word kinds.Write word is e = absurd (differ 119 118 _ _ refl refl (λ n. omega (arith, n)) (sym is ∙ e))
+version_word kinds.Select word is e = absurd (differ 115 118 _ _ refl refl (λ n. omega (arith, n)) (sym is ∙ e))
+version_word kinds.Help word is e = absurd (differ 104 118 _ _ refl refl (λ n. omega (arith, n)) (sym is ∙ e))
+version_word kinds.Version word is e = refl
+version_word kinds.Unknown word is e = absurd (is.5 e)
+
+-- words of which the first is no lone option
+pub options_named : (words left : List (List ℕ)) (word : List ℕ) (r : Result Request RequestError)
+    → words ≡ word ∷ left → IfOk r (λ request. OptionsAsk (word ∷ left) (request_view request))
+    → IfOk r (λ request. NamesRequest words (request_view request))
+options_named words left word (Ok request) same asked =
+    subst (λ (l : List (List ℕ)). NamesRequest l (request_view request)) (sym same)
+    (options (word ∷ left) asked.0 (request_view request) asked.1 asked.2)
+options_named words left word (Err error) same asked = tt
+
+pub options_wrong : (words left : List (List ℕ)) (word : List ℕ) (kind : Word) (r : Result Request RequestError)
+    → words ≡ word ∷ left → IsWord word kind → (kind ≡ kinds.Help → ⊥) → (kind ≡ kinds.Version → ⊥)
+    → IfErr r (RefusesOptions (word ∷ left)) → IfErr r (RefusesWords words)
+options_wrong words left word kind (Ok request) same is not_help not_version refused = tt
+options_wrong words left word kind (Err error) same is not_help not_version refused =
+    subst (λ (l : List (List ℕ)). RefusesWords l error) (sym same)
+    (refused_words (word ∷ left) error
+    (λ e. not_help (help_word kind word is (ap head_of e)))
+    (λ e. not_version (version_word kind word is (ap head_of e)))
+    refused)

@@ -58,7 +58,7 @@ no_section h = omega (arith, h)
 nothing_of_blocks : (r : CaptureRefusal) (n : ℕ) → required_len r ≡ Some n → required_len r ≡ None → ⊥
 nothing_of_blocks r n some none = let e : Some n ≡ None = sym some ∙ none in absurd cc
 
-refused_nothing : (bytes : List ℕ) (x : Expectation) (r : CaptureRefusal) → bytes ≡ [] → Refuses bytes x r
+pub refused_nothing : (bytes : List ℕ) (x : Expectation) (r : CaptureRefusal) → bytes ≡ [] → Refuses bytes x r
     → required_len r ≡ None → ⊥
 refused_nothing bytes x r e (file_header_refused s other (file.short lt)) none = nothing_of_blocks r 24 refl none
 refused_nothing bytes x r e (file_header_refused s other (file.magic le never)) none =

@@ -7,4 +7,6 @@ pub mod Options
 pub mod Run
 pub mod Outcome
 pub mod FrameLoop
+pub mod Copying
+pub mod CopyLoop
 pub mod Program

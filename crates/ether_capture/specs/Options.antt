@@ -1,15 +1,20 @@
 -- What the words after the program's name ask for.
-use Rattle.std.specs.Prelude.{◌≡◌, ◌≢◌, ℕ, List, [], ◌∷◌, codes, Bool, true, false, Option, Some, None, string_bytes, ⊤}
+use Rattle.std.specs.Prelude.{◌≡◌, ◌≢◌, ◌↔◌, ℕ, List, [], ◌∷◌, map, codes, Bool, true, false, ◌&&◌, Option, Some, None, String, string_bytes, ⊤}
 use Rattle.std.specs.Option.{option_map}
+use Rattle.std.specs.Vec.Iter.{into_iter_items}
+use Rattle.std.specs.declared.vec.IntoIter.{IntoIter}
 use Rattle.ether_filter.specs.Expressions.{Expression}
 use Rattle.ether_filter.specs.Texts.{IsExpressionOf}
 use Rattle.ether_filter.specs.Refusals.{RefusesText}
 use Rattle.ether_filter.specs.declared.filter_error.FilterError.{FilterError}
+use Rattle.ether_capture.specs.declared.options.Asked.{Asked}
 use Rattle.ether_capture.specs.declared.options.Lines.{Lines}
 use Rattle.ether_capture.specs.declared.options.RequestError.{RequestError}
 use Rattle.ether_capture.specs.declared.options.RequestError.TheVariants as reasons
 use Rattle.ether_capture.specs.declared.options.Request.{Request}
 use Rattle.ether_capture.specs.declared.options.Request.TheVariants as requests
+use Rattle.ether_capture.specs.declared.options.Word.{Word}
+use Rattle.ether_capture.specs.declared.options.Word.TheVariants as kinds
 
 -- the lines of walks alone, or those of packets and of totals, too; of all packets, or of those that an expression selects
 pub record LinesValue : Type 0 where
@@ -19,74 +24,138 @@ pub record LinesValue : Type 0 where
 abbrev pub lines_view : Lines → LinesValue
 lines_view asked = record { plain = asked.is_plain; select = asked.filter }
 
--- these lines of the capture in the file of this name, or of standard input; the usage; the version
+-- these lines of the capture in the file of this name, or of standard input; a copy of the capture with the packets that an expression
+-- selects, or all; the usage; the version
 pub data RequestValue : Type 0 where
   Capture : LinesValue → (file : Option (List ℕ)) → RequestValue
+  Copy : (select : Option Expression) → (file : Option (List ℕ)) → RequestValue
   Help : RequestValue
   Version : RequestValue
 
 abbrev pub request_view : Request → RequestValue
 request_view (requests.Capture asked file) = Capture (lines_view asked) (option_map string_bytes file)
+request_view (requests.Copy filter file) = Copy filter (option_map string_bytes file)
 request_view requests.Help = Help
 request_view requests.Version = Version
+
+-- ---- options
 
 -- the word names a file: it does not begin with a hyphen
 abbrev pub IsName : List ℕ → Type 0
 IsName [] = ⊤
 IsName (byte ∷ bytes) = byte ≢ 45
 
-abbrev pub all_lines : LinesValue
-all_lines = record { plain = false; select = None }
+-- which options there are, with the text of a filter, and the name of a file
+pub record AskedValue : Type 0 where
+  pub plain : Bool
+  pub write : Bool
+  pub text : Option (List ℕ)
+  pub file : Option (List ℕ)
 
-abbrev pub plain_lines : LinesValue
-plain_lines = record { plain = true; select = None }
+abbrev pub nothing_asked : AskedValue
+nothing_asked = record { plain = false; write = false; text = None; file = None }
 
-abbrev pub lines_of : Expression → LinesValue
-lines_of x = record { plain = false; select = Some x }
+-- What is asked for with these words, after the words before them. Options come in any order, each once at most, and the name of a file
+-- comes last.
+pub data Asks : AskedValue → List (List ℕ) → AskedValue → Type 0 where
+  no_word : (a : AskedValue) → Asks a [] a
+  file : (a : AskedValue) (name : List ℕ) → IsName name → Asks a (name ∷ []) (record a { file = Some name })
+  plain : (a b : AskedValue) (words : List (List ℕ)) → a.plain ≡ false → Asks (record a { plain = true }) words b
+      → Asks a (codes "--plain" ∷ words) b
+  write : (a b : AskedValue) (words : List (List ℕ)) → a.write ≡ false → Asks (record a { write = true }) words b
+      → Asks a (codes "--write" ∷ words) b
+  select : (a b : AskedValue) (text : List ℕ) (words : List (List ℕ)) → a.text ≡ None → Asks (record a { text = Some text }) words b
+      → Asks a (codes "--select" ∷ text ∷ words) b
 
-abbrev pub plain_lines_of : Expression → LinesValue
-plain_lines_of x = record { plain = true; select = Some x }
+-- ---- requests
+
+-- the expression that a text means, if there is one
+abbrev pub IsSelection : (text : Option (List ℕ)) → Option Expression → Type 0
+IsSelection None None = ⊤
+IsSelection (Some text) (Some x) = IsExpressionOf text x
+IsSelection text other = ⊥
+
+-- what is asked for is lines, or a copy, of which there are no plain ones
+pub data IsRequestOf (a : AskedValue) : RequestValue → Type 0 where
+  lines : (select : Option Expression) → a.write ≡ false → IsSelection a.text select
+      → IsRequestOf a (Capture (record { plain = a.plain; select = select }) a.file)
+  copy : (select : Option Expression) → a.write ≡ true → a.plain ≡ false → IsSelection a.text select → IsRequestOf a (Copy select a.file)
 
 pub data NamesRequest : List (List ℕ) → RequestValue → Type 0 where
-  no_word : NamesRequest [] (Capture all_lines None)
   help : NamesRequest (codes "--help" ∷ []) Help
   version : NamesRequest (codes "--version" ∷ []) Version
-  plain : NamesRequest (codes "--plain" ∷ []) (Capture plain_lines None)
-  file : (name : List ℕ) → IsName name → NamesRequest (name ∷ []) (Capture all_lines (Some name))
-  plain_file : (name : List ℕ) → IsName name → NamesRequest (codes "--plain" ∷ name ∷ []) (Capture plain_lines (Some name))
-  select : (text : List ℕ) (x : Expression) → IsExpressionOf text x → NamesRequest (codes "--select" ∷ text ∷ []) (Capture (lines_of x) None)
-  select_file : (text name : List ℕ) (x : Expression) → IsExpressionOf text x → IsName name
-      → NamesRequest (codes "--select" ∷ text ∷ name ∷ []) (Capture (lines_of x) (Some name))
-  plain_select : (text : List ℕ) (x : Expression) → IsExpressionOf text x
-      → NamesRequest (codes "--plain" ∷ codes "--select" ∷ text ∷ []) (Capture (plain_lines_of x) None)
-  plain_select_file : (text name : List ℕ) (x : Expression) → IsExpressionOf text x → IsName name
-      → NamesRequest (codes "--plain" ∷ codes "--select" ∷ text ∷ name ∷ []) (Capture (plain_lines_of x) (Some name))
+  options : (words : List (List ℕ)) (a : AskedValue) (request : RequestValue) → Asks nothing_asked words a → IsRequestOf a request
+      → NamesRequest words request
 
 abbrev pub NamesNothing : List (List ℕ) → Type 0
 NamesNothing words = (request : RequestValue) → ¬ (NamesRequest words request)
 
--- the words would name something, but the text of the filter is refused in this way
-pub data NamesNoFilter : List (List ℕ) → FilterError → Type 0 where
-  select_refused : (text : List ℕ) (e : FilterError) → RefusesText text e → NamesNoFilter (codes "--select" ∷ text ∷ []) e
-  select_file_refused : (text name : List ℕ) (e : FilterError) → RefusesText text e → IsName name
-      → NamesNoFilter (codes "--select" ∷ text ∷ name ∷ []) e
-  plain_select_refused : (text : List ℕ) (e : FilterError) → RefusesText text e
-      → NamesNoFilter (codes "--plain" ∷ codes "--select" ∷ text ∷ []) e
-  plain_select_file_refused : (text name : List ℕ) (e : FilterError) → RefusesText text e → IsName name
-      → NamesNoFilter (codes "--plain" ∷ codes "--select" ∷ text ∷ name ∷ []) e
+-- lines, or a copy, would be asked for, but the text of the filter is refused in this way
+pub record HasNoFilter (a : AskedValue) (copy : Bool) (e : FilterError) : Type 0 where
+  pub text : List ℕ
+  pub form : (a.write ≡ copy) × ((a.plain && copy) ≡ false)
+  pub is_text : a.text ≡ Some text
+  pub refused : RefusesText text e
+
+pub record NamesNoFilter (words : List (List ℕ)) (copy : Bool) (e : FilterError) : Type 0 where
+  pub asked : AskedValue
+  pub asks : Asks nothing_asked words asked
+  pub no_filter : HasNoFilter asked copy e
 
 -- why words are wrong
 abbrev pub RefusesWords : List (List ℕ) → RequestError → Type 0
-RefusesWords words reasons.Usage = NamesNothing words × ((e : FilterError) → ¬ (NamesNoFilter words e))
-RefusesWords words (reasons.Filter e) = NamesNoFilter words e
+RefusesWords words reasons.Usage = NamesNothing words × ((copy : Bool) (e : FilterError) → ¬ (NamesNoFilter words copy e))
+RefusesWords words (reasons.Filter e) = NamesNoFilter words false e
+RefusesWords words (reasons.CopyFilter e) = NamesNoFilter words true e
 
--- a text means an expression, and this asks for the lines of the packets that it selects
-pub record AsksFor (plain : Bool) (text : List ℕ) (file : Option (List ℕ)) (request : Request) : Type 0 where
-  pub expression : Expression
-  pub means : IsExpressionOf text expression
-  pub is : request_view request ≡ Capture (record { plain = plain; select = Some expression }) file
+-- ---- one word after another
 
--- a text is refused for this reason
-abbrev pub RefusesFilter : (text : List ℕ) → RequestError → Type 0
-RefusesFilter text reasons.Usage = ⊥
-RefusesFilter text (reasons.Filter e) = RefusesText text e
+abbrev pub words_left : {A : Type 0} → IntoIter (String A) A → List (List ℕ)
+words_left args = map string_bytes (into_iter_items args)
+
+abbrev pub asked_view : Asked → AskedValue
+asked_view asked = record {
+  plain = asked.is_plain;
+  write = asked.is_copy;
+  text = option_map string_bytes asked.text;
+  file = option_map string_bytes asked.file;
+}
+
+-- what a word is
+abbrev pub IsWord : (word : List ℕ) → Word → Type 0
+IsWord word kinds.Name = IsName word
+IsWord word kinds.Plain = word ≡ codes "--plain"
+IsWord word kinds.Write = word ≡ codes "--write"
+IsWord word kinds.Select = word ≡ codes "--select"
+IsWord word kinds.Help = word ≡ codes "--help"
+IsWord word kinds.Version = word ≡ codes "--version"
+IsWord word kinds.Unknown =
+    ¬ (IsName word) × (word ≢ codes "--plain") × (word ≢ codes "--write") × (word ≢ codes "--select") × (word ≢ codes "--help") × (word ≢ codes "--version")
+
+-- the same is asked for with these words after those before them
+abbrev pub AskSame : (a : AskedValue) → (words : List (List ℕ)) → (b : AskedValue) → (left : List (List ℕ)) → Type 0
+AskSame a words b left = (c : AskedValue) → Asks b left c ↔ Asks a words c
+
+abbrev pub AskNothing : (a : AskedValue) → (words : List (List ℕ)) → Type 0
+AskNothing a words = (c : AskedValue) → ¬ (Asks a words c)
+
+-- an expression means a text, if there is one, or the text is refused
+abbrev pub RefusesSelection : (text : Option (List ℕ)) → FilterError → Type 0
+RefusesSelection None e = ⊥
+RefusesSelection (Some text) e = RefusesText text e
+
+-- why what is asked for is no request
+abbrev pub RefusesAsked : AskedValue → RequestError → Type 0
+RefusesAsked a reasons.Usage = (a.plain ≡ true) × (a.write ≡ true)
+RefusesAsked a (reasons.Filter e) = HasNoFilter a false e
+RefusesAsked a (reasons.CopyFilter e) = HasNoFilter a true e
+
+-- options ask for this
+abbrev pub OptionsAsk : (words : List (List ℕ)) → RequestValue → Type 0
+OptionsAsk words request = (a : AskedValue) × Asks nothing_asked words a × IsRequestOf a request
+
+-- why they are wrong
+abbrev pub RefusesOptions : (words : List (List ℕ)) → RequestError → Type 0
+RefusesOptions words reasons.Usage = (a : AskedValue) → Asks nothing_asked words a → (a.plain ≡ true) × (a.write ≡ true)
+RefusesOptions words (reasons.Filter e) = NamesNoFilter words false e
+RefusesOptions words (reasons.CopyFilter e) = NamesNoFilter words true e

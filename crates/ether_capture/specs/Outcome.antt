@@ -27,7 +27,7 @@ exit_status (Err Output) = 4
 exit_status (Err Memory) = 5
 
 abbrev pub usage_text : List ℕ
-usage_text = codes "usage: ether_capture [--plain] [--select EXPR] [FILE]"
+usage_text = codes "usage: ether_capture [--plain | --write] [--select EXPR] [FILE]"
 
 -- what is said if memory was refused
 abbrev pub memory_text : List ℕ
@@ -51,7 +51,7 @@ abbrev pub fault_line_text : CaptureFault → List ℕ
 fault_line_text fault = codes "byte " ++ (decimal fault.offset ++ (codes ": " ++ (capture_error_text fault.error ++ hint_text fault.error)))
 
 abbrev pub help_text : List ℕ
-help_text = codes "usage: ether_capture [--plain] [--select EXPR] [FILE]\n\nPrints the link-layer headers of each packet of a capture, pcap or pcapng: FILE, or standard input.\n\n  --plain        leave out the lines of packets and the totals\n  --select EXPR  only packets that match EXPR, in words of pcap-filter(7), as 'vlan 5 or arp'\n  --help         print this text\n  --version      print the version"
+help_text = codes "usage: ether_capture [--plain | --write] [--select EXPR] [FILE]\n\nPrints the link-layer headers of each packet of a capture, pcap or pcapng: FILE, or standard input.\n\n  --plain        leave out the lines of packets and the totals\n  --select EXPR  only packets that match EXPR, in words of pcap-filter(7), as 'vlan 5 or arp'\n  --write        write the capture itself, without the other packets; faults go to standard error\n  --help         print this text\n  --version      print the version"
 
 abbrev pub version_text : List ℕ
 version_text = codes "ether_capture 1.0"
@@ -63,21 +63,38 @@ not_opened_text name = name ++ codes ": can't be opened"
 abbrev pub no_filter_text : FilterError → List ℕ
 no_filter_text error = codes "--select: " ++ filter_error_text error
 
+-- what is printed after a run
+abbrev pub last_text_of_run : Result Verdict RunFault → Option (List ℕ)
+last_text_of_run (Ok verdict) = None
+last_text_of_run (Err (Capture fault)) = Some (fault_line_text fault)
+last_text_of_run (Err Input) = None
+last_text_of_run (Err Output) = None
+last_text_of_run (Err Memory) = Some memory_text
+
 -- what the program prints last, without its line feed
 abbrev pub last_text : Outcome → Option (List ℕ)
-last_text (outcomes.Run (Ok verdict)) = None
-last_text (outcomes.Run (Err (Capture fault))) = Some (fault_line_text fault)
-last_text (outcomes.Run (Err Input)) = None
-last_text (outcomes.Run (Err Output)) = None
-last_text (outcomes.Run (Err Memory)) = Some memory_text
+last_text (outcomes.Run outcome) = last_text_of_run outcome
 last_text (outcomes.NotOpened name) = Some (not_opened_text (string_bytes name))
 last_text outcomes.Help = Some help_text
 last_text outcomes.Version = Some version_text
 last_text outcomes.Usage = Some usage_text
 last_text (outcomes.NoFilter error) = Some (no_filter_text error)
+last_text (outcomes.Copy outcome) = last_text_of_run outcome
+last_text (outcomes.CopyNotOpened name) = Some (not_opened_text (string_bytes name))
+last_text (outcomes.CopyNoFilter error) = Some (no_filter_text error)
 
--- the exit status of the program, by whether its last line was printed: if not, output failed
+-- a copy was asked for
+abbrev pub is_of_copy : Outcome → Bool
+is_of_copy (outcomes.Copy outcome) = true
+is_of_copy (outcomes.CopyNotOpened name) = true
+is_of_copy (outcomes.CopyNoFilter error) = true
+is_of_copy outcome = false
+
+-- the exit status of the program, by whether its last line was printed: if not, output failed, unless that is a copy
 abbrev pub status_of_program : Outcome → (printed : Bool) → ℕ
+status_of_program (outcomes.Copy outcome) printed = exit_status outcome
+status_of_program (outcomes.CopyNotOpened name) printed = exit_status (Err Input)
+status_of_program (outcomes.CopyNoFilter error) printed = 2
 status_of_program outcome false = exit_status (Err Output)
 status_of_program (outcomes.Run outcome) true = exit_status outcome
 status_of_program (outcomes.NotOpened name) true = exit_status (Err Input)

@@ -1,12 +1,14 @@
 -- What the program has read and written, and how it ends.
-use Rattle.std.specs.Prelude.{◌≡◌, ◌⊎◌, ℕ, List, [], ◌++◌, codes, Option, Some, None, Result, Err, IfNone, Bool, true, IfErr, string_bytes, ⊤}
+use Rattle.std.specs.Prelude.{◌≡◌, ◌⊎◌, ℕ, List, [], ◌++◌, codes, Option, Some, None, Result, Err, IfNone, Bool, true, false, IfErr, string_bytes, ⊤}
 use Rattle.std.specs.Io.KnownBytes.{Appends}
+use Rattle.ether_filter.specs.Expressions.{Expression}
 use Rattle.ether_text.specs.Run.{IsEndless}
 use Rattle.ether_text.specs.declared.verdict.Verdict.{Verdict}
-use Rattle.ether_capture.specs.Options.{LinesValue, RequestValue, Capture, Help, Version, NamesRequest, RefusesWords}
+use Rattle.ether_capture.specs.Options.{LinesValue, RequestValue, Capture, Copy, Help, Version, NamesRequest, RefusesWords}
 use Rattle.ether_capture.specs.declared.options.RequestError.TheVariants as reasons
 use Rattle.ether_capture.specs.Run.{HasRun, OnStreamFault}
-use Rattle.ether_capture.specs.Outcome.{last_text, status_of_program}
+use Rattle.ether_capture.specs.Copying.{HasCopied}
+use Rattle.ether_capture.specs.Outcome.{last_text, is_of_copy, status_of_program}
 use Rattle.ether_capture.specs.declared.outcome.Outcome.{Outcome}
 use Rattle.ether_capture.specs.declared.outcome.Outcome.TheVariants as outcomes
 use Rattle.ether_capture.specs.declared.outcome.RunFault.{RunFault}
@@ -31,6 +33,21 @@ HasReadFile has can_refuse can_read can_write asked name held holds (outcomes.No
     (string_bytes named ≡ name) × can_refuse × (holds ≡ held)
 HasReadFile has can_refuse can_read can_write asked name held holds outcome = ⊥
 
+-- A capture was read, from before to after, and copied. Only a stream that can fail has failed, or one that does not end.
+pub record HasReadCopy (can_read can_write : Type 0) (select : Option Expression) (before after held holds : Option (List ℕ))
+    (outcome : Result Verdict RunFault) : Type 0 where
+  pub run : HasCopied select before after held holds outcome ⊎ HasNoMemory before after held holds outcome
+  pub failed : IfErr outcome (λ fault. OnStreamFault fault (can_read ⊎ IsEndless before after) can_write)
+
+-- The capture of this name was copied; or it can't be opened, and nothing is written.
+abbrev pub HasCopiedFile : (has : List ℕ → Option (List ℕ) → Type 0) (can_refuse can_read can_write : Type 0) → (select : Option Expression)
+    → (name : List ℕ) → (held holds : Option (List ℕ)) → Outcome → Type 0
+HasCopiedFile has can_refuse can_read can_write select name held holds (outcomes.Copy outcome) =
+    (before after : Option (List ℕ)) × has name before × HasReadCopy can_read can_write select before after held holds outcome
+HasCopiedFile has can_refuse can_read can_write select name held holds (outcomes.CopyNotOpened named) =
+    (string_bytes named ≡ name) × can_refuse × (holds ≡ held)
+HasCopiedFile has can_refuse can_read can_write select name held holds outcome = ⊥
+
 -- What is asked for was done. Standard input is read only if no file is named.
 abbrev pub HasAnswered : (has : List ℕ → Option (List ℕ) → Type 0) (can_fail can_refuse can_read can_write : Type 0) → RequestValue
     → (before after held holds : Option (List ℕ)) → Outcome → Type 0
@@ -38,6 +55,10 @@ HasAnswered has can_fail can_refuse can_read can_write (Capture asked None) befo
     HasRead can_fail can_write asked before after held holds outcome
 HasAnswered has can_fail can_refuse can_read can_write (Capture asked (Some name)) before after held holds outcome =
     HasReadFile has can_refuse can_read can_write asked name held holds outcome × (after ≡ before)
+HasAnswered has can_fail can_refuse can_read can_write (Copy select None) before after held holds (outcomes.Copy outcome) =
+    HasReadCopy can_fail can_write select before after held holds outcome
+HasAnswered has can_fail can_refuse can_read can_write (Copy select (Some name)) before after held holds outcome =
+    HasCopiedFile has can_refuse can_read can_write select name held holds outcome × (after ≡ before)
 HasAnswered has can_fail can_refuse can_read can_write Help before after held holds outcomes.Help = (after ≡ before) × (holds ≡ held)
 HasAnswered has can_fail can_refuse can_read can_write Version before after held holds outcomes.Version = (after ≡ before) × (holds ≡ held)
 HasAnswered has can_fail can_refuse can_read can_write request before after held holds outcome = ⊥
@@ -50,6 +71,8 @@ HasObeyed has can_fail can_refuse can_read can_write (Some words) before after h
     RefusesWords words reasons.Usage × (after ≡ before) × (holds ≡ held)
 HasObeyed has can_fail can_refuse can_read can_write (Some words) before after held holds (outcomes.NoFilter error) =
     RefusesWords words (reasons.Filter error) × (after ≡ before) × (holds ≡ held)
+HasObeyed has can_fail can_refuse can_read can_write (Some words) before after held holds (outcomes.CopyNoFilter error) =
+    RefusesWords words (reasons.CopyFilter error) × (after ≡ before) × (holds ≡ held)
 HasObeyed has can_fail can_refuse can_read can_write (Some words) before after held holds outcome =
     (request : RequestValue) × NamesRequest words request × HasAnswered has can_fail can_refuse can_read can_write request before after held holds outcome
 HasObeyed has can_fail can_refuse can_read can_write None before after held holds outcome =
@@ -65,13 +88,19 @@ pub record PrintsLast (outcome : Outcome) (held holds : Option (List ℕ)) (prin
   pub written : printed ≡ true → Appends held holds (last_bytes (last_text outcome))
   pub silent : IfNone (last_text outcome) (printed ≡ true)
 
+-- .. where the lines are, or if a copy was asked for, where messages are. Nothing is written to the other.
+abbrev pub PrintsApart : (copy : Bool) → (outcome : Outcome) → (held holds told tells : Option (List ℕ)) → (printed : Bool) → Type 0
+PrintsApart false outcome held holds told tells printed = PrintsLast outcome held holds printed × (tells ≡ told)
+PrintsApart true outcome held holds told tells printed = PrintsLast outcome told tells printed × (holds ≡ held)
+
 -- The program has done what the words ask for, has printed the last line, and ends with the status of its outcome. has relates names to the
--- bytes of their captures; the others hold if reading standard input, opening a capture, or reading it fails.
+-- bytes of their captures; the others hold if reading standard input, opening a capture, or reading it fails. The writer of messages told this,
+-- and tells that.
 pub record HasServed (has : List ℕ → Option (List ℕ) → Type 0) (can_fail can_refuse can_read : Type 0) (words : Option (List (List ℕ)))
-    (before after held holds : Option (List ℕ)) (status : ℕ) : Type 0 where
+    (before after held holds told tells : Option (List ℕ)) (status : ℕ) : Type 0 where
   pub outcome : Outcome
   pub printed : Bool
   pub between : Option (List ℕ)
   pub obeyed : HasObeyed has can_fail can_refuse can_read ⊤ words before after held between outcome
-  pub ended : PrintsLast outcome between holds printed
+  pub ended : PrintsApart (is_of_copy outcome) outcome between holds told tells printed
   pub is_status : status ≡ status_of_program outcome printed

@@ -42,7 +42,7 @@ pub fn write_packet<W: Sink>(
 
 /// Whether a filter selects a packet.
 #[inline(never)]
-fn selects(filter: &Filter, packet: &CapturedPacket<'_>) -> bool
+pub fn selects(filter: &Filter, packet: &CapturedPacket<'_>) -> bool
     ensures { IsTrue result ↔ Selects filter.now (captured_packet_view packet.now) }
 {
     match walked(packet) {

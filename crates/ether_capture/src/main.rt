@@ -1,11 +1,13 @@
 //! Reads a capture of the classic pcap format or of pcapng, a file or standard input, and prints the lines of the walk of each
-//! packet.
+//! packet, or copies the capture without some of its packets.
 //!
 //! `main` calls [`program::program`] on the arguments, the files and the standard streams. All that it prints goes to standard
-//! output, but that a stream failed, which `main` says on standard error.
+//! output, but that a stream failed, which `main` says on standard error, and the last line if there is a copy.
 #![tactic(auto)]
 
 pub mod captures;
+mod copy_loop;
+pub mod copying;
 mod frame_lines;
 mod frame_loop;
 pub mod input_buffer;
@@ -26,6 +28,7 @@ fn main(rt: HostRuntime) -> ExitCode {
         &rt,
         &mut rt.reader(),
         &mut io::writer(&rt),
+        &mut rt.stderr(),
     );
     if status == 4 {
         let _ = eprintln!(rt; "ether_capture: input or output failed");

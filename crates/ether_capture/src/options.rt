@@ -1,9 +1,9 @@
 //! What the words after the program's name ask for.
-ghost use Rattle.std.specs.Prelude.{◌≡◌, ◌↔◌, IsTrue, [], ◌∷◌, codes, string_bytes, IfOk, IfErr};
+ghost use Rattle.std.specs.Prelude.{◌≡◌, ◌≢◌, ◌≤◌, ◌↔◌, IsTrue, [], ◌∷◌, length, string_bytes, IfOk, IfErr, OnOk, OnErr};
 ghost use Rattle.std.specs.Option.{option_map};
 ghost use Rattle.std.specs.Vec.Iter.{into_iter_items};
 ghost use Rattle.ether_text.specs.Arguments.{words_after};
-ghost use Rattle.ether_capture.specs.Options.{IsName, AsksFor, NamesRequest, RefusesFilter, RefusesWords, request_view};
+ghost use Rattle.ether_capture.specs.Options.{IsName, IsWord, words_left, asked_view, nothing_asked, AskSame, AskNothing, IsSelection, RefusesSelection, IsRequestOf, RefusesAsked, OptionsAsk, RefusesOptions, NamesRequest, RefusesWords, request_view};
 
 use ether_filter::{Filter, FilterError};
 use std::env;
@@ -13,8 +13,10 @@ use std::env;
 pub enum RequestError {
     /// There is a word that is none, or one too many.
     Usage,
-    /// The filter is no expression.
+    /// The filter of lines is no expression.
     Filter(FilterError),
+    /// The filter of a copy is no expression.
+    CopyFilter(FilterError),
 }
 
 /// Which lines of a capture are asked for.
@@ -31,6 +33,8 @@ pub struct Lines {
 pub enum Request {
     /// Lines of the capture in the file of this name, or of standard input.
     Capture(Lines, Option<String>),
+    /// A copy of the capture with the packets that the filter selects; all of them without a filter.
+    Copy(Option<Filter>, Option<String>),
     /// How the program is used.
     Help,
     /// The program's name and version.
@@ -39,110 +43,163 @@ pub enum Request {
 
 /// What the program's arguments ask for. The first of them is its own name.
 ///
-/// In this order there may be `--plain`, `--select` with the text of a filter, and a word that does not begin with a hyphen, which
-/// names a file.
+/// In any order there may be `--plain` or `--write`, and `--select` with the text of a filter; after them a word that does not begin with a
+/// hyphen, which names a file. `--help` and `--version` come alone.
 pub fn request_of_args(mut args: env::Args) -> Result<Request, RequestError>
     ensures ok { IfOk result (λ request. NamesRequest (words_after (into_iter_items args)) (request_view request)) }
     ensures err { IfErr result (RefusesWords (words_after (into_iter_items args))) }
 {
     let _program = args.next();
     let Some(first) = args.next() else {
-        return Ok(capture(false, None, None));
+        return Asked::nothing().request();
     };
-    let Some(second) = args.next() else {
-        return of_one(first);
-    };
-    let Some(third) = args.next() else {
-        return of_two(first.as_str(), second);
-    };
-    let Some(fourth) = args.next() else {
-        return of_three(first.as_str(), second.as_str(), third);
-    };
+    match word_of(first.as_str()) {
+        Word::Help => alone(Request::Help, args),
+        Word::Version => alone(Request::Version, args),
+        _ => request_of_options(first, args),
+    }
+}
+
+/// A request whose word is the only one.
+fn alone(request: Request, mut args: env::Args) -> Result<Request, RequestError>
+    ensures ok { IfOk result (λ it. it ≡ request) }
+    ensures last { OnOk result (words_left args ≡ []) }
+    ensures err { IfErr result (λ e. e ≡ RequestError.Usage) }
+    ensures more { OnErr result (words_left args ≢ []) }
+{
     if args.next().is_some() {
         return Err(RequestError::Usage);
     }
-    of_four(first.as_str(), second.as_str(), third.as_str(), fourth)
+    Ok(request)
 }
 
-/// Lines of a capture.
-fn capture(is_plain: bool, filter: Option<Filter>, file: Option<String>) -> Request
-    ensures { result ≡ Request.Capture (record { is_plain = is_plain; filter = filter }) file }
+/// What options ask for, and the name of a file after them.
+fn request_of_options(first: String, mut args: env::Args) -> Result<Request, RequestError>
+    ensures ok { IfOk result (λ request. OptionsAsk (string_bytes first ∷ words_left args) (request_view request)) }
+    ensures err { IfErr result (RefusesOptions (string_bytes first ∷ words_left args)) }
 {
-    Request::Capture(Lines { is_plain, filter }, file)
-}
-
-/// What one word asks for.
-fn of_one(word: String) -> Result<Request, RequestError>
-    ensures ok { IfOk result (λ request. NamesRequest (string_bytes word ∷ []) (request_view request)) }
-    ensures err { IfErr result (RefusesWords (string_bytes word ∷ [])) }
-{
-    if is_name(word.as_str()) {
-        return Ok(capture(false, None, Some(word)));
+    let mut asked = Asked::nothing();
+    asked.take(first, &mut args)?;
+    while let Some(word) = args.next() {
+        asked.take(word, &mut args)?;
     }
-    match word.as_str() {
-        "--plain" => Ok(capture(true, None, None)),
-        "--help" => Ok(Request::Help),
-        "--version" => Ok(Request::Version),
-        _ => Err(RequestError::Usage),
+    asked.request()
+}
+
+/// What the words so far ask for.
+#[derive(Drop)]
+struct Asked {
+    is_plain: bool,
+    is_copy: bool,
+    text: Option<String>,
+    file: Option<String>,
+}
+
+impl Asked {
+    /// What no word asks for.
+    fn nothing() -> Asked
+        ensures { asked_view result ≡ nothing_asked }
+    {
+        Asked {
+            is_plain: false,
+            is_copy: false,
+            text: None,
+            file: None,
+        }
+    }
+
+    /// Takes a word, and the next one if it is the text of a filter.
+    fn take(&mut self, word: String, args: &mut env::Args) -> Result<(), RequestError>
+        ensures ok { OnOk result (AskSame (asked_view self.old) (string_bytes word ∷ words_left args.old)
+            (asked_view self.new) (words_left args.new)) }
+        ensures err { OnErr result (AskNothing (asked_view self.old) (string_bytes word ∷ words_left args.old)) }
+        ensures usage { IfErr result (λ e. e ≡ RequestError.Usage) }
+        ensures fewer { length (words_left args.new) ≤ length (words_left args.old) }
+    {
+        match word_of(word.as_str()) {
+            Word::Name if args.next().is_none() => self.file = Some(word),
+            Word::Plain if !self.is_plain => self.is_plain = true,
+            Word::Write if !self.is_copy => self.is_copy = true,
+            Word::Select if self.text.is_none() => match args.next() {
+                Some(text) => self.text = Some(text),
+                None => return Err(RequestError::Usage),
+            },
+            _ => return Err(RequestError::Usage),
+        }
+        Ok(())
+    }
+
+    /// What all words together ask for.
+    fn request(self) -> Result<Request, RequestError>
+        ensures ok { IfOk result (λ request. IsRequestOf (asked_view self) (request_view request)) }
+        ensures err { IfErr result (RefusesAsked (asked_view self)) }
+    {
+        if self.is_plain && self.is_copy {
+            return Err(RequestError::Usage);
+        }
+        match filter_of(&self.text) {
+            Ok(filter) if self.is_copy => Ok(Request::Copy(filter, self.file)),
+            Ok(filter) => Ok(Request::Capture(
+                Lines {
+                    is_plain: self.is_plain,
+                    filter,
+                },
+                self.file,
+            )),
+            Err(error) if self.is_copy => Err(RequestError::CopyFilter(error)),
+            Err(error) => Err(RequestError::Filter(error)),
+        }
     }
 }
 
-/// What two words ask for.
-fn of_two(first: &str, second: String) -> Result<Request, RequestError>
-    ensures ok { IfOk result (λ request. NamesRequest (first.now ∷ string_bytes second ∷ []) (request_view request)) }
-    ensures err { IfErr result (RefusesWords (first.now ∷ string_bytes second ∷ [])) }
+/// The filter of a text, if there is one.
+fn filter_of(text: &Option<String>) -> Result<Option<Filter>, FilterError>
+    ensures ok { IfOk result (IsSelection (option_map string_bytes text.now)) }
+    ensures err { IfErr result (RefusesSelection (option_map string_bytes text.now)) }
 {
-    match first {
-        "--plain" if is_name(second.as_str()) => Ok(capture(true, None, Some(second))),
-        "--select" => selected(false, second.as_str(), None),
-        _ => Err(RequestError::Usage),
-    }
-}
-
-/// What three words ask for.
-fn of_three(first: &str, second: &str, third: String) -> Result<Request, RequestError>
-    ensures ok { IfOk result (λ request. NamesRequest (first.now ∷ second.now ∷ string_bytes third ∷ []) (request_view request)) }
-    ensures err { IfErr result (RefusesWords (first.now ∷ second.now ∷ string_bytes third ∷ [])) }
-{
-    match first {
-        "--select" if is_name(third.as_str()) => selected(false, second, Some(third)),
-        "--plain" if is_select(second) => selected(true, third.as_str(), None),
-        _ => Err(RequestError::Usage),
-    }
-}
-
-/// What four words ask for.
-fn of_four(first: &str, second: &str, third: &str, fourth: String) -> Result<Request, RequestError>
-    ensures ok { IfOk result (λ request. NamesRequest (first.now ∷ second.now ∷ third.now ∷ string_bytes fourth ∷ [])
-        (request_view request)) }
-    ensures err { IfErr result (RefusesWords (first.now ∷ second.now ∷ third.now ∷ string_bytes fourth ∷ [])) }
-{
-    match first {
-        "--plain" if is_select(second) && is_name(fourth.as_str()) => selected(
-            true,
-            third,
-            Some(fourth),
-        ),
-        _ => Err(RequestError::Usage),
-    }
-}
-
-/// Lines of the packets that a text selects.
-fn selected(is_plain: bool, text: &str, file: Option<String>) -> Result<Request, RequestError>
-    ensures ok { IfOk result (AsksFor is_plain text.now (option_map string_bytes file)) }
-    ensures err { IfErr result (RefusesFilter text.now) }
-{
+    let Some(text) = text else {
+        return Ok(None);
+    };
     match Filter::parse(text.as_bytes()) {
-        Ok(filter) => Ok(capture(is_plain, Some(filter), file)),
-        Err(error) => Err(RequestError::Filter(error)),
+        Ok(filter) => Ok(Some(filter)),
+        Err(error) => Err(error),
     }
 }
 
-/// Tests that a word announces the text of a filter.
-fn is_select(word: &str) -> bool
-    ensures { IsTrue result ↔ (word.now ≡ codes "--select") }
+/// What a word is.
+#[derive(Clone, Copy)]
+enum Word {
+    /// The name of a file.
+    Name,
+    /// `--plain`.
+    Plain,
+    /// `--write`.
+    Write,
+    /// `--select`.
+    Select,
+    /// `--help`.
+    Help,
+    /// `--version`.
+    Version,
+    /// None of these.
+    Unknown,
+}
+
+/// What a word is.
+fn word_of(word: &str) -> Word
+    ensures { IsWord word.now result }
 {
-    word == "--select"
+    if is_name(word) {
+        return Word::Name;
+    }
+    match word {
+        "--plain" => Word::Plain,
+        "--write" => Word::Write,
+        "--select" => Word::Select,
+        "--help" => Word::Help,
+        "--version" => Word::Version,
+        _ => Word::Unknown,
+    }
 }
 
 /// Tests that a word names a file.

@@ -1,7 +1,7 @@
 //! How the program ends: what a run found or why it stopped, the exit status of each, and the last line.
 ghost use Rattle.std.specs.Prelude.{◌≡◌};
 ghost use Rattle.std.specs.Option.{option_map};
-ghost use Rattle.ether_capture.specs.Outcome.{exit_status, hint_text, magic_hint_text, last_line_text, last_text, status_of_program};
+ghost use Rattle.ether_capture.specs.Outcome.{exit_status, hint_text, is_of_copy, magic_hint_text, last_line_text, last_text, last_text_of_run, status_of_program};
 
 use ether_filter::FilterError;
 use ether_pcap::{CaptureError, CaptureFault, FileHeaderError};
@@ -107,14 +107,20 @@ pub enum Outcome {
     Usage,
     /// The text of the filter is no expression.
     NoFilter(FilterError),
+    /// A copy was begun.
+    Copy(Result<Verdict, RunFault>),
+    /// The file of this name, of which there was to be a copy, can't be opened.
+    CopyNotOpened(String),
+    /// The text of the filter of a copy is no expression.
+    CopyNoFilter(FilterError),
 }
 
 /// The line that is printed if the arguments are wrong, without its LF.
-pub const USAGE: &str = "usage: ether_capture [--plain] [--select EXPR] [FILE]";
+pub const USAGE: &str = "usage: ether_capture [--plain | --write] [--select EXPR] [FILE]";
 
 /// What `--help` prints, without its last LF.
 pub const HELP: &str =
-    "usage: ether_capture [--plain] [--select EXPR] [FILE]\n\nPrints the link-layer headers of each packet of a capture, pcap or pcapng: FILE, or standard input.\n\n  --plain        leave out the lines of packets and the totals\n  --select EXPR  only packets that match EXPR, in words of pcap-filter(7), as 'vlan 5 or arp'\n  --help         print this text\n  --version      print the version";
+    "usage: ether_capture [--plain | --write] [--select EXPR] [FILE]\n\nPrints the link-layer headers of each packet of a capture, pcap or pcapng: FILE, or standard input.\n\n  --plain        leave out the lines of packets and the totals\n  --select EXPR  only packets that match EXPR, in words of pcap-filter(7), as 'vlan 5 or arp'\n  --write        write the capture itself, without the other packets; faults go to standard error\n  --help         print this text\n  --version      print the version";
 
 /// What `--version` prints, without its LF.
 pub const VERSION: &str = "ether_capture 1.0";
@@ -167,29 +173,50 @@ pub fn last_line(outcome: &Outcome) -> Option<LastLine<'_>>
     ensures { option_map last_line_text result ≡ last_text outcome.now }
 {
     match outcome {
-        Outcome::Run(Err(RunFault::Capture(fault))) => Some(LastLine::Fault(fault)),
-        Outcome::Run(Err(RunFault::Memory)) => Some(LastLine::Memory),
-        Outcome::Run(_) => None,
-        Outcome::NotOpened(name) => Some(LastLine::NotOpened(name.as_str())),
+        Outcome::Run(outcome) | Outcome::Copy(outcome) => last_line_of_run(outcome),
+        Outcome::NotOpened(name) | Outcome::CopyNotOpened(name) => Some(LastLine::NotOpened(
+            name.as_str(),
+        )),
         Outcome::Help => Some(LastLine::Help),
         Outcome::Version => Some(LastLine::Version),
         Outcome::Usage => Some(LastLine::Usage),
-        Outcome::NoFilter(error) => Some(LastLine::NoFilter(error)),
+        Outcome::NoFilter(error) | Outcome::CopyNoFilter(error) => Some(LastLine::NoFilter(error)),
     }
 }
 
+/// The line that is printed after a run, if there is one.
+fn last_line_of_run(outcome: &Result<Verdict, RunFault>) -> Option<LastLine<'_>>
+    ensures { option_map last_line_text result ≡ last_text_of_run outcome.now }
+{
+    match outcome {
+        Err(RunFault::Capture(fault)) => Some(LastLine::Fault(fault)),
+        Err(RunFault::Memory) => Some(LastLine::Memory),
+        _ => None,
+    }
+}
+
+/// Tests that a copy was asked for. Then the last line is not printed where the copy is.
+pub fn is_of_copy(outcome: &Outcome) -> bool
+    ensures { result ≡ is_of_copy outcome.now }
+{
+    matches!(
+        outcome,
+        Outcome::Copy(_) | Outcome::CopyNotOpened(_) | Outcome::CopyNoFilter(_)
+    )
+}
+
 /// The exit status of the program, by its outcome and whether the last line was printed. It is that of failed output if
-/// there was a last line and it was not printed.
+/// there was a last line and it was not printed, unless a copy was asked for.
 pub fn program_status(outcome: &Outcome, is_printed: bool) -> u8
     ensures { result ≡ status_of_program outcome.now is_printed }
 {
-    if !is_printed {
+    if !is_printed && !is_of_copy(outcome) {
         return status_of(&Err(RunFault::Output));
     }
     match outcome {
-        Outcome::Run(outcome) => status_of(outcome),
-        Outcome::NotOpened(_) => status_of(&Err(RunFault::Input)),
+        Outcome::Run(outcome) | Outcome::Copy(outcome) => status_of(outcome),
+        Outcome::NotOpened(_) | Outcome::CopyNotOpened(_) => status_of(&Err(RunFault::Input)),
         Outcome::Help | Outcome::Version => 0,
-        Outcome::Usage | Outcome::NoFilter(_) => 2,
+        Outcome::Usage | Outcome::NoFilter(_) | Outcome::CopyNoFilter(_) => 2,
     }
 }

@@ -6,7 +6,7 @@ use Rattle.ether_base.proofs.SubLists.{part-append}
 use Rattle.ether_pcap.specs.Numbers.{Order, number_in, field}
 use Rattle.ether_pcap.specs.FileHeader.{Resolution, HasMagic, FileHeaderValue, IsFileHeader, FileRefusal, RefusesFile, fcs_len_of}
 use Rattle.ether_pcap.specs.FileHeader as file
-use Rattle.ether_pcap.specs.Record.{RecordValue, RecordRefusal, BeginsRecord, RefusesRecord}
+use Rattle.ether_pcap.specs.Record.{RecordValue, RecordRefusal, BeginsRecord, RefusesRecord, record_len}
 use Rattle.ether_pcap.specs.Record as record_rows
 use Rattle.ether_pcap.specs.Block.{BlockValue, BlockRefusal, BeginsBlock, RefusesBlock, IsTotalLen}
 use Rattle.ether_pcap.specs.Block as block_rows
@@ -18,11 +18,11 @@ longer : (bytes more : List ℕ) (n : ℕ) → n ≤ length bytes → n ≤ leng
 longer bytes more n le = omega (arith, length-append bytes more, le)
 
 -- the number at a place
-same : (order : Order) (bytes more : List ℕ) (a b : ℕ) → a ≤ b → b ≤ length bytes
+pub same : (order : Order) (bytes more : List ℕ) (a b : ℕ) → a ≤ b → b ≤ length bytes
     → field order (bytes ++ more) a b ≡ field order bytes a b
 same order bytes more a b le within = ap (number_in order) (part-append bytes more a b le within)
 
-same_type : (bytes more : List ℕ) → 4 ≤ length bytes
+pub same_type : (bytes more : List ℕ) → 4 ≤ length bytes
     → number (slice_range (bytes ++ more) 0 4) ≡ number (slice_range bytes 0 4)
 same_type bytes more le = ap number (part-append bytes more 0 4 (omega arith) le)
 
@@ -218,3 +218,68 @@ refusal_local bytes more x r (block_refused order interfaces s other refused) e 
 refusal_local bytes more x r (body_refused order interfaces b s other begins refused) e =
     body_refused order interfaces b s (no_type bytes more (omega (arith, begins.whole)) other)
     (block_local order bytes more b begins) refused
+
+-- ---- nor do they need what follows
+
+file_header_alone : (bytes more : List ℕ) (h : FileHeaderValue) → 24 ≤ length bytes → IsFileHeader (bytes ++ more) h
+    → IsFileHeader bytes h
+file_header_alone bytes more h le is = record {
+  len = le;
+  magic = sym (same h.order bytes more 0 4 (omega arith) (omega arith)) ∙ is.magic;
+  major = sym (same h.order bytes more 4 6 (omega arith) (omega arith)) ∙ is.major;
+  minor = sym (same h.order bytes more 6 8 (omega arith) (omega arith)) ∙ is.minor;
+  snap_len = sym (same h.order bytes more 16 20 (omega arith) (omega arith)) ∙ is.snap_len;
+  link_type = ap (λ (n : ℕ). n % 2 ^ 16) (sym (same h.order bytes more 20 24 (omega arith) le)) ∙ is.link_type;
+  fcs_len = ap fcs_len_of (sym (same h.order bytes more 20 24 (omega arith) le)) ∙ is.fcs_len;
+}
+
+record_alone : (order : Order) (bytes more : List ℕ) (r : RecordValue) → record_len r ≤ length bytes
+    → BeginsRecord order (bytes ++ more) r → BeginsRecord order bytes r
+record_alone order bytes more r whole is = record {
+  seconds = sym (same order bytes more 0 4 (omega arith) (omega arith)) ∙ is.seconds;
+  fraction = sym (same order bytes more 4 8 (omega arith) (omega arith)) ∙ is.fraction;
+  captured_len = sym (same order bytes more 8 12 (omega arith) (omega arith)) ∙ is.captured_len;
+  original_len = sym (same order bytes more 12 16 (omega arith) (omega arith)) ∙ is.original_len;
+  packet = sym (part-append bytes more 16 (16 + length r.packet) (omega arith) whole) ∙ is.packet;
+  whole = whole;
+  room = is.room;
+}
+
+block_alone : (order : Order) (bytes more : List ℕ) (b : BlockValue) → 12 + length b.body ≤ length bytes
+    → BeginsBlock order (bytes ++ more) b → BeginsBlock order bytes b
+block_alone order bytes more b whole is = record {
+  block_type = sym (same order bytes more 0 4 (omega arith) (omega arith)) ∙ is.block_type;
+  total_len = sym (same order bytes more 4 8 (omega arith) (omega arith)) ∙ is.total_len;
+  sound = is.sound;
+  whole = whole;
+  body = sym (part-append bytes more 8 (8 + length b.body) (omega arith) (omega arith)) ∙ is.body;
+  trailer = sym (same order bytes more (8 + length b.body) (12 + length b.body) (omega arith) whole) ∙ is.trailer;
+}
+
+section_alone : (bytes more : List ℕ) (order : Order) (b : BlockValue) → 12 + length b.body ≤ length bytes
+    → IsSection (bytes ++ more) order b → IsSection bytes order b
+section_alone bytes more order b whole is =
+    let major = same order bytes more 12 14 (omega arith) (omega (arith, whole, is.len)) in
+    let minor = same order bytes more 14 16 (omega arith) (omega (arith, whole, is.len)) in
+    record {
+      section = sym (same_type bytes more (omega (arith, whole))) ∙ is.section;
+      magic = sym (same order bytes more 8 12 (omega arith) (omega (arith, whole))) ∙ is.magic;
+      block = block_alone order bytes more b whole is.block;
+      len = is.len;
+      version =
+          subst (λ (n : ℕ). IsVersion (field order bytes 12 14) n) minor
+          (subst (λ (n : ℕ). IsVersion n (field order (bytes ++ more) 14 16)) major is.version);
+    }
+
+pub unit_alone : (bytes more : List ℕ) (x y : Expectation) (len : ℕ) (p : Option PacketValue) → len ≤ length bytes
+    → Begins (bytes ++ more) x len p y → Begins bytes x len p y
+unit_alone bytes more x y len p le (file_header h other is) =
+    file_header h (λ has. other (has_type bytes more (omega (arith, le)) has)) (file_header_alone bytes more h le is)
+unit_alone bytes more x y len p le (file_record h r is) = file_record h r (record_alone h.order bytes more r le is)
+unit_alone bytes more x y len p le (first_section order b is) =
+    first_section order b (section_alone bytes more order b le is)
+unit_alone bytes more x y len p le (section order next interfaces b is) =
+    section order next interfaces b (section_alone bytes more next b le is)
+unit_alone bytes more x y len p le (block order interfaces after packet b other begins is) =
+    block order interfaces after packet b (λ has. other (has_type bytes more (omega (arith, le)) has))
+    (block_alone order bytes more b le begins) is

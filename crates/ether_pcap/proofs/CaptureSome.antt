@@ -422,7 +422,8 @@ some_unit (Blocks order interfaces) bytes =
 
 -- ---- files
 
-at_end : (x : Expectation) (bytes : List ℕ) → IsEnd x bytes ⊎ (IsEnd x bytes → ⊥)
+-- whether a file has ended
+pub at_end : (x : Expectation) (bytes : List ℕ) → IsEnd x bytes ⊎ (IsEnd x bytes → ⊥)
 at_end Beginning bytes = inr (λ e. e.0 refl)
 at_end (Records h) [] = inl (λ e. absurd cc, refl)
 at_end (Records h) (b ∷ bytes) = inr (λ e. let n = e.1 in absurd cc)

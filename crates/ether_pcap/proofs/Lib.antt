@@ -14,3 +14,4 @@ pub mod CapturesOne
 pub mod PacketsOne
 pub mod CaptureSome
 pub mod CaptureReadingLemmas
+pub mod Copies

@@ -8,7 +8,7 @@ use Rattle.ether_pcap.proofs.CaptureLengths.{unit_within, unit_some}
 use Rattle.ether_pcap.proofs.CapturesOne.{unit_one, unit_apart, unit_refusal_one}
 
 -- no unit at the end
-none_at_end : (x y : Expectation) (bytes : List ℕ) (len : ℕ) (p : Option PacketValue) → IsEnd x bytes
+pub none_at_end : (x y : Expectation) (bytes : List ℕ) (len : ℕ) (p : Option PacketValue) → IsEnd x bytes
     → Begins bytes x len p y → ⊥
 none_at_end x y bytes len p end begins =
     let none : length bytes ≡ 0 = ap length end.1 in

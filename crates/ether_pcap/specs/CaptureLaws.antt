@@ -3,9 +3,10 @@ use Rattle.std.specs.Prelude.{◌≡◌, ◌⊎◌, ℕ, ◌<◌, ◌≤◌, Lis
 use Rattle.ether_base.specs.Bytes.{IsBytes}
 use Rattle.ether_pcap.specs.Capture.{Expectation, PacketValue, CaptureRefusal, Begins, Refuses, required_len, HasPackets}
 
--- a unit does not depend on the bytes after it; nor does a refusal, unless the bytes end within the unit
+-- a unit does not depend on the bytes after it, and does not need them; nor does a refusal, unless the bytes end within the unit
 pub record UnitsAreLocal : Type 0 where
   pub unit : (bytes more : List ℕ) (x y : Expectation) (len : ℕ) (p : Option PacketValue) → Begins bytes x len p y → Begins (bytes ++ more) x len p y
+  pub alone : (bytes more : List ℕ) (x y : Expectation) (len : ℕ) (p : Option PacketValue) → len ≤ length bytes → Begins (bytes ++ more) x len p y → Begins bytes x len p y
   pub refused : (bytes more : List ℕ) (x : Expectation) (r : CaptureRefusal) → Refuses bytes x r → required_len r ≡ None → Refuses (bytes ++ more) x r
 
 -- a unit has a byte and is within the bytes; a length that is required is above theirs

@@ -17,3 +17,4 @@ pub mod CaptureViews
 pub mod CaptureTexts
 pub mod CaptureReading
 pub mod CaptureLaws
+pub mod Copies

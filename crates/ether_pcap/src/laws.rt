@@ -1,6 +1,7 @@
 //! The laws of the format. Each is the contract of a function that does nothing.
 ghost use Rattle.ether_pcap.specs.Laws.{FileHeadersAreOne, RecordsAreOne, ContentsAreOne, BlocksAreOne, BodiesAreOne, SectionsAreOne, OptionsAreOne};
 ghost use Rattle.ether_pcap.specs.Writing.{WrittenFilesAreRead};
+ghost use Rattle.ether_pcap.specs.Copies.{CopiesAreRead, CopiesAreOne};
 ghost use Rattle.ether_pcap.specs.CaptureLaws.{UnitsAreLocal, UnitLengths, UnitsAreOne, PacketsAreOne};
 
 /// Bytes begin with at most one file header, or are refused for one reason.
@@ -38,7 +39,8 @@ pub fn options_are_one()
     ensures { OptionsAreOne }
 {}
 
-/// A unit of a capture file does not depend on the bytes after it. Nor does a refusal, unless the bytes end within the unit.
+/// A unit of a capture file does not depend on the bytes after it, and does not need them. Nor does a refusal, unless the bytes end
+/// within the unit.
 pub fn units_are_local()
     ensures { UnitsAreLocal }
 {}
@@ -62,4 +64,15 @@ pub fn packets_are_one()
 /// A classic file that is written as a header and records has exactly their packets, and nothing else.
 pub fn written_files_are_read()
     ensures { WrittenFilesAreRead }
+{}
+
+/// A copy of a capture file without some of its packets is a file with exactly the packets that are kept, in their order. If nothing is
+/// copied, nothing was read.
+pub fn copies_are_read()
+    ensures { CopiesAreRead }
+{}
+
+/// Any bytes have a copy by a test of packets, and only one.
+pub fn copies_are_one()
+    ensures { CopiesAreOne }
 {}

@@ -1,10 +1,12 @@
-use Rattle.std.proofs.Common.{◌≡◌, ℕ, List, [], ◌∷◌, None, IfErr, map, ap, sym, subst, ◌∙◌}
-use Rattle.std.specs.Prelude.{String, string_bytes}
+use Rattle.std.proofs.Common.{◌≡◌, ℕ, List, [], ◌∷◌, codes, map, sym, ap, subst, ◌∙◌}
+use Rattle.std.specs.Prelude.{string_bytes}
 use Rattle.std.specs.Option.{is_some}
 use Rattle.std.specs.Vec.Iter.{into_iter_items}
 use Rattle.ether_text.specs.Arguments.{words_after}
 use Rattle.ether_text.proofs.ArgumentsLemmas.{words_after-name, words_end}
-use Rattle.ether_capture.specs.Options.{Capture, NamesRequest, request_view, all_lines, no_word, RefusesWords}
+use Rattle.ether_capture.specs.Options.{Help, Version, IsWord, NamesRequest, help, version, asked_view, words_left}
+use Rattle.ether_capture.specs.declared.options.Request.TheVariants as requests
+use Rattle.ether_capture.proofs.OptionsLemmas.{no_word_named, lone_named, options_named, options_wrong}
 use Rattle.ether_capture.proofs.options.request_of_args.Goals as goal
 
 pub returns-in_default-clause-ok : goal.returns-in_default-clause-ok
@@ -15,26 +17,41 @@ returns-in_default-clause-ok c =
     let is =
     words_after-name c.args.args c.next-program.new.self c.next-program.result c.next-program.ensures.cases
     ∙ ap (map string_bytes) none in
-    subst (NamesRequest (words_after (into_iter_items c.args.args))) (sym (ap request_view c.capture.ensures))
-    (subst (λ (words : List (List ℕ)). NamesRequest words (Capture all_lines None)) (sym is) no_word)
+    no_word_named (words_after (into_iter_items c.args.args)) (asked_view c.nothing.result) c.request.result is
+    c.nothing.ensures c.request.ensures.ok
 
-pub returns-clause-err : goal.returns-clause-err
-returns-clause-err c =
-    let none =
-    words_end c.next-4.new.self c.next-5.new.self c.next-5.result c.next-5.ensures.cases
-    (sym c.is_some.ensures ∙ c.if-is_some.false) in
-    let fourth = c.in-Some-next-3.ensures.items ∙ ap (λ (l : List (String _)). c.in-Some-next-3.fourth ∷ l) none in
-    let third = c.in-Some-next-2.ensures.items ∙ ap (λ (l : List (String _)). c.in-Some-next-2.third ∷ l) fourth in
-    let second = c.in-Some-next.ensures.items ∙ ap (λ (l : List (String _)). c.in-Some-next.second ∷ l) third in
-    let first = c.in-Some.ensures.items ∙ ap (λ (l : List (String _)). c.in-Some.first ∷ l) second in
+pub returns-in-Help-clause-ok : goal.returns-in-Help-clause-ok
+returns-in-Help-clause-ok c =
     let is =
     words_after-name c.args.args c.next-program.new.self c.next-program.result c.next-program.ensures.cases
-    ∙ ap (map string_bytes) first in
-    let same : c.as_str-2.result.now ∷ c.as_str-3.result.now ∷ c.as_str-4.result.now
-    ∷ string_bytes c.in-Some-next-3.fourth ∷ []
-    ≡ words_after (into_iter_items c.args.args) =
-    (λ i.
-    c.as_str-2.ensures.value i ∷ c.as_str-3.ensures.value i ∷ c.as_str-4.ensures.value i
-    ∷ string_bytes c.in-Some-next-3.fourth ∷ [])
-    ∙ sym is in
-    subst (λ (words : List (List ℕ)). IfErr c.of_four.result (RefusesWords words)) same c.of_four.ensures.err
+    ∙ ap (map string_bytes) c.in-Some.ensures.items in
+    let word : string_bytes c.in-Some.first ≡ codes "--help" = sym c.as_str.ensures.value ∙ c.in-Help.ensures in
+    lone_named (words_after (into_iter_items c.args.args)) (words_left c.next.new.self) (string_bytes c.in-Some.first)
+    requests.Help c.alone.result is
+    (subst (λ (w : List ℕ). NamesRequest (w ∷ []) Help) (sym word) help) c.alone.ensures.ok c.alone.ensures.last
+
+pub returns-in-Version-clause-ok : goal.returns-in-Version-clause-ok
+returns-in-Version-clause-ok c =
+    let is =
+    words_after-name c.args.args c.next-program.new.self c.next-program.result c.next-program.ensures.cases
+    ∙ ap (map string_bytes) c.in-Some.ensures.items in
+    let word : string_bytes c.in-Some.first ≡ codes "--version" = sym c.as_str.ensures.value ∙ c.in-Version.ensures in
+    lone_named (words_after (into_iter_items c.args.args)) (words_left c.next.new.self) (string_bytes c.in-Some.first)
+    requests.Version c.alone-in-Version.result is
+    (subst (λ (w : List ℕ). NamesRequest (w ∷ []) Version) (sym word) version)
+    c.alone-in-Version.ensures.ok c.alone-in-Version.ensures.last
+
+pub returns : goal.returns
+returns c =
+    let is =
+    words_after-name c.args.args c.next-program.new.self c.next-program.result c.next-program.ensures.cases
+    ∙ ap (map string_bytes) c.in-Some.ensures.items in
+    let words = words_after (into_iter_items c.args.args) in
+    let left = words_left c.next.new.self in
+    let word = string_bytes c.in-Some.first in
+    let kind = subst (λ (w : List ℕ). IsWord w c.word_of.result) c.as_str.ensures.value c.word_of.ensures in
+    record {
+      ok = options_named words left word c.request_of_options.result is c.request_of_options.ensures.ok;
+      err = options_wrong words left word c.word_of.result c.request_of_options.result is kind
+          c.in_default-word_of.not-Help c.in_default-word_of.not-Version c.request_of_options.ensures.err;
+    }

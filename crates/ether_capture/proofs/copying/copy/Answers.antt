@@ -1,0 +1,25 @@
+use Rattle.std.proofs.Common.{rules, ap, ◌∙◌, List, ℕ}
+use Rattle.std.specs.Io.KnownBytes.{append_known}
+use Rattle.ether_text.proofs.KnownBytesLemmas.{append_known_nil}
+use Rattle.ether_text.proofs.RunLemmas.{run_fails}
+use Rattle.ether_capture.specs.Run.{stream_of}
+use Rattle.ether_capture.proofs.CopyingLemmas.{HasCopied-same}
+use Rattle.ether_capture.proofs.copying.copy.Goals as goal
+
+pub returns-clause-run : goal.returns-clause-run
+returns-clause-run g c =
+    let none =
+    ap (λ (l : List ℕ). append_known (g.W.Sink.contents c.new-out.result.writer.now) l)
+    c.new-out.ensures.none_waits
+    ∙ append_known_nil _ ∙ ap g.W.Sink.contents c.new-out.ensures.contents in
+    HasCopied-same c.args.filter.now c.copy_capture.result _ _ _ _ _ _ _ _
+    (ap g.R.Source.remaining c.new-input.ensures.remaining) (search rules) none (search rules)
+    c.copy_capture.ensures.run
+
+pub returns-clause-failed : goal.returns-clause-failed
+returns-clause-failed g c =
+    run_fails stream_of g.R.Source.remaining g.R.Source.can_fail g.W.Sink.can_fail c.new-input.result
+    c.copy_capture.new.input
+    c.new-out.result c.copy_capture.new.out _ _ (ap g.R.Source.remaining c.new-input.ensures.remaining) (search rules)
+    c.new-input.ensures.fresh c.new-input.ensures.reads c.new-out.ensures.fresh c.copy_capture.result
+    c.copy_capture.ensures.failed c.copy_capture.ensures.cause c.copy_capture.ensures.marks
