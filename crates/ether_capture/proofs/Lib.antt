@@ -6,5 +6,3 @@ pub mod RunLemmas
 pub mod CopyLoopLemmas
 pub mod CopyingLemmas
 pub mod OptionsLemmas
-pub mod LinuxSll2LinesLemmas
-pub mod SelectionLemmas

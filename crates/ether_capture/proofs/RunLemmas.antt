@@ -250,7 +250,8 @@ module _ {W : Type 0} (asked : LinesValue) (contents : W → Option (List ℕ)) 
 -- ---- the closing flush
 
 -- all that waited is passed to the writer
-pub HasRun-flushed : {W : Type 0} (asked : LinesValue) (contents : W → Option (List ℕ)) (before after held : Option (List ℕ))
+pub HasRun-flushed : {W : Type 0} (asked : LinesValue) (contents : W → Option (List ℕ))
+    (before after held : Option (List ℕ))
     (from to : OutputBuffer W) (r : Result Verdict RunFault)
     → WritesOut contents from to → HasRun asked before after held (contents_of contents from) r
     → HasRun asked before after held (contents to.writer.now) r
@@ -290,7 +291,8 @@ slice_answers asked can_fail bytes after held holds (Err Output) short h failed 
 slice_answers asked can_fail bytes after held holds (Err Memory) short h failed =
     breaks_slice (EndsInUnit NeedsMemory asked) bytes after held holds h
 
-pub slice_answered : (asked : LinesValue) (can_fail : Type 0) (bytes : List ℕ) (before after held holds : Option (List ℕ))
+pub slice_answered : (asked : LinesValue) (can_fail : Type 0) (bytes : List ℕ)
+    (before after held holds : Option (List ℕ))
     (r : Result Verdict RunFault)
     → before ≡ Some bytes → length bytes < 2 ^ 64 - 1 → HasRun asked before after held holds r
     → IfErr r (λ fault. OnStreamFault fault (⊥ ⊎ IsEndless before after) can_fail)

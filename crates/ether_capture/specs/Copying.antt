@@ -7,7 +7,7 @@ use Rattle.ether_pcap.specs.Copies.{Copies, Selected}
 use Rattle.ether_pcap.specs.declared.capture_fault.CaptureFault.{CaptureFault}
 use Rattle.ether_text.specs.Run.{AnswersAll, StopsIn, BreaksOffAfter}
 use Rattle.ether_text.specs.declared.verdict.Verdict.{Verdict}
-use Rattle.ether_capture.specs.FrameLines.{Selects}
+use Rattle.ether_content.specs.Selecting.{Selects}
 use Rattle.ether_capture.specs.Packets.{counted}
 use Rattle.ether_capture.specs.Run.{NeedsMemory}
 use Rattle.ether_capture.specs.declared.outcome.RunFault.{RunFault}

@@ -2,7 +2,6 @@ pub mod InputBuffer
 pub mod Packets
 pub mod LinuxSll2Lines
 pub mod FrameLines
-pub mod ContentViews
 pub mod Options
 pub mod Run
 pub mod Outcome

@@ -7,8 +7,8 @@ ghost use Rattle.ether_text.specs.OutputBuffer.{Marks};
 ghost use Rattle.ether_capture.specs.CopyLoop.{CopiesUnit, CopiesUnits, IsCopiedUnit, IsCopyStart};
 ghost use Rattle.ether_capture.specs.Run.{IsOutput};
 
-use crate::frame_lines::selects;
 use crate::outcome::RunFault;
+use ether_content::selects;
 use ether_filter::Filter;
 use ether_pcap::{CaptureError, CaptureFault, CaptureReader, CaptureUnit, CapturedPacket};
 use ether_text::{OutputBuffer, Sink};

@@ -1,22 +1,18 @@
 //! Writes the lines of a captured packet.
-ghost use Rattle.std.specs.Prelude.{◌≡◌, ◌↔◌, ◌<◌, ◌≤◌, ◌+◌, ◌/◌, ◌%◌, ◌^◌, ◌++◌, codes, length, Some, IsTrue};
+ghost use Rattle.std.specs.Prelude.{◌≡◌, ◌<◌, ◌≤◌, ◌+◌, ◌/◌, ◌%◌, ◌^◌, ◌++◌, codes, Some};
 ghost use Rattle.std.specs.Option.{option_map};
 ghost use Rattle.ether_pcap.specs.CaptureViews.{captured_packet_view, timestamp_view};
-ghost use Rattle.ether_peel.specs.Walker.Start.{next_of};
+ghost use Rattle.ether_content.specs.Content.{content_of};
+ghost use Rattle.ether_content.specs.ContentViews.{content_view};
 ghost use Rattle.ether_text.specs.OutputBuffer.{Takes, TakesAnswer};
-ghost use Rattle.ether_capture.specs.FrameLines.{is_cut, is_skipped, fcs_len, has_fcs, without_fcs, content_of, is_unknown, nine_digits, time_text, mark, packet_line_if, AnswersPacket, HasLines, HoldsOf, Selects, totals_line_if};
-ghost use Rattle.ether_capture.specs.ContentViews.{content_view};
+ghost use Rattle.ether_capture.specs.FrameLines.{is_skipped, nine_digits, time_text, mark, packet_line_if, AnswersPacket, HasLines, totals_line_if};
 ghost use Rattle.ether_capture.specs.Options.{lines_view};
 
-use crate::linux_sll2_lines::{payload_of, write_linux_sll2};
+use crate::linux_sll2_lines::write_linux_sll2;
 use crate::options::Lines;
-use ether_filter::{Filter, Packet};
-use ether_pcap::{CapturedPacket, LinkType, Timestamp};
-use ether_peel::Start;
+use ether_content::{Content, is_cut, selects};
+use ether_pcap::{CapturedPacket, Timestamp};
 use ether_text::{OutputBuffer, Sink, eight_digits, write_decimal, write_walk_after};
-
-/// The length in bytes of the frame check sequence of Ethernet.
-const FCS_LEN: usize = 4;
 
 /// Writes the line of a packet unless the lines of walks alone are asked for, and those of the walk through its headers; nothing if
 /// the filter leaves it out. Returns whether the walk ends in no fault.
@@ -40,34 +36,6 @@ pub fn write_packet<W: Sink>(
     write_lines(asked.is_plain, number, packet, out)
 }
 
-/// Whether a filter selects a packet.
-#[inline(never)]
-pub fn selects(filter: &Filter, packet: &CapturedPacket<'_>) -> bool
-    ensures { IsTrue result ↔ Selects filter.now (captured_packet_view packet.now) }
-{
-    match walked(packet) {
-        Content::Frame(start, bytes) => holds(filter, start, bytes, packet),
-        Content::LinuxSll2(bytes) => match payload_of(bytes) {
-            Some((start, payload)) => holds(filter, start, payload, packet),
-            None => false,
-        },
-        Content::Unknown => false,
-    }
-}
-
-/// Whether a filter's expression holds of the walk of a packet.
-fn holds(filter: &Filter, start: Start, frame: &[u8], packet: &CapturedPacket<'_>) -> bool
-    ensures { IsTrue result ↔ HoldsOf filter.now (next_of start) frame.now
-        (length packet.now.packet.now) packet.now.original_len }
-{
-    filter.matches(&Packet {
-        start,
-        frame,
-        captured_len: packet.packet.len(),
-        original_len: packet.original_len,
-    })
-}
-
 /// Writes the line of a packet unless `is_plain`, and the lines of the walk through its headers. Returns whether the walk ends in no fault.
 fn write_lines<W: Sink>(
     is_plain: bool,
@@ -78,7 +46,7 @@ fn write_lines<W: Sink>(
     ensures { TakesAnswer W.contents W.can_fail (HasLines is_plain number (captured_packet_view packet.now))
         out.old out.new result }
 {
-    let content = walked(packet);
+    let content = Content::of(packet);
     write_packet_line(is_plain, number, packet, content, out);
     let (header_len, start, bytes) = match content {
         Content::Frame(start, bytes) => (0, start, bytes),
@@ -110,79 +78,11 @@ pub fn write_totals<W: Sink>(
     out.append(b"\n");
 }
 
-/// What is walked of a packet.
-#[derive(Clone, Copy)]
-enum Content<'a> {
-    /// A frame, with what it begins with.
-    Frame(Start, &'a [u8]),
-    /// A packet of Linux cooked capture v2.
-    LinuxSll2(&'a [u8]),
-    /// Nothing: the walk knows no such link type.
-    Unknown,
-}
-
-/// What is walked of a packet, by its link type.
-fn walked<'a>(packet: &CapturedPacket<'a>) -> Content<'a>
-    ensures { content_view result ≡ content_of (captured_packet_view packet.now) }
-{
-    if packet.link_type == LinkType::ETHERNET {
-        if has_fcs(packet) {
-            return Content::Frame(Start::Ethernet2Fcs, packet.packet);
-        }
-        return Content::Frame(Start::Ethernet2, without_fcs(packet));
-    }
-    if packet.link_type == LinkType::LINUX_SLL {
-        return Content::Frame(Start::LinuxSll, without_fcs(packet));
-    }
-    if packet.link_type == LinkType::LINUX_SLL2 {
-        return Content::LinuxSll2(without_fcs(packet));
-    }
-    Content::Unknown
-}
-
 /// Whether the packet has no lines of a walk.
 pub fn is_skipped(packet: &CapturedPacket<'_>) -> bool
     ensures { result ≡ is_skipped (captured_packet_view packet.now) }
 {
-    is_unknown(walked(packet))
-}
-
-/// Whether nothing is walked.
-fn is_unknown(content: Content<'_>) -> bool
-    ensures { result ≡ is_unknown (content_view content.entry) }
-{
-    matches!(content, Content::Unknown)
-}
-
-/// Whether bytes of the packet were not captured.
-fn is_cut(packet: &CapturedPacket<'_>) -> bool
-    ensures { result ≡ is_cut (captured_packet_view packet.now) }
-{
-    packet.packet.len() < packet.original_len as usize
-}
-
-/// The length of the frame check sequence at the end of the packet before it was cut.
-fn fcs_len(packet: &CapturedPacket<'_>) -> usize
-    ensures { result ≡ fcs_len (captured_packet_view packet.now) }
-{
-    usize::from(packet.fcs_len.unwrap_or(0))
-}
-
-/// Whether the whole frame check sequence of Ethernet is there.
-fn has_fcs(packet: &CapturedPacket<'_>) -> bool
-    ensures { result ≡ has_fcs (captured_packet_view packet.now) }
-{
-    !is_cut(packet) && fcs_len(packet) == FCS_LEN
-}
-
-/// The captured bytes without those of the frame check sequence.
-fn without_fcs<'a>(packet: &CapturedPacket<'a>) -> &'a [u8]
-    ensures { result.now ≡ without_fcs (captured_packet_view packet.now) }
-{
-    let captured_len = packet.packet.len();
-    let whole_len = captured_len.max(packet.original_len as usize);
-    let end = whole_len.saturating_sub(fcs_len(packet));
-    &packet.packet[..end.min(captured_len)]
+    Content::of(packet).is_unknown()
 }
 
 /// Writes the line of a packet, unless `is_plain`: its number, its time, its link type, its lengths, and whether it was cut or is skipped.
@@ -208,7 +108,7 @@ fn write_packet_line<W: Sink>(
     out.append(b" original ");
     write_decimal(out, packet.original_len as usize);
     write_mark(is_cut(packet), b" cut", out);
-    write_mark(is_unknown(content), b" skipped", out);
+    write_mark(content.is_unknown(), b" skipped", out);
     out.append(b"\n");
 }
 

@@ -1,7 +1,6 @@
 //! Writes the lines of a packet of Linux cooked capture v2.
-ghost use Rattle.std.specs.Prelude.{◌≡◌, ◌≤◌, ◌++◌, length, codes, None, IfOk, IfErr, IfSome};
-ghost use Rattle.ether_base.specs.Formats.LinuxSllProtocolType.{told_ether_type};
-ghost use Rattle.ether_sll2.specs.LinuxSll2.{linux_sll2_of, AcceptsLinuxSll2, protocol_of_header};
+ghost use Rattle.std.specs.Prelude.{◌≡◌, ◌≤◌, ◌++◌, length, codes, IfOk, IfErr};
+ghost use Rattle.ether_sll2.specs.LinuxSll2.{linux_sll2_of};
 ghost use Rattle.ether_sll2.specs.Views.{refusal_view};
 ghost use Rattle.ether_text.specs.OutputBuffer.{Takes, TakesAnswer};
 ghost use Rattle.ether_capture.specs.LinuxSll2Lines.{AnswersLinuxSll2, BeginsWalk, linux_sll2_fault_text, linux_sll2_text};
@@ -39,20 +38,6 @@ pub fn write_linux_sll2<'a, W: Sink>(
             write_rest(out, LinuxSll2Header::LEN, bytes.len(), kind);
             Err(true)
         }
-    }
-}
-
-/// What the payload begins with, and the payload, if the header is accepted and an ether type announces it.
-pub fn payload_of(bytes: &[u8]) -> Option<(Start, &[u8])>
-    ensures some { IfSome result (λ payload. BeginsWalk bytes.now payload.0 payload.1.now) }
-    ensures none { result ≡ None → AcceptsLinuxSll2 bytes.now → told_ether_type (protocol_of_header bytes.now) ≡ None }
-{
-    let Ok(packet) = LinuxSll2Slice::from_slice(bytes) else {
-        return None;
-    };
-    match packet.start() {
-        Some(start) => Some((start, packet.payload_slice())),
-        None => None,
     }
 }
 

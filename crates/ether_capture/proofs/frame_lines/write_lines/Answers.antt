@@ -9,7 +9,8 @@ use Rattle.ether_text.specs.OutputBuffer.{Takes}
 use Rattle.ether_text.specs.WalkText.{AnswersWalkAfter}
 use Rattle.ether_text.specs.declared.output_buffer.OutputBuffer.{OutputBuffer}
 use Rattle.ether_text.proofs.OutputBufferLemmas.{Takes-then}
-use Rattle.ether_capture.specs.FrameLines.{ContentValue, AnswersContent, packet_line_if}
+use Rattle.ether_content.specs.Content.{ContentValue}
+use Rattle.ether_capture.specs.FrameLines.{AnswersContent, packet_line_if}
 use Rattle.ether_capture.specs.LinuxSll2Lines.{AnswersPayload, linux_sll2_text, read}
 use Rattle.ether_capture.proofs.frame_lines.write_lines.Goals.{in-Frame, in-LinuxSll2+in-Ok}
 use Rattle.ether_capture.proofs.frame_lines.write_lines.Goals as goal
@@ -17,7 +18,7 @@ use Rattle.ether_capture.proofs.frame_lines.write_lines.Goals as goal
 pub returns-in-Err : goal.returns-in-Err
 returns-in-Err g c =
     let walk = c.in-Err.ensures.ended in
-    let is = rw c.in-LinuxSll2.is at c.walked-content.ensures in
+    let is = rw c.in-LinuxSll2.is at c.of-content.ensures in
     record {
       text = packet_line_if c.args.is_plain c.args.number (captured_packet_view c.args.packet.now) ++ walk.text;
       answers = record {
@@ -31,7 +32,7 @@ returns-in-Err g c =
 pub returns-in-Unknown : goal.returns-in-Unknown
 returns-in-Unknown g c =
     let line = packet_line_if c.args.is_plain c.args.number (captured_packet_view c.args.packet.now) in
-    let is = rw c.in-Unknown.is at c.walked-content.ensures in
+    let is = rw c.in-Unknown.is at c.of-content.ensures in
     record {
       text = line;
       answers = record {
@@ -52,7 +53,7 @@ returns g c =
     let new = c.write_walk_after.new.out in
     elim c.match-content.branch [
       | in-Frame w ↦
-          let is = rw w.in-Frame.is at c.walked-content.ensures in
+          let is = rw w.in-Frame.is at c.of-content.ensures in
           let answers =
           subst
           (λ (t : ℕ × Start × Bor (List ℕ)).
@@ -72,7 +73,7 @@ returns g c =
                 walk.taken);
           }
       | in-LinuxSll2+in-Ok w ↦
-          let is = rw w.in-LinuxSll2.is at c.walked-content.ensures in
+          let is = rw w.in-LinuxSll2.is at c.of-content.ensures in
           let bytes = w.in-LinuxSll2.bytes.now in
           let (begins, header) = w.in-Ok.ensures.walked in
           let answers =

@@ -2,7 +2,8 @@ use Rattle.std.proofs.Common.{Bool, ℕ, List, length, ◌++◌, codes, sym, ap,
 use Rattle.std.specs.Fmt.{decimal}
 use Rattle.ether_pcap.specs.CaptureViews.{captured_packet_view}
 use Rattle.ether_text.proofs.OutputBufferLemmas.{Takes-then, Takes-same}
-use Rattle.ether_capture.specs.FrameLines.{is_unknown, packet_line, packet_line_if, mark, time_text}
+use Rattle.ether_content.specs.Content.{is_unknown}
+use Rattle.ether_capture.specs.FrameLines.{packet_line, packet_line_if, mark, time_text}
 use Rattle.ether_capture.proofs.frame_lines.write_packet_line.Goals as goal
 
 pub returns : goal.returns

@@ -11,7 +11,7 @@ use Rattle.ether_text.specs.ViewLines.{rest_view_text}
 use Rattle.ether_text.specs.OutputBuffer.{Takes, TakesAnswer}
 use Rattle.ether_text.proofs.OutputBufferLemmas.{Takes-then, Takes-same}
 use Rattle.ether_capture.specs.LinuxSll2Lines.{AnswersLinuxSll2, AnswersPayload, BeginsWalk, read, refused, linux_sll2_text, linux_sll2_fault_text}
-use Rattle.ether_capture.proofs.LinuxSll2LinesLemmas.{none_of, started}
+use Rattle.ether_content.proofs.ContentLemmas.{none_of, started}
 use Rattle.ether_capture.proofs.linux_sll2_lines.write_linux_sll2.Goals as goal
 
 pub returns-in-Err-clause-ended : goal.returns-in-Err-clause-ended

@@ -29,7 +29,8 @@ loop-buffer-init g c = (
         Reached (lines_view c.args.asked.now) g.W.Sink.contents (contents_of g.W.Sink.contents c.args.out.now) [] l
         c.new-frames.result c.args.out.now)
         (sym c.clear.ensures)
-        (Reached-start (lines_view c.args.asked.now) g.W.Sink.contents c.new-frames.result c.args.out.now c.new-frames.ensures);
+        (Reached-start (lines_view c.args.asked.now) g.W.Sink.contents c.new-frames.result c.args.out.now
+        c.new-frames.ensures);
   },
 )
 

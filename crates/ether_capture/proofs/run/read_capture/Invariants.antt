@@ -15,7 +15,8 @@ invariant-loop-buffer g l =
       read : Consumes (g.R.Source.remaining l.fn.input.inner.now) (g.R.Source.remaining l.input.inner.now) taken;
       on : ReadsOn g.R.Source.remaining l.fn.input l.input;
       marks : Marks g.W.Sink.can_fail l.fn.out l.out;
-      reached : Reached (lines_view l.fn.asked) g.W.Sink.contents (contents_of g.W.Sink.contents l.fn.out) taken (items l.buffer)
+      reached : Reached (lines_view l.fn.asked) g.W.Sink.contents (contents_of g.W.Sink.contents l.fn.out) taken
+          (items l.buffer)
           l.frames l.out;
     }
 

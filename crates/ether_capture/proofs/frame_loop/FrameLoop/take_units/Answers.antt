@@ -36,9 +36,11 @@ loop-unit-preserved g c =
         reached = λ held input begun.
             subst
             (λ (l : List ℕ).
-            Reached (lines_view c.args.asked.now) g.W.Sink.contents held input l c.take_unit.new.self c.take_unit.new.out)
+            Reached (lines_view c.args.asked.now) g.W.Sink.contents held input l c.take_unit.new.self
+            c.take_unit.new.out)
             (sym after)
-            (Reached-unit (lines_view c.args.asked.now) g.W.Sink.contents held input rest c.loop-unit.self c.take_unit.new.self
+            (Reached-unit (lines_view c.args.asked.now) g.W.Sink.contents held input rest c.loop-unit.self
+            c.take_unit.new.self
             c.read.new.self c.loop-unit.out c.take_unit.new.out len _
             within c.in-Ok.ensures.unit c.in_ok-take_unit-in-Ok.ensures.ok (so_far.reached held input begun));
       },
