@@ -42,10 +42,15 @@ ARTEFACTS = {
     "Captures written": {
         "ether_pcap/src/file_header.rt": ["to_bytes"],
         "ether_pcap/src/pcap_record.rt": ["header_to_bytes"],
-        "ether_pcap/src/laws.rt": ["written_files_are_read"],
+        "ether_pcap/src/laws.rt": ["written_files_are_read", "copies_are_read"],
+    },
+    "Captured packets": {
+        "ether_content/src/content.rt": ["of", "is_unknown", "frame", "is_cut"],
+        "ether_content/src/selecting.rt": ["selects"],
     },
     "Captures": {
         "ether_capture/src/run.rt": ["run"],
+        "ether_capture/src/copying.rt": ["copy"],
         "ether_capture/src/program.rt": ["program"],
     },
     "Packets": {
