@@ -25,7 +25,7 @@
  *            length that the target needs; after ETHERPEEL_NO_TEXT only the length 0.
  *   Memory   No call allocates, blocks, or stores anything between calls, so each is thread-safe.
  *            etherpeel_completion and etherpeel_fault_text take some 2.5 KB of stack, those of
- *            capture files 300 KB, the others less than 1 KB.
+ *            capture files 300 KB, those of filters 48 KB, the others less than 1 KB.
  *   Time     Linear in the number of headers, at most len / 4 in a frame;
  *            etherpeel_write_back also copies the frame. Of capture files linear in that of their
  *            units.
@@ -46,7 +46,7 @@
 /* The version of this interface. The first number changes if a struct, a number or a call changes
  * its meaning, the second if some are added. */
 #define ETHERPEEL_VERSION_MAJOR 2
-#define ETHERPEEL_VERSION_MINOR 0
+#define ETHERPEEL_VERSION_MINOR 1
 #define ETHERPEEL_VERSION (ETHERPEEL_VERSION_MAJOR * 0x10000 + ETHERPEEL_VERSION_MINOR * 0x100)
 
 #ifdef __cplusplus
@@ -89,7 +89,10 @@ enum etherpeel_status {
     /* It ends within a header, record or block. */
     ETHERPEEL_SHORT = 12,
     /* A header, record or block can't be read. */
-    ETHERPEEL_BAD_CAPTURE = 13
+    ETHERPEEL_BAD_CAPTURE = 13,
+
+    /* The text of a filter is no expression. */
+    ETHERPEEL_BAD_FILTER = 14
 };
 
 /* What a frame begins with: the parameter `start` of each call. The parameter `ether_type` is read
@@ -175,6 +178,30 @@ enum etherpeel_len_source {
     ETHERPEEL_LEN_MACSEC_SHORT_LENGTH = 2,
     /* The two address lengths of an ARP packet. */
     ETHERPEEL_LEN_ARP_ADDRESSES = 3
+};
+
+/* Why a text is no expression of a filter: mostly by what is expected in place of a word. */
+enum etherpeel_filter_error_kind {
+    /* A primitive, `not` or `(` is expected. */
+    ETHERPEEL_FILTER_OPERAND = 1,
+    /* `and`, `or`, `)` or the end of the text is expected. */
+    ETHERPEEL_FILTER_OPERATOR = 2,
+    /* `vlan` is expected. */
+    ETHERPEEL_FILTER_VLAN = 3,
+    /* `proto`, `src`, `dst`, `host`, `broadcast` or `multicast` is expected. */
+    ETHERPEEL_FILTER_ETHER_WORD = 4,
+    /* An address is expected, in the form `xx:xx:xx:xx:xx:xx`. */
+    ETHERPEEL_FILTER_ADDRESS = 5,
+    /* A number that is not greater than `greatest` is expected. */
+    ETHERPEEL_FILTER_NUMBER = 6,
+    /* `and` and `or` are mixed without parentheses. */
+    ETHERPEEL_FILTER_MIXED = 7,
+    /* There is no `(` for a `)`. */
+    ETHERPEEL_FILTER_UNOPENED = 8,
+    /* The text ends before the `)` of a `(`. */
+    ETHERPEEL_FILTER_UNCLOSED = 9,
+    /* There are more than 192 words. */
+    ETHERPEEL_FILTER_TOO_LONG = 10
 };
 
 /* ---- Structs ----
@@ -311,6 +338,13 @@ typedef struct etherpeel_capture_end {
     size_t needed; /* how many bytes this unit needs at least, of ETHERPEEL_SHORT, else 0 */
 } etherpeel_capture_end;
 
+/* Why a text is no expression of a filter. */
+typedef struct etherpeel_filter_error {
+    size_t offset; /* where the first word that fits nothing begins, or the length of the text */
+    uint32_t kind; /* enum etherpeel_filter_error_kind */
+    uint32_t greatest; /* the greatest number that is expected, of ETHERPEEL_FILTER_NUMBER, else 0 */
+} etherpeel_filter_error;
+
 /* ---- The library ----
  *
  * A program that takes the shared library, or that declares the structs in another language, finds
@@ -330,7 +364,8 @@ enum etherpeel_struct {
     ETHERPEEL_STRUCT_UNIT = 9,
     ETHERPEEL_STRUCT_HEADERS = 10,
     ETHERPEEL_STRUCT_CAPTURED = 11,
-    ETHERPEEL_STRUCT_CAPTURE_END = 12
+    ETHERPEEL_STRUCT_CAPTURE_END = 12,
+    ETHERPEEL_STRUCT_FILTER_ERROR = 13
 };
 
 /* etherpeel_version - the version of the library, as ETHERPEEL_VERSION is that of this header
@@ -365,7 +400,8 @@ static inline int etherpeel_fits(void) {
            etherpeel_sizeof(ETHERPEEL_STRUCT_UNIT) == sizeof(etherpeel_unit) &&
            etherpeel_sizeof(ETHERPEEL_STRUCT_HEADERS) == sizeof(etherpeel_headers) &&
            etherpeel_sizeof(ETHERPEEL_STRUCT_CAPTURED) == sizeof(etherpeel_captured) &&
-           etherpeel_sizeof(ETHERPEEL_STRUCT_CAPTURE_END) == sizeof(etherpeel_capture_end);
+           etherpeel_sizeof(ETHERPEEL_STRUCT_CAPTURE_END) == sizeof(etherpeel_capture_end) &&
+           etherpeel_sizeof(ETHERPEEL_STRUCT_FILTER_ERROR) == sizeof(etherpeel_filter_error);
 }
 
 /* etherpeel_start_of_link_type - the number of enum etherpeel_start for packets of a link type, 0
@@ -613,6 +649,55 @@ uint32_t etherpeel_capture(const uint8_t *file, size_t len, etherpeel_captured *
  */
 uint32_t etherpeel_capture_fault_text(const uint8_t *file, size_t len, char *text, size_t room,
                                       size_t *text_len);
+
+/* ---- Filters ----
+ *
+ * `expression` points to `len` bytes of text, with or without a 0 byte after them; NULL is allowed
+ * if `len` is 0. It is an expression in words of pcap-filter(7): a primitive, or several with
+ * `not`, `and`, `or` and parentheses. The primitives:
+ *
+ *   vlan, vlan N            a VLAN tag; one with the identifier N
+ *   outer vlan N            the first VLAN tag has the identifier N
+ *   inner vlan N            the last of two or more VLAN tags has the identifier N
+ *   macsec                  a MACsec SecTag
+ *   ether proto N           the ether type N is announced; arp, ip, ip6 for 0x0806, 0x0800, 0x86DD
+ *   ether src A, dst A      the address of the source or the destination; ether host A for either
+ *   ether broadcast         the destination is all stations; ether multicast for any group
+ *   refused                 a header is cut short or malformed
+ *   cut                     fewer bytes were captured than were on the wire
+ *   less N, greater N       at most, or at least, N bytes were on the wire
+ */
+
+/* etherpeel_select - the packets that a filter selects
+ *
+ * Sets matches[i] to 1 if the expression holds of packets[i], else to 0, for each of the `count`
+ * packets that etherpeel_capture gave. A packet is walked by its link type: Ethernet, or Linux
+ * cooked capture v1 or v2; of v2 the payload is asked. A packet of another link type is not
+ * selected, and neither is one of v2 whose header is refused or has no ether type. Elements of
+ * `matches` from `count` on stay as they were.
+ * Returns ETHERPEEL_DONE; or ETHERPEEL_BAD_FILTER if the text is no expression, and then sets
+ * *error; or ETHERPEEL_NO_ROOM if `room` is smaller than `count`. Nothing else is written then.
+ * Overlap: neither `matches` nor *error may overlap the packets, their bytes, the text, or one
+ * another. Every number is in host byte order. Thread-safe; takes no memory, and some 48 KB of
+ * stack.
+ */
+uint32_t etherpeel_select(const char *expression, size_t len, const etherpeel_captured *packets,
+                          size_t count, uint8_t *matches, size_t room,
+                          etherpeel_filter_error *error);
+
+/* etherpeel_filter_error_text - why a text is no expression of a filter, in English
+ *
+ * Writes the text, such as "At byte 5: expected a number up to 4095.", to the front of `text`, in
+ * ASCII with no 0 byte at its end. *text_len is its length, fewer than 512 bytes; it is 0 if the
+ * text is an expression.
+ * Returns ETHERPEEL_DONE, or ETHERPEEL_NO_ROOM if `room` is smaller than *text_len; then `text`
+ * stays as it was. ETHERPEEL_NO_TEXT is not ruled out by proof; after it *text_len is 0, and `text`
+ * stays as it was.
+ * Overlap: expression, text and *text_len must not overlap. Every number is in host byte order.
+ * Thread-safe; takes no memory, and some 48 KB of stack.
+ */
+uint32_t etherpeel_filter_error_text(const char *expression, size_t len, char *text, size_t room,
+                                     size_t *text_len);
 
 #ifdef __cplusplus
 }

@@ -68,12 +68,14 @@ static void layout(void) {
           offsetof(etherpeel_headers, min_snap_len) == 808);
     CHECK(offsetof(etherpeel_headers, vlan_ids) == 816 &&
           offsetof(etherpeel_headers, vlan_count) == 822);
+    CHECK(sizeof(etherpeel_filter_error) == 16 && offsetof(etherpeel_filter_error, kind) == 8 &&
+          offsetof(etherpeel_filter_error, greatest) == 12);
 }
 
 /* ---- the library: its version, the sizes of its structs, link types ---- */
 
 static void library(void) {
-    CHECK(ETHERPEEL_VERSION == 0x020000 && etherpeel_version() == 0x020000 && etherpeel_fits());
+    CHECK(ETHERPEEL_VERSION == 0x020100 && etherpeel_version() == 0x020100 && etherpeel_fits());
     CHECK(etherpeel_sizeof(ETHERPEEL_STRUCT_FAULT) == 56 &&
           etherpeel_sizeof(ETHERPEEL_STRUCT_UNIT) == 144);
     CHECK(etherpeel_sizeof(0) == 0 && etherpeel_sizeof(99) == 0 && etherpeel_sizeof(~0u) == 0);
@@ -607,6 +609,66 @@ static void captures_that_end_early(void) {
     CHECK(count == 0 && end.offset == 0 && end.needed == 0);
 }
 
+/* ---- packets that a filter selects ---- */
+
+/* a cooked capture v2 with the VLAN tag of TAGGED, and one of a GRE tunnel */
+static const uint8_t COOKED_V2[] = {0x81, 0x00, 0, 0, 0, 0, 0, 3,    0,    1,    4,    6,   2,
+                                    0,    0,    0, 0, 1, 0, 0, 0xB1, 0x23, 0x08, 0x00, 0x45};
+static const uint8_t COOKED_V2_GRE[20] = {0x08, 0x00, 0, 0, 0, 0, 0, 1, 0x03, 0x0A};
+
+static etherpeel_captured captured_of(const uint8_t *packet, size_t len, uint16_t link_type) {
+    etherpeel_captured p;
+    memset(&p, 0, sizeof p);
+    p.packet = packet, p.packet_len = len, p.link_type = link_type;
+    p.original_len = (uint32_t)len;
+    return p;
+}
+
+/* whether an expression selects just these of five packets */
+static int selects(const char *expression, const char *marks) {
+    const etherpeel_captured p[5] = {
+        captured_of(TAGGED, sizeof TAGGED, 1), captured_of(ARP, sizeof ARP, 1),
+        captured_of(COOKED_V2, sizeof COOKED_V2, 276),
+        captured_of(COOKED_V2_GRE, sizeof COOKED_V2_GRE, 276), captured_of(TAGGED, 4, 105)};
+    etherpeel_filter_error error;
+    uint8_t matches[6];
+    memset(matches, 0xA5, sizeof matches), memset(&error, 0xA5, sizeof error);
+    if (etherpeel_select(expression, strlen(expression), p, 5, matches, 6, &error)) return 0;
+    for (size_t i = 0; i < 5; i++)
+        if (matches[i] != marks[i] - '0') return 0;
+    return matches[5] == 0xA5 && all_are(&error, sizeof error, 0xA5);
+}
+
+static void selecting(void) {
+    static const char expected[] = "At byte 5: expected a number up to 4095.";
+    etherpeel_captured p = captured_of(CHECKED, sizeof CHECKED, 1);
+    etherpeel_filter_error error = {99, 99, 99};
+    uint8_t matches[2] = {9, 9};
+    char text[512];
+    size_t len = 99;
+    CHECK(selects("vlan 291", "10100") && selects("not vlan", "01000") && selects("arp", "01000"));
+    CHECK(selects("vlan 291 and (ip or cut)", "10100") && selects("refused", "00000"));
+    CHECK(selects("not refused", "11100") && selects("greater 20", "01100"));
+    CHECK(etherpeel_select("vlan 4096", 9, &p, 1, matches, 2, &error) == ETHERPEEL_BAD_FILTER);
+    CHECK(error.offset == 5 && error.kind == ETHERPEEL_FILTER_NUMBER && error.greatest == 4095);
+    CHECK(etherpeel_select("vlan and", 8, &p, 1, matches, 2, &error) == ETHERPEEL_BAD_FILTER);
+    CHECK(error.offset == 8 && error.kind == ETHERPEEL_FILTER_OPERAND && error.greatest == 0);
+    CHECK(etherpeel_select("vlan", 4, &p, 1, matches, 0, &error) == ETHERPEEL_NO_ROOM);
+    CHECK(etherpeel_select(NULL, 0, NULL, 0, NULL, 0, &error) == ETHERPEEL_BAD_FILTER);
+    CHECK(matches[0] == 9 && matches[1] == 9 && error.offset == 0);
+    /* a frame check sequence is no part of a frame that begins with an Ethernet II header alone */
+    CHECK(etherpeel_select("refused", 7, &p, 1, matches, 1, &error) == ETHERPEEL_DONE);
+    CHECK(matches[0] == 0 && matches[1] == 9);
+    p.packet_len = p.original_len = 17, p.has_fcs_len = 1, p.fcs_len = 4;
+    CHECK(etherpeel_select("refused", 7, &p, 1, matches, 1, &error) == ETHERPEEL_DONE);
+    CHECK(matches[0] == 1);
+    CHECK(etherpeel_filter_error_text("vlan 4096", 9, text, sizeof text, &len) == ETHERPEEL_DONE);
+    CHECK(len == strlen(expected) && memcmp(text, expected, len) == 0);
+    CHECK(etherpeel_filter_error_text("vlan 4096", 9, text, 5, &len) == ETHERPEEL_NO_ROOM);
+    CHECK(len == strlen(expected) && memcmp(text, expected, len) == 0);
+    CHECK(etherpeel_filter_error_text("vlan", 4, NULL, 0, &len) == ETHERPEEL_DONE && len == 0);
+}
+
 /* ---- VLAN tags changed in place ---- */
 
 /* Ethernet II and the first byte of an IPv4 packet, after four bytes that are free */
@@ -882,6 +944,7 @@ int main(void) {
     packets();
     captures();
     captures_that_end_early();
+    selecting();
     popping();
     pushing();
     setting();

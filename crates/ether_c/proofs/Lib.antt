@@ -1,3 +1,4 @@
 pub mod Missing
 pub mod UnitsTold
 pub mod CapturedTold
+pub mod Marks

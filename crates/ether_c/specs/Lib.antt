@@ -9,3 +9,5 @@ pub mod Views
 pub mod Tags
 pub mod Packet
 pub mod Captured
+pub mod Selection
+pub mod Filters
