@@ -12,7 +12,7 @@
  *   Targets  `units`, `packets`, `target`, `fill` and `text` point to as many elements as `room`
  *            says. NULL is allowed if `room` is 0. A pointer to one struct or number must not be
  *            NULL. The memory must be aligned for its type. What is only written to need not be
- *            initialized, but for `packets`.
+ *            initialized, but for `packets` and an etherpeel_frame.
  *   Overlap  What a call may write to must not overlap the frame, nor anything else that the call
  *            may write to.
  *   Keeping  No call keeps a pointer after it returns.
@@ -332,6 +332,16 @@ typedef struct etherpeel_captured {
     uint8_t fcs_len;       /* that length in bytes, of the packet before it was cut; else 0 */
 } etherpeel_captured;
 
+/* What is walked of a packet of a capture: its bytes, and what to pass with them to the calls for
+ * frames. */
+typedef struct etherpeel_frame {
+    const uint8_t *bytes; /* in the packet */
+    size_t len;
+    size_t offset;       /* where it begins, in bytes from the start of the packet */
+    uint32_t start;      /* enum etherpeel_start */
+    uint16_t ether_type; /* that announces it, of ETHERPEEL_START_ETHER_TYPE, else 0 */
+} etherpeel_frame;
+
 /* Where the packets of a capture file end. */
 typedef struct etherpeel_capture_end {
     size_t offset; /* the length of the file, or where the unit starts that can't be read */
@@ -365,7 +375,8 @@ enum etherpeel_struct {
     ETHERPEEL_STRUCT_HEADERS = 10,
     ETHERPEEL_STRUCT_CAPTURED = 11,
     ETHERPEEL_STRUCT_CAPTURE_END = 12,
-    ETHERPEEL_STRUCT_FILTER_ERROR = 13
+    ETHERPEEL_STRUCT_FILTER_ERROR = 13,
+    ETHERPEEL_STRUCT_FRAME = 14
 };
 
 /* etherpeel_version - the version of the library, as ETHERPEEL_VERSION is that of this header
@@ -401,7 +412,8 @@ static inline int etherpeel_fits(void) {
            etherpeel_sizeof(ETHERPEEL_STRUCT_HEADERS) == sizeof(etherpeel_headers) &&
            etherpeel_sizeof(ETHERPEEL_STRUCT_CAPTURED) == sizeof(etherpeel_captured) &&
            etherpeel_sizeof(ETHERPEEL_STRUCT_CAPTURE_END) == sizeof(etherpeel_capture_end) &&
-           etherpeel_sizeof(ETHERPEEL_STRUCT_FILTER_ERROR) == sizeof(etherpeel_filter_error);
+           etherpeel_sizeof(ETHERPEEL_STRUCT_FILTER_ERROR) == sizeof(etherpeel_filter_error) &&
+           etherpeel_sizeof(ETHERPEEL_STRUCT_FRAME) == sizeof(etherpeel_frame);
 }
 
 /* etherpeel_start_of_link_type - the number of enum etherpeel_start for packets of a link type, 0
@@ -649,6 +661,20 @@ uint32_t etherpeel_capture(const uint8_t *file, size_t len, etherpeel_captured *
  */
 uint32_t etherpeel_capture_fault_text(const uint8_t *file, size_t len, char *text, size_t room,
                                       size_t *text_len);
+
+/* etherpeel_captured_frame - what is walked of a packet of a capture
+ *
+ * Sets *frame by the link type of a packet that etherpeel_capture gave. Of Ethernet that is the
+ * packet: with its frame check sequence if the file says that it has one of four bytes and it was
+ * not cut, else without those bytes. Of Linux cooked capture v1 it is the packet without a frame
+ * check sequence. Of v2 it is the payload, after a header of 20 bytes, if the header can be read
+ * and an ether type announces the payload.
+ * Returns ETHERPEEL_DONE; or ETHERPEEL_UNKNOWN_START if nothing of the packet is walked, and then
+ * *frame stays as it was. It must be initialized, and may be all 0.
+ * Overlap: *frame must not overlap the packet or its bytes, which it points into. Every number is in
+ * host byte order. Thread-safe; takes no memory.
+ */
+uint32_t etherpeel_captured_frame(const etherpeel_captured *packet, etherpeel_frame *frame);
 
 /* ---- Filters ----
  *

@@ -70,6 +70,9 @@ static void layout(void) {
           offsetof(etherpeel_headers, vlan_count) == 822);
     CHECK(sizeof(etherpeel_filter_error) == 16 && offsetof(etherpeel_filter_error, kind) == 8 &&
           offsetof(etherpeel_filter_error, greatest) == 12);
+    CHECK(sizeof(etherpeel_frame) == 32 && offsetof(etherpeel_frame, len) == 8 &&
+          offsetof(etherpeel_frame, offset) == 16 && offsetof(etherpeel_frame, start) == 24 &&
+          offsetof(etherpeel_frame, ether_type) == 28);
 }
 
 /* ---- the library: its version, the sizes of its structs, link types ---- */
@@ -624,6 +627,43 @@ static etherpeel_captured captured_of(const uint8_t *packet, size_t len, uint16_
     return p;
 }
 
+/* whether this is walked of a packet */
+static int is_frame(etherpeel_captured p, size_t offset, size_t len, uint32_t start,
+                    uint16_t ether_type) {
+    etherpeel_frame f;
+    memset(&f, 0, sizeof f);
+    return etherpeel_captured_frame(&p, &f) == ETHERPEEL_DONE && f.bytes == p.packet + offset &&
+           f.len == len && f.offset == offset && f.start == start && f.ether_type == ether_type;
+}
+
+static void captured_frames(void) {
+    etherpeel_captured p = captured_of(CHECKED, sizeof CHECKED, 1);
+    etherpeel_frame f;
+    memset(&f, 0, sizeof f);
+    f.start = 99;
+    CHECK(is_frame(p, 0, sizeof CHECKED, ETHERPEEL_START_ETHERNET2, 0));
+    p.fcs_len = 4;
+    CHECK(is_frame(p, 0, sizeof CHECKED, ETHERPEEL_START_ETHERNET2, 0));
+    p.has_fcs_len = 1;
+    CHECK(is_frame(p, 0, sizeof CHECKED, ETHERPEEL_START_ETHERNET2_FCS, 0));
+    /* two of its four bytes were cut off */
+    p.original_len += 2;
+    CHECK(is_frame(p, 0, sizeof CHECKED - 2, ETHERPEEL_START_ETHERNET2, 0));
+    p.original_len -= 2, p.fcs_len = 2;
+    CHECK(is_frame(p, 0, sizeof CHECKED - 2, ETHERPEEL_START_ETHERNET2, 0));
+    p.link_type = 113;
+    CHECK(is_frame(p, 0, sizeof CHECKED - 2, ETHERPEEL_START_LINUX_SLL, 0));
+    p = captured_of(COOKED_V2, sizeof COOKED_V2, 276);
+    CHECK(is_frame(p, 20, 5, ETHERPEEL_START_ETHER_TYPE, 0x8100));
+    p.packet_len = 19;
+    CHECK(etherpeel_captured_frame(&p, &f) == ETHERPEEL_UNKNOWN_START);
+    p = captured_of(COOKED_V2_GRE, sizeof COOKED_V2_GRE, 276);
+    CHECK(etherpeel_captured_frame(&p, &f) == ETHERPEEL_UNKNOWN_START);
+    p = captured_of(TAGGED, sizeof TAGGED, 105);
+    CHECK(etherpeel_captured_frame(&p, &f) == ETHERPEEL_UNKNOWN_START);
+    CHECK(f.start == 99 && f.bytes == NULL && f.len == 0 && f.offset == 0 && f.ether_type == 0);
+}
+
 /* whether an expression selects just these of five packets */
 static int selects(const char *expression, const char *marks) {
     const etherpeel_captured p[5] = {
@@ -944,6 +984,7 @@ int main(void) {
     packets();
     captures();
     captures_that_end_early();
+    captured_frames();
     selecting();
     popping();
     pushing();

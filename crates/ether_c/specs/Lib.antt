@@ -11,3 +11,4 @@ pub mod Packet
 pub mod Captured
 pub mod Selection
 pub mod Filters
+pub mod CapturedFrame

@@ -9,6 +9,7 @@
 #![tactic(auto)]
 
 pub mod capture_fault_text;
+pub mod captured_frame;
 pub mod capturing;
 pub mod completing;
 mod ether_captured;
@@ -16,6 +17,7 @@ mod ether_fault;
 mod ether_fed;
 mod ether_filter_error;
 mod ether_found;
+mod ether_frame;
 mod ether_headers;
 mod ether_unit;
 pub mod fault_text;
@@ -41,5 +43,6 @@ pub use ether_fault::EtherFault;
 pub use ether_fed::EtherFed;
 pub use ether_filter_error::EtherFilterError;
 pub use ether_found::EtherFound;
+pub use ether_frame::EtherFrame;
 pub use ether_headers::EtherHeaders;
 pub use ether_unit::{EtherArp, EtherEthernet2, EtherLinuxSll, EtherMacsec, EtherUnit, EtherVlan};

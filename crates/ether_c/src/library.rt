@@ -4,7 +4,8 @@ ghost use Rattle.ether_c.specs.Library.{version_number, struct_size};
 
 use crate::{
     EtherArp, EtherCaptureEnd, EtherCaptured, EtherEthernet2, EtherFault, EtherFed,
-    EtherFilterError, EtherFound, EtherHeaders, EtherLinuxSll, EtherMacsec, EtherUnit, EtherVlan,
+    EtherFilterError, EtherFound, EtherFrame, EtherHeaders, EtherLinuxSll, EtherMacsec, EtherUnit,
+    EtherVlan,
 };
 
 /// The version of the library: 0x10000 times the first number, 0x100 times the second, and the third.
@@ -34,6 +35,7 @@ pub extern "C" fn etherpeel_sizeof(number: u32) -> usize
         11 => size_of::<EtherCaptured<'_>>(),
         12 => size_of::<EtherCaptureEnd>(),
         13 => size_of::<EtherFilterError>(),
+        14 => size_of::<EtherFrame<'_>>(),
         _ => 0,
     }
 }
