@@ -9,15 +9,15 @@
  *   Frame    `bytes` and `file` point to `len` bytes, which are read and never written; `frame` and
  *            `buffer` to `len` bytes, which the calls that change VLAN tags write to. NULL is
  *            allowed if `len` is 0.
- *   Targets  `units`, `packets`, `target`, `fill` and `text` point to as many elements as `room`
- *            says. NULL is allowed if `room` is 0. A pointer to one struct or number must not be
+ *   Targets  `units`, `fields`, `packets`, `matches`, `target`, `fill` and `text` point to as many
+ *            elements as `room` says. NULL is allowed if `room` is 0. A pointer to one struct or number must not be
  *            NULL. The memory must be aligned for its type. What is only written to need not be
  *            initialized, but for `packets` and an etherpeel_frame.
  *   Overlap  What a call may write to must not overlap the frame, nor anything else that the call
  *            may write to.
  *   Keeping  No call keeps a pointer after it returns.
  *   Units    Lengths count elements: bytes of frames, targets and texts, structs of `units`.
- *            Offsets count bytes from the start of the frame.
+ *            Offsets count bytes from the start of the frame, but for those of fields, in bits.
  *   Order    Numbers are in the byte order of the machine (host byte order), those that are passed
  *            and those of structs; addresses are bytes in the order of the frame.
  *   Result   ETHERPEEL_DONE, or why the call did nothing, but for etherpeel_capture. After
@@ -204,6 +204,59 @@ enum etherpeel_filter_error_kind {
     ETHERPEEL_FILTER_TOO_LONG = 10
 };
 
+/* The name of a field, in the words of the standard of its header. */
+enum etherpeel_field_name {
+    /* Ethernet II (IEEE 802.3, 3.2). */
+    ETHERPEEL_FIELD_ETHERNET2_DESTINATION = 1,
+    ETHERPEEL_FIELD_ETHERNET2_SOURCE = 2,
+    ETHERPEEL_FIELD_ETHERNET2_ETHER_TYPE = 3,
+
+    /* Linux cooked capture v1 (LINKTYPE_LINUX_SLL). */
+    ETHERPEEL_FIELD_LINUX_SLL_PACKET_TYPE = 4,
+    ETHERPEEL_FIELD_LINUX_SLL_HARDWARE_TYPE = 5,
+    ETHERPEEL_FIELD_LINUX_SLL_ADDRESS_LEN = 6,
+    ETHERPEEL_FIELD_LINUX_SLL_ADDRESS = 7,
+    ETHERPEEL_FIELD_LINUX_SLL_PROTOCOL = 8,
+
+    /* A VLAN tag (IEEE 802.1Q, 9.6). */
+    ETHERPEEL_FIELD_VLAN_PCP = 9,
+    ETHERPEEL_FIELD_VLAN_DEI = 10,
+    ETHERPEEL_FIELD_VLAN_VID = 11,
+    /* The ether type after the tag. */
+    ETHERPEEL_FIELD_VLAN_ETHER_TYPE = 12,
+
+    /* A SecTag (IEEE 802.1AE, 9.3 to 9.9). */
+    ETHERPEEL_FIELD_MACSEC_V = 13,
+    ETHERPEEL_FIELD_MACSEC_ES = 14,
+    ETHERPEEL_FIELD_MACSEC_SC = 15,
+    ETHERPEEL_FIELD_MACSEC_SCB = 16,
+    ETHERPEEL_FIELD_MACSEC_E = 17,
+    ETHERPEEL_FIELD_MACSEC_C = 18,
+    ETHERPEEL_FIELD_MACSEC_AN = 19,
+    /* The two bits before SL. */
+    ETHERPEEL_FIELD_MACSEC_RESERVED = 20,
+    ETHERPEEL_FIELD_MACSEC_SL = 21,
+    ETHERPEEL_FIELD_MACSEC_PN = 22,
+    /* If SC is 1. */
+    ETHERPEEL_FIELD_MACSEC_SCI = 23,
+    /* The ether type after the tag, if E and C are 0. */
+    ETHERPEEL_FIELD_MACSEC_ETHER_TYPE = 24,
+
+    /* ARP (RFC 826, "Packet format"). */
+    ETHERPEEL_FIELD_ARP_HARDWARE_TYPE = 25,
+    ETHERPEEL_FIELD_ARP_PROTOCOL_TYPE = 26,
+    ETHERPEEL_FIELD_ARP_HARDWARE_SIZE = 27,
+    ETHERPEEL_FIELD_ARP_PROTOCOL_SIZE = 28,
+    ETHERPEEL_FIELD_ARP_OPERATION = 29,
+    ETHERPEEL_FIELD_ARP_SENDER_HARDWARE = 30,
+    ETHERPEEL_FIELD_ARP_SENDER_PROTOCOL = 31,
+    ETHERPEEL_FIELD_ARP_TARGET_HARDWARE = 32,
+    ETHERPEEL_FIELD_ARP_TARGET_PROTOCOL = 33,
+
+    /* The frame check sequence of Ethernet (IEEE 802.3, 3.2.9). */
+    ETHERPEEL_FIELD_FCS = 34
+};
+
 /* ---- Structs ----
  *
  * Numbers are in the byte order of the machine, whatever their order in the frame; addresses are
@@ -310,6 +363,15 @@ typedef struct etherpeel_unit {
     etherpeel_arp arp;
 } etherpeel_unit;
 
+/* A field of a header: bits, the first of which is the most significant one of its byte. */
+typedef struct etherpeel_field {
+    size_t bit_offset; /* where it begins, in bits from the start of the frame */
+    size_t bit_len;    /* how many bits it has; 0 of an ARP address that has length 0 */
+    uint64_t value;    /* the number that they are; 0 if there are more than 64 */
+    uint32_t unit;     /* the index of its unit */
+    uint32_t name;     /* enum etherpeel_field_name */
+} etherpeel_field;
+
 /* All headers of a packet, and what is asked of it. */
 typedef struct etherpeel_headers {
     etherpeel_unit units[5]; /* the headers, the outermost first: at most a link, three tags, ARP */
@@ -376,7 +438,8 @@ enum etherpeel_struct {
     ETHERPEEL_STRUCT_CAPTURED = 11,
     ETHERPEEL_STRUCT_CAPTURE_END = 12,
     ETHERPEEL_STRUCT_FILTER_ERROR = 13,
-    ETHERPEEL_STRUCT_FRAME = 14
+    ETHERPEEL_STRUCT_FRAME = 14,
+    ETHERPEEL_STRUCT_FIELD = 15
 };
 
 /* etherpeel_version - the version of the library, as ETHERPEEL_VERSION is that of this header
@@ -413,7 +476,8 @@ static inline int etherpeel_fits(void) {
            etherpeel_sizeof(ETHERPEEL_STRUCT_CAPTURED) == sizeof(etherpeel_captured) &&
            etherpeel_sizeof(ETHERPEEL_STRUCT_CAPTURE_END) == sizeof(etherpeel_capture_end) &&
            etherpeel_sizeof(ETHERPEEL_STRUCT_FILTER_ERROR) == sizeof(etherpeel_filter_error) &&
-           etherpeel_sizeof(ETHERPEEL_STRUCT_FRAME) == sizeof(etherpeel_frame);
+           etherpeel_sizeof(ETHERPEEL_STRUCT_FRAME) == sizeof(etherpeel_frame) &&
+           etherpeel_sizeof(ETHERPEEL_STRUCT_FIELD) == sizeof(etherpeel_field);
 }
 
 /* etherpeel_start_of_link_type - the number of enum etherpeel_start for packets of a link type, 0
@@ -457,6 +521,21 @@ uint32_t etherpeel_walk(uint32_t start, uint16_t ether_type, const uint8_t *byte
 uint32_t etherpeel_walk_limited(uint32_t start, uint16_t ether_type, const uint8_t *bytes,
                                 size_t len, size_t limit, etherpeel_unit *units, size_t room,
                                 size_t *count);
+
+/* etherpeel_fields - the fields of the headers of a frame
+ *
+ * Fills fields[0], fields[1] .. with the fields of the units of the frame from the outermost on, as
+ * many as there is room for, and *count with how many there are in all, which may exceed `room`.
+ * The fields of a unit come in their order in the frame; a frame check sequence comes right after
+ * the fields of the Ethernet II header, with its unit. Elements from *count on stay as they were.
+ * If a unit is refused, the fields of those before it are there. The fields of a frame are at most
+ * 2 * len.
+ * Returns ETHERPEEL_DONE or ETHERPEEL_UNKNOWN_START.
+ * Overlap: frame, fields and *count must not overlap. Every number is in host byte order.
+ * Thread-safe; takes no memory.
+ */
+uint32_t etherpeel_fields(uint32_t start, uint16_t ether_type, const uint8_t *bytes, size_t len,
+                          etherpeel_field *fields, size_t room, size_t *count);
 
 /* etherpeel_packet - all headers of a frame, and what is asked of a packet
  *

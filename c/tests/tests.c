@@ -73,6 +73,9 @@ static void layout(void) {
     CHECK(sizeof(etherpeel_frame) == 32 && offsetof(etherpeel_frame, len) == 8 &&
           offsetof(etherpeel_frame, offset) == 16 && offsetof(etherpeel_frame, start) == 24 &&
           offsetof(etherpeel_frame, ether_type) == 28);
+    CHECK(sizeof(etherpeel_field) == 32 && offsetof(etherpeel_field, bit_len) == 8 &&
+          offsetof(etherpeel_field, value) == 16 && offsetof(etherpeel_field, unit) == 24 &&
+          offsetof(etherpeel_field, name) == 28);
 }
 
 /* ---- the library: its version, the sizes of its structs, link types ---- */
@@ -709,6 +712,131 @@ static void selecting(void) {
     CHECK(etherpeel_filter_error_text("vlan", 4, NULL, 0, &len) == ETHERPEEL_DONE && len == 0);
 }
 
+/* ---- fields ---- */
+
+/* whether these are the fields of a frame, in order */
+static int has_fields(uint32_t start, uint16_t ether_type, const uint8_t *bytes, size_t len,
+                      const etherpeel_field *expected, size_t count) {
+    etherpeel_field f[32];
+    size_t found = 99;
+    memset(f, 0xA5, sizeof f);
+    if (etherpeel_fields(start, ether_type, bytes, len, f, 32, &found) || found != count) return 0;
+    for (size_t i = 0; i < count; i++) {
+        const etherpeel_field *e = &expected[i];
+        if (f[i].bit_offset != e->bit_offset || f[i].bit_len != e->bit_len) return 0;
+        if (f[i].value != e->value || f[i].unit != e->unit || f[i].name != e->name) return 0;
+    }
+    return all_are(&f[count], sizeof f[0] * (32 - count), 0xA5);
+}
+
+static void fields(void) {
+    static const etherpeel_field tagged[] = {
+        {0, 48, 0xFFFFFFFFFFFF, 0, ETHERPEEL_FIELD_ETHERNET2_DESTINATION},
+        {48, 48, 0x020000000001, 0, ETHERPEEL_FIELD_ETHERNET2_SOURCE},
+        {96, 16, 0x8100, 0, ETHERPEEL_FIELD_ETHERNET2_ETHER_TYPE},
+        {112, 3, 5, 1, ETHERPEEL_FIELD_VLAN_PCP},
+        {115, 1, 1, 1, ETHERPEEL_FIELD_VLAN_DEI},
+        {116, 12, 0x123, 1, ETHERPEEL_FIELD_VLAN_VID},
+        {128, 16, 0x0800, 1, ETHERPEEL_FIELD_VLAN_ETHER_TYPE}};
+    static const etherpeel_field checked[] = {
+        {0, 48, 0xFFFFFFFFFFFF, 0, ETHERPEEL_FIELD_ETHERNET2_DESTINATION},
+        {48, 48, 0x020000000001, 0, ETHERPEEL_FIELD_ETHERNET2_SOURCE},
+        {96, 16, 0x0800, 0, ETHERPEEL_FIELD_ETHERNET2_ETHER_TYPE},
+        {120, 32, 0x11223344, 0, ETHERPEEL_FIELD_FCS}};
+    static const etherpeel_field named[] = {
+        {0, 1, 0, 0, ETHERPEEL_FIELD_MACSEC_V},
+        {1, 1, 0, 0, ETHERPEEL_FIELD_MACSEC_ES},
+        {2, 1, 0, 0, ETHERPEEL_FIELD_MACSEC_SC},
+        {3, 1, 0, 0, ETHERPEEL_FIELD_MACSEC_SCB},
+        {4, 1, 0, 0, ETHERPEEL_FIELD_MACSEC_E},
+        {5, 1, 0, 0, ETHERPEEL_FIELD_MACSEC_C},
+        {6, 2, 0, 0, ETHERPEEL_FIELD_MACSEC_AN},
+        {8, 2, 1, 0, ETHERPEEL_FIELD_MACSEC_RESERVED},
+        {10, 6, 6, 0, ETHERPEEL_FIELD_MACSEC_SL},
+        {16, 32, 1, 0, ETHERPEEL_FIELD_MACSEC_PN},
+        {48, 16, 0x8100, 0, ETHERPEEL_FIELD_MACSEC_ETHER_TYPE},
+        {64, 3, 5, 1, ETHERPEEL_FIELD_VLAN_PCP},
+        {67, 1, 0, 1, ETHERPEEL_FIELD_VLAN_DEI},
+        {68, 12, 0xABB, 1, ETHERPEEL_FIELD_VLAN_VID},
+        {80, 16, 0xCCDD, 1, ETHERPEEL_FIELD_VLAN_ETHER_TYPE}};
+    static const etherpeel_field sealed[] = {
+        {0, 1, 0, 0, ETHERPEEL_FIELD_MACSEC_V},
+        {1, 1, 1, 0, ETHERPEEL_FIELD_MACSEC_ES},
+        {2, 1, 1, 0, ETHERPEEL_FIELD_MACSEC_SC},
+        {3, 1, 0, 0, ETHERPEEL_FIELD_MACSEC_SCB},
+        {4, 1, 1, 0, ETHERPEEL_FIELD_MACSEC_E},
+        {5, 1, 1, 0, ETHERPEEL_FIELD_MACSEC_C},
+        {6, 2, 2, 0, ETHERPEEL_FIELD_MACSEC_AN},
+        {8, 2, 0, 0, ETHERPEEL_FIELD_MACSEC_RESERVED},
+        {10, 6, 0, 0, ETHERPEEL_FIELD_MACSEC_SL},
+        {16, 32, 0x01020304, 0, ETHERPEEL_FIELD_MACSEC_PN},
+        {48, 64, 0x0011223344556677, 0, ETHERPEEL_FIELD_MACSEC_SCI}};
+    CHECK(has_fields(ETHERPEEL_START_ETHERNET2, 0, TAGGED, sizeof TAGGED, tagged, 7));
+    CHECK(has_fields(ETHERPEEL_START_ETHERNET2_FCS, 0, CHECKED, sizeof CHECKED, checked, 4));
+    CHECK(has_fields(ETHERPEEL_START_ETHER_TYPE, 0x88E5, NAMED, sizeof NAMED, named, 15));
+    CHECK(has_fields(ETHERPEEL_START_ETHER_TYPE, 0x88E5, SEALED, sizeof SEALED, sealed, 11));
+    /* none of a unit that is refused */
+    CHECK(has_fields(ETHERPEEL_START_ETHERNET2, 0, TAGGED, 17, tagged, 3));
+    CHECK(has_fields(ETHERPEEL_START_ETHERNET2, 0, TAGGED, 13, tagged, 0));
+}
+
+static void fields_of_addresses(void) {
+    static const etherpeel_field cooked[] = {
+        {0, 16, 4, 0, ETHERPEEL_FIELD_LINUX_SLL_PACKET_TYPE},
+        {16, 16, 1, 0, ETHERPEEL_FIELD_LINUX_SLL_HARDWARE_TYPE},
+        {32, 16, 6, 0, ETHERPEEL_FIELD_LINUX_SLL_ADDRESS_LEN},
+        {48, 64, 0x020000000001ABCD, 0, ETHERPEEL_FIELD_LINUX_SLL_ADDRESS},
+        {112, 16, 0x0806, 0, ETHERPEEL_FIELD_LINUX_SLL_PROTOCOL},
+        {128, 16, 1, 1, ETHERPEEL_FIELD_ARP_HARDWARE_TYPE},
+        {144, 16, 0x0800, 1, ETHERPEEL_FIELD_ARP_PROTOCOL_TYPE},
+        {160, 8, 6, 1, ETHERPEEL_FIELD_ARP_HARDWARE_SIZE},
+        {168, 8, 4, 1, ETHERPEEL_FIELD_ARP_PROTOCOL_SIZE},
+        {176, 16, 1, 1, ETHERPEEL_FIELD_ARP_OPERATION},
+        {192, 48, 0x020000000001, 1, ETHERPEEL_FIELD_ARP_SENDER_HARDWARE},
+        {240, 32, 0x0A000001, 1, ETHERPEEL_FIELD_ARP_SENDER_PROTOCOL},
+        {272, 48, 0, 1, ETHERPEEL_FIELD_ARP_TARGET_HARDWARE},
+        {320, 32, 0x0A000002, 1, ETHERPEEL_FIELD_ARP_TARGET_PROTOCOL}};
+    /* hardware addresses of nine bytes, protocol addresses of none */
+    static const uint8_t odd[] = {0x12, 0x34, 0x56, 0x78, 9, 0, 0, 2, 1, 2, 3, 4, 5,
+                                  6,    7,    8,    9,    9, 8, 7, 6, 5, 4, 3, 2, 1};
+    static const etherpeel_field long_and_empty[] = {
+        {0, 16, 0x1234, 0, ETHERPEEL_FIELD_ARP_HARDWARE_TYPE},
+        {16, 16, 0x5678, 0, ETHERPEEL_FIELD_ARP_PROTOCOL_TYPE},
+        {32, 8, 9, 0, ETHERPEEL_FIELD_ARP_HARDWARE_SIZE},
+        {40, 8, 0, 0, ETHERPEEL_FIELD_ARP_PROTOCOL_SIZE},
+        {48, 16, 2, 0, ETHERPEEL_FIELD_ARP_OPERATION},
+        {64, 72, 0, 0, ETHERPEEL_FIELD_ARP_SENDER_HARDWARE},
+        {136, 0, 0, 0, ETHERPEEL_FIELD_ARP_SENDER_PROTOCOL},
+        {136, 72, 0, 0, ETHERPEEL_FIELD_ARP_TARGET_HARDWARE},
+        {208, 0, 0, 0, ETHERPEEL_FIELD_ARP_TARGET_PROTOCOL}};
+    uint8_t frame[sizeof COOKED + 28];
+    memcpy(frame, COOKED, sizeof COOKED), memcpy(frame + sizeof COOKED, ARP + 14, 28);
+    CHECK(has_fields(ETHERPEEL_START_LINUX_SLL, 0, frame, sizeof frame, cooked, 14));
+    CHECK(has_fields(ETHERPEEL_START_ETHER_TYPE, 0x0806, odd, sizeof odd, long_and_empty, 9));
+}
+
+static void fields_without_room(void) {
+    etherpeel_field f[3];
+    size_t count = 99;
+    const guarded page = guarded_page();
+    memset(f, 0xA5, sizeof f);
+    CHECK(etherpeel_fields(0, 0, TAGGED, sizeof TAGGED, f, 3, &count) == ETHERPEEL_UNKNOWN_START);
+    CHECK(count == 99 && all_are(f, sizeof f, 0xA5));
+    CHECK(etherpeel_fields(1, 0, TAGGED, sizeof TAGGED, f, 2, &count) == ETHERPEEL_DONE);
+    CHECK(count == 7 && f[1].name == ETHERPEEL_FIELD_ETHERNET2_SOURCE);
+    CHECK(all_are(&f[2], sizeof f[2], 0xA5));
+    CHECK(etherpeel_fields(1, 0, TAGGED, sizeof TAGGED, NULL, 0, &count) == ETHERPEEL_DONE);
+    CHECK(count == 7);
+    CHECK(etherpeel_fields(1, 0, NULL, 0, NULL, 0, &count) == ETHERPEEL_DONE && count == 0);
+    /* memory ends with the frame */
+    for (size_t n = 0; n <= sizeof ARP; n++) {
+        const uint8_t *cut = copied(page, ARP, n);
+        CHECK(etherpeel_fields(1, 0, cut, n, f, 3, &count) == ETHERPEEL_DONE);
+        CHECK(count == (n < 14 ? 0u : n < 42 ? 3u : 12u));
+    }
+    release(page);
+}
+
 /* ---- VLAN tags changed in place ---- */
 
 /* Ethernet II and the first byte of an IPv4 packet, after four bytes that are free */
@@ -986,6 +1114,9 @@ int main(void) {
     captures_that_end_early();
     captured_frames();
     selecting();
+    fields();
+    fields_of_addresses();
+    fields_without_room();
     popping();
     pushing();
     setting();

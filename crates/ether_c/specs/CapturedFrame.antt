@@ -4,7 +4,7 @@ use Rattle.ether_peel.specs.Grammar.Expectation.{Next}
 use Rattle.ether_peel.specs.Walker.Start.{next_of}
 use Rattle.ether_peel.specs.declared.start.Start.{Start}
 use Rattle.ether_peel.specs.declared.start.Start.TheVariants as starts
-use Rattle.ether_content.specs.Content.{ContentValue, Frame, LinuxSll2, Unknown, IsWalked}
+use Rattle.ether_content.specs.Content.{ContentValue, LinuxSll2, IsWalked}
 use Rattle.ether_c.specs.declared.ether_frame.EtherFrame.{EtherFrame}
 use Rattle.ether_c.specs.Numbers.{start_numbered, done, unknown_start}
 

@@ -12,3 +12,6 @@ pub mod Captured
 pub mod Selection
 pub mod Filters
 pub mod CapturedFrame
+pub mod FieldTables
+pub mod Fields
+pub mod FieldViews

@@ -3,7 +3,7 @@ ghost use Rattle.std.specs.Prelude.{◌≡◌};
 ghost use Rattle.ether_c.specs.Library.{version_number, struct_size};
 
 use crate::{
-    EtherArp, EtherCaptureEnd, EtherCaptured, EtherEthernet2, EtherFault, EtherFed,
+    EtherArp, EtherCaptureEnd, EtherCaptured, EtherEthernet2, EtherFault, EtherFed, EtherField,
     EtherFilterError, EtherFound, EtherFrame, EtherHeaders, EtherLinuxSll, EtherMacsec, EtherUnit,
     EtherVlan,
 };
@@ -36,6 +36,7 @@ pub extern "C" fn etherpeel_sizeof(number: u32) -> usize
         12 => size_of::<EtherCaptureEnd>(),
         13 => size_of::<EtherFilterError>(),
         14 => size_of::<EtherFrame<'_>>(),
+        15 => size_of::<EtherField>(),
         _ => 0,
     }
 }
