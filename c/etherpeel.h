@@ -9,15 +9,15 @@
  *   Frame    `bytes` and `file` point to `len` bytes, which are read and never written; `frame` and
  *            `buffer` to `len` bytes, which the calls that change VLAN tags write to. NULL is
  *            allowed if `len` is 0.
- *   Targets  `units`, `packets`, `target`, `fill` and `text` point to as many elements as `room`
- *            says. NULL is allowed if `room` is 0. A pointer to one struct or number must not be
+ *   Targets  `units`, `fields`, `packets`, `matches`, `target`, `fill` and `text` point to as many
+ *            elements as `room` says. NULL is allowed if `room` is 0. A pointer to one struct or number must not be
  *            NULL. The memory must be aligned for its type. What is only written to need not be
- *            initialized, but for `packets`.
+ *            initialized, but for `packets` and an etherpeel_frame.
  *   Overlap  What a call may write to must not overlap the frame, nor anything else that the call
  *            may write to.
  *   Keeping  No call keeps a pointer after it returns.
  *   Units    Lengths count elements: bytes of frames, targets and texts, structs of `units`.
- *            Offsets count bytes from the start of the frame.
+ *            Offsets count bytes from the start of the frame, but for those of fields, in bits.
  *   Order    Numbers are in the byte order of the machine (host byte order), those that are passed
  *            and those of structs; addresses are bytes in the order of the frame.
  *   Result   ETHERPEEL_DONE, or why the call did nothing, but for etherpeel_capture. After
@@ -25,7 +25,7 @@
  *            length that the target needs; after ETHERPEEL_NO_TEXT only the length 0.
  *   Memory   No call allocates, blocks, or stores anything between calls, so each is thread-safe.
  *            etherpeel_completion and etherpeel_fault_text take some 2.5 KB of stack, those of
- *            capture files 300 KB, the others less than 1 KB.
+ *            capture files 300 KB, those of filters 48 KB, the others less than 1 KB.
  *   Time     Linear in the number of headers, at most len / 4 in a frame;
  *            etherpeel_write_back also copies the frame. Of capture files linear in that of their
  *            units.
@@ -46,7 +46,7 @@
 /* The version of this interface. The first number changes if a struct, a number or a call changes
  * its meaning, the second if some are added. */
 #define ETHERPEEL_VERSION_MAJOR 2
-#define ETHERPEEL_VERSION_MINOR 0
+#define ETHERPEEL_VERSION_MINOR 1
 #define ETHERPEEL_VERSION (ETHERPEEL_VERSION_MAJOR * 0x10000 + ETHERPEEL_VERSION_MINOR * 0x100)
 
 #ifdef __cplusplus
@@ -89,7 +89,10 @@ enum etherpeel_status {
     /* It ends within a header, record or block. */
     ETHERPEEL_SHORT = 12,
     /* A header, record or block can't be read. */
-    ETHERPEEL_BAD_CAPTURE = 13
+    ETHERPEEL_BAD_CAPTURE = 13,
+
+    /* The text of a filter is no expression. */
+    ETHERPEEL_BAD_FILTER = 14
 };
 
 /* What a frame begins with: the parameter `start` of each call. The parameter `ether_type` is read
@@ -175,6 +178,83 @@ enum etherpeel_len_source {
     ETHERPEEL_LEN_MACSEC_SHORT_LENGTH = 2,
     /* The two address lengths of an ARP packet. */
     ETHERPEEL_LEN_ARP_ADDRESSES = 3
+};
+
+/* Why a text is no expression of a filter: mostly by what is expected in place of a word. */
+enum etherpeel_filter_error_kind {
+    /* A primitive, `not` or `(` is expected. */
+    ETHERPEEL_FILTER_OPERAND = 1,
+    /* `and`, `or`, `)` or the end of the text is expected. */
+    ETHERPEEL_FILTER_OPERATOR = 2,
+    /* `vlan` is expected. */
+    ETHERPEEL_FILTER_VLAN = 3,
+    /* `proto`, `src`, `dst`, `host`, `broadcast` or `multicast` is expected. */
+    ETHERPEEL_FILTER_ETHER_WORD = 4,
+    /* An address is expected, in the form `xx:xx:xx:xx:xx:xx`. */
+    ETHERPEEL_FILTER_ADDRESS = 5,
+    /* A number that is not greater than `greatest` is expected. */
+    ETHERPEEL_FILTER_NUMBER = 6,
+    /* `and` and `or` are mixed without parentheses. */
+    ETHERPEEL_FILTER_MIXED = 7,
+    /* There is no `(` for a `)`. */
+    ETHERPEEL_FILTER_UNOPENED = 8,
+    /* The text ends before the `)` of a `(`. */
+    ETHERPEEL_FILTER_UNCLOSED = 9,
+    /* There are more than 192 words. */
+    ETHERPEEL_FILTER_TOO_LONG = 10
+};
+
+/* The name of a field, in the words of the standard of its header. */
+enum etherpeel_field_name {
+    /* Ethernet II (IEEE 802.3, 3.2). */
+    ETHERPEEL_FIELD_ETHERNET2_DESTINATION = 1,
+    ETHERPEEL_FIELD_ETHERNET2_SOURCE = 2,
+    ETHERPEEL_FIELD_ETHERNET2_ETHER_TYPE = 3,
+
+    /* Linux cooked capture v1 (LINKTYPE_LINUX_SLL). */
+    ETHERPEEL_FIELD_LINUX_SLL_PACKET_TYPE = 4,
+    ETHERPEEL_FIELD_LINUX_SLL_HARDWARE_TYPE = 5,
+    ETHERPEEL_FIELD_LINUX_SLL_ADDRESS_LEN = 6,
+    ETHERPEEL_FIELD_LINUX_SLL_ADDRESS = 7,
+    ETHERPEEL_FIELD_LINUX_SLL_PROTOCOL = 8,
+
+    /* A VLAN tag (IEEE 802.1Q, 9.6). */
+    ETHERPEEL_FIELD_VLAN_PCP = 9,
+    ETHERPEEL_FIELD_VLAN_DEI = 10,
+    ETHERPEEL_FIELD_VLAN_VID = 11,
+    /* The ether type after the tag. */
+    ETHERPEEL_FIELD_VLAN_ETHER_TYPE = 12,
+
+    /* A SecTag (IEEE 802.1AE, 9.3 to 9.9). */
+    ETHERPEEL_FIELD_MACSEC_V = 13,
+    ETHERPEEL_FIELD_MACSEC_ES = 14,
+    ETHERPEEL_FIELD_MACSEC_SC = 15,
+    ETHERPEEL_FIELD_MACSEC_SCB = 16,
+    ETHERPEEL_FIELD_MACSEC_E = 17,
+    ETHERPEEL_FIELD_MACSEC_C = 18,
+    ETHERPEEL_FIELD_MACSEC_AN = 19,
+    /* The two bits before SL. */
+    ETHERPEEL_FIELD_MACSEC_RESERVED = 20,
+    ETHERPEEL_FIELD_MACSEC_SL = 21,
+    ETHERPEEL_FIELD_MACSEC_PN = 22,
+    /* If SC is 1. */
+    ETHERPEEL_FIELD_MACSEC_SCI = 23,
+    /* The ether type after the tag, if E and C are 0. */
+    ETHERPEEL_FIELD_MACSEC_ETHER_TYPE = 24,
+
+    /* ARP (RFC 826, "Packet format"). */
+    ETHERPEEL_FIELD_ARP_HARDWARE_TYPE = 25,
+    ETHERPEEL_FIELD_ARP_PROTOCOL_TYPE = 26,
+    ETHERPEEL_FIELD_ARP_HARDWARE_SIZE = 27,
+    ETHERPEEL_FIELD_ARP_PROTOCOL_SIZE = 28,
+    ETHERPEEL_FIELD_ARP_OPERATION = 29,
+    ETHERPEEL_FIELD_ARP_SENDER_HARDWARE = 30,
+    ETHERPEEL_FIELD_ARP_SENDER_PROTOCOL = 31,
+    ETHERPEEL_FIELD_ARP_TARGET_HARDWARE = 32,
+    ETHERPEEL_FIELD_ARP_TARGET_PROTOCOL = 33,
+
+    /* The frame check sequence of Ethernet (IEEE 802.3, 3.2.9). */
+    ETHERPEEL_FIELD_FCS = 34
 };
 
 /* ---- Structs ----
@@ -283,6 +363,15 @@ typedef struct etherpeel_unit {
     etherpeel_arp arp;
 } etherpeel_unit;
 
+/* A field of a header: bits, the first of which is the most significant one of its byte. */
+typedef struct etherpeel_field {
+    size_t bit_offset; /* where it begins, in bits from the start of the frame */
+    size_t bit_len;    /* how many bits it has; 0 of an ARP address that has length 0 */
+    uint64_t value;    /* the number that they are; 0 if there are more than 64 */
+    uint32_t unit;     /* the index of its unit */
+    uint32_t name;     /* enum etherpeel_field_name */
+} etherpeel_field;
+
 /* All headers of a packet, and what is asked of it. */
 typedef struct etherpeel_headers {
     etherpeel_unit units[5]; /* the headers, the outermost first: at most a link, three tags, ARP */
@@ -305,11 +394,28 @@ typedef struct etherpeel_captured {
     uint8_t fcs_len;       /* that length in bytes, of the packet before it was cut; else 0 */
 } etherpeel_captured;
 
+/* What is walked of a packet of a capture: its bytes, and what to pass with them to the calls for
+ * frames. */
+typedef struct etherpeel_frame {
+    const uint8_t *bytes; /* in the packet */
+    size_t len;
+    size_t offset;       /* where it begins, in bytes from the start of the packet */
+    uint32_t start;      /* enum etherpeel_start */
+    uint16_t ether_type; /* that announces it, of ETHERPEEL_START_ETHER_TYPE, else 0 */
+} etherpeel_frame;
+
 /* Where the packets of a capture file end. */
 typedef struct etherpeel_capture_end {
     size_t offset; /* the length of the file, or where the unit starts that can't be read */
     size_t needed; /* how many bytes this unit needs at least, of ETHERPEEL_SHORT, else 0 */
 } etherpeel_capture_end;
+
+/* Why a text is no expression of a filter. */
+typedef struct etherpeel_filter_error {
+    size_t offset; /* where the first word that fits nothing begins, or the length of the text */
+    uint32_t kind; /* enum etherpeel_filter_error_kind */
+    uint32_t greatest; /* the greatest number that is expected, of ETHERPEEL_FILTER_NUMBER, else 0 */
+} etherpeel_filter_error;
 
 /* ---- The library ----
  *
@@ -330,7 +436,10 @@ enum etherpeel_struct {
     ETHERPEEL_STRUCT_UNIT = 9,
     ETHERPEEL_STRUCT_HEADERS = 10,
     ETHERPEEL_STRUCT_CAPTURED = 11,
-    ETHERPEEL_STRUCT_CAPTURE_END = 12
+    ETHERPEEL_STRUCT_CAPTURE_END = 12,
+    ETHERPEEL_STRUCT_FILTER_ERROR = 13,
+    ETHERPEEL_STRUCT_FRAME = 14,
+    ETHERPEEL_STRUCT_FIELD = 15
 };
 
 /* etherpeel_version - the version of the library, as ETHERPEEL_VERSION is that of this header
@@ -365,7 +474,10 @@ static inline int etherpeel_fits(void) {
            etherpeel_sizeof(ETHERPEEL_STRUCT_UNIT) == sizeof(etherpeel_unit) &&
            etherpeel_sizeof(ETHERPEEL_STRUCT_HEADERS) == sizeof(etherpeel_headers) &&
            etherpeel_sizeof(ETHERPEEL_STRUCT_CAPTURED) == sizeof(etherpeel_captured) &&
-           etherpeel_sizeof(ETHERPEEL_STRUCT_CAPTURE_END) == sizeof(etherpeel_capture_end);
+           etherpeel_sizeof(ETHERPEEL_STRUCT_CAPTURE_END) == sizeof(etherpeel_capture_end) &&
+           etherpeel_sizeof(ETHERPEEL_STRUCT_FILTER_ERROR) == sizeof(etherpeel_filter_error) &&
+           etherpeel_sizeof(ETHERPEEL_STRUCT_FRAME) == sizeof(etherpeel_frame) &&
+           etherpeel_sizeof(ETHERPEEL_STRUCT_FIELD) == sizeof(etherpeel_field);
 }
 
 /* etherpeel_start_of_link_type - the number of enum etherpeel_start for packets of a link type, 0
@@ -409,6 +521,21 @@ uint32_t etherpeel_walk(uint32_t start, uint16_t ether_type, const uint8_t *byte
 uint32_t etherpeel_walk_limited(uint32_t start, uint16_t ether_type, const uint8_t *bytes,
                                 size_t len, size_t limit, etherpeel_unit *units, size_t room,
                                 size_t *count);
+
+/* etherpeel_fields - the fields of the headers of a frame
+ *
+ * Fills fields[0], fields[1] .. with the fields of the units of the frame from the outermost on, as
+ * many as there is room for, and *count with how many there are in all, which may exceed `room`.
+ * The fields of a unit come in their order in the frame; a frame check sequence comes right after
+ * the fields of the Ethernet II header, with its unit. Elements from *count on stay as they were.
+ * If a unit is refused, the fields of those before it are there. The fields of a frame are at most
+ * 2 * len.
+ * Returns ETHERPEEL_DONE or ETHERPEEL_UNKNOWN_START.
+ * Overlap: frame, fields and *count must not overlap. Every number is in host byte order.
+ * Thread-safe; takes no memory.
+ */
+uint32_t etherpeel_fields(uint32_t start, uint16_t ether_type, const uint8_t *bytes, size_t len,
+                          etherpeel_field *fields, size_t room, size_t *count);
 
 /* etherpeel_packet - all headers of a frame, and what is asked of a packet
  *
@@ -613,6 +740,69 @@ uint32_t etherpeel_capture(const uint8_t *file, size_t len, etherpeel_captured *
  */
 uint32_t etherpeel_capture_fault_text(const uint8_t *file, size_t len, char *text, size_t room,
                                       size_t *text_len);
+
+/* etherpeel_captured_frame - what is walked of a packet of a capture
+ *
+ * Sets *frame by the link type of a packet that etherpeel_capture gave. Of Ethernet that is the
+ * packet: with its frame check sequence if the file says that it has one of four bytes and it was
+ * not cut, else without those bytes. Of Linux cooked capture v1 it is the packet without a frame
+ * check sequence. Of v2 it is the payload, after a header of 20 bytes, if the header can be read
+ * and an ether type announces the payload.
+ * Returns ETHERPEEL_DONE; or ETHERPEEL_UNKNOWN_START if nothing of the packet is walked, and then
+ * *frame stays as it was. It must be initialized, and may be all 0.
+ * Overlap: *frame must not overlap the packet or its bytes, which it points into. Every number is in
+ * host byte order. Thread-safe; takes no memory.
+ */
+uint32_t etherpeel_captured_frame(const etherpeel_captured *packet, etherpeel_frame *frame);
+
+/* ---- Filters ----
+ *
+ * `expression` points to `len` bytes of text, with or without a 0 byte after them; NULL is allowed
+ * if `len` is 0. It is an expression in words of pcap-filter(7): a primitive, or several with
+ * `not`, `and`, `or` and parentheses. The primitives:
+ *
+ *   vlan, vlan N            a VLAN tag; one with the identifier N
+ *   outer vlan N            the first VLAN tag has the identifier N
+ *   inner vlan N            the last of two or more VLAN tags has the identifier N
+ *   macsec                  a MACsec SecTag
+ *   ether proto N           the ether type N is announced; arp, ip, ip6 for 0x0806, 0x0800, 0x86DD
+ *   ether src A, dst A      the address of the source or the destination; ether host A for either
+ *   ether broadcast         the destination is all stations; ether multicast for any group
+ *   refused                 a header is cut short or malformed
+ *   cut                     fewer bytes were captured than were on the wire
+ *   less N, greater N       at most, or at least, N bytes were on the wire
+ */
+
+/* etherpeel_select - the packets that a filter selects
+ *
+ * Sets matches[i] to 1 if the expression holds of packets[i], else to 0, for each of the `count`
+ * packets that etherpeel_capture gave. A packet is walked by its link type: Ethernet, or Linux
+ * cooked capture v1 or v2; of v2 the payload is asked. A packet of another link type is not
+ * selected, and neither is one of v2 whose header is refused or has no ether type. Elements of
+ * `matches` from `count` on stay as they were.
+ * Returns ETHERPEEL_DONE; or ETHERPEEL_BAD_FILTER if the text is no expression, and then sets
+ * *error; or ETHERPEEL_NO_ROOM if `room` is smaller than `count`. Nothing else is written then.
+ * Overlap: neither `matches` nor *error may overlap the packets, their bytes, the text, or one
+ * another. Every number is in host byte order. Thread-safe; takes no memory, and some 48 KB of
+ * stack.
+ */
+uint32_t etherpeel_select(const char *expression, size_t len, const etherpeel_captured *packets,
+                          size_t count, uint8_t *matches, size_t room,
+                          etherpeel_filter_error *error);
+
+/* etherpeel_filter_error_text - why a text is no expression of a filter, in English
+ *
+ * Writes the text, such as "At byte 5: expected a number up to 4095.", to the front of `text`, in
+ * ASCII with no 0 byte at its end. *text_len is its length, fewer than 512 bytes; it is 0 if the
+ * text is an expression.
+ * Returns ETHERPEEL_DONE, or ETHERPEEL_NO_ROOM if `room` is smaller than *text_len; then `text`
+ * stays as it was. ETHERPEEL_NO_TEXT is not ruled out by proof; after it *text_len is 0, and `text`
+ * stays as it was.
+ * Overlap: expression, text and *text_len must not overlap. Every number is in host byte order.
+ * Thread-safe; takes no memory, and some 48 KB of stack.
+ */
+uint32_t etherpeel_filter_error_text(const char *expression, size_t len, char *text, size_t room,
+                                     size_t *text_len);
 
 #ifdef __cplusplus
 }

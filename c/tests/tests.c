@@ -68,12 +68,20 @@ static void layout(void) {
           offsetof(etherpeel_headers, min_snap_len) == 808);
     CHECK(offsetof(etherpeel_headers, vlan_ids) == 816 &&
           offsetof(etherpeel_headers, vlan_count) == 822);
+    CHECK(sizeof(etherpeel_filter_error) == 16 && offsetof(etherpeel_filter_error, kind) == 8 &&
+          offsetof(etherpeel_filter_error, greatest) == 12);
+    CHECK(sizeof(etherpeel_frame) == 32 && offsetof(etherpeel_frame, len) == 8 &&
+          offsetof(etherpeel_frame, offset) == 16 && offsetof(etherpeel_frame, start) == 24 &&
+          offsetof(etherpeel_frame, ether_type) == 28);
+    CHECK(sizeof(etherpeel_field) == 32 && offsetof(etherpeel_field, bit_len) == 8 &&
+          offsetof(etherpeel_field, value) == 16 && offsetof(etherpeel_field, unit) == 24 &&
+          offsetof(etherpeel_field, name) == 28);
 }
 
 /* ---- the library: its version, the sizes of its structs, link types ---- */
 
 static void library(void) {
-    CHECK(ETHERPEEL_VERSION == 0x020000 && etherpeel_version() == 0x020000 && etherpeel_fits());
+    CHECK(ETHERPEEL_VERSION == 0x020100 && etherpeel_version() == 0x020100 && etherpeel_fits());
     CHECK(etherpeel_sizeof(ETHERPEEL_STRUCT_FAULT) == 56 &&
           etherpeel_sizeof(ETHERPEEL_STRUCT_UNIT) == 144);
     CHECK(etherpeel_sizeof(0) == 0 && etherpeel_sizeof(99) == 0 && etherpeel_sizeof(~0u) == 0);
@@ -607,6 +615,228 @@ static void captures_that_end_early(void) {
     CHECK(count == 0 && end.offset == 0 && end.needed == 0);
 }
 
+/* ---- packets that a filter selects ---- */
+
+/* a cooked capture v2 with the VLAN tag of TAGGED, and one of a GRE tunnel */
+static const uint8_t COOKED_V2[] = {0x81, 0x00, 0, 0, 0, 0, 0, 3,    0,    1,    4,    6,   2,
+                                    0,    0,    0, 0, 1, 0, 0, 0xB1, 0x23, 0x08, 0x00, 0x45};
+static const uint8_t COOKED_V2_GRE[20] = {0x08, 0x00, 0, 0, 0, 0, 0, 1, 0x03, 0x0A};
+
+static etherpeel_captured captured_of(const uint8_t *packet, size_t len, uint16_t link_type) {
+    etherpeel_captured p;
+    memset(&p, 0, sizeof p);
+    p.packet = packet, p.packet_len = len, p.link_type = link_type;
+    p.original_len = (uint32_t)len;
+    return p;
+}
+
+/* whether this is walked of a packet */
+static int is_frame(etherpeel_captured p, size_t offset, size_t len, uint32_t start,
+                    uint16_t ether_type) {
+    etherpeel_frame f;
+    memset(&f, 0, sizeof f);
+    return etherpeel_captured_frame(&p, &f) == ETHERPEEL_DONE && f.bytes == p.packet + offset &&
+           f.len == len && f.offset == offset && f.start == start && f.ether_type == ether_type;
+}
+
+static void captured_frames(void) {
+    etherpeel_captured p = captured_of(CHECKED, sizeof CHECKED, 1);
+    etherpeel_frame f;
+    memset(&f, 0, sizeof f);
+    f.start = 99;
+    CHECK(is_frame(p, 0, sizeof CHECKED, ETHERPEEL_START_ETHERNET2, 0));
+    p.fcs_len = 4;
+    CHECK(is_frame(p, 0, sizeof CHECKED, ETHERPEEL_START_ETHERNET2, 0));
+    p.has_fcs_len = 1;
+    CHECK(is_frame(p, 0, sizeof CHECKED, ETHERPEEL_START_ETHERNET2_FCS, 0));
+    /* two of its four bytes were cut off */
+    p.original_len += 2;
+    CHECK(is_frame(p, 0, sizeof CHECKED - 2, ETHERPEEL_START_ETHERNET2, 0));
+    p.original_len -= 2, p.fcs_len = 2;
+    CHECK(is_frame(p, 0, sizeof CHECKED - 2, ETHERPEEL_START_ETHERNET2, 0));
+    p.link_type = 113;
+    CHECK(is_frame(p, 0, sizeof CHECKED - 2, ETHERPEEL_START_LINUX_SLL, 0));
+    p = captured_of(COOKED_V2, sizeof COOKED_V2, 276);
+    CHECK(is_frame(p, 20, 5, ETHERPEEL_START_ETHER_TYPE, 0x8100));
+    p.packet_len = 19;
+    CHECK(etherpeel_captured_frame(&p, &f) == ETHERPEEL_UNKNOWN_START);
+    p = captured_of(COOKED_V2_GRE, sizeof COOKED_V2_GRE, 276);
+    CHECK(etherpeel_captured_frame(&p, &f) == ETHERPEEL_UNKNOWN_START);
+    p = captured_of(TAGGED, sizeof TAGGED, 105);
+    CHECK(etherpeel_captured_frame(&p, &f) == ETHERPEEL_UNKNOWN_START);
+    CHECK(f.start == 99 && f.bytes == NULL && f.len == 0 && f.offset == 0 && f.ether_type == 0);
+}
+
+/* whether an expression selects just these of five packets */
+static int selects(const char *expression, const char *marks) {
+    const etherpeel_captured p[5] = {
+        captured_of(TAGGED, sizeof TAGGED, 1), captured_of(ARP, sizeof ARP, 1),
+        captured_of(COOKED_V2, sizeof COOKED_V2, 276),
+        captured_of(COOKED_V2_GRE, sizeof COOKED_V2_GRE, 276), captured_of(TAGGED, 4, 105)};
+    etherpeel_filter_error error;
+    uint8_t matches[6];
+    memset(matches, 0xA5, sizeof matches), memset(&error, 0xA5, sizeof error);
+    if (etherpeel_select(expression, strlen(expression), p, 5, matches, 6, &error)) return 0;
+    for (size_t i = 0; i < 5; i++)
+        if (matches[i] != marks[i] - '0') return 0;
+    return matches[5] == 0xA5 && all_are(&error, sizeof error, 0xA5);
+}
+
+static void selecting(void) {
+    static const char expected[] = "At byte 5: expected a number up to 4095.";
+    etherpeel_captured p = captured_of(CHECKED, sizeof CHECKED, 1);
+    etherpeel_filter_error error = {99, 99, 99};
+    uint8_t matches[2] = {9, 9};
+    char text[512];
+    size_t len = 99;
+    CHECK(selects("vlan 291", "10100") && selects("not vlan", "01000") && selects("arp", "01000"));
+    CHECK(selects("vlan 291 and (ip or cut)", "10100") && selects("refused", "00000"));
+    CHECK(selects("not refused", "11100") && selects("greater 20", "01100"));
+    CHECK(etherpeel_select("vlan 4096", 9, &p, 1, matches, 2, &error) == ETHERPEEL_BAD_FILTER);
+    CHECK(error.offset == 5 && error.kind == ETHERPEEL_FILTER_NUMBER && error.greatest == 4095);
+    CHECK(etherpeel_select("vlan and", 8, &p, 1, matches, 2, &error) == ETHERPEEL_BAD_FILTER);
+    CHECK(error.offset == 8 && error.kind == ETHERPEEL_FILTER_OPERAND && error.greatest == 0);
+    CHECK(etherpeel_select("vlan", 4, &p, 1, matches, 0, &error) == ETHERPEEL_NO_ROOM);
+    CHECK(etherpeel_select(NULL, 0, NULL, 0, NULL, 0, &error) == ETHERPEEL_BAD_FILTER);
+    CHECK(matches[0] == 9 && matches[1] == 9 && error.offset == 0);
+    /* a frame check sequence is no part of a frame that begins with an Ethernet II header alone */
+    CHECK(etherpeel_select("refused", 7, &p, 1, matches, 1, &error) == ETHERPEEL_DONE);
+    CHECK(matches[0] == 0 && matches[1] == 9);
+    p.packet_len = p.original_len = 17, p.has_fcs_len = 1, p.fcs_len = 4;
+    CHECK(etherpeel_select("refused", 7, &p, 1, matches, 1, &error) == ETHERPEEL_DONE);
+    CHECK(matches[0] == 1);
+    CHECK(etherpeel_filter_error_text("vlan 4096", 9, text, sizeof text, &len) == ETHERPEEL_DONE);
+    CHECK(len == strlen(expected) && memcmp(text, expected, len) == 0);
+    CHECK(etherpeel_filter_error_text("vlan 4096", 9, text, 5, &len) == ETHERPEEL_NO_ROOM);
+    CHECK(len == strlen(expected) && memcmp(text, expected, len) == 0);
+    CHECK(etherpeel_filter_error_text("vlan", 4, NULL, 0, &len) == ETHERPEEL_DONE && len == 0);
+}
+
+/* ---- fields ---- */
+
+/* whether these are the fields of a frame, in order */
+static int has_fields(uint32_t start, uint16_t ether_type, const uint8_t *bytes, size_t len,
+                      const etherpeel_field *expected, size_t count) {
+    etherpeel_field f[32];
+    size_t found = 99;
+    memset(f, 0xA5, sizeof f);
+    if (etherpeel_fields(start, ether_type, bytes, len, f, 32, &found) || found != count) return 0;
+    for (size_t i = 0; i < count; i++) {
+        const etherpeel_field *e = &expected[i];
+        if (f[i].bit_offset != e->bit_offset || f[i].bit_len != e->bit_len) return 0;
+        if (f[i].value != e->value || f[i].unit != e->unit || f[i].name != e->name) return 0;
+    }
+    return all_are(&f[count], sizeof f[0] * (32 - count), 0xA5);
+}
+
+static void fields(void) {
+    static const etherpeel_field tagged[] = {
+        {0, 48, 0xFFFFFFFFFFFF, 0, ETHERPEEL_FIELD_ETHERNET2_DESTINATION},
+        {48, 48, 0x020000000001, 0, ETHERPEEL_FIELD_ETHERNET2_SOURCE},
+        {96, 16, 0x8100, 0, ETHERPEEL_FIELD_ETHERNET2_ETHER_TYPE},
+        {112, 3, 5, 1, ETHERPEEL_FIELD_VLAN_PCP},
+        {115, 1, 1, 1, ETHERPEEL_FIELD_VLAN_DEI},
+        {116, 12, 0x123, 1, ETHERPEEL_FIELD_VLAN_VID},
+        {128, 16, 0x0800, 1, ETHERPEEL_FIELD_VLAN_ETHER_TYPE}};
+    static const etherpeel_field checked[] = {
+        {0, 48, 0xFFFFFFFFFFFF, 0, ETHERPEEL_FIELD_ETHERNET2_DESTINATION},
+        {48, 48, 0x020000000001, 0, ETHERPEEL_FIELD_ETHERNET2_SOURCE},
+        {96, 16, 0x0800, 0, ETHERPEEL_FIELD_ETHERNET2_ETHER_TYPE},
+        {120, 32, 0x11223344, 0, ETHERPEEL_FIELD_FCS}};
+    static const etherpeel_field named[] = {
+        {0, 1, 0, 0, ETHERPEEL_FIELD_MACSEC_V},
+        {1, 1, 0, 0, ETHERPEEL_FIELD_MACSEC_ES},
+        {2, 1, 0, 0, ETHERPEEL_FIELD_MACSEC_SC},
+        {3, 1, 0, 0, ETHERPEEL_FIELD_MACSEC_SCB},
+        {4, 1, 0, 0, ETHERPEEL_FIELD_MACSEC_E},
+        {5, 1, 0, 0, ETHERPEEL_FIELD_MACSEC_C},
+        {6, 2, 0, 0, ETHERPEEL_FIELD_MACSEC_AN},
+        {8, 2, 1, 0, ETHERPEEL_FIELD_MACSEC_RESERVED},
+        {10, 6, 6, 0, ETHERPEEL_FIELD_MACSEC_SL},
+        {16, 32, 1, 0, ETHERPEEL_FIELD_MACSEC_PN},
+        {48, 16, 0x8100, 0, ETHERPEEL_FIELD_MACSEC_ETHER_TYPE},
+        {64, 3, 5, 1, ETHERPEEL_FIELD_VLAN_PCP},
+        {67, 1, 0, 1, ETHERPEEL_FIELD_VLAN_DEI},
+        {68, 12, 0xABB, 1, ETHERPEEL_FIELD_VLAN_VID},
+        {80, 16, 0xCCDD, 1, ETHERPEEL_FIELD_VLAN_ETHER_TYPE}};
+    static const etherpeel_field sealed[] = {
+        {0, 1, 0, 0, ETHERPEEL_FIELD_MACSEC_V},
+        {1, 1, 1, 0, ETHERPEEL_FIELD_MACSEC_ES},
+        {2, 1, 1, 0, ETHERPEEL_FIELD_MACSEC_SC},
+        {3, 1, 0, 0, ETHERPEEL_FIELD_MACSEC_SCB},
+        {4, 1, 1, 0, ETHERPEEL_FIELD_MACSEC_E},
+        {5, 1, 1, 0, ETHERPEEL_FIELD_MACSEC_C},
+        {6, 2, 2, 0, ETHERPEEL_FIELD_MACSEC_AN},
+        {8, 2, 0, 0, ETHERPEEL_FIELD_MACSEC_RESERVED},
+        {10, 6, 0, 0, ETHERPEEL_FIELD_MACSEC_SL},
+        {16, 32, 0x01020304, 0, ETHERPEEL_FIELD_MACSEC_PN},
+        {48, 64, 0x0011223344556677, 0, ETHERPEEL_FIELD_MACSEC_SCI}};
+    CHECK(has_fields(ETHERPEEL_START_ETHERNET2, 0, TAGGED, sizeof TAGGED, tagged, 7));
+    CHECK(has_fields(ETHERPEEL_START_ETHERNET2_FCS, 0, CHECKED, sizeof CHECKED, checked, 4));
+    CHECK(has_fields(ETHERPEEL_START_ETHER_TYPE, 0x88E5, NAMED, sizeof NAMED, named, 15));
+    CHECK(has_fields(ETHERPEEL_START_ETHER_TYPE, 0x88E5, SEALED, sizeof SEALED, sealed, 11));
+    /* none of a unit that is refused */
+    CHECK(has_fields(ETHERPEEL_START_ETHERNET2, 0, TAGGED, 17, tagged, 3));
+    CHECK(has_fields(ETHERPEEL_START_ETHERNET2, 0, TAGGED, 13, tagged, 0));
+}
+
+static void fields_of_addresses(void) {
+    static const etherpeel_field cooked[] = {
+        {0, 16, 4, 0, ETHERPEEL_FIELD_LINUX_SLL_PACKET_TYPE},
+        {16, 16, 1, 0, ETHERPEEL_FIELD_LINUX_SLL_HARDWARE_TYPE},
+        {32, 16, 6, 0, ETHERPEEL_FIELD_LINUX_SLL_ADDRESS_LEN},
+        {48, 64, 0x020000000001ABCD, 0, ETHERPEEL_FIELD_LINUX_SLL_ADDRESS},
+        {112, 16, 0x0806, 0, ETHERPEEL_FIELD_LINUX_SLL_PROTOCOL},
+        {128, 16, 1, 1, ETHERPEEL_FIELD_ARP_HARDWARE_TYPE},
+        {144, 16, 0x0800, 1, ETHERPEEL_FIELD_ARP_PROTOCOL_TYPE},
+        {160, 8, 6, 1, ETHERPEEL_FIELD_ARP_HARDWARE_SIZE},
+        {168, 8, 4, 1, ETHERPEEL_FIELD_ARP_PROTOCOL_SIZE},
+        {176, 16, 1, 1, ETHERPEEL_FIELD_ARP_OPERATION},
+        {192, 48, 0x020000000001, 1, ETHERPEEL_FIELD_ARP_SENDER_HARDWARE},
+        {240, 32, 0x0A000001, 1, ETHERPEEL_FIELD_ARP_SENDER_PROTOCOL},
+        {272, 48, 0, 1, ETHERPEEL_FIELD_ARP_TARGET_HARDWARE},
+        {320, 32, 0x0A000002, 1, ETHERPEEL_FIELD_ARP_TARGET_PROTOCOL}};
+    /* hardware addresses of nine bytes, protocol addresses of none */
+    static const uint8_t odd[] = {0x12, 0x34, 0x56, 0x78, 9, 0, 0, 2, 1, 2, 3, 4, 5,
+                                  6,    7,    8,    9,    9, 8, 7, 6, 5, 4, 3, 2, 1};
+    static const etherpeel_field long_and_empty[] = {
+        {0, 16, 0x1234, 0, ETHERPEEL_FIELD_ARP_HARDWARE_TYPE},
+        {16, 16, 0x5678, 0, ETHERPEEL_FIELD_ARP_PROTOCOL_TYPE},
+        {32, 8, 9, 0, ETHERPEEL_FIELD_ARP_HARDWARE_SIZE},
+        {40, 8, 0, 0, ETHERPEEL_FIELD_ARP_PROTOCOL_SIZE},
+        {48, 16, 2, 0, ETHERPEEL_FIELD_ARP_OPERATION},
+        {64, 72, 0, 0, ETHERPEEL_FIELD_ARP_SENDER_HARDWARE},
+        {136, 0, 0, 0, ETHERPEEL_FIELD_ARP_SENDER_PROTOCOL},
+        {136, 72, 0, 0, ETHERPEEL_FIELD_ARP_TARGET_HARDWARE},
+        {208, 0, 0, 0, ETHERPEEL_FIELD_ARP_TARGET_PROTOCOL}};
+    uint8_t frame[sizeof COOKED + 28];
+    memcpy(frame, COOKED, sizeof COOKED), memcpy(frame + sizeof COOKED, ARP + 14, 28);
+    CHECK(has_fields(ETHERPEEL_START_LINUX_SLL, 0, frame, sizeof frame, cooked, 14));
+    CHECK(has_fields(ETHERPEEL_START_ETHER_TYPE, 0x0806, odd, sizeof odd, long_and_empty, 9));
+}
+
+static void fields_without_room(void) {
+    etherpeel_field f[3];
+    size_t count = 99;
+    const guarded page = guarded_page();
+    memset(f, 0xA5, sizeof f);
+    CHECK(etherpeel_fields(0, 0, TAGGED, sizeof TAGGED, f, 3, &count) == ETHERPEEL_UNKNOWN_START);
+    CHECK(count == 99 && all_are(f, sizeof f, 0xA5));
+    CHECK(etherpeel_fields(1, 0, TAGGED, sizeof TAGGED, f, 2, &count) == ETHERPEEL_DONE);
+    CHECK(count == 7 && f[1].name == ETHERPEEL_FIELD_ETHERNET2_SOURCE);
+    CHECK(all_are(&f[2], sizeof f[2], 0xA5));
+    CHECK(etherpeel_fields(1, 0, TAGGED, sizeof TAGGED, NULL, 0, &count) == ETHERPEEL_DONE);
+    CHECK(count == 7);
+    CHECK(etherpeel_fields(1, 0, NULL, 0, NULL, 0, &count) == ETHERPEEL_DONE && count == 0);
+    /* memory ends with the frame */
+    for (size_t n = 0; n <= sizeof ARP; n++) {
+        const uint8_t *cut = copied(page, ARP, n);
+        CHECK(etherpeel_fields(1, 0, cut, n, f, 3, &count) == ETHERPEEL_DONE);
+        CHECK(count == (n < 14 ? 0u : n < 42 ? 3u : 12u));
+    }
+    release(page);
+}
+
 /* ---- VLAN tags changed in place ---- */
 
 /* Ethernet II and the first byte of an IPv4 packet, after four bytes that are free */
@@ -882,6 +1112,11 @@ int main(void) {
     packets();
     captures();
     captures_that_end_early();
+    captured_frames();
+    selecting();
+    fields();
+    fields_of_addresses();
+    fields_without_room();
     popping();
     pushing();
     setting();

@@ -41,7 +41,7 @@ def layout():
     check("sizes", sizes[:9], [56, 88, 72, 16, 16, 6, 24, 40, 144])
     check("offsets", [getattr(_library.Unit, f).offset for f in
                       ("kind", "closed", "ethernet2", "linux_sll", "vlan", "macsec", "arp")], [32, 36, 38, 54, 70, 80, 104])
-    check("version", _library.lib.etherpeel_version(), 0x020000)
+    check("version", _library.lib.etherpeel_version(), 0x020100)
     check("no struct", [_library.lib.etherpeel_sizeof(n) for n in (0, 99, 2**32 - 1)], [0, 0, 0])
 
 

@@ -28,7 +28,7 @@ __all__ = [
     "completion", "fault_text", "feed", "missing", "packet", "pop_vlan", "push_vlan", "set_tpid", "set_vlan_id", "set_vlan_tag",
     "start_of_link_type", "summary", "walk", "write_back", "write_back_into",
 ]
-__version__ = "2.0.0"
+__version__ = "2.1.0"
 
 Buffer = Union[bytes, bytearray, memoryview]
 WritableBuffer = Union[bytearray, memoryview]

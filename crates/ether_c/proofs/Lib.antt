@@ -1,3 +1,7 @@
 pub mod Missing
 pub mod UnitsTold
 pub mod CapturedTold
+pub mod Marks
+pub mod BitNumbers
+pub mod FieldLists
+pub mod FieldsTold

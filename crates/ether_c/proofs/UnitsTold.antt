@@ -39,7 +39,7 @@ header_shown bytes rest (headers.Arp a) u ok m shows = ap header_of shows ∙ ap
 
 -- ---- an array that is filled from its front on
 
-put_at : {X : Type 0} (front rest : List X) (u : X) → 0 < length rest → set (front ++ rest) (length front) u ≡ front ++ u ∷ drop 1 rest
+pub put_at : {X : Type 0} (front rest : List X) (u : X) → 0 < length rest → set (front ++ rest) (length front) u ≡ front ++ u ∷ drop 1 rest
 put_at front [] u lt = absurd (omega (arith, lt))
 put_at front (y ∷ ys) u lt = set-append_seam front y ys u
 

@@ -9,3 +9,9 @@ pub mod Views
 pub mod Tags
 pub mod Packet
 pub mod Captured
+pub mod Selection
+pub mod Filters
+pub mod CapturedFrame
+pub mod FieldTables
+pub mod Fields
+pub mod FieldViews

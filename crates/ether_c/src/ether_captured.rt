@@ -2,8 +2,9 @@
 ghost use Rattle.std.specs.Prelude.{◌≡◌};
 ghost use Rattle.ether_pcap.specs.CaptureViews.{captured_packet_view};
 ghost use Rattle.ether_c.specs.Captured.{IsToldPacket};
+ghost use Rattle.ether_c.specs.Selection.{packet_value};
 
-use ether_pcap::CapturedPacket;
+use ether_pcap::{CapturedPacket, LinkType, Timestamp};
 
 /// A packet of a capture file: `etherpeel_captured` in C.
 #[repr(C)]
@@ -52,6 +53,27 @@ impl<'a> EtherCaptured<'a> {
             has_time,
             has_fcs_len,
             fcs_len,
+        }
+    }
+
+    /// The packet that was passed. Each mark but 0 says that something is there.
+    pub(crate) fn to_packet(&self) -> CapturedPacket<'a>
+        ensures { captured_packet_view result ≡ packet_value self.now }
+    {
+        let time = if self.has_time == 0 {
+            None
+        } else {
+            Some(Timestamp {
+                seconds: self.seconds,
+                nanoseconds: self.nanoseconds,
+            })
+        };
+        CapturedPacket {
+            time,
+            original_len: self.original_len,
+            link_type: LinkType(self.link_type),
+            fcs_len: (self.has_fcs_len != 0).then_some(self.fcs_len),
+            packet: self.packet,
         }
     }
 }

@@ -1,24 +1,33 @@
-//! The walk through the link-layer headers of a frame, packets and capture files, for callers in C.
-//! `c/etherpeel.h` declares and documents the calls, and `docs/C.md` says how a program is built with
-//! them.
+//! The walk through the link-layer headers of a frame, packets, capture files and filters, for callers
+//! in C. `c/etherpeel.h` declares and documents the calls, and `docs/C.md` says how a program is built
+//! with them.
 //!
-//! Each export calls `ether_peel`, `ether_packet` or `ether_pcap`, and its contract says what those
-//! calls say. Each struct that is passed has a file of its own, and `specs/` says each of its fields.
-//! Enumerations are passed as numbers (`specs/Numbers.antt`), and a start that has no number is
-//! refused. No call allocates memory or keeps a pointer.
+//! Each export calls `ether_peel`, `ether_packet`, `ether_pcap`, `ether_filter` or `ether_content`, and
+//! its contract says what those calls say. Each struct that is passed has a file of its own, and
+//! `specs/` says each of its fields. Enumerations are passed as numbers (`specs/Numbers.antt`), and a
+//! start that has no number is refused. No call allocates memory or keeps a pointer.
 #![tactic(auto)]
 
 pub mod capture_fault_text;
+pub mod captured_frame;
 pub mod capturing;
 pub mod completing;
 mod ether_captured;
 mod ether_fault;
 mod ether_fed;
+mod ether_field;
+mod ether_filter_error;
 mod ether_found;
+mod ether_frame;
 mod ether_headers;
 mod ether_unit;
 pub mod fault_text;
 pub mod feeding;
+mod field_place;
+mod field_putting;
+mod field_value;
+pub mod fields;
+pub mod filter_error_text;
 pub mod library;
 pub mod link_types;
 pub mod missing_bytes;
@@ -27,6 +36,7 @@ pub mod popping;
 pub mod pushing;
 mod putting;
 pub mod reading_packet;
+pub mod selecting;
 pub mod setting;
 pub mod summarizing;
 pub mod walking;
@@ -36,6 +46,9 @@ pub use capturing::EtherCaptureEnd;
 pub use ether_captured::EtherCaptured;
 pub use ether_fault::EtherFault;
 pub use ether_fed::EtherFed;
+pub use ether_field::EtherField;
+pub use ether_filter_error::EtherFilterError;
 pub use ether_found::EtherFound;
+pub use ether_frame::EtherFrame;
 pub use ether_headers::EtherHeaders;
 pub use ether_unit::{EtherArp, EtherEthernet2, EtherLinuxSll, EtherMacsec, EtherUnit, EtherVlan};

@@ -3,16 +3,17 @@ ghost use Rattle.std.specs.Prelude.{◌≡◌};
 ghost use Rattle.ether_c.specs.Library.{version_number, struct_size};
 
 use crate::{
-    EtherArp, EtherCaptureEnd, EtherCaptured, EtherEthernet2, EtherFault, EtherFed, EtherFound,
-    EtherHeaders, EtherLinuxSll, EtherMacsec, EtherUnit, EtherVlan,
+    EtherArp, EtherCaptureEnd, EtherCaptured, EtherEthernet2, EtherFault, EtherFed, EtherField,
+    EtherFilterError, EtherFound, EtherFrame, EtherHeaders, EtherLinuxSll, EtherMacsec, EtherUnit,
+    EtherVlan,
 };
 
 /// The version of the library: 0x10000 times the first number, 0x100 times the second, and the third.
 #[unsafe(no_mangle)]
 pub extern "C" fn etherpeel_version() -> u32
-    ensures { result ≡ version_number 2 0 0 }
+    ensures { result ≡ version_number 2 1 0 }
 {
-    0x02_00_00
+    0x02_01_00
 }
 
 /// The size in bytes of the struct with a number, 0 if none has it.
@@ -33,6 +34,9 @@ pub extern "C" fn etherpeel_sizeof(number: u32) -> usize
         10 => size_of::<EtherHeaders>(),
         11 => size_of::<EtherCaptured<'_>>(),
         12 => size_of::<EtherCaptureEnd>(),
+        13 => size_of::<EtherFilterError>(),
+        14 => size_of::<EtherFrame<'_>>(),
+        15 => size_of::<EtherField>(),
         _ => 0,
     }
 }

@@ -29,6 +29,9 @@ pub(crate) const SHORT: u32 = 12;
 /// A capture file can't be read on.
 pub(crate) const BAD_CAPTURE: u32 = 13;
 
+/// The text of a filter is no expression.
+pub(crate) const BAD_FILTER: u32 = 14;
+
 /// The start with a number, if there is one. Only the fourth has the ether type.
 #[inline(always)]
 pub(crate) fn start_of(number: u32, ether_type: u16) -> Option<Start>

@@ -1,0 +1,37 @@
+use Rattle.std.proofs.Common.{ℕ, ◌^◌, ◌<◌, ◌≤◌, length, arith}
+use Rattle.std.proofs.Math.Nat.{pow-le-pow_right}
+use Rattle.std.proofs.lemmas.Grind.{pow_more}
+use Rattle.ether_c.proofs.BitNumbers.{number-take_next}
+use Rattle.ether_c.proofs.field_value.number_of.Goals as goal
+
+-- at most eight bytes have been read
+few : (n i len : ℕ) → n < 256 ^ i → i < len → len ≤ 9 → n < 256 ^ 8
+few n i len below lt le =
+    let least : i ≤ 8 = omega arith in
+    let one : 0 < 256 = omega arith in
+    let power : 256 ^ i ≤ 256 ^ 8 = pow-le-pow_right one least in
+    omega arith
+
+pub overflow_mul-number : goal.overflow_mul-number
+overflow_mul-number c =
+    let below = few c.loop-byte.number c.loop-byte.byte-index (length c.args.bytes.now) c.loop-byte.invariant.1
+    (omega (arith, c.loop-byte-test.true)) c.requires in
+    omega arith
+
+pub overflow_add-number : goal.overflow_add-number
+overflow_add-number c =
+    let below = few c.loop-byte.number c.loop-byte.byte-index (length c.args.bytes.now) c.loop-byte.invariant.1
+    (omega (arith, c.loop-byte-test.true)) c.requires in
+    let byte = c.from.ensures in
+    let fits = c.type_inv.bytes c.loop-byte.byte-index in
+    omega arith
+
+pub loop-byte-preserved : goal.loop-byte-preserved
+loop-byte-preserved c =
+    let next = number-take_next c.args.bytes.now c.loop-byte.byte-index 0 (omega (arith, c.loop-byte-test.true)) in
+    let is = c.loop-byte.invariant.0 in
+    let below = c.loop-byte.invariant.1 in
+    let byte = c.from.ensures in
+    let fits = c.type_inv.bytes c.loop-byte.byte-index in
+    let power = pow_more 256 c.loop-byte.byte-index in
+    (omega arith, omega arith)

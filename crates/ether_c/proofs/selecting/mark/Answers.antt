@@ -1,0 +1,16 @@
+use Rattle.std.proofs.Common.{refl, inl, inr, subst, sym}
+use Rattle.ether_pcap.specs.Capture.{PacketValue}
+use Rattle.ether_content.specs.Selecting.{Selects}
+use Rattle.ether_c.proofs.selecting.mark.Goals as goal
+
+pub returns-then-selects : goal.returns-then-selects
+returns-then-selects c = inl
+    (subst (λ (p : PacketValue). Selects c.args.filter.now p) c.to_packet.ensures (c.selects.ensures.0 (search)), refl)
+
+pub returns-else-selects : goal.returns-else-selects
+returns-else-selects c = inr (
+  λ selected. let yes = c.selects.ensures.1
+      (subst (λ (p : PacketValue). Selects c.args.filter.now p) (sym c.to_packet.ensures) selected)
+      in let no = c.if-selects.false in absurd cc,
+  refl,
+)

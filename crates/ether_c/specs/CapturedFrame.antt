@@ -1,0 +1,33 @@
+-- What is walked of a captured packet as a struct of C.
+use Rattle.std.specs.Prelude.{◌≡◌, ℕ, List, Some}
+use Rattle.ether_peel.specs.Grammar.Expectation.{Next}
+use Rattle.ether_peel.specs.Walker.Start.{next_of}
+use Rattle.ether_peel.specs.declared.start.Start.{Start}
+use Rattle.ether_peel.specs.declared.start.Start.TheVariants as starts
+use Rattle.ether_content.specs.Content.{ContentValue, LinuxSll2, IsWalked}
+use Rattle.ether_c.specs.declared.ether_frame.EtherFrame.{EtherFrame}
+use Rattle.ether_c.specs.Numbers.{start_numbered, done, unknown_start}
+
+-- the ether type that a frame begins with, 0 if it begins with a header of a link
+abbrev pub first_ether_type : Start → ℕ
+first_ether_type (starts.EtherType t) = t.0
+first_ether_type _ = 0
+
+-- where a frame begins in its packet: the payload of cooked capture v2 after a header of twenty bytes
+abbrev pub frame_offset : ContentValue → ℕ
+frame_offset (LinuxSll2 bytes) = 20
+frame_offset _ = 0
+
+-- the one frame that is walked, with the numbers of its start
+pub record IsToldFrame (content : ContentValue) (f : EtherFrame) : Type 0 where
+  pub begins : Start
+  pub walked : IsWalked content (next_of begins) f.bytes.now
+  pub start : start_numbered f.start f.ether_type ≡ Some begins
+  pub ether_type : f.ether_type ≡ first_ether_type begins
+  pub offset : f.offset ≡ frame_offset content
+
+-- there is such a frame; or nothing is walked, and nothing is written
+pub data TellsFrame (content : ContentValue) (old new : EtherFrame) (status : ℕ) : Type 0 where
+  told : IsToldFrame content new → status ≡ done → TellsFrame content old new status
+  none : ((next : Next) (bytes : List ℕ) → IsWalked content next bytes → ⊥) → new ≡ old → status ≡ unknown_start
+      → TellsFrame content old new status

@@ -1,0 +1,25 @@
+-- Fields as they are written one after another: for the contracts of private functions.
+use Rattle.std.specs.Prelude.{ℕ, ◌+◌, ◌*◌, ◌≤◌, List, [], ◌∷◌, ◌++◌, length, map, slice_set}
+use Rattle.etherparse.specs.Header.{Header}
+use Rattle.ether_c.specs.declared.ether_field.EtherField.{EtherField}
+use Rattle.ether_c.specs.declared.field_place.FieldPlace.{FieldPlace}
+use Rattle.ether_c.specs.FieldTables.{moved, header_fields, trailer_fields}
+use Rattle.ether_c.specs.Fields.{told_field}
+
+-- an array with elements written from a place on, those that it has a place for
+abbrev pub put_all : List EtherField → (at : ℕ) → List EtherField → List EtherField
+put_all list at [] = list
+put_all list at (x ∷ xs) = put_all (slice_set list at x) (at + 1) xs
+
+-- the fields of what begins at a byte are within a list
+abbrev pub AreIn : List ℕ → (start : ℕ) → List FieldPlace → Type 0
+AreIn list start [] = Unit {0}
+AreIn list start (f ∷ fs) = (8 * start + (f.first + f.len) ≤ 8 * length list) × AreIn list start fs
+
+-- .. of the unit with an index
+abbrev pub told_table : List ℕ → (unit start : ℕ) → List FieldPlace → List EtherField
+told_table list unit start table = map (told_field list unit) (map (moved start) table)
+
+-- .. of a unit with its header there, and with its payload's end
+abbrev pub told_placed_fields : List ℕ → (unit start finish : ℕ) → Header → List EtherField
+told_placed_fields list unit start finish h = told_table list unit start (header_fields h) ++ told_table list unit finish (trailer_fields h)

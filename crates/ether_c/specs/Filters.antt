@@ -1,0 +1,75 @@
+-- What the calls do that read the text of a filter.
+use Rattle.std.specs.Prelude.{◌≡◌, ◌⊎◌, ℕ, ◌<◌, ◌≤◌, List, ◌++◌, length, drop, Result, IfOk, IfErr}
+use Rattle.ether_filter.specs.Expressions.{Expression}
+use Rattle.ether_filter.specs.Texts.{IsExpressionOf}
+use Rattle.ether_filter.specs.Refusals.{RefusesText}
+use Rattle.ether_filter.specs.ErrorTexts.{filter_error_text}
+use Rattle.ether_filter.specs.declared.filter_error.FilterError.{FilterError}
+use Rattle.ether_filter.specs.declared.filter_error.FilterErrorKind.{FilterErrorKind}
+use Rattle.ether_filter.specs.declared.filter_error.FilterErrorKind.TheVariants as kinds
+use Rattle.ether_c.specs.declared.ether_captured.EtherCaptured.{EtherCaptured}
+use Rattle.ether_c.specs.declared.ether_filter_error.EtherFilterError.{EtherFilterError}
+use Rattle.ether_c.specs.Numbers.{done, no_room, no_text}
+use Rattle.ether_c.specs.Calls.{PutsBytes}
+use Rattle.ether_c.specs.Selection.{AreMarks}
+
+-- ---- refusals
+
+abbrev pub bad_filter : ℕ
+bad_filter = 14
+
+-- what is expected, or why a word does not fit, in the order of enum etherpeel_filter_error_kind
+abbrev pub filter_error_number : FilterErrorKind → ℕ
+filter_error_number kinds.ExpectedOperand = 1
+filter_error_number kinds.ExpectedOperator = 2
+filter_error_number kinds.ExpectedVlan = 3
+filter_error_number kinds.ExpectedEtherWord = 4
+filter_error_number kinds.ExpectedAddress = 5
+filter_error_number (kinds.ExpectedNumber most) = 6
+filter_error_number kinds.MixedOperators = 7
+filter_error_number kinds.Unopened = 8
+filter_error_number kinds.Unclosed = 9
+filter_error_number kinds.TooLong = 10
+
+-- the greatest number that is expected, 0 if none is
+abbrev pub greatest_expected : FilterErrorKind → ℕ
+greatest_expected (kinds.ExpectedNumber most) = most
+greatest_expected _ = 0
+
+abbrev pub told_filter_error : FilterError → EtherFilterError
+told_filter_error e = record {
+  offset = e.offset;
+  kind = filter_error_number e.kind;
+  greatest = greatest_expected e.kind;
+}
+
+-- ---- selection
+
+-- The array has a mark for each packet, from its front on, and after them what it held before; or it is too short and
+-- stays as it is.
+pub record PutsMarks (x : Expression) (packets : List EtherCaptured) (old new : List ℕ) (status : ℕ) : Type 0 where
+  pub put : length packets ≤ length old
+      → (marks : List ℕ) × AreMarks x packets marks × (new ≡ marks ++ drop (length packets) old) × (status ≡ done)
+  pub kept : length old < length packets → (new ≡ old) × (status ≡ no_room)
+
+-- the text means an expression, which selects packets; or it means none, and no mark is written
+pub record TellsSelection (text : List ℕ) (packets : List EtherCaptured) (old new : List ℕ)
+    (error_old error_new : EtherFilterError) (status : ℕ) : Type 0 where
+  pub parsed : Result Expression FilterError
+  pub ok : IfOk parsed (λ x. IsExpressionOf text x × PutsMarks x packets old new status × (error_new ≡ error_old))
+  pub refused : IfErr parsed (λ e. RefusesText text e
+      × (new ≡ old) × (error_new ≡ told_filter_error e) × (status ≡ bad_filter))
+
+-- ---- texts
+
+-- The text of a refusal is written to the target, or no text can be made, which no contract rules out.
+abbrev pub PutsFilterText : FilterError → (old new : List ℕ) → (status len : ℕ) → Type 0
+PutsFilterText e old new status len =
+    PutsBytes (filter_error_text e) old new status len
+    ⊎ ((status ≡ no_text) × (len ≡ 0) × (new ≡ old))
+
+-- no text if the filter's means an expression
+pub record TellsFilterText (text old new : List ℕ) (status len : ℕ) : Type 0 where
+  pub parsed : Result Expression FilterError
+  pub ok : IfOk parsed (λ x. IsExpressionOf text x × (status ≡ done) × (len ≡ 0) × (new ≡ old))
+  pub refused : IfErr parsed (λ e. RefusesText text e × PutsFilterText e old new status len)

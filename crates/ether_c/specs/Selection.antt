@@ -1,0 +1,36 @@
+-- Which packets of a capture a filter selects.
+use Rattle.std.specs.Prelude.{◌≡◌, ◌⊎◌, ℕ, List, [], ◌∷◌, nat_eq, Option, Some, None, if◌then◌else◌}
+use Rattle.ether_filter.specs.Expressions.{Expression}
+use Rattle.ether_pcap.specs.Capture.{TimeValue, PacketValue}
+use Rattle.ether_content.specs.Selecting.{Selects}
+use Rattle.ether_c.specs.declared.ether_captured.EtherCaptured.{EtherCaptured}
+
+-- ---- the packet that is passed
+
+-- what a mark of 0 says is not there
+abbrev pub marked : {T : Type 0} → (mark : ℕ) → T → Option T
+marked mark value = if nat_eq mark 0 then None else Some value
+
+abbrev pub captured_time : EtherCaptured → TimeValue
+captured_time c = record { seconds = c.seconds; nanoseconds = c.nanoseconds }
+
+abbrev pub packet_value : EtherCaptured → PacketValue
+packet_value c = record {
+  time = marked c.has_time (captured_time c);
+  original_len = c.original_len;
+  link_type = c.link_type;
+  fcs_len = marked c.has_fcs_len c.fcs_len;
+  packet = c.packet.now;
+}
+
+-- ---- which packets are selected
+
+-- 1 for a packet that is selected, 0 for another
+abbrev pub IsMark : Expression → EtherCaptured → (mark : ℕ) → Type 0
+IsMark x c mark = (Selects x (packet_value c) × (mark ≡ 1)) ⊎ ((Selects x (packet_value c) → ⊥) × (mark ≡ 0))
+
+-- for each packet
+abbrev pub AreMarks : Expression → List EtherCaptured → (marks : List ℕ) → Type 0
+AreMarks x [] [] = Unit {0}
+AreMarks x (c ∷ cs) (m ∷ ms) = IsMark x c m × AreMarks x cs ms
+AreMarks _ _ _ = ⊥

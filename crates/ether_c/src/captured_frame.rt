@@ -1,0 +1,28 @@
+//! What is walked of a captured packet.
+ghost use Rattle.ether_content.specs.Content.{content_of};
+ghost use Rattle.ether_c.specs.CapturedFrame.{TellsFrame};
+ghost use Rattle.ether_c.specs.Selection.{packet_value};
+
+use crate::numbers::{DONE, UNKNOWN_START};
+use crate::{EtherCaptured, EtherFrame};
+use ether_content::Content;
+
+/// The frame that is walked of a packet of a capture, by its link type.
+///
+/// Of Linux cooked capture v2 that is the payload, if the header can be read and an ether type
+/// announces it.
+#[unsafe(no_mangle)]
+pub extern "C" fn etherpeel_captured_frame<'a>(
+    packet: &EtherCaptured<'a>,
+    frame: &mut EtherFrame<'a>,
+) -> u32
+    ensures { TellsFrame (content_of (packet_value packet.now)) frame.old frame.new result }
+{
+    match EtherFrame::of(Content::of(&packet.to_packet())) {
+        Some(found) => {
+            *frame = found;
+            DONE
+        }
+        None => UNKNOWN_START,
+    }
+}

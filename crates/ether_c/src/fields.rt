@@ -1,0 +1,131 @@
+//! The fields of the headers of a frame in an array.
+ghost use Rattle.std.specs.Prelude.{◌≡◌, ◌+◌, ◌*◌, ◌<◌, ◌≤◌, ◌^◌, length, slice_set};
+ghost use Rattle.etherparse.specs.Header.{header_len, trailer_len};
+ghost use Rattle.ether_peel.specs.Walker.Start.{start_of as start_meant};
+ghost use Rattle.ether_c.specs.Starts.{IsUnknown, IsRefused, OfStart};
+ghost use Rattle.ether_c.specs.Views.{header_of};
+ghost use Rattle.ether_c.specs.FieldTables.{header_fields, trailer_fields};
+ghost use Rattle.ether_c.specs.Fields.{TellsFields, HasFields};
+ghost use Rattle.ether_c.specs.FieldViews.{put_all, AreIn, told_table, told_placed_fields};
+
+use crate::field_putting::put_table;
+use crate::numbers::{DONE, UNKNOWN_START, start_of};
+use crate::{EtherField, field_place};
+use ether_peel::{Peel, PeelUnit, Start};
+
+/// The fields of the headers of a frame, as many as the array has room for, and how many there are in
+/// all. An address of length 0 is a field of 0 bits.
+#[unsafe(no_mangle)]
+pub extern "C" fn etherpeel_fields(
+    start: u32,
+    ether_type: u16,
+    bytes: &[u8],
+    fields: &mut [EtherField],
+    count: &mut usize,
+) -> u32
+    ensures unknown { IsUnknown start ether_type
+        → IsRefused result ((fields.new ≡ fields.old) × (count.new ≡ count.old)) }
+    ensures told { OfStart start ether_type
+        (λ s. TellsFields (start_meant s) bytes.now fields.old fields.new result count.new) }
+{
+    let Some(start) = start_of(start, ether_type) else {
+        return UNKNOWN_START;
+    };
+    *count = fields_walked(start, bytes, fields);
+    DONE
+}
+
+/// Which unit it is, where it starts and where its payload ends.
+#[derive(Clone, Copy)]
+struct UnitPlace {
+    index: usize,
+    start: usize,
+    payload_end: usize,
+}
+
+/// The fields of the units of a walk, and how many there are in all.
+fn fields_walked(start: Start, bytes: &[u8], fields: &mut [EtherField]) -> usize
+    ensures { HasFields (start_meant start) bytes.now fields.old fields.new result }
+{
+    let mut peel = Peel::new(start, bytes);
+    let mut count = 0;
+    let mut index = 0;
+    loop {
+        let start = peel.offset();
+        match peel.next() {
+            Some(Ok(unit)) => {
+                let place = UnitPlace {
+                    index,
+                    start,
+                    payload_end: peel.offset() + peel.rest().len(),
+                };
+                count = put_unit(bytes, &unit, place, fields, count);
+                index += 1;
+            }
+            Some(Err(_)) => return count,
+            None => return count,
+        }
+    }
+}
+
+/// Writes the fields of a unit from a place of the array on, and returns the place after them.
+fn put_unit(
+    bytes: &[u8],
+    unit: &PeelUnit<'_>,
+    place: UnitPlace,
+    fields: &mut [EtherField],
+    at: usize,
+) -> usize
+    requires header { place.start + header_len (header_of unit.now) ≤ length bytes.now }
+    requires trailer { place.payload_end + trailer_len (header_of unit.now) ≤ length bytes.now }
+    requires room { at + length (header_fields (header_of unit.now)) + length (trailer_fields (header_of unit.now)) < 2 ^ 64 }
+    ensures fields { fields.new ≡ put_all fields.old at
+        (told_placed_fields bytes.now place.index place.start place.payload_end (header_of unit.now)) }
+    ensures next { result ≡ at + length (header_fields (header_of unit.now)) + length (trailer_fields (header_of unit.now)) }
+{
+    let next = put_header(bytes, unit, place, fields, at);
+    match unit {
+        PeelUnit::Ethernet2(frame) if frame.fcs().is_some() => put_table(
+            bytes,
+            place.index,
+            place.payload_end,
+            &field_place::check_sequence(),
+            fields,
+            next,
+        ),
+        _ => next,
+    }
+}
+
+/// Writes the fields of a unit's header.
+fn put_header(
+    bytes: &[u8],
+    unit: &PeelUnit<'_>,
+    place: UnitPlace,
+    fields: &mut [EtherField],
+    at: usize,
+) -> usize
+    requires header { place.start + header_len (header_of unit.now) ≤ length bytes.now }
+    requires room { at + length (header_fields (header_of unit.now)) < 2 ^ 64 }
+    ensures fields { fields.new ≡ put_all fields.old at
+        (told_table bytes.now place.index place.start (header_fields (header_of unit.now))) }
+    ensures next { result ≡ at + length (header_fields (header_of unit.now)) }
+{
+    let UnitPlace { index, start, .. } = place;
+    match unit {
+        PeelUnit::Ethernet2(_) => {
+            put_table(bytes, index, start, &field_place::ethernet2(), fields, at)
+        }
+        PeelUnit::LinuxSll(_) => {
+            put_table(bytes, index, start, &field_place::linux_sll(), fields, at)
+        }
+        PeelUnit::Vlan(_) => put_table(bytes, index, start, &field_place::vlan(), fields, at),
+        PeelUnit::Macsec(packet) => {
+            let table = field_place::macsec(&packet.header);
+            put_table(bytes, index, start, table.as_slice(), fields, at)
+        }
+        PeelUnit::Arp(packet) => {
+            put_table(bytes, index, start, &field_place::arp(packet), fields, at)
+        }
+    }
+}
