@@ -22,4 +22,5 @@ told_table list unit start table = map (told_field list unit) (map (moved start)
 
 -- .. of a unit with its header there, and with its payload's end
 abbrev pub told_placed_fields : List ℕ → (unit start finish : ℕ) → Header → List EtherField
-told_placed_fields list unit start finish h = told_table list unit start (header_fields h) ++ told_table list unit finish (trailer_fields h)
+told_placed_fields list unit start finish h = told_table list unit start (header_fields h)
+    ++ told_table list unit finish (trailer_fields h)
