@@ -63,9 +63,9 @@ pub data TellsLinuxSll2 (bytes : List ℕ) : (told : EtherLinuxSll2) → (status
 
 -- the array holds the fields of the header from its front on, as many as it has room for; nothing is written of a
 -- header that is refused
-pub record TellsLinuxSll2Fields (bytes : List ℕ) (old new : List EtherField) (count_old count : ℕ) (status : ℕ) : Type
-    0 where
-  pub accepted : AcceptsLinuxSll2 bytes → Fronts (map (told_field bytes 0) linux_sll2_fields) old new count
-      × (status ≡ done)
+pub record TellsLinuxSll2Fields (bytes : List ℕ) (old new : List EtherField) (count_old count : ℕ)
+    (status : ℕ) : Type 0 where
+  pub accepted : AcceptsLinuxSll2 bytes
+      → Fronts (map (told_field bytes 0) linux_sll2_fields) old new count × (status ≡ done)
   pub refused : (r : LinuxSll2Refusal) → RefusesLinuxSll2 bytes r
       → (new ≡ old) × (count ≡ count_old) × (status ≡ linux_sll2_status r)

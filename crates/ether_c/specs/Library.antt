@@ -25,7 +25,7 @@ struct_size number =
     else (if nat_eq number 15 then 32
     else (if nat_eq number 16 then 32 else 0)))))))))))))))
 
--- The starts for the link types LINKTYPE_ETHERNET and LINKTYPE_LINUX_SLL (www.tcpdump.org/linktypes.html), by their numbers; 0 is
--- none. libpcap has the same numbers for its DLT_EN10MB and DLT_LINUX_SLL.
+-- The starts for the link types LINKTYPE_ETHERNET and LINKTYPE_LINUX_SLL (www.tcpdump.org/linktypes.html), by their
+-- numbers; 0 is none. libpcap has the same numbers for its DLT_EN10MB and DLT_LINUX_SLL.
 abbrev pub link_type_start : ℕ → ℕ
 link_type_start number = if nat_eq number 1 then 1 else (if nat_eq number 113 then 3 else 0)
