@@ -1,8 +1,8 @@
 /* etherpeel.h - the link-layer headers of frames, packets and captures
  *
  * Ethernet II, VLAN tags (IEEE 802.1Q), MACsec SecTags (IEEE 802.1AE), Linux cooked capture v1 and
- * ARP (RFC 826), each announced by the ether type of the header before it. For C99 and C++11, on
- * Linux on x86-64. Link with libetherpeel, static or shared: pkg-config etherpeel.
+ * v2, and ARP (RFC 826), each announced by the ether type of the header before it. For C99 and
+ * C++11, on Linux on x86-64. Link with libetherpeel, static or shared: pkg-config etherpeel.
  *
  * What holds for every call:
  *
@@ -10,9 +10,9 @@
  *            `buffer` to `len` bytes, which the calls that change VLAN tags write to. NULL is
  *            allowed if `len` is 0.
  *   Targets  `units`, `fields`, `packets`, `matches`, `target`, `fill` and `text` point to as many
- *            elements as `room` says. NULL is allowed if `room` is 0. A pointer to one struct or number must not be
- *            NULL. The memory must be aligned for its type. What is only written to need not be
- *            initialized, but for `packets` and an etherpeel_frame.
+ *            elements as `room` says. NULL is allowed if `room` is 0. A pointer to one struct or
+ *            number must not be NULL. The memory must be aligned for its type. What is only written
+ *            to need not be initialized, but for `packets` and an etherpeel_frame.
  *   Overlap  What a call may write to must not overlap the frame, nor anything else that the call
  *            may write to.
  *   Keeping  No call keeps a pointer after it returns.
@@ -20,9 +20,10 @@
  *            Offsets count bytes from the start of the frame, but for those of fields, in bits.
  *   Order    Numbers are in the byte order of the machine (host byte order), those that are passed
  *            and those of structs; addresses are bytes in the order of the frame.
- *   Result   ETHERPEEL_DONE, or why the call did nothing, but for etherpeel_capture. After
- *            ETHERPEEL_UNKNOWN_START nothing was written at all; after ETHERPEEL_NO_ROOM only the
- *            length that the target needs; after ETHERPEEL_NO_TEXT only the length 0.
+ *   Result   ETHERPEEL_DONE, or why the call did nothing; etherpeel_capture, etherpeel_select and
+ *            etherpeel_linux_sll2 say what they write even then. After ETHERPEEL_UNKNOWN_START
+ *            nothing was written at all; after ETHERPEEL_NO_ROOM only the length that the target
+ *            needs, if the call gives one; after ETHERPEEL_NO_TEXT only the length 0.
  *   Memory   No call allocates, blocks, or stores anything between calls, so each is thread-safe.
  *            etherpeel_completion and etherpeel_fault_text take some 2.5 KB of stack, those of
  *            capture files 300 KB, those of filters 48 KB, the others less than 1 KB.
@@ -92,7 +93,11 @@ enum etherpeel_status {
     ETHERPEEL_BAD_CAPTURE = 13,
 
     /* The text of a filter is no expression. */
-    ETHERPEEL_BAD_FILTER = 14
+    ETHERPEEL_BAD_FILTER = 14,
+
+    /* The packet type of a header of Linux cooked capture v2 is above 7. One that is cut short is
+     * ETHERPEEL_SHORT. */
+    ETHERPEEL_BAD_PACKET_TYPE = 15
 };
 
 /* What a frame begins with: the parameter `start` of each call. The parameter `ether_type` is read
@@ -254,7 +259,16 @@ enum etherpeel_field_name {
     ETHERPEEL_FIELD_ARP_TARGET_PROTOCOL = 33,
 
     /* The frame check sequence of Ethernet (IEEE 802.3, 3.2.9). */
-    ETHERPEEL_FIELD_FCS = 34
+    ETHERPEEL_FIELD_FCS = 34,
+
+    /* Linux cooked capture v2 (LINKTYPE_LINUX_SLL2). */
+    ETHERPEEL_FIELD_LINUX_SLL2_PROTOCOL = 35,
+    ETHERPEEL_FIELD_LINUX_SLL2_RESERVED = 36,
+    ETHERPEEL_FIELD_LINUX_SLL2_INTERFACE_INDEX = 37,
+    ETHERPEEL_FIELD_LINUX_SLL2_HARDWARE_TYPE = 38,
+    ETHERPEEL_FIELD_LINUX_SLL2_PACKET_TYPE = 39,
+    ETHERPEEL_FIELD_LINUX_SLL2_ADDRESS_LEN = 40,
+    ETHERPEEL_FIELD_LINUX_SLL2_ADDRESS = 41
 };
 
 /* ---- Structs ----
@@ -410,11 +424,24 @@ typedef struct etherpeel_capture_end {
     size_t needed; /* how many bytes this unit needs at least, of ETHERPEEL_SHORT, else 0 */
 } etherpeel_capture_end;
 
+/* A header of Linux cooked capture v2, and what to pass with its payload to calls for frames. */
+typedef struct etherpeel_linux_sll2_header {
+    size_t payload_start;     /* 20 */
+    uint32_t interface_index; /* of the interface that the packet was seen on */
+    uint32_t start;           /* ETHERPEEL_START_ETHER_TYPE; 0 if the payload has no ether type */
+    uint16_t protocol;
+    uint16_t ether_type;    /* of the payload, 0 if it has none */
+    uint16_t hardware_type; /* the ARPHRD_ number of the interface */
+    uint8_t packet_type;    /* 0 to 7, as of Linux cooked capture v1 */
+    uint8_t address_len;    /* may exceed 8, though the field holds only 8 bytes */
+    uint8_t address[8];     /* the sender's address, truncated or padded */
+} etherpeel_linux_sll2_header;
+
 /* Why a text is no expression of a filter. */
 typedef struct etherpeel_filter_error {
     size_t offset; /* where the first word that fits nothing begins, or the length of the text */
     uint32_t kind; /* enum etherpeel_filter_error_kind */
-    uint32_t greatest; /* the greatest number that is expected, of ETHERPEEL_FILTER_NUMBER, else 0 */
+    uint32_t greatest; /* the greatest number that fits, of ETHERPEEL_FILTER_NUMBER, else 0 */
 } etherpeel_filter_error;
 
 /* ---- The library ----
@@ -439,7 +466,8 @@ enum etherpeel_struct {
     ETHERPEEL_STRUCT_CAPTURE_END = 12,
     ETHERPEEL_STRUCT_FILTER_ERROR = 13,
     ETHERPEEL_STRUCT_FRAME = 14,
-    ETHERPEEL_STRUCT_FIELD = 15
+    ETHERPEEL_STRUCT_FIELD = 15,
+    ETHERPEEL_STRUCT_LINUX_SLL2_HEADER = 16
 };
 
 /* etherpeel_version - the version of the library, as ETHERPEEL_VERSION is that of this header
@@ -477,7 +505,9 @@ static inline int etherpeel_fits(void) {
            etherpeel_sizeof(ETHERPEEL_STRUCT_CAPTURE_END) == sizeof(etherpeel_capture_end) &&
            etherpeel_sizeof(ETHERPEEL_STRUCT_FILTER_ERROR) == sizeof(etherpeel_filter_error) &&
            etherpeel_sizeof(ETHERPEEL_STRUCT_FRAME) == sizeof(etherpeel_frame) &&
-           etherpeel_sizeof(ETHERPEEL_STRUCT_FIELD) == sizeof(etherpeel_field);
+           etherpeel_sizeof(ETHERPEEL_STRUCT_FIELD) == sizeof(etherpeel_field) &&
+           etherpeel_sizeof(ETHERPEEL_STRUCT_LINUX_SLL2_HEADER) ==
+               sizeof(etherpeel_linux_sll2_header);
 }
 
 /* etherpeel_start_of_link_type - the number of enum etherpeel_start for packets of a link type, 0
@@ -750,10 +780,44 @@ uint32_t etherpeel_capture_fault_text(const uint8_t *file, size_t len, char *tex
  * and an ether type announces the payload.
  * Returns ETHERPEEL_DONE; or ETHERPEEL_UNKNOWN_START if nothing of the packet is walked, and then
  * *frame stays as it was. It must be initialized, and may be all 0.
- * Overlap: *frame must not overlap the packet or its bytes, which it points into. Every number is in
+ * Overlap: *frame must not overlap *packet or its bytes, which it points into. Every number is in
  * host byte order. Thread-safe; takes no memory.
  */
 uint32_t etherpeel_captured_frame(const etherpeel_captured *packet, etherpeel_frame *frame);
+
+/* ---- Linux cooked capture v2 ----
+ *
+ * `bytes` points to the `len` bytes of a packet of DLT_LINUX_SLL2, which begins with a header of 20
+ * bytes. What an ether type announces after it is walked as any frame:
+ *
+ *   etherpeel_walk(header.start, header.ether_type, bytes + 20, len - 20, ..)
+ */
+
+/* etherpeel_linux_sll2 - the header of a packet of Linux cooked capture v2
+ *
+ * Fills *header. The payload has an ether type but on a link whose protocol numbers are others
+ * (netlink, GRE) or have no meaning (IEEE 802.11 with radiotap, frame relay).
+ * Returns ETHERPEEL_DONE; or ETHERPEEL_SHORT if there are fewer than 20 bytes, and then *header is
+ * all 0; or ETHERPEEL_BAD_PACKET_TYPE if the packet type is above 7, and then *header has this
+ * number and is else all 0. No hardware type is refused.
+ * Overlap: *header must not overlap the packet. Every number is in host byte order, the address in
+ * that of the packet. Thread-safe; takes no memory.
+ */
+uint32_t etherpeel_linux_sll2(const uint8_t *bytes, size_t len,
+                              etherpeel_linux_sll2_header *header);
+
+/* etherpeel_linux_sll2_fields - the fields of the header of a packet of Linux cooked capture v2
+ *
+ * Fills fields[0], fields[1] .. with the fields in order, as many as there is room for, and *count
+ * with how many there are, which is 7. Each has the unit 0. Elements from *count on stay as they
+ * were.
+ * Returns ETHERPEEL_DONE; or ETHERPEEL_SHORT or ETHERPEEL_BAD_PACKET_TYPE as etherpeel_linux_sll2
+ * does, and then nothing is written.
+ * Overlap: packet, fields and *count must not overlap. Every number is in host byte order.
+ * Thread-safe; takes no memory.
+ */
+uint32_t etherpeel_linux_sll2_fields(const uint8_t *bytes, size_t len, etherpeel_field *fields,
+                                     size_t room, size_t *count);
 
 /* ---- Filters ----
  *

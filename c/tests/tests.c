@@ -76,6 +76,15 @@ static void layout(void) {
     CHECK(sizeof(etherpeel_field) == 32 && offsetof(etherpeel_field, bit_len) == 8 &&
           offsetof(etherpeel_field, value) == 16 && offsetof(etherpeel_field, unit) == 24 &&
           offsetof(etherpeel_field, name) == 28);
+    CHECK(sizeof(etherpeel_linux_sll2_header) == 32 &&
+          offsetof(etherpeel_linux_sll2_header, interface_index) == 8 &&
+          offsetof(etherpeel_linux_sll2_header, start) == 12 &&
+          offsetof(etherpeel_linux_sll2_header, protocol) == 16);
+    CHECK(offsetof(etherpeel_linux_sll2_header, ether_type) == 18 &&
+          offsetof(etherpeel_linux_sll2_header, hardware_type) == 20 &&
+          offsetof(etherpeel_linux_sll2_header, packet_type) == 22 &&
+          offsetof(etherpeel_linux_sll2_header, address_len) == 23 &&
+          offsetof(etherpeel_linux_sll2_header, address) == 24);
 }
 
 /* ---- the library: its version, the sizes of its structs, link types ---- */
@@ -743,22 +752,21 @@ static void fields(void) {
         {48, 48, 0x020000000001, 0, ETHERPEEL_FIELD_ETHERNET2_SOURCE},
         {96, 16, 0x0800, 0, ETHERPEEL_FIELD_ETHERNET2_ETHER_TYPE},
         {120, 32, 0x11223344, 0, ETHERPEEL_FIELD_FCS}};
-    static const etherpeel_field named[] = {
-        {0, 1, 0, 0, ETHERPEEL_FIELD_MACSEC_V},
-        {1, 1, 0, 0, ETHERPEEL_FIELD_MACSEC_ES},
-        {2, 1, 0, 0, ETHERPEEL_FIELD_MACSEC_SC},
-        {3, 1, 0, 0, ETHERPEEL_FIELD_MACSEC_SCB},
-        {4, 1, 0, 0, ETHERPEEL_FIELD_MACSEC_E},
-        {5, 1, 0, 0, ETHERPEEL_FIELD_MACSEC_C},
-        {6, 2, 0, 0, ETHERPEEL_FIELD_MACSEC_AN},
-        {8, 2, 1, 0, ETHERPEEL_FIELD_MACSEC_RESERVED},
-        {10, 6, 6, 0, ETHERPEEL_FIELD_MACSEC_SL},
-        {16, 32, 1, 0, ETHERPEEL_FIELD_MACSEC_PN},
-        {48, 16, 0x8100, 0, ETHERPEEL_FIELD_MACSEC_ETHER_TYPE},
-        {64, 3, 5, 1, ETHERPEEL_FIELD_VLAN_PCP},
-        {67, 1, 0, 1, ETHERPEEL_FIELD_VLAN_DEI},
-        {68, 12, 0xABB, 1, ETHERPEEL_FIELD_VLAN_VID},
-        {80, 16, 0xCCDD, 1, ETHERPEEL_FIELD_VLAN_ETHER_TYPE}};
+    static const etherpeel_field named[] = {{0, 1, 0, 0, ETHERPEEL_FIELD_MACSEC_V},
+                                            {1, 1, 0, 0, ETHERPEEL_FIELD_MACSEC_ES},
+                                            {2, 1, 0, 0, ETHERPEEL_FIELD_MACSEC_SC},
+                                            {3, 1, 0, 0, ETHERPEEL_FIELD_MACSEC_SCB},
+                                            {4, 1, 0, 0, ETHERPEEL_FIELD_MACSEC_E},
+                                            {5, 1, 0, 0, ETHERPEEL_FIELD_MACSEC_C},
+                                            {6, 2, 0, 0, ETHERPEEL_FIELD_MACSEC_AN},
+                                            {8, 2, 1, 0, ETHERPEEL_FIELD_MACSEC_RESERVED},
+                                            {10, 6, 6, 0, ETHERPEEL_FIELD_MACSEC_SL},
+                                            {16, 32, 1, 0, ETHERPEEL_FIELD_MACSEC_PN},
+                                            {48, 16, 0x8100, 0, ETHERPEEL_FIELD_MACSEC_ETHER_TYPE},
+                                            {64, 3, 5, 1, ETHERPEEL_FIELD_VLAN_PCP},
+                                            {67, 1, 0, 1, ETHERPEEL_FIELD_VLAN_DEI},
+                                            {68, 12, 0xABB, 1, ETHERPEEL_FIELD_VLAN_VID},
+                                            {80, 16, 0xCCDD, 1, ETHERPEEL_FIELD_VLAN_ETHER_TYPE}};
     static const etherpeel_field sealed[] = {
         {0, 1, 0, 0, ETHERPEEL_FIELD_MACSEC_V},
         {1, 1, 1, 0, ETHERPEEL_FIELD_MACSEC_ES},
@@ -835,6 +843,61 @@ static void fields_without_room(void) {
         CHECK(count == (n < 14 ? 0u : n < 42 ? 3u : 12u));
     }
     release(page);
+}
+
+/* ---- cooked capture v2 ---- */
+
+static void linux_sll2(void) {
+    etherpeel_linux_sll2_header h;
+    etherpeel_unit unit;
+    size_t count;
+    uint8_t other[20];
+    memset(&h, 0xA5, sizeof h);
+    CHECK(etherpeel_linux_sll2(COOKED_V2, sizeof COOKED_V2, &h) == ETHERPEEL_DONE);
+    CHECK(h.payload_start == 20 && h.interface_index == 3 && h.protocol == 0x8100);
+    CHECK(h.start == ETHERPEEL_START_ETHER_TYPE && h.ether_type == 0x8100);
+    CHECK(h.hardware_type == 1 && h.packet_type == 4 && h.address_len == 6);
+    CHECK(memcmp(h.address, COOKED_V2 + 12, 8) == 0);
+    CHECK(etherpeel_walk(h.start, h.ether_type, COOKED_V2 + 20, 5, &unit, 1, &count) ==
+          ETHERPEEL_DONE);
+    CHECK(count == 1 && unit.vlan.vid == 0x123 && unit.vlan.ether_type == 0x0800);
+    CHECK(etherpeel_linux_sll2(COOKED_V2_GRE, 20, &h) == ETHERPEEL_DONE);
+    CHECK(h.payload_start == 20 && h.interface_index == 1 && h.protocol == 0x0800);
+    CHECK(h.start == 0 && h.ether_type == 0 && h.hardware_type == 0x030A && h.packet_type == 0);
+    /* refused */
+    memset(&h, 0xA5, sizeof h);
+    CHECK(etherpeel_linux_sll2(COOKED_V2, 19, &h) == ETHERPEEL_SHORT && all_are(&h, sizeof h, 0));
+    CHECK(etherpeel_linux_sll2(NULL, 0, &h) == ETHERPEEL_SHORT);
+    memcpy(other, COOKED_V2, 20), other[10] = 8;
+    CHECK(etherpeel_linux_sll2(other, 20, &h) == ETHERPEEL_BAD_PACKET_TYPE && h.packet_type == 8);
+    h.packet_type = 0;
+    CHECK(all_are(&h, sizeof h, 0));
+    other[10] = 7;
+    CHECK(etherpeel_linux_sll2(other, 20, &h) == ETHERPEEL_DONE && h.packet_type == 7);
+}
+
+static void linux_sll2_fields(void) {
+    static const etherpeel_field expected[7] = {
+        {0, 16, 0x8100, 0, ETHERPEEL_FIELD_LINUX_SLL2_PROTOCOL},
+        {16, 16, 0xBEEF, 0, ETHERPEEL_FIELD_LINUX_SLL2_RESERVED},
+        {32, 32, 3, 0, ETHERPEEL_FIELD_LINUX_SLL2_INTERFACE_INDEX},
+        {64, 16, 1, 0, ETHERPEEL_FIELD_LINUX_SLL2_HARDWARE_TYPE},
+        {80, 8, 4, 0, ETHERPEEL_FIELD_LINUX_SLL2_PACKET_TYPE},
+        {88, 8, 6, 0, ETHERPEEL_FIELD_LINUX_SLL2_ADDRESS_LEN},
+        {96, 64, 0x0200000000010000, 0, ETHERPEEL_FIELD_LINUX_SLL2_ADDRESS}};
+    etherpeel_field f[8];
+    uint8_t bytes[20];
+    size_t count = 99;
+    memset(f, 0xA5, sizeof f);
+    memcpy(bytes, COOKED_V2, 20), bytes[2] = 0xBE, bytes[3] = 0xEF, bytes[10] = 8;
+    CHECK(etherpeel_linux_sll2_fields(bytes, 20, f, 8, &count) == ETHERPEEL_BAD_PACKET_TYPE);
+    CHECK(etherpeel_linux_sll2_fields(bytes, 19, f, 8, &count) == ETHERPEEL_SHORT);
+    CHECK(count == 99 && all_are(f, sizeof f, 0xA5));
+    bytes[10] = 4;
+    CHECK(etherpeel_linux_sll2_fields(bytes, 20, f, 3, &count) == ETHERPEEL_DONE && count == 7);
+    CHECK(memcmp(f, expected, 3 * sizeof f[0]) == 0 && all_are(&f[3], 5 * sizeof f[0], 0xA5));
+    CHECK(etherpeel_linux_sll2_fields(bytes, 20, f, 8, &count) == ETHERPEEL_DONE && count == 7);
+    CHECK(memcmp(f, expected, sizeof expected) == 0 && all_are(&f[7], sizeof f[0], 0xA5));
 }
 
 /* ---- VLAN tags changed in place ---- */
@@ -1117,6 +1180,8 @@ int main(void) {
     fields();
     fields_of_addresses();
     fields_without_room();
+    linux_sll2();
+    linux_sll2_fields();
     popping();
     pushing();
     setting();

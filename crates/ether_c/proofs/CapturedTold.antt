@@ -15,7 +15,8 @@ use Rattle.ether_c.proofs.UnitsTold.{Holds, put_next}
 
 -- ---- packets that are told
 
-told-append : (cs : List EtherCaptured) (ps : List PacketValue) (c : EtherCaptured) (p : PacketValue) → AreTold cs ps → IsToldPacket c p
+told-append : (cs : List EtherCaptured) (ps : List PacketValue) (c : EtherCaptured) (p : PacketValue) → AreTold cs ps
+    → IsToldPacket c p
     → AreTold (cs ++ c ∷ []) (ps ++ p ∷ [])
 told-append [] [] c p are is = (is, tt)
 told-append [] (q ∷ qs) c p are is = absurd are
@@ -33,13 +34,15 @@ told-length (d ∷ ds) (q ∷ qs) are = ap suc (told-length ds qs are.1)
 abbrev Returns : (result returned : Option (Result CapturedPacket CaptureFault)) → Type 0
 Returns result returned = result ≡ returned
 
-pub record PacketNext (todo : List PacketValue) (left : List ℕ) (fault : Option CaptureRefusal) (t : State) (q : CapturedPacket) : Type 0 where
+pub record PacketNext (todo : List PacketValue) (left : List ℕ) (fault : Option CaptureRefusal) (t : State)
+    (q : CapturedPacket) : Type 0 where
   pub later : List PacketValue
   pub parts : todo ≡ captured_packet_view q ∷ later
   pub has : HasPackets t.expected t.rest later left fault
   pub going : t.over ≡ false
 
-packet_next : (todo : List PacketValue) (left : List ℕ) (fault : Option CaptureRefusal) (s t : State) (q : CapturedPacket) → GivesNext todo left fault s (Some (Ok q)) t
+packet_next : (todo : List PacketValue) (left : List ℕ) (fault : Option CaptureRefusal) (s t : State)
+    (q : CapturedPacket) → GivesNext todo left fault s (Some (Ok q)) t
     → PacketNext todo left fault t q
 packet_next [] left None s t q g = let none = g.0 in absurd cc
 packet_next [] left (Some r) s t q g = let given = g.1 in absurd cc
@@ -54,13 +57,15 @@ packet_next (p ∷ ps) left fault s t q g =
       going = assumption g;
     }
 
-pub record FaultNext (todo : List PacketValue) (left : List ℕ) (fault : Option CaptureRefusal) (t : State) (f : CaptureFault) : Type 0 where
+pub record FaultNext (todo : List PacketValue) (left : List ℕ) (fault : Option CaptureRefusal) (t : State)
+    (f : CaptureFault) : Type 0 where
   pub none_left : todo ≡ []
   pub refusal : fault ≡ Some (capture_refusal_view f.error)
   pub place : f.offset ≡ t.offset
   pub rest : t.rest ≡ left
 
-fault_next : (todo : List PacketValue) (left : List ℕ) (fault : Option CaptureRefusal) (s t : State) (f : CaptureFault) → GivesNext todo left fault s (Some (Err f)) t
+fault_next : (todo : List PacketValue) (left : List ℕ) (fault : Option CaptureRefusal) (s t : State)
+    (f : CaptureFault) → GivesNext todo left fault s (Some (Err f)) t
     → FaultNext todo left fault t f
 fault_next [] left None s t f g = let none = g.0 in absurd cc
 fault_next [] left (Some r) s t f g =
@@ -78,7 +83,8 @@ pub record NoneNext (todo : List PacketValue) (fault : Option CaptureRefusal) : 
   pub none_left : todo ≡ []
   pub no_fault : fault ≡ None
 
-none_next : (todo : List PacketValue) (left : List ℕ) (fault : Option CaptureRefusal) (s t : State) → GivesNext todo left fault s None t → NoneNext todo fault
+none_next : (todo : List PacketValue) (left : List ℕ) (fault : Option CaptureRefusal) (s t : State)
+    → GivesNext todo left fault s None t → NoneNext todo fault
 none_next [] left None s t g = record { none_left = refl; no_fault = refl }
 none_next [] left (Some r) s t g = let given = g.1 in absurd cc
 none_next (p ∷ ps) left fault s t g = let given : Returns None (Some (Ok g.0)) = assumption g in absurd cc
@@ -121,8 +127,10 @@ captured_first file old =
       held = ap (λ (l : List EtherCaptured). l ++ old) (sym (take-nil (length old)));
     }
 
-pub captured_packet : (file : List ℕ) (s t : State) (q : CapturedPacket) (count : ℕ) (old mid new : List EtherCaptured) (c : EtherCaptured) → CapturedSoFar file s count old mid
-    → Gives s (Some (Ok q)) t → IsToldPacket c (captured_packet_view q) → new ≡ set mid count c → CapturedSoFar file t (count + 1) old new
+pub captured_packet : (file : List ℕ) (s t : State) (q : CapturedPacket) (count : ℕ)
+    (old mid new : List EtherCaptured) (c : EtherCaptured) → CapturedSoFar file s count old mid
+    → Gives s (Some (Ok q)) t → IsToldPacket c (captured_packet_view q) → new ≡ set mid count c
+    → CapturedSoFar file t (count + 1) old new
 captured_packet file s t q count old mid new c a gives is put =
     let n = packet_next a.todo a.left a.fault s t q (gives.next a.going a.todo a.left a.fault a.rest) in
     let p = captured_packet_view q in
@@ -137,7 +145,8 @@ captured_packet file s t q count old mid new c a gives is put =
       going = n.going;
       place = gives.place a.going ∙ a.place;
       before = a.before ++ p ∷ [];
-      parts = a.parts ∙ ap (λ (l : List PacketValue). a.before ++ l) n.parts ∙ sym (append_assoc a.before (p ∷ []) n.later);
+      parts = a.parts ∙ ap (λ (l : List PacketValue). a.before ++ l) n.parts
+          ∙ sym (append_assoc a.before (p ∷ []) n.later);
       told = a.told ++ c ∷ [];
       are = told-append a.told a.before c p a.are is;
       counted = let e = length-append a.told (c ∷ []) in omega arith;
@@ -146,10 +155,12 @@ captured_packet file s t q count old mid new c a gives is put =
 
 -- ---- the end
 
-all_told : (file : List ℕ) (s : State) (count : ℕ) (old new : List EtherCaptured) (a : CapturedSoFar file s count old new) → a.todo ≡ [] → a.packets ≡ a.before
+all_told : (file : List ℕ) (s : State) (count : ℕ) (old new : List EtherCaptured)
+    (a : CapturedSoFar file s count old new) → a.todo ≡ [] → a.packets ≡ a.before
 all_told file s count old new a none = a.parts ∙ ap (λ (l : List PacketValue). a.before ++ l) none ∙ append-nil a.before
 
-pub captured_fault : (file : List ℕ) (s t : State) (f : CaptureFault) (count : ℕ) (old new : List EtherCaptured) → CapturedSoFar file s count old new
+pub captured_fault : (file : List ℕ) (s t : State) (f : CaptureFault) (count : ℕ) (old new : List EtherCaptured)
+    → CapturedSoFar file s count old new
     → Gives s (Some (Err f)) t → HasCaptured file old new count (Some f)
 captured_fault file s t f count old new a gives =
     let n = fault_next a.todo a.left a.fault s t f (gives.next a.going a.todo a.left a.fault a.rest) in
@@ -168,7 +179,8 @@ captured_fault file s t f count old new a gives =
       held = a.held;
     }
 
-pub captured_none : (file : List ℕ) (s t : State) (count : ℕ) (old new : List EtherCaptured) → CapturedSoFar file s count old new
+pub captured_none : (file : List ℕ) (s t : State) (count : ℕ) (old new : List EtherCaptured)
+    → CapturedSoFar file s count old new
     → Gives s None t → HasCaptured file old new count None
 captured_none file s t count old new a gives =
     let n = none_next a.todo a.left a.fault s t (gives.next a.going a.todo a.left a.fault a.rest) in

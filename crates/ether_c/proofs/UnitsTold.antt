@@ -26,20 +26,25 @@ use Rattle.ether_c.specs.Walk.{TellsUnits}
 
 -- ---- the header of a view
 
-pub header_shown : (bytes rest : List ℕ) (h : Header) (u : PeelUnit) → IsBytes bytes → Means bytes h → ShowsUnit bytes rest h u → header_of u ≡ h
-header_shown bytes rest (headers.Ethernet2 e) u ok m shows = ap header_of shows ∙ ap headers.Ethernet2 (ethernet2_shown bytes e ok m)
+pub header_shown : (bytes rest : List ℕ) (h : Header) (u : PeelUnit) → IsBytes bytes → Means bytes h
+    → ShowsUnit bytes rest h u → header_of u ≡ h
+header_shown bytes rest (headers.Ethernet2 e) u ok m shows = ap header_of shows
+    ∙ ap headers.Ethernet2 (ethernet2_shown bytes e ok m)
 header_shown bytes rest (headers.Ethernet2Fcs e) u ok m shows =
     let plain : Means bytes (headers.Ethernet2 e) = record { whole = m.whole; spells = m.spells } in
     ap header_of shows ∙ ap headers.Ethernet2Fcs (ethernet2_shown bytes e ok plain)
-header_shown bytes rest (headers.LinuxSll s) u ok m shows = ap header_of shows ∙ ap headers.LinuxSll (linux_sll_shown bytes s ok m)
+header_shown bytes rest (headers.LinuxSll s) u ok m shows = ap header_of shows
+    ∙ ap headers.LinuxSll (linux_sll_shown bytes s ok m)
 header_shown bytes rest (headers.Vlan v) u ok m shows = ap header_of shows ∙ ap headers.Vlan (vlan_shown bytes v ok m)
 header_shown bytes rest (headers.Macsec t) u ok m shows =
-    ap header_of shows.1 ∙ ap (λ (l : List ℕ). headers.Macsec (sec_tag_of l)) shows.2.header ∙ ap headers.Macsec (macsec_shown bytes t ok m)
+    ap header_of shows.1 ∙ ap (λ (l : List ℕ). headers.Macsec (sec_tag_of l)) shows.2.header
+    ∙ ap headers.Macsec (macsec_shown bytes t ok m)
 header_shown bytes rest (headers.Arp a) u ok m shows = ap header_of shows ∙ ap headers.Arp (arp_shown bytes a ok m)
 
 -- ---- an array that is filled from its front on
 
-pub put_at : {X : Type 0} (front rest : List X) (u : X) → 0 < length rest → set (front ++ rest) (length front) u ≡ front ++ u ∷ drop 1 rest
+pub put_at : {X : Type 0} (front rest : List X) (u : X) → 0 < length rest → set (front ++ rest) (length front) u
+    ≡ front ++ u ∷ drop 1 rest
 put_at front [] u lt = absurd (omega (arith, lt))
 put_at front (y ∷ ys) u lt = set-append_seam front y ys u
 
@@ -47,7 +52,8 @@ put_at front (y ∷ ys) u lt = set-append_seam front y ys u
 abbrev pub Holds : {X : Type 0} → (front old new : List X) → (count : ℕ) → Type 0
 Holds front old new count = new ≡ take (length old) front ++ drop count old
 
-filled : {X : Type 0} (front old mid : List X) (u : X) (count : ℕ) → count ≡ length front → count < length old → Holds front old mid count
+filled : {X : Type 0} (front old mid : List X) (u : X) (count : ℕ) → count ≡ length front → count < length old
+    → Holds front old mid count
     → Holds (front ++ u ∷ []) old (set mid count u) (count + 1)
 filled front old mid u count counted lt held =
     let left : 0 < length (drop count old) = let e = length-drop count old in omega arith in
@@ -60,17 +66,20 @@ filled front old mid u count counted lt held =
     ∙ sym (append_assoc front (u ∷ []) (drop (count + 1) old))
     ∙ ap (λ l. l ++ drop (count + 1) old) (sym all)
 
-full : {X : Type 0} (front old mid : List X) (u : X) (count : ℕ) → count ≡ length front → length old ≤ count → Holds front old mid count
+full : {X : Type 0} (front old mid : List X) (u : X) (count : ℕ) → count ≡ length front → length old ≤ count
+    → Holds front old mid count
     → Holds (front ++ u ∷ []) old (set mid count u) (count + 1)
 full front old mid u count counted le held =
     let taken = take-append-le (length old) front (u ∷ []) (omega arith) in
     let none = drop_all count old le in
     let after = drop_all (count + 1) old (omega arith) in
     let short : length mid ≤ count =
-    let e = ap length held in let f = length-append (take (length old) front) (drop count old) in let g = length-take-le (length old) front (omega arith) in let h = ap length none in omega arith in
+    let e = ap length held in let f = length-append (take (length old) front) (drop count old)
+    in let g = length-take-le (length old) front (omega arith) in let h = ap length none in omega arith in
     set_out mid count u short ∙ held ∙ (λ i. sym taken i ++ (none ∙ sym after) i)
 
-pub put_next : {X : Type 0} (front old mid : List X) (u : X) (count : ℕ) → count ≡ length front → Holds front old mid count
+pub put_next : {X : Type 0} (front old mid : List X) (u : X) (count : ℕ) → count ≡ length front
+    → Holds front old mid count
     → Holds (front ++ u ∷ []) old (set mid count u) (count + 1)
 put_next front old mid u count counted held =
     elim (cases_lt count (length old)) [
@@ -80,7 +89,8 @@ put_next front old mid u count counted held =
 
 -- ---- a walk that is under way
 
-pub record TellsSoFar (start : Expectation) (list : List ℕ) (s : State) (count : ℕ) (old new : List EtherUnit) : Type 0 where
+pub record TellsSoFar (start : Expectation) (list : List ℕ) (s : State) (count : ℕ) (old new : List EtherUnit) : Type
+    0 where
   pub headers : List Header
   pub ending : Ending
   pub walk : Walk start list headers ending
@@ -93,7 +103,9 @@ pub record TellsSoFar (start : Expectation) (list : List ℕ) (s : State) (count
   pub counted : count ≡ length front
   pub holds : Holds front old new count
 
-pub tells_first : (start : Expectation) (list : List ℕ) (s : State) (old : List EtherUnit) (hs : List Header) (e : Ending) → Walk start list hs e → Faces list (whole start list) s hs e → s.over ≡ false → TellsSoFar start list s 0 old old
+pub tells_first : (start : Expectation) (list : List ℕ) (s : State) (old : List EtherUnit) (hs : List Header)
+    (e : Ending) → Walk start list hs e → Faces list (whole start list) s hs e → s.over ≡ false
+    → TellsSoFar start list s 0 old old
 tells_first start list s old hs e walk faces going = record {
   headers = hs;
   ending = e;
@@ -111,31 +123,38 @@ tells_first start list s old hs e walk faces going = record {
 -- ---- a unit
 
 -- the unit that is given, and its places
-pub record UnitTold (list : List ℕ) (w : Window) (left : List Header) (e : Ending) (s t : State) (u : PeelUnit) : Type 0 where
+pub record UnitTold (list : List ℕ) (w : Window) (left : List Header) (e : Ending) (s t : State) (u : PeelUnit) : Type
+    0 where
   pub next : UnitNext list w left e s t u
   pub header : header_of u ≡ next.header
   pub after : s.offset + header_len (header_of u) ≡ t.offset
   pub told : told_view u s.offset t.offset (t.offset + length t.rest) t.closed ≡ told_unit w next.header
 
-same_end : (list : List ℕ) (w : Window) (s : State) (hs : List Header) (e : Ending) → Faces list w s hs e → s.offset + length s.rest ≡ w.finish
+same_end : (list : List ℕ) (w : Window) (s : State) (hs : List Header) (e : Ending) → Faces list w s hs e
+    → s.offset + length s.rest ≡ w.finish
 same_end list w s hs e faces =
     let ordered = faces.inside.ordered in
     let at = faces.offset in
-    let len : length s.rest ≡ w.finish - w.start = ap length faces.rest ∙ length-part list w.start w.finish faces.inside.inside in
+    let len : length s.rest ≡ w.finish - w.start = ap length faces.rest
+    ∙ length-part list w.start w.finish faces.inside.inside in
     omega arith
 
-pub unit_told : (list : List ℕ) (w : Window) (left : List Header) (e : Ending) (s t : State) (u : PeelUnit) → IsBytes list → Faces list w s left e → UnitNext list w left e s t u → UnitTold list w left e s t u
+pub unit_told : (list : List ℕ) (w : Window) (left : List Header) (e : Ending) (s t : State) (u : PeelUnit)
+    → IsBytes list → Faces list w s left e → UnitNext list w left e s t u → UnitTold list w left e s t u
 unit_told list w left e s t u ok faces n =
     let own = subst (λ (l : List Header). Faces list w s l e) n.parts faces in
     let unit = own.stack.0 in
     let shows = subst (λ (l : List ℕ). ShowsUnit l t.rest n.header u) own.rest n.shows in
-    let same = header_shown (within list w) t.rest n.header u (IsBytes-part w.start w.finish list ok) unit.means shows in
+    let same = header_shown (within list w) t.rest n.header u (IsBytes-part w.start w.finish list ok) unit.means shows
+    in
     let inner = n.faces in
     let from = own.offset in
     let to = inner.offset in
     let end = same_end list (payload w n.header) t n.later e inner in
     let mark = inner.closed in
-    let places : told_view u s.offset t.offset (t.offset + length t.rest) t.closed ≡ told_placed n.header w.start (payload w n.header).start (payload w n.header).finish (payload w n.header).closed =
+    let places : told_view u s.offset t.offset (t.offset + length t.rest) t.closed
+    ≡ told_placed n.header w.start (payload w n.header).start (payload w n.header).finish
+    (payload w n.header).closed =
     λ i. told_placed (same i) (from i) (to i) (end i) (mark i) in
     let long : (payload w n.header).start - w.start ≡ header_len n.header = omega arith in
     let len = ap header_len same in
@@ -146,8 +165,11 @@ unit_told list w left e s t u ok faces n =
       told = places ∙ (λ i. record (told_unit w n.header) { header_len = long i });
     }
 
-pub tells_unit : (start : Expectation) (list : List ℕ) (s t : State) (u : PeelUnit) (count : ℕ) (old mid new : List EtherUnit) (told : EtherUnit) (a : TellsSoFar start list s count old mid) (n : UnitTold list a.window a.left a.ending s t u)
-    → told ≡ told_view u s.offset t.offset (t.offset + length t.rest) t.closed → new ≡ set mid count told → TellsSoFar start list t (count + 1) old new
+pub tells_unit : (start : Expectation) (list : List ℕ) (s t : State) (u : PeelUnit) (count : ℕ)
+    (old mid new : List EtherUnit) (told : EtherUnit) (a : TellsSoFar start list s count old mid)
+    (n : UnitTold list a.window a.left a.ending s t u)
+    → told ≡ told_view u s.offset t.offset (t.offset + length t.rest) t.closed → new ≡ set mid count told
+    → TellsSoFar start list t (count + 1) old new
 tells_unit start list s t u count old mid new told a n is put =
     let h = n.next.header in
     let unit = told_unit a.window h in
@@ -162,7 +184,8 @@ tells_unit start list s t u count old mid new told a n is put =
       faces = n.next.faces;
       going = n.next.going;
       front = a.front ++ unit ∷ [];
-      parts = a.parts ∙ ap (λ (l : List Header). a.front ++ told_units a.window l) n.next.parts ∙ sym (append_assoc a.front (unit ∷ []) later);
+      parts = a.parts ∙ ap (λ (l : List Header). a.front ++ told_units a.window l) n.next.parts
+          ∙ sym (append_assoc a.front (unit ∷ []) later);
       counted = let e = length-append a.front (unit ∷ []) in omega arith;
       holds = put ∙ ap (set mid count) (is ∙ n.told) ∙ put_next a.front old mid unit count a.counted a.holds;
     }
@@ -173,9 +196,11 @@ length-told : (w : Window) (hs : List Header) → length (told_units w hs) ≡ l
 length-told w [] = refl
 length-told w (h ∷ hs) = ap suc (length-told (payload w h) hs)
 
-tells_end : (start : Expectation) (list : List ℕ) (s : State) (count : ℕ) (old new : List EtherUnit) (a : TellsSoFar start list s count old new) → a.left ≡ [] → TellsUnits start list old new count
+tells_end : (start : Expectation) (list : List ℕ) (s : State) (count : ℕ) (old new : List EtherUnit)
+    (a : TellsSoFar start list s count old new) → a.left ≡ [] → TellsUnits start list old new count
 tells_end start list s count old new a none =
-    let all : told_units (whole start list) a.headers ≡ a.front = a.parts ∙ ap (λ (l : List Header). a.front ++ told_units a.window l) none ∙ append-nil a.front in
+    let all : told_units (whole start list) a.headers ≡ a.front = a.parts
+    ∙ ap (λ (l : List Header). a.front ++ told_units a.window l) none ∙ append-nil a.front in
     record {
       headers = a.headers;
       ending = a.ending;
@@ -185,10 +210,17 @@ tells_end start list s count old new a none =
       units = a.holds ∙ ap (λ (l : List EtherUnit). take (length old) l ++ drop count old) (sym all);
     }
 
-pub tells_fault : (start : Expectation) (list : List ℕ) (s t : State) (count : ℕ) (f : PeelFault) (old new : List EtherUnit) → TellsSoFar start list s count old new → Gives s (Some (Err f)) t → TellsUnits start list old new count
+pub tells_fault : (start : Expectation) (list : List ℕ) (s t : State) (count : ℕ) (f : PeelFault)
+    (old new : List EtherUnit) → TellsSoFar start list s count old new → Gives s (Some (Err f)) t
+    → TellsUnits start list old new count
 tells_fault start list s t count f old new a gives =
-    tells_end start list s count old new a (fault_next list a.window a.left a.ending s t f (gives.next a.going list a.window a.left a.ending a.faces)).none_left
+    tells_end start list s count old new a
+    (fault_next list a.window a.left a.ending s t f
+    (gives.next a.going list a.window a.left a.ending a.faces)).none_left
 
-pub tells_none : (start : Expectation) (list : List ℕ) (s t : State) (count : ℕ) (old new : List EtherUnit) → TellsSoFar start list s count old new → Gives s None t → TellsUnits start list old new count
+pub tells_none : (start : Expectation) (list : List ℕ) (s t : State) (count : ℕ) (old new : List EtherUnit)
+    → TellsSoFar start list s count old new → Gives s None t → TellsUnits start list old new count
 tells_none start list s t count old new a gives =
-    tells_end start list s count old new a (none_next list a.window a.left a.ending s t (gives.next a.going list a.window a.left a.ending a.faces)).none_left
+    tells_end start list s count old new a
+    (none_next list a.window a.left a.ending s t
+    (gives.next a.going list a.window a.left a.ending a.faces)).none_left

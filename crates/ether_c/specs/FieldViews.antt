@@ -16,10 +16,11 @@ abbrev pub AreIn : List ℕ → (start : ℕ) → List FieldPlace → Type 0
 AreIn list start [] = Unit {0}
 AreIn list start (f ∷ fs) = (8 * start + (f.first + f.len) ≤ 8 * length list) × AreIn list start fs
 
--- .. of the unit with an index
+-- the fields of a table, of what begins at a byte, in the unit with an index
 abbrev pub told_table : List ℕ → (unit start : ℕ) → List FieldPlace → List EtherField
 told_table list unit start table = map (told_field list unit) (map (moved start) table)
 
--- .. of a unit with its header there, and with its payload's end
+-- those of a unit: of the header, which begins at a byte, and of what comes after the payload, which ends at one
 abbrev pub told_placed_fields : List ℕ → (unit start finish : ℕ) → Header → List EtherField
-told_placed_fields list unit start finish h = told_table list unit start (header_fields h) ++ told_table list unit finish (trailer_fields h)
+told_placed_fields list unit start finish h =
+    told_table list unit start (header_fields h) ++ told_table list unit finish (trailer_fields h)

@@ -13,7 +13,8 @@ use Rattle.ether_c.specs.Numbers.{done}
 abbrev pub field_value : List ℕ → (first len : ℕ) → ℕ
 field_value list first len = if nat_lt 64 len then 0 else bits_number list first len
 
--- A field of a list, of the unit with an index. Places and indexes that their numbers have no room for wrap around: a list that long
+-- A field of a list, of the unit with an index. Places and indexes that their numbers have no room for wrap around: a
+-- list that long
 -- has 2 ^ 61 bytes, or 2 ^ 32 units.
 abbrev pub told_field : List ℕ → (unit : ℕ) → FieldPlace → EtherField
 told_field list unit f = record {
@@ -27,13 +28,15 @@ told_field list unit f = record {
 -- those of the headers of a stack, each in the payload of the one before it; the first is the unit with this index
 abbrev pub told_fields : List ℕ → (unit : ℕ) → Window → List Header → List EtherField
 told_fields list unit w [] = []
-told_fields list unit w (h ∷ hs) = map (told_field list unit) (unit_fields w h) ++ told_fields list (unit + 1) (payload w h) hs
+told_fields list unit w (h ∷ hs) = map (told_field list unit) (unit_fields w h)
+    ++ told_fields list (unit + 1) (payload w h) hs
 
 -- these are the first elements of an array, as far as it has room for them, and after so many what it held before
 abbrev pub Fronts : (told old new : List EtherField) → (count : ℕ) → Type 0
 Fronts told old new count = (new ≡ take (length old) told ++ drop count old) × (count ≡ length told)
 
--- The list has a walk and no second one, whose fields are counted. The array holds them from its front on, as many as it has room for.
+-- The list has a walk and no second one, whose fields are counted. The array holds them from its front on, as many as
+-- it has room for.
 pub record HasFields (start : Expectation) (list : List ℕ) (old new : List EtherField) (count : ℕ) : Type 0 where
   pub headers : List Header
   pub ending : Ending
@@ -41,6 +44,7 @@ pub record HasFields (start : Expectation) (list : List ℕ) (old new : List Eth
   pub one : (hs : List Header) (e : Ending) → Walk start list hs e → (hs ≡ headers) × (e ≡ ending)
   pub fields : Fronts (told_fields list 0 (whole start list) headers) old new count
 
-pub record TellsFields (start : Expectation) (list : List ℕ) (old new : List EtherField) (status count : ℕ) : Type 0 where
-  pub fields : HasFields start list old new count
-  pub status_is : status ≡ done
+pub record TellsFields (start : Expectation) (list : List ℕ) (old new : List EtherField) (status count : ℕ) : Type 0
+  where
+    pub fields : HasFields start list old new count
+    pub status_is : status ≡ done

@@ -15,3 +15,4 @@ pub mod CapturedFrame
 pub mod FieldTables
 pub mod Fields
 pub mod FieldViews
+pub mod CookedV2

@@ -4,7 +4,7 @@ ghost use Rattle.etherparse.specs.Header as headers;
 ghost use Rattle.etherparse.specs.Ethernet2.{ethernet2_of};
 ghost use Rattle.etherparse.specs.Macsec.{sec_tag_of, tag_bytes};
 ghost use Rattle.etherparse.specs.Arp.{arp_of};
-ghost use Rattle.ether_c.specs.FieldTables.{field, trailer_fields, ethernet2_fields, linux_sll_fields, vlan_fields, sec_tag_fields, header_fields};
+ghost use Rattle.ether_c.specs.FieldTables.{field, trailer_fields, ethernet2_fields, linux_sll_fields, linux_sll2_fields, vlan_fields, sec_tag_fields, header_fields};
 
 use arrayvec::ArrayVec;
 use etherparse::{ArpPacketSlice, MacsecHeaderSlice, MacsecPType};
@@ -44,6 +44,21 @@ pub(crate) fn linux_sll() -> [FieldPlace; 5]
         field(6, 32, 16),
         field(7, 48, 64),
         field(8, 112, 16),
+    ]
+}
+
+/// The fields of a header of Linux cooked capture v2.
+pub(crate) fn linux_sll2() -> [FieldPlace; 7]
+    ensures { result ≡ linux_sll2_fields }
+{
+    [
+        field(35, 0, 16),
+        field(36, 16, 16),
+        field(37, 32, 32),
+        field(38, 64, 16),
+        field(39, 80, 8),
+        field(40, 88, 8),
+        field(41, 96, 64),
     ]
 }
 

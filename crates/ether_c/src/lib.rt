@@ -1,17 +1,19 @@
-//! The walk through the link-layer headers of a frame, packets, capture files and filters, for callers
-//! in C. `c/etherpeel.h` declares and documents the calls, and `docs/C.md` says how a program is built
-//! with them.
+//! The walk through the link-layer headers of a frame, their fields, packets, capture files and filters,
+//! for callers in C. `c/etherpeel.h` declares and documents the calls, and `docs/C.md` says how a
+//! program is built with them.
 //!
-//! Each export calls `ether_peel`, `ether_packet`, `ether_pcap`, `ether_filter` or `ether_content`, and
-//! its contract says what those calls say. Each struct that is passed has a file of its own, and
-//! `specs/` says each of its fields. Enumerations are passed as numbers (`specs/Numbers.antt`), and a
-//! start that has no number is refused. No call allocates memory or keeps a pointer.
+//! Each export calls the crates below, and its contract says what those calls say; the fields of
+//! headers are told here, by tables (`specs/FieldTables.antt`). Each struct that is passed has a file of
+//! its own, and `specs/` says each of its fields. Enumerations are passed as numbers
+//! (`specs/Numbers.antt`), and a start that has no number is refused. No call allocates memory or keeps
+//! a pointer.
 #![tactic(auto)]
 
 pub mod capture_fault_text;
 pub mod captured_frame;
 pub mod capturing;
 pub mod completing;
+pub mod cooked_v2;
 mod ether_captured;
 mod ether_fault;
 mod ether_fed;
@@ -20,6 +22,7 @@ mod ether_filter_error;
 mod ether_found;
 mod ether_frame;
 mod ether_headers;
+mod ether_linux_sll2;
 mod ether_unit;
 pub mod fault_text;
 pub mod feeding;
@@ -51,4 +54,5 @@ pub use ether_filter_error::EtherFilterError;
 pub use ether_found::EtherFound;
 pub use ether_frame::EtherFrame;
 pub use ether_headers::EtherHeaders;
+pub use ether_linux_sll2::EtherLinuxSll2;
 pub use ether_unit::{EtherArp, EtherEthernet2, EtherLinuxSll, EtherMacsec, EtherUnit, EtherVlan};

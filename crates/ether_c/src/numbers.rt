@@ -32,6 +32,9 @@ pub(crate) const BAD_CAPTURE: u32 = 13;
 /// The text of a filter is no expression.
 pub(crate) const BAD_FILTER: u32 = 14;
 
+/// The packet type of a header of Linux cooked capture v2 is above 7.
+pub(crate) const BAD_PACKET_TYPE: u32 = 15;
+
 /// The start with a number, if there is one. Only the fourth has the ether type.
 #[inline(always)]
 pub(crate) fn start_of(number: u32, ether_type: u16) -> Option<Start>

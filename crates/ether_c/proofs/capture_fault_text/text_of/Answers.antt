@@ -5,5 +5,6 @@ use Rattle.ether_c.proofs.capture_fault_text.text_of.Goals as goal
 
 pub returns-in-Ok : goal.returns-in-Ok
 returns-in-Ok c =
-    contents_after_writes _ (λ text. text.bytes) (λ w bs v e. e) c.new-text.result (capture_fault_text c.args.fault.now) c.write.new.self c.in-Ok.ensures.writes
+    contents_after_writes _ (λ text. text.bytes) (λ w bs v e. e) c.new-text.result
+    (capture_fault_text c.args.fault.now) c.write.new.self c.in-Ok.ensures.writes
     ∙ ap (λ (l : List ℕ). l ++ capture_fault_text c.args.fault.now) c.new-text.ensures

@@ -9,7 +9,8 @@ loop-packet-init c =
     let file = c.args.file.now in
     let old = c.args.packets.now in
     let begun = c.from_slice-reader.ensures in
-    let left : size (items_left c.from_slice-reader.result) ≡ length file + 1 = ap (λ (s : State). size (items_left s)) begun in
+    let left : size (items_left c.from_slice-reader.result)
+    ≡ length file + 1 = ap (λ (s : State). size (items_left s)) begun in
     (omega arith, subst (λ (s : State). CapturedSoFar file s 0 old old) (sym begun) (captured_first file old))
 
 pub loop-packet-preserved : goal.loop-packet-preserved
@@ -18,15 +19,18 @@ loop-packet-preserved c =
     let nearer = (c.in-Some-Ok.ensures.goes.on (search rules)).2 in
     let gives = rw c.in-Some-Ok.field-0-is at c.in-Some-Ok.ensures.steps in (
       omega arith,
-      captured_packet c.args.file.now c.loop-packet.reader c.next.new.self c.in-Some-Ok.packet c.loop-packet.count c.args.packets.now c.loop-packet.packets c.put.new.packets c.of.result
+      captured_packet c.args.file.now c.loop-packet.reader c.next.new.self c.in-Some-Ok.packet c.loop-packet.count
+          c.args.packets.now c.loop-packet.packets c.put.new.packets c.of.result
           c.loop-packet.invariant.1 gives c.of.ensures c.put.ensures,
     )
 
 pub returns-in-Some-Err : goal.returns-in-Some-Err
 returns-in-Some-Err c =
     let gives = rw c.in-Some-Err.field-0-is at c.in-Some-Err.ensures.steps in
-    captured_fault c.args.file.now c.loop-packet.reader c.next.new.self c.in-Some-Err.fault c.loop-packet.count c.args.packets.now c.loop-packet.packets c.loop-packet.invariant.1 gives
+    captured_fault c.args.file.now c.loop-packet.reader c.next.new.self c.in-Some-Err.fault c.loop-packet.count
+    c.args.packets.now c.loop-packet.packets c.loop-packet.invariant.1 gives
 
 pub returns-in-None : goal.returns-in-None
 returns-in-None c =
-    captured_none c.args.file.now c.loop-packet.reader c.next.new.self c.loop-packet.count c.args.packets.now c.loop-packet.packets c.loop-packet.invariant.1 c.in-None.ensures.steps
+    captured_none c.args.file.now c.loop-packet.reader c.next.new.self c.loop-packet.count c.args.packets.now
+    c.loop-packet.packets c.loop-packet.invariant.1 c.in-None.ensures.steps

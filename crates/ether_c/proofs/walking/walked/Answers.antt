@@ -14,16 +14,24 @@ loop-unit-init c =
     let list = c.args.bytes.now in
     let walk = c.begun_walk-peel.ensures.walk in
     let going = ap (λ (s : State). s.over) c.begun_walk-peel.ensures.state in
-    let left : size (items_left c.begun_walk-peel.result) ≡ length list / 4 + 1 = ap (λ (s : State). size (items_left s)) c.begun_walk-peel.ensures.state in
-    (omega arith, tells_first (start_with c.args.start c.args.limit) list c.begun_walk-peel.result c.args.units.now walk.headers walk.ending walk.walk walk.faces going)
+    let left : size (items_left c.begun_walk-peel.result)
+    ≡ length list / 4 + 1 = ap (λ (s : State). size (items_left s)) c.begun_walk-peel.ensures.state in (
+      omega arith,
+      tells_first (start_with c.args.start c.args.limit) list c.begun_walk-peel.result c.args.units.now
+          walk.headers walk.ending walk.walk walk.faces going,
+    )
 
 -- the unit that is given
-told : (c : In-Some-Ok) → (let a = c.loop-unit.invariant.1 in UnitTold c.args.bytes.now a.window a.left a.ending c.loop-unit.peel c.next.new.self c.in-Some-Ok.unit)
+told : (c : In-Some-Ok)
+    → (let a = c.loop-unit.invariant.1
+    in UnitTold c.args.bytes.now a.window a.left a.ending c.loop-unit.peel c.next.new.self c.in-Some-Ok.unit)
 told c =
     let a = c.loop-unit.invariant.1 in
     let gives = rw c.in-Some-Ok.field-0-is at c.in-Some-Ok.ensures.steps in
-    let next = unit_next c.args.bytes.now a.window a.left a.ending c.loop-unit.peel c.next.new.self c.in-Some-Ok.unit (gives.next a.going c.args.bytes.now a.window a.left a.ending a.faces) in
-    unit_told c.args.bytes.now a.window a.left a.ending c.loop-unit.peel c.next.new.self c.in-Some-Ok.unit (λ i. omega (arith, c.type_inv.bytes i)) a.faces next
+    let next = unit_next c.args.bytes.now a.window a.left a.ending c.loop-unit.peel c.next.new.self c.in-Some-Ok.unit
+    (gives.next a.going c.args.bytes.now a.window a.left a.ending a.faces) in
+    unit_told c.args.bytes.now a.window a.left a.ending c.loop-unit.peel c.next.new.self c.in-Some-Ok.unit
+    (λ i. omega (arith, c.type_inv.bytes i)) a.faces next
 
 pub of-requires : goal.of-requires
 of-requires c =
@@ -41,17 +49,21 @@ loop-unit-preserved c =
     let again = c.offset-in-Some-Ok.ensures.value in
     let rest = c.rest.ensures in
     let mark = c.closed.ensures in
-    let shown = c.of.ensures ∙ (λ i. told_view c.in-Some-Ok.unit (from i) (to i) (again i + length (rest i)) (mark i)) in (
+    let shown = c.of.ensures ∙ (λ i. told_view c.in-Some-Ok.unit (from i) (to i) (again i + length (rest i)) (mark i))
+    in (
       omega arith,
-      tells_unit (start_with c.args.start c.args.limit) c.args.bytes.now c.loop-unit.peel c.next.new.self c.in-Some-Ok.unit c.loop-unit.count c.args.units.now c.loop-unit.units c.put.new.units c.of.result
+      tells_unit (start_with c.args.start c.args.limit) c.args.bytes.now c.loop-unit.peel c.next.new.self
+          c.in-Some-Ok.unit c.loop-unit.count c.args.units.now c.loop-unit.units c.put.new.units c.of.result
           c.loop-unit.invariant.1 (told (goal.at.loop-unit-preserved c).In-Some-Ok) shown c.put.ensures,
     )
 
 pub returns-in-Some-Err : goal.returns-in-Some-Err
 returns-in-Some-Err c =
     let gives = rw c.in-Some-Err.field-0-is at c.in-Some-Err.ensures.steps in
-    tells_fault (start_with c.args.start c.args.limit) c.args.bytes.now c.loop-unit.peel c.next.new.self c.loop-unit.count c.in-Some-Err.field-0-0 c.args.units.now c.loop-unit.units c.loop-unit.invariant.1 gives
+    tells_fault (start_with c.args.start c.args.limit) c.args.bytes.now c.loop-unit.peel c.next.new.self
+    c.loop-unit.count c.in-Some-Err.field-0-0 c.args.units.now c.loop-unit.units c.loop-unit.invariant.1 gives
 
 pub returns-in-None : goal.returns-in-None
 returns-in-None c =
-    tells_none (start_with c.args.start c.args.limit) c.args.bytes.now c.loop-unit.peel c.next.new.self c.loop-unit.count c.args.units.now c.loop-unit.units c.loop-unit.invariant.1 c.in-None.ensures.steps
+    tells_none (start_with c.args.start c.args.limit) c.args.bytes.now c.loop-unit.peel c.next.new.self
+    c.loop-unit.count c.args.units.now c.loop-unit.units c.loop-unit.invariant.1 c.in-None.ensures.steps

@@ -6,7 +6,8 @@ use Rattle.ether_c.proofs.UnitsTold.{TellsSoFar}
 use Rattle.ether_c.proofs.walking.walked.Given as goal
 
 abbrev pub invariant-loop-unit : goal.invariant-loop-unit
-invariant-loop-unit l = (l.count + size (items_left l.peel) ≤ length l.bytes / 4 + 1) × TellsSoFar (start_with l.fn.start l.fn.limit) l.bytes l.peel l.count l.fn.units l.units
+invariant-loop-unit l = (l.count + size (items_left l.peel) ≤ length l.bytes / 4 + 1)
+    × TellsSoFar (start_with l.fn.start l.fn.limit) l.bytes l.peel l.count l.fn.units l.units
 
 abbrev pub decreases-loop-unit : goal.decreases-loop-unit
 decreases-loop-unit l = size (items_left l.peel)
