@@ -1,0 +1,118 @@
+"""Compares the copies of `ether_capture --write` with what tshark and tcpdump select and read.
+
+    python3 captures/copies.py PROGRAM [EXPRESSIONS] [PACKETS]
+
+PROGRAM is the built program. Of each capture of `make.py`:
+
+- the copy of all packets is the capture itself;
+- the copy of the packets that an expression selects has the units that are no packets, and the packets that tshark selects by a display
+  filter of the same meaning, byte for byte; a copy of it by the same expression is the same;
+- tshark reads the copy without a word on standard error, and with the same fields of each packet as in the capture;
+- tcpdump reads the copy if it reads the capture.
+
+Of frames that are cut at each byte only the copy of all is compared: tshark has the identifier of a tag whose ether type is cut off.
+
+Of random classic captures, as `filters.py` makes them, the copy is the file that `tcpdump -r FILE -w - EXPRESSION` writes. The last line is
+'N passed, M failed'.
+"""
+
+import os
+import random
+import shutil
+import subprocess
+import sys
+import tempfile
+
+import filters
+import make
+
+FIELDS = ["frame.time_epoch", "frame.cap_len", "frame.len", "frame.encap_type", "frame.protocols", "eth.dst", "eth.src", "vlan.id"]
+# tshark has fields of their own for tags with a service identifier.
+ARP = "eth.type == 0x0806 || vlan.etype == 0x0806 || sll.etype == 0x0806"
+VLAN = {it: f"vlan.id == {it} || ieee8021ad.id == {it}" for it in (1, 7, 8, 291)}
+SAME = {f"vlan {it}": chosen for it, chosen in VLAN.items()} | {
+    "arp": ARP, "vlan 1 or vlan 8": f"{VLAN[1]} || {VLAN[8]}", "arp and vlan": f"({ARP}) && (vlan.id || ieee8021ad.id)",
+    "ether src 02:00:00:00:00:02": "eth.src == 02:00:00:00:00:02"}
+
+
+def written(program, words, name):
+    return subprocess.run([program, "--write", *words, name], stdout=subprocess.PIPE, check=True).stdout
+
+
+def tshark(name, chosen, fields):
+    """The fields of the frames that a display filter selects, without those that tshark makes of custom blocks; and its complaints."""
+    words = [word for it in fields for word in ("-e", it)]
+    done = subprocess.run(["tshark", "-n", "-r", name, "-Y", f"frame.encap_type && ({chosen})", "-T", "fields", *words],
+                          capture_output=True, check=False)
+    said = [line for line in done.stderr.decode().splitlines() if line and "as user" not in line]
+    return [line.split("\t") for line in done.stdout.decode().splitlines()], said
+
+
+def is_read_by_tcpdump(name):
+    return subprocess.run(["tcpdump", "-n", "-r", name], stdout=subprocess.DEVNULL, stderr=subprocess.DEVNULL, check=False).returncode == 0
+
+
+def of_made(program, folder):
+    """The captures of `make.py` and their copies: what was compared, found and wanted."""
+    name, made = os.path.join(folder, "capture"), os.path.join(folder, "copy")
+    for capture in make.captures():
+        with open(name, "wb") as file:
+            file.write(capture.data())
+        yield f"{capture.name}, all", written(program, [], name), capture.data()
+        if capture.name.startswith("classic_cut_"):
+            continue
+        is_read = is_read_by_tcpdump(name)
+        rows = tshark(name, "frame", ["frame.number", *FIELDS])[0]
+        for text, chosen in SAME.items():
+            what = f"{capture.name}, {text}"
+            numbers = {number for number, in tshark(name, chosen, ["frame.number"])[0]}
+            selected = [at for at, row in enumerate(rows) if row[0] in numbers]
+            units, at = [], 0
+            for unit, packet in capture.units:
+                if packet is None or at in selected:
+                    units.append(unit)
+                at += packet is not None
+            copy = written(program, ["--select", text], name)
+            yield what, copy, b"".join(units)
+            with open(made, "wb") as file:
+                file.write(copy)
+            yield f"{what}, again", written(program, ["--select", text], made), copy
+            yield f"{what}, read by tshark", tshark(made, "frame", FIELDS), ([rows[it][1:] for it in selected], [])
+            yield f"{what}, read by tcpdump", is_read_by_tcpdump(made) or not is_read, True
+
+
+def of_tcpdump(program, folder, expressions, packets):
+    """Random captures, and what tcpdump writes of them."""
+    draw = random.Random(6)
+    for tagged in (False, True):
+        name = os.path.join(folder, f"random_{tagged}")
+        with open(name, "wb") as file:
+            file.write(filters.capture(draw, packets, tagged))
+        texts = [f"vlan {it}" for it in filters.IDS] if tagged else [filters.expression(draw, 3) for _ in range(expressions)]
+        for text in texts:
+            done = subprocess.run(["tcpdump", "-r", name, "-w", "-", text], capture_output=True, check=False)
+            if b"expression rejects all packets" not in done.stderr:
+                yield text, written(program, ["--select", text], name), done.stdout
+
+
+def main():
+    program = os.path.realpath(sys.argv[1])
+    expressions, packets = [int(it) for it in sys.argv[2:4]] or (40, 20_000)
+    missing = [it for it in ("tshark", "tcpdump") if not shutil.which(it)]
+    if missing:
+        print(f"left out: {' and '.join(missing)} not installed\n0 passed, 0 failed")
+        return 0
+    passed = failed = 0
+    with tempfile.TemporaryDirectory() as folder:
+        for tried in (of_made(program, folder), of_tcpdump(program, folder, expressions, packets)):
+            for what, found, wanted in tried:
+                passed += found == wanted
+                if found != wanted:
+                    failed += 1
+                    print(f"{what}: {str(found)[:300]}, not {str(wanted)[:300]}")
+    print(f"{passed} passed, {failed} failed")
+    return 1 if failed else 0
+
+
+if __name__ == "__main__":
+    sys.exit(main())
