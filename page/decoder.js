@@ -4,6 +4,8 @@ const DONE = 0;
 const STARTS = { eth: 1, fcs: 2, sll: 3, type: 4 };
 const PAGE = 65536;
 const SCRATCH_LEN = 16 * PAGE;
+// the kind of a header of cooked capture v2, which is no unit of a walk
+const LINUX_SLL2 = 6;
 const SIZES = { captured: 40, unit: 144, field: 32, frame: 32 };
 const TEXT_LEN = 512;
 
@@ -188,6 +190,18 @@ class Decoder {
       unit: this.number(at + 24, 4),
       name: this.number(at + 28, 4),
     };
+  }
+
+  // the header of a packet of cooked capture v2, with its fields; none if it is refused
+  linuxSll2(packet) {
+    const words = [BigInt(packet.at), BigInt(packet.len)];
+    const header = this.scratch;
+    if (this.calls.etherpeel_linux_sll2(...words, BigInt(header)) !== DONE) return null;
+    const end = this.number(header, 8);
+    const protocol = this.number(header + 16, 2);
+    const fields = this.array((...to) => this.calls.etherpeel_linux_sll2_fields(...words, ...to), SIZES.field, 64, (at) => this.field(at));
+    const unit = { offset: 0, headerLen: end, payloadStart: end, payloadEnd: packet.len, kind: LINUX_SLL2, isClosed: false };
+    return { unit, fields, protocol };
   }
 
   // what is left after the headers, and why the walk ends

@@ -18,12 +18,32 @@ function placeOf(field) {
   return `${count(field.bits, "bit")} from bit ${field.bit % 8} of byte ${first} on`;
 }
 
-// The headers of a frame, as the calls give them; places count from the begin of the packet.
+// what is shown of a packet that is not walked, after the bytes that are a header
+function notWalked(packet, start, text) {
+  return { units: [], fields: [], ending: { restStart: start, restEnd: packet.len, isFault: false, text } };
+}
+
+// The headers of a frame, as the calls give them.
+function readFrame(decoder, frame) {
+  return { units: decoder.units(frame), fields: decoder.fields(frame), ending: decoder.ending(frame) };
+}
+
+// The headers of a packet, whose places count from its begin: a header of cooked capture v2 if it begins with one, and those of the frame.
 function readHeaders(decoder, frame, packet) {
-  const units = decoder.units(frame);
-  const fields = decoder.fields(frame);
-  const ending = decoder.ending(frame);
-  return { units, fields, ending, offset: frame.offset, at: packet.at, len: packet.len };
+  const first = packet.linkType === LINK_LINUX_SLL2 ? decoder.linuxSll2(packet) : null;
+  const text = first ? `protocol ${protocol(first.protocol)}` : packet.linkType === LINK_LINUX_SLL2 ? "no header of cooked capture v2" : "";
+  const read = frame ? readFrame(decoder, frame) : notWalked(packet, first ? first.unit.headerLen : 0, text);
+  const by = frame ? frame.offset : 0;
+  const units = read.units.map((unit) => ({
+    ...unit, offset: unit.offset + by, payloadStart: unit.payloadStart + by, payloadEnd: unit.payloadEnd + by,
+  }));
+  const fields = read.fields.map((field) => ({ ...field, bit: field.bit + 8 * by, unit: field.unit + (first ? 1 : 0) }));
+  const ending = { ...read.ending, restStart: read.ending.restStart + by, restEnd: read.ending.restEnd + by };
+  return {
+    units: first ? [first.unit, ...units] : units,
+    fields: first ? [...first.fields, ...fields] : fields,
+    ending, at: packet.at, len: packet.len,
+  };
 }
 
 class FrameView {
@@ -57,7 +77,7 @@ class FrameView {
 
   fieldNode(field) {
     const [name, short, text] = FIELDS[field.name];
-    const first = this.read.at + this.read.offset + Math.floor(field.bit / 8);
+    const first = this.read.at + Math.floor(field.bit / 8);
     const bytes = this.decoder.bytes(first, Math.ceil(field.bits / 8));
     const value = text(text === digits || text === address || text === protocolAddress ? 0 : Number(field.value), bytes);
     const label = element("span", { className: "name" }, name);
@@ -80,7 +100,8 @@ class FrameView {
     const rest = element("div", { className: "rest", tabIndex: 0 });
     this.target(rest, ending.restStart * 8, ending.restEnd * 8);
     if (!ending.isFault) {
-      rest.append(element("b", { textContent: "Left" }), ` ${places(ending.restStart, ending.restEnd)}: ${restName(ending.restKind, ending.restProtocol)}`);
+      const text = ending.text ?? restName(ending.restKind, ending.restProtocol);
+      rest.append(element("b", { textContent: "Left" }), ` ${places(ending.restStart, ending.restEnd)}${text ? `: ${text}` : ""}`);
       return [rest];
     }
     const missing = ending.missing ? ` At least ${count(ending.missing, "byte")} ${ending.missing === 1 ? "is" : "are"} missing.` : "";
@@ -109,8 +130,8 @@ class FrameView {
   // the class of each byte: that of the header that it is of, of what is left, or of what is not read
   kindsOf(len) {
     const kinds = Array(len).fill("");
-    const { units, ending, offset } = this.read;
-    const paint = (start, end, name) => kinds.fill(name, Math.min(start + offset, len), Math.min(end + offset, len));
+    const { units, ending } = this.read;
+    const paint = (start, end, name) => kinds.fill(name, Math.min(start, len), Math.min(end, len));
     paint(ending.restStart, ending.restEnd, ending.isFault ? "unread" : "left");
     units.forEach((unit) => paint(unit.offset, unit.offset + unit.headerLen, `kind${unit.kind}`));
     this.read.fields.filter((field) => field.name === 34).forEach((field) => paint(field.bit / 8, (field.bit + field.bits) / 8, "kind1"));
@@ -120,7 +141,7 @@ class FrameView {
   // ---- marks: a node of the tree and its bytes
 
   target(node, firstBit, endBit) {
-    const mark = { node, first: this.read.offset + Math.floor(firstBit / 8), end: this.read.offset + Math.ceil(endBit / 8) };
+    const mark = { node, first: Math.floor(firstBit / 8), end: Math.ceil(endBit / 8) };
     this.marks.push(mark);
     for (const [on, off] of [["mouseenter", "mouseleave"], ["focus", "blur"]]) {
       node.addEventListener(on, () => this.mark(mark, true));

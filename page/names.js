@@ -12,6 +12,7 @@ const HARDWARE_TYPES = {
 };
 const PACKET_TYPES = { 0: "to us", 1: "broadcast", 2: "multicast", 3: "to someone else", 4: "sent by us" };
 const OPERATIONS = { 1: "request", 2: "reply" };
+const LINK_LINUX_SLL2 = 276;
 const LINK_TYPES = { 1: "Ethernet", 113: "Linux cooked capture v1", 276: "Linux cooked capture v2" };
 
 const HEADERS = {

@@ -22,6 +22,7 @@ function line(read) {
   });
   if (read.ending.isFault) parts.push("not read further");
   else if (read.ending.restKind === 1) parts.push(protocolName(read.ending.restProtocol));
+  else if (read.ending.text) parts.push(read.ending.text);
   return parts.slice(parts.length > 1 ? 1 : 0).join(" › ");
 }
 
@@ -69,7 +70,7 @@ class PacketList {
   row(index, at) {
     const packet = this.decoder.packet(index);
     const frame = this.decoder.frameOf(index);
-    const text = frame ? line(readHeaders(this.decoder, frame, packet)) : `link type ${packet.linkType}`;
+    const text = packet.linkType in LINK_TYPES ? line(readHeaders(this.decoder, frame, packet)) : `link type ${packet.linkType}`;
     const [day, time] = dayAndTime(packet);
     const isCut = packet.len < packet.originalLen;
     const node = element("div", { className: "row", id: `row${at}`, role: "option" },
@@ -220,13 +221,9 @@ class Page {
 
   showFrame(frame, packet, about) {
     $("about").replaceChildren(about.join(" · "));
-    if (!frame) {
-      $("about").append(" · headers of this link type are not read");
-      this.frame.show({ units: [], fields: [], ending: { restStart: 0, restEnd: packet.len, restKind: 4 }, offset: 0, at: packet.at, len: packet.len });
-      return;
-    }
     this.frame.show(readHeaders(this.decoder, frame, packet));
-    if (this.name && !this.address) $("about").append(" · ", this.link(frame));
+    if (packet.linkType !== undefined && !(packet.linkType in LINK_TYPES)) $("about").append(" · headers of this link type are not read");
+    if (frame && this.name && !this.address) $("about").append(" · ", this.link(frame));
   }
 
   // the frame's own address
