@@ -81,6 +81,11 @@ ARTEFACTS = {
         "ether_c/src/setting.rt": ["etherpeel_set_vlan_id", "etherpeel_set_vlan_tag", "etherpeel_set_tpid"],
         "ether_c/src/library.rt": ["etherpeel_version", "etherpeel_sizeof"],
         "ether_c/src/link_types.rt": ["etherpeel_start_of_link_type"],
+        "ether_c/src/selecting.rt": ["etherpeel_select"],
+        "ether_c/src/filter_error_text.rt": ["etherpeel_filter_error_text"],
+        "ether_c/src/captured_frame.rt": ["etherpeel_captured_frame"],
+        "ether_c/src/fields.rt": ["etherpeel_fields"],
+        "ether_c/src/cooked_v2.rt": ["etherpeel_linux_sll2", "etherpeel_linux_sll2_fields"],
     },
 }
 

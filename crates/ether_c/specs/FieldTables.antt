@@ -29,12 +29,11 @@ abbrev pub linux_sll_fields : List FieldPlace
 linux_sll_fields = field 4 0 16 ∷ field 5 16 16 ∷ field 6 32 16 ∷ field 7 48 64 ∷ field 8 112 16 ∷ []
 
 -- Linux cooked capture v2 (LINKTYPE_LINUX_SLL2): protocol type, reserved, interface index, ARPHRD_ type, packet type,
--- address length,
--- address
+-- address length, address
 abbrev pub linux_sll2_fields : List FieldPlace
 linux_sll2_fields =
-    field 35 0 16 ∷ field 36 16 16 ∷ field 37 32 32 ∷ field 38 64 16 ∷ field 39 80 8 ∷ field 40 88 8 ∷ field 41 96
-    64 ∷ []
+    field 35 0 16 ∷ field 36 16 16 ∷ field 37 32 32 ∷ field 38 64 16 ∷ field 39 80 8 ∷ field 40 88 8
+    ∷ field 41 96 64 ∷ []
 
 -- the tag control information of a VLAN tag (IEEE 802.1Q, 9.6): PCP, DEI, VID; and the ether type after it
 abbrev pub vlan_fields : List FieldPlace
@@ -57,8 +56,7 @@ payload_type_fields (Unmodified ether_type) first = field 24 first 16 ∷ []
 payload_type_fields _ first = []
 
 -- an ARP packet (RFC 826, "Packet format"): ar$hrd, ar$pro, ar$hln, ar$pln, ar$op, ar$sha, ar$spa, ar$tha, ar$tpa,
--- with the bits of an
--- address of each kind
+-- with the bits of an address of each kind
 abbrev pub arp_fields : (hardware protocol : ℕ) → List FieldPlace
 arp_fields hardware protocol =
     field 25 0 16 ∷ field 26 16 16 ∷ field 27 32 8 ∷ field 28 40 8 ∷ field 29 48 16

@@ -14,8 +14,7 @@ abbrev pub field_value : List ℕ → (first len : ℕ) → ℕ
 field_value list first len = if nat_lt 64 len then 0 else bits_number list first len
 
 -- A field of a list, of the unit with an index. Places and indexes that their numbers have no room for wrap around: a
--- list that long
--- has 2 ^ 61 bytes, or 2 ^ 32 units.
+-- list that long has 2 ^ 61 bytes, or 2 ^ 32 units.
 abbrev pub told_field : List ℕ → (unit : ℕ) → FieldPlace → EtherField
 told_field list unit f = record {
   bit_offset = f.first % 2 ^ 64;
