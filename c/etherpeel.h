@@ -25,8 +25,9 @@
  *            nothing was written at all; after ETHERPEEL_NO_ROOM only the length that the target
  *            needs, if the call gives one; after ETHERPEEL_NO_TEXT only the length 0.
  *   Memory   No call allocates, blocks, or stores anything between calls, so each is thread-safe.
- *            etherpeel_completion and etherpeel_fault_text take some 2.5 KB of stack, those of
- *            capture files 300 KB, those of filters 48 KB, the others less than 1 KB.
+ *            etherpeel_completion and etherpeel_fault_text take some 2.5 KB of stack,
+ *            etherpeel_fields 5 KB, those of filters 40 KB, those of capture files 300 KB, and the
+ *            others less than 1 KB.
  *   Time     Linear in the number of headers, at most len / 4 in a frame;
  *            etherpeel_write_back also copies the frame. Of capture files linear in that of their
  *            units.
@@ -377,7 +378,7 @@ typedef struct etherpeel_unit {
     etherpeel_arp arp;
 } etherpeel_unit;
 
-/* A field of a header: bits, the first of which is the most significant one of its byte. */
+/* A field of a header. The first bit of a byte is its most significant one. */
 typedef struct etherpeel_field {
     size_t bit_offset; /* where it begins, in bits from the start of the frame */
     size_t bit_len;    /* how many bits it has; 0 of an ARP address that has length 0 */
@@ -840,14 +841,13 @@ uint32_t etherpeel_linux_sll2_fields(const uint8_t *bytes, size_t len, etherpeel
 /* etherpeel_select - the packets that a filter selects
  *
  * Sets matches[i] to 1 if the expression holds of packets[i], else to 0, for each of the `count`
- * packets that etherpeel_capture gave. A packet is walked by its link type: Ethernet, or Linux
- * cooked capture v1 or v2; of v2 the payload is asked. A packet of another link type is not
- * selected, and neither is one of v2 whose header is refused or has no ether type. Elements of
- * `matches` from `count` on stay as they were.
+ * packets that etherpeel_capture gave; NULL is allowed if `count` is 0. The expression is asked of
+ * what etherpeel_captured_frame gives. A packet for which it gives nothing is never selected, not
+ * even by `not`. Elements of `matches` from `count` on stay as they were.
  * Returns ETHERPEEL_DONE; or ETHERPEEL_BAD_FILTER if the text is no expression, and then sets
  * *error; or ETHERPEEL_NO_ROOM if `room` is smaller than `count`. Nothing else is written then.
  * Overlap: neither `matches` nor *error may overlap the packets, their bytes, the text, or one
- * another. Every number is in host byte order. Thread-safe; takes no memory, and some 48 KB of
+ * another. Every number is in host byte order. Thread-safe; takes no memory, and some 40 KB of
  * stack.
  */
 uint32_t etherpeel_select(const char *expression, size_t len, const etherpeel_captured *packets,
@@ -863,7 +863,7 @@ uint32_t etherpeel_select(const char *expression, size_t len, const etherpeel_ca
  * stays as it was. ETHERPEEL_NO_TEXT is not ruled out by proof; after it *text_len is 0, and `text`
  * stays as it was.
  * Overlap: expression, text and *text_len must not overlap. Every number is in host byte order.
- * Thread-safe; takes no memory, and some 48 KB of stack.
+ * Thread-safe; takes no memory, and some 40 KB of stack.
  */
 uint32_t etherpeel_filter_error_text(const char *expression, size_t len, char *text, size_t room,
                                      size_t *text_len);
