@@ -13,7 +13,7 @@ use Rattle.ether_text.specs.declared.output_buffer.OutputBuffer.{OutputBuffer}
 use Rattle.ether_text.proofs.KnownBytesLemmas.{Appends-none, Appends-then, Appends-written_out}
 use Rattle.ether_capture.specs.Packets.{counted}
 use Rattle.ether_capture.specs.Copying.{IsCopied, IsCopy, CopyGoesOn}
-use Rattle.ether_capture.specs.CopyLoop.{CopyReached, IsCopiedUnit, CopiesUnit, IsCopyStart}
+use Rattle.ether_capture.specs.CopyLoop.{CopyReached, CopiesUnit, IsCopyStart}
 use Rattle.ether_capture.specs.declared.copy_loop.CopyLoop.{CopyLoop}
 use Rattle.ether_capture.proofs.FrameLoopLemmas.{front_after, front_len}
 

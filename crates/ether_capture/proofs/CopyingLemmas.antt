@@ -1,5 +1,5 @@
 -- What a run that copies has read and written, one read after another.
-use Rattle.std.proofs.Common.{◌≡◌, ◌≢◌, ℕ, ◌<◌, List, [], ◌++◌, length, drop, true, Option, Some, None, unwrap_or, Result, Ok, Err, IsErrAnd, refl, sym, ap, subst, ◌∙◌, append_assoc}
+use Rattle.std.proofs.Common.{◌≡◌, ◌≢◌, ℕ, ◌<◌, List, [], ◌++◌, drop, true, Option, Some, None, unwrap_or, Result, Ok, Err, IsErrAnd, refl, sym, ap, subst, ◌∙◌, append_assoc}
 use Rattle.std.specs.Io.KnownBytes.{Consumes, IsAtEnd, Keeps}
 use Rattle.ether_filter.specs.Expressions.{Expression}
 use Rattle.ether_pcap.specs.Capture.{PacketValue, Beginning, CaptureRefusal, Refuses, required_len, IsEnd}

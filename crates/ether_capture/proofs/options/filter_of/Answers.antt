@@ -1,8 +1,5 @@
-use Rattle.std.proofs.Common.{List, ℕ, Option, Some, None, sym, subst}
-use Rattle.std.specs.Option.{option_map}
-use Rattle.std.specs.Prelude.{string_bytes}
+use Rattle.std.proofs.Common.{List, ℕ, subst}
 use Rattle.ether_filter.specs.Texts.{IsExpressionOf}
-use Rattle.ether_capture.specs.Options.{IsSelection}
 use Rattle.ether_capture.proofs.options.filter_of.Goals as goal
 
 pub returns-in_default-clause-ok : goal.returns-in_default-clause-ok

@@ -1,4 +1,4 @@
-use Rattle.std.proofs.Common.{ℕ, List, [], map, ap, subst}
+use Rattle.std.proofs.Common.{ℕ, List, map, ap, subst}
 use Rattle.std.specs.Prelude.{◌∷◌, string_bytes}
 use Rattle.std.specs.Option.{is_some}
 use Rattle.ether_text.proofs.ArgumentsLemmas.{words_end}

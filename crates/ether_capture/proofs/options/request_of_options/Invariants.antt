@@ -1,4 +1,4 @@
-use Rattle.std.proofs.Common.{ℕ, length}
+use Rattle.std.proofs.Common.{length}
 use Rattle.std.specs.Prelude.{◌∷◌, string_bytes}
 use Rattle.ether_capture.specs.Options.{AskSame, nothing_asked, asked_view, words_left}
 use Rattle.ether_capture.proofs.options.request_of_options.Given as goal

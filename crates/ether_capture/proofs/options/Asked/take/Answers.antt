@@ -1,4 +1,4 @@
-use Rattle.std.proofs.Common.{rules, ◌≡◌, ℕ, List, false, map, sym, ap, subst}
+use Rattle.std.proofs.Common.{rules, ℕ, List, map, ap, subst}
 use Rattle.std.specs.Prelude.{string_bytes}
 use Rattle.ether_capture.specs.Options.{IsWord, asked_view, words_left}
 use Rattle.ether_capture.specs.declared.options.Word.TheVariants as kinds
