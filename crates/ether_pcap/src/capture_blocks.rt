@@ -18,6 +18,7 @@ pub(crate) const MAX_INTERFACES: usize = 4_096;
 pub(crate) type Interfaces = ArrayVec<CaptureInterface, MAX_INTERFACES>;
 
 /// The block at the front of bytes that begin with no section header.
+#[inline(always)]
 #[tactic(auto, using(crate::specs::Capture::block, crate::specs::Capture::block_refused, crate::specs::Capture::body_refused))]
 pub(crate) fn read_block<'a>(
     byte_order: ByteOrder,

@@ -100,6 +100,7 @@ impl CaptureReader {
     ///
     /// The reader is as it was then. If the slice ends within the unit, [`CaptureError::required_len`] says how many bytes it needs at
     /// least, more than the slice has: the unit can be read again with so many. Otherwise, the file can't be read on.
+    #[inline(always)]
     #[tactic(auto, using(crate::proofs::CaptureLengths::unit_within, crate::proofs::CaptureLengths::unit_some, crate::proofs::CaptureLengths::required_above))]
     pub fn read<'a>(&mut self, bytes: &'a [u8]) -> Result<CaptureUnit<'a>, CaptureError>
         ensures unit { IfOk result (λ u. Begins bytes.now
@@ -115,6 +116,7 @@ impl CaptureReader {
     }
 
     /// The unit at the front of a slice.
+    #[inline(always)]
     fn read_unit<'a>(&mut self, bytes: &'a [u8]) -> Result<CaptureUnit<'a>, CaptureError>
         ensures unit { IfOk result (λ u. Begins bytes.now
             self.old u.len (option_map captured_packet_view u.packet) self.new) }
