@@ -1,5 +1,5 @@
 -- What a copy of a capture file has.
-use Rattle.std.proofs.Common.{◌≡◌, ◌≢◌, ◌⊎◌, ℕ, zero, suc, ◌+◌, ◌<◌, ◌≤◌, Bool, true, false, List, [], ◌∷◌, ◌++◌, length, drop, length-append, length-drop, append_assoc, append-nil, refl, sym, ap, subst, ◌∙◌, arith, inl, inr, Some, None}
+use Rattle.std.proofs.Common.{◌≡◌, ◌≢◌, ◌⊎◌, ℕ, zero, suc, ◌<◌, ◌≤◌, Bool, true, false, List, [], ◌∷◌, ◌++◌, length, drop, length-append, length-drop, append_assoc, refl, sym, ap, subst, ◌∙◌, arith, inl, inr, Some, None}
 use Rattle.std.specs.Prelude.{Option, IsTrue, take, ⊤}
 use Rattle.std.proofs.lemmas.List.{length-take-le, take-append-drop, drop_at}
 use Rattle.ether_base.specs.Bytes.{IsBytes}
@@ -7,7 +7,7 @@ use Rattle.ether_base.proofs.SubLists.{IsBytes-drop}
 use Rattle.ether_pcap.specs.Numbers.{Order}
 use Rattle.ether_pcap.specs.Capture.{PacketValue, CaptureInterfaceValue, Expectation, Beginning, Records, Blocks, BlockKind, InterfaceDescription, SimplePacket, EnhancedPacket, Other, kind_of_block, IsBody, CaptureRefusal, Begins, file_header, file_record, first_section, section, block, Refuses, IsEnd, HasPackets}
 use Rattle.ether_pcap.specs.Capture as packets
-use Rattle.ether_pcap.specs.Copies.{Copies, ended, refused, unit, keeps, leaves, Selected, none, one_kept, one_left, IsRead, HasSource, CopiesBy, Copy}
+use Rattle.ether_pcap.specs.Copies.{Copies, ended, refused, unit, keeps, leaves, none, one_kept, one_left, IsRead, HasSource, Copy}
 use Rattle.ether_pcap.proofs.CaptureLengths.{unit_within, unit_some}
 use Rattle.ether_pcap.proofs.CaptureLocality.{unit_local, unit_alone}
 use Rattle.ether_pcap.proofs.CaptureSome.{at_end, some_unit}
