@@ -1,5 +1,5 @@
 #!/bin/sh
-# sh bench/captures/run.sh PROGRAM [MEGABYTES] [ROUNDS]: ether_capture, `cat`, tcpdump and a program over libpcap that walks VLAN tags by hand, in
+# sh bench/captures/run.sh PROGRAM [MEGABYTES] [ROUNDS]: ether_capture (lines and copies), `cat`, tcpdump and a program over libpcap, in
 # turns, over captures that are made here: processor time, time, and the ratio of the processor time to that of `tcpdump -w`. What is not installed
 # (tcpdump, gcc with libpcap's header) is left out. With valgrind it also counts instructions per packet, of 10 MB.
 set -eu
@@ -9,14 +9,16 @@ work=$(mktemp -d)
 trap 'rm -rf "$work"' EXIT
 python3 "$here/make.py" "$work" "${2:-100}"
 
-set -- "${3:-7}" -- "cat=$(command -v cat)" "plain=$program --plain" "lines=$program"
+set -- "${3:-7}" -- "cat=$(command -v cat)" "plain=$program --plain" "lines=$program" "write=$program --write" \
+    "select=$program --select 'vlan 5' --write"
 if gcc -O2 -o "$work/walk" "$here/walk.c" -lpcap 2> /dev/null; then
     set -- "$@" "libpcap=$work/walk"
 else
     echo "left out: the program over libpcap, since gcc or libpcap's header is not installed"
 fi
 if command -v tcpdump > /dev/null 2>&1; then
-    set -- "$@" "print=$(command -v tcpdump) -e -n -r -" "copy=$(command -v tcpdump) -r - -w /dev/null"
+    set -- "$@" "print=$(command -v tcpdump) -e -n -r -" "filter=$(command -v tcpdump) -r - -w /dev/null 'vlan 5'" \
+        "copy=$(command -v tcpdump) -r - -w /dev/null"
 else
     echo "left out: tcpdump, which is not installed"
 fi
