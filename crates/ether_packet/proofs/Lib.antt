@@ -19,3 +19,4 @@ pub mod Pushed
 pub mod PushedPopped
 pub mod Retyped
 pub mod SetTags
+pub mod ReachLemmas

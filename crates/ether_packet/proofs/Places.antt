@@ -19,7 +19,7 @@ use Rattle.ether_packet.specs.declared.packet_ext.PacketExt.{PacketExt}
 use Rattle.ether_packet.specs.declared.packet_units.LinkPlace.{LinkPlace}
 use Rattle.ether_packet.specs.declared.packet_units.LinkPlace.TheVariants as places
 use Rattle.ether_packet.specs.PacketUnit.{PacketUnit}
-use Rattle.ether_packet.specs.Views.{link_of, exts_of, arp_in, arp_view, ViewsExt, ViewsExtIf}
+use Rattle.ether_packet.specs.Views.{link_of, exts_of, arp_in, arp_view, arp_start, arp_offset, ViewsExt, ViewsExtIf}
 use Rattle.ether_packet.specs.Places.{unit_at, link_unit, link_units, ext_kind, ext_unit, arp_units, units_at, Reads, IsReadable, IsReadableLink, frame_link}
 
 -- ---- among them
@@ -80,14 +80,54 @@ only_arp : (arp : Option Place) → slice_get (filter_map arp_of_unit (arp_units
 only_arp None = refl
 only_arp (Some p) = refl
 
+-- what is found of the units is what is found of the ARP packet, if nothing is of the others
+found_last : {A : Type 0} (f : PacketUnit → Option A) (frame : List ℕ) (link : LinkPlace) (xs : List ExtPlace)
+    (arp : Option Place) → filter_map f (link_units frame link) ≡ [] → filter_map f (map ext_unit xs) ≡ []
+    → filter_map f (units_at frame link xs arp) ≡ filter_map f (arp_units arp)
+found_last f frame link xs arp no_link no_ext =
+    filter_map-append f (link_units frame link ++ map ext_unit xs) (arp_units arp)
+    ∙ ap (λ l. l ++ filter_map f (arp_units arp)) (filter_map-append f (link_units frame link) (map ext_unit xs))
+    ∙ (λ i. no_link i ++ no_ext i ++ filter_map f (arp_units arp))
+
 pub arp_at : (frame : List ℕ) (link : LinkPlace) (xs : List ExtPlace) (arp : Option Place)
     → arp_view (units_at frame link xs arp) ≡ packet_at arp
 arp_at frame link xs arp =
-    ap (λ l. slice_get l 0) (filter_map-append arp_of_unit (link_units frame link ++ map ext_unit xs) (arp_units arp)
-    ∙ ap (λ l. l ++ filter_map arp_of_unit (arp_units arp))
-    (filter_map-append arp_of_unit (link_units frame link) (map ext_unit xs))
-    ∙ (λ i. (link_is frame link).1 i ++ (exts_are xs).1 i ++ filter_map arp_of_unit (arp_units arp)))
+    ap (λ l. slice_get l 0) (found_last arp_of_unit frame link xs arp (link_is frame link).1 (exts_are xs).1)
     ∙ only_arp arp
+
+-- .. and where it starts
+abbrev start_of_unit : PacketUnit → Option ℕ
+start_of_unit u = arp_start u.kind u.offset
+
+link_starts : (frame : List ℕ) (link : LinkPlace) → filter_map start_of_unit (link_units frame link) ≡ []
+link_starts frame places.Missing = refl
+link_starts frame places.Ethernet2 = refl
+link_starts frame places.Ethernet2Fcs = refl
+link_starts frame places.LinuxSll = refl
+
+ext_starts : (kind : ExtKind) (at : ℕ) → arp_start (ext_kind kind) at ≡ None
+ext_starts tags.Vlan at = refl
+ext_starts tags.Macsec at = refl
+
+exts_start : (xs : List ExtPlace) → filter_map start_of_unit (map ext_unit xs) ≡ []
+exts_start [] = refl
+exts_start (x ∷ xs) =
+    ap (λ (a : Option ℕ). cons_option a (filter_map start_of_unit (map ext_unit xs))) (ext_starts x.kind x.place.start)
+    ∙ exts_start xs
+
+abbrev pub start_at : Option Place → Option ℕ
+start_at None = None
+start_at (Some p) = Some p.start
+
+only_start : (arp : Option Place) → slice_get (filter_map start_of_unit (arp_units arp)) 0 ≡ start_at arp
+only_start None = refl
+only_start (Some p) = refl
+
+pub arp_offset_at : (frame : List ℕ) (link : LinkPlace) (xs : List ExtPlace) (arp : Option Place)
+    → arp_offset (units_at frame link xs arp) ≡ start_at arp
+arp_offset_at frame link xs arp =
+    ap (λ l. slice_get l 0) (found_last start_of_unit frame link xs arp (link_starts frame link) (exts_start xs))
+    ∙ only_start arp
 
 pub no_packet : (arp : Option Place) → packet_at arp ≡ None → arp ≡ None
 no_packet None e = refl

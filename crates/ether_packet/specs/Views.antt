@@ -109,3 +109,12 @@ arp_in _ bytes = None
 -- of the first one
 abbrev pub arp_view : List PacketUnit → Option (List ℕ)
 arp_view us = slice_get (filter_map (λ (u : PacketUnit). arp_in u.kind u.bytes) us) 0
+
+-- where a unit starts, if it is an ARP packet
+abbrev pub arp_start : Kind → ℕ → Option ℕ
+arp_start kinds.Arp at = Some at
+arp_start _ at = None
+
+-- .. the first one
+abbrev pub arp_offset : List PacketUnit → Option ℕ
+arp_offset us = slice_get (filter_map (λ (u : PacketUnit). arp_start u.kind u.offset) us) 0

@@ -16,6 +16,7 @@ mod replace_error;
 mod replacing;
 mod replacing_arp;
 mod setting;
+mod snap_len;
 mod tag_error;
 mod typed_link;
 
@@ -30,4 +31,5 @@ pub use replace_error::ReplaceError;
 pub use replacing::{replace_link, replace_link_ext};
 pub use replacing_arp::replace_arp;
 pub use setting::{set_tpid, set_vlan_id, set_vlan_tag};
+pub use snap_len::min_snap_len;
 pub use tag_error::TagError;

@@ -4,7 +4,7 @@ ghost use Rattle.etherparse.specs.Vlan.{vlan_view};
 ghost use Rattle.ether_peel.specs.Grammar.Cuts.{reach};
 ghost use Rattle.ether_peel.specs.Walker.Start.{kind_shown};
 ghost use Rattle.ether_peel.specs.Walker.Limits.{IsFrontOfUnlimited};
-ghost use Rattle.ether_packet.specs.Views.{link_of, exts_of, arp_view, ViewsExtIf, ViewsExts, ViewsSecTagIf};
+ghost use Rattle.ether_packet.specs.Views.{link_of, exts_of, arp_view, arp_offset, ViewsExtIf, ViewsExts, ViewsSecTagIf};
 ghost use Rattle.ether_packet.specs.Packet.{link_exts_cap, packet_start, packet_headers, IsPacket};
 ghost use Rattle.ether_packet.specs.Getters.{first_tags, vlans_of, vlan_ids_of, sec_tags_of, last_ext, HoldsPayload, SnapsAt, TellsAccepted};
 ghost use Rattle.ether_packet.specs.VlanIds.{IsOutermost};
@@ -164,6 +164,14 @@ impl<'a> PacketSlice<'a> {
         ensures { result ≡ arp_view self.now.read.units }
     {
         self.read.arp()
+    }
+
+    /// Where the ARP packet starts, in bytes from the start of the frame.
+    #[inline(always)]
+    pub fn arp_offset(&self) -> Option<usize>
+        ensures { result ≡ arp_offset self.now.read.units }
+    {
+        self.read.arp_offset()
     }
 
     /// The first VLAN tag with its payload, or the first two if there are several; `None` without a VLAN tag.

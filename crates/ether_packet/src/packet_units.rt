@@ -10,7 +10,7 @@ ghost use Rattle.ether_peel.specs.Grammar.Cuts.{reach};
 ghost use Rattle.etherparse.specs.Macsec.{sec_tag_of as sec_tag_meant, tag_bytes};
 ghost use Rattle.etherparse.specs.Arp.{arp_front_in, arp_len, arp_of};
 ghost use Rattle.ether_packet.specs.Places.{Reads, kind_read, ext_kind, ext_unit, link_units, headers_at, frame_link, HasPlace, HasPlaceForExt, IsReadable, IsReadableExt, read_with};
-ghost use Rattle.ether_packet.specs.Views.{header_of, link_of, exts_of, arp_view, vlan_of_unit, macsec_of_unit, ViewsExtIf, ViewsExt, ViewsSecTag, ViewsSecTagIf};
+ghost use Rattle.ether_packet.specs.Views.{header_of, link_of, exts_of, arp_view, arp_offset, vlan_of_unit, macsec_of_unit, ViewsExtIf, ViewsExt, ViewsSecTag, ViewsSecTagIf};
 
 use crate::PacketExt;
 use crate::ext_places::{ExtKind, ExtPlace, ExtPlaces, Place};
@@ -176,6 +176,17 @@ impl<'a> PacketUnits<'a> {
     {
         match self.arp {
             Some(place) => Some(packet_of(place.bytes)),
+            None => None,
+        }
+    }
+
+    /// Where the ARP packet starts.
+    #[inline(always)]
+    pub fn arp_offset(&self) -> Option<usize>
+        ensures { result ≡ arp_offset self.now.units }
+    {
+        match self.arp {
+            Some(place) => Some(place.start),
             None => None,
         }
     }

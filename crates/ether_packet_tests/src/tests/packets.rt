@@ -3,7 +3,7 @@ use super::frames::{
     CHECKED, CONFIDENTIALITY, COOKED_ARP_REQUEST, FOUR_TAGS, INTEGRITY, PADDED_ARP, SECOND_TAG_CUT,
     TAG_IN_SEC_TAG, TWICE_TAGGED_ARP_REQUEST,
 };
-use ether_packet::{PacketExt, PacketSlice};
+use ether_packet::{PacketExt, PacketSlice, min_snap_len};
 use ether_peel::{PeelError, PeelFault, RestKind, Start, snap_limited};
 use etherparse::err::{Layer, LenError};
 use etherparse::{
@@ -108,14 +108,27 @@ fn is_left(rt: &impl Abort, row: &Left) {
         "{}",
         row.name
     );
+    // three tags are followed by a fourth one, with which the frame ends
+    let least_of_all = if row.ids.len() == 3 {
+        row.frame.len()
+    } else {
+        row.least
+    };
     assert_eq!(rt;
         (
             packet.rest_offset,
             packet.rest_kind,
             packet.is_complete(),
-            packet.min_snap_len()
+            packet.min_snap_len(),
+            min_snap_len(row.start, row.frame)
         ),
-        (start, row.kind, row.fault.is_none(), row.least),
+        (
+            start,
+            row.kind,
+            row.fault.is_none(),
+            row.least,
+            least_of_all
+        ),
         "{}",
         row.name
     );
@@ -169,7 +182,10 @@ fn headers_as_views(rt: HostRuntime) -> Result<(), Fail> {
         .arp()
         .map(|arp| (arp.operation(), arp.target_protocol_addr().len()));
     let exts = packet.link_exts();
-    assert_eq!(rt; (fields, exts.len()), (Some((ArpOperation::REQUEST, 4)), 2));
+    assert_eq!(rt;
+        (fields, exts.len(), packet.arp_offset()),
+        (Some((ArpOperation::REQUEST, 4)), 2, Some(22))
+    );
     let outer = PacketExt {
         offset: 14,
         slice: LinkExtSlice::Vlan(SingleVlanSlice::from_slice(&frame[14..])?),
