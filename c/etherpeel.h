@@ -7,8 +7,8 @@
  * What holds for every call:
  *
  *   Frame    `bytes` and `file` point to `len` bytes, which are read and never written; `frame` and
- *            `buffer` to `len` bytes, which the calls that change VLAN tags write to. NULL is
- *            allowed if `len` is 0.
+ *            `buffer` to `len` bytes, which the calls that change headers write to. NULL is allowed
+ *            if `len` is 0.
  *   Targets  `units`, `fields`, `packets`, `matches`, `target`, `fill` and `text` point to as many
  *            elements as `room` says. NULL is allowed if `room` is 0. A pointer to one struct or
  *            number must not be NULL. The memory must be aligned for its type. What is only written
@@ -48,7 +48,7 @@
 /* The version of this interface. The first number changes if a struct, a number or a call changes
  * its meaning, the second if some are added. */
 #define ETHERPEEL_VERSION_MAJOR 2
-#define ETHERPEEL_VERSION_MINOR 1
+#define ETHERPEEL_VERSION_MINOR 2
 #define ETHERPEEL_VERSION (ETHERPEEL_VERSION_MAJOR * 0x10000 + ETHERPEEL_VERSION_MINOR * 0x100)
 
 #ifdef __cplusplus
@@ -98,7 +98,17 @@ enum etherpeel_status {
 
     /* The packet type of a header of Linux cooked capture v2 is above 7. One that is cut short is
      * ETHERPEEL_SHORT. */
-    ETHERPEEL_BAD_PACKET_TYPE = 15
+    ETHERPEEL_BAD_PACKET_TYPE = 15,
+
+    /* Why a header is not replaced, beside ETHERPEEL_NO_LINK, ETHERPEEL_NO_TAG and
+     * ETHERPEEL_BAD_FIELD: */
+
+    /* The frame has no ARP packet, or it is cut short. */
+    ETHERPEEL_NO_ARP = 16,
+    /* The header is another one than that in the frame in what enum etherpeel_difference says. */
+    ETHERPEEL_DIFFERS = 17,
+    /* The call takes no unit of this kind. */
+    ETHERPEEL_BAD_KIND = 18
 };
 
 /* What a frame begins with: the parameter `start` of each call. The parameter `ether_type` is read
@@ -184,6 +194,31 @@ enum etherpeel_len_source {
     ETHERPEEL_LEN_MACSEC_SHORT_LENGTH = 2,
     /* The two address lengths of an ARP packet. */
     ETHERPEEL_LEN_ARP_ADDRESSES = 3
+};
+
+/* What a header says otherwise than the one that it is to replace: if there are several
+ * differences, the first in this order. */
+enum etherpeel_difference {
+    /* One is a VLAN tag and the other a SecTag, or one is an Ethernet II header and the other one
+     * of cooked capture. */
+    ETHERPEEL_DIFFERENCE_KIND = 1,
+    /* The ether type of an Ethernet II header or VLAN tag. */
+    ETHERPEEL_DIFFERENCE_ETHER_TYPE = 2,
+    /* The hardware type of a cooked capture. */
+    ETHERPEEL_DIFFERENCE_HARDWARE_TYPE = 3,
+    /* The protocol number of a cooked capture. */
+    ETHERPEEL_DIFFERENCE_PROTOCOL_TYPE = 4,
+    /* Whether the payload of a SecTag is encrypted or changed, and its ether type if it is neither.
+     */
+    ETHERPEEL_DIFFERENCE_PAYLOAD_TYPE = 5,
+    /* The short length of a SecTag. */
+    ETHERPEEL_DIFFERENCE_SHORT_LEN = 6,
+    /* Whether a SecTag has an SCI. */
+    ETHERPEEL_DIFFERENCE_SCI = 7,
+    /* The length of the hardware addresses of an ARP packet. */
+    ETHERPEEL_DIFFERENCE_HARDWARE_SIZE = 8,
+    /* The length of the protocol addresses of an ARP packet. */
+    ETHERPEEL_DIFFERENCE_PROTOCOL_SIZE = 9
 };
 
 /* Why a text is no expression of a filter: mostly by what is expected in place of a word. */
@@ -445,6 +480,12 @@ typedef struct etherpeel_filter_error {
     uint32_t greatest; /* the greatest number that fits, of ETHERPEEL_FILTER_NUMBER, else 0 */
 } etherpeel_filter_error;
 
+/* Why a header is not replaced. */
+typedef struct etherpeel_replace_error {
+    size_t tags;         /* how many VLAN tags and SecTags there are, of ETHERPEEL_NO_TAG, else 0 */
+    uint32_t difference; /* enum etherpeel_difference, of ETHERPEEL_DIFFERS, else 0 */
+} etherpeel_replace_error;
+
 /* ---- The library ----
  *
  * A program that takes the shared library, or that declares the structs in another language, finds
@@ -468,7 +509,8 @@ enum etherpeel_struct {
     ETHERPEEL_STRUCT_FILTER_ERROR = 13,
     ETHERPEEL_STRUCT_FRAME = 14,
     ETHERPEEL_STRUCT_FIELD = 15,
-    ETHERPEEL_STRUCT_LINUX_SLL2_HEADER = 16
+    ETHERPEEL_STRUCT_LINUX_SLL2_HEADER = 16,
+    ETHERPEEL_STRUCT_REPLACE_ERROR = 17
 };
 
 /* etherpeel_version - the version of the library, as ETHERPEEL_VERSION is that of this header
@@ -508,7 +550,8 @@ static inline int etherpeel_fits(void) {
            etherpeel_sizeof(ETHERPEEL_STRUCT_FRAME) == sizeof(etherpeel_frame) &&
            etherpeel_sizeof(ETHERPEEL_STRUCT_FIELD) == sizeof(etherpeel_field) &&
            etherpeel_sizeof(ETHERPEEL_STRUCT_LINUX_SLL2_HEADER) ==
-               sizeof(etherpeel_linux_sll2_header);
+               sizeof(etherpeel_linux_sll2_header) &&
+           etherpeel_sizeof(ETHERPEEL_STRUCT_REPLACE_ERROR) == sizeof(etherpeel_replace_error);
 }
 
 /* etherpeel_start_of_link_type - the number of enum etherpeel_start for packets of a link type, 0
@@ -736,6 +779,65 @@ uint32_t etherpeel_set_vlan_tag(uint32_t start, uint16_t ether_type, uint8_t *fr
  */
 uint32_t etherpeel_set_tpid(uint32_t start, uint16_t ether_type, uint8_t *frame, size_t len,
                             size_t index, uint16_t tpid);
+
+/* ---- Headers replaced in place ----
+ *
+ * `header` is a unit as etherpeel_walk gives it, or one that the caller fills in. Only its kind and
+ * the struct of that kind are read, without has_fcs, without `sci` if sci_present is 0, and without
+ * `ether_type` of a SecTag if `encrypted` or `changed` is 1. The header must have the kind and the
+ * length of the one in the frame, and say the same about what follows it.
+ * No other byte of the frame changes: a frame check sequence and an integrity check value don't fit
+ * the new bytes. The headers are then those from before with this one replaced, also if a later one
+ * is refused. If a call does not return ETHERPEEL_DONE, the frame is as it was. *error is set if it
+ * returns ETHERPEEL_NO_LINK, ETHERPEEL_NO_TAG, ETHERPEEL_NO_ARP or ETHERPEEL_DIFFERS, and else
+ * stays as it was.
+ */
+
+/* etherpeel_replace_link - replaces the header of a link that a frame begins with, in place
+ *
+ * `header` is of ETHERPEEL_UNIT_ETHERNET2 or ETHERPEEL_UNIT_LINUX_SLL. It must have the ether type
+ * of the one in the frame, or its hardware type and protocol number.
+ * Returns ETHERPEEL_DONE, or the first of these that applies: ETHERPEEL_UNKNOWN_START;
+ * ETHERPEEL_BAD_KIND; ETHERPEEL_BAD_FIELD if the packet type of a cooked capture is above 7;
+ * ETHERPEEL_NO_LINK, also if the header in the frame is refused; ETHERPEEL_DIFFERS.
+ * In place in `frame`, which neither *header nor *error may overlap, nor they one another. Every
+ * number is in host byte order, the addresses in that of the frame. Thread-safe; takes no memory.
+ */
+uint32_t etherpeel_replace_link(uint32_t start, uint16_t ether_type, uint8_t *frame, size_t len,
+                                const etherpeel_unit *header, etherpeel_replace_error *error);
+
+/* etherpeel_replace_link_ext - replaces a VLAN tag or SecTag, in place
+ *
+ * `index` counts the first three VLAN tags and SecTags of the frame, the outermost from 0. `header`
+ * is of ETHERPEEL_UNIT_VLAN or ETHERPEEL_UNIT_MACSEC. It must have the ether type of the VLAN tag
+ * in the frame; or the bits E, C and SC, the short length and, if there is one, the ether type of
+ * the SecTag there. The two reserved bits of a SecTag become 0. Returns ETHERPEEL_DONE, or the
+ * first of these that applies: ETHERPEEL_UNKNOWN_START; ETHERPEEL_BAD_KIND; ETHERPEEL_BAD_FIELD if
+ * a number does not fit its field, or a flag is above 1; ETHERPEEL_NO_TAG; ETHERPEEL_DIFFERS. In
+ * place in `frame`, which neither *header nor *error may overlap, nor they one another. Every
+ * number is in host byte order. Thread-safe; takes no memory.
+ */
+uint32_t etherpeel_replace_link_ext(uint32_t start, uint16_t ether_type, uint8_t *frame, size_t len,
+                                    size_t index, const etherpeel_unit *header,
+                                    etherpeel_replace_error *error);
+
+/* etherpeel_replace_arp - replaces the ARP packet of a frame, in place
+ *
+ * The ARP packet is the one after no more than three VLAN tags and SecTags. `header` is of
+ * ETHERPEEL_UNIT_ARP. Its addresses are read from the `bytes_len` bytes at `bytes`, from
+ * header->arp.sender_hardware on, and so on: those of a frame that the unit is of, or an array that
+ * the caller fills in. NULL is allowed if `bytes_len` is 0. They must have the lengths of the
+ * addresses in the frame.
+ * Returns ETHERPEEL_DONE, or the first of these that applies: ETHERPEEL_UNKNOWN_START;
+ * ETHERPEEL_BAD_KIND; ETHERPEEL_BAD_FIELD if an address is not within the bytes; ETHERPEEL_NO_ARP;
+ * ETHERPEEL_DIFFERS.
+ * In place in `frame`, which neither *header, the bytes nor *error may overlap, nor *error these.
+ * Every number is in host byte order, the addresses in that of the frame. Thread-safe; takes no
+ * memory, and some 5 KB of stack.
+ */
+uint32_t etherpeel_replace_arp(uint32_t start, uint16_t ether_type, uint8_t *frame, size_t len,
+                               const etherpeel_unit *header, const uint8_t *bytes, size_t bytes_len,
+                               etherpeel_replace_error *error);
 
 /* ---- Capture files ----
  *

@@ -19,8 +19,8 @@ fi
 to=${DESTDIR:-}$prefix
 install -D -m 644 "$here/etherpeel.h" "$to/include/etherpeel.h"
 install -D -m 644 "$archive" "$to/lib/libetherpeel.a"
-sh "$here/link.sh" "${CC:-cc}" "$archive" "$to/lib/libetherpeel.so.2.1.0"
-ln -sf libetherpeel.so.2.1.0 "$to/lib/libetherpeel.so.2"
+sh "$here/link.sh" "${CC:-cc}" "$archive" "$to/lib/libetherpeel.so.2.2.0"
+ln -sf libetherpeel.so.2.2.0 "$to/lib/libetherpeel.so.2"
 ln -sf libetherpeel.so.2 "$to/lib/libetherpeel.so"
 mkdir -p "$to/lib/pkgconfig"
 sed "s|@PREFIX@|$prefix|" "$here/etherpeel.pc.in" > "$to/lib/pkgconfig/etherpeel.pc"

@@ -11,7 +11,7 @@ import zipfile
 
 HERE = os.path.dirname(os.path.abspath(__file__))
 C = os.path.dirname(HERE)
-NAME, VERSION, TAG = "etherpeel", "2.1.0", "py3-none-linux_x86_64"
+NAME, VERSION, TAG = "etherpeel", "2.2.0", "py3-none-linux_x86_64"
 INFO = f"{NAME}-{VERSION}.dist-info"
 METADATA = f"""Metadata-Version: 2.1
 Name: {NAME}

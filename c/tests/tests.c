@@ -70,6 +70,8 @@ static void layout(void) {
           offsetof(etherpeel_headers, vlan_count) == 822);
     CHECK(sizeof(etherpeel_filter_error) == 16 && offsetof(etherpeel_filter_error, kind) == 8 &&
           offsetof(etherpeel_filter_error, greatest) == 12);
+    CHECK(sizeof(etherpeel_replace_error) == 16 &&
+          offsetof(etherpeel_replace_error, difference) == 8);
     CHECK(sizeof(etherpeel_frame) == 32 && offsetof(etherpeel_frame, len) == 8 &&
           offsetof(etherpeel_frame, offset) == 16 && offsetof(etherpeel_frame, start) == 24 &&
           offsetof(etherpeel_frame, ether_type) == 28);
@@ -90,7 +92,7 @@ static void layout(void) {
 /* ---- the library: its version, the sizes of its structs, link types ---- */
 
 static void library(void) {
-    CHECK(ETHERPEEL_VERSION == 0x020100 && etherpeel_version() == 0x020100 && etherpeel_fits());
+    CHECK(ETHERPEEL_VERSION == 0x020200 && etherpeel_version() == 0x020200 && etherpeel_fits());
     CHECK(etherpeel_sizeof(ETHERPEEL_STRUCT_FAULT) == 56 &&
           etherpeel_sizeof(ETHERPEEL_STRUCT_UNIT) == 144);
     CHECK(etherpeel_sizeof(0) == 0 && etherpeel_sizeof(99) == 0 && etherpeel_sizeof(~0u) == 0);
@@ -1018,6 +1020,217 @@ static void setting_more(void) {
     CHECK(sec_tag[6] == 0x91 && sec_tag[7] == 0x00 && memcmp(sec_tag, NAMED, 6) == 0);
 }
 
+/* ---- headers replaced in place ---- */
+
+static etherpeel_unit unit_of(uint32_t start, uint16_t ether_type, const uint8_t *bytes, size_t len,
+                              size_t index) {
+    etherpeel_unit units[4];
+    size_t count = 0;
+    memset(units, 0, sizeof units);
+    CHECK(etherpeel_walk(start, ether_type, bytes, len, units, 4, &count) == ETHERPEEL_DONE &&
+          index < count);
+    return units[index];
+}
+
+/* whether a header does not replace the one in a frame, for this reason: a tag, or the header of
+ * the link, or the ARP packet whose addresses are in the frame */
+static int is_not_replaced(uint32_t start, uint16_t ether_type, const uint8_t *bytes, size_t len,
+                           const etherpeel_unit *header, uint32_t status, size_t tags,
+                           uint32_t difference) {
+    etherpeel_replace_error error = {99, 99};
+    uint8_t frame[64];
+    uint32_t found;
+    memcpy(frame, bytes, len);
+    if (header->kind == ETHERPEEL_UNIT_ARP)
+        found = etherpeel_replace_arp(start, ether_type, frame, len, header, bytes, len, &error);
+    else if (header->kind == ETHERPEEL_UNIT_ETHERNET2 || header->kind == ETHERPEEL_UNIT_LINUX_SLL)
+        found = etherpeel_replace_link(start, ether_type, frame, len, header, &error);
+    else
+        found = etherpeel_replace_link_ext(start, ether_type, frame, len, tags, header, &error);
+    return found == status && error.tags == tags && error.difference == difference &&
+           memcmp(frame, bytes, len) == 0;
+}
+
+static void replacing_links(void) {
+    static const uint8_t expected[] = {2, 0, 0, 0, 0, 2, 2, 0, 0, 0, 0, 3, 0x81, 0x00};
+    static const uint8_t cooked[] = {0, 3, 0, 1, 0, 4, 1, 2, 3, 4, 0, 0, 0, 0, 0x08, 0x06};
+    etherpeel_unit header = unit_of(ETHERPEEL_START_ETHERNET2, 0, TAGGED, sizeof TAGGED, 0);
+    etherpeel_replace_error error = {99, 99};
+    uint8_t frame[sizeof TAGGED], sll[sizeof COOKED];
+    memcpy(frame, TAGGED, sizeof frame), memcpy(sll, COOKED, sizeof sll);
+    memcpy(header.ethernet2.destination, expected, 6);
+    memcpy(header.ethernet2.source, expected + 6, 6);
+    header.ethernet2.has_fcs = 9;
+    CHECK(etherpeel_replace_link(ETHERPEEL_START_ETHERNET2, 0, frame, sizeof frame, &header,
+                                 &error) == ETHERPEEL_DONE);
+    CHECK(memcmp(frame, expected, 14) == 0 && memcmp(frame + 14, TAGGED + 14, 5) == 0);
+    CHECK(error.tags == 99 && error.difference == 99);
+    memcpy(frame, TAGGED, sizeof frame);
+    CHECK(etherpeel_replace_link(ETHERPEEL_START_ETHERNET2_FCS, 0, frame, sizeof frame, &header,
+                                 &error) == ETHERPEEL_DONE);
+    CHECK(memcmp(frame, expected, 14) == 0);
+    /* refused */
+    CHECK(etherpeel_replace_link(9, 0, frame, sizeof frame, &header, &error) ==
+          ETHERPEEL_UNKNOWN_START);
+    CHECK(error.tags == 99 && error.difference == 99);
+    CHECK(is_not_replaced(ETHERPEEL_START_ETHERNET2, 0, TAGGED, 13, &header, ETHERPEEL_NO_LINK, 0,
+                          0));
+    CHECK(is_not_replaced(ETHERPEEL_START_ETHER_TYPE, 0x8100, TAGGED, 19, &header,
+                          ETHERPEEL_NO_LINK, 0, 0));
+    CHECK(is_not_replaced(ETHERPEEL_START_LINUX_SLL, 0, COOKED, 16, &header, ETHERPEEL_DIFFERS, 0,
+                          ETHERPEEL_DIFFERENCE_KIND));
+    header.ethernet2.ether_type = 0x88A8;
+    CHECK(is_not_replaced(ETHERPEEL_START_ETHERNET2, 0, TAGGED, sizeof TAGGED, &header,
+                          ETHERPEEL_DIFFERS, 0, ETHERPEEL_DIFFERENCE_ETHER_TYPE));
+    /* cooked capture */
+    header = unit_of(ETHERPEEL_START_LINUX_SLL, 0, COOKED, sizeof COOKED, 0);
+    header.linux_sll.packet_type = 3, header.linux_sll.address_len = 4;
+    memcpy(header.linux_sll.address, cooked + 6, 8);
+    CHECK(etherpeel_replace_link(ETHERPEEL_START_LINUX_SLL, 0, sll, sizeof sll, &header, &error) ==
+          ETHERPEEL_DONE);
+    CHECK(memcmp(sll, cooked, sizeof sll) == 0);
+    header.linux_sll.protocol = 0x0800;
+    CHECK(is_not_replaced(ETHERPEEL_START_LINUX_SLL, 0, COOKED, 16, &header, ETHERPEEL_DIFFERS, 0,
+                          ETHERPEEL_DIFFERENCE_PROTOCOL_TYPE));
+    header.linux_sll.hardware_type = 2;
+    CHECK(is_not_replaced(ETHERPEEL_START_LINUX_SLL, 0, COOKED, 16, &header, ETHERPEEL_DIFFERS, 0,
+                          ETHERPEEL_DIFFERENCE_HARDWARE_TYPE));
+    header.linux_sll.packet_type = 8;
+    CHECK(etherpeel_replace_link(ETHERPEEL_START_LINUX_SLL, 0, sll, sizeof sll, &header, &error) ==
+          ETHERPEEL_BAD_FIELD);
+    header.kind = ETHERPEEL_UNIT_VLAN;
+    CHECK(etherpeel_replace_link(ETHERPEEL_START_LINUX_SLL, 0, sll, sizeof sll, &header, &error) ==
+          ETHERPEEL_BAD_KIND);
+    CHECK(memcmp(sll, cooked, sizeof sll) == 0 && error.tags == 99 && error.difference == 99);
+}
+
+static void replacing_tags(void) {
+    /* PCP 3, VID 0x456; SC, E and C, AN 3, packet number 0x01020305, SCI 0x0011223344556688 */
+    static const uint8_t vlan[] = {ADDRESSES, 0x81, 0x00, 0x64, 0x56, 0x08, 0x00, 0x45};
+    static const uint8_t sealed[] = {0x2F, 0x00, 1,    2,    3,    5,    0x00, 0x11,
+                                     0x22, 0x33, 0x44, 0x55, 0x66, 0x88, 0x99};
+    etherpeel_unit header = unit_of(ETHERPEEL_START_ETHERNET2, 0, TAGGED, sizeof TAGGED, 1);
+    etherpeel_replace_error error = {99, 99};
+    uint8_t frame[sizeof TAGGED], tag[sizeof SEALED], named[sizeof NAMED];
+    memcpy(frame, TAGGED, sizeof frame), memcpy(tag, SEALED, sizeof tag);
+    memcpy(named, NAMED, sizeof named);
+    header.vlan.vid = 0x456, header.vlan.pcp = 3, header.vlan.dei = 0;
+    CHECK(etherpeel_replace_link_ext(9, 0, frame, sizeof frame, 0, &header, &error) ==
+          ETHERPEEL_UNKNOWN_START);
+    CHECK(etherpeel_replace_link_ext(ETHERPEEL_START_ETHERNET2, 0, frame, sizeof frame, 0, &header,
+                                     &error) == ETHERPEEL_DONE);
+    CHECK(memcmp(frame, vlan, sizeof frame) == 0 && error.tags == 99 && error.difference == 99);
+    CHECK(is_not_replaced(ETHERPEEL_START_ETHERNET2, 0, TAGGED, sizeof TAGGED, &header,
+                          ETHERPEEL_NO_TAG, 1, 0));
+    CHECK(is_not_replaced(ETHERPEEL_START_ETHERNET2, 0, ARP, sizeof ARP, &header, ETHERPEEL_NO_TAG,
+                          0, 0));
+    CHECK(is_not_replaced(ETHERPEEL_START_ETHER_TYPE, 0x88E5, SEALED, sizeof SEALED, &header,
+                          ETHERPEEL_DIFFERS, 0, ETHERPEEL_DIFFERENCE_KIND));
+    header.vlan.ether_type = 0x86DD;
+    CHECK(is_not_replaced(ETHERPEEL_START_ETHER_TYPE, 0x8100, TAGGED + 14, 5, &header,
+                          ETHERPEEL_DIFFERS, 0, ETHERPEEL_DIFFERENCE_ETHER_TYPE));
+    /* SecTags; the ether type of one that is encrypted counts for nothing, nor an SCI that is not
+     * there, and the reserved bit of the other is cleared */
+    header = unit_of(ETHERPEEL_START_ETHER_TYPE, 0x88E5, SEALED, sizeof SEALED, 0);
+    header.macsec.end_station = 0, header.macsec.association_number = 3;
+    header.macsec.packet_number++, header.macsec.sci += 0x11, header.macsec.ether_type = 0x0800;
+    CHECK(etherpeel_replace_link_ext(ETHERPEEL_START_ETHER_TYPE, 0x88E5, tag, sizeof tag, 0,
+                                     &header, &error) == ETHERPEEL_DONE);
+    CHECK(memcmp(tag, sealed, sizeof tag) == 0);
+    header.macsec.sci_present = 0;
+    CHECK(is_not_replaced(ETHERPEEL_START_ETHER_TYPE, 0x88E5, SEALED, sizeof SEALED, &header,
+                          ETHERPEEL_DIFFERS, 0, ETHERPEEL_DIFFERENCE_SCI));
+    header.macsec.short_len = 1;
+    CHECK(is_not_replaced(ETHERPEEL_START_ETHER_TYPE, 0x88E5, SEALED, sizeof SEALED, &header,
+                          ETHERPEEL_DIFFERS, 0, ETHERPEEL_DIFFERENCE_SHORT_LEN));
+    header.macsec.changed = 0;
+    CHECK(is_not_replaced(ETHERPEEL_START_ETHER_TYPE, 0x88E5, SEALED, sizeof SEALED, &header,
+                          ETHERPEEL_DIFFERS, 0, ETHERPEEL_DIFFERENCE_PAYLOAD_TYPE));
+    header = unit_of(ETHERPEEL_START_ETHER_TYPE, 0x88E5, NAMED, sizeof NAMED, 0);
+    header.macsec.packet_number = 7, header.macsec.sci = 7;
+    CHECK(etherpeel_replace_link_ext(ETHERPEEL_START_ETHER_TYPE, 0x88E5, named, sizeof named, 0,
+                                     &header, &error) == ETHERPEEL_DONE);
+    CHECK(named[0] == 0 && named[1] == 0x06 && named[5] == 7);
+    CHECK(memcmp(named + 6, NAMED + 6, sizeof named - 6) == 0);
+}
+
+/* numbers that do not fit their fields, and other kinds */
+static void replacing_by_what_is_no_tag(void) {
+    static const size_t flags[] = {
+        offsetof(etherpeel_macsec, end_station), offsetof(etherpeel_macsec, sci_present),
+        offsetof(etherpeel_macsec, single_copy_broadcast), offsetof(etherpeel_macsec, encrypted),
+        offsetof(etherpeel_macsec, changed)};
+    const etherpeel_unit vlan = unit_of(ETHERPEEL_START_ETHERNET2, 0, TAGGED, sizeof TAGGED, 1);
+    const etherpeel_unit tag =
+        unit_of(ETHERPEEL_START_ETHER_TYPE, 0x88E5, SEALED, sizeof SEALED, 0);
+    etherpeel_unit wrong[10];
+    etherpeel_replace_error error = {99, 99};
+    uint8_t frame[sizeof SEALED];
+    memcpy(frame, SEALED, sizeof frame);
+    for (size_t i = 0; i < 10; i++) wrong[i] = i < 3 ? vlan : tag;
+    wrong[0].vlan.vid = 4096, wrong[1].vlan.pcp = 8, wrong[2].vlan.dei = 2;
+    wrong[3].macsec.association_number = 4, wrong[4].macsec.short_len = 64;
+    for (size_t i = 0; i < 5; i++) ((uint8_t *)&wrong[5 + i].macsec)[flags[i]] = 2;
+    for (size_t i = 0; i < 10; i++)
+        CHECK(etherpeel_replace_link_ext(ETHERPEEL_START_ETHER_TYPE, 0x88E5, frame, sizeof frame, 0,
+                                         &wrong[i], &error) == ETHERPEEL_BAD_FIELD);
+    for (uint32_t kind = 0; kind < 7; kind++) {
+        wrong[0].kind = kind;
+        if (kind != ETHERPEEL_UNIT_VLAN && kind != ETHERPEEL_UNIT_MACSEC)
+            CHECK(etherpeel_replace_link_ext(ETHERPEEL_START_ETHER_TYPE, 0x88E5, frame,
+                                             sizeof frame, 0, &wrong[0],
+                                             &error) == ETHERPEEL_BAD_KIND);
+    }
+    CHECK(memcmp(frame, SEALED, sizeof frame) == 0 && error.tags == 99 && error.difference == 99);
+}
+
+static void replacing_arp(void) {
+    /* the reply: 10.0.0.2 is at 02:00:00:00:00:02 */
+    static const uint8_t reply[] = {ADDRESSES, 0x08, 0x06, 0, 1, 0x08, 0x00, 6, 4, 0, 2,
+                                    2,         0,    0,    0, 0, 2,    10,   0, 0, 2, 2,
+                                    0,         0,    0,    0, 1, 10,   0,    0, 1, 0, 0};
+    static const uint8_t addresses[] = {2, 0, 0, 0, 0, 1, 10, 0, 0, 1,
+                                        2, 0, 0, 0, 0, 2, 10, 0, 0, 2};
+    etherpeel_unit header = unit_of(ETHERPEEL_START_ETHERNET2, 0, ARP, sizeof ARP, 1);
+    etherpeel_replace_error error = {99, 99};
+    uint8_t frame[sizeof ARP];
+    memcpy(frame, ARP, sizeof frame);
+    header.arp.operation = 2;
+    header.arp.target_hardware = 0, header.arp.target_protocol = 6;
+    header.arp.sender_hardware = 10, header.arp.sender_protocol = 16;
+    CHECK(etherpeel_replace_arp(9, 0, frame, sizeof frame, &header, addresses, 20, &error) ==
+          ETHERPEEL_UNKNOWN_START);
+    CHECK(etherpeel_replace_arp(ETHERPEEL_START_ETHERNET2, 0, frame, sizeof frame, &header,
+                                addresses, 19, &error) == ETHERPEEL_BAD_FIELD);
+    header.arp.target_protocol = SIZE_MAX;
+    CHECK(etherpeel_replace_arp(ETHERPEEL_START_ETHERNET2, 0, frame, sizeof frame, &header,
+                                addresses, 20, &error) == ETHERPEEL_BAD_FIELD);
+    header.arp.target_protocol = 6, header.kind = ETHERPEEL_UNIT_VLAN;
+    CHECK(etherpeel_replace_arp(ETHERPEEL_START_ETHERNET2, 0, frame, sizeof frame, &header,
+                                addresses, 20, &error) == ETHERPEEL_BAD_KIND);
+    CHECK(memcmp(frame, ARP, sizeof frame) == 0);
+    header.kind = ETHERPEEL_UNIT_ARP;
+    CHECK(etherpeel_replace_arp(ETHERPEEL_START_ETHERNET2, 0, frame, sizeof frame, &header,
+                                addresses, 20, &error) == ETHERPEEL_DONE);
+    CHECK(memcmp(frame, reply, sizeof frame) == 0 && error.tags == 99 && error.difference == 99);
+    CHECK(is_not_replaced(ETHERPEEL_START_ETHERNET2, 0, TAGGED, sizeof TAGGED, &header,
+                          ETHERPEEL_BAD_FIELD, 99, 99) == 1);
+    header = unit_of(ETHERPEEL_START_ETHERNET2, 0, ARP, sizeof ARP, 1);
+    CHECK(is_not_replaced(ETHERPEEL_START_ETHERNET2, 0, ARP, 41, &header, ETHERPEEL_BAD_FIELD, 99,
+                          99));
+    header.arp.protocol_size = 3;
+    CHECK(is_not_replaced(ETHERPEEL_START_ETHERNET2, 0, ARP, sizeof ARP, &header, ETHERPEEL_DIFFERS,
+                          0, ETHERPEEL_DIFFERENCE_PROTOCOL_SIZE));
+    header.arp.hardware_size = 5;
+    CHECK(is_not_replaced(ETHERPEEL_START_ETHERNET2, 0, ARP, sizeof ARP, &header, ETHERPEEL_DIFFERS,
+                          0, ETHERPEEL_DIFFERENCE_HARDWARE_SIZE));
+    memset(&header.arp, 0, sizeof header.arp);
+    CHECK(is_not_replaced(ETHERPEEL_START_ETHERNET2, 0, TAGGED, sizeof TAGGED, &header,
+                          ETHERPEEL_NO_ARP, 0, 0));
+    CHECK(etherpeel_replace_arp(ETHERPEEL_START_ETHERNET2, 0, NULL, 0, &header, NULL, 0, &error) ==
+          ETHERPEEL_NO_ARP);
+}
+
 /* ---- what is common to all calls ---- */
 
 static void unknown_starts(void) {
@@ -1186,6 +1399,10 @@ int main(void) {
     pushing();
     setting();
     setting_more();
+    replacing_links();
+    replacing_tags();
+    replacing_by_what_is_no_tag();
+    replacing_arp();
     unknown_starts();
     no_frame();
     drawn_frames();

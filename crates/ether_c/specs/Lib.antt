@@ -16,3 +16,5 @@ pub mod FieldTables
 pub mod Fields
 pub mod FieldViews
 pub mod CookedV2
+pub mod Passed
+pub mod Replacing

@@ -5,15 +5,15 @@ ghost use Rattle.ether_c.specs.Library.{version_number, struct_size};
 use crate::{
     EtherArp, EtherCaptureEnd, EtherCaptured, EtherEthernet2, EtherFault, EtherFed, EtherField,
     EtherFilterError, EtherFound, EtherFrame, EtherHeaders, EtherLinuxSll, EtherLinuxSll2,
-    EtherMacsec, EtherUnit, EtherVlan,
+    EtherMacsec, EtherReplaceError, EtherUnit, EtherVlan,
 };
 
 /// The version of the library: 0x10000 times the first number, 0x100 times the second, and the third.
 #[unsafe(no_mangle)]
 pub extern "C" fn etherpeel_version() -> u32
-    ensures { result ≡ version_number 2 1 0 }
+    ensures { result ≡ version_number 2 2 0 }
 {
-    0x02_01_00
+    0x02_02_00
 }
 
 /// The size in bytes of the struct with a number, 0 if none has it.
@@ -38,6 +38,7 @@ pub extern "C" fn etherpeel_sizeof(number: u32) -> usize
         14 => size_of::<EtherFrame<'_>>(),
         15 => size_of::<EtherField>(),
         16 => size_of::<EtherLinuxSll2>(),
+        17 => size_of::<EtherReplaceError>(),
         _ => 0,
     }
 }

@@ -20,6 +20,12 @@ pub(crate) const NO_ROOM: u32 = 2;
 /// A text can't be made, and nothing was written.
 pub(crate) const NO_TEXT: u32 = 3;
 
+/// The frame does not begin with the header of a link.
+pub(crate) const NO_LINK: u32 = 5;
+
+/// There is no VLAN tag or SecTag at the index.
+pub(crate) const NO_TAG: u32 = 7;
+
 /// A number does not fit its field, and nothing was written.
 pub(crate) const BAD_FIELD: u32 = 11;
 
@@ -34,6 +40,15 @@ pub(crate) const BAD_FILTER: u32 = 14;
 
 /// The packet type of a header of Linux cooked capture v2 is above 7.
 pub(crate) const BAD_PACKET_TYPE: u32 = 15;
+
+/// The frame has no ARP packet.
+pub(crate) const NO_ARP: u32 = 16;
+
+/// The header says something else about what follows it than the one in the frame.
+pub(crate) const DIFFERS: u32 = 17;
+
+/// The call takes no unit of this kind.
+pub(crate) const BAD_KIND: u32 = 18;
 
 /// The start with a number, if there is one. Only the fourth has the ether type.
 #[inline(always)]
@@ -115,9 +130,9 @@ pub(crate) fn tag_error(error: &TagError) -> u32
     match error {
         TagError::NoRoom => NO_ROOM,
         TagError::Tpid(_) => 4,
-        TagError::NoLink => 5,
+        TagError::NoLink => NO_LINK,
         TagError::HardwareType(_) => 6,
-        TagError::NoLinkExt(_) => 7,
+        TagError::NoLinkExt(_) => NO_TAG,
         TagError::NoVlan => 8,
         TagError::CutVlan => 9,
         TagError::Unannounced => 10,

@@ -1,0 +1,197 @@
+//! Headers that are passed from C as units.
+ghost use Rattle.std.specs.Prelude.{◌≡◌, ◌+◌, ◌<◌, ◌≤◌, length, MatchOption, IfOk, IfErr};
+ghost use Rattle.etherparse.specs.LinkExt.{ext_header_view};
+ghost use Rattle.etherparse.specs.LinuxSllProtocolType.{protocol_of};
+ghost use Rattle.etherparse.specs.Macsec.{sec_tag_view, payload_type_view, payload_type_for};
+ghost use Rattle.etherparse.specs.Arp.{bytes_at};
+ghost use Rattle.ether_c.specs.Passed.{PassesLink, PassesNoLink, PassesExt, PassesNoExt, PassesArp, PassesNoArp, ethernet2_passed, linux_sll_passed, macsec_value, FitsMacsec, HasAddresses, arp_passed};
+
+use crate::numbers::{BAD_FIELD, BAD_KIND};
+use crate::{EtherArp, EtherEthernet2, EtherLinuxSll, EtherMacsec, EtherUnit};
+use etherparse::{
+    ArpHardwareId, ArpOperation, ArpPacket, EtherType, Ethernet2Header, LinkExtHeader, LinkHeader,
+    LinuxSllHeader, LinuxSllPacketType, LinuxSllProtocolType, MacsecAn, MacsecHeader, MacsecPType,
+    MacsecShortLen,
+};
+
+impl EtherUnit {
+    /// The header of a link that the unit is, or the status for one that is none.
+    #[tactic(auto, using(crate::specs::Passed::ethernet2, crate::specs::Passed::linux_sll, crate::specs::Passed::no_link_kind, crate::specs::Passed::bad_packet_type))]
+    pub(crate) fn to_link(&self) -> Result<LinkHeader, u32>
+        ensures link { IfOk result (PassesLink self.now) }
+        ensures none { IfErr result (PassesNoLink self.now) }
+    {
+        match self.kind {
+            1 => Ok(self.ethernet2.to_link()),
+            2 => match self.linux_sll.to_link() {
+                Some(link) => Ok(link),
+                None => Err(BAD_FIELD),
+            },
+            _ => Err(BAD_KIND),
+        }
+    }
+
+    /// The VLAN tag or SecTag that the unit is, or the status for one that is none.
+    #[tactic(auto, using(crate::specs::Passed::no_ext_kind, crate::specs::Passed::bad_vlan, crate::specs::Passed::bad_macsec))]
+    pub(crate) fn to_link_ext(&self) -> Result<LinkExtHeader, u32>
+        ensures ext { IfOk result (λ ext. PassesExt self.now (ext_header_view ext)) }
+        ensures none { IfErr result (PassesNoExt self.now) }
+    {
+        match self.kind {
+            3 => match self.vlan.to_header() {
+                Some(tag) => Ok(LinkExtHeader::Vlan(tag)),
+                None => Err(BAD_FIELD),
+            },
+            4 => match self.macsec.to_header() {
+                Some(tag) => Ok(LinkExtHeader::Macsec(tag)),
+                None => Err(BAD_FIELD),
+            },
+            _ => Err(BAD_KIND),
+        }
+    }
+
+    /// The ARP packet that the unit is, with addresses in these bytes, or the status for one that is none.
+    #[tactic(auto, using(crate::specs::Passed::arp, crate::specs::Passed::no_arp_kind, crate::specs::Passed::bad_addresses))]
+    pub(crate) fn to_arp(&self, bytes: &[u8]) -> Result<ArpPacket, u32>
+        ensures arp { IfOk result (PassesArp self.now bytes.now) }
+        ensures none { IfErr result (PassesNoArp self.now bytes.now) }
+    {
+        match self.kind {
+            5 => match self.arp.to_packet(bytes) {
+                Some(packet) => Ok(packet),
+                None => Err(BAD_FIELD),
+            },
+            _ => Err(BAD_KIND),
+        }
+    }
+}
+
+impl EtherEthernet2 {
+    /// The header with these fields.
+    fn to_link(&self) -> LinkHeader
+        ensures { result ≡ ethernet2_passed self.now }
+    {
+        LinkHeader::Ethernet2(Ethernet2Header {
+            source: self.source,
+            destination: self.destination,
+            ether_type: EtherType(self.ether_type),
+        })
+    }
+}
+
+impl EtherLinuxSll {
+    /// The header with these fields, `None` if its packet type is above 7.
+    fn to_link(&self) -> Option<LinkHeader>
+        ensures { MatchOption result (7 < self.now.packet_type)
+            (λ link. (link ≡ linux_sll_passed self.now) × (self.now.packet_type ≤ 7)) }
+    {
+        let Ok(packet_type) = LinuxSllPacketType::try_from(self.packet_type) else {
+            return None;
+        };
+        Some(LinkHeader::LinuxSll(LinuxSllHeader {
+            packet_type,
+            arp_hrd_type: ArpHardwareId(self.hardware_type),
+            sender_address_valid_length: self.address_len,
+            sender_address: self.address,
+            protocol_type: protocol_type(self.hardware_type, self.protocol),
+        }))
+    }
+}
+
+/// What a protocol number means on a link. A walk takes no hardware type for which it has no meaning.
+fn protocol_type(hardware_type: u16, protocol: u16) -> LinuxSllProtocolType
+    ensures { result ≡ protocol_of hardware_type protocol }
+{
+    match LinuxSllProtocolType::try_from((ArpHardwareId(hardware_type), protocol)) {
+        Ok(protocol_type) => protocol_type,
+        Err(_) => LinuxSllProtocolType::Ignored(protocol),
+    }
+}
+
+impl EtherMacsec {
+    /// The tag with these fields, `None` if a number does not fit its field.
+    fn to_header(&self) -> Option<MacsecHeader>
+        ensures { MatchOption result (FitsMacsec self.now → ⊥)
+            (λ tag. (sec_tag_view tag ≡ macsec_value self.now) × FitsMacsec self.now) }
+    {
+        let (Ok(an), Ok(short_len)) = (
+            MacsecAn::try_new(self.association_number),
+            MacsecShortLen::try_from_u8(self.short_len),
+        ) else {
+            return None;
+        };
+        if self.end_station > 1 || self.single_copy_broadcast > 1 {
+            return None;
+        }
+        if self.sci_present > 1 || self.encrypted > 1 || self.changed > 1 {
+            return None;
+        }
+        Some(MacsecHeader {
+            ptype: payload_type(self.encrypted, self.changed, self.ether_type),
+            endstation_id: self.end_station == 1,
+            scb: self.single_copy_broadcast == 1,
+            an,
+            short_len,
+            packet_nr: self.packet_number,
+            sci: if self.sci_present == 0 {
+                None
+            } else {
+                Some(self.sci)
+            },
+        })
+    }
+}
+
+/// The type of the payload by the bits E and C.
+fn payload_type(encrypted: u8, changed: u8, ether_type: u16) -> MacsecPType
+    ensures { payload_type_view result ≡ payload_type_for encrypted changed ether_type }
+{
+    match (encrypted, changed) {
+        (0, 0) => MacsecPType::Unmodified(EtherType(ether_type)),
+        (0, _) => MacsecPType::Modified,
+        (_, 0) => MacsecPType::EncryptedUnmodified,
+        _ => MacsecPType::Encrypted,
+    }
+}
+
+impl EtherArp {
+    /// The packet with these fields and the addresses in these bytes, `None` if one is not within them.
+    fn to_packet(&self, bytes: &[u8]) -> Option<ArpPacket>
+        ensures { MatchOption result (HasAddresses self.now bytes.now → ⊥)
+            (λ packet. (packet ≡ arp_passed self.now bytes.now) × HasAddresses self.now bytes.now) }
+    {
+        let (hardware, protocol) = (
+            usize::from(self.hardware_size),
+            usize::from(self.protocol_size),
+        );
+        let sender_hardware = address(bytes, self.sender_hardware, hardware)?;
+        let sender_protocol = address(bytes, self.sender_protocol, protocol)?;
+        let target_hardware = address(bytes, self.target_hardware, hardware)?;
+        let target_protocol = address(bytes, self.target_protocol, protocol)?;
+        let packet = ArpPacket::new(
+            ArpHardwareId(self.hardware_type),
+            EtherType(self.protocol_type),
+            ArpOperation(self.operation),
+            sender_hardware,
+            sender_protocol,
+            target_hardware,
+            target_protocol,
+        );
+        match packet {
+            Ok(packet) => Some(packet),
+            // The addresses have two lengths, each that of a byte.
+            Err(_) => None,
+        }
+    }
+}
+
+/// So many bytes from a place on, `None` if they are not all there.
+fn address(bytes: &[u8], at: usize, len: usize) -> Option<&[u8]>
+    ensures { MatchOption result (length bytes.now < at + len)
+        (λ address. (at + len ≤ length bytes.now) × (address.now ≡ bytes_at bytes.now at len)) }
+{
+    if at > bytes.len() || len > bytes.len() - at {
+        return None;
+    }
+    Some(&bytes[at..at + len])
+}

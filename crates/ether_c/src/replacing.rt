@@ -1,0 +1,102 @@
+//! Headers that are replaced in place.
+ghost use Rattle.std.specs.Prelude.{◌≡◌, IfOk, IfErr};
+ghost use Rattle.ether_packet.specs.Packet.{packet_start};
+ghost use Rattle.ether_c.specs.Numbers.{done};
+ghost use Rattle.ether_c.specs.Starts.{IsUnknown, IsRefused, OfStart};
+ghost use Rattle.ether_c.specs.Replacing.{TellsReplaceLink, TellsReplaceExt, TellsReplaceArp, told_replace_error, replace_error_status};
+
+use crate::numbers::{DONE, UNKNOWN_START, start_of};
+use crate::{EtherReplaceError, EtherUnit, ether_replace_error};
+use ether_packet::{ReplaceError, replace_arp, replace_link, replace_link_ext};
+
+/// Replaces the header of a link that a frame begins with, in place, by another one of the same kind
+/// that says the same about what follows it.
+#[unsafe(no_mangle)]
+pub extern "C" fn etherpeel_replace_link(
+    start: u32,
+    ether_type: u16,
+    frame: &mut [u8],
+    header: &EtherUnit,
+    error: &mut EtherReplaceError,
+) -> u32
+    ensures unknown { IsUnknown start ether_type
+        → IsRefused result ((frame.new ≡ frame.old) × (error.new ≡ error.old)) }
+    ensures told { OfStart start ether_type
+        (λ s. TellsReplaceLink s header.now frame.old frame.new error.old error.new result) }
+{
+    let Some(start) = start_of(start, ether_type) else {
+        return UNKNOWN_START;
+    };
+    match header.to_link() {
+        Ok(link) => told(replace_link(start, frame, &link), error),
+        Err(status) => status,
+    }
+}
+
+/// Replaces the VLAN tag or SecTag at an index, in place, by another one of the same length that says
+/// the same about what follows it.
+#[unsafe(no_mangle)]
+pub extern "C" fn etherpeel_replace_link_ext(
+    start: u32,
+    ether_type: u16,
+    frame: &mut [u8],
+    index: usize,
+    header: &EtherUnit,
+    error: &mut EtherReplaceError,
+) -> u32
+    ensures unknown { IsUnknown start ether_type
+        → IsRefused result ((frame.new ≡ frame.old) × (error.new ≡ error.old)) }
+    ensures told { OfStart start ether_type
+        (λ s. TellsReplaceExt (packet_start s) index header.now frame.old frame.new
+        error.old error.new result) }
+{
+    let Some(start) = start_of(start, ether_type) else {
+        return UNKNOWN_START;
+    };
+    match header.to_link_ext() {
+        Ok(ext) => told(replace_link_ext(start, frame, index, &ext), error),
+        Err(status) => status,
+    }
+}
+
+/// Replaces the ARP packet of a frame, in place, by another one with addresses of the same lengths,
+/// which are read from bytes beside it.
+#[unsafe(no_mangle)]
+pub extern "C" fn etherpeel_replace_arp(
+    start: u32,
+    ether_type: u16,
+    frame: &mut [u8],
+    header: &EtherUnit,
+    bytes: &[u8],
+    error: &mut EtherReplaceError,
+) -> u32
+    ensures unknown { IsUnknown start ether_type
+        → IsRefused result ((frame.new ≡ frame.old) × (error.new ≡ error.old)) }
+    ensures told { OfStart start ether_type
+        (λ s. TellsReplaceArp (packet_start s) header.now bytes.now frame.old frame.new
+        error.old error.new result) }
+{
+    let Some(start) = start_of(start, ether_type) else {
+        return UNKNOWN_START;
+    };
+    match header.to_arp(bytes) {
+        Ok(packet) => told(replace_arp(start, frame, &packet), error),
+        Err(status) => status,
+    }
+}
+
+/// The status of a call, which writes why a header is not replaced.
+fn told(replaced: Result<(), ReplaceError>, error: &mut EtherReplaceError) -> u32
+    ensures kept { IfOk replaced (λ _. error.new ≡ error.old) }
+    ensures done { IfOk replaced (λ _. result ≡ done) }
+    ensures error { IfErr replaced (λ e. error.new ≡ told_replace_error e) }
+    ensures status { IfErr replaced (λ e. result ≡ replace_error_status e) }
+{
+    match replaced {
+        Ok(()) => DONE,
+        Err(refusal) => {
+            *error = EtherReplaceError::of(&refusal);
+            ether_replace_error::status(&refusal)
+        }
+    }
+}
