@@ -4,13 +4,15 @@ import ctypes as C
 import io
 import itertools
 import mmap
+import os
 import random
+import re
 import sys
 import tempfile
 
 sys.path.insert(0, sys.argv[1])
 import etherpeel
-from etherpeel import FaultKind, Layer, LenSource, RestKind, Start, _library
+from etherpeel import Difference, FaultKind, FieldName, FilterErrorKind, Layer, LenSource, RestKind, Start, Status, _library
 from walker import ETHERNET2, LINUX_SLL, Walker
 
 counts = {True: 0, False: 0}
@@ -38,10 +40,18 @@ ARP = ADDRESSES + bytes.fromhex("0806 0001080006040001 020000000001 0a000001 000
 
 def layout():
     sizes = [C.sizeof(t) for t in _library.STRUCTS]
-    check("sizes", sizes[:9], [56, 88, 72, 16, 16, 6, 24, 40, 144])
+    check("sizes", sizes, [56, 88, 72, 16, 16, 6, 24, 40, 144, 824, 40, 16, 16, 32, 32, 32, 16])
     check("offsets", [getattr(_library.Unit, f).offset for f in
                       ("kind", "closed", "ethernet2", "linux_sll", "vlan", "macsec", "arp")], [32, 36, 38, 54, 70, 80, 104])
-    check("version", _library.lib.etherpeel_version(), 0x020100)
+    check("version", _library.lib.etherpeel_version(), 0x020200)
+    with open(os.path.join(os.path.dirname(os.path.abspath(__file__)), "..", "etherpeel.h"), encoding="ascii") as file:
+        header = file.read()
+    for kind, enum, prefix in ((Status, "status", ""), (Start, "start", "START_"), (RestKind, "rest_kind", "REST_"),
+                               (FaultKind, "fault_kind", "FAULT_"), (Layer, "layer", "LAYER_"), (LenSource, "len_source", "LEN_"),
+                               (FilterErrorKind, "filter_error_kind", "FILTER_"), (FieldName, "field_name", "FIELD_"),
+                               (Difference, "difference", "DIFFERENCE_")):
+        numbers = re.findall(r"ETHERPEEL_" + prefix + r"(\w+) = (\d+)", re.search(f"enum etherpeel_{enum} {{(.*?)}};", header, re.S)[1])
+        check(enum, [(it.name, str(it.value)) for it in kind], [it for it in numbers if enum != "fault_kind" or it[0] != "NONE"])
     check("no struct", [_library.lib.etherpeel_sizeof(n) for n in (0, 99, 2**32 - 1)], [0, 0, 0])
 
 
@@ -153,6 +163,93 @@ def captures():
         check("no capture", raised(list, etherpeel.capture(file)), etherpeel.CaptureError)
 
 
+# of cooked capture v2, from interface 3: sent by us, on Ethernet, with TAGGED's VLAN tag; and of a GRE tunnel
+COOKED_V2 = bytes.fromhex("8100 beef 00000003 0001 04 06 0200000000010000 b1230800 45")
+COOKED_V2_GRE = bytes.fromhex("0800 0000 00000001 030a 00 00 0000000000000000")
+
+
+def captured(packet, link_type, fcs_len=None):
+    return etherpeel.Captured(memoryview(packet), None, link_type, len(packet), fcs_len)
+
+
+def frames_of_captures():
+    def frame(*words):
+        found = etherpeel.captured_frame(captured(*words))
+        return found and (bytes(found.bytes), *found[1:])
+    check("Ethernet", frame(TAGGED, 1), (TAGGED, 0, Start.ETHERNET2, None))
+    check("check sequence", frame(TAGGED, 1, 4), (TAGGED, 0, Start.ETHERNET2_FCS, None))
+    check("short check sequence", frame(TAGGED, 1, 2), (TAGGED[:-2], 0, Start.ETHERNET2, None))
+    check("cooked", frame(COOKED_V2, 113), (COOKED_V2, 0, Start.LINUX_SLL, None))
+    check("cooked v2", frame(COOKED_V2, 276), (COOKED_V2[20:], 20, Start.ETHER_TYPE, 0x8100))
+    check("not walked", [frame(*words) for words in ((COOKED_V2_GRE, 276), (COOKED_V2[:19], 276), (TAGGED, 105), (b"", 105))], [None] * 4)
+    check("no bytes", frame(b"", 1), (b"", 0, Start.ETHERNET2, None))
+    mine = bytearray(COOKED_V2)
+    found = etherpeel.captured_frame(captured(mine, 276))
+    mine[20] = 0x0F
+    check("no copy of a frame", etherpeel.walk(found.bytes, found.start, ether_type=found.ether_type)[0].header,
+          etherpeel.Vlan(0xF23, 0, False, 0x0800))
+
+
+def filters():
+    packets = [captured(TAGGED, 1), captured(ARP, 1), captured(COOKED_V2, 276), captured(COOKED_V2_GRE, 276), captured(TAGGED[:4], 105)]
+    for expression, expected in (("vlan 291", [0, 2]), ("not vlan", [1]), ("arp", [1]), ("vlan 291 and (ip or cut)", [0, 2]),
+                                 ("refused", []), ("not refused", [0, 1, 2]), ("greater 20", [1, 2])):
+        check(expression, [packets.index(it) for it in etherpeel.select(expression, packets)], expected)
+    check("a capture", [bytes(it.packet) for it in etherpeel.select("cut", etherpeel.capture(CLASSIC))], [b""])
+    found = etherpeel.select("not cut", etherpeel.capture(CLASSIC[:50]))
+    check("before the fault", bytes(next(found).packet), b"\xff")
+    check("cut file", raised(next, found), etherpeel.CaptureError)
+    for expression, expected in (("vlan 4096", (5, FilterErrorKind.NUMBER, 4095, "At byte 5: expected a number up to 4095.")),
+                                 ("vlan and", (8, FilterErrorKind.OPERAND, None, "At byte 8: expected a primitive, `not` or `(`.")),
+                                 ("", (0, FilterErrorKind.OPERAND, None, "At byte 0: expected a primitive, `not` or `(`."))):
+        try:
+            etherpeel.select(expression, packets)
+            check(expression, False, True)
+        except etherpeel.FilterError as error:
+            check(expression, (error.offset, error.kind, error.greatest, str(error)), expected)
+    for expression in ("vlan\0", "vl\u00e4n", "vlan " * 193):
+        check("no filter", raised(etherpeel.select, expression, packets), etherpeel.FilterError)
+    check("wrong packet", raised(list, etherpeel.select("vlan", [captured(TAGGED, 1)._replace(original_len=-1)])), ValueError)
+
+
+def fields():
+    ethernet2 = [(FieldName.ETHERNET2_DESTINATION, 0, 0, 48, 0xFFFFFFFFFFFF), (FieldName.ETHERNET2_SOURCE, 0, 48, 48, 0x020000000001)]
+    tagged = [*ethernet2, (FieldName.ETHERNET2_ETHER_TYPE, 0, 96, 16, 0x8100), (FieldName.VLAN_PCP, 1, 112, 3, 5),
+              (FieldName.VLAN_DEI, 1, 115, 1, 1), (FieldName.VLAN_VID, 1, 116, 12, 0x123), (FieldName.VLAN_ETHER_TYPE, 1, 128, 16, 0x0800)]
+    check("fields", etherpeel.fields(TAGGED), tagged)
+    check("fields of a view", etherpeel.fields(memoryview(b"!" + TAGGED)[1:]), tagged)
+    check("fields of a cut frame", etherpeel.fields(TAGGED[:17]), tagged[:3])
+    check("check sequence", etherpeel.fields(ADDRESSES + bytes.fromhex("0800 45 11223344"), Start.ETHERNET2_FCS),
+          [*ethernet2, (FieldName.ETHERNET2_ETHER_TYPE, 0, 96, 16, 0x0800), (FieldName.FCS, 0, 120, 32, 0x11223344)])
+    odd = bytes.fromhex("1234 5678 09 00 0002") + bytes(18)
+    check("long and no addresses", etherpeel.fields(odd, Start.ETHER_TYPE, ether_type=0x0806)[5:],
+          [(FieldName.ARP_SENDER_HARDWARE, 0, 64, 72, None), (FieldName.ARP_SENDER_PROTOCOL, 0, 136, 0, 0),
+           (FieldName.ARP_TARGET_HARDWARE, 0, 136, 72, None), (FieldName.ARP_TARGET_PROTOCOL, 0, 208, 0, 0)])
+    tags = etherpeel.fields(bytes.fromhex("0001 8100" * 100), Start.ETHER_TYPE, ether_type=0x8100)
+    check("many fields", (len(tags), tags[-1]), (400, (FieldName.VLAN_ETHER_TYPE, 99, 3184, 16, 0x8100)))
+
+
+def cooked_v2():
+    header = etherpeel.linux_sll2(COOKED_V2)
+    check("cooked v2", header, (20, 0x8100, 3, 1, 4, 6, COOKED_V2[12:20], Start.ETHER_TYPE, 0x8100))
+    check("payload", etherpeel.walk(memoryview(COOKED_V2)[20:], header.start, ether_type=header.ether_type)[0].header.vid, 0x123)
+    check("GRE", etherpeel.linux_sll2(COOKED_V2_GRE), (20, 0x0800, 1, 0x030A, 0, 0, bytes(8), None, None))
+    check("fields of cooked v2", etherpeel.linux_sll2_fields(COOKED_V2),
+          [(FieldName.LINUX_SLL2_PROTOCOL, 0, 0, 16, 0x8100), (FieldName.LINUX_SLL2_RESERVED, 0, 16, 16, 0xBEEF),
+           (FieldName.LINUX_SLL2_INTERFACE_INDEX, 0, 32, 32, 3), (FieldName.LINUX_SLL2_HARDWARE_TYPE, 0, 64, 16, 1),
+           (FieldName.LINUX_SLL2_PACKET_TYPE, 0, 80, 8, 4), (FieldName.LINUX_SLL2_ADDRESS_LEN, 0, 88, 8, 6),
+           (FieldName.LINUX_SLL2_ADDRESS, 0, 96, 64, 0x0200000000010000)])
+    other = COOKED_V2[:10] + b"\x08" + COOKED_V2[11:]
+    for call in (etherpeel.linux_sll2, etherpeel.linux_sll2_fields):
+        for packet, expected in ((COOKED_V2[:19], (Status.SHORT, None)), (b"", (Status.SHORT, None)),
+                                 (other, (Status.BAD_PACKET_TYPE, 8))):
+            try:
+                call(packet)
+                check("refused", False, True)
+            except etherpeel.LinuxSll2Error as error:
+                check("refused", (error.status, error.packet_type), expected)
+
+
 def tags_in_place():
     plain = ADDRESSES + bytes.fromhex("080045")
     frame = bytearray(TAGGED)
@@ -189,6 +286,48 @@ def tags_in_place():
     check("immutable", [raised(call, *words) for call, words in ((etherpeel.pop_vlan, (frozen,)), (etherpeel.set_vlan_id, (frozen, 0, 1)),
                                                                  (etherpeel.push_vlan, (memoryview(frozen), tag)))], [BufferError] * 3)
     check("immutable", frozen, TAGGED)
+
+
+def headers_in_place():
+    frame = bytearray(TAGGED)
+    around = bytearray(b"!" + ARP)
+    etherpeel.replace_link(frame, etherpeel.Ethernet2(ADDRESSES[6:], b"\2\0\0\0\0\3", 0x8100, False))
+    etherpeel.replace_link_ext(frame, 0, etherpeel.Vlan(0x456, 3, False, 0x0800))
+    check("link and VLAN tag", frame.hex(), "020000000001" "020000000003" "8100" "6456" "0800" "45")
+    reply = etherpeel.Arp(1, 0x0800, 2, b"\2\0\0\0\0\2", bytes((10, 0, 0, 2)), ADDRESSES[6:], bytes((10, 0, 0, 1)))
+    etherpeel.replace_arp(memoryview(around)[1:], reply)
+    check("ARP", around[1:].hex(), ARP[:20].hex() + "0002" "020000000002" "0a000002" "020000000001" "0a000001")
+    tag = bytearray.fromhex("6e00 01020304 0011223344556677 99")
+    sealed = etherpeel.walk(tag, Start.ETHER_TYPE, ether_type=0x88E5)[0].header
+    new = sealed._replace(end_station=False, association_number=3, packet_number=0x01020305, sci=0x0011223344556688)
+    etherpeel.replace_link_ext(tag, 0, new, Start.ETHER_TYPE, ether_type=0x88E5)
+    check("SecTag", tag.hex(), "2f00" "01020305" "0011223344556688" "99")
+    cooked = bytearray.fromhex("0004 0001 0006 020000000001abcd 0806")
+    etherpeel.replace_link(cooked, etherpeel.LinuxSll(3, 1, 4, bytes((1, 2, 3, 4, 0, 0, 0, 0)), 0x0806), Start.LINUX_SLL)
+    check("cooked", cooked.hex(), "0003" "0001" "0004" "0102030400000000" "0806")
+    ethernet2, vlan = etherpeel.walk(TAGGED)[0].header, etherpeel.Vlan(1, ether_type=0x0800)
+    inside = {"start": Start.ETHER_TYPE, "ether_type": 0x88E5}
+    for call, words, named, expected in (
+            (etherpeel.replace_link, (frame[:13], ethernet2), {}, (Status.NO_LINK, None, None)),
+            (etherpeel.replace_link, (frame, ethernet2._replace(ether_type=0x0800)), {}, (Status.DIFFERS, None, Difference.ETHER_TYPE)),
+            (etherpeel.replace_link, (frame, vlan), {}, (Status.BAD_KIND, None, None)),
+            (etherpeel.replace_link_ext, (frame, 1, vlan), {}, (Status.NO_TAG, 1, None)),
+            (etherpeel.replace_link_ext, (frame, 0, new), {}, (Status.DIFFERS, None, Difference.KIND)),
+            (etherpeel.replace_link_ext, (frame, 0, etherpeel.Vlan(4096)), {}, (Status.BAD_FIELD, None, None)),
+            (etherpeel.replace_link_ext, (tag, 0, new._replace(sci=None)), inside, (Status.DIFFERS, None, Difference.SCI)),
+            (etherpeel.replace_arp, (frame, reply), {}, (Status.NO_ARP, None, None)),
+            (etherpeel.replace_arp, (around[1:], reply._replace(sender_hardware=b"", target_hardware=b"")), {},
+             (Status.DIFFERS, None, Difference.HARDWARE_SIZE))):
+        before = bytes(words[0])
+        try:
+            call(*words, **named)
+            check(expected, False, True)
+        except etherpeel.ReplaceError as error:
+            check(str(error), (error.status, error.tags, error.difference, bytes(words[0])), (*expected, before))
+    check("wrong values", [raised(call, *words) for call, words in (
+        (etherpeel.replace_link, (frame, ethernet2._replace(source=bytes(5)))), (etherpeel.replace_link_ext, (frame, 0, etherpeel.Vlan(-1))),
+        (etherpeel.replace_arp, (around[1:], reply._replace(target_protocol=b""))))], [ValueError] * 3)
+    check("immutable", raised(etherpeel.replace_link, bytes(TAGGED), ethernet2), BufferError)
 
 
 def wrong_words():
@@ -417,7 +556,12 @@ worked_examples()
 buffers()
 packets()
 captures()
+frames_of_captures()
+filters()
+fields()
+cooked_v2()
 tags_in_place()
+headers_in_place()
 wrong_words()
 drawn_frames(10000)
 drawn_packets(3000)

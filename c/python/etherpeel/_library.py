@@ -4,7 +4,7 @@ import os
 from enum import IntEnum
 
 u8, u16, u32, u64, size = C.c_uint8, C.c_uint16, C.c_uint32, C.c_uint64, C.c_size_t
-MAJOR, VERSION = 2, 0x020000
+MAJOR, VERSION = 2, 0x020200
 
 
 class Status(IntEnum):
@@ -24,9 +24,18 @@ class Status(IntEnum):
     BAD_FIELD = 11
     SHORT = 12
     BAD_CAPTURE = 13
+    BAD_FILTER = 14
+    BAD_PACKET_TYPE = 15
+    NO_ARP = 16
+    DIFFERS = 17
+    BAD_KIND = 18
 
 
-def struct(name, **fields):
+class Error(ValueError):
+    """What an error of this package is."""
+
+
+def struct(name, /, **fields):
     return type(name, (C.Structure,), {"_fields_": list(fields.items())})
 
 
@@ -49,9 +58,16 @@ Headers = struct("Headers", units=Unit * 5, found=Found, min_snap_len=size, vlan
 Captured = struct("Captured", packet=C.c_void_p, packet_len=size, seconds=u64, nanoseconds=u32, original_len=u32,
                   link_type=u16, has_time=u8, has_fcs_len=u8, fcs_len=u8)
 CaptureEnd = struct("CaptureEnd", offset=size, needed=size)
+FilterError = struct("FilterError", offset=size, kind=u32, greatest=u32)
+Frame = struct("Frame", bytes=C.c_void_p, len=size, offset=size, start=u32, ether_type=u16)
+Field = struct("Field", bit_offset=size, bit_len=size, value=u64, unit=u32, name=u32)
+LinuxSll2Header = struct("LinuxSll2Header", payload_start=size, interface_index=u32, start=u32, protocol=u16, ether_type=u16,
+                         hardware_type=u16, packet_type=u8, address_len=u8, address=u8 * 8)
+ReplaceError = struct("ReplaceError", tags=size, difference=u32)
 
 # the structs in the order of enum etherpeel_struct, from 1 on
-STRUCTS = [Fault, Found, Fed, Ethernet2, LinuxSll, Vlan, Macsec, Arp, Unit, Headers, Captured, CaptureEnd]
+STRUCTS = [Fault, Found, Fed, Ethernet2, LinuxSll, Vlan, Macsec, Arp, Unit, Headers, Captured, CaptureEnd, FilterError, Frame, Field,
+           LinuxSll2Header, ReplaceError]
 
 # what each call takes after the frame, and after the limit of its form with one
 WALKS = {
@@ -82,13 +98,22 @@ def load(path):
             raise ImportError(f"the struct {one.__name__} of {path} has another size")
     declare(lib, "start_of_link_type", [u32])
     declare(lib, "packet", [u32, u16, C.c_void_p, size, C.POINTER(Headers)])
+    declare(lib, "fields", [u32, u16, C.c_void_p, size, C.POINTER(Field), size, C.POINTER(size)])
+    declare(lib, "linux_sll2", [C.c_void_p, size, C.POINTER(LinuxSll2Header)])
+    declare(lib, "linux_sll2_fields", [C.c_void_p, size, C.POINTER(Field), size, C.POINTER(size)])
     declare(lib, "capture", [C.c_void_p, size, C.POINTER(Captured), size, C.POINTER(size), C.POINTER(CaptureEnd)])
     declare(lib, "capture_fault_text", [C.c_void_p, size, C.c_void_p, size, C.POINTER(size)])
+    declare(lib, "captured_frame", [C.POINTER(Captured), C.POINTER(Frame)])
+    declare(lib, "select", [C.c_char_p, size, C.POINTER(Captured), size, C.POINTER(u8), size, C.POINTER(FilterError)])
+    declare(lib, "filter_error_text", [C.c_char_p, size, C.c_void_p, size, C.POINTER(size)])
     declare(lib, "pop_vlan", [u32, u16, C.c_void_p, size, C.POINTER(Vlan)])
     declare(lib, "push_vlan", [u32, u16, C.c_void_p, size, C.POINTER(Vlan), u16])
     declare(lib, "set_vlan_id", [u32, u16, C.c_void_p, size, size, u16])
     declare(lib, "set_vlan_tag", [u32, u16, C.c_void_p, size, size, C.POINTER(Vlan)])
     declare(lib, "set_tpid", [u32, u16, C.c_void_p, size, size, u16])
+    declare(lib, "replace_link", [u32, u16, C.c_void_p, size, C.POINTER(Unit), C.POINTER(ReplaceError)])
+    declare(lib, "replace_link_ext", [u32, u16, C.c_void_p, size, size, C.POINTER(Unit), C.POINTER(ReplaceError)])
+    declare(lib, "replace_arp", [u32, u16, C.c_void_p, size, C.POINTER(Unit), C.c_char_p, size, C.POINTER(ReplaceError)])
     for name, rest in WALKS.items():
         declare(lib, name, [u32, u16, C.c_void_p, size, *rest])
         declare(lib, name + "_limited", [u32, u16, C.c_void_p, size, size, *rest])
@@ -103,6 +128,38 @@ def calls(lib):
 
 lib = load(os.path.join(os.path.dirname(os.path.abspath(__file__)), "libetherpeel.so.2"))
 CALLS = calls(lib)
+
+# ---- words and results of calls
+
+
+def number(name, value, bits):
+    """A number that is passed, if it has no more bits."""
+    if not 0 <= value < 2**bits:
+        raise ValueError(f"{name} is 0 to {2**bits - 1}, not {value}")
+    return value
+
+
+def required(status):
+    if status != Status.DONE:
+        raise Error(Status(status).name)
+
+
+def text(call, *words):
+    """The text that a call writes after these words."""
+    target, count = C.create_string_buffer(512), C.c_size_t()
+    required(call(*words, target, len(target), C.byref(count)))
+    return target.raw[:count.value].decode("ascii")
+
+
+def filled(kind, room, call, *words):
+    """The structs that a call writes after these words. It is called again if they are more than there is room for."""
+    while True:
+        structs, count = (kind * room)(), C.c_size_t()
+        required(call(*words, structs, room, C.byref(count)))
+        if count.value <= room:
+            return structs[:count.value]
+        room = count.value
+
 
 # ---- memory that is lent: `Py_buffer` of Python's C API
 

@@ -1,0 +1,206 @@
+"""Captures, filters, and Linux cooked capture v2."""
+from __future__ import annotations
+
+import ctypes as C
+import mmap
+from typing import BinaryIO, Iterable, Iterator, List, NamedTuple, Optional, Union
+
+from . import _library
+from ._library import Error, Status, filled, lent, lib, number, required, text
+from ._types import Buffer, Field, FieldName, FilterError, FilterErrorKind, LinuxSll2, LinuxSll2Error, Start
+
+
+def start_of_link_type(link_type: int) -> Optional[Start]:
+    """What packets of a link type of libpcap begin with, None if the walk does not begin with that."""
+    start = lib.etherpeel_start_of_link_type(number("link_type", link_type, 32))
+    return Start(start) if start else None
+
+
+class Captured(NamedTuple):
+    """A packet of a capture file."""
+
+    packet: memoryview
+    """The bytes that were captured, where they are in the file."""
+    time_ns: Optional[int]
+    """The time of the capture in nanoseconds since 1970, UTC, if it has one."""
+    link_type: int
+    original_len: int
+    """How many bytes the packet had before it was cut."""
+    fcs_len: Optional[int]
+    """The length in bytes of the frame check sequence, of the packet before it was cut, if the file says it."""
+
+    @property
+    def start(self) -> Optional[Start]:
+        """What the packet begins with, None if the walk does not begin with that. An Ethernet frame that was not cut has a
+        frame check sequence if the file gives it 4 bytes."""
+        start = start_of_link_type(self.link_type)
+        if start == Start.ETHERNET2 and self.fcs_len == 4 and len(self.packet) == self.original_len:
+            return Start.ETHERNET2_FCS
+        return start
+
+
+class CaptureError(Error):
+    """The packets of a capture file end before the file does: the text says why."""
+
+    def __init__(self, text: str, offset: int, needed: int):
+        super().__init__(text)
+        self.offset = offset
+        """Where the header, record or block starts that can't be read."""
+        self.needed = needed
+        """How many bytes it needs at least, if the file ends within it; else 0."""
+
+
+def capture(source: Union[Buffer, BinaryIO]) -> Iterator[Captured]:
+    """The packets of a classic pcap or pcapng file, which is in memory or open for reading.
+
+        with open("f.pcap", "rb") as file:
+            for packet in etherpeel.capture(file):
+                if packet.start:
+                    print(etherpeel.packet(packet.packet, packet.start).vlan_ids)
+
+    Raises `CaptureError` after the last packet if the file can't be read to its end. A file is mapped into memory if it can
+    be, and else read at once; each packet takes 40 bytes besides.
+    """
+    view = _memory(source)
+    with lent(view) as (at, length):
+        count, end = C.c_size_t(), _library.CaptureEnd()
+        lib.etherpeel_capture(at, length, None, 0, C.byref(count), C.byref(end))
+        packets = (_library.Captured * count.value)()
+        status = lib.etherpeel_capture(at, length, packets, count.value, C.byref(count), C.byref(end))
+        said = text(lib.etherpeel_capture_fault_text, at, length)
+    error = CaptureError(said, end.offset, end.needed) if status != Status.DONE else None
+    return _captured(view, at, packets, error)
+
+
+def _memory(source):
+    """A view of the bytes of what is in memory, or of a file from where it is on."""
+    if not hasattr(source, "read") or isinstance(source, mmap.mmap):
+        return memoryview(source).cast("B")
+    try:
+        where = source.tell()
+        return memoryview(mmap.mmap(source.fileno(), 0, access=mmap.ACCESS_READ))[where:]
+    except (OSError, ValueError, AttributeError):
+        return memoryview(source.read())
+
+
+def _captured(view, at, packets, error):
+    for it in packets:
+        start = it.packet - at if it.packet_len else 0
+        time_ns = it.seconds * 10**9 + it.nanoseconds if it.has_time else None
+        yield Captured(view[start:start + it.packet_len], time_ns, it.link_type, it.original_len,
+                       it.fcs_len if it.has_fcs_len else None)
+    if error:
+        raise error
+
+
+class Frame(NamedTuple):
+    """What is walked of a packet of a capture, as in `walk(frame.bytes, frame.start, ether_type=frame.ether_type)`."""
+
+    bytes: memoryview
+    """The bytes that are walked, where they are in the packet."""
+    offset: int
+    """Where they begin, in bytes from the start of the packet."""
+    start: Start
+    ether_type: Optional[int]
+    """What announces the frame, of `Start.ETHER_TYPE`, else None."""
+
+
+def captured_frame(packet: Captured) -> Optional[Frame]:
+    """What is walked of a packet of a capture, by its link type; None if nothing is.
+
+    Of Ethernet that is the packet: with its frame check sequence if the file says that it has one of four bytes and it was
+    not cut, else without those bytes. Of Linux cooked capture v1 it is the packet without a frame check sequence. Of v2 it is
+    the payload, after a header of 20 bytes, if the header can be read and an ether type announces the payload.
+    """
+    frame = _library.Frame()
+    with lent(packet.packet) as (at, length):
+        told = _told(packet, at, length)
+        if lib.etherpeel_captured_frame(C.byref(told), C.byref(frame)) != Status.DONE:
+            return None
+    view = memoryview(packet.packet).cast("B")[frame.offset:frame.offset + frame.len]
+    return Frame(view, frame.offset, Start(frame.start), frame.ether_type if frame.start == Start.ETHER_TYPE else None)
+
+
+def _told(packet, at, length):
+    """A packet of a capture as a struct of C, without its time. Its bytes are lent."""
+    return _library.Captured(at, length, original_len=number("original_len", packet.original_len, 32),
+                             link_type=number("link_type", packet.link_type, 16), has_fcs_len=packet.fcs_len is not None,
+                             fcs_len=number("fcs_len", packet.fcs_len or 0, 8))
+
+
+# ---- filters
+
+
+def select(expression: str, packets: Iterable[Captured]) -> Iterator[Captured]:
+    """The packets that a filter selects, in their order, as they are asked for.
+
+        with open("f.pcap", "rb") as file:
+            for packet in etherpeel.select("vlan 291 and not arp", etherpeel.capture(file)):
+                print(packet.time_ns)
+
+    The expression is in words of pcap-filter(7): a primitive, or several with `not`, `and`, `or` and parentheses. The primitives:
+
+        vlan, vlan N            a VLAN tag; one with the identifier N
+        outer vlan N            the first VLAN tag has the identifier N
+        inner vlan N            the last of two or more VLAN tags has the identifier N
+        macsec                  a MACsec SecTag
+        ether proto N           the ether type N is announced; arp, ip, ip6 for 0x0806, 0x0800, 0x86DD
+        ether src A, dst A      the address of the source or the destination; ether host A for either
+        ether broadcast         the destination is all stations; ether multicast for any group
+        refused                 a header is cut short or malformed
+        cut                     fewer bytes were captured than were on the wire
+        less N, greater N       at most, or at least, N bytes were on the wire
+
+    It is asked of what `captured_frame` gives. A packet for which that is None is never selected, not even by `not`.
+
+    Raises `FilterError`, at once, if the text is no expression.
+    """
+    words, error = expression.encode(), _library.FilterError()
+    if lib.etherpeel_select(words, len(words), None, 0, None, 0, C.byref(error)) == Status.BAD_FILTER:
+        kind = FilterErrorKind(error.kind)
+        raise FilterError(text(lib.etherpeel_filter_error_text, words, len(words)), error.offset, kind,
+                          error.greatest if kind == FilterErrorKind.NUMBER else None)
+    return filter(lambda packet: _is_selected(words, packet), packets)
+
+
+def _is_selected(words, packet):
+    mark, error = C.c_uint8(), _library.FilterError()
+    with lent(packet.packet) as (at, length):
+        told = _told(packet, at, length)
+        required(lib.etherpeel_select(words, len(words), C.byref(told), 1, C.byref(mark), 1, C.byref(error)))
+    return mark.value == 1
+
+
+# ---- Linux cooked capture v2
+
+
+def linux_sll2(packet: Buffer) -> LinuxSll2:
+    """The header of a packet of Linux cooked capture v2 (LINKTYPE_LINUX_SLL2). What an ether type announces after it is walked
+    as any frame: `walk(packet[20:], header.start, ether_type=header.ether_type)`.
+
+    The payload has an ether type but on a link whose protocol numbers are others (netlink, GRE) or have no meaning (IEEE 802.11
+    with radiotap, frame relay). Raises `LinuxSll2Error` if there are fewer than 20 bytes, or the packet type is above 7.
+    """
+    header = _library.LinuxSll2Header()
+    with lent(packet) as (at, length):
+        status = lib.etherpeel_linux_sll2(at, length, C.byref(header))
+    if status == Status.SHORT:
+        raise LinuxSll2Error(f"a header of Linux cooked capture v2 has 20 bytes, and {length} are available", Status.SHORT, None)
+    if status == Status.BAD_PACKET_TYPE:
+        raise LinuxSll2Error(f"the packet type {header.packet_type} is above 7", Status.BAD_PACKET_TYPE, header.packet_type)
+    typed = header.start == Start.ETHER_TYPE
+    return LinuxSll2(header.payload_start, header.protocol, header.interface_index, header.hardware_type, header.packet_type,
+                     header.address_len, bytes(header.address), Start.ETHER_TYPE if typed else None,
+                     header.ether_type if typed else None)
+
+
+def linux_sll2_fields(packet: Buffer) -> List[Field]:
+    """The fields of the header of a packet of Linux cooked capture v2, in their order. Raises as `linux_sll2`."""
+    linux_sll2(packet)
+    with lent(packet) as (at, length):
+        return [field(it) for it in filled(_library.Field, 7, lib.etherpeel_linux_sll2_fields, at, length)]
+
+
+def field(it):
+    """A field of C."""
+    return Field(FieldName(it.name), it.unit, it.bit_offset, it.bit_len, it.value if it.bit_len <= 64 else None)

@@ -1,0 +1,88 @@
+"""Headers replaced in place."""
+from __future__ import annotations
+
+import ctypes as C
+from typing import Optional, Union
+
+from . import _library
+from ._library import WRITE, Status, lent, lib, number
+from ._types import (Arp, Difference, Ethernet2, Header, LinuxSll, Macsec, ReplaceError, Start, Vlan, WritableBuffer,
+                     begun)
+
+# the kind of a unit with such a header, and the struct of its fields
+KINDS = {Ethernet2: (1, "ethernet2"), LinuxSll: (2, "linux_sll"), Vlan: (3, "vlan"), Macsec: (4, "macsec"), Arp: (5, "arp")}
+
+
+def passed(header: Header):
+    """A unit of C with a header, and the bytes in which the addresses of an ARP packet are. A `ValueError` if a value does
+    not fit its field."""
+    values, addresses = header._asdict(), b""
+    if isinstance(header, Macsec):
+        values.update(sci=header.sci or 0, sci_present=header.sci is not None, ether_type=header.ether_type or 0)
+    if isinstance(header, Arp):
+        values.update(_places(header))
+        addresses = b"".join(header[3:])
+    unit = _library.Unit()
+    unit.kind, name = KINDS[type(header)]
+    fields = getattr(unit, name)
+    for name, kind in fields._fields_:
+        setattr(fields, name, _fitting(name, kind, values[name]))
+    return unit, addresses
+
+
+def _places(packet):
+    """The sizes of the addresses of an ARP packet, and where each begins."""
+    hardware, protocol = len(packet.sender_hardware), len(packet.sender_protocol)
+    if len(packet.target_hardware) != hardware or len(packet.target_protocol) != protocol:
+        raise ValueError("the addresses of sender and target differ in length")
+    return {"hardware_size": hardware, "protocol_size": protocol, "sender_hardware": 0, "sender_protocol": hardware,
+            "target_hardware": hardware + protocol, "target_protocol": 2 * hardware + protocol}
+
+
+def _fitting(name, kind, value):
+    """A value of a field."""
+    if issubclass(kind, C.Array):
+        if len(value) != C.sizeof(kind):
+            raise ValueError(f"{name} has {C.sizeof(kind)} bytes, not {len(value)}")
+        return kind(*value)
+    return number(name, value, 8 * C.sizeof(kind))
+
+
+def _replaced(status, error):
+    if status != Status.DONE:
+        status = Status(status)
+        raise ReplaceError(status, error.tags if status == Status.NO_TAG else None,
+                           Difference(error.difference) if status == Status.DIFFERS else None)
+
+
+def replace_link(frame: WritableBuffer, header: Union[Ethernet2, LinuxSll], start: Start = Start.ETHERNET2) -> None:
+    """Replaces the header of a link that a frame begins with, in place. The new one must be of the same kind, and have the same
+    ether type, or the same hardware type and protocol number.
+
+    Raises `ReplaceError` if it is not replaced, and `BufferError` if the frame can't be written to. No other byte of the frame
+    changes: a frame check sequence stays as it was, and doesn't fit the new bytes.
+    """
+    (unit, _), error = passed(header), _library.ReplaceError()
+    with lent(frame, WRITE) as (at, length):
+        _replaced(lib.etherpeel_replace_link(Start(start), 0, at, length, C.byref(unit), C.byref(error)), error)
+
+
+def replace_link_ext(frame: WritableBuffer, index: int, header: Union[Vlan, Macsec], start: Start = Start.ETHERNET2, *,
+                     ether_type: Optional[int] = None) -> None:
+    """Replaces a VLAN tag or SecTag, in place. The index counts the first three of them, the outermost from 0. The new VLAN tag
+    must have the same ether type; the new SecTag must be encrypted and changed as the old one, have an SCI if that has one, and
+    the same short length and ether type.
+
+    Raises as `replace_link`.
+    """
+    (unit, _), error, words = passed(header), _library.ReplaceError(), begun(start, ether_type)
+    with lent(frame, WRITE) as (at, length):
+        _replaced(lib.etherpeel_replace_link_ext(*words, at, length, number("index", index, 64), C.byref(unit), C.byref(error)), error)
+
+
+def replace_arp(frame: WritableBuffer, packet: Arp, start: Start = Start.ETHERNET2, *, ether_type: Optional[int] = None) -> None:
+    """Replaces the ARP packet of a frame, after no more than three VLAN tags and SecTags, in place. The addresses of the new one
+    must have the same lengths. Raises as `replace_link`."""
+    (unit, addresses), error, words = passed(packet), _library.ReplaceError(), begun(start, ether_type)
+    with lent(frame, WRITE) as (at, length):
+        _replaced(lib.etherpeel_replace_arp(*words, at, length, C.byref(unit), addresses, len(addresses), C.byref(error)), error)

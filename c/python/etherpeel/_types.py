@@ -1,0 +1,453 @@
+"""Numbers, results and errors of the package."""
+from __future__ import annotations
+
+from enum import IntEnum
+from typing import List, NamedTuple, Optional, Tuple, Type, TypeVar, Union
+
+from ._library import Error, Status, number
+
+Buffer = Union[bytes, bytearray, memoryview]
+WritableBuffer = Union[bytearray, memoryview]
+
+# ---- numbers
+
+
+class Start(IntEnum):
+    """What a frame begins with."""
+
+    ETHERNET2 = 1
+    """An Ethernet II header, of a frame without a frame check sequence."""
+    ETHERNET2_FCS = 2
+    """An Ethernet II header, of a frame with a frame check sequence in its last 4 bytes."""
+    LINUX_SLL = 3
+    """A header of Linux cooked capture v1."""
+    ETHER_TYPE = 4
+    """What `ether_type` announces."""
+
+
+class RestKind(IntEnum):
+    """What the bytes that are left are announced as; after a fault, what was expected there."""
+
+    START = 0
+    """The header that the frame begins with, which was not read."""
+    ETHER_TYPE = 1
+    """A protocol, by the ether type in `rest_protocol`."""
+    NETLINK = 2
+    """A protocol of netlink, by the number in `rest_protocol`."""
+    GRE = 3
+    """A protocol of generic routing encapsulation, by the number in `rest_protocol`."""
+    IGNORED = 4
+    """A link whose protocol numbers have no meaning."""
+    SEALED = 5
+    """A payload that MACsec has encrypted or changed."""
+    AFTER_ARP = 6
+    """What follows an ARP packet: the padding of a short frame."""
+
+
+class FaultKind(IntEnum):
+    """Why a unit is refused."""
+
+    LENGTH = 1
+    """It needs `required_len` bytes; only `len` are available."""
+    PACKET_TYPE = 2
+    """The packet type of a cooked capture is above 7."""
+    HARDWARE_TYPE = 3
+    """The meaning of protocol numbers is not known for the hardware type of a cooked capture."""
+    MACSEC_VERSION = 4
+    """The version bit of a SecTag is 1."""
+    MACSEC_SHORT_LEN = 5
+    """The short length of a SecTag with an unmodified payload is 1, which has no room for the ether type."""
+
+
+class Layer(IntEnum):
+    """The layer of a length fault."""
+
+    ETHERNET2_HEADER = 1
+    LINUX_SLL_HEADER = 2
+    VLAN_HEADER = 3
+    MACSEC_HEADER = 4
+    MACSEC_PACKET = 5
+    ARP = 6
+
+
+class LenSource(IntEnum):
+    """What gave the length that was available or required in a length fault."""
+
+    SLICE = 1
+    MACSEC_SHORT_LENGTH = 2
+    ARP_ADDRESSES = 3
+
+
+class Difference(IntEnum):
+    """What a header says otherwise than the one that it is to replace: if there are several differences, the first in this
+    order."""
+
+    KIND = 1
+    """One is a VLAN tag and the other a SecTag, or one is an Ethernet II header and the other one of cooked capture."""
+    ETHER_TYPE = 2
+    """The ether type of an Ethernet II header or VLAN tag."""
+    HARDWARE_TYPE = 3
+    """The hardware type of a cooked capture."""
+    PROTOCOL_TYPE = 4
+    """The protocol number of a cooked capture."""
+    PAYLOAD_TYPE = 5
+    """Whether the payload of a SecTag is encrypted or changed, and its ether type if it is neither."""
+    SHORT_LEN = 6
+    """The short length of a SecTag."""
+    SCI = 7
+    """Whether a SecTag has an SCI."""
+    HARDWARE_SIZE = 8
+    """The length of the hardware addresses of an ARP packet."""
+    PROTOCOL_SIZE = 9
+    """The length of the protocol addresses of an ARP packet."""
+
+
+class FilterErrorKind(IntEnum):
+    """Why a text is no expression of a filter: mostly by what is expected in place of a word."""
+
+    OPERAND = 1
+    """A primitive, `not` or `(` is expected."""
+    OPERATOR = 2
+    """`and`, `or`, `)` or the end of the text is expected."""
+    VLAN = 3
+    """`vlan` is expected."""
+    ETHER_WORD = 4
+    """`proto`, `src`, `dst`, `host`, `broadcast` or `multicast` is expected."""
+    ADDRESS = 5
+    """An address is expected, in the form `xx:xx:xx:xx:xx:xx`."""
+    NUMBER = 6
+    """A number that is not greater than `greatest` is expected."""
+    MIXED = 7
+    """`and` and `or` are mixed without parentheses."""
+    UNOPENED = 8
+    """There is no `(` for a `)`."""
+    UNCLOSED = 9
+    """The text ends before the `)` of a `(`."""
+    TOO_LONG = 10
+    """There are more than 192 words."""
+
+
+class FieldName(IntEnum):
+    """The name of a field, in the words of the standard of its header."""
+
+    ETHERNET2_DESTINATION = 1
+    ETHERNET2_SOURCE = 2
+    ETHERNET2_ETHER_TYPE = 3
+    LINUX_SLL_PACKET_TYPE = 4
+    LINUX_SLL_HARDWARE_TYPE = 5
+    LINUX_SLL_ADDRESS_LEN = 6
+    LINUX_SLL_ADDRESS = 7
+    LINUX_SLL_PROTOCOL = 8
+    VLAN_PCP = 9
+    VLAN_DEI = 10
+    VLAN_VID = 11
+    VLAN_ETHER_TYPE = 12
+    MACSEC_V = 13
+    MACSEC_ES = 14
+    MACSEC_SC = 15
+    MACSEC_SCB = 16
+    MACSEC_E = 17
+    MACSEC_C = 18
+    MACSEC_AN = 19
+    MACSEC_RESERVED = 20
+    MACSEC_SL = 21
+    MACSEC_PN = 22
+    MACSEC_SCI = 23
+    MACSEC_ETHER_TYPE = 24
+    ARP_HARDWARE_TYPE = 25
+    ARP_PROTOCOL_TYPE = 26
+    ARP_HARDWARE_SIZE = 27
+    ARP_PROTOCOL_SIZE = 28
+    ARP_OPERATION = 29
+    ARP_SENDER_HARDWARE = 30
+    ARP_SENDER_PROTOCOL = 31
+    ARP_TARGET_HARDWARE = 32
+    ARP_TARGET_PROTOCOL = 33
+    FCS = 34
+    LINUX_SLL2_PROTOCOL = 35
+    LINUX_SLL2_RESERVED = 36
+    LINUX_SLL2_INTERFACE_INDEX = 37
+    LINUX_SLL2_HARDWARE_TYPE = 38
+    LINUX_SLL2_PACKET_TYPE = 39
+    LINUX_SLL2_ADDRESS_LEN = 40
+    LINUX_SLL2_ADDRESS = 41
+
+
+# ---- results
+
+
+class Fault(NamedTuple):
+    """A unit that is refused. Fields that do not belong to its kind are None, or 0 if they are lengths."""
+
+    offset: int
+    """Where the unit starts."""
+    kind: FaultKind
+    closed: bool
+    """Whether bytes appended to the frame would lie outside the unit."""
+    required_len: int
+    """The length that the unit requires, from its start."""
+    len: int
+    """The length that is available to it."""
+    missing: int
+    """The fewest further bytes that it needs, 0 if none would help."""
+    layer: Optional[Layer]
+    len_source: Optional[LenSource]
+    packet_type: Optional[int]
+    hardware_type: Optional[int]
+
+
+class Summary(NamedTuple):
+    """The result of a whole walk."""
+
+    units: int
+    """The number of units."""
+    rest_start: int
+    """Where the bytes that are left start, or the unit that is refused."""
+    rest_end: int
+    """Where they end, or the bytes that this unit has."""
+    rest_kind: RestKind
+    rest_protocol: int
+    """The ether type or protocol number, 0 if there is none."""
+    fault: Optional[Fault]
+    """The unit that is refused, if one is."""
+
+
+class Fed(NamedTuple):
+    """The result of feeding a walk."""
+
+    refusals: int
+    """How often the walk asked for more bytes and was given them."""
+    taken: int
+    """How many bytes it was given in all."""
+    fault: Optional[Fault]
+    """The fault of the walk of these bytes, if it has one."""
+
+
+class Ethernet2(NamedTuple):
+    """An Ethernet II header (IEEE 802.3, 3.2.3 to 3.2.6)."""
+
+    destination: bytes
+    source: bytes
+    ether_type: int
+    has_fcs: bool
+    """Whether a frame check sequence follows, in the 4 bytes from `payload_end` on."""
+
+
+class LinuxSll(NamedTuple):
+    """A header of Linux cooked capture v1."""
+
+    packet_type: int
+    """0 to 7: to us, to all, to a group, to someone else, by us .."""
+    hardware_type: int
+    """The ARPHRD_ number of the link."""
+    address_len: int
+    """May exceed 8, though the field holds only 8 bytes."""
+    address: bytes
+    """The sender's address, truncated or padded to 8 bytes."""
+    protocol: int
+
+
+class Vlan(NamedTuple):
+    """A VLAN tag (IEEE 802.1Q, 9.6): the tag control information, and the ether type after it."""
+
+    vid: int
+    """The VLAN identifier, 0 to 4095."""
+    pcp: int = 0
+    """The priority code point, 0 to 7."""
+    dei: bool = False
+    """The drop eligible indicator."""
+    ether_type: int = 0
+    """The ether type after the tag."""
+
+
+class Macsec(NamedTuple):
+    """A MACsec SecTag (IEEE 802.1AE, 9.3)."""
+
+    packet_number: int
+    association_number: int
+    short_len: int
+    encrypted: bool
+    changed: bool
+    end_station: bool
+    single_copy_broadcast: bool
+    sci: Optional[int]
+    """The secure channel identifier, if there is one."""
+    ether_type: Optional[int]
+    """The ether type after the tag, None if the payload is encrypted or changed."""
+
+
+class Arp(NamedTuple):
+    """An ARP packet (RFC 826)."""
+
+    hardware_type: int
+    protocol_type: int
+    operation: int
+    """1 request, 2 reply."""
+    sender_hardware: bytes
+    sender_protocol: bytes
+    target_hardware: bytes
+    target_protocol: bytes
+
+
+Header = Union[Ethernet2, LinuxSll, Vlan, Macsec, Arp]
+H = TypeVar("H", Ethernet2, LinuxSll, Vlan, Macsec, Arp)
+
+
+class LinuxSll2(NamedTuple):
+    """A header of Linux cooked capture v2, and what the walk of its payload starts with."""
+
+    payload_start: int
+    """Where the payload starts: 20."""
+    protocol: int
+    interface_index: int
+    """Of the interface that the packet was seen on."""
+    hardware_type: int
+    """The ARPHRD_ number of the interface."""
+    packet_type: int
+    """0 to 7, as of `LinuxSll`."""
+    address_len: int
+    """May exceed 8, though the field holds only 8 bytes."""
+    address: bytes
+    """The sender's address, truncated or padded to 8 bytes."""
+    start: Optional[Start]
+    """`Start.ETHER_TYPE`, None if the payload has no ether type."""
+    ether_type: Optional[int]
+    """The ether type of the payload, None if it has none."""
+
+
+class Field(NamedTuple):
+    """A field of a header. The first bit of a byte is its most significant one."""
+
+    name: FieldName
+    unit: int
+    """The index of its unit."""
+    bit_offset: int
+    """Where it begins, in bits from the start of the frame."""
+    bit_len: int
+    """How many bits it has; 0 of an ARP address that has length 0."""
+    value: Optional[int]
+    """The number that they are, None if there are more than 64."""
+
+
+class Unit(NamedTuple):
+    """A header, and where its payload is."""
+
+    offset: int
+    """Where the header starts."""
+    header_len: int
+    """Its length; of an ARP packet, that of the whole packet."""
+    payload_start: int
+    payload_end: int
+    """Before a frame check sequence, or where a SecTag says."""
+    closed: bool
+    """Whether bytes appended to the frame would lie outside the payload."""
+    header: Header
+
+
+class Packet(NamedTuple):
+    """All headers of a frame with no more than three VLAN tags and SecTags, and what is asked of them."""
+
+    units: List[Unit]
+    """The headers, the outermost first, up to the fault if there is one."""
+    summary: Summary
+    """What is left after them, and the fault if one is refused."""
+    vlan_ids: Tuple[int, ...]
+    """The identifiers of the VLAN tags, the outermost first."""
+    min_snap_len: int
+    """The least length to which the frame can be cut so that all headers stay, as a frame without a check sequence."""
+
+    def first(self, kind: Type[H]) -> Optional[H]:
+        """The first header of a kind, as `packet.first(Arp)`; None if there is none."""
+        return next((unit.header for unit in self.units if isinstance(unit.header, kind)), None)
+
+
+class TagError(Error):
+    """A VLAN tag is not taken off, put in or changed. The frame is then as it was."""
+
+    def __init__(self, status: Status):
+        super().__init__(_TAG_ERRORS[status])
+        self.status = status
+        """The number of the reason."""
+
+
+_TAG_ERRORS = {
+    Status.NO_ROOM: "the buffer has no room for a VLAN tag",
+    Status.BAD_TPID: "no VLAN tag is announced by this ether type",
+    Status.NO_LINK: "the frame does not begin with the header of a link",
+    Status.OTHER_LINK: "the header of cooked capture is of another link than Ethernet",
+    Status.NO_TAG: "there is no VLAN tag or SecTag at this index",
+    Status.NO_VLAN: "there is no VLAN tag",
+    Status.CUT_VLAN: "the VLAN tag is cut short",
+    Status.UNANNOUNCED: "the frame begins with the VLAN tag",
+    Status.BAD_FIELD: "a number does not fit its field of the tag",
+}
+
+
+class ReplaceError(Error):
+    """A header is not replaced: the text says why. The frame is then as it was."""
+
+    def __init__(self, status: Status, tags: Optional[int] = None, difference: Optional[Difference] = None):
+        told = difference and difference.name.replace("_", " ").lower()
+        super().__init__(_REPLACE_ERRORS[status].format(tags=tags, difference=told))
+        self.status = status
+        """The number of the reason."""
+        self.tags = tags
+        """How many VLAN tags and SecTags the frame has, of `Status.NO_TAG`."""
+        self.difference = difference
+        """What the header says otherwise, of `Status.DIFFERS`."""
+
+
+_REPLACE_ERRORS = {
+    Status.NO_LINK: "the frame does not begin with the header of a link",
+    Status.NO_TAG: "there is no VLAN tag or SecTag at this index: the frame has {tags}",
+    Status.NO_ARP: "the frame has no ARP packet",
+    Status.DIFFERS: "the header in the frame is another one in this: {difference}",
+    Status.BAD_FIELD: "a number does not fit its field of the header",
+    Status.BAD_KIND: "the header is of another kind",
+}
+
+
+class Refused(Error):
+    """A unit of a frame is refused: the text says why."""
+
+    def __init__(self, text: str, fault: Fault, units: List[Unit]):
+        super().__init__(text)
+        self.fault = fault
+        """The unit that is refused."""
+        self.units = units
+        """The units before it."""
+
+
+class FilterError(Error):
+    """A text is no expression of a filter: the text says why."""
+
+    def __init__(self, text: str, offset: int, kind: FilterErrorKind, greatest: Optional[int]):
+        super().__init__(text)
+        self.offset = offset
+        """Where the first word that fits nothing begins, or the length of the text, in bytes."""
+        self.kind = kind
+        self.greatest = greatest
+        """The greatest number that fits, of `FilterErrorKind.NUMBER`."""
+
+
+class LinuxSll2Error(Error):
+    """A header of Linux cooked capture v2 is refused: the text says why."""
+
+    def __init__(self, text: str, status: Status, packet_type: Optional[int]):
+        super().__init__(text)
+        self.status = status
+        """`Status.SHORT` or `Status.BAD_PACKET_TYPE`."""
+        self.packet_type = packet_type
+        """The packet type, if it is above 7."""
+
+
+# ---- starts
+
+
+def begun(start, ether_type):
+    """The two numbers of a start."""
+    if type(start) is not Start:
+        start = Start(start)
+    if (start is Start.ETHER_TYPE) != (ether_type is not None):
+        raise ValueError("ether_type is given with Start.ETHER_TYPE, and with no other start")
+    return start, 0 if ether_type is None else number("ether_type", ether_type, 16)
