@@ -108,7 +108,14 @@ enum etherpeel_status {
     /* The header is another one than that in the frame in what enum etherpeel_difference says. */
     ETHERPEEL_DIFFERS = 17,
     /* The call takes no unit of this kind. */
-    ETHERPEEL_BAD_KIND = 18
+    ETHERPEEL_BAD_KIND = 18,
+
+    /* Why a packet is not built, beside ETHERPEEL_OTHER_LINK and ETHERPEEL_NO_ROOM: */
+
+    /* There are more than eight VLAN tags and SecTags. */
+    ETHERPEEL_TOO_MANY_TAGS = 19,
+    /* A unit follows a SecTag whose payload is encrypted or changed. */
+    ETHERPEEL_SEALED = 20
 };
 
 /* What a frame begins with: the parameter `start` of each call. The parameter `ether_type` is read
@@ -838,6 +845,34 @@ uint32_t etherpeel_replace_link_ext(uint32_t start, uint16_t ether_type, uint8_t
 uint32_t etherpeel_replace_arp(uint32_t start, uint16_t ether_type, uint8_t *frame, size_t len,
                                const etherpeel_unit *header, const uint8_t *bytes, size_t bytes_len,
                                etherpeel_replace_error *error);
+
+/* ---- Packets built ---- */
+
+/* etherpeel_build - a packet of headers and a payload
+ *
+ * Writes the headers of units[0] .. units[count - 1] and after them the payload to the front of
+ * `target`. The first unit is of ETHERPEEL_UNIT_ETHERNET2, or of ETHERPEEL_UNIT_LINUX_SLL with the
+ * hardware type 1. Up to eight of ETHERPEEL_UNIT_VLAN and ETHERPEEL_UNIT_MACSEC follow, the
+ * outermost first. Units are read as by the calls that replace headers.
+ * The payload is the `payload_len` bytes at `payload`, which `ether_type` announces. If the last
+ * unit is of ETHERPEEL_UNIT_ARP, the packet ends with it: its addresses are read from these bytes
+ * as by etherpeel_replace_arp, and `ether_type` is ignored. NULL is allowed if `payload_len` is 0.
+ * The ether type of each header is set by what follows it, before a VLAN tag to 0x88A8 if another
+ * one follows that, else to 0x8100; and the short length of each SecTag by the length of what
+ * follows it, 0 if that is above 63. There is no frame check sequence.
+ * *written_len is the length of the packet. The bytes of `target` after it stay as they were.
+ * Returns ETHERPEEL_DONE, or the first of these that applies, and then `target` stays as it was:
+ * of the first unit that has one, with its index in *written_len, ETHERPEEL_BAD_KIND, also if there
+ * is no unit; ETHERPEEL_BAD_FIELD; ETHERPEEL_TOO_MANY_TAGS; of the whole packet
+ * ETHERPEEL_OTHER_LINK, with 0 in *written_len; ETHERPEEL_SEALED with the index of the SecTag
+ * there; ETHERPEEL_NO_ROOM if `room` is smaller than the length of the packet, which is there.
+ * Overlap: neither `target` nor *written_len may overlap the units, the payload or one another.
+ * Every number is in host byte order, addresses in that of the packet. Thread-safe; takes no
+ * memory, and some 5 KB of stack.
+ */
+uint32_t etherpeel_build(const etherpeel_unit *units, size_t count, uint16_t ether_type,
+                         const uint8_t *payload, size_t payload_len, uint8_t *target, size_t room,
+                         size_t *written_len);
 
 /* ---- Capture files ----
  *

@@ -1231,6 +1231,97 @@ static void replacing_arp(void) {
           ETHERPEEL_NO_ARP);
 }
 
+/* ---- packets built ---- */
+
+/* whether units and a payload make these bytes, and nothing less room than they take */
+static int is_built(const etherpeel_unit *units, size_t count, uint16_t ether_type,
+                    const uint8_t *payload, size_t payload_len, const uint8_t *expected,
+                    size_t len) {
+    uint8_t target[80];
+    size_t written = 99;
+    memset(target, 0xA5, sizeof target);
+    if (etherpeel_build(units, count, ether_type, payload, payload_len, target, len - 1,
+                        &written) != ETHERPEEL_NO_ROOM ||
+        written != len || !all_are(target, sizeof target, 0xA5))
+        return 0;
+    written = 99;
+    return etherpeel_build(units, count, ether_type, payload, payload_len, target, sizeof target,
+                           &written) == ETHERPEEL_DONE &&
+           written == len && memcmp(target, expected, len) == 0 &&
+           all_are(target + len, sizeof target - len, 0xA5);
+}
+
+/* whether nothing is built, for this reason */
+static int is_not_built(const etherpeel_unit *units, size_t count, uint32_t status, size_t index) {
+    uint8_t target[80];
+    size_t written = 99;
+    memset(target, 0xA5, sizeof target);
+    return etherpeel_build(units, count, 0x0800, TAGGED, 1, target, sizeof target, &written) ==
+               status &&
+           written == index && all_are(target, sizeof target, 0xA5);
+}
+
+static void building(void) {
+    /* two VLAN tags: the outer one is a service tag (IEEE 802.1Q, table 9-1) */
+    static const uint8_t two[] = {ADDRESSES, 0x88, 0xA8, 0x00, 0x0A, 0x81,
+                                  0x00,      0x00, 0x64, 0x08, 0x00, 0x45};
+    /* a SecTag that names three bytes: an ether type and one of payload (IEEE 802.1AE, 9.7) */
+    static const uint8_t plain[] = {ADDRESSES, 0x88, 0xE5, 0x00, 3, 0, 0, 0, 1, 0x08, 0x00, 0x45};
+    /* one with SCI, ES, E and C, and an encrypted byte */
+    static const uint8_t secret[] = {ADDRESSES, 0x88, 0xE5, 0x6E, 0x01, 1,    2,    3,    4,
+                                     0x00,      0x11, 0x22, 0x33, 0x44, 0x55, 0x66, 0x77, 0x99};
+    uint8_t cooked[sizeof COOKED + 28];
+    etherpeel_unit units[3];
+    memset(units, 0, sizeof units);
+    units[0] = unit_of(ETHERPEEL_START_ETHERNET2, 0, TAGGED, sizeof TAGGED, 0);
+    units[1] = unit_of(ETHERPEEL_START_ETHERNET2, 0, TAGGED, sizeof TAGGED, 1);
+    units[0].ethernet2.ether_type = units[1].vlan.ether_type = 0x9999;
+    CHECK(is_built(units, 2, 0x0800, TAGGED + 18, 1, TAGGED, sizeof TAGGED));
+    CHECK(is_built(units, 1, 0x0806, ARP + 14, 28, ARP, 42));
+    units[2] = units[1];
+    units[1].vlan.pcp = units[1].vlan.dei = units[2].vlan.pcp = units[2].vlan.dei = 0;
+    units[1].vlan.vid = 10, units[2].vlan.vid = 100;
+    CHECK(is_built(units, 3, 0x0800, TAGGED + 18, 1, two, sizeof two));
+    units[1] = unit_of(ETHERPEEL_START_ETHER_TYPE, 0x88E5, NAMED, sizeof NAMED, 0);
+    CHECK(is_built(units, 2, 0x0800, TAGGED + 18, 1, plain, sizeof plain));
+    units[1] = unit_of(ETHERPEEL_START_ETHER_TYPE, 0x88E5, SEALED, sizeof SEALED, 0);
+    CHECK(is_built(units, 2, 0x0800, SEALED + 14, 1, secret, sizeof secret));
+    /* the addresses of an ARP packet are read from its frame */
+    units[1] = unit_of(ETHERPEEL_START_ETHERNET2, 0, ARP, sizeof ARP, 1);
+    CHECK(is_built(units, 2, 0x9999, ARP, sizeof ARP, ARP, 42));
+    units[0] = unit_of(ETHERPEEL_START_LINUX_SLL, 0, COOKED, sizeof COOKED, 0);
+    memcpy(cooked, COOKED, sizeof COOKED), memcpy(cooked + sizeof COOKED, ARP + 14, 28);
+    CHECK(is_built(units, 2, 0, ARP, sizeof ARP, cooked, sizeof cooked));
+}
+
+static void not_building(void) {
+    etherpeel_unit units[10];
+    size_t written = 99;
+    for (size_t i = 0; i < 10; i++)
+        units[i] = unit_of(ETHERPEEL_START_ETHERNET2, 0, TAGGED, sizeof TAGGED, i != 0);
+    CHECK(is_not_built(units, 10, ETHERPEEL_TOO_MANY_TAGS, 9));
+    CHECK(etherpeel_build(units, 9, 0x0800, NULL, 0, NULL, 0, &written) == ETHERPEEL_NO_ROOM);
+    CHECK(written == 14 + 8 * 4);
+    CHECK(is_not_built(NULL, 0, ETHERPEEL_BAD_KIND, 0));
+    CHECK(is_not_built(units + 1, 2, ETHERPEEL_BAD_KIND, 0));
+    units[2] = units[0];
+    CHECK(is_not_built(units, 3, ETHERPEEL_BAD_KIND, 2));
+    units[2] = unit_of(ETHERPEEL_START_ETHERNET2, 0, ARP, sizeof ARP, 1);
+    CHECK(is_not_built(units, 4, ETHERPEEL_BAD_KIND, 2));
+    CHECK(is_not_built(units, 3, ETHERPEEL_BAD_FIELD, 2));
+    units[1].vlan.vid = 4096;
+    CHECK(is_not_built(units, 3, ETHERPEEL_BAD_FIELD, 1));
+    units[1] = unit_of(ETHERPEEL_START_ETHER_TYPE, 0x88E5, SEALED, sizeof SEALED, 0);
+    memset(&units[2].arp, 0, sizeof units[2].arp);
+    CHECK(is_not_built(units, 3, ETHERPEEL_SEALED, 1));
+    units[2] = units[1];
+    CHECK(is_not_built(units, 3, ETHERPEEL_SEALED, 1));
+    units[0] = unit_of(ETHERPEEL_START_LINUX_SLL, 0, COOKED_GRE, sizeof COOKED_GRE, 0);
+    CHECK(is_not_built(units, 1, ETHERPEEL_OTHER_LINK, 0));
+    units[0].linux_sll.packet_type = 8;
+    CHECK(is_not_built(units, 1, ETHERPEEL_BAD_FIELD, 0));
+}
+
 /* ---- what is common to all calls ---- */
 
 static void unknown_starts(void) {
@@ -1403,6 +1494,8 @@ int main(void) {
     replacing_tags();
     replacing_by_what_is_no_tag();
     replacing_arp();
+    building();
+    not_building();
     unknown_starts();
     no_frame();
     drawn_frames();

@@ -330,6 +330,32 @@ def headers_in_place():
     check("immutable", raised(etherpeel.replace_link, bytes(TAGGED), ethernet2), BufferError)
 
 
+def building():
+    link, vlan = etherpeel.Ethernet2(b"\xff" * 6, ADDRESSES[6:], 0, False), etherpeel.Vlan(0x123, 5, True)
+    check("tagged", etherpeel.build([link, vlan], TAGGED[18:], 0x0800), TAGGED)
+    check("two tags", etherpeel.build([link, etherpeel.Vlan(10), etherpeel.Vlan(100)], bytearray(b"E"), 0x0800),
+          ADDRESSES + bytes.fromhex("88a8 000a 8100 0064 0800 45"))
+    arp = etherpeel.walk(ARP)[1].header
+    check("ARP", etherpeel.build([link, arp]), ARP)
+    sec_tag = etherpeel.Macsec(1, 0, 0, False, False, False, False, None, None)
+    check("SecTag", etherpeel.build([link, sec_tag], b"E", 0x0800), ADDRESSES + bytes.fromhex("88e5 00 03 00000001 0800 45"))
+    cooked = etherpeel.LinuxSll(4, 1, 6, ADDRESSES[6:] + bytes(2), 0)
+    check("cooked", etherpeel.build((cooked,), b"", 0x86DD), bytes.fromhex("0004 0001 0006 0200000000010000 86dd"))
+    sealed = sec_tag._replace(encrypted=True, changed=True)
+    for headers, expected in (([], (Status.BAD_KIND, 0)), ([vlan], (Status.BAD_KIND, 0)), ([link, link], (Status.BAD_KIND, 1)),
+                              ([link, arp, vlan], (Status.BAD_KIND, 1)), ([link, etherpeel.Vlan(4096)], (Status.BAD_FIELD, 1)),
+                              ([link] + [vlan] * 9, (Status.TOO_MANY_TAGS, 9)), ([link, sealed, vlan], (Status.SEALED, 1)),
+                              ([cooked._replace(hardware_type=778)], (Status.OTHER_LINK, None))):
+        try:
+            etherpeel.build(headers, b"", 0x0800)
+            check(expected, False, True)
+        except etherpeel.BuildError as error:
+            check(str(error), (error.status, error.index), expected)
+    check("sealed ARP", raised(etherpeel.build, [link, sealed, arp]), etherpeel.BuildError)
+    for words in (([link],), ([link], b"E"), ([link, arp], b"E"), ([link, arp], b"", 0x0806), ([link], b"", 65536), ([link, etherpeel.Vlan(2**16)], b"", 1)):
+        check("wrong words", raised(etherpeel.build, *words), ValueError)
+
+
 def wrong_words():
     check("start", raised(etherpeel.walk, TAGGED, 9), ValueError)
     check("no ether type", raised(etherpeel.walk, TAGGED, Start.ETHER_TYPE), ValueError)
@@ -562,6 +588,7 @@ fields()
 cooked_v2()
 tags_in_place()
 headers_in_place()
+building()
 wrong_words()
 drawn_frames(10000)
 drawn_packets(3000)

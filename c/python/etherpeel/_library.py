@@ -29,6 +29,8 @@ class Status(IntEnum):
     NO_ARP = 16
     DIFFERS = 17
     BAD_KIND = 18
+    TOO_MANY_TAGS = 19
+    SEALED = 20
 
 
 class Error(ValueError):
@@ -114,6 +116,7 @@ def load(path):
     declare(lib, "replace_link", [u32, u16, C.c_void_p, size, C.POINTER(Unit), C.POINTER(ReplaceError)])
     declare(lib, "replace_link_ext", [u32, u16, C.c_void_p, size, size, C.POINTER(Unit), C.POINTER(ReplaceError)])
     declare(lib, "replace_arp", [u32, u16, C.c_void_p, size, C.POINTER(Unit), C.c_char_p, size, C.POINTER(ReplaceError)])
+    declare(lib, "build", [C.POINTER(Unit), size, u16, C.c_void_p, size, C.c_void_p, size, C.POINTER(size)])
     for name, rest in WALKS.items():
         declare(lib, name, [u32, u16, C.c_void_p, size, *rest])
         declare(lib, name + "_limited", [u32, u16, C.c_void_p, size, size, *rest])

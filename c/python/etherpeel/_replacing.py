@@ -1,12 +1,12 @@
-"""Headers replaced in place."""
+"""Headers replaced in place, and packets built."""
 from __future__ import annotations
 
 import ctypes as C
-from typing import Optional, Union
+from typing import Optional, Sequence, Union
 
 from . import _library
-from ._library import WRITE, Status, lent, lib, number
-from ._types import (Arp, Difference, Ethernet2, Header, LinuxSll, Macsec, ReplaceError, Start, Vlan, WritableBuffer,
+from ._library import WRITE, Status, lent, lib, number, required
+from ._types import (Arp, Buffer, BuildError, Difference, Ethernet2, Header, LinuxSll, Macsec, ReplaceError, Start, Vlan, WritableBuffer,
                      begun)
 
 # the kind of a unit with such a header, and the struct of its fields
@@ -86,3 +86,33 @@ def replace_arp(frame: WritableBuffer, packet: Arp, start: Start = Start.ETHERNE
     (unit, addresses), error, words = passed(packet), _library.ReplaceError(), begun(start, ether_type)
     with lent(frame, WRITE) as (at, length):
         _replaced(lib.etherpeel_replace_arp(*words, at, length, C.byref(unit), addresses, len(addresses), C.byref(error)), error)
+
+
+def build(headers: Sequence[Header], payload: Buffer = b"", ether_type: Optional[int] = None) -> bytes:
+    """A packet of headers and a payload, which `ether_type` announces.
+
+        etherpeel.build([etherpeel.Ethernet2(destination, source, 0, False), etherpeel.Vlan(291)], payload, 0x0800)
+
+    The first header is of Ethernet II, or of cooked capture with the hardware type 1. Up to eight VLAN tags and SecTags follow, the
+    outermost first, and maybe an ARP packet, which takes the place of the payload. The ether type of each header is set by what
+    follows it, before a VLAN tag to 0x88A8 if another one follows that, else to 0x8100; and the short length of each SecTag by the
+    length of what follows it, 0 if that is above 63. There is no frame check sequence.
+
+    Raises `BuildError` if there is no such packet.
+    """
+    has_arp = len(headers) > 0 and isinstance(headers[-1], Arp)
+    if has_arp != (ether_type is None) or has_arp and len(payload):
+        raise ValueError("payload and ether_type are given if no ARP packet is, and else neither is")
+    units, addresses = (_library.Unit * len(headers))(), b""
+    for index, header in enumerate(headers):
+        units[index], addresses = passed(header)
+    length = C.c_size_t()
+    with lent(addresses if has_arp else payload) as (at, payload_len):
+        words = (units, len(headers), number("ether_type", ether_type or 0, 16), at, payload_len)
+        status = lib.etherpeel_build(*words, None, 0, C.byref(length))
+        if status != Status.NO_ROOM:
+            status = Status(status)
+            raise BuildError(status, None if status == Status.OTHER_LINK else length.value)
+        target = C.create_string_buffer(length.value)
+        required(lib.etherpeel_build(*words, target, length.value, C.byref(length)))
+    return target.raw

@@ -407,6 +407,26 @@ _REPLACE_ERRORS = {
 }
 
 
+class BuildError(Error):
+    """A packet is not built: the text says why."""
+
+    def __init__(self, status: Status, index: Optional[int] = None):
+        super().__init__(_BUILD_ERRORS[status].format(index=index))
+        self.status = status
+        """The number of the reason."""
+        self.index = index
+        """The index of the header that is the reason; None of `Status.OTHER_LINK`."""
+
+
+_BUILD_ERRORS = {
+    Status.BAD_KIND: "no header of this kind can stand at index {index}",
+    Status.BAD_FIELD: "a number does not fit its field of the header at index {index}",
+    Status.TOO_MANY_TAGS: "there are more than eight VLAN tags and SecTags",
+    Status.OTHER_LINK: "the header of cooked capture is of another link than Ethernet",
+    Status.SEALED: "a header follows the SecTag at index {index}, whose payload is encrypted or changed",
+}
+
+
 class Refused(Error):
     """A unit of a frame is refused: the text says why."""
 

@@ -2,6 +2,8 @@ pub mod Missing
 pub mod UnitsTold
 pub mod CapturedTold
 pub mod Addresses
+pub mod BuiltTags
+pub mod BuiltParts
 pub mod Marks
 pub mod BitNumbers
 pub mod FieldLists

@@ -18,3 +18,4 @@ pub mod FieldViews
 pub mod CookedV2
 pub mod Passed
 pub mod Replacing
+pub mod Building

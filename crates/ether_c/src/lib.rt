@@ -9,6 +9,7 @@
 //! a pointer.
 #![tactic(auto)]
 
+pub mod building;
 pub mod capture_fault_text;
 pub mod captured_frame;
 pub mod capturing;

@@ -23,6 +23,9 @@ pub(crate) const NO_TEXT: u32 = 3;
 /// The frame does not begin with the header of a link.
 pub(crate) const NO_LINK: u32 = 5;
 
+/// The header of cooked capture is of another link than Ethernet.
+pub(crate) const OTHER_LINK: u32 = 6;
+
 /// There is no VLAN tag or SecTag at the index.
 pub(crate) const NO_TAG: u32 = 7;
 
@@ -49,6 +52,12 @@ pub(crate) const DIFFERS: u32 = 17;
 
 /// The call takes no unit of this kind.
 pub(crate) const BAD_KIND: u32 = 18;
+
+/// There are more VLAN tags and SecTags than a packet may have.
+pub(crate) const TOO_MANY_TAGS: u32 = 19;
+
+/// A header follows a SecTag whose payload is encrypted or changed.
+pub(crate) const SEALED: u32 = 20;
 
 /// The start with a number, if there is one. Only the fourth has the ether type.
 #[inline(always)]
@@ -131,7 +140,7 @@ pub(crate) fn tag_error(error: &TagError) -> u32
         TagError::NoRoom => NO_ROOM,
         TagError::Tpid(_) => 4,
         TagError::NoLink => NO_LINK,
-        TagError::HardwareType(_) => 6,
+        TagError::HardwareType(_) => OTHER_LINK,
         TagError::NoLinkExt(_) => NO_TAG,
         TagError::NoVlan => 8,
         TagError::CutVlan => 9,
