@@ -20,17 +20,18 @@
  *            Offsets count bytes from the start of the frame, but for those of fields, in bits.
  *   Order    Numbers are in the byte order of the machine (host byte order), those that are passed
  *            and those of structs; addresses are bytes in the order of the frame.
- *   Result   ETHERPEEL_DONE, or why the call did nothing; etherpeel_capture, etherpeel_select and
- *            etherpeel_linux_sll2 say what they write even then. After ETHERPEEL_UNKNOWN_START
- *            nothing was written at all; after ETHERPEEL_NO_ROOM only the length that the target
- *            needs, if the call gives one; after ETHERPEEL_NO_TEXT only the length 0.
+ *   Result   ETHERPEEL_DONE, or why the call did nothing; etherpeel_capture, etherpeel_select,
+ *            etherpeel_linux_sll2, etherpeel_build and those that replace headers say what they
+ *            write even then. After ETHERPEEL_UNKNOWN_START nothing was written at all; after
+ *            ETHERPEEL_NO_ROOM only the length that the target needs, if the call gives one; after
+ *            ETHERPEEL_NO_TEXT only the length 0.
  *   Memory   No call allocates, blocks, or stores anything between calls, so each is thread-safe.
  *            etherpeel_completion and etherpeel_fault_text take some 2.5 KB of stack,
- *            etherpeel_fields 5 KB, those of filters 40 KB, those of capture files 300 KB, and the
- *            others less than 1 KB.
+ *            etherpeel_fields 5 KB, etherpeel_replace_arp 14 KB, etherpeel_build 18 KB, those of
+ *            filters 40 KB, those of capture files 300 KB, and the others less than 1 KB.
  *   Time     Linear in the number of headers, at most len / 4 in a frame;
- *            etherpeel_write_back also copies the frame. Of capture files linear in that of their
- *            units.
+ *            etherpeel_write_back also copies the frame, etherpeel_build the payload. Of capture
+ *            files linear in that of their units.
  *   Limits   Most calls have a form `.._limited`, which reads no more than `limit` VLAN tags and
  *            SecTags. After these, the ether type of a tag announces nothing: the walk ends there,
  *            with no fault.
@@ -83,7 +84,8 @@ enum etherpeel_status {
     ETHERPEEL_CUT_VLAN = 9,
     /* The frame begins with the VLAN tag, so that no header before it announces it. */
     ETHERPEEL_UNANNOUNCED = 10,
-    /* A number that is passed does not fit its field. */
+    /* A number that is passed does not fit its field, or an address is not within the bytes that it
+     * is read from. */
     ETHERPEEL_BAD_FIELD = 11,
 
     /* Why the packets of a capture file end before the file does: */
@@ -818,10 +820,11 @@ uint32_t etherpeel_replace_link(uint32_t start, uint16_t ether_type, uint8_t *fr
  * `index` counts the first three VLAN tags and SecTags of the frame, the outermost from 0. `header`
  * is of ETHERPEEL_UNIT_VLAN or ETHERPEEL_UNIT_MACSEC. It must have the ether type of the VLAN tag
  * in the frame; or the bits E, C and SC, the short length and, if there is one, the ether type of
- * the SecTag there. The two reserved bits of a SecTag become 0. Returns ETHERPEEL_DONE, or the
- * first of these that applies: ETHERPEEL_UNKNOWN_START; ETHERPEEL_BAD_KIND; ETHERPEEL_BAD_FIELD if
- * a number does not fit its field, or a flag is above 1; ETHERPEEL_NO_TAG; ETHERPEEL_DIFFERS. In
- * place in `frame`, which neither *header nor *error may overlap, nor they one another. Every
+ * the SecTag there. The two reserved bits of a SecTag become 0.
+ * Returns ETHERPEEL_DONE, or the first of these that applies: ETHERPEEL_UNKNOWN_START;
+ * ETHERPEEL_BAD_KIND; ETHERPEEL_BAD_FIELD if a number does not fit its field, or a flag is above 1;
+ * ETHERPEEL_NO_TAG; ETHERPEEL_DIFFERS.
+ * In place in `frame`, which neither *header nor *error may overlap, nor they one another. Every
  * number is in host byte order. Thread-safe; takes no memory.
  */
 uint32_t etherpeel_replace_link_ext(uint32_t start, uint16_t ether_type, uint8_t *frame, size_t len,
@@ -832,15 +835,15 @@ uint32_t etherpeel_replace_link_ext(uint32_t start, uint16_t ether_type, uint8_t
  *
  * The ARP packet is the one after no more than three VLAN tags and SecTags. `header` is of
  * ETHERPEEL_UNIT_ARP. Its addresses are read from the `bytes_len` bytes at `bytes`, from
- * header->arp.sender_hardware on, and so on: those of a frame that the unit is of, or an array that
- * the caller fills in. NULL is allowed if `bytes_len` is 0. They must have the lengths of the
- * addresses in the frame.
+ * header->arp.sender_hardware on, and so on: those of another frame that the unit is of, or an
+ * array that the caller fills in. NULL is allowed if `bytes_len` is 0. The addresses must have the
+ * lengths of those in the frame.
  * Returns ETHERPEEL_DONE, or the first of these that applies: ETHERPEEL_UNKNOWN_START;
  * ETHERPEEL_BAD_KIND; ETHERPEEL_BAD_FIELD if an address is not within the bytes; ETHERPEEL_NO_ARP;
  * ETHERPEEL_DIFFERS.
  * In place in `frame`, which neither *header, the bytes nor *error may overlap, nor *error these.
  * Every number is in host byte order, the addresses in that of the frame. Thread-safe; takes no
- * memory, and some 5 KB of stack.
+ * memory, and some 14 KB of stack.
  */
 uint32_t etherpeel_replace_arp(uint32_t start, uint16_t ether_type, uint8_t *frame, size_t len,
                                const etherpeel_unit *header, const uint8_t *bytes, size_t bytes_len,
@@ -853,22 +856,25 @@ uint32_t etherpeel_replace_arp(uint32_t start, uint16_t ether_type, uint8_t *fra
  * Writes the headers of units[0] .. units[count - 1] and after them the payload to the front of
  * `target`. The first unit is of ETHERPEEL_UNIT_ETHERNET2, or of ETHERPEEL_UNIT_LINUX_SLL with the
  * hardware type 1. Up to eight of ETHERPEEL_UNIT_VLAN and ETHERPEEL_UNIT_MACSEC follow, the
- * outermost first. Units are read as by the calls that replace headers.
+ * outermost first. Units are read as by the calls that replace headers. Only the last tag, before a
+ * payload, may be a SecTag whose payload is encrypted or changed.
  * The payload is the `payload_len` bytes at `payload`, which `ether_type` announces. If the last
  * unit is of ETHERPEEL_UNIT_ARP, the packet ends with it: its addresses are read from these bytes
  * as by etherpeel_replace_arp, and `ether_type` is ignored. NULL is allowed if `payload_len` is 0.
- * The ether type of each header is set by what follows it, before a VLAN tag to 0x88A8 if another
- * one follows that, else to 0x8100; and the short length of each SecTag by the length of what
- * follows it, 0 if that is above 63. There is no frame check sequence.
+ * What the units say about what follows them is ignored. The ether type of each header is set: that
+ * before a VLAN tag to 0x88A8 if another VLAN tag follows, else to 0x8100. The short length of each
+ * SecTag is set to the number of bytes after it with its ether type, or 0 if that is above 63.
+ * There is no frame check sequence.
  * *written_len is the length of the packet. The bytes of `target` after it stay as they were.
- * Returns ETHERPEEL_DONE, or the first of these that applies, and then `target` stays as it was:
- * of the first unit that has one, with its index in *written_len, ETHERPEEL_BAD_KIND, also if there
- * is no unit; ETHERPEEL_BAD_FIELD; ETHERPEEL_TOO_MANY_TAGS; of the whole packet
- * ETHERPEEL_OTHER_LINK, with 0 in *written_len; ETHERPEEL_SEALED with the index of the SecTag
- * there; ETHERPEEL_NO_ROOM if `room` is smaller than the length of the packet, which is there.
+ * Returns ETHERPEEL_DONE, or the first of these that applies, and then `target` stays as it was. By
+ * the first unit that is wrong, whose index is then *written_len: ETHERPEEL_BAD_KIND, also if there
+ * is no unit; ETHERPEEL_BAD_FIELD; ETHERPEEL_TOO_MANY_TAGS for the ninth tag. By the packet:
+ * ETHERPEEL_OTHER_LINK, and *written_len is 0; ETHERPEEL_SEALED, and *written_len is the index of
+ * the SecTag; ETHERPEEL_NO_ROOM if `room` is smaller than the length of the packet, which is
+ * *written_len.
  * Overlap: neither `target` nor *written_len may overlap the units, the payload or one another.
  * Every number is in host byte order, addresses in that of the packet. Thread-safe; takes no
- * memory, and some 5 KB of stack.
+ * memory, and some 18 KB of stack.
  */
 uint32_t etherpeel_build(const etherpeel_unit *units, size_t count, uint16_t ether_type,
                          const uint8_t *payload, size_t payload_len, uint8_t *target, size_t room,

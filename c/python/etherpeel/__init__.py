@@ -22,9 +22,9 @@ from ._captures import (CaptureError, Captured, Frame, capture, captured_frame, 
                         start_of_link_type)
 from ._library import WRITE, Error, Status, filled, lent, lib, number, required, text
 from ._replacing import build, replace_arp, replace_link, replace_link_ext
-from ._types import (Arp, Buffer, BuildError, Difference, Ethernet2, Fault, FaultKind, Fed, Field, FieldName, FilterError, FilterErrorKind,
-                     Header, Layer, LenSource, LinuxSll, LinuxSll2, LinuxSll2Error, Macsec, Packet, Refused, ReplaceError, RestKind,
-                     Start, Summary, TagError, Unit, Vlan, WritableBuffer, begun)
+from ._types import (Arp, Buffer, BuildError, Difference, Ethernet2, Fault, FaultKind, Fed, Field, FieldName, FilterError,
+                     FilterErrorKind, Header, Layer, LenSource, LinuxSll, LinuxSll2, LinuxSll2Error, Macsec, Packet, Refused,
+                     ReplaceError, RestKind, Start, Summary, TagError, Unit, Vlan, WritableBuffer, begun)
 
 __all__ = [
     "Arp", "BuildError", "CaptureError", "Captured", "Difference", "Error", "Ethernet2", "Fault", "FaultKind", "Fed", "Field",

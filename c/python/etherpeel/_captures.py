@@ -138,7 +138,7 @@ def select(expression: str, packets: Iterable[Captured]) -> Iterator[Captured]:
             for packet in etherpeel.select("vlan 291 and not arp", etherpeel.capture(file)):
                 print(packet.time_ns)
 
-    The expression is in words of pcap-filter(7): a primitive, or several with `not`, `and`, `or` and parentheses. The primitives:
+    The expression is in words of pcap-filter(7): a primitive, or several with `not`, `and`, `or` and parentheses. Primitives:
 
         vlan, vlan N            a VLAN tag; one with the identifier N
         outer vlan N            the first VLAN tag has the identifier N
@@ -185,7 +185,7 @@ def linux_sll2(packet: Buffer) -> LinuxSll2:
     with lent(packet) as (at, length):
         status = lib.etherpeel_linux_sll2(at, length, C.byref(header))
     if status == Status.SHORT:
-        raise LinuxSll2Error(f"a header of Linux cooked capture v2 has 20 bytes, and {length} are available", Status.SHORT, None)
+        raise LinuxSll2Error(f"a header of cooked capture v2 has 20 bytes, and {length} are available", Status.SHORT, None)
     if status == Status.BAD_PACKET_TYPE:
         raise LinuxSll2Error(f"the packet type {header.packet_type} is above 7", Status.BAD_PACKET_TYPE, header.packet_type)
     typed = header.start == Start.ETHER_TYPE

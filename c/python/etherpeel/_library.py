@@ -68,8 +68,8 @@ LinuxSll2Header = struct("LinuxSll2Header", payload_start=size, interface_index=
 ReplaceError = struct("ReplaceError", tags=size, difference=u32)
 
 # the structs in the order of enum etherpeel_struct, from 1 on
-STRUCTS = [Fault, Found, Fed, Ethernet2, LinuxSll, Vlan, Macsec, Arp, Unit, Headers, Captured, CaptureEnd, FilterError, Frame, Field,
-           LinuxSll2Header, ReplaceError]
+STRUCTS = [Fault, Found, Fed, Ethernet2, LinuxSll, Vlan, Macsec, Arp, Unit, Headers, Captured, CaptureEnd, FilterError, Frame,
+           Field, LinuxSll2Header, ReplaceError]
 
 # what each call takes after the frame, and after the limit of its form with one
 WALKS = {

@@ -6,8 +6,8 @@ from typing import Optional, Sequence, Union
 
 from . import _library
 from ._library import WRITE, Status, lent, lib, number, required
-from ._types import (Arp, Buffer, BuildError, Difference, Ethernet2, Header, LinuxSll, Macsec, ReplaceError, Start, Vlan, WritableBuffer,
-                     begun)
+from ._types import (Arp, Buffer, BuildError, Difference, Ethernet2, Header, LinuxSll, Macsec, ReplaceError, Start, Vlan,
+                     WritableBuffer, begun)
 
 # the kind of a unit with such a header, and the struct of its fields
 KINDS = {Ethernet2: (1, "ethernet2"), LinuxSll: (2, "linux_sll"), Vlan: (3, "vlan"), Macsec: (4, "macsec"), Arp: (5, "arp")}
@@ -77,7 +77,8 @@ def replace_link_ext(frame: WritableBuffer, index: int, header: Union[Vlan, Macs
     """
     (unit, _), error, words = passed(header), _library.ReplaceError(), begun(start, ether_type)
     with lent(frame, WRITE) as (at, length):
-        _replaced(lib.etherpeel_replace_link_ext(*words, at, length, number("index", index, 64), C.byref(unit), C.byref(error)), error)
+        words = (*words, at, length, number("index", index, 64))
+        _replaced(lib.etherpeel_replace_link_ext(*words, C.byref(unit), C.byref(error)), error)
 
 
 def replace_arp(frame: WritableBuffer, packet: Arp, start: Start = Start.ETHERNET2, *, ether_type: Optional[int] = None) -> None:
@@ -85,7 +86,8 @@ def replace_arp(frame: WritableBuffer, packet: Arp, start: Start = Start.ETHERNE
     must have the same lengths. Raises as `replace_link`."""
     (unit, addresses), error, words = passed(packet), _library.ReplaceError(), begun(start, ether_type)
     with lent(frame, WRITE) as (at, length):
-        _replaced(lib.etherpeel_replace_arp(*words, at, length, C.byref(unit), addresses, len(addresses), C.byref(error)), error)
+        words = (*words, at, length, C.byref(unit), addresses, len(addresses))
+        _replaced(lib.etherpeel_replace_arp(*words, C.byref(error)), error)
 
 
 def build(headers: Sequence[Header], payload: Buffer = b"", ether_type: Optional[int] = None) -> bytes:
@@ -93,10 +95,11 @@ def build(headers: Sequence[Header], payload: Buffer = b"", ether_type: Optional
 
         etherpeel.build([etherpeel.Ethernet2(destination, source, 0, False), etherpeel.Vlan(291)], payload, 0x0800)
 
-    The first header is of Ethernet II, or of cooked capture with the hardware type 1. Up to eight VLAN tags and SecTags follow, the
-    outermost first, and maybe an ARP packet, which takes the place of the payload. The ether type of each header is set by what
-    follows it, before a VLAN tag to 0x88A8 if another one follows that, else to 0x8100; and the short length of each SecTag by the
-    length of what follows it, 0 if that is above 63. There is no frame check sequence.
+    The first header is of Ethernet II, or of cooked capture with the hardware type 1. Up to eight VLAN tags and SecTags follow,
+    the outermost first, and maybe an ARP packet, which takes the place of the payload. Only the last tag, before a payload, may
+    be a SecTag whose payload is encrypted or changed. What the headers say about what follows them is ignored. The ether type of
+    each is set: that before a VLAN tag to 0x88A8 if another VLAN tag follows, else to 0x8100. The short length of each SecTag is
+    set to the number of bytes after it with its ether type, or 0 if that is above 63. There is no frame check sequence.
 
     Raises `BuildError` if there is no such packet.
     """
