@@ -352,7 +352,8 @@ def building():
         except etherpeel.BuildError as error:
             check(str(error), (error.status, error.index), expected)
     check("sealed ARP", raised(etherpeel.build, [link, sealed, arp]), etherpeel.BuildError)
-    for words in (([link],), ([link], b"E"), ([link, arp], b"E"), ([link, arp], b"", 0x0806), ([link], b"", 65536), ([link, etherpeel.Vlan(2**16)], b"", 1)):
+    for words in (([link],), ([link], b"E"), ([link, arp], b"E"), ([link, arp], b"", 0x0806), ([link], b"", 65536),
+                  ([link, etherpeel.Vlan(2**16)], b"", 1)):
         check("wrong words", raised(etherpeel.build, *words), ValueError)
 
 

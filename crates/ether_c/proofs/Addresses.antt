@@ -2,7 +2,8 @@
 use Rattle.std.proofs.Common.{◌≡◌, ℕ, ◌+◌, ◌-◌, ◌≤◌, List, length, ap, ◌∙◌, arith}
 use Rattle.etherparse.proofs.SubLists.{length-part}
 use Rattle.etherparse.specs.Arp.{bytes_at}
-use Rattle.etherparse.specs.ArpAddresses.{RefusesAddrs, hardware_unequal, protocol_unequal, hardware_too_long, protocol_too_long}
+use Rattle.etherparse.specs.ArpAddresses.{RefusesAddrs, hardware_unequal, protocol_unequal}
+use Rattle.etherparse.specs.ArpAddresses.{hardware_too_long, protocol_too_long}
 use Rattle.ether_base.specs.declared.err.arp.arp_new_error.ArpNewError.{ArpNewError}
 
 pub address_len : (bytes address : List ℕ) (at n : ℕ) → (at + n ≤ length bytes) × (address ≡ bytes_at bytes at n)
@@ -14,5 +15,7 @@ pub never_refused : (n m a b c d : ℕ) (e : ArpNewError) → a ≡ n → b ≡ 
     → RefusesAddrs a b c d e → ⊥
 never_refused n m a b c d e an bm cn dm few short (hardware_unequal differ) = differ (omega (arith, an, cn))
 never_refused n m a b c d e an bm cn dm few short (protocol_unequal same differ) = differ (omega (arith, bm, dm))
-never_refused n m a b c d e an bm cn dm few short (hardware_too_long same alike long) = absurd (omega (arith, an, few, long))
-never_refused n m a b c d e an bm cn dm few short (protocol_too_long same alike most long) = absurd (omega (arith, bm, short, long))
+never_refused n m a b c d e an bm cn dm few short (hardware_too_long same alike long) =
+    absurd (omega (arith, an, few, long))
+never_refused n m a b c d e an bm cn dm few short (protocol_too_long same alike most long) =
+    absurd (omega (arith, bm, short, long))

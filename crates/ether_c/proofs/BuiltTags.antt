@@ -1,5 +1,6 @@
 -- The tags of a packet, one after the other.
-use Rattle.std.proofs.Common.{◌≡◌, ℕ, suc, ◌+◌, ◌≤◌, ◌<◌, List, [], ◌∷◌, ◌++◌, length, drop, set, take, sym, ap, subst, ◌∙◌, arith}
+use Rattle.std.proofs.Common.{◌≡◌, ℕ, suc, ◌+◌, ◌≤◌, ◌<◌, List, [], ◌∷◌, ◌++◌, length, drop, set, take}
+use Rattle.std.proofs.Common.{sym, ap, subst, ◌∙◌, arith}
 use Rattle.std.specs.Prelude.{slice_index_or}
 use Rattle.std.proofs.Math.Seq.{take-suc, take-suc-set, split_at}
 use Rattle.std.proofs.lemmas.List.{length-take-le}
@@ -44,5 +45,5 @@ pub too_many_at : (us : List EtherUnit) (xs : List LinkExtHeader) (i : ℕ) (d :
     → RefusesTags us 19 9
 too_many_at us xs i d x lt eight are is =
     let counted : length (take i us) ≡ i = length-take-le i us (omega arith) in
-    too_many (take i us) (take i xs) (slice_index_or us i d) (drop (suc i) us) (ext_header_view x) (split_at us i d lt) are
-    (counted ∙ eight) is
+    too_many (take i us) (take i xs) (slice_index_or us i d) (drop (suc i) us) (ext_header_view x)
+    (split_at us i d lt) are (counted ∙ eight) is

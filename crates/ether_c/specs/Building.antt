@@ -1,5 +1,6 @@
 -- Packets built by calls from C.
-use Rattle.std.specs.Prelude.{◌≡◌, ℕ, ◌+◌, ◌≤◌, List, [], ◌∷◌, ◌++◌, length, Option, Some, None, Result, Ok, Err, IfOk, IfErr}
+use Rattle.std.specs.Prelude.{◌≡◌, ℕ, ◌+◌, ◌≤◌, List, [], ◌∷◌, ◌++◌, length, Option, Some, None, Result, Ok, Err}
+use Rattle.std.specs.Prelude.{IfOk, IfErr}
 use Rattle.etherparse.specs.Types.LinkExtHeader.{LinkExtHeader}
 use Rattle.etherparse.specs.Types.LinkHeader.{LinkHeader}
 use Rattle.etherparse.specs.LinkExt.{ext_header_view}
@@ -80,7 +81,8 @@ pub data PassesNoPacket (us : List EtherUnit) (bytes : List ℕ) : (status index
   bad_tags : (first : EtherUnit) (link : LinkHeader) (tags last : List EtherUnit) (status index : ℕ)
       → us ≡ first ∷ tags ++ last → PassesLink first link → AreSplit tags last → RefusesTags tags status index
       → PassesNoPacket us bytes status index
-  bad_arp : (first : EtherUnit) (link : LinkHeader) (tags : List EtherUnit) (exts : List LinkExtHeader) (u : EtherUnit) (status : ℕ)
+  bad_arp : (first : EtherUnit) (link : LinkHeader) (tags : List EtherUnit) (exts : List LinkExtHeader)
+      (u : EtherUnit) (status : ℕ)
       → us ≡ first ∷ tags ++ u ∷ [] → PassesLink first link → AreExts tags exts → length tags ≤ 8
       → u.kind ≡ 5 → PassesNoArp u bytes status → PassesNoPacket us bytes status (1 + length tags)
 

@@ -23,5 +23,5 @@ returns-in-Err-passed_arp-clause-refused c =
     arp_refused c.args.units.now c.in-Some.inner.now c.split_at.result.0.now c.split_at.result.1.now
     c.in-Some.first.now c.in-Ok.link (take (length c.split_at.result.0.now) c.put_tags.new.tags) c.tag_count.result
     c.args.bytes.now c.in-Err-passed_arp.status c.in-Some.ensures.cases.0 c.in-Ok.ensures.link c.split_at.ensures.front
-    c.split_at.ensures.back c.tag_count.ensures.split c.in_default-put_tags.ensures.put c.in_default-put_tags.ensures.few
-    c.in-Err-passed_arp.ensures.refused
+    c.split_at.ensures.back c.tag_count.ensures.split c.in_default-put_tags.ensures.put
+    c.in_default-put_tags.ensures.few c.in-Err-passed_arp.ensures.refused
