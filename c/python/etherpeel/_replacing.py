@@ -93,7 +93,7 @@ def replace_arp(frame: WritableBuffer, packet: Arp, start: Start = Start.ETHERNE
 def build(headers: Sequence[Header], payload: Buffer = b"", ether_type: Optional[int] = None) -> bytes:
     """A packet of headers and a payload, which `ether_type` announces.
 
-        etherpeel.build([etherpeel.Ethernet2(destination, source, 0, False), etherpeel.Vlan(291)], payload, 0x0800)
+        etherpeel.build([etherpeel.Ethernet2(destination, source), etherpeel.Vlan(291)], payload, 0x0800)
 
     The first header is of Ethernet II, or of cooked capture with the hardware type 1. Up to eight VLAN tags and SecTags follow,
     the outermost first, and maybe an ARP packet, which takes the place of the payload. Only the last tag, before a payload, may

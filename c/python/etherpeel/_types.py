@@ -228,8 +228,8 @@ class Ethernet2(NamedTuple):
 
     destination: bytes
     source: bytes
-    ether_type: int
-    has_fcs: bool
+    ether_type: int = 0
+    has_fcs: bool = False
     """Whether a frame check sequence follows, in the 4 bytes from `payload_end` on."""
 
 
@@ -244,7 +244,7 @@ class LinuxSll(NamedTuple):
     """May exceed 8, though the field holds only 8 bytes."""
     address: bytes
     """The sender's address, truncated or padded to 8 bytes."""
-    protocol: int
+    protocol: int = 0
 
 
 class Vlan(NamedTuple):
@@ -264,15 +264,15 @@ class Macsec(NamedTuple):
     """A MACsec SecTag (IEEE 802.1AE, 9.3)."""
 
     packet_number: int
-    association_number: int
-    short_len: int
-    encrypted: bool
-    changed: bool
-    end_station: bool
-    single_copy_broadcast: bool
-    sci: Optional[int]
+    association_number: int = 0
+    short_len: int = 0
+    encrypted: bool = False
+    changed: bool = False
+    end_station: bool = False
+    single_copy_broadcast: bool = False
+    sci: Optional[int] = None
     """The secure channel identifier, if there is one."""
-    ether_type: Optional[int]
+    ether_type: Optional[int] = None
     """The ether type after the tag, None if the payload is encrypted or changed."""
 
 
