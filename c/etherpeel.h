@@ -10,9 +10,10 @@
  *            `buffer` to `len` bytes, which the calls that change headers write to. NULL is allowed
  *            if `len` is 0.
  *   Targets  `units`, `fields`, `packets`, `matches`, `target`, `fill` and `text` point to as many
- *            elements as `room` says. NULL is allowed if `room` is 0. A pointer to one struct or
- *            number must not be NULL. The memory must be aligned for its type. What is only written
- *            to need not be initialized, but for `packets` and an etherpeel_frame.
+ *            elements as `room` says; what etherpeel_build and etherpeel_select read to `count`.
+ *            NULL is allowed if that is 0. A pointer to one struct or number must not be NULL. The
+ *            memory must be aligned for its type. What is only written to need not be initialized,
+ *            but for `packets` and an etherpeel_frame.
  *   Overlap  What a call may write to must not overlap the frame, nor anything else that the call
  *            may write to.
  *   Keeping  No call keeps a pointer after it returns.
