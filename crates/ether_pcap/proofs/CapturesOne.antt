@@ -27,10 +27,10 @@ get_at l n i at =
     ap (λ (m : List CaptureInterfaceValue). slice_get m n) at.parts
     ∙ ap (slice_get (at.before ++ i ∷ at.after)) (sym at.number) ∙ get_middle at.before at.after i
 
-at_one : (l : List CaptureInterfaceValue) (n : ℕ) (i j : CaptureInterfaceValue) → IsAt l n i → IsAt l n j → i ≡ j
+pub at_one : (l : List CaptureInterfaceValue) (n : ℕ) (i j : CaptureInterfaceValue) → IsAt l n i → IsAt l n j → i ≡ j
 at_one l n i j a b = let e = get_at l n i a in let f = get_at l n j b in cc
 
-at_within : (l : List CaptureInterfaceValue) (n : ℕ) (i : CaptureInterfaceValue) → IsAt l n i → n < length l
+pub at_within : (l : List CaptureInterfaceValue) (n : ℕ) (i : CaptureInterfaceValue) → IsAt l n i → n < length l
 at_within l n i at =
     let e : length l ≡ length at.before + length (i ∷ at.after) =
     ap length at.parts ∙ length-append at.before (i ∷ at.after) in

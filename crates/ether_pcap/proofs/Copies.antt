@@ -4,7 +4,6 @@ use Rattle.std.specs.Prelude.{Option, IsTrue, take, ⊤}
 use Rattle.std.proofs.lemmas.List.{length-take-le, take-append-drop, drop_at}
 use Rattle.ether_base.specs.Bytes.{IsBytes}
 use Rattle.ether_base.proofs.SubLists.{IsBytes-drop}
-use Rattle.ether_pcap.specs.Numbers.{Order}
 use Rattle.ether_pcap.specs.Capture.{PacketValue, CaptureInterfaceValue, Expectation, Beginning, Records, Blocks, BlockKind, InterfaceDescription, SimplePacket, EnhancedPacket, Other, kind_of_block, IsBody, CaptureRefusal, Begins, file_header, file_record, first_section, section, block, Refuses, IsEnd, HasPackets}
 use Rattle.ether_pcap.specs.Capture as packets
 use Rattle.ether_pcap.specs.Copies.{Copies, ended, refused, unit, keeps, leaves, none, one_kept, one_left, IsRead, HasSource, Copy}
@@ -13,6 +12,7 @@ use Rattle.ether_pcap.proofs.CaptureLocality.{unit_local, unit_alone}
 use Rattle.ether_pcap.proofs.CaptureSome.{at_end, some_unit}
 use Rattle.ether_pcap.proofs.CapturesOne.{unit_one, unit_apart, unit_refusal_one}
 use Rattle.ether_pcap.proofs.PacketsOne.{none_at_end}
+use Rattle.ether_pcap.proofs.PacketUnits.{same_after}
 
 -- ---- units
 
@@ -24,29 +24,6 @@ begun bytes x y len p (file_record h r is) = λ e. absurd cc
 begun bytes x y len p (first_section order b is) = λ e. absurd cc
 begun bytes x y len p (section order next interfaces b is) = λ e. absurd cc
 begun bytes x y len p (block order interfaces after packet b other begins is) = λ e. absurd cc
-
-same_interfaces : (kind : BlockKind) (order : Order) (before after : List CaptureInterfaceValue) (body : List ℕ)
-    (packet : Option PacketValue) (p : PacketValue) → packet ≡ Some p → IsBody kind order before body packet after
-    → after ≡ before
-same_interfaces InterfaceDescription order before after body packet p is (i, d, lt, e, f) =
-    let g : None ≡ Some p = sym e ∙ is in absurd cc
-same_interfaces SimplePacket order before after body packet p is (i, q, at, d, e, f) = f
-same_interfaces (EnhancedPacket n) order before after body packet p is (i, q, o, d, at, has, e, f) = f
-same_interfaces Other order before after body packet p is (e, f) = f
-
-same_if : (bytes : List ℕ) (x y : Expectation) (len : ℕ) (packet : Option PacketValue) (p : PacketValue)
-    → packet ≡ Some p → Begins bytes x len packet y → y ≡ x
-same_if bytes x y len packet p e (file_header h other is) = absurd cc
-same_if bytes x y len packet p e (file_record h r is) = refl
-same_if bytes x y len packet p e (first_section order b is) = absurd cc
-same_if bytes x y len packet p e (section order next interfaces b is) = absurd cc
-same_if bytes x y len packet p e (block order interfaces after q b other begins is) =
-    ap (Blocks order) (same_interfaces (kind_of_block b.block_type) order interfaces after b.body q p e is)
-
--- after a packet the same is expected as before it
-pub same_after : (bytes : List ℕ) (x y : Expectation) (len : ℕ) (p : PacketValue) → Begins bytes x len (Some p) y
-    → y ≡ x
-same_after bytes x y len p begins = same_if bytes x y len (Some p) p refl begins
 
 -- a unit that is copied, and what follows it in the copy
 unit_copied : (bytes copy : List ℕ) (x y : Expectation) (len : ℕ) (p : Option PacketValue) → Begins bytes x len p y

@@ -18,3 +18,4 @@ pub mod CaptureTexts
 pub mod CaptureReading
 pub mod CaptureLaws
 pub mod Copies
+pub mod Cutting

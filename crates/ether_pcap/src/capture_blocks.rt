@@ -178,7 +178,7 @@ fn first_of(of_packet: Option<u8>, of_interface: Option<u8>) -> Option<u8>
 }
 
 /// The interface of a number, counted from 0.
-fn interface_at(interfaces: &[CaptureInterface], number: u32) -> Option<CaptureInterface>
+pub(crate) fn interface_at(interfaces: &[CaptureInterface], number: u32) -> Option<CaptureInterface>
     ensures { MatchOption result
         (HasNoInterface (interfaces_view interfaces.now) number)
         (λ i. IsAt (interfaces_view interfaces.now) number (capture_interface_view i)) }

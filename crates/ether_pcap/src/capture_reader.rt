@@ -3,12 +3,14 @@ ghost use Rattle.std.specs.Prelude.{◌≡◌, ◌≢◌, ℕ, ◌<◌, ◌≤�
 ghost use Rattle.std.specs.Option.{option_map};
 ghost use Rattle.ether_pcap.specs.FileHeader.{FileHeaderValue, IsFileHeader};
 ghost use Rattle.ether_pcap.specs.Capture.{Expectation, Beginning, Records, Begins, Refuses, required_len};
+ghost use Rattle.ether_pcap.specs.Cutting.{CutsUnit, KeepsPacket};
 ghost use Rattle.ether_pcap.specs.Section.{HasSectionType, IsSection, RefusesSection};
 ghost use Rattle.ether_pcap.specs.Views.{file_header_view};
 ghost use Rattle.ether_pcap.specs.PcapngViews.{block_view, section_refusal_view};
 ghost use Rattle.ether_pcap.specs.CaptureViews.{captured_packet_view, capture_refusal_view};
 
 use crate::capture_blocks::{Interfaces, read_block};
+use crate::cutting::{truncate_block, truncate_record};
 use crate::{
     ByteOrder, CaptureError, CaptureUnit, CapturedPacket, FileHeader, PcapRecord, PcapngBlock,
     SectionHeader, Timestamp,
@@ -113,6 +115,48 @@ impl CaptureReader {
             → required_len (capture_refusal_view e) ≡ Some n → length bytes.now < n) }
     {
         self.read_unit(bytes)
+    }
+
+    /// Cuts the packet of a unit to its first `len` captured bytes, in place, and returns the length that the unit then has. `unit` is
+    /// what [`read`](Self::read) has just read with this reader, from its front to its length.
+    ///
+    /// The number of captured bytes, and the lengths and the padding of a block, become those of the packet as it is then. Its time, its
+    /// original length and its options stay. A packet with no more than `len` captured bytes stays as it was.
+    ///
+    /// It is `None` for a simple packet that would have to be cut, whose block doesn't say how many bytes were captured. The bytes are
+    /// then as they were.
+    ///
+    /// ```
+    /// let mut file = [
+    ///     0xA1, 0xB2, 0xC3, 0xD4, 0x00, 0x02, 0x00, 0x04, 0x00, 0x00, 0x00, 0x00, // file header
+    ///     0x00, 0x00, 0x00, 0x00, 0x00, 0x00, 0xFF, 0xFF, 0x00, 0x00, 0x00, 0x01, //
+    ///     0x00, 0x00, 0x00, 0x01, 0x00, 0x00, 0x00, 0x02, 0x00, 0x00, 0x00, 0x03, 0x00, 0x00, 0x00, 0x3C, // record
+    ///     0xAA, 0xBB, 0xCC,
+    /// ];
+    /// let mut reader = CaptureReader::new();
+    /// let header_len = reader.read(&file)?.len;
+    /// let record_len = reader.read(&file[header_len..])?.len;
+    /// let unit = &mut file[header_len..header_len + record_len];
+    /// assert_eq!(rt; reader.truncate_packet(unit, 2), Some(18));
+    /// let cut = [
+    ///     0x00, 0x00, 0x00, 0x01, 0x00, 0x00, 0x00, 0x02, 0x00, 0x00, 0x00, 0x02, 0x00, 0x00, 0x00, 0x3C, //
+    ///     0xAA, 0xBB,
+    /// ];
+    /// assert_eq!(rt; file[24..42], cut);
+    /// ```
+    #[tactic(auto, using(crate::proofs::CutPackets::keeps_packet))]
+    pub fn truncate_packet(&self, unit: &mut [u8], len: usize) -> Option<usize>
+        ensures cut { CutsUnit self.now len unit.old unit.new result }
+        ensures packet { KeepsPacket self.now len unit.old unit.new result }
+        ensures same_len { length unit.new ≡ length unit.old }
+    {
+        match self.progress {
+            Progress::Nothing => None,
+            Progress::Classic(header) => truncate_record(&header, unit, len),
+            Progress::Section(byte_order) => {
+                truncate_block(byte_order, self.interfaces.as_slice(), unit, len)
+            }
+        }
     }
 
     /// The unit at the front of a slice.

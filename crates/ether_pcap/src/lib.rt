@@ -12,6 +12,7 @@ mod capture_packets;
 mod capture_reader;
 mod capture_unit;
 mod captured_packet;
+mod cutting;
 mod enhanced_packet;
 mod file_header;
 mod file_header_error;

@@ -69,7 +69,7 @@ impl<'a> SimplePacket<'a> {
 }
 
 /// How many bytes of a packet are captured with a snap length, where 0 is none.
-fn captured_len(snap_len: u32, original_len: u32) -> u32
+pub(crate) fn captured_len(snap_len: u32, original_len: u32) -> u32
     ensures { result ≡ captured_by snap_len original_len }
 {
     if snap_len == 0 {
