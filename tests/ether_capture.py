@@ -16,7 +16,7 @@ from dataclasses import dataclass
 from programs import count, run, run_in_pieces, run_until_a_fault, on_a_full_disk
 
 FAILED = ("ether_capture: input or output failed\n", 4)
-USAGE = "usage: ether_capture [--plain | --write] [--select EXPR] [FILE]\n"
+USAGE = "usage: ether_capture [--plain | --write [--cut-to-headers]] [--select EXPR] [FILE]\n"
 
 
 def joined(*parts):
@@ -317,6 +317,8 @@ CASES += [
     Case("a copy twice", ["--write", "--select", "arp", "--write"], CLASSIC, USAGE, 2),
     Case("two filters", ["--select", "arp", "--select", "arp"], CLASSIC, USAGE, 2),
     Case("a copy after a file", ["one", "--write"], CLASSIC, USAGE, 2),
+    Case("headers without a copy", ["--cut-to-headers"], CLASSIC, USAGE, 2),
+    Case("headers twice", ["--write", "--cut-to-headers", "--cut-to-headers"], CLASSIC, USAGE, 2),
     Case("help and a copy", ["--write", "--help"], CLASSIC, USAGE, 2),
     Case("the version and a file", ["--version", "one"], CLASSIC, USAGE, 2),
     Case("five words", ["--plain", "--select", "arp", "one", "two"], CLASSIC, USAGE, 2),
@@ -362,6 +364,33 @@ COPIES += [
          "byte 96: A block of a pcapng file begins with length 100000 and ends with 99996.\n", 3),
     Copy("a file that is not there", ["no/such.pcap"], CLASSIC, b"", "no/such.pcap: can't be opened\n" + FAILED[0], 4),
     Copy("no expression", ["--select", "vlan 4096"], CLASSIC, b"", "--select: At byte 5: expected a number up to 4095.\n", 2),
+]
+
+# The same captures, of which each packet ends where its headers do: a cooked capture takes 16 bytes, raw IP has no header.
+CUT = "--cut-to-headers"
+CUT_CLASSIC = CLASSIC[:24] + joined(
+    "6553f100 0001e240 00000012 0000003c", "ffffffffffff 3aeeb62ff6d7 88a8 0001 8100",
+    "6553f101 00000005 00000012 0000002e", "ffffffffffff 3aeeb62ff6d7 8100 b123 0800")
+CUT_WITH_FCS = WITH_FCS[:24] + joined(
+    "01000000 02000000 0e000000 14000000", "020000000001 020000000002 88b5", "01000000 ffc99a3b 0e000000 14000000", "020000000001 020000000002 88b5")
+CUT_COOKED = joined("06000000 30000000 01000000 fe9c9717 15cd853d 10000000 11000000", "0004 0001 0006 0200000000010000 0800 30000000")
+CUT_SECTIONS = NO_PACKETS + CUT_PACKET + CUT_COOKED + SIMPLE + SECOND_SECTION + SECTIONS[-36:-32] + joined("00000020") + SECTIONS[-28:-16] \
+    + joined("00000000") + SECTIONS[-12:-8] + joined("00000020")
+LONG_SIMPLE = joined("03000000 24000000 13000000 ffffffffffff 3aeeb62ff6d7 8100 b123 0800 45 00 24000000")
+OPTIONS = "02000400 00000020 0400 0800 0000000000000007 00000000"  # epb_flags with a check sequence of 4 bytes, and epb_dropcount
+LONG_PACKET = SECTION_HEADER + ETHERNET + joined(
+    "06000000 4c000000 00000000 240a0600 40222018 13000000 2e000000 ffffffffffff 3aeeb62ff6d7 8100 b123 0800 45 00", OPTIONS, "4c000000")
+CUT_LONG_PACKET = SECTION_HEADER + ETHERNET + joined(
+    "06000000 4c000000 00000000 240a0600 40222018 12000000 2e000000 ffffffffffff 3aeeb62ff6d7 8100 b123 0800 00 00", OPTIONS, "4c000000")
+COPIES += [
+    Copy("headers of a classic file", [CUT], CLASSIC, CUT_CLASSIC),
+    Copy("headers of frames with a check sequence", [CUT], WITH_FCS, CUT_WITH_FCS),
+    Copy("headers of two sections", [CUT], SECTIONS, CUT_SECTIONS),
+    Copy("headers of the packets that match", [CUT, "--select", "not refused"], CLASSIC, CLASSIC[:24] + CUT_CLASSIC[58:]),
+    Copy("a packet with options", [CUT], LONG_PACKET, CUT_LONG_PACKET),
+    Copy("a simple packet that can't be cut", [CUT], NO_PACKETS + CUT_PACKET + LONG_SIMPLE + CUT_PACKET, NO_PACKETS + CUT_PACKET,
+         f"byte {len(NO_PACKETS) + 48}: A simple packet can't be cut, since its block has no number of captured bytes.\n", 3),
+    Copy("one that is left out", [CUT, "--select", "refused"], NO_PACKETS + LONG_SIMPLE + CUT_PACKET, NO_PACKETS + CUT_PACKET),
 ]
 
 

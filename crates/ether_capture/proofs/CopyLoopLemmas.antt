@@ -1,117 +1,129 @@
 -- How far a copy has come, one unit of the capture after another.
-use Rattle.std.proofs.Common.{◌≡◌, ◌≢◌, ◌⊎◌, ℕ, ◌+◌, ◌≤◌, List, [], ◌∷◌, ◌++◌, length, take, drop, Option, Some, None, refl, sym, ap, subst, ◌∙◌, arith, append_assoc, append-nil, inl, inr}
-use Rattle.std.proofs.lemmas.List.{take-append-le, drop-append-le}
+use Rattle.std.proofs.Common.{◌≡◌, ◌≢◌, ◌⊎◌, ℕ, ◌+◌, ◌-◌, ◌≤◌, List, [], ◌∷◌, ◌++◌, length, take, drop, slice_range, Bool, true, false, Option, Some, None, Result, Ok, Err, IsErrAnd, IfErr, refl, sym, ap, subst, ◌∙◌, arith, append_assoc, append-nil, length-append, length-drop, unwrap_or, inl, inr}
+use borrow.Rule.Slice.PartMut.{put_mid, post_of}
+use Rattle.std.proofs.lemmas.List.{take-append-le, take-append-drop, drop-append-le, length-take-le}
 use Rattle.std.specs.Io.KnownBytes.{Appends}
 use Rattle.ether_filter.specs.Expressions.{Expression}
 use Rattle.ether_pcap.specs.Capture.{PacketValue, Expectation, Beginning, CaptureRefusal, Begins, Refuses, required_len, IsEnd, HasPackets}
-use Rattle.ether_pcap.specs.Copies.{Copies, ended, refused, unit, keeps, leaves}
-use Rattle.ether_pcap.proofs.CaptureLocality.{unit_local, refusal_local}
+use Rattle.ether_pcap.specs.Cutting.{cut_unit}
+use Rattle.ether_pcap.specs.Copies.{CopyFault, Refused, NotCut, Copies, ended, refused, not_cut, unit, keeps, leaves, CutsNone, cut_all}
+use Rattle.ether_pcap.proofs.CaptureLocality.{unit_local, unit_alone, refusal_local}
 use Rattle.ether_pcap.proofs.CaptureSome.{at_end}
-use Rattle.ether_pcap.proofs.Copies.{copy_read, copy_source, copy_nothing, copy_all}
+use Rattle.ether_pcap.proofs.Copies.{copy_read, copy_source, copy_nothing, copy_all, unit_uncut}
+use Rattle.ether_pcap.proofs.PacketUnits.{same_after}
 use Rattle.ether_text.specs.OutputBuffer.{contents_of, WritesOut}
 use Rattle.ether_text.specs.declared.output_buffer.OutputBuffer.{OutputBuffer}
 use Rattle.ether_text.proofs.KnownBytesLemmas.{Appends-none, Appends-then, Appends-written_out}
+use Rattle.ether_capture.specs.Options.{SelectionValue}
 use Rattle.ether_capture.specs.Packets.{counted}
-use Rattle.ether_capture.specs.Copying.{IsCopied, IsCopy, CopyGoesOn}
-use Rattle.ether_capture.specs.CopyLoop.{CopyReached, CopiesUnit, IsCopyStart}
+use Rattle.ether_capture.specs.Copying.{IsCopied, CutsTo, IsCopyTo, CopyGoesOn, CopiesOn}
+use Rattle.ether_capture.specs.CopyLoop.{CopyReached, IsEdit, IsPacketOf, edited, TakesEdited, StopsUncut, StopsAtPacket, StopsAfter, OnNotCut, IsCopyStart}
+use Rattle.ether_capture.specs.declared.outcome.RunFault.{RunFault}
+use Rattle.ether_capture.specs.declared.outcome.RunFault.TheVariants as faults
 use Rattle.ether_capture.specs.declared.copy_loop.CopyLoop.{CopyLoop}
+use Rattle.ether_capture.specs.declared.copy_loop.Edit.{Edit}
+use Rattle.ether_capture.specs.declared.copy_loop.Edit.TheVariants as edits
 use Rattle.ether_capture.proofs.FrameLoopLemmas.{front_after, front_len}
 
 -- ---- copies
 
--- what is known of a copy
-pub is_copy : (select : Option Expression) (bytes copy : List ℕ) (kept : List PacketValue) (rest : List ℕ)
-    (fault : Option CaptureRefusal)
-    → Copies (IsCopied select) Beginning bytes copy kept rest fault → IsCopy select bytes copy rest fault
-is_copy select bytes copy kept rest fault copies =
-    let source = copy_source (IsCopied select) Beginning bytes copy kept rest fault copies in
-    record {
-      packets = source.packets;
-      kept = kept;
-      has = source.has;
-      selected = source.selected;
-      copies = copies;
-      is_read = λ some. copy_read (IsCopied select) Beginning bytes copy kept rest fault copies (inr (not_empty some));
-      nothing = λ none. (copy_nothing (IsCopied select) Beginning bytes copy kept rest fault copies refl none).1;
-      all = λ every.
-          copy_all Beginning bytes copy kept rest fault
-          (subst (λ (s : Option Expression). Copies (IsCopied s) Beginning bytes copy kept rest fault) every copies);
-    }
-  where
-    not_empty : (fault ≡ None) ⊎ (copy ≢ []) → copy ≢ []
-    not_empty (inl none) = λ e.
-        (copy_nothing (IsCopied select) Beginning bytes copy kept rest fault copies refl e).2 none
-    not_empty (inr some) = some
+none_cut : (cut : Bool) (to : PacketValue → ℕ) → cut ≡ false → CutsTo cut to → CutsNone to
+none_cut true to whole cuts = absurd cc
+none_cut false to whole cuts = λ p. let e = cuts p in omega (arith, e)
 
-module _ (select : Option Expression) where
+module _ (asked : SelectionValue) (to : PacketValue → ℕ) (cuts : CutsTo asked.cut to) where
+  abbrev pub Copied : Expectation → (bytes copy : List ℕ) → (kept : List PacketValue) → (rest : List ℕ)
+      → Option CopyFault → Type 0
+  Copied = Copies (IsCopied asked.select) to
+
+  abbrev pub GoesOn : (input copy : List ℕ) → (kept : List PacketValue) → Expectation → (buffered : List ℕ) → Type 0
+  GoesOn = CopyGoesOn asked.select to
+
+  -- what is known of a copy
+  pub is_copy : (bytes copy : List ℕ) (kept : List PacketValue) (rest : List ℕ) (fault : Option CopyFault)
+      → Copied Beginning bytes copy kept rest fault → IsCopyTo to asked bytes copy rest fault
+  is_copy bytes copy kept rest fault copies =
+      let source = copy_source (IsCopied asked.select) to Beginning bytes copy kept rest fault copies in
+      record {
+        packets = source.packets;
+        kept = kept;
+        has = source.has;
+        selected = source.selected;
+        copies = copies;
+        is_read = λ some.
+            copy_read (IsCopied asked.select) to Beginning bytes copy kept rest fault copies (inr (not_empty some));
+        nothing = λ none.
+            (copy_nothing (IsCopied asked.select) to Beginning bytes copy kept rest fault copies refl none).1;
+        all = λ every whole.
+            copy_all to (none_cut asked.cut to whole cuts) Beginning bytes copy kept rest fault
+            (subst (λ (s : Option Expression). Copies (IsCopied s) to Beginning bytes copy kept rest fault)
+            every copies);
+      }
+    where
+      not_empty : (fault ≡ None) ⊎ (copy ≢ []) → copy ≢ []
+      not_empty (inl none) = λ e.
+          (copy_nothing (IsCopied asked.select) to Beginning bytes copy kept rest fault copies refl e).2 none
+      not_empty (inr some) = some
+
   -- nothing is read
-  CopyGoesOn-start : CopyGoesOn select [] [] [] Beginning []
+  CopyGoesOn-start : GoesOn [] [] [] Beginning []
   CopyGoesOn-start later more others rest fault copies = copies
 
   -- more bytes are read
   CopyGoesOn-more : (input copy : List ℕ) (kept : List PacketValue) (x : Expectation) (buffered chunk : List ℕ)
-      → CopyGoesOn select input copy kept x buffered
-      → CopyGoesOn select (input ++ chunk) copy kept x (buffered ++ chunk)
+      → GoesOn input copy kept x buffered → GoesOn (input ++ chunk) copy kept x (buffered ++ chunk)
   CopyGoesOn-more input copy kept x buffered chunk go later more others rest fault copies =
-      subst (λ (l : List ℕ). Copies (IsCopied select) Beginning l (copy ++ more) (kept ++ others) rest fault)
+      subst (λ (l : List ℕ). Copied Beginning l (copy ++ more) (kept ++ others) rest fault)
       (sym (append_assoc input chunk later))
       (go (chunk ++ later) more others rest fault
-      (subst (λ (l : List ℕ). Copies (IsCopied select) x l more others rest fault)
-      (append_assoc buffered chunk later) copies))
+      (subst (λ (l : List ℕ). Copied x l more others rest fault) (append_assoc buffered chunk later) copies))
 
   -- what is left after a unit
   after : (y : Expectation) (buffered later more : List ℕ) (len : ℕ) (others : List PacketValue) (rest : List ℕ)
-      (fault : Option CaptureRefusal)
-      → len ≤ length buffered
-      → Copies (IsCopied select) y (drop len buffered ++ later) more others rest fault
-      → Copies (IsCopied select) y (drop len (buffered ++ later)) more others rest fault
+      (fault : Option CopyFault)
+      → len ≤ length buffered → Copied y (drop len buffered ++ later) more others rest fault
+      → Copied y (drop len (buffered ++ later)) more others rest fault
   after y buffered later more len others rest fault within copies =
-      subst (λ (l : List ℕ). Copies (IsCopied select) y l more others rest fault)
-      (sym (drop-append-le len buffered later within)) copies
-
-  -- the copy with a unit more
-  copy_after : (buffered later copy more : List ℕ) (len : ℕ) → len ≤ length buffered
-      → copy ++ (take len (buffered ++ later) ++ more) ≡ copy ++ take len buffered ++ more
-  copy_after buffered later copy more len within =
-      ap (λ (l : List ℕ). copy ++ (l ++ more)) (take-append-le len buffered later within)
-      ∙ sym (append_assoc copy (take len buffered) more)
+      subst (λ (l : List ℕ). Copied y l more others rest fault) (sym (drop-append-le len buffered later within)) copies
 
   -- a unit that is no packet is copied
   CopyGoesOn-unit : (input copy : List ℕ) (kept : List PacketValue) (x y : Expectation) (buffered : List ℕ) (len : ℕ)
-      → len ≤ length buffered → Begins buffered x len None y
-      → CopyGoesOn select input copy kept x buffered
-      → CopyGoesOn select input (copy ++ take len buffered) kept y (drop len buffered)
+      → len ≤ length buffered → Begins buffered x len None y → GoesOn input copy kept x buffered
+      → GoesOn input (copy ++ take len buffered) kept y (drop len buffered)
   CopyGoesOn-unit input copy kept x y buffered len within is go later more others rest fault copies =
-      subst (λ (l : List ℕ). Copies (IsCopied select) Beginning (input ++ later) l (kept ++ others) rest fault)
-      (copy_after buffered later copy more len within)
+      subst (λ (l : List ℕ). Copied Beginning (input ++ later) l (kept ++ others) rest fault)
+      (ap (λ (l : List ℕ). copy ++ (l ++ more)) (take-append-le len buffered later within)
+      ∙ sym (append_assoc copy (take len buffered) more))
       (go later (take len (buffered ++ later) ++ more) others rest fault
       (unit x y (buffered ++ later) more len others rest fault (unit_local buffered later x y len None is)
       (after y buffered later more len others rest fault within copies)))
 
   -- a packet is copied
-  CopyGoesOn-kept : (input copy : List ℕ) (kept : List PacketValue) (p : PacketValue) (x y : Expectation)
+  CopyGoesOn-kept : (input copy front : List ℕ) (kept : List PacketValue) (p : PacketValue) (x y : Expectation)
       (buffered : List ℕ) (len : ℕ)
-      → len ≤ length buffered → Begins buffered x len (Some p) y → IsCopied select p
-      → CopyGoesOn select input copy kept x buffered
-      → CopyGoesOn select input (copy ++ take len buffered) (kept ++ p ∷ []) y (drop len buffered)
-  CopyGoesOn-kept input copy kept p x y buffered len within is copied go later more others rest fault copies =
-      subst
-      (λ (l : List PacketValue).
-      Copies (IsCopied select) Beginning (input ++ later) (copy ++ take len buffered ++ more) l rest fault)
+      → len ≤ length buffered → Begins buffered x len (Some p) y → IsCopied asked.select p
+      → cut_unit x (length p.packet) (to p) (take len buffered) ≡ Some front → GoesOn input copy kept x buffered
+      → GoesOn input (copy ++ front) (kept ++ p ∷ []) y (drop len buffered)
+  CopyGoesOn-kept input copy front kept p x y buffered len within is copied fits go later more others rest fault
+      copies =
+      subst (λ (l : List PacketValue). Copied Beginning (input ++ later) ((copy ++ front) ++ more) l rest fault)
       (sym (append_assoc kept (p ∷ []) others))
-      (subst
-      (λ (l : List ℕ). Copies (IsCopied select) Beginning (input ++ later) l (kept ++ p ∷ others) rest fault)
-      (copy_after buffered later copy more len within)
-      (go later (take len (buffered ++ later) ++ more) (p ∷ others) rest fault
-      (keeps x y (buffered ++ later) more len p others rest fault (unit_local buffered later x y len (Some p) is) copied
+      (subst (λ (l : List ℕ). Copied Beginning (input ++ later) l (kept ++ p ∷ others) rest fault)
+      (sym (append_assoc copy front more))
+      (go later (front ++ more) (p ∷ others) rest fault
+      (keeps x y (buffered ++ later) front more len p others rest fault (unit_local buffered later x y len (Some p) is)
+      copied (same_fit fits)
       (after y buffered later more len others rest fault within copies))))
+    where
+      same_fit : cut_unit x (length p.packet) (to p) (take len buffered) ≡ Some front
+          → cut_unit x (length p.packet) (to p) (take len (buffered ++ later)) ≡ Some front
+      same_fit e = ap (cut_unit x (length p.packet) (to p)) (take-append-le len buffered later within) ∙ e
 
   -- a packet is left out
   CopyGoesOn-left : (input copy : List ℕ) (kept : List PacketValue) (p : PacketValue) (x y : Expectation)
       (buffered : List ℕ) (len : ℕ)
-      → len ≤ length buffered → Begins buffered x len (Some p) y → ¬ (IsCopied select p)
-      → CopyGoesOn select input copy kept x buffered
-      → CopyGoesOn select input copy kept y (drop len buffered)
+      → len ≤ length buffered → Begins buffered x len (Some p) y → ¬ (IsCopied asked.select p)
+      → GoesOn input copy kept x buffered → GoesOn input copy kept y (drop len buffered)
   CopyGoesOn-left input copy kept p x y buffered len within is not_copied go later more others rest fault copies =
       go later more others rest fault
       (leaves x y (buffered ++ later) more len p others rest fault (unit_local buffered later x y len (Some p) is)
@@ -119,23 +131,20 @@ module _ (select : Option Expression) where
       (after y buffered later more len others rest fault within copies))
 
   -- the copy ends
-  ended_copy : (bytes copy : List ℕ) (kept : List PacketValue) (rest : List ℕ) (fault : Option CaptureRefusal)
-      → Copies (IsCopied select) Beginning bytes (copy ++ []) (kept ++ []) rest fault
-      → Copies (IsCopied select) Beginning bytes copy kept rest fault
+  ended_copy : (bytes copy : List ℕ) (kept : List PacketValue) (rest : List ℕ) (fault : Option CopyFault)
+      → Copied Beginning bytes (copy ++ []) (kept ++ []) rest fault → Copied Beginning bytes copy kept rest fault
   ended_copy bytes copy kept rest fault copies =
-      subst (λ (l : List ℕ). Copies (IsCopied select) Beginning bytes l kept rest fault) (append-nil copy)
-      (subst (λ (l : List PacketValue). Copies (IsCopied select) Beginning bytes (copy ++ []) l rest fault)
-      (append-nil kept) copies)
+      subst (λ (l : List ℕ). Copied Beginning bytes l kept rest fault) (append-nil copy)
+      (subst (λ (l : List PacketValue). Copied Beginning bytes (copy ++ []) l rest fault) (append-nil kept) copies)
 
   -- a refusal that more bytes don't change
   pub copied_for_good : (input copy : List ℕ) (kept : List PacketValue) (x : Expectation) (buffered later : List ℕ)
       (r : CaptureRefusal)
-      → (buffered ≡ [] → ⊥)
-      → Refuses buffered x r → required_len r ≡ None → CopyGoesOn select input copy kept x buffered
-      → Copies (IsCopied select) Beginning (input ++ later) copy kept (buffered ++ later) (Some r)
+      → (buffered ≡ [] → ⊥) → Refuses buffered x r → required_len r ≡ None → GoesOn input copy kept x buffered
+      → Copied Beginning (input ++ later) copy kept (buffered ++ later) (Some (Refused r))
   copied_for_good input copy kept x buffered later r some is none go =
-      ended_copy (input ++ later) copy kept (buffered ++ later) (Some r)
-      (go later [] [] (buffered ++ later) (Some r)
+      ended_copy (input ++ later) copy kept (buffered ++ later) (Some (Refused r))
+      (go later [] [] (buffered ++ later) (Some (Refused r))
       (refused x (buffered ++ later) r (λ end. some (front buffered later end.1))
       (refusal_local buffered later x r is none)))
     where
@@ -143,52 +152,84 @@ module _ (select : Option Expression) where
       front [] ys e = refl
       front (b ∷ xs) ys e = absurd cc
 
+  -- a packet that can't be cut
+  pub copied_to_packet : (input copy : List ℕ) (kept : List PacketValue) (x : Expectation) (buffered later : List ℕ)
+      (len : ℕ) (p : PacketValue)
+      → len ≤ length buffered → Begins buffered x len (Some p) x → IsCopied asked.select p
+      → cut_unit x (length p.packet) (to p) (take len buffered) ≡ None → GoesOn input copy kept x buffered
+      → Copied Beginning (input ++ later) copy kept (buffered ++ later) (Some (NotCut p))
+  copied_to_packet input copy kept x buffered later len p within begins is uncut go =
+      ended_copy (input ++ later) copy kept (buffered ++ later) (Some (NotCut p))
+      (go later [] [] (buffered ++ later) (Some (NotCut p))
+      (not_cut x x (buffered ++ later) len p (unit_local buffered later x x len (Some p) begins) is
+      (ap (cut_unit x (length p.packet) (to p)) (take-append-le len buffered later within) ∙ uncut)))
+
   -- the end of a capture that has begun
   pub copied_to_end : (input copy : List ℕ) (kept : List PacketValue) (x : Expectation) → x ≢ Beginning
-      → CopyGoesOn select input copy kept x [] → Copies (IsCopied select) Beginning input copy kept [] None
+      → GoesOn input copy kept x [] → Copied Beginning input copy kept [] None
   copied_to_end input copy kept x begun go =
-      subst (λ (l : List ℕ). Copies (IsCopied select) Beginning l copy kept [] None) (append-nil input)
+      subst (λ (l : List ℕ). Copied Beginning l copy kept [] None) (append-nil input)
       (ended_copy (input ++ []) copy kept [] None (go [] [] [] [] None (ended x [] (begun, refl))))
 
   -- a refusal of all that is left
   pub copied_at_last : (input copy : List ℕ) (kept : List PacketValue) (x : Expectation) (buffered : List ℕ)
       (r : CaptureRefusal)
-      → ¬ (IsEnd x buffered)
-      → Refuses buffered x r → CopyGoesOn select input copy kept x buffered
-      → Copies (IsCopied select) Beginning (input ++ []) copy kept (buffered ++ []) (Some r)
+      → ¬ (IsEnd x buffered) → Refuses buffered x r → GoesOn input copy kept x buffered
+      → Copied Beginning (input ++ []) copy kept (buffered ++ []) (Some (Refused r))
   copied_at_last input copy kept x buffered r more is go =
-      ended_copy (input ++ []) copy kept (buffered ++ []) (Some r)
-      (go [] [] [] (buffered ++ []) (Some r)
-      (subst (λ (l : List ℕ). Copies (IsCopied select) x l [] [] l (Some r)) (sym (append-nil buffered))
+      ended_copy (input ++ []) copy kept (buffered ++ []) (Some (Refused r))
+      (go [] [] [] (buffered ++ []) (Some (Refused r))
+      (subst (λ (l : List ℕ). Copied x l [] [] l (Some (Refused r))) (sym (append-nil buffered))
       (refused x buffered r more is)))
 
   -- what is copied so far is a capture
   pub read_so_far : (input copy : List ℕ) (kept : List PacketValue) (x : Expectation) (buffered : List ℕ)
       (r : CaptureRefusal)
-      → Refuses buffered x r → CopyGoesOn select input copy kept x buffered → copy ≢ []
-      → HasPackets Beginning copy kept [] None
+      → Refuses buffered x r → GoesOn input copy kept x buffered → copy ≢ []
+      → HasPackets Beginning copy (cut_all to kept) [] None
   read_so_far input copy kept x buffered r is go some =
       elim (at_end x buffered) [
         | inl end ↦
-            let go2 = subst (λ (l : List ℕ). CopyGoesOn select input copy kept x l) end.1 go in
-            copy_read (IsCopied select) Beginning input copy kept [] None
+            let go2 = subst (λ (l : List ℕ). GoesOn input copy kept x l) end.1 go in
+            copy_read (IsCopied asked.select) to Beginning input copy kept [] None
             (copied_to_end input copy kept x end.0 go2) (inr some)
         | inr more ↦
-            copy_read (IsCopied select) Beginning (input ++ []) copy kept (buffered ++ []) (Some r)
+            copy_read (IsCopied asked.select) to Beginning (input ++ []) copy kept (buffered ++ []) (Some (Refused r))
             (copied_at_last input copy kept x buffered r more is go) (inr some)
       ]
 
+-- ---- one unit
+
+-- a packet that is copied as it is, or cut, is cut to as many bytes as is said
+cut_as_said : (asked : SelectionValue) (to : PacketValue → ℕ) (x : Expectation) (bytes : List ℕ) (p : PacketValue)
+    (edit : Edit) → CutsTo asked.cut to → IsEdit asked (Some p) edit → IsCopied asked.select p
+    → cut_unit x (length p.packet) (to p) bytes ≡ edited x bytes (Some p) edit
+cut_as_said asked to x bytes p edits.LeaveOut cuts is copied = absurd (is copied)
+cut_as_said asked to x bytes p edits.Copy cuts is copied =
+    unit_uncut to (none_cut asked.cut to is.1 cuts) x p bytes
+cut_as_said asked to x bytes p (edits.Cut n) cuts is copied =
+    let cuts2 = subst (λ (b : Bool). CutsTo b to) is.1 cuts in
+    ap (λ m. cut_unit x (length p.packet) m bytes) (cuts2 p n is.2)
+
+some_text : (a b : List ℕ) → Some a ≡ Some b → a ≡ b
+some_text a b e = ap (λ (o : Option (List ℕ)). unwrap_or o a) e
+
+some_none : (a : List ℕ) → Some a ≡ None → ⊥
+some_none a e = absurd cc
+
 -- ---- how far the run has come
 
-module _ {W : Type 0} (select : Option Expression) (contents : W → Option (List ℕ)) where
+module _ {W : Type 0} (asked : SelectionValue) (contents : W → Option (List ℕ)) where
   -- nothing is read
   pub CopyReached-start : (start : CopyLoop) (out : OutputBuffer W) → IsCopyStart start
-      → CopyReached select contents (contents_of contents out) [] [] start out
+      → CopyReached asked contents (contents_of contents out) [] [] start out
   CopyReached-start start out is = record {
     front = [];
     copy = [];
     kept = [];
-    parts = subst (λ (x : Expectation). CopyGoesOn select [] [] [] x []) (sym is.is_reader) (CopyGoesOn-start select);
+    parts = λ to cuts.
+        subst (λ (x : Expectation). CopyGoesOn asked.select to [] [] [] x []) (sym is.is_reader)
+        (CopyGoesOn-start asked to cuts);
     place = refl;
     is_offset = is.is_offset;
     written = Appends-none (contents_of contents out);
@@ -197,8 +238,8 @@ module _ {W : Type 0} (select : Option Expression) (contents : W → Option (Lis
   -- what waited is written out
   pub CopyReached-written_out : (held : Option (List ℕ)) (input buffered : List ℕ) (at : CopyLoop)
       (old new : OutputBuffer W)
-      → WritesOut contents old new → CopyReached select contents held input buffered at old
-      → CopyReached select contents held input buffered at new
+      → WritesOut contents old new → CopyReached asked contents held input buffered at old
+      → CopyReached asked contents held input buffered at new
   CopyReached-written_out held input buffered at old new drains so_far = record {
     front = so_far.front;
     copy = so_far.copy;
@@ -213,13 +254,14 @@ module _ {W : Type 0} (select : Option Expression) (contents : W → Option (Lis
 
   -- more bytes are read
   pub CopyReached-more : (held : Option (List ℕ)) (input buffered chunk : List ℕ) (at : CopyLoop) (out : OutputBuffer W)
-      → CopyReached select contents held input buffered at out
-      → CopyReached select contents held (input ++ chunk) (buffered ++ chunk) at out
+      → CopyReached asked contents held input buffered at out
+      → CopyReached asked contents held (input ++ chunk) (buffered ++ chunk) at out
   CopyReached-more held input buffered chunk at out so_far = record {
     front = so_far.front;
     copy = so_far.copy;
     kept = so_far.kept;
-    parts = CopyGoesOn-more select input so_far.copy so_far.kept at.reader buffered chunk so_far.parts;
+    parts = λ to cuts.
+        CopyGoesOn-more asked to cuts input so_far.copy so_far.kept at.reader buffered chunk (so_far.parts to cuts);
     place = ap (λ (l : List ℕ). l ++ chunk) so_far.place ∙ append_assoc so_far.front buffered chunk;
     is_offset = so_far.is_offset;
     written = so_far.written;
@@ -227,67 +269,227 @@ module _ {W : Type 0} (select : Option Expression) (contents : W → Option (Lis
 
   -- what was copied, with a unit more
   copied_more : (held : Option (List ℕ)) (input buffered : List ℕ) (old new : CopyLoop) (y : Expectation)
-      (from to : OutputBuffer W) (len : ℕ) (kept : List PacketValue)
+      (from to : OutputBuffer W) (len : ℕ) (copy : List ℕ) (kept : List PacketValue)
       → len ≤ length buffered
-      → (so_far : CopyReached select contents held input buffered old from)
-      → CopyGoesOn select input (so_far.copy ++ take len buffered) kept y (drop len buffered)
-      → Appends (contents_of contents from) (contents_of contents to) (take len buffered)
+      → (so_far : CopyReached asked contents held input buffered old from)
+      → CopiesOn asked input (so_far.copy ++ copy) kept y (drop len buffered)
+      → Appends (contents_of contents from) (contents_of contents to) copy
       → new.offset ≡ counted (old.offset + len) → new.reader ≡ y
-      → CopyReached select contents held input (drop len buffered) new to
-  copied_more held input buffered old new y from to len kept within so_far parts written offset reader = record {
+      → CopyReached asked contents held input (drop len buffered) new to
+  copied_more held input buffered old new y from to len copy kept within so_far parts written offset reader = record {
     front = so_far.front ++ take len buffered;
-    copy = so_far.copy ++ take len buffered;
+    copy = so_far.copy ++ copy;
     kept = kept;
     parts =
-        subst
-        (λ (x : Expectation). CopyGoesOn select input (so_far.copy ++ take len buffered) kept x (drop len buffered))
-        (sym reader) parts;
+        subst (λ (x : Expectation). CopiesOn asked input (so_far.copy ++ copy) kept x (drop len buffered)) (sym reader)
+        parts;
     place = front_after input so_far.front buffered len so_far.place;
     is_offset =
         let long = front_len so_far.front buffered len within in let b = so_far.is_offset in
         omega (arith, offset, b, long);
     written =
-        Appends-then held (contents_of contents from) (contents_of contents to) so_far.copy (take len buffered)
-        so_far.written written;
+        Appends-then held (contents_of contents from) (contents_of contents to) so_far.copy copy so_far.written written;
   }
+
+  -- a packet is taken that is copied
+  kept_taken : (held : Option (List ℕ)) (input buffered : List ℕ) (old new : CopyLoop) (y : Expectation)
+      (from to : OutputBuffer W) (len : ℕ) (p : PacketValue) (edit : Edit) (copy : List ℕ)
+      → len ≤ length buffered → Begins buffered old.reader len (Some p) y → IsEdit asked (Some p) edit
+      → IsCopied asked.select p → edited old.reader (take len buffered) (Some p) edit ≡ Some copy
+      → Appends (contents_of contents from) (contents_of contents to) copy
+      → new.offset ≡ counted (old.offset + len) → new.reader ≡ y
+      → CopyReached asked contents held input buffered old from
+      → CopyReached asked contents held input (drop len buffered) new to
+  kept_taken held input buffered old new y from to len p edit copy within begins is copied text written offset reader
+      so_far =
+      copied_more held input buffered old new y from to len copy (so_far.kept ++ p ∷ []) within so_far
+      (λ cut cuts.
+      CopyGoesOn-kept asked cut cuts input so_far.copy copy so_far.kept p old.reader y buffered len within begins copied
+      (cut_as_said asked cut old.reader (take len buffered) p edit cuts is copied ∙ text) (so_far.parts cut cuts))
+      written offset reader
+
+  -- a packet is taken that is left out
+  left_taken : (held : Option (List ℕ)) (input buffered : List ℕ) (old new : CopyLoop) (y : Expectation)
+      (from to : OutputBuffer W) (len : ℕ) (p : PacketValue) (copy : List ℕ)
+      → len ≤ length buffered → Begins buffered old.reader len (Some p) y → ¬ (IsCopied asked.select p)
+      → copy ≡ [] → Appends (contents_of contents from) (contents_of contents to) copy
+      → new.offset ≡ counted (old.offset + len) → new.reader ≡ y
+      → CopyReached asked contents held input buffered old from
+      → CopyReached asked contents held input (drop len buffered) new to
+  left_taken held input buffered old new y from to len p copy within begins is none written offset reader so_far =
+      let same : so_far.copy ++ copy ≡ so_far.copy =
+      ap (λ (l : List ℕ). so_far.copy ++ l) none ∙ append-nil so_far.copy in
+      copied_more held input buffered old new y from to len copy so_far.kept within so_far
+      (λ cut cuts.
+      subst (λ (l : List ℕ). CopyGoesOn asked.select cut input l so_far.kept y (drop len buffered)) (sym same)
+      (CopyGoesOn-left asked cut cuts input so_far.copy so_far.kept p old.reader y buffered len within begins is
+      (so_far.parts cut cuts)))
+      written offset reader
+
+  packet_taken : (held : Option (List ℕ)) (input buffered : List ℕ) (old new : CopyLoop) (y : Expectation)
+      (from to : OutputBuffer W) (len : ℕ) (p : PacketValue) (edit : Edit) (copy : List ℕ)
+      → len ≤ length buffered → Begins buffered old.reader len (Some p) y → IsEdit asked (Some p) edit
+      → edited old.reader (take len buffered) (Some p) edit ≡ Some copy
+      → Appends (contents_of contents from) (contents_of contents to) copy
+      → new.offset ≡ counted (old.offset + len) → new.reader ≡ y
+      → CopyReached asked contents held input buffered old from
+      → CopyReached asked contents held input (drop len buffered) new to
+  packet_taken held input buffered old new y from to len p edits.LeaveOut copy within begins is text written offset
+      reader so_far =
+      left_taken held input buffered old new y from to len p copy within begins is (sym (some_text [] copy text))
+      written
+      offset reader so_far
+  packet_taken held input buffered old new y from to len p edits.Copy copy within begins is text written offset reader
+      so_far =
+      kept_taken held input buffered old new y from to len p edits.Copy copy within begins is is.0 text written offset
+      reader so_far
+  packet_taken held input buffered old new y from to len p (edits.Cut n) copy within begins is text written offset
+      reader so_far =
+      kept_taken held input buffered old new y from to len p (edits.Cut n) copy within begins is is.0 text
+      written offset
+      reader so_far
 
   -- a unit is taken
   pub CopyReached-unit : (held : Option (List ℕ)) (input buffered : List ℕ) (old new : CopyLoop) (y : Expectation)
-      (from to : OutputBuffer W) (len : ℕ) (packet : Option PacketValue)
-      → len ≤ length buffered → Begins buffered old.reader len packet y
-      → CopiesUnit select contents buffered len packet (record old { reader = y }) from new to
-      → CopyReached select contents held input buffered old from
-      → CopyReached select contents held input (drop len buffered) new to
-  CopyReached-unit held input buffered old new y from to len None within begins takes so_far =
-      elim takes.written [
-        | inl copied ↦
-            copied_more held input buffered old new y from to len so_far.kept within so_far
-            (CopyGoesOn-unit select input so_far.copy so_far.kept old.reader y buffered len within begins so_far.parts)
-            copied.1 takes.is_offset takes.same_reader
-        | inr left ↦ absurd (left.0 tt)
-      ]
-  CopyReached-unit held input buffered old new y from to len (Some p) within begins takes so_far =
-      elim takes.written [
-        | inl copied ↦
-            copied_more held input buffered old new y from to len (so_far.kept ++ p ∷ []) within so_far
-            (CopyGoesOn-kept select input so_far.copy so_far.kept p old.reader y buffered len within begins copied.0
-            so_far.parts)
-            copied.1 takes.is_offset takes.same_reader
-        | inr left ↦ record {
-          front = so_far.front ++ take len buffered;
-          copy = so_far.copy;
-          kept = so_far.kept;
-          parts =
-              subst (λ (x : Expectation). CopyGoesOn select input so_far.copy so_far.kept x (drop len buffered))
-              (sym takes.same_reader)
-              (CopyGoesOn-left select input so_far.copy so_far.kept p old.reader y buffered len within begins left.0
-              so_far.parts);
-          place = front_after input so_far.front buffered len so_far.place;
-          is_offset =
-              let long = front_len so_far.front buffered len within in
-              let a = takes.is_offset in let b = so_far.is_offset in omega (arith, a, b, long);
-          written =
-              subst (λ (out : OutputBuffer W). Appends held (contents_of contents out) so_far.copy) (sym left.1)
-              so_far.written;
-        }
-      ]
+      (from to : OutputBuffer W) (len : ℕ) (packet : Option PacketValue) (edit : Edit)
+      → len ≤ length buffered → Begins buffered old.reader len packet y → IsEdit asked packet edit
+      → TakesEdited contents (edited y (take len buffered) packet edit) len (record old { reader = y }) from new to
+      → CopyReached asked contents held input buffered old from
+      → CopyReached asked contents held input (drop len buffered) new to
+  CopyReached-unit held input buffered old new y from to len None edit within begins is takes so_far =
+      let text = ap (edited y (take len buffered) None) (sym is) ∙ takes.is_copy in
+      let same : take len buffered ≡ takes.copy = some_text (take len buffered) takes.copy text in
+      copied_more held input buffered old new y from to len takes.copy so_far.kept within so_far
+      (λ cut cuts.
+      subst (λ (l : List ℕ). CopyGoesOn asked.select cut input (so_far.copy ++ l) so_far.kept y (drop len buffered))
+      same
+      (CopyGoesOn-unit asked cut cuts input so_far.copy so_far.kept old.reader y buffered len within begins
+      (so_far.parts cut cuts)))
+      takes.written takes.is_offset takes.same_reader
+  CopyReached-unit held input buffered old new y from to len (Some p) edit within begins is takes so_far =
+      let same = same_after buffered old.reader y len p begins in
+      packet_taken held input buffered old new y from to len p edit takes.copy within begins is
+      (subst (λ (z : Expectation). edited z (take len buffered) (Some p) edit ≡ Some takes.copy) same takes.is_copy)
+      takes.written takes.is_offset takes.same_reader so_far
+
+  -- a packet can't be cut
+  packet_stops : (held : Option (List ℕ)) (input buffered : List ℕ) (old : CopyLoop) (from to : OutputBuffer W)
+      (len : ℕ) (p : PacketValue) (edit : Edit) (offset : ℕ)
+      → Begins buffered old.reader len (Some p) old.reader → IsEdit asked (Some p) edit → IsCopied asked.select p
+      → edited old.reader (take len buffered) (Some p) edit ≡ None → offset ≡ old.offset → to ≡ from
+      → CopyReached asked contents held input buffered old from → StopsAtPacket asked contents held input offset to
+  packet_stops held input buffered old from to len p edit offset begins is copied none at same so_far = record {
+    front = so_far.front;
+    copy = so_far.copy;
+    kept = so_far.kept;
+    buffered = buffered;
+    expected = old.reader;
+    len = len;
+    packet = p;
+    parts = so_far.parts;
+    begins = begins;
+    copied = copied;
+    uncut = λ cut cuts. cut_as_said asked cut old.reader (take len buffered) p edit cuts is copied ∙ none;
+    place = so_far.place;
+    is_offset = at ∙ so_far.is_offset;
+    written =
+        subst (λ (out : OutputBuffer W). Appends held (contents_of contents out) so_far.copy) (sym same) so_far.written;
+  }
+
+  pub CopyReached-stopped : (held : Option (List ℕ)) (input buffered : List ℕ) (old : CopyLoop) (y : Expectation)
+      (from to : OutputBuffer W) (len : ℕ) (packet : Option PacketValue) (edit : Edit) (offset : ℕ)
+      → Begins buffered old.reader len packet y → IsEdit asked packet edit
+      → StopsUncut (edited y (take len buffered) packet edit) (record old { reader = y }) from offset to
+      → CopyReached asked contents held input buffered old from → StopsAtPacket asked contents held input offset to
+  CopyReached-stopped held input buffered old y from to len None edit offset begins is stops so_far =
+      absurd (some_none (take len buffered) (ap (edited y (take len buffered) None) (sym is) ∙ stops.uncut))
+  CopyReached-stopped held input buffered old y from to len (Some p) edits.LeaveOut offset begins is stops so_far =
+      absurd (some_none [] stops.uncut)
+  CopyReached-stopped held input buffered old y from to len (Some p) edits.Copy offset begins is stops so_far =
+      absurd (some_none (take len buffered) stops.uncut)
+  CopyReached-stopped held input buffered old y from to len (Some p) (edits.Cut n) offset begins is stops so_far =
+      let same = same_after buffered old.reader y len p begins in
+      packet_stops held input buffered old from to len p (edits.Cut n) offset
+      (subst (λ (z : Expectation). Begins buffered old.reader len (Some p) z) same begins) is is.0
+      (subst (λ (z : Expectation). edited z (take len buffered) (Some p) (edits.Cut n) ≡ None) same stops.uncut)
+      stops.is_offset stops.same_out so_far
+
+-- ---- the unit that is taken
+
+-- a unit that was read has the packet that is to be cut
+pub packet_of_unit : (asked : SelectionValue) (buffered : List ℕ) (x y : Expectation) (len : ℕ)
+    (packet : Option PacketValue) (edit : Edit) → len ≤ length buffered → Begins buffered x len packet y
+    → IsEdit asked packet edit → IsPacketOf y (take len buffered) packet edit
+packet_of_unit asked buffered x y len None edit within begins is =
+    subst (λ (e : Edit). IsPacketOf y (take len buffered) None e) (sym is) tt
+packet_of_unit asked buffered x y len (Some p) edits.LeaveOut within begins is = tt
+packet_of_unit asked buffered x y len (Some p) edits.Copy within begins is = tt
+packet_of_unit asked buffered x y len (Some p) (edits.Cut n) within begins is =
+    let front = take len buffered in
+    let long : length front ≡ len = length-take-le len buffered within in
+    let whole = subst (λ (l : List ℕ). Begins l x len (Some p) y) (sym (take-append-drop len buffered)) begins in
+    let alone = unit_alone front (drop len buffered) x y len (Some p) (omega (arith, long)) whole in
+    let same = same_after buffered x y len p begins in
+    subst (λ (z : Expectation). Begins front z (length front) (Some p) y) (sym same)
+    (subst (λ (k : ℕ). Begins front x k (Some p) y) (sym long) alone)
+
+-- it is the front of what was buffered
+pub unit_is : (bytes whole : List ℕ) (at len : ℕ) → drop at bytes ≡ drop at whole
+    → slice_range bytes at (at + len) ≡ take len (drop at whole)
+unit_is bytes whole at len same =
+    let n : at + len - at ≡ len = omega arith in
+    ap (λ k. take k (drop at bytes)) n ∙ ap (take len) same
+
+-- what is written for it
+pub unit_written : {W : Type 0} (contents : W → Option (List ℕ)) (asked : SelectionValue) (buffered bytes : List ℕ)
+    (y : Expectation) (len : ℕ) (packet : Option PacketValue) (edit : Edit) (old new : CopyLoop)
+    (from to : OutputBuffer W)
+    → len ≤ length buffered → bytes ≡ take len buffered
+    → TakesEdited contents (edited y bytes packet edit) (length bytes) old from new to
+    → TakesEdited contents (edited y (take len buffered) packet edit) len old from new to
+unit_written contents asked buffered bytes y len packet edit old new from to within is takes =
+    subst (λ (k : ℕ). TakesEdited contents (edited y (take len buffered) packet edit) k old from new to)
+    (length-take-le len buffered within)
+    (subst (λ (l : List ℕ). TakesEdited contents (edited y l packet edit) (length l) old from new to) is takes)
+
+-- .. nothing, if its packet can't be cut
+pub unit_uncuttable : {W : Type 0} (asked : SelectionValue) (contents : W → Option (List ℕ))
+    (whole bytes buffered : List ℕ) (x y : Expectation) (len : ℕ) (packet : Option PacketValue) (edit : Edit)
+    (first old : CopyLoop) (begin from to : OutputBuffer W) (fault : RunFault)
+    → bytes ≡ take len buffered → old.reader ≡ x → Begins buffered x len packet y → IsEdit asked packet edit
+    → IsPacketOf y bytes packet edit
+    → OnNotCut fault (λ offset. (p : Option PacketValue) → IsPacketOf y bytes p edit
+    → StopsUncut (edited y bytes p edit) (record old { reader = y }) from offset to)
+    → ((held : Option (List ℕ)) (input : List ℕ) → CopyReached asked contents held input whole first begin
+    → CopyReached asked contents held input buffered old from)
+    → OnNotCut fault (λ offset. StopsAfter asked contents whole first begin offset to)
+unit_uncuttable asked contents whole bytes buffered x y len packet edit first old begin from to (faults.NotCut offset)
+    is at begins edits of stops reached = λ held input so_far.
+    CopyReached-stopped asked contents held input buffered old y from to len packet edit offset
+    (subst (λ (z : Expectation). Begins buffered z len packet y) (sym at) begins) edits
+    (subst (λ (l : List ℕ). StopsUncut (edited y l packet edit) (record old { reader = y }) from offset to) is
+    (stops packet of))
+    (reached held input so_far)
+unit_uncuttable asked contents whole bytes buffered x y len packet edit first old begin from to (faults.Capture f)
+    is at begins edits of stops reached = tt
+unit_uncuttable asked contents whole bytes buffered x y len packet edit first old begin from to faults.Input
+    is at begins edits of stops reached = tt
+unit_uncuttable asked contents whole bytes buffered x y len packet edit first old begin from to faults.Output
+    is at begins edits of stops reached = tt
+unit_uncuttable asked contents whole bytes buffered x y len packet edit first old begin from to faults.Memory
+    is at begins edits of stops reached = tt
+
+-- what is so of a fault is so of the same one
+pub err_is : {A : Type 0} (r : Result A RunFault) (fault : RunFault) (P : RunFault → Type 0)
+    → IsErrAnd r (λ other. other ≡ fault) → P fault → IfErr r P
+err_is (Ok a) fault P is p = tt
+err_is (Err other) fault P is p = subst P (sym is) p
+
+-- a slice is as long as it was once a part of it was written
+pub put_len : (a k : ℕ) (xs ys : List ℕ) → a + k ≤ length xs → length ys ≡ k → length (put_mid a k xs ys) ≡ length xs
+put_len a k xs ys fits is =
+    let first = length-append (take a xs) (ys ++ post_of a k xs) in
+    let second = length-append ys (post_of a k xs) in
+    let t = length-take-le a xs (omega (arith, fits)) in
+    let d : length (post_of a k xs) ≡ length (drop a xs) - k = length-drop k (drop a xs) in
+    first ∙ omega (arith, fits, is, second, t, d, length-drop a xs)

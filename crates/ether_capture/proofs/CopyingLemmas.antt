@@ -1,10 +1,10 @@
 -- What a run that copies has read and written, one read after another.
 use Rattle.std.proofs.Common.{◌≡◌, ◌≢◌, ℕ, ◌<◌, List, [], ◌++◌, drop, true, Option, Some, None, unwrap_or, Result, Ok, Err, IsErrAnd, refl, sym, ap, subst, ◌∙◌, append_assoc}
 use Rattle.std.specs.Io.KnownBytes.{Consumes, IsAtEnd, Keeps}
-use Rattle.ether_filter.specs.Expressions.{Expression}
 use Rattle.ether_pcap.specs.Capture.{PacketValue, Beginning, CaptureRefusal, Refuses, required_len, IsEnd}
 use Rattle.ether_pcap.specs.CaptureViews.{capture_refusal_view}
-use Rattle.ether_pcap.specs.Copies.{Copies}
+use Rattle.ether_pcap.proofs.CaptureLengths.{unit_within}
+use Rattle.ether_pcap.specs.Copies.{Refused, NotCut, Copies}
 use Rattle.ether_pcap.specs.declared.capture_error.CaptureError.{CaptureError}
 use Rattle.ether_text.specs.OutputBuffer.{contents_of, WritesOut}
 use Rattle.ether_text.specs.declared.output_buffer.OutputBuffer.{OutputBuffer}
@@ -13,28 +13,29 @@ use Rattle.ether_text.specs.declared.verdict.Verdict.TheVariants.{AllAccepted}
 use Rattle.ether_text.proofs.KnownBytesLemmas.{Consumes-kept}
 use Rattle.ether_text.specs.Run.{IsLeft, BreaksOffAfter}
 use Rattle.ether_text.proofs.RunLemmas.{IsLeft-left_of, IsLeft-end, answers_flushed, stops_flushed, breaks_flushed}
-use Rattle.ether_capture.specs.Copying.{IsCopied, CopyGoesOn, CopiesToUnit, HasCopied}
-use Rattle.ether_capture.specs.CopyLoop.{CopyReached, CopiesUnits, CopyLeavesRest}
+use Rattle.ether_capture.specs.Options.{SelectionValue}
+use Rattle.ether_capture.specs.Copying.{IsCopied, CutsTo, CopyGoesOn, CopiesToUnit, HasCopied}
+use Rattle.ether_capture.specs.CopyLoop.{CopyReached, CopiesUnits, CopyLeavesRest, OnNotCut, StopsAtPacket, StopsAfter, IsCopyFault}
 use Rattle.ether_capture.specs.Run.{NeedsMemory}
 use Rattle.ether_capture.specs.declared.outcome.RunFault.{RunFault}
-use Rattle.ether_capture.specs.declared.outcome.RunFault.TheVariants.{Capture, Input, Output, Memory}
+use Rattle.ether_capture.specs.declared.outcome.RunFault.TheVariants.{Capture, NotCut as Uncut, Input, Output, Memory}
 use Rattle.ether_capture.specs.declared.copy_loop.CopyLoop.{CopyLoop}
-use Rattle.ether_capture.proofs.CopyLoopLemmas.{is_copy, copied_for_good, copied_to_end, copied_at_last, read_so_far}
+use Rattle.ether_capture.proofs.CopyLoopLemmas.{is_copy, copied_for_good, copied_to_packet, copied_to_end, copied_at_last, read_so_far}
 use Rattle.ether_capture.proofs.RunLemmas.{refused_nothing}
 
-module _ {W : Type 0} (select : Option Expression) (contents : W → Option (List ℕ)) where
+module _ {W : Type 0} (asked : SelectionValue) (contents : W → Option (List ℕ)) where
   -- the units of what was buffered are taken
   pub units_left : (buffered bytes left : List ℕ) (old new : CopyLoop) (from to : OutputBuffer W) (n : ℕ)
       (error : CaptureError)
-      → bytes ≡ buffered → left ≡ drop n buffered → CopiesUnits select contents bytes old from n error new to
-      → CopyLeavesRest select contents buffered old from left error new to
+      → bytes ≡ buffered → left ≡ drop n buffered → CopiesUnits asked contents bytes old from n error new to
+      → CopyLeavesRest asked contents buffered old from left error new to
   units_left buffered bytes left old new from to n error same is takes =
       let e : drop n bytes ≡ left = ap (drop n) same ∙ sym is in
       record {
         reached = λ held input so_far.
-            subst (λ (l : List ℕ). CopyReached select contents held input l new to) e
+            subst (λ (l : List ℕ). CopyReached asked contents held input l new to) e
             (takes.reached held input
-            (subst (λ (l : List ℕ). CopyReached select contents held input l old from) (sym same) so_far));
+            (subst (λ (l : List ℕ). CopyReached asked contents held input l old from) (sym same) so_far));
         refused = subst (λ (l : List ℕ). Refuses l new.reader (capture_refusal_view error)) e takes.refused;
       }
 
@@ -43,13 +44,14 @@ module _ {W : Type 0} (select : Option Expression) (contents : W → Option (Lis
         (fault : RunFault)
         → fault ≡ Capture (record { offset = at.offset; error = error }) → Consumes before after input
         → IsLeft after left
-        → ((copy : List ℕ) (kept : List PacketValue) → CopyGoesOn select input copy kept at.reader buffered
-        → Copies (IsCopied select) Beginning (input ++ left) copy kept (buffered ++ left)
-        (Some (capture_refusal_view error)))
-        → CopyReached select contents held input buffered at out
-        → HasCopied select before after held (contents_of contents out) (Err fault)
+        → ((to : PacketValue → ℕ) → CutsTo asked.cut to → (copy : List ℕ) (kept : List PacketValue)
+        → CopyGoesOn asked.select to input copy kept at.reader buffered
+        → Copies (IsCopied asked.select) to Beginning (input ++ left) copy kept (buffered ++ left)
+        (Some (Refused (capture_refusal_view error))))
+        → CopyReached asked contents held input buffered at out
+        → HasCopied asked before after held (contents_of contents out) (Err fault)
     stops input buffered left at out error fault is read is_left copies so_far =
-        subst (λ (f : RunFault). HasCopied select before after held (contents_of contents out) (Err f)) (sym is)
+        subst (λ (f : RunFault). HasCopied asked before after held (contents_of contents out) (Err f)) (sym is)
         (record {
           taken = input;
           left = left;
@@ -60,8 +62,10 @@ module _ {W : Type 0} (select : Option Expression) (contents : W → Option (Lis
               record {
                 front = so_far.front;
                 rest = buffered ++ left;
-                is_copy = is_copy select (input ++ left) so_far.copy so_far.kept (buffered ++ left)
-                    (Some (capture_refusal_view error)) (copies so_far.copy so_far.kept so_far.parts);
+                is_copy = λ to cuts.
+                    is_copy asked to cuts (input ++ left) so_far.copy so_far.kept (buffered ++ left)
+                    (Some (Refused (capture_refusal_view error)))
+                    (copies to cuts so_far.copy so_far.kept (so_far.parts to cuts));
                 place = ap (λ (l : List ℕ). l ++ left) so_far.place ∙ append_assoc so_far.front buffered left;
                 is_offset = so_far.is_offset;
               };
@@ -73,12 +77,13 @@ module _ {W : Type 0} (select : Option Expression) (contents : W → Option (Lis
         (fault : RunFault)
         → fault ≡ Capture (record { offset = at.offset; error = error }) → Consumes before after input
         → Refuses buffered at.reader (capture_refusal_view error) → required_len (capture_refusal_view error) ≡ None
-        → CopyReached select contents held input buffered at out
-        → HasCopied select before after held (contents_of contents out) (Err fault)
+        → CopyReached asked contents held input buffered at out
+        → HasCopied asked before after held (contents_of contents out) (Err fault)
     stopped_for_good input buffered at out error fault is read refused none so_far =
         let left : List ℕ = unwrap_or after [] in
         stops input buffered left at out error fault is read (IsLeft-left_of after)
-        (λ copy kept go. copied_for_good select input copy kept at.reader buffered left (capture_refusal_view error)
+        (λ to cuts copy kept go.
+        copied_for_good asked to cuts input copy kept at.reader buffered left (capture_refusal_view error)
         (λ e. refused_nothing buffered at.reader (capture_refusal_view error) e refused none) refused none go) so_far
 
     -- the capture ends within a unit
@@ -86,19 +91,19 @@ module _ {W : Type 0} (select : Option Expression) (contents : W → Option (Lis
         (fault : RunFault)
         → fault ≡ Capture (record { offset = at.offset; error = error }) → Consumes before after input → IsAtEnd after
         → ¬ (IsEnd at.reader buffered) → Refuses buffered at.reader (capture_refusal_view error)
-        → CopyReached select contents held input buffered at out
-        → HasCopied select before after held (contents_of contents out) (Err fault)
+        → CopyReached asked contents held input buffered at out
+        → HasCopied asked before after held (contents_of contents out) (Err fault)
     stopped_at_end input buffered at out error fault is read end more refused so_far =
         stops input buffered [] at out error fault is read (IsLeft-end after end)
-        (λ copy kept go.
-        copied_at_last select input copy kept at.reader buffered (capture_refusal_view error) more refused go)
+        (λ to cuts copy kept go.
+        copied_at_last asked to cuts input copy kept at.reader buffered (capture_refusal_view error) more refused go)
         so_far
 
     -- all is copied
     pub finished : (input buffered : List ℕ) (at : CopyLoop) (out : OutputBuffer W)
         → Consumes before after input → IsAtEnd after → IsEnd at.reader buffered
-        → CopyReached select contents held input buffered at out
-        → HasCopied select before after held (contents_of contents out) (Ok AllAccepted)
+        → CopyReached asked contents held input buffered at out
+        → HasCopied asked before after held (contents_of contents out) (Ok AllAccepted)
     finished input buffered at out read end over so_far = record {
       input = input;
       text = so_far.copy;
@@ -107,10 +112,11 @@ module _ {W : Type 0} (select : Option Expression) (contents : W → Option (Lis
       at_end = end;
       answered =
           record {
-            is_copy = is_copy select input so_far.copy so_far.kept [] None
-                (copied_to_end select input so_far.copy so_far.kept at.reader over.0
-                (subst (λ (l : List ℕ). CopyGoesOn select input so_far.copy so_far.kept at.reader l) over.1
-                so_far.parts));
+            is_copy = λ to cuts.
+                is_copy asked to cuts input so_far.copy so_far.kept [] None
+                (copied_to_end asked to cuts input so_far.copy so_far.kept at.reader over.0
+                (subst (λ (l : List ℕ). CopyGoesOn asked.select to input so_far.copy so_far.kept at.reader l) over.1
+                (so_far.parts to cuts)));
             accepted = refl;
           };
       is_verdict = refl;
@@ -121,8 +127,8 @@ module _ {W : Type 0} (select : Option Expression) (contents : W → Option (Lis
     breaks_off : (Needs : Option ℕ → Type 0) (input buffered : List ℕ) (at : CopyLoop) (out : OutputBuffer W)
         (reason : CaptureRefusal)
         → Consumes before after input → Refuses buffered at.reader reason → Needs (required_len reason)
-        → CopyReached select contents held input buffered at out
-        → BreaksOffAfter (CopiesToUnit Needs select) before after held (contents_of contents out)
+        → CopyReached asked contents held input buffered at out
+        → BreaksOffAfter (CopiesToUnit Needs asked) before after held (contents_of contents out)
     breaks_off Needs input buffered at out reason read refused unfinished so_far = record {
       taken = input;
       text = so_far.copy;
@@ -136,21 +142,75 @@ module _ {W : Type 0} (select : Option Expression) (contents : W → Option (Lis
             parts = so_far.parts;
             begun = refused;
             unfinished = unfinished;
-            is_read = read_so_far select input so_far.copy so_far.kept at.reader buffered reason refused so_far.parts;
+            is_read = λ some to cuts.
+                read_so_far asked to cuts input so_far.copy so_far.kept at.reader buffered reason refused
+                (so_far.parts to cuts) some;
           };
       written = so_far.written;
     }
+
+    -- a packet can't be cut
+    stopped_at_packet : (input : List ℕ) (offset : ℕ) (out : OutputBuffer W) → Consumes before after input
+        → StopsAtPacket asked contents held input offset out
+        → HasCopied asked before after held (contents_of contents out) (Err (Uncut offset))
+    stopped_at_packet input offset out read s =
+        let left : List ℕ = unwrap_or after [] in
+        record {
+          taken = input;
+          left = left;
+          text = s.copy;
+          read = read;
+          is_left = IsLeft-left_of after;
+          stops = (
+            s.packet,
+            record {
+              front = s.front;
+              rest = s.buffered ++ left;
+              is_copy = λ to cuts.
+                  is_copy asked to cuts (input ++ left) s.copy s.kept (s.buffered ++ left) (Some (NotCut s.packet))
+                  (copied_to_packet asked to cuts input s.copy s.kept s.expected s.buffered left s.len s.packet
+                  (unit_within s.buffered s.expected s.expected s.len (Some s.packet) s.begins) s.begins s.copied
+                  (s.uncut to cuts) (s.parts to cuts));
+              place = ap (λ (l : List ℕ). l ++ left) s.place ∙ append_assoc s.front s.buffered left;
+              is_offset = s.is_offset;
+            },
+          );
+          written = s.written;
+        }
+
+    -- .. or the writer fails
+    stopped_copying : (fault : RunFault) (input buffered : List ℕ) (old : CopyLoop) (from to : OutputBuffer W)
+        → IsCopyFault fault → OnNotCut fault (λ offset. StopsAfter asked contents buffered old from offset to)
+        → Consumes before after input → CopyReached asked contents held input buffered old from
+        → HasCopied asked before after held (contents_of contents to) (Err fault)
+    stopped_copying (Capture fault) input buffered old from to is stops read so_far = absurd is
+    stopped_copying (Uncut offset) input buffered old from to is stops read so_far =
+        stopped_at_packet input offset to read (stops held input so_far)
+    stopped_copying Input input buffered old from to is stops read so_far = absurd is
+    stopped_copying Output input buffered old from to is stops read so_far = tt
+    stopped_copying Memory input buffered old from to is stops read so_far = absurd is
+
+    pub stopped_with : (r : Result Verdict RunFault) (fault : RunFault) (input buffered : List ℕ) (old : CopyLoop)
+        (from to : OutputBuffer W)
+        → IsErrAnd r (λ other. other ≡ fault) → IsCopyFault fault
+        → OnNotCut fault (λ offset. StopsAfter asked contents buffered old from offset to)
+        → Consumes before after input → CopyReached asked contents held input buffered old from
+        → HasCopied asked before after held (contents_of contents to) r
+    stopped_with (Ok verdict) fault input buffered old from to is of stops read so_far = absurd is
+    stopped_with (Err other) fault input buffered old from to is of stops read so_far =
+        subst (λ (f : RunFault). HasCopied asked before after held (contents_of contents to) (Err f)) (sym is)
+        (stopped_copying fault input buffered old from to of stops read so_far)
 
     -- a read fails
     pub broken_off : (mid : Option (List ℕ)) (r : Result Verdict RunFault) (input buffered : List ℕ) (at : CopyLoop)
         (out : OutputBuffer W) (reason : CaptureRefusal)
         → Consumes before mid input → Keeps mid after → IsErrAnd r (λ fault. fault ≡ Input)
         → Refuses buffered at.reader reason → required_len reason ≢ None
-        → CopyReached select contents held input buffered at out
-        → HasCopied select before after held (contents_of contents out) r
+        → CopyReached asked contents held input buffered at out
+        → HasCopied asked before after held (contents_of contents out) r
     broken_off mid (Ok verdict) input buffered at out reason read kept is refused needed so_far = absurd is
     broken_off mid (Err fault) input buffered at out reason read kept is refused needed so_far =
-        subst (λ (f : RunFault). HasCopied select before after held (contents_of contents out) (Err f)) (sym is)
+        subst (λ (f : RunFault). HasCopied asked before after held (contents_of contents out) (Err f)) (sym is)
         (breaks_off (λ n. n ≢ None) input buffered at out reason (Consumes-kept before mid after input read kept)
         refused needed so_far)
 
@@ -159,32 +219,34 @@ module _ {W : Type 0} (select : Option Expression) (contents : W → Option (Lis
         (reason : CaptureRefusal) (n : ℕ)
         → IsErrAnd r (λ fault. fault ≡ Memory) → Consumes before after input → Refuses buffered at.reader reason
         → required_len reason ≡ Some n → 65536 < n
-        → CopyReached select contents held input buffered at out
-        → HasCopied select before after held (contents_of contents out) r
+        → CopyReached asked contents held input buffered at out
+        → HasCopied asked before after held (contents_of contents out) r
     without_memory (Ok verdict) input buffered at out reason n is read refused needs large so_far = absurd is
     without_memory (Err fault) input buffered at out reason n is read refused needs large so_far =
-        subst (λ (f : RunFault). HasCopied select before after held (contents_of contents out) (Err f)) (sym is)
+        subst (λ (f : RunFault). HasCopied asked before after held (contents_of contents out) (Err f)) (sym is)
         (breaks_off NeedsMemory input buffered at out reason read refused (subst NeedsMemory (sym needs) large) so_far)
 
 -- all that waited is passed to the writer
-pub HasCopied-flushed : {W : Type 0} (select : Option Expression) (contents : W → Option (List ℕ))
+pub HasCopied-flushed : {W : Type 0} (asked : SelectionValue) (contents : W → Option (List ℕ))
     (before after held : Option (List ℕ)) (from to : OutputBuffer W) (r : Result Verdict RunFault)
-    → WritesOut contents from to → HasCopied select before after held (contents_of contents from) r
-    → HasCopied select before after held (contents to.writer.now) r
-HasCopied-flushed select contents before after held from to (Ok verdict) drains h =
+    → WritesOut contents from to → HasCopied asked before after held (contents_of contents from) r
+    → HasCopied asked before after held (contents to.writer.now) r
+HasCopied-flushed asked contents before after held from to (Ok verdict) drains h =
     answers_flushed contents before after held from to drains verdict h
-HasCopied-flushed select contents before after held from to (Err (Capture fault)) drains h =
+HasCopied-flushed asked contents before after held from to (Err (Capture fault)) drains h =
     stops_flushed contents before after held from to drains h
-HasCopied-flushed select contents before after held from to (Err Input) drains h =
+HasCopied-flushed asked contents before after held from to (Err (Uncut offset)) drains h =
+    stops_flushed contents before after held from to drains h
+HasCopied-flushed asked contents before after held from to (Err Input) drains h =
     breaks_flushed contents before after held from to drains h
-HasCopied-flushed select contents before after held from to (Err Output) drains h = tt
-HasCopied-flushed select contents before after held from to (Err Memory) drains h =
+HasCopied-flushed asked contents before after held from to (Err Output) drains h = tt
+HasCopied-flushed asked contents before after held from to (Err Memory) drains h =
     breaks_flushed contents before after held from to drains h
 
 -- what is said of known bytes is said of the same bytes
-pub HasCopied-same : (select : Option Expression) (r : Result Verdict RunFault)
+pub HasCopied-same : (asked : SelectionValue) (r : Result Verdict RunFault)
     (before after held holds before' after' held' holds' : Option (List ℕ))
-    → before ≡ before' → after ≡ after' → held ≡ held' → holds ≡ holds' → HasCopied select before after held holds r
-    → HasCopied select before' after' held' holds' r
-HasCopied-same select r before after held holds before' after' held' holds' e f g h =
-    subst (λ (t : Type 0). t) (λ i. HasCopied select (e i) (f i) (g i) (h i) r)
+    → before ≡ before' → after ≡ after' → held ≡ held' → holds ≡ holds' → HasCopied asked before after held holds r
+    → HasCopied asked before' after' held' holds' r
+HasCopied-same asked r before after held holds before' after' held' holds' e f g h =
+    subst (λ (t : Type 0). t) (λ i. HasCopied asked (e i) (f i) (g i) (h i) r)

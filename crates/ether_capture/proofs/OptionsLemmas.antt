@@ -1,11 +1,11 @@
 -- What words ask for, one after the other.
-use Rattle.std.proofs.Common.{◌≡◌, ◌≢◌, ℕ, List, [], ◌∷◌, codes, Bool, true, false, ◌&&◌, Option, Some, None, Result, Ok, Err, IfOk, IfErr, OnOk, refl, sym, ap, subst, ◌∙◌, arith}
+use Rattle.std.proofs.Common.{◌≡◌, ◌≢◌, ℕ, List, [], ◌∷◌, codes, true, false, Option, Some, None, Result, Ok, Err, IfOk, IfErr, OnOk, refl, sym, ap, subst, ◌∙◌, arith}
 use Rattle.std.specs.Prelude.{◌↔◌, map, String, string_bytes}
 use Rattle.std.specs.Option.{option_map, is_none}
 use Rattle.std.specs.Vec.Iter.{into_iter_steps}
 use Rattle.std.specs.declared.vec.IntoIter.{IntoIter}
 use Rattle.ether_text.proofs.ArgumentsLemmas.{words_end}
-use Rattle.ether_capture.specs.Options.{AskedValue, nothing_asked, Asks, no_word, file, plain, write, select, IsName, IsWord, AskSame, words_left, IsRequestOf, OptionsAsk, lines, copy, RequestValue, NamesRequest, help, version, options, RefusesAsked, RefusesOptions, RefusesWords, request_view}
+use Rattle.ether_capture.specs.Options.{AskedValue, nothing_asked, Asks, no_word, file, plain, write, cut, select, IsName, IsWord, AskSame, words_left, clashes, IsRequestOf, OptionsAsk, lines, copy, RequestValue, NamesRequest, help, version, options, RefusesAsked, RefusesOptions, RefusesWords, request_view}
 use Rattle.ether_capture.specs.declared.options.Request.{Request}
 use Rattle.ether_capture.specs.declared.options.RequestError.{RequestError}
 use Rattle.ether_capture.specs.declared.options.RequestError.TheVariants as reasons
@@ -26,6 +26,7 @@ abbrev pub Follows : Word → AskedValue → (word : List ℕ) → (words : List
 Follows kinds.Name a word words c = (words ≡ []) × (c ≡ record a { file = Some word })
 Follows kinds.Plain a word words c = (a.plain ≡ false) × Asks (record a { plain = true }) words c
 Follows kinds.Write a word words c = (a.write ≡ false) × Asks (record a { write = true }) words c
+Follows kinds.Cut a word words c = (a.cut ≡ false) × Asks (record a { cut = true }) words c
 Follows kinds.Select a word words c =
     (text : List ℕ) × (others : List (List ℕ)) × (words ≡ text ∷ others) × (a.text ≡ None)
     × Asks (record a { text = Some text }) others c
@@ -41,6 +42,7 @@ follows_file : (kind : Word) (a : AskedValue) (name : List ℕ) → IsName name 
 follows_file kinds.Name a name named is = (refl, refl)
 follows_file kinds.Plain a name named is = absurd (no_hyphen name (codes "-plain") named is)
 follows_file kinds.Write a name named is = absurd (no_hyphen name (codes "-write") named is)
+follows_file kinds.Cut a name named is = absurd (no_hyphen name (codes "-cut-to-headers") named is)
 follows_file kinds.Select a name named is = absurd (no_hyphen name (codes "-select") named is)
 follows_file kinds.Help a name named is = absurd (no_hyphen name (codes "-help") named is)
 follows_file kinds.Version a name named is = absurd (no_hyphen name (codes "-version") named is)
@@ -54,6 +56,7 @@ follows_plain : (kind : Word) (a c : AskedValue) (words : List (List ℕ)) → I
 follows_plain kinds.Name a c words is rest = absurd (is refl)
 follows_plain kinds.Plain a c words is rest = rest
 follows_plain kinds.Write a c words is rest = absurd (differ 112 119 _ _ refl refl (λ e. omega (arith, e)) is)
+follows_plain kinds.Cut a c words is rest = absurd (differ 112 99 _ _ refl refl (λ e. omega (arith, e)) is)
 follows_plain kinds.Select a c words is rest = absurd (differ 112 115 _ _ refl refl (λ e. omega (arith, e)) is)
 follows_plain kinds.Help a c words is rest = absurd (differ 112 104 _ _ refl refl (λ e. omega (arith, e)) is)
 follows_plain kinds.Version a c words is rest = absurd (differ 112 118 _ _ refl refl (λ e. omega (arith, e)) is)
@@ -64,10 +67,22 @@ follows_write : (kind : Word) (a c : AskedValue) (words : List (List ℕ)) → I
 follows_write kinds.Name a c words is rest = absurd (is refl)
 follows_write kinds.Plain a c words is rest = absurd (differ 119 112 _ _ refl refl (λ e. omega (arith, e)) is)
 follows_write kinds.Write a c words is rest = rest
+follows_write kinds.Cut a c words is rest = absurd (differ 119 99 _ _ refl refl (λ e. omega (arith, e)) is)
 follows_write kinds.Select a c words is rest = absurd (differ 119 115 _ _ refl refl (λ e. omega (arith, e)) is)
 follows_write kinds.Help a c words is rest = absurd (differ 119 104 _ _ refl refl (λ e. omega (arith, e)) is)
 follows_write kinds.Version a c words is rest = absurd (differ 119 118 _ _ refl refl (λ e. omega (arith, e)) is)
 follows_write kinds.Unknown a c words is rest = absurd (is.2 refl)
+
+follows_cut : (kind : Word) (a c : AskedValue) (words : List (List ℕ)) → IsWord (codes "--cut-to-headers") kind
+    → (a.cut ≡ false) × Asks (record a { cut = true }) words c → Follows kind a (codes "--cut-to-headers") words c
+follows_cut kinds.Name a c words is rest = absurd (is refl)
+follows_cut kinds.Plain a c words is rest = absurd (differ 99 112 _ _ refl refl (λ e. omega (arith, e)) is)
+follows_cut kinds.Write a c words is rest = absurd (differ 99 119 _ _ refl refl (λ e. omega (arith, e)) is)
+follows_cut kinds.Cut a c words is rest = rest
+follows_cut kinds.Select a c words is rest = absurd (differ 99 115 _ _ refl refl (λ e. omega (arith, e)) is)
+follows_cut kinds.Help a c words is rest = absurd (differ 99 104 _ _ refl refl (λ e. omega (arith, e)) is)
+follows_cut kinds.Version a c words is rest = absurd (differ 99 118 _ _ refl refl (λ e. omega (arith, e)) is)
+follows_cut kinds.Unknown a c words is rest = absurd (is.3 refl)
 
 follows_select : (kind : Word) (a c : AskedValue) (text : List ℕ) (words : List (List ℕ))
     → IsWord (codes "--select") kind → (a.text ≡ None) × Asks (record a { text = Some text }) words c
@@ -75,16 +90,18 @@ follows_select : (kind : Word) (a c : AskedValue) (text : List ℕ) (words : Lis
 follows_select kinds.Name a c text words is rest = absurd (is refl)
 follows_select kinds.Plain a c text words is rest = absurd (differ 115 112 _ _ refl refl (λ e. omega (arith, e)) is)
 follows_select kinds.Write a c text words is rest = absurd (differ 115 119 _ _ refl refl (λ e. omega (arith, e)) is)
+follows_select kinds.Cut a c text words is rest = absurd (differ 115 99 _ _ refl refl (λ e. omega (arith, e)) is)
 follows_select kinds.Select a c text words is rest = (text, words, refl, rest.0, rest.1)
 follows_select kinds.Help a c text words is rest = absurd (differ 115 104 _ _ refl refl (λ e. omega (arith, e)) is)
 follows_select kinds.Version a c text words is rest = absurd (differ 115 118 _ _ refl refl (λ e. omega (arith, e)) is)
-follows_select kinds.Unknown a c text words is rest = absurd (is.3 refl)
+follows_select kinds.Unknown a c text words is rest = absurd (is.4 refl)
 
 pub follows : (kind : Word) (a c : AskedValue) (word : List ℕ) (words : List (List ℕ)) → IsWord word kind
     → Asks a (word ∷ words) c → Follows kind a word words c
 follows kind a c word words is (file _ _ named) = follows_file kind a word named is
 follows kind a c word words is (plain _ _ _ first asks) = follows_plain kind a c words is (first, asks)
 follows kind a c word words is (write _ _ _ first asks) = follows_write kind a c words is (first, asks)
+follows kind a c word words is (cut _ _ _ first asks) = follows_cut kind a c words is (first, asks)
 follows kind a c word words is (select _ _ text others first asks) =
     follows_select kind a c text others is (first, asks)
 
@@ -97,6 +114,8 @@ precedes kinds.Plain a c word words is (first, asks) =
     subst (λ (w : List ℕ). Asks a (w ∷ words) c) (sym is) (plain a c words first asks)
 precedes kinds.Write a c word words is (first, asks) =
     subst (λ (w : List ℕ). Asks a (w ∷ words) c) (sym is) (write a c words first asks)
+precedes kinds.Cut a c word words is (first, asks) =
+    subst (λ (w : List ℕ). Asks a (w ∷ words) c) (sym is) (cut a c words first asks)
 precedes kinds.Select a c word words is (text, others, same, first, asks) =
     subst (λ (l : List (List ℕ)). Asks a (word ∷ l) c) (sym same)
     (subst (λ (w : List ℕ). Asks a (w ∷ text ∷ others) c) (sym is) (select a c text others first asks))
@@ -137,6 +156,13 @@ pub ask_write : (a : AskedValue) (word : List ℕ) (words : List (List ℕ)) →
 ask_write a word words is first c = (
   λ asks. precedes kinds.Write a c word words is (first, asks),
   λ asks. (follows kinds.Write a c word words is asks).1,
+)
+
+pub ask_cut : (a : AskedValue) (word : List ℕ) (words : List (List ℕ)) → IsWord word kinds.Cut → a.cut ≡ false
+    → AskSame a (word ∷ words) (record a { cut = true }) words
+ask_cut a word words is first c = (
+  λ asks. precedes kinds.Cut a c word words is (first, asks),
+  λ asks. (follows kinds.Cut a c word words is asks).1,
 )
 
 abbrev tail_of : List (List ℕ) → List (List ℕ)
@@ -184,17 +210,18 @@ none_mapped f (Some x) none = absurd cc
 -- the words together ask for something that is no request
 pub refused_asked : (words : List (List ℕ)) (a : AskedValue) (r : RequestError) → AskSame nothing_asked words a []
     → RefusesAsked a r → RefusesOptions words r
-refused_asked words a reasons.Usage same both = λ c asks.
-    let e = last_asked a c ((same c).1 asks) in
-    (ap (λ (b : AskedValue). b.plain) e ∙ both.0, ap (λ (b : AskedValue). b.write) e ∙ both.1)
+refused_asked words a reasons.Usage same clash = λ c asks. ap clashes (last_asked a c ((same c).1 asks)) ∙ clash
 refused_asked words a (reasons.Filter e) same no_filter =
     record { asked = a; asks = (same a).0 (no_word a); no_filter = no_filter }
 refused_asked words a (reasons.CopyFilter e) same no_filter =
     record { asked = a; asks = (same a).0 (no_word a); no_filter = no_filter }
 
-two_forms : (a : AskedValue) (request : RequestValue) → (a.plain ≡ true) × (a.write ≡ true) → IsRequestOf a request → ⊥
-two_forms a request both (lines s not_copy is) = let e : true ≡ false = sym both.1 ∙ not_copy in absurd cc
-two_forms a request both (copy s is_copy not_plain is) = let e : true ≡ false = sym both.0 ∙ not_plain in absurd cc
+no_clash : (a : AskedValue) → clashes a ≡ true → clashes a ≡ false → ⊥
+no_clash a clash none = let e : true ≡ false = sym clash ∙ none in absurd cc
+
+two_forms : (a : AskedValue) (request : RequestValue) → clashes a ≡ true → IsRequestOf a request → ⊥
+two_forms a request clash (lines s not_copy none is) = no_clash a clash none
+two_forms a request clash (copy s is_copy none is) = no_clash a clash none
 
 names_none : (words : List (List ℕ)) (request : RequestValue) → words ≢ codes "--help" ∷ []
     → words ≢ codes "--version" ∷ []
@@ -203,19 +230,12 @@ names_none words request not_help not_version refused help = not_help refl
 names_none words request not_help not_version refused version = not_version refl
 names_none words request not_help not_version refused (options _ a _ asks is) = two_forms a request (refused a asks) is
 
-no_filter_both : (a : AskedValue) (form : Bool) → (a.plain ≡ true) × (a.write ≡ true)
-    → (a.write ≡ form) × ((a.plain && form) ≡ false) → ⊥
-no_filter_both a form both is =
-    let e : form ≡ true = sym is.0 ∙ both.1 in
-    let f : (true && true) ≡ false = (λ i. sym both.0 i && sym e i) ∙ is.1 in
-    absurd cc
-
 -- words that are no lone option, and are wrong as options, are wrong
 pub refused_words : (words : List (List ℕ)) (r : RequestError) → words ≢ codes "--help" ∷ []
     → words ≢ codes "--version" ∷ [] → RefusesOptions words r → RefusesWords words r
 refused_words words reasons.Usage not_help not_version refused = (
   λ request named. names_none words request not_help not_version refused named,
-  λ form e none. no_filter_both none.asked form (refused none.asked none.asks) none.no_filter.form,
+  λ form e none. no_clash none.asked (refused none.asked none.asks) none.no_filter.form.1,
 )
 refused_words words (reasons.Filter e) not_help not_version refused = refused
 refused_words words (reasons.CopyFilter e) not_help not_version refused = refused
@@ -258,19 +278,21 @@ help_word : (kind : Word) (word : List ℕ) → IsWord word kind → word ≡ co
 help_word kinds.Name word is e = absurd (no_hyphen word (codes "-help") is e)
 help_word kinds.Plain word is e = absurd (differ 112 104 _ _ refl refl (λ n. omega (arith, n)) (sym is ∙ e))
 help_word kinds.Write word is e = absurd (differ 119 104 _ _ refl refl (λ n. omega (arith, n)) (sym is ∙ e))
+help_word kinds.Cut word is e = absurd (differ 99 104 _ _ refl refl (λ n. omega (arith, n)) (sym is ∙ e))
 help_word kinds.Select word is e = absurd (differ 115 104 _ _ refl refl (λ n. omega (arith, n)) (sym is ∙ e))
 help_word kinds.Help word is e = refl
 help_word kinds.Version word is e = absurd (differ 118 104 _ _ refl refl (λ n. omega (arith, n)) (sym is ∙ e))
-help_word kinds.Unknown word is e = absurd (is.4 e)
+help_word kinds.Unknown word is e = absurd (is.5 e)
 
 version_word : (kind : Word) (word : List ℕ) → IsWord word kind → word ≡ codes "--version" → kind ≡ kinds.Version
 version_word kinds.Name word is e = absurd (no_hyphen word (codes "-version") is e)
 version_word kinds.Plain word is e = absurd (differ 112 118 _ _ refl refl (λ n. omega (arith, n)) (sym is ∙ e))
 version_word kinds.Write word is e = absurd (differ 119 118 _ _ refl refl (λ n. omega (arith, n)) (sym is ∙ e))
+version_word kinds.Cut word is e = absurd (differ 99 118 _ _ refl refl (λ n. omega (arith, n)) (sym is ∙ e))
 version_word kinds.Select word is e = absurd (differ 115 118 _ _ refl refl (λ n. omega (arith, n)) (sym is ∙ e))
 version_word kinds.Help word is e = absurd (differ 104 118 _ _ refl refl (λ n. omega (arith, n)) (sym is ∙ e))
 version_word kinds.Version word is e = refl
-version_word kinds.Unknown word is e = absurd (is.5 e)
+version_word kinds.Unknown word is e = absurd (is.6 e)
 
 -- words of which the first is no lone option
 pub options_named : (words left : List (List ℕ)) (word : List ℕ) (r : Result Request RequestError)

@@ -1,5 +1,5 @@
 -- What the words after the program's name ask for.
-use Rattle.std.specs.Prelude.{◌≡◌, ◌≢◌, ◌↔◌, ℕ, List, [], ◌∷◌, map, codes, Bool, true, false, ◌&&◌, Option, Some, None, String, string_bytes, ⊤}
+use Rattle.std.specs.Prelude.{◌≡◌, ◌≢◌, ◌↔◌, ℕ, List, [], ◌∷◌, map, codes, Bool, true, false, if◌then◌else◌, Option, Some, None, String, string_bytes, ⊤}
 use Rattle.std.specs.Option.{option_map}
 use Rattle.std.specs.Vec.Iter.{into_iter_items}
 use Rattle.std.specs.declared.vec.IntoIter.{IntoIter}
@@ -13,6 +13,7 @@ use Rattle.ether_capture.specs.declared.options.RequestError.{RequestError}
 use Rattle.ether_capture.specs.declared.options.RequestError.TheVariants as reasons
 use Rattle.ether_capture.specs.declared.options.Request.{Request}
 use Rattle.ether_capture.specs.declared.options.Request.TheVariants as requests
+use Rattle.ether_capture.specs.declared.options.Selection.{Selection}
 use Rattle.ether_capture.specs.declared.options.Word.{Word}
 use Rattle.ether_capture.specs.declared.options.Word.TheVariants as kinds
 
@@ -24,17 +25,24 @@ pub record LinesValue : Type 0 where
 abbrev pub lines_view : Lines → LinesValue
 lines_view asked = record { plain = asked.is_plain; select = asked.filter }
 
--- these lines of the capture in the file of this name, or of standard input; a copy of the capture with the packets that an expression
--- selects, or all; the usage; the version
+-- the packets that an expression selects, or all; each as it is, or cut where its headers end
+pub record SelectionValue : Type 0 where
+  pub select : Option Expression
+  pub cut : Bool
+
+abbrev pub selection_view : Selection → SelectionValue
+selection_view asked = record { select = asked.filter; cut = asked.is_cut }
+
+-- these lines of the capture in the file of this name, or of standard input; a copy of the capture with these packets; the usage; the version
 pub data RequestValue : Type 0 where
   Capture : LinesValue → (file : Option (List ℕ)) → RequestValue
-  Copy : (select : Option Expression) → (file : Option (List ℕ)) → RequestValue
+  Copy : SelectionValue → (file : Option (List ℕ)) → RequestValue
   Help : RequestValue
   Version : RequestValue
 
 abbrev pub request_view : Request → RequestValue
 request_view (requests.Capture asked file) = Capture (lines_view asked) (option_map string_bytes file)
-request_view (requests.Copy filter file) = Copy filter (option_map string_bytes file)
+request_view (requests.Copy asked file) = Copy (selection_view asked) (option_map string_bytes file)
 request_view requests.Help = Help
 request_view requests.Version = Version
 
@@ -49,11 +57,12 @@ IsName (byte ∷ bytes) = byte ≢ 45
 pub record AskedValue : Type 0 where
   pub plain : Bool
   pub write : Bool
+  pub cut : Bool
   pub text : Option (List ℕ)
   pub file : Option (List ℕ)
 
 abbrev pub nothing_asked : AskedValue
-nothing_asked = record { plain = false; write = false; text = None; file = None }
+nothing_asked = record { plain = false; write = false; cut = false; text = None; file = None }
 
 -- What is asked for with these words, after the words before them. Options come in any order, each once at most, and the name of a file
 -- comes last.
@@ -64,6 +73,8 @@ pub data Asks : AskedValue → List (List ℕ) → AskedValue → Type 0 where
       → Asks a (codes "--plain" ∷ words) b
   write : (a b : AskedValue) (words : List (List ℕ)) → a.write ≡ false → Asks (record a { write = true }) words b
       → Asks a (codes "--write" ∷ words) b
+  cut : (a b : AskedValue) (words : List (List ℕ)) → a.cut ≡ false → Asks (record a { cut = true }) words b
+      → Asks a (codes "--cut-to-headers" ∷ words) b
   select : (a b : AskedValue) (text : List ℕ) (words : List (List ℕ)) → a.text ≡ None → Asks (record a { text = Some text }) words b
       → Asks a (codes "--select" ∷ text ∷ words) b
 
@@ -75,11 +86,16 @@ IsSelection None None = ⊤
 IsSelection (Some text) (Some x) = IsExpressionOf text x
 IsSelection text other = ⊥
 
--- what is asked for is lines, or a copy, of which there are no plain ones
+-- an option is asked for that does not go with the others: no copy is plain, and no packet is cut without a copy
+abbrev pub clashes : AskedValue → Bool
+clashes a = if a.write then a.plain else a.cut
+
+-- what is asked for is lines, or a copy
 pub data IsRequestOf (a : AskedValue) : RequestValue → Type 0 where
-  lines : (select : Option Expression) → a.write ≡ false → IsSelection a.text select
+  lines : (select : Option Expression) → a.write ≡ false → clashes a ≡ false → IsSelection a.text select
       → IsRequestOf a (Capture (record { plain = a.plain; select = select }) a.file)
-  copy : (select : Option Expression) → a.write ≡ true → a.plain ≡ false → IsSelection a.text select → IsRequestOf a (Copy select a.file)
+  copy : (select : Option Expression) → a.write ≡ true → clashes a ≡ false → IsSelection a.text select
+      → IsRequestOf a (Copy (record { select = select; cut = a.cut }) a.file)
 
 pub data NamesRequest : List (List ℕ) → RequestValue → Type 0 where
   help : NamesRequest (codes "--help" ∷ []) Help
@@ -93,7 +109,7 @@ NamesNothing words = (request : RequestValue) → ¬ (NamesRequest words request
 -- lines, or a copy, would be asked for, but the text of the filter is refused in this way
 pub record HasNoFilter (a : AskedValue) (copy : Bool) (e : FilterError) : Type 0 where
   pub text : List ℕ
-  pub form : (a.write ≡ copy) × ((a.plain && copy) ≡ false)
+  pub form : (a.write ≡ copy) × (clashes a ≡ false)
   pub is_text : a.text ≡ Some text
   pub refused : RefusesText text e
 
@@ -117,6 +133,7 @@ abbrev pub asked_view : Asked → AskedValue
 asked_view asked = record {
   plain = asked.is_plain;
   write = asked.is_copy;
+  cut = asked.is_cut;
   text = option_map string_bytes asked.text;
   file = option_map string_bytes asked.file;
 }
@@ -126,11 +143,13 @@ abbrev pub IsWord : (word : List ℕ) → Word → Type 0
 IsWord word kinds.Name = IsName word
 IsWord word kinds.Plain = word ≡ codes "--plain"
 IsWord word kinds.Write = word ≡ codes "--write"
+IsWord word kinds.Cut = word ≡ codes "--cut-to-headers"
 IsWord word kinds.Select = word ≡ codes "--select"
 IsWord word kinds.Help = word ≡ codes "--help"
 IsWord word kinds.Version = word ≡ codes "--version"
 IsWord word kinds.Unknown =
-    ¬ (IsName word) × (word ≢ codes "--plain") × (word ≢ codes "--write") × (word ≢ codes "--select") × (word ≢ codes "--help") × (word ≢ codes "--version")
+    ¬ (IsName word) × (word ≢ codes "--plain") × (word ≢ codes "--write") × (word ≢ codes "--cut-to-headers") × (word ≢ codes "--select")
+    × (word ≢ codes "--help") × (word ≢ codes "--version")
 
 -- the same is asked for with these words after those before them
 abbrev pub AskSame : (a : AskedValue) → (words : List (List ℕ)) → (b : AskedValue) → (left : List (List ℕ)) → Type 0
@@ -146,7 +165,7 @@ RefusesSelection (Some text) e = RefusesText text e
 
 -- why what is asked for is no request
 abbrev pub RefusesAsked : AskedValue → RequestError → Type 0
-RefusesAsked a reasons.Usage = (a.plain ≡ true) × (a.write ≡ true)
+RefusesAsked a reasons.Usage = clashes a ≡ true
 RefusesAsked a (reasons.Filter e) = HasNoFilter a false e
 RefusesAsked a (reasons.CopyFilter e) = HasNoFilter a true e
 
@@ -156,6 +175,6 @@ OptionsAsk words request = (a : AskedValue) × Asks nothing_asked words a × IsR
 
 -- why they are wrong
 abbrev pub RefusesOptions : (words : List (List ℕ)) → RequestError → Type 0
-RefusesOptions words reasons.Usage = (a : AskedValue) → Asks nothing_asked words a → (a.plain ≡ true) × (a.write ≡ true)
+RefusesOptions words reasons.Usage = (a : AskedValue) → Asks nothing_asked words a → clashes a ≡ true
 RefusesOptions words (reasons.Filter e) = NamesNoFilter words false e
 RefusesOptions words (reasons.CopyFilter e) = NamesNoFilter words true e

@@ -1,10 +1,9 @@
 -- What the program has read and written, and how it ends.
 use Rattle.std.specs.Prelude.{◌≡◌, ◌⊎◌, ℕ, List, [], ◌++◌, codes, Option, Some, None, Result, Err, IfNone, Bool, true, false, IfErr, string_bytes, ⊤}
 use Rattle.std.specs.Io.KnownBytes.{Appends}
-use Rattle.ether_filter.specs.Expressions.{Expression}
 use Rattle.ether_text.specs.Run.{IsEndless}
 use Rattle.ether_text.specs.declared.verdict.Verdict.{Verdict}
-use Rattle.ether_capture.specs.Options.{LinesValue, RequestValue, Capture, Copy, Help, Version, NamesRequest, RefusesWords}
+use Rattle.ether_capture.specs.Options.{LinesValue, SelectionValue, RequestValue, Capture, Copy, Help, Version, NamesRequest, RefusesWords}
 use Rattle.ether_capture.specs.declared.options.RequestError.TheVariants as reasons
 use Rattle.ether_capture.specs.Run.{HasRun, OnStreamFault}
 use Rattle.ether_capture.specs.Copying.{HasCopied}
@@ -34,19 +33,19 @@ HasReadFile has can_refuse can_read can_write asked name held holds (outcomes.No
 HasReadFile has can_refuse can_read can_write asked name held holds outcome = ⊥
 
 -- A capture was read, from before to after, and copied. Only a stream that can fail has failed, or one that does not end.
-pub record HasReadCopy (can_read can_write : Type 0) (select : Option Expression) (before after held holds : Option (List ℕ))
+pub record HasReadCopy (can_read can_write : Type 0) (asked : SelectionValue) (before after held holds : Option (List ℕ))
     (outcome : Result Verdict RunFault) : Type 0 where
-  pub run : HasCopied select before after held holds outcome ⊎ HasNoMemory before after held holds outcome
+  pub run : HasCopied asked before after held holds outcome ⊎ HasNoMemory before after held holds outcome
   pub failed : IfErr outcome (λ fault. OnStreamFault fault (can_read ⊎ IsEndless before after) can_write)
 
 -- The capture of this name was copied; or it can't be opened, and nothing is written.
-abbrev pub HasCopiedFile : (has : List ℕ → Option (List ℕ) → Type 0) (can_refuse can_read can_write : Type 0) → (select : Option Expression)
+abbrev pub HasCopiedFile : (has : List ℕ → Option (List ℕ) → Type 0) (can_refuse can_read can_write : Type 0) → (asked : SelectionValue)
     → (name : List ℕ) → (held holds : Option (List ℕ)) → Outcome → Type 0
-HasCopiedFile has can_refuse can_read can_write select name held holds (outcomes.Copy outcome) =
-    (before after : Option (List ℕ)) × has name before × HasReadCopy can_read can_write select before after held holds outcome
-HasCopiedFile has can_refuse can_read can_write select name held holds (outcomes.CopyNotOpened named) =
+HasCopiedFile has can_refuse can_read can_write asked name held holds (outcomes.Copy outcome) =
+    (before after : Option (List ℕ)) × has name before × HasReadCopy can_read can_write asked before after held holds outcome
+HasCopiedFile has can_refuse can_read can_write asked name held holds (outcomes.CopyNotOpened named) =
     (string_bytes named ≡ name) × can_refuse × (holds ≡ held)
-HasCopiedFile has can_refuse can_read can_write select name held holds outcome = ⊥
+HasCopiedFile has can_refuse can_read can_write asked name held holds outcome = ⊥
 
 -- What is asked for was done. Standard input is read only if no file is named.
 abbrev pub HasAnswered : (has : List ℕ → Option (List ℕ) → Type 0) (can_fail can_refuse can_read can_write : Type 0) → RequestValue
@@ -55,10 +54,10 @@ HasAnswered has can_fail can_refuse can_read can_write (Capture asked None) befo
     HasRead can_fail can_write asked before after held holds outcome
 HasAnswered has can_fail can_refuse can_read can_write (Capture asked (Some name)) before after held holds outcome =
     HasReadFile has can_refuse can_read can_write asked name held holds outcome × (after ≡ before)
-HasAnswered has can_fail can_refuse can_read can_write (Copy select None) before after held holds (outcomes.Copy outcome) =
-    HasReadCopy can_fail can_write select before after held holds outcome
-HasAnswered has can_fail can_refuse can_read can_write (Copy select (Some name)) before after held holds outcome =
-    HasCopiedFile has can_refuse can_read can_write select name held holds outcome × (after ≡ before)
+HasAnswered has can_fail can_refuse can_read can_write (Copy asked None) before after held holds (outcomes.Copy outcome) =
+    HasReadCopy can_fail can_write asked before after held holds outcome
+HasAnswered has can_fail can_refuse can_read can_write (Copy asked (Some name)) before after held holds outcome =
+    HasCopiedFile has can_refuse can_read can_write asked name held holds outcome × (after ≡ before)
 HasAnswered has can_fail can_refuse can_read can_write Help before after held holds outcomes.Help = (after ≡ before) × (holds ≡ held)
 HasAnswered has can_fail can_refuse can_read can_write Version before after held holds outcomes.Version = (after ≡ before) × (holds ≡ held)
 HasAnswered has can_fail can_refuse can_read can_write request before after held holds outcome = ⊥

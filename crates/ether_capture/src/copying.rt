@@ -4,32 +4,32 @@ ghost use Rattle.ether_pcap.specs.Capture.{IsEnd};
 ghost use Rattle.ether_text.specs.InputReader.{StopsReading};
 ghost use Rattle.ether_text.specs.OutputBuffer.{contents_of, Marks};
 ghost use Rattle.ether_text.specs.Run.{IsEndless};
-ghost use Rattle.ether_capture.specs.CopyLoop.{CopyLeavesRest};
 ghost use Rattle.ether_capture.specs.Copying.{HasCopied};
 ghost use Rattle.ether_capture.specs.InputBuffer.{items};
+ghost use Rattle.ether_capture.specs.Options.{selection_view};
 ghost use Rattle.ether_capture.specs.Run.{IfSettled, IsOutput, OnInput, OnStreamFault};
 
 use crate::copy_loop::CopyLoop;
 use crate::input_buffer::InputBuffer;
+use crate::options::Selection;
 use crate::outcome::RunFault;
-use ether_filter::Filter;
-use ether_pcap::CaptureError;
 use ether_text::{InputReader, OutputBuffer, Sink, Source, Verdict};
 
 /// Reads a capture to its end, and writes it again without the packets that the filter leaves out. Without a filter all is written.
 ///
 /// Each unit is written as it was read: the file header, section headers, descriptions of interfaces and any other block, and the packets
-/// that the filter selects. So what is written is a capture of the same format. Packets are not looked into beyond the filter, and the
-/// verdict is [`Verdict::AllAccepted`].
+/// that the filter selects, which may be cut to their headers. So what is written is a capture of the same format. The verdict is
+/// [`Verdict::AllAccepted`].
 ///
-/// It reads, writes and stops as [`run`](crate::run::run) does. At a fault of the capture, the units before it have been written and flushed.
+/// It reads, writes and stops as [`run`](crate::run::run) does, and with [`RunFault::NotCut`] at a simple packet that would have to be cut.
+/// At a fault of the capture, the units before it have been written and flushed.
 pub fn copy<R: Source, W: Sink>(
-    filter: &Option<Filter>,
+    asked: &Selection,
     buffer: InputBuffer,
     reader: &mut R,
     writer: &mut W,
 ) -> Result<Verdict, RunFault>
-    ensures run { HasCopied filter.now (R.remaining reader.old) (R.remaining reader.new)
+    ensures run { HasCopied (selection_view asked.now) (R.remaining reader.old) (R.remaining reader.new)
         (W.contents writer.old) (W.contents writer.new) result }
     ensures failed { IfErr result (λ fault. OnStreamFault fault
         (R.can_fail ⊎ IsEndless (R.remaining reader.old) (R.remaining reader.new)) W.can_fail) }
@@ -37,20 +37,20 @@ pub fn copy<R: Source, W: Sink>(
 {
     let mut input = InputReader::new(reader);
     let mut out = OutputBuffer::new(writer);
-    copy_capture(filter, buffer, &mut input, &mut out)
+    copy_capture(asked, buffer, &mut input, &mut out)
 }
 
 /// Reads the capture to its end, and writes the copy and flushes it. After a fault of the reader or the writer neither is called
 /// again.
 fn copy_capture<R: Source, W: Sink>(
-    filter: &Option<Filter>,
+    asked: &Selection,
     buffer: InputBuffer,
     input: &mut InputReader<'_, R>,
     out: &mut OutputBuffer<'_, W>,
 ) -> Result<Verdict, RunFault>
     ensures same_reader { input.new.inner.ghost_name ≡ input.old.inner.ghost_name }
     ensures same_writer { out.new.writer.ghost_name ≡ out.old.writer.ghost_name }
-    ensures run { HasCopied filter.now (R.remaining input.old.inner.now) (R.remaining input.new.inner.now)
+    ensures run { HasCopied (selection_view asked.now) (R.remaining input.old.inner.now) (R.remaining input.new.inner.now)
         (contents_of W.contents out.old) (W.contents out.new.writer.now) result }
     ensures failed { IfErr result
         (λ fault. OnStreamFault fault (input.new.has_failed ≡ true) (out.new.has_failed ≡ true)) }
@@ -58,8 +58,8 @@ fn copy_capture<R: Source, W: Sink>(
     ensures marks { Marks W.can_fail out.old out.new }
     ensures flushed { IfSettled result (W.is_flushed out.new.writer.now) }
 {
-    let outcome = copy_units(filter, buffer, input, out);
-    if let Ok(_) | Err(RunFault::Capture(_) | RunFault::Memory) = outcome {
+    let outcome = copy_units(asked, buffer, input, out);
+    if let Ok(_) | Err(RunFault::Capture(_) | RunFault::NotCut(_) | RunFault::Memory) = outcome {
         out.flush()?;
     }
     outcome
@@ -67,14 +67,14 @@ fn copy_capture<R: Source, W: Sink>(
 
 /// Reads the capture to its end, and gathers the copy. What is gathered is written out before each read.
 fn copy_units<R: Source, W: Sink>(
-    filter: &Option<Filter>,
+    asked: &Selection,
     buffer: InputBuffer,
     input: &mut InputReader<'_, R>,
     out: &mut OutputBuffer<'_, W>,
 ) -> Result<Verdict, RunFault>
     ensures same_reader { input.new.inner.ghost_name ≡ input.old.inner.ghost_name }
     ensures same_writer { out.new.writer.ghost_name ≡ out.old.writer.ghost_name }
-    ensures run { HasCopied filter.now (R.remaining input.old.inner.now) (R.remaining input.new.inner.now)
+    ensures run { HasCopied (selection_view asked.now) (R.remaining input.old.inner.now) (R.remaining input.new.inner.now)
         (contents_of W.contents out.old) (contents_of W.contents out.new) result }
     ensures none_waits { IfErr result (λ fault. OnInput fault (out.new.waiting.items ≡ [])) }
     ensures failed { IfErr result
@@ -86,7 +86,7 @@ fn copy_units<R: Source, W: Sink>(
     let mut buffer = buffer;
     buffer.clear();
     loop {
-        let error = copy_buffered(filter, &mut units, &mut buffer, out)?;
+        let error = buffer.copy_units(&mut units, asked, out)?;
         let Some(required_len) = error.required_len() else {
             return Err(units.fault(error));
         };
@@ -99,25 +99,6 @@ fn copy_units<R: Source, W: Sink>(
             return Err(units.fault(error));
         }
     }
-}
-
-/// Takes the units at the front of the buffer, and copies them. Returns why what is left does not begin with a unit.
-fn copy_buffered<W: Sink>(
-    filter: &Option<Filter>,
-    units: &mut CopyLoop,
-    buffer: &mut InputBuffer,
-    out: &mut OutputBuffer<'_, W>,
-) -> Result<CaptureError, RunFault>
-    ensures same_writer { out.new.writer.ghost_name ≡ out.old.writer.ghost_name }
-    ensures ok { IfOk result (λ error. CopyLeavesRest filter.now W.contents (items buffer.old) units.old out.old
-        (items buffer.new) error units.new out.new) }
-    ensures fault { IfErr result IsOutput }
-    ensures failed { IfErr result (λ fault. out.new.has_failed ≡ true) }
-    ensures marks { Marks W.can_fail out.old out.new }
-{
-    let (taken, error) = units.take_units(filter, buffer.as_slice(), out)?;
-    buffer.consume(taken);
-    Ok(error)
 }
 
 /// Tests that the capture has begun, and that nothing of it is left.

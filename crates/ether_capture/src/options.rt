@@ -3,7 +3,7 @@ ghost use Rattle.std.specs.Prelude.{◌≡◌, ◌≢◌, ◌≤◌, ◌↔◌, 
 ghost use Rattle.std.specs.Option.{option_map};
 ghost use Rattle.std.specs.Vec.Iter.{into_iter_items};
 ghost use Rattle.ether_text.specs.Arguments.{words_after};
-ghost use Rattle.ether_capture.specs.Options.{IsName, IsWord, words_left, asked_view, nothing_asked, AskSame, AskNothing, IsSelection, RefusesSelection, IsRequestOf, RefusesAsked, OptionsAsk, RefusesOptions, NamesRequest, RefusesWords, request_view};
+ghost use Rattle.ether_capture.specs.Options.{IsName, IsWord, words_left, asked_view, nothing_asked, clashes, AskSame, AskNothing, IsSelection, RefusesSelection, IsRequestOf, RefusesAsked, OptionsAsk, RefusesOptions, NamesRequest, RefusesWords, request_view};
 
 use ether_filter::{Filter, FilterError};
 use std::env;
@@ -28,13 +28,22 @@ pub struct Lines {
     pub filter: Option<Filter>,
 }
 
+/// What a copy of a capture has.
+#[derive(Debug, Drop)]
+pub struct Selection {
+    /// Which packets are copied; all of them without a filter.
+    pub filter: Option<Filter>,
+    /// Whether each packet is cut where its headers end.
+    pub is_cut: bool,
+}
+
 /// What the words ask for.
 #[derive(Debug, Drop)]
 pub enum Request {
     /// Lines of the capture in the file of this name, or of standard input.
     Capture(Lines, Option<String>),
-    /// A copy of the capture with the packets that the filter selects; all of them without a filter.
-    Copy(Option<Filter>, Option<String>),
+    /// A copy of that capture.
+    Copy(Selection, Option<String>),
     /// How the program is used.
     Help,
     /// The program's name and version.
@@ -43,8 +52,8 @@ pub enum Request {
 
 /// What the program's arguments ask for. The first of them is its own name.
 ///
-/// In any order there may be `--plain` or `--write`, and `--select` with the text of a filter; after them a word that does not begin with a
-/// hyphen, which names a file. `--help` and `--version` come alone.
+/// In any order there may be `--plain` or `--write`, with the latter `--cut-to-headers`, and `--select` with the text of a filter; after
+/// them a word that does not begin with a hyphen, which names a file. `--help` and `--version` come alone.
 pub fn request_of_args(mut args: env::Args) -> Result<Request, RequestError>
     ensures ok { IfOk result (λ request. NamesRequest (words_after (into_iter_items args)) (request_view request)) }
     ensures err { IfErr result (RefusesWords (words_after (into_iter_items args))) }
@@ -91,6 +100,7 @@ fn request_of_options(first: String, mut args: env::Args) -> Result<Request, Req
 struct Asked {
     is_plain: bool,
     is_copy: bool,
+    is_cut: bool,
     text: Option<String>,
     file: Option<String>,
 }
@@ -103,6 +113,7 @@ impl Asked {
         Asked {
             is_plain: false,
             is_copy: false,
+            is_cut: false,
             text: None,
             file: None,
         }
@@ -120,6 +131,7 @@ impl Asked {
             Word::Name if args.next().is_none() => self.file = Some(word),
             Word::Plain if !self.is_plain => self.is_plain = true,
             Word::Write if !self.is_copy => self.is_copy = true,
+            Word::Cut if !self.is_cut => self.is_cut = true,
             Word::Select if self.text.is_none() => match args.next() {
                 Some(text) => self.text = Some(text),
                 None => return Err(RequestError::Usage),
@@ -129,16 +141,33 @@ impl Asked {
         Ok(())
     }
 
+    /// Tests that there is an option that does not go with the others.
+    fn clashes(&self) -> bool
+        ensures { result ≡ clashes (asked_view self.now) }
+    {
+        if self.is_copy {
+            self.is_plain
+        } else {
+            self.is_cut
+        }
+    }
+
     /// What all words together ask for.
     fn request(self) -> Result<Request, RequestError>
         ensures ok { IfOk result (λ request. IsRequestOf (asked_view self) (request_view request)) }
         ensures err { IfErr result (RefusesAsked (asked_view self)) }
     {
-        if self.is_plain && self.is_copy {
+        if self.clashes() {
             return Err(RequestError::Usage);
         }
         match filter_of(&self.text) {
-            Ok(filter) if self.is_copy => Ok(Request::Copy(filter, self.file)),
+            Ok(filter) if self.is_copy => Ok(Request::Copy(
+                Selection {
+                    filter,
+                    is_cut: self.is_cut,
+                },
+                self.file,
+            )),
             Ok(filter) => Ok(Request::Capture(
                 Lines {
                     is_plain: self.is_plain,
@@ -175,6 +204,8 @@ enum Word {
     Plain,
     /// `--write`.
     Write,
+    /// `--cut-to-headers`.
+    Cut,
     /// `--select`.
     Select,
     /// `--help`.
@@ -195,6 +226,7 @@ fn word_of(word: &str) -> Word
     match word {
         "--plain" => Word::Plain,
         "--write" => Word::Write,
+        "--cut-to-headers" => Word::Cut,
         "--select" => Word::Select,
         "--help" => Word::Help,
         "--version" => Word::Version,

@@ -2,7 +2,7 @@
 ghost use Rattle.std.specs.Prelude.{◌≡◌, ◌⊎◌, IfErr, string_bytes};
 ghost use Rattle.ether_text.specs.Arguments.{words_of};
 ghost use Rattle.ether_text.specs.Run.{IsEndless};
-ghost use Rattle.ether_capture.specs.Options.{lines_view};
+ghost use Rattle.ether_capture.specs.Options.{lines_view, selection_view};
 ghost use Rattle.ether_capture.specs.Copying.{HasCopied};
 ghost use Rattle.ether_capture.specs.Outcome.{is_of_copy};
 ghost use Rattle.ether_capture.specs.Program.{HasCopiedFile, HasNoMemory, HasObeyed, HasReadFile, HasServed, PrintsApart, PrintsLast};
@@ -11,10 +11,9 @@ ghost use Rattle.ether_capture.specs.Run.{HasRun, OnStreamFault};
 use crate::captures::Captures;
 use crate::copying::copy;
 use crate::input_buffer::InputBuffer;
-use crate::options::{Lines, Request, RequestError, request_of_args};
+use crate::options::{Lines, Request, RequestError, Selection, request_of_args};
 use crate::outcome::{Outcome, RunFault, is_of_copy, last_line, program_status};
 use crate::run::run;
-use ether_filter::Filter;
 use ether_text::{Sink, Source, Verdict};
 use std::alloc::Global;
 use std::io::Write;
@@ -60,9 +59,9 @@ fn obey<C: Captures, R: Source, W: Sink>(
             None => Outcome::Run(read_input(&asked, alloc, reader, writer)),
             Some(name) => read_file(&asked, name, alloc, captures, writer),
         },
-        Ok(Request::Copy(filter, file)) => match file {
-            None => Outcome::Copy(copy_input(&filter, alloc, reader, writer)),
-            Some(name) => copy_file(&filter, name, alloc, captures, writer),
+        Ok(Request::Copy(asked, file)) => match file {
+            None => Outcome::Copy(copy_input(&asked, alloc, reader, writer)),
+            Some(name) => copy_file(&asked, name, alloc, captures, writer),
         },
         Ok(Request::Help) => Outcome::Help,
         Ok(Request::Version) => Outcome::Version,
@@ -111,29 +110,29 @@ fn read_input<R: Source, W: Sink>(
 
 /// Copies the capture of a name.
 fn copy_file<C: Captures, W: Sink>(
-    filter: &Option<Filter>,
+    asked: &Selection,
     name: String,
     alloc: Global,
     captures: &C,
     writer: &mut W,
 ) -> Outcome
-    ensures { HasCopiedFile (C.has captures.now) C.can_refuse C.Input.Source.can_fail W.can_fail filter.now (string_bytes name)
+    ensures { HasCopiedFile (C.has captures.now) C.can_refuse C.Input.Source.can_fail W.can_fail (selection_view asked.now) (string_bytes name)
         (W.contents writer.old) (W.contents writer.new) result }
 {
     match captures.open_named(name.as_str()) {
-        Ok(mut input) => Outcome::Copy(copy_input(filter, alloc, &mut input, writer)),
+        Ok(mut input) => Outcome::Copy(copy_input(asked, alloc, &mut input, writer)),
         Err(_) => Outcome::CopyNotOpened(name),
     }
 }
 
 /// Copies a capture.
 fn copy_input<R: Source, W: Sink>(
-    filter: &Option<Filter>,
+    asked: &Selection,
     alloc: Global,
     reader: &mut R,
     writer: &mut W,
 ) -> Result<Verdict, RunFault>
-    ensures run { HasCopied filter.now (R.remaining reader.old) (R.remaining reader.new)
+    ensures run { HasCopied (selection_view asked.now) (R.remaining reader.old) (R.remaining reader.new)
         (W.contents writer.old) (W.contents writer.new) result
         ⊎ HasNoMemory (R.remaining reader.old) (R.remaining reader.new)
         (W.contents writer.old) (W.contents writer.new) result }
@@ -141,7 +140,7 @@ fn copy_input<R: Source, W: Sink>(
         (R.can_fail ⊎ IsEndless (R.remaining reader.old) (R.remaining reader.new)) W.can_fail) }
 {
     match InputBuffer::new(alloc) {
-        Ok(buffer) => copy(filter, buffer, reader, writer),
+        Ok(buffer) => copy(asked, buffer, reader, writer),
         Err(_) => Err(RunFault::Memory),
     }
 }

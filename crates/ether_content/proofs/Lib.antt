@@ -1,2 +1,3 @@
 pub mod SelectingLemmas
 pub mod ContentLemmas
+pub mod HeadersLemmas

@@ -1,3 +1,4 @@
 pub mod Content
 pub mod ContentViews
 pub mod Selecting
+pub mod Headers

@@ -86,7 +86,7 @@ impl<'a> Content<'a> {
 }
 
 /// What the payload of a packet of cooked capture v2 begins with, and the payload.
-fn payload_of(bytes: &[u8]) -> Option<(Start, &[u8])>
+pub(crate) fn payload_of(bytes: &[u8]) -> Option<(Start, &[u8])>
     ensures some { IfSome result (λ frame. IsWalked (contents.LinuxSll2 bytes.now) (next_of frame.0) frame.1.now) }
     ensures none { result ≡ None → AcceptsLinuxSll2 bytes.now → told_ether_type (protocol_of_header bytes.now) ≡ None }
 {

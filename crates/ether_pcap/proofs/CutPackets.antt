@@ -15,7 +15,7 @@ use Rattle.ether_pcap.specs.Capture.{PacketValue, packet_on, CaptureInterfaceVal
 use Rattle.ether_pcap.specs.Cutting.{cut_record, cut_body, block_bytes, cut_block, cut_shorter, cut_unit, cut_packet, LeavesUnit, CutsUnit, KeepsPacket}
 use Rattle.ether_pcap.proofs.CaptureLocality.{unit_local}
 use Rattle.ether_pcap.proofs.CutUnits.{length-cut_front, length-cut_body, length-block_bytes, block_bytes-type, record_cut, body_cut, block_begins}
-use Rattle.ether_pcap.proofs.PacketUnits.{record_of_unit, PacketBlock, block_of_unit, body_of_unit, type_of, is_interface, is_obsolete, is_simple, is_enhanced, is_other, same_packet}
+use Rattle.ether_pcap.proofs.PacketUnits.{record_of_unit, PacketBlock, block_of_unit, body_of_unit, type_of, is_interface, is_obsolete, is_simple, is_enhanced, is_other, same_packet, no_packet_first}
 
 same_bytes : (a b : List ℕ) → Some a ≡ Some b → a ≡ b
 same_bytes a b e = ap (λ (o : Option (List ℕ)). unwrap_or o a) e
@@ -131,7 +131,8 @@ shorter_begins (Blocks order interfaces) u cut p n begins lt is =
     let found = block_of_unit u (Blocks order interfaces) (length u) order interfaces p begins in
     block_shorter order interfaces u p n found.0 found.1 lt cut is
 
-uncut : (n : ℕ) (p : PacketValue) → length p.packet ≤ n → p ≡ cut_packet n p
+-- a packet that has no more bytes
+pub uncut : (n : ℕ) (p : PacketValue) → length p.packet ≤ n → p ≡ cut_packet n p
 uncut n p le = let e = take_all n p.packet le in
     λ i. record { time = p.time; original_len = p.original_len; link_type = p.link_type; fcs_len = p.fcs_len; packet = sym e i }
 
@@ -163,3 +164,43 @@ pub keeps_packet : (x : Expectation) (n : ℕ) (old new : List ℕ) (len : Optio
     → KeepsPacket x n old new len
 keeps_packet x n old new len cuts p begins =
     kept x n old new p (cut_unit x (length p.packet) n old) len refl begins (cuts p begins)
+
+-- ---- a packet that can't be cut
+
+simple_by_kind : (kind : BlockKind) (order : Order) (interfaces : List CaptureInterfaceValue) (u body : List ℕ) (m n : ℕ)
+    (p : PacketValue)
+    → IsBody kind order interfaces body (Some p) interfaces → cut_block kind order m n u ≡ None → p.time ≡ None
+simple_by_kind InterfaceDescription order interfaces u body m n p (i, d, lt, e, f) is = absurd cc
+simple_by_kind SimplePacket order interfaces u body m n p (i, q, at, v, e, f) is =
+    let a : PacketValue =
+    record { time = None; original_len = q.original_len; link_type = i.link_type; fcs_len = i.fcs_len; packet = q.packet } in
+    ap (λ (r : PacketValue). r.time) (same_packet p a e)
+simple_by_kind (EnhancedPacket k) order interfaces u body m n p body_is is = absurd cc
+simple_by_kind Other order interfaces u body m n p (e, f) is = absurd cc
+
+simple_if : (x : Expectation) (u : List ℕ) (p : PacketValue) (n : ℕ) → Begins u x (length u) (Some p) x
+    → cut_shorter x (length p.packet) n u ≡ None → p.time ≡ None
+simple_if Beginning u p n begins is = absurd (no_packet_first u Beginning Beginning (length u) p refl begins)
+simple_if (Records h) u p n begins is = absurd cc
+simple_if (Blocks order interfaces) u p n begins is =
+    let found = block_of_unit u (Blocks order interfaces) (length u) order interfaces p begins in
+    let b = found.0 in
+    simple_by_kind (kind_of_block (field order u 0 4)) order interfaces u b.value.body (length p.packet) n p
+    (subst (λ (z : BlockKind). IsBody z order interfaces b.value.body (Some p) interfaces)
+    (ap kind_of_block (sym b.begins.block_type)) b.body)
+    is
+
+pub not_shorter : (x : Expectation) (u : List ℕ) (p : PacketValue) (n : ℕ) → Begins u x (length u) (Some p) x
+    → cut_unit x (length p.packet) n u ≡ None → (n < length p.packet) × (p.time ≡ None)
+not_shorter x u p n begins is =
+    elim (cases_lt n (length p.packet)) [
+      | inl lt ↦ (
+        lt,
+        simple_if x u p n begins
+            (subst (λ b. (if b then cut_shorter x (length p.packet) n u else Some u) ≡ None) (lt-ltb n (length p.packet) lt) is),
+      )
+      | inr le ↦
+          let e : Some u ≡ None =
+          subst (λ b. (if b then cut_shorter x (length p.packet) n u else Some u) ≡ None) (le-ltb n (length p.packet) le) is in
+          absurd cc
+    ]

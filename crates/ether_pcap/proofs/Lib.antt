@@ -15,6 +15,7 @@ pub mod PacketsOne
 pub mod CaptureSome
 pub mod CaptureReadingLemmas
 pub mod Copies
+pub mod CopiesOne
 pub mod CutUnits
 pub mod CutInPlace
 pub mod PacketUnits

@@ -1,6 +1,6 @@
 -- Units that are packets: a record, or a block of one of three types.
 use Rattle.std.proofs.Common.{◌≡◌, ℕ, ◌+◌, ◌-◌, ◌<◌, ◌≤◌, List, length, refl, sym, ap, subst, ◌∙◌, arith, inl, inr, Some, None}
-use Rattle.std.specs.Prelude.{Option, unwrap_or, slice_range, nat_lt, if◌then◌else◌}
+use Rattle.std.specs.Prelude.{◌≢◌, Option, unwrap_or, slice_range, nat_lt, if◌then◌else◌}
 use Rattle.std.proofs.lemmas.Bool.{cases_eq, ne_eqb}
 use Rattle.ether_base.proofs.SubLists.{part_of_part}
 use Rattle.ether_pcap.specs.Numbers.{Order, number_in, field}
@@ -9,7 +9,7 @@ use Rattle.ether_pcap.specs.Block.{BlockValue, IsTotalLen, BeginsBlock}
 use Rattle.ether_pcap.specs.Section.{HasSectionType}
 use Rattle.ether_pcap.specs.FileHeader.{FileHeaderValue}
 use Rattle.ether_pcap.specs.Bodies.{EnhancedPacketValue, IsEnhancedPacket, captured_by}
-use Rattle.ether_pcap.specs.Capture.{PacketValue, packet_of_record, packet_on, CaptureInterfaceValue, IsAt, HasNoInterface, Expectation, Records, Blocks, BlockKind, InterfaceDescription, SimplePacket, EnhancedPacket, Other, kind_of_block, IsBody, Begins, file_header, file_record, first_section, section, block}
+use Rattle.ether_pcap.specs.Capture.{PacketValue, packet_of_record, packet_on, CaptureInterfaceValue, IsAt, HasNoInterface, Expectation, Beginning, Records, Blocks, BlockKind, InterfaceDescription, SimplePacket, EnhancedPacket, Other, kind_of_block, IsBody, Begins, file_header, file_record, first_section, section, block}
 use Rattle.ether_pcap.specs.Cutting.{cut_block, cut_unit, LeavesUnit}
 use Rattle.ether_pcap.proofs.CapturesOne.{at_one, at_within}
 use Rattle.ether_pcap.proofs.CutInPlace.{stays, shortens}
@@ -94,6 +94,22 @@ same_if bytes x y len packet p e (block order interfaces after q b other begins 
 pub same_after : (bytes : List ℕ) (x y : Expectation) (len : ℕ) (p : PacketValue) → Begins bytes x len (Some p) y
     → y ≡ x
 same_after bytes x y len p begins = same_if bytes x y len (Some p) p refl begins
+
+-- ---- before and after a packet
+
+-- after a unit a file has begun
+pub begun : (bytes : List ℕ) (x y : Expectation) (len : ℕ) (p : Option PacketValue) → Begins bytes x len p y
+    → y ≢ Beginning
+begun bytes x y len p (file_header h other is) = λ e. absurd cc
+begun bytes x y len p (file_record h r is) = λ e. absurd cc
+begun bytes x y len p (first_section order b is) = λ e. absurd cc
+begun bytes x y len p (section order next interfaces b is) = λ e. absurd cc
+begun bytes x y len p (block order interfaces after packet b other begins is) = λ e. absurd cc
+
+pub no_packet_first : (bytes : List ℕ) (x y : Expectation) (len : ℕ) (p : PacketValue) → x ≡ Beginning
+    → Begins bytes x len (Some p) y → ⊥
+no_packet_first bytes x y len p first begins =
+    begun bytes x y len (Some p) begins (same_after bytes x y len p begins ∙ first)
 
 block_if : (bytes : List ℕ) (x y : Expectation) (len : ℕ) (packet : Option PacketValue) (order : Order)
     (interfaces : List CaptureInterfaceValue) (p : PacketValue)

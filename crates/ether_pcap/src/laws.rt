@@ -66,13 +66,14 @@ pub fn written_files_are_read()
     ensures { WrittenFilesAreRead }
 {}
 
-/// A copy of a capture file without some of its packets is a file with exactly the packets that are kept, in their order. If nothing is
-/// copied, nothing was read.
+/// A copy of a capture file without some of its packets, and with others cut, is a file of the same format with exactly the packets that
+/// are kept, in their order, each with its first captured bytes. If nothing is copied, nothing was read. A copy ends before a simple packet
+/// that would have to be cut.
 pub fn copies_are_read()
     ensures { CopiesAreRead }
 {}
 
-/// Any bytes have a copy by a test of packets, and only one.
+/// Any bytes have a copy by a test of packets and by how many bytes each is cut to, and only one.
 pub fn copies_are_one()
     ensures { CopiesAreOne }
 {}

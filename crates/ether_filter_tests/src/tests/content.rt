@@ -1,5 +1,5 @@
 //! What is walked of a captured packet, and the examples of `ether_content`.
-use ether_content::{Content, is_cut, selects};
+use ether_content::{Content, headers_len, is_cut, selects};
 use ether_filter::Filter;
 use ether_pcap::{CapturedPacket, LinkType};
 use ether_peel::Start;
@@ -105,4 +105,31 @@ fn of_selects(rt: HostRuntime) -> Result<(), Fail> {
         assert_eq!(rt; selected, Ok(wanted));
     }
     Ok(())
+}
+
+#[test]
+fn of_headers_len(rt: HostRuntime) {
+    let tagged = [
+        0xFF, 0xFF, 0xFF, 0xFF, 0xFF, 0xFF, 0x02, 0x00, 0x00, 0x00, 0x00, 0x01, 0x81, 0x00, // Ethernet II
+        0xB1, 0x23, 0x08, 0x00, // VLAN 291
+        0x45, 0x00,
+    ];
+    for (name, packet, wanted) in [
+        ("a tag and a payload", packet(1, None, 60, &tagged), 18),
+        ("a tag cut short", packet(1, None, 60, &tagged[..17]), 14),
+        ("a check sequence", packet(1, Some(4), 18, &[0xFF; 18]), 14),
+        (
+            "cooked capture v2, of which the ARP packet is missing",
+            packet(276, None, 60, &LINUX_SLL2),
+            20,
+        ),
+        (
+            "cooked capture v2 cut short",
+            packet(276, None, 60, &LINUX_SLL2[..19]),
+            0,
+        ),
+        ("raw IP", packet(101, None, 60, &tagged), 0),
+    ] {
+        assert_eq!(rt; (name, headers_len(&packet)), (name, wanted));
+    }
 }

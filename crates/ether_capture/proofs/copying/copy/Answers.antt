@@ -2,6 +2,7 @@ use Rattle.std.proofs.Common.{rules, ap, ◌∙◌, List, ℕ}
 use Rattle.std.specs.Io.KnownBytes.{append_known}
 use Rattle.ether_text.proofs.KnownBytesLemmas.{append_known_nil}
 use Rattle.ether_text.proofs.RunLemmas.{run_fails}
+use Rattle.ether_capture.specs.Options.{selection_view}
 use Rattle.ether_capture.specs.Run.{stream_of}
 use Rattle.ether_capture.proofs.CopyingLemmas.{HasCopied-same}
 use Rattle.ether_capture.proofs.copying.copy.Goals as goal
@@ -12,7 +13,7 @@ returns-clause-run g c =
     ap (λ (l : List ℕ). append_known (g.W.Sink.contents c.new-out.result.writer.now) l)
     c.new-out.ensures.none_waits
     ∙ append_known_nil _ ∙ ap g.W.Sink.contents c.new-out.ensures.contents in
-    HasCopied-same c.args.filter.now c.copy_capture.result _ _ _ _ _ _ _ _
+    HasCopied-same (selection_view c.args.asked.now) c.copy_capture.result _ _ _ _ _ _ _ _
     (ap g.R.Source.remaining c.new-input.ensures.remaining) (search rules) none (search rules)
     c.copy_capture.ensures.run
 

@@ -5,11 +5,12 @@ use Rattle.ether_text.specs.OutputBuffer.{contents_of}
 use Rattle.ether_text.proofs.KnownBytesLemmas.{Consumes-none, Consumes-then}
 use Rattle.ether_text.proofs.InputReaderLemmas.{ReadsOn-none, ReadsOn-then, read_stops}
 use Rattle.ether_text.proofs.OutputBufferLemmas.{Marks-none, Marks-then}
+use Rattle.ether_capture.specs.Options.{selection_view}
 use Rattle.ether_capture.specs.InputBuffer.{items}
 use Rattle.ether_capture.specs.CopyLoop.{CopyReached}
 use Rattle.ether_capture.proofs.CopyLoopLemmas.{CopyReached-start, CopyReached-more, CopyReached-written_out}
 use Rattle.ether_capture.proofs.RunLemmas.{has_room, consumed_all, same_left}
-use Rattle.ether_capture.proofs.CopyingLemmas.{broken_off, finished, stopped_at_end, stopped_for_good, without_memory}
+use Rattle.ether_capture.proofs.CopyingLemmas.{broken_off, finished, stopped_at_end, stopped_for_good, stopped_with, without_memory}
 use Rattle.ether_text.proofs.RunLemmas.{on_input}
 use Rattle.ether_capture.specs.Run.{stream_of}
 use Rattle.ether_capture.proofs.copying.copy_units.Goals as goal
@@ -26,46 +27,48 @@ loop-buffer-init g c = (
     reached =
         subst
         (λ (l : List ℕ).
-        CopyReached c.args.filter.now g.W.Sink.contents (contents_of g.W.Sink.contents c.args.out.now) [] l
+        CopyReached (selection_view c.args.asked.now) g.W.Sink.contents (contents_of g.W.Sink.contents c.args.out.now)
+        [] l
         c.new-units.result c.args.out.now)
         (sym c.clear.ensures)
-        (CopyReached-start c.args.filter.now g.W.Sink.contents c.new-units.result c.args.out.now c.new-units.ensures);
+        (CopyReached-start (selection_view c.args.asked.now) g.W.Sink.contents c.new-units.result
+        c.args.out.now c.new-units.ensures);
   },
 )
 
 pub returns-in_default-clause-run : goal.returns-in_default-clause-run
 returns-in_default-clause-run g c =
     let (taken, so_far) = c.loop-buffer.invariant in
-    let select = c.args.filter.now in
+    let asked = selection_view c.args.asked.now in
     let contents = g.W.Sink.contents in
     let held = contents_of contents c.args.out.now in
     let before = g.R.Source.remaining c.args.input.now.inner.now in
     let mid = g.R.Source.remaining c.loop-buffer.input.inner.now in
-    let left = items c.copy_buffered.new.buffer in
-    let at = c.copy_buffered.new.units in
+    let left = items c.copy_units.new.self in
+    let at = c.copy_units.new.units in
     let rest = c.in_ok-error.ensures.ok in
     let reached = rest.reached held taken so_far.reached in
-    stopped_for_good select contents before mid held taken left at c.copy_buffered.new.out c.in_ok-error.error
+    stopped_for_good asked contents before mid held taken left at c.copy_units.new.out c.in_ok-error.error
     c.fault.result c.fault.ensures so_far.read
     rest.refused (search rules) reached
 
 pub returns-in_err-make_room-clause-run : goal.returns-in_err-make_room-clause-run
 returns-in_err-make_room-clause-run g c =
     let (taken, so_far) = c.loop-buffer.invariant in
-    let select = c.args.filter.now in
+    let asked = selection_view c.args.asked.now in
     let contents = g.W.Sink.contents in
     let held = contents_of contents c.args.out.now in
     let before = g.R.Source.remaining c.args.input.now.inner.now in
     let mid = g.R.Source.remaining c.loop-buffer.input.inner.now in
-    let left = items c.copy_buffered.new.buffer in
-    let at = c.copy_buffered.new.units in
+    let left = items c.copy_units.new.self in
+    let at = c.copy_units.new.units in
     let rest = c.in_ok-error.ensures.ok in
     let reached = rest.reached held taken so_far.reached in
     let out = c.write_out.new.self in
     let flushed =
-    CopyReached-written_out select contents held taken left at c.copy_buffered.new.out out
+    CopyReached-written_out asked contents held taken left at c.copy_units.new.out out
     c.in_ok-write_out.ensures.ok reached in
-    without_memory select contents before mid held c.from_residual-in_err-make_room.result taken left at out
+    without_memory asked contents before mid held c.from_residual-in_err-make_room.result taken left at out
     (capture_refusal_view c.in_ok-error.error) c.in-Some.required_len
     c.from_residual-in_err-make_room.ensures.1 so_far.read rest.refused (search rules) c.in_err-make_room.ensures.failed
     flushed
@@ -73,40 +76,40 @@ returns-in_err-make_room-clause-run g c =
 pub returns-in_err-read-clause-run : goal.returns-in_err-read-clause-run
 returns-in_err-read-clause-run g c =
     let (taken, so_far) = c.loop-buffer.invariant in
-    let select = c.args.filter.now in
+    let asked = selection_view c.args.asked.now in
     let contents = g.W.Sink.contents in
     let held = contents_of contents c.args.out.now in
     let before = g.R.Source.remaining c.args.input.now.inner.now in
     let mid = g.R.Source.remaining c.loop-buffer.input.inner.now in
-    let left = items c.copy_buffered.new.buffer in
-    let at = c.copy_buffered.new.units in
+    let left = items c.copy_units.new.self in
+    let at = c.copy_units.new.units in
     let rest = c.in_ok-error.ensures.ok in
     let reached = rest.reached held taken so_far.reached in
     let out = c.write_out.new.self in
     let after = g.R.Source.remaining c.read.new.input.inner.now in
     let flushed =
-    CopyReached-written_out select contents held taken left at c.copy_buffered.new.out out
+    CopyReached-written_out asked contents held taken left at c.copy_units.new.out out
     c.in_ok-write_out.ensures.ok reached in
-    broken_off select contents before after held mid c.from_residual-in_err-read.result taken left at out
+    broken_off asked contents before after held mid c.from_residual-in_err-read.result taken left at out
     (capture_refusal_view c.in_ok-error.error)
     so_far.read c.in_err-read.ensures.kept c.from_residual-in_err-read.ensures.1 rest.refused (search rules) flushed
 
 pub returns-then-is_over-clause-run : goal.returns-then-is_over-clause-run
 returns-then-is_over-clause-run g c =
     let (taken, so_far) = c.loop-buffer.invariant in
-    let select = c.args.filter.now in
+    let asked = selection_view c.args.asked.now in
     let contents = g.W.Sink.contents in
     let held = contents_of contents c.args.out.now in
     let before = g.R.Source.remaining c.args.input.now.inner.now in
     let mid = g.R.Source.remaining c.loop-buffer.input.inner.now in
-    let left = items c.copy_buffered.new.buffer in
-    let at = c.copy_buffered.new.units in
+    let left = items c.copy_units.new.self in
+    let at = c.copy_units.new.units in
     let rest = c.in_ok-error.ensures.ok in
     let reached = rest.reached held taken so_far.reached in
     let out = c.write_out.new.self in
     let after = g.R.Source.remaining c.read.new.input.inner.now in
     let flushed =
-    CopyReached-written_out select contents held taken left at c.copy_buffered.new.out out
+    CopyReached-written_out asked contents held taken left at c.copy_units.new.out out
     c.in_ok-write_out.ensures.ok reached in
     let (more, is_len, added, consumed) = c.in_ok-read.ensures.ok in
     let grown : items c.read.new.self ≡ left ++ more =
@@ -119,24 +122,24 @@ returns-then-is_over-clause-run g c =
     let read = consumed_all before mid after taken more so_far.read consumed none in
     let same : items c.read.new.self ≡ left = grown ∙ same_left left more none in
     let over = subst (λ (l : List ℕ). IsEnd at.reader l) same (c.is_over.ensures.0 (search rules)) in
-    finished select contents before after held taken left at out read end over flushed
+    finished asked contents before after held taken left at out read end over flushed
 
 pub returns-then-branch-eq0-clause-run : goal.returns-then-branch-eq0-clause-run
 returns-then-branch-eq0-clause-run g c =
     let (taken, so_far) = c.loop-buffer.invariant in
-    let select = c.args.filter.now in
+    let asked = selection_view c.args.asked.now in
     let contents = g.W.Sink.contents in
     let held = contents_of contents c.args.out.now in
     let before = g.R.Source.remaining c.args.input.now.inner.now in
     let mid = g.R.Source.remaining c.loop-buffer.input.inner.now in
-    let left = items c.copy_buffered.new.buffer in
-    let at = c.copy_buffered.new.units in
+    let left = items c.copy_units.new.self in
+    let at = c.copy_units.new.units in
     let rest = c.in_ok-error.ensures.ok in
     let reached = rest.reached held taken so_far.reached in
     let out = c.write_out.new.self in
     let after = g.R.Source.remaining c.read.new.input.inner.now in
     let flushed =
-    CopyReached-written_out select contents held taken left at c.copy_buffered.new.out out
+    CopyReached-written_out asked contents held taken left at c.copy_units.new.out out
     c.in_ok-write_out.ensures.ok reached in
     let (more, is_len, added, consumed) = c.in_ok-read.ensures.ok in
     let grown : items c.read.new.self ≡ left ++ more =
@@ -152,25 +155,25 @@ returns-then-branch-eq0-clause-run g c =
     λ (over : IsEnd at.reader left). let t =
     c.is_over.ensures.1 (subst (λ (l : List ℕ). IsEnd at.reader l) (sym same) over) in
     absurd cc in
-    stopped_at_end select contents before after held taken left at out c.in_ok-error.error
+    stopped_at_end asked contents before after held taken left at out c.in_ok-error.error
     c.fault-then-branch-eq0.result c.fault-then-branch-eq0.ensures read end more_left rest.refused flushed
 
 pub loop-buffer-preserved : goal.loop-buffer-preserved
 loop-buffer-preserved g c =
     let (taken, so_far) = c.loop-buffer.invariant in
-    let select = c.args.filter.now in
+    let asked = selection_view c.args.asked.now in
     let contents = g.W.Sink.contents in
     let held = contents_of contents c.args.out.now in
     let before = g.R.Source.remaining c.args.input.now.inner.now in
     let mid = g.R.Source.remaining c.loop-buffer.input.inner.now in
-    let left = items c.copy_buffered.new.buffer in
-    let at = c.copy_buffered.new.units in
+    let left = items c.copy_units.new.self in
+    let at = c.copy_units.new.units in
     let rest = c.in_ok-error.ensures.ok in
     let reached = rest.reached held taken so_far.reached in
     let out = c.write_out.new.self in
     let after = g.R.Source.remaining c.read.new.input.inner.now in
     let flushed =
-    CopyReached-written_out select contents held taken left at c.copy_buffered.new.out out
+    CopyReached-written_out asked contents held taken left at c.copy_units.new.out out
     c.in_ok-write_out.ensures.ok reached in
     let (more, is_len, added, consumed) = c.in_ok-read.ensures.ok in
     let grown : items c.read.new.self ≡ left ++ more =
@@ -178,25 +181,25 @@ loop-buffer-preserved g c =
       taken ++ more,
       record {
         same_reader = c.read.ensures.same_reader ∙ so_far.same_reader;
-        same_writer = c.write_out.ensures.same_writer ∙ c.copy_buffered.ensures.same_writer ∙ so_far.same_writer;
+        same_writer = c.write_out.ensures.same_writer ∙ c.copy_units.ensures.same_writer ∙ so_far.same_writer;
         read = Consumes-then before mid after taken more so_far.read consumed;
         on =
             ReadsOn-then g.R.Source.remaining _ _ _ so_far.on
             (c.in_ok-read.ensures.on (omega (arith, c.if-branch-eq0.false)));
         marks =
-            Marks-then _ _ _ (Marks-then _ _ _ so_far.marks c.copy_buffered.ensures.marks) c.write_out.ensures.marks;
+            Marks-then _ _ _ (Marks-then _ _ _ so_far.marks c.copy_units.ensures.marks) c.write_out.ensures.marks;
         reached =
-            subst (λ (l : List ℕ). CopyReached select contents held (taken ++ more) l at out) (sym grown)
-            (CopyReached-more select contents held taken left more at out flushed);
+            subst (λ (l : List ℕ). CopyReached asked contents held (taken ++ more) l at out) (sym grown)
+            (CopyReached-more asked contents held taken left more at out flushed);
       },
     )
 
 pub returns-in_err-error-clause-marks : goal.returns-in_err-error-clause-marks
-returns-in_err-error-clause-marks g c = Marks-then _ _ _ c.loop-buffer.invariant.1.marks c.copy_buffered.ensures.marks
+returns-in_err-error-clause-marks g c = Marks-then _ _ _ c.loop-buffer.invariant.1.marks c.copy_units.ensures.marks
 
 pub returns-in_err-write_out-clause-marks : goal.returns-in_err-write_out-clause-marks
 returns-in_err-write_out-clause-marks g c =
-    Marks-then _ _ _ (Marks-then _ _ _ c.loop-buffer.invariant.1.marks c.copy_buffered.ensures.marks)
+    Marks-then _ _ _ (Marks-then _ _ _ c.loop-buffer.invariant.1.marks c.copy_units.ensures.marks)
     c.write_out.ensures.marks
 
 pub returns-in_err-read-clause-cause : goal.returns-in_err-read-clause-cause
@@ -210,15 +213,27 @@ returns-in_err-read-clause-cause g c =
 
 pub returns-in_err-read-clause-marks : goal.returns-in_err-read-clause-marks
 returns-in_err-read-clause-marks g c =
-    Marks-then _ _ _ (Marks-then _ _ _ c.loop-buffer.invariant.1.marks c.copy_buffered.ensures.marks)
+    Marks-then _ _ _ (Marks-then _ _ _ c.loop-buffer.invariant.1.marks c.copy_units.ensures.marks)
     c.write_out.ensures.marks
 
 pub returns-then-is_over-clause-marks : goal.returns-then-is_over-clause-marks
 returns-then-is_over-clause-marks g c =
-    Marks-then _ _ _ (Marks-then _ _ _ c.loop-buffer.invariant.1.marks c.copy_buffered.ensures.marks)
+    Marks-then _ _ _ (Marks-then _ _ _ c.loop-buffer.invariant.1.marks c.copy_units.ensures.marks)
     c.write_out.ensures.marks
 
 pub returns-then-branch-eq0-clause-marks : goal.returns-then-branch-eq0-clause-marks
 returns-then-branch-eq0-clause-marks g c =
-    Marks-then _ _ _ (Marks-then _ _ _ c.loop-buffer.invariant.1.marks c.copy_buffered.ensures.marks)
+    Marks-then _ _ _ (Marks-then _ _ _ c.loop-buffer.invariant.1.marks c.copy_units.ensures.marks)
     c.write_out.ensures.marks
+
+pub returns-in_err-error-clause-run : goal.returns-in_err-error-clause-run
+returns-in_err-error-clause-run g c =
+    let (taken, so_far) = c.loop-buffer.invariant in
+    let asked = selection_view c.args.asked.now in
+    let contents = g.W.Sink.contents in
+    let held = contents_of contents c.args.out.now in
+    let before = g.R.Source.remaining c.args.input.now.inner.now in
+    let mid = g.R.Source.remaining c.loop-buffer.input.inner.now in
+    stopped_with asked contents before mid held c.from_residual.result c.in_err-error.field-0.0 taken
+    (items c.loop-buffer.buffer) c.loop-buffer.units c.loop-buffer.out c.copy_units.new.out c.from_residual.ensures.1
+    c.in_err-error.ensures.fault c.in_err-error.ensures.stopped so_far.read so_far.reached

@@ -3,6 +3,7 @@ use Rattle.std.specs.Io.KnownBytes.{Consumes}
 use Rattle.ether_text.specs.InputReader.{ReadsOn}
 use Rattle.ether_text.specs.OutputBuffer.{contents_of, Marks}
 use Rattle.ether_capture.specs.CopyLoop.{CopyReached}
+use Rattle.ether_capture.specs.Options.{selection_view}
 use Rattle.ether_capture.specs.InputBuffer.{items}
 use Rattle.ether_capture.proofs.copying.copy_units.Given as goal
 
@@ -14,7 +15,7 @@ invariant-loop-buffer g l =
       read : Consumes (g.R.Source.remaining l.fn.input.inner.now) (g.R.Source.remaining l.input.inner.now) taken;
       on : ReadsOn g.R.Source.remaining l.fn.input l.input;
       marks : Marks g.W.Sink.can_fail l.fn.out l.out;
-      reached : CopyReached l.fn.filter g.W.Sink.contents (contents_of g.W.Sink.contents l.fn.out) taken
+      reached : CopyReached (selection_view l.fn.asked) g.W.Sink.contents (contents_of g.W.Sink.contents l.fn.out) taken
           (items l.buffer)
           l.units l.out;
     }

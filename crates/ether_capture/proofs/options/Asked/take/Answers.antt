@@ -2,7 +2,7 @@ use Rattle.std.proofs.Common.{rules, ℕ, List, map, ap, subst}
 use Rattle.std.specs.Prelude.{string_bytes}
 use Rattle.ether_capture.specs.Options.{IsWord, asked_view, words_left}
 use Rattle.ether_capture.specs.declared.options.Word.TheVariants as kinds
-use Rattle.ether_capture.proofs.OptionsLemmas.{ask_plain, ask_write, ask_select, none_taken, none_mapped, ask_name_last}
+use Rattle.ether_capture.proofs.OptionsLemmas.{ask_plain, ask_write, ask_cut, ask_select, none_taken, none_mapped, ask_name_last}
 use Rattle.ether_capture.proofs.options.Asked.take.Goals as goal
 
 pub returns-in-Name-clause-ok : goal.returns-in-Name-clause-ok
@@ -22,6 +22,11 @@ pub returns-in-Write-clause-ok : goal.returns-in-Write-clause-ok
 returns-in-Write-clause-ok c =
     let is = subst (λ (w : List ℕ). IsWord w kinds.Write) c.as_str.ensures.value c.in-Write.ensures in
     ask_write (asked_view c.args.self.now) (string_bytes c.args.word) (words_left c.args.args.now) is (search rules)
+
+pub returns-in-Cut-clause-ok : goal.returns-in-Cut-clause-ok
+returns-in-Cut-clause-ok c =
+    let is = subst (λ (w : List ℕ). IsWord w kinds.Cut) c.as_str.ensures.value c.in-Cut.ensures in
+    ask_cut (asked_view c.args.self.now) (string_bytes c.args.word) (words_left c.args.args.now) is (search rules)
 
 pub returns-in-Some-clause-ok : goal.returns-in-Some-clause-ok
 returns-in-Some-clause-ok c =

@@ -1,0 +1,63 @@
+//! How many bytes of a captured packet its headers take.
+ghost use Rattle.std.specs.Prelude.{◌≤◌, length};
+ghost use Rattle.ether_pcap.specs.CaptureViews.{captured_packet_view};
+ghost use Rattle.ether_content.specs.Content.{content_of};
+ghost use Rattle.ether_content.specs.Content as contents;
+ghost use Rattle.ether_content.specs.Headers.{HeadersTake, Reaches};
+ghost use Rattle.ether_peel.specs.Walker.Start.{next_of};
+
+use crate::content::{Content, payload_of};
+use ether_packet::min_snap_len;
+use ether_pcap::CapturedPacket;
+use ether_peel::Start;
+use ether_sll2::{LinuxSll2Header, LinuxSll2Slice};
+
+/// How many bytes of a packet its link-layer headers take, with the payloads whose lengths they name: cut to so many bytes, it keeps all
+/// headers.
+///
+/// A header that is refused does not count, and a packet whose link type the walk does not know has none.
+///
+/// ```
+/// let packet = CapturedPacket {
+///     time: None,
+///     original_len: 60,
+///     link_type: LinkType::ETHERNET,
+///     fcs_len: None,
+///     packet: &[
+///         0xFF, 0xFF, 0xFF, 0xFF, 0xFF, 0xFF, 0x02, 0x00, 0x00, 0x00, 0x00, 0x01, 0x81, 0x00, // Ethernet II
+///         0xB1, 0x23, 0x08, 0x00, // VLAN 291
+///         0x45, 0x00,
+///     ],
+/// };
+/// assert_eq!(rt; headers_len(&packet), 18);
+/// ```
+pub fn headers_len(packet: &CapturedPacket<'_>) -> usize
+    ensures { HeadersTake (content_of (captured_packet_view packet.now)) result }
+{
+    match Content::of(packet) {
+        Content::Frame(start, frame) => frame_len(start, frame),
+        Content::LinuxSll2(bytes) => linux_sll2_len(bytes),
+        Content::Unknown => 0,
+    }
+}
+
+/// How far the headers of a frame reach.
+fn frame_len(start: Start, frame: &[u8]) -> usize
+    ensures reaches { Reaches (next_of start) frame.now result }
+    ensures within { result ≤ length frame.now }
+{
+    min_snap_len(start, frame)
+}
+
+/// How many bytes of a packet of cooked capture v2 its headers take.
+fn linux_sll2_len(bytes: &[u8]) -> usize
+    ensures { HeadersTake (contents.LinuxSll2 bytes.now) result }
+{
+    match LinuxSll2Slice::from_slice(bytes) {
+        Ok(_) => match payload_of(bytes) {
+            Some((start, payload)) => LinuxSll2Header::LEN + frame_len(start, payload),
+            None => LinuxSll2Header::LEN,
+        },
+        Err(_) => 0,
+    }
+}
