@@ -47,7 +47,8 @@ packet_copied bytes front copy x y len n p begins is =
     subst (λ (k : ℕ). Begins (take len bytes) x k (Some p) x) (sym s.1)
     (subst (λ (z : Expectation). Begins (take len bytes) x len (Some p) z) same s.0) in
     subst (λ (z : Expectation). Begins (front ++ copy) x (length front) (Some (cut_packet n p)) z) (sym same)
-    (unit_local front copy x x (length front) (Some (cut_packet n p)) (cut_begins x (take len bytes) front p n whole is))
+    (unit_local front copy x x (length front) (Some (cut_packet n p))
+    (cut_begins x (take len bytes) front p n whole is))
 
 -- a unit that is copied is not empty
 some_copied : (bytes copy : List ℕ) (x y : Expectation) (len : ℕ) (p : Option PacketValue) → Begins bytes x len p y
@@ -164,7 +165,8 @@ module _ (Keeps : PacketValue → Type 0) (cut : PacketValue → ℕ) where
   stopped_at x bytes copy kept rest fault q (not_cut _ y _ len p begins is no_front) e =
       let same : p ≡ q = cc in
       let s = unit_taken bytes x y len (Some p) begins in
-      let here = subst (λ (z : Expectation). Begins bytes x len (Some p) z) (same_after bytes x y len p begins) begins in
+      let here =
+      subst (λ (z : Expectation). Begins bytes x len (Some p) z) (same_after bytes x y len p begins) begins in
       let whole : Begins (take len bytes) x (length (take len bytes)) (Some p) x =
       subst (λ (k : ℕ). Begins (take len bytes) x k (Some p) x) (sym s.1)
       (subst (λ (z : Expectation). Begins (take len bytes) x len (Some p) z) (same_after bytes x y len p begins) s.0) in

@@ -105,8 +105,13 @@ module _ (Keeps : PacketValue → Type 0) (cut : PacketValue → ℕ) where
   one_step fuel x bytes copy other kept left rest rest2 fault fault2 le ok (refusal r more refuses) (end is) =
       absurd (more is)
   one_step fuel x bytes copy other kept left rest rest2 fault fault2 le ok (refusal r more refuses)
-      (refusal s more2 refuses2) =
-      (refl, refl, refl, ap (λ (t : CaptureRefusal). Some (Refused t)) (unit_refusal_one bytes x r s ok refuses refuses2))
+      (refusal s more2 refuses2) = (
+        refl,
+        refl,
+        refl,
+        ap (λ (t : CaptureRefusal). Some (Refused t))
+            (unit_refusal_one bytes x r s ok refuses refuses2),
+      )
   one_step fuel x bytes copy other kept left rest rest2 fault fault2 le ok (refusal r more refuses)
       (stuck n q z begins kept2 none) =
       absurd (unit_apart bytes x z n (Some q) r ok begins refuses)

@@ -118,7 +118,8 @@ module _ (order : Order) (m n : ℕ) (b : List ℕ) (le : n ≤ m) (whole : 20 +
 -- ---- blocks
 
 -- a body that is written within a block, and the total length at both places
-pub block_written : (u s v y w : List ℕ) (k : ℕ) → 12 ≤ length u → length w ≡ 4 → length s ≡ length u - 12 → k ≤ length s
+pub block_written : (u s v y w : List ℕ) (k : ℕ) → 12 ≤ length u → length w ≡ 4 → length s ≡ length u - 12
+    → k ≤ length s
     → v ≡ take 8 u ++ s ++ drop (length u - 4) u
     → y ≡ overwritten v 4 w
     → take (12 + k) (overwritten y (8 + k) w) ≡ slice_range u 0 4 ++ w ++ take k s ++ w
@@ -132,7 +133,8 @@ block_written u s v y w k least four slen small body first =
     let rest = drop (4 + length w) all in
     let start : take 4 all ≡ take 4 u =
     part-append (take 8 u ++ s) more 0 4 (omega arith) (omega (arith, head))
-    ∙ part-append (take 8 u) s 0 4 (omega arith) (omega (arith, eight)) ∙ part_of_front u 8 0 4 (omega arith) (omega arith) in
+    ∙ part-append (take 8 u) s 0 4 (omega arith) (omega (arith, eight))
+    ∙ part_of_front u 8 0 4 (omega arith) (omega arith) in
     let none : k - 0 ≡ k = omega arith in
     let part : slice_range all 8 (8 + k) ≡ take k s =
     part-append (take 8 u ++ s) more 8 (8 + k) (omega arith) (omega (arith, head, small))
@@ -140,7 +142,15 @@ block_written u s v y w k least four slen small body first =
     let new = overwritten all 4 w in
     let nlen : length new ≡ length u =
     length-append (take 4 all ++ w) rest
-    ∙ omega (arith, length-append (take 4 all) w, length-take-le 4 all (omega (arith, alen, least)), length-drop (4 + length w) all, four, alen, least) in
+    ∙ omega (
+      arith,
+      length-append (take 4 all) w,
+      length-take-le 4 all (omega (arith, alen, least)),
+      length-drop (4 + length w) all,
+      four,
+      alen,
+      least,
+    ) in
     let front : take (8 + k) new ≡ take 4 u ++ w ++ take k s =
     number_written all w 4 (8 + k) four (omega arith) (omega (arith, alen, slen, small))
     ∙ ap (λ (l : List ℕ). l ++ w ++ slice_range all 8 (8 + k)) start
@@ -201,7 +211,8 @@ block_cut_in_place order number_len m n k u s v y new least slen small klen cut_
     let cut = cut_body order m n (slice_range u 8 (length u - 4)) in
     let bytes = block_bytes order kind cut in
     let type_len : length kind ≡ 4 = length-part u 0 4 (omega arith) ∙ omega arith in
-    let len : length bytes ≡ 12 + k = length-block_bytes order kind cut type_len ∙ ap (λ (i : ℕ). 12 + i) (sym klen) in (
+    let len : length bytes ≡ 12 + k = length-block_bytes order kind cut type_len
+    ∙ ap (λ (i : ℕ). 12 + i) (sym klen) in (
       ap Some (sym len),
       ap (λ (i : ℕ). take i new) len ∙ ap (take (12 + k)) last
           ∙ block_written u s v y w k least four slen small body first

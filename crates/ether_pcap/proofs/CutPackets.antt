@@ -35,9 +35,10 @@ record_shorter h u cut p n begins lt is =
     let long : length (cut_record h.order n u) ≡ record_len t =
     length-cut_front h.order 8 n u (omega (arith, s.1.whole, le)) ∙ omega (arith, length-take-le n r.packet le) in
     let unit = file_record h t (record_cut h.order n u r le s.1) in
-    subst (λ (l : List ℕ). Begins l (Records h) (length l) (Some (cut_packet n p)) (Records h)) (same_bytes _ _ is)
-    (subst (λ (k : ℕ). Begins (cut_record h.order n u) (Records h) k (Some (cut_packet n p)) (Records h)) (sym long)
-    (subst (λ (q : PacketValue). Begins (cut_record h.order n u) (Records h) (record_len t) (Some (cut_packet n q)) (Records h)) (sym s.3) unit))
+    let Unit = λ (l : List ℕ) (k : ℕ) (q : PacketValue). Begins l (Records h) k (Some (cut_packet n q)) (Records h) in
+    subst (λ (l : List ℕ). Unit l (length l) p) (same_bytes _ _ is)
+    (subst (λ (k : ℕ). Unit (cut_record h.order n u) k p) (sym long)
+    (subst (Unit (cut_record h.order n u) (record_len t)) (sym s.3) unit))
 
 -- ---- blocks
 
@@ -59,7 +60,8 @@ module _ (order : Order) (interfaces : List CaptureInterfaceValue) (u : List ℕ
   enhanced_shorter : (number_len : ℕ) (cut : List ℕ) → number_len ≤ 4
       → kind_of_block b.value.block_type ≡ EnhancedPacket number_len
       → IsBody (EnhancedPacket number_len) order interfaces b.value.body (Some p) interfaces
-      → block_bytes order (slice_range u 0 4) (cut_body order (length p.packet) n (slice_range u 8 (length u - 4))) ≡ cut
+      → block_bytes order (slice_range u 0 4)
+      (cut_body order (length p.packet) n (slice_range u 8 (length u - 4))) ≡ cut
       → Begins cut (Blocks order interfaces) (length cut) (Some (cut_packet n p)) (Blocks order interfaces)
   enhanced_shorter number_len cut few kind (i, v, options, is, at, has, e, f) bytes =
       let same : p ≡ packet_on order i v options = same_packet p (packet_on order i v options) e in
@@ -77,23 +79,28 @@ module _ (order : Order) (interfaces : List CaptureInterfaceValue) (u : List ℕ
       let other : HasSectionType all → ⊥ =
       λ (has : HasSectionType all). b.other (ap number (sym (block_bytes-type order type_bytes new four)) ∙ has) in
       let k : EnhancedPacket number_len ≡ kind_of_block (field order u 0 4) = sym (ap kind_of_block t ∙ kind) in
-      let inside : IsBody (EnhancedPacket number_len) order interfaces new (Some (cut_packet n (packet_on order i v options))) interfaces =
+      let q : PacketValue = cut_packet n (packet_on order i v options) in
+      let inside : IsBody (EnhancedPacket number_len) order interfaces new (Some q) interfaces =
       (i, w, options, body_cut number_len order n body v few le is, at, has, refl, refl) in
-      let unit : Begins all (Blocks order interfaces) (12 + length new) (Some (cut_packet n (packet_on order i v options))) (Blocks order interfaces) =
-      block order interfaces interfaces (Some (cut_packet n (packet_on order i v options)))
-      (record { block_type = field order u 0 4; body = new }) other begins
-      (subst (λ (z : BlockKind). IsBody z order interfaces new (Some (cut_packet n (packet_on order i v options))) interfaces) k inside) in
+      let x = Blocks order interfaces in
+      let unit : Begins all x (12 + length new) (Some q) x =
+      block order interfaces interfaces (Some q) (record { block_type = field order u 0 4; body = new }) other begins
+      (subst (λ (z : BlockKind). IsBody z order interfaces new (Some q) interfaces) k inside) in
       let is_cut : all ≡ cut =
-      ap (λ (l : List ℕ). block_bytes order type_bytes (cut_body order (length v.packet) n l)) (sym (body_of_unit order interfaces u p b len))
-      ∙ ap (λ (j : ℕ). block_bytes order type_bytes (cut_body order j n (slice_range u 8 (length u - 4)))) (sym m) ∙ bytes in
-      subst (λ (l : List ℕ). Begins l (Blocks order interfaces) (length l) (Some (cut_packet n p)) (Blocks order interfaces)) is_cut
-      (subst (λ (j : ℕ). Begins all (Blocks order interfaces) j (Some (cut_packet n p)) (Blocks order interfaces)) (sym (length-block_bytes order type_bytes new four))
-      (subst (λ (q : PacketValue). Begins all (Blocks order interfaces) (12 + length new) (Some (cut_packet n q)) (Blocks order interfaces)) (sym same) unit))
+      ap (λ (l : List ℕ). block_bytes order type_bytes (cut_body order (length v.packet) n l))
+      (sym (body_of_unit order interfaces u p b len))
+      ∙ ap (λ (j : ℕ). block_bytes order type_bytes (cut_body order j n (slice_range u 8 (length u - 4)))) (sym m)
+      ∙ bytes in
+      let Unit = λ (l : List ℕ) (j : ℕ) (q : PacketValue). Begins l x j (Some (cut_packet n q)) x in
+      subst (λ (l : List ℕ). Unit l (length l) p) is_cut
+      (subst (λ (j : ℕ). Unit all j p) (sym (length-block_bytes order type_bytes new four))
+      (subst (Unit all (12 + length new)) (sym same) unit))
 
   -- what is cut is an enhanced packet, or an obsolete packet block
   by_kind : (kind : BlockKind) (cut : List ℕ) → cut_block kind order (length p.packet) n u ≡ Some cut
       → (number_len : ℕ) × (kind ≡ EnhancedPacket number_len)
-      × (block_bytes order (slice_range u 0 4) (cut_body order (length p.packet) n (slice_range u 8 (length u - 4))) ≡ cut)
+      × (block_bytes order (slice_range u 0 4)
+      (cut_body order (length p.packet) n (slice_range u 8 (length u - 4))) ≡ cut)
   by_kind InterfaceDescription cut is = absurd cc
   by_kind SimplePacket cut is = absurd cc
   by_kind (EnhancedPacket k) cut is = (k, refl, same_bytes _ _ is)
@@ -134,7 +141,13 @@ shorter_begins (Blocks order interfaces) u cut p n begins lt is =
 -- a packet that has no more bytes
 pub uncut : (n : ℕ) (p : PacketValue) → length p.packet ≤ n → p ≡ cut_packet n p
 uncut n p le = let e = take_all n p.packet le in
-    λ i. record { time = p.time; original_len = p.original_len; link_type = p.link_type; fcs_len = p.fcs_len; packet = sym e i }
+    λ i. record {
+      time = p.time;
+      original_len = p.original_len;
+      link_type = p.link_type;
+      fcs_len = p.fcs_len;
+      packet = sym e i;
+    }
 
 -- the unit of a packet that is cut is one of the packet with fewer captured bytes
 pub cut_begins : (x : Expectation) (u cut : List ℕ) (p : PacketValue) (n : ℕ) → Begins u x (length u) (Some p) x
@@ -142,10 +155,12 @@ pub cut_begins : (x : Expectation) (u cut : List ℕ) (p : PacketValue) (n : ℕ
 cut_begins x u cut p n begins is =
     elim (cases_lt n (length p.packet)) [
       | inl lt ↦ shorter_begins x u cut p n begins lt
-          (subst (λ b. (if b then cut_shorter x (length p.packet) n u else Some u) ≡ Some cut) (lt-ltb n (length p.packet) lt) is)
+          (subst (λ b. (if b then cut_shorter x (length p.packet) n u else Some u) ≡ Some cut)
+          (lt-ltb n (length p.packet) lt) is)
       | inr le ↦
           let e : Some u ≡ Some cut =
-          subst (λ b. (if b then cut_shorter x (length p.packet) n u else Some u) ≡ Some cut) (le-ltb n (length p.packet) le) is in
+          subst (λ b. (if b then cut_shorter x (length p.packet) n u else Some u) ≡ Some cut)
+          (le-ltb n (length p.packet) le) is in
           subst (λ (l : List ℕ). Begins l x (length l) (Some (cut_packet n p)) x) (same_bytes u cut e)
           (subst (λ (q : PacketValue). Begins u x (length u) (Some q) x) (uncut n p le) begins)
     ]
@@ -167,13 +182,20 @@ keeps_packet x n old new len cuts p begins =
 
 -- ---- a packet that can't be cut
 
-simple_by_kind : (kind : BlockKind) (order : Order) (interfaces : List CaptureInterfaceValue) (u body : List ℕ) (m n : ℕ)
+simple_by_kind : (kind : BlockKind) (order : Order) (interfaces : List CaptureInterfaceValue) (u body : List ℕ)
+    (m n : ℕ)
     (p : PacketValue)
     → IsBody kind order interfaces body (Some p) interfaces → cut_block kind order m n u ≡ None → p.time ≡ None
 simple_by_kind InterfaceDescription order interfaces u body m n p (i, d, lt, e, f) is = absurd cc
 simple_by_kind SimplePacket order interfaces u body m n p (i, q, at, v, e, f) is =
     let a : PacketValue =
-    record { time = None; original_len = q.original_len; link_type = i.link_type; fcs_len = i.fcs_len; packet = q.packet } in
+    record {
+      time = None;
+      original_len = q.original_len;
+      link_type = i.link_type;
+      fcs_len = i.fcs_len;
+      packet = q.packet;
+    } in
     ap (λ (r : PacketValue). r.time) (same_packet p a e)
 simple_by_kind (EnhancedPacket k) order interfaces u body m n p body_is is = absurd cc
 simple_by_kind Other order interfaces u body m n p (e, f) is = absurd cc
@@ -197,10 +219,12 @@ not_shorter x u p n begins is =
       | inl lt ↦ (
         lt,
         simple_if x u p n begins
-            (subst (λ b. (if b then cut_shorter x (length p.packet) n u else Some u) ≡ None) (lt-ltb n (length p.packet) lt) is),
+            (subst (λ b. (if b then cut_shorter x (length p.packet) n u else Some u) ≡ None)
+            (lt-ltb n (length p.packet) lt) is),
       )
       | inr le ↦
           let e : Some u ≡ None =
-          subst (λ b. (if b then cut_shorter x (length p.packet) n u else Some u) ≡ None) (le-ltb n (length p.packet) le) is in
+          subst (λ b. (if b then cut_shorter x (length p.packet) n u else Some u) ≡ None)
+          (le-ltb n (length p.packet) le) is in
           absurd cc
     ]

@@ -91,19 +91,27 @@ module _ (order : Order) (place n : ℕ) (bytes : List ℕ) (room : place + 8 + 
   pub length-cut_front : length (cut_front order place n bytes) ≡ place + 8 + n
   length-cut_front =
       let l = length-part bytes (place + 4) (place + 8 + n) room in
-      omega (arith, length-append (slice_range bytes 0 place ++ word order n) (slice_range bytes (place + 4) (place + 8 + n)), l, length-with_number)
+      omega (
+        arith,
+        length-append (slice_range bytes 0 place ++ word order n)
+            (slice_range bytes (place + 4) (place + 8 + n)),
+        l,
+        length-with_number,
+      )
 
   pub cut_front-before : (i j : ℕ) → i ≤ j → j ≤ place
       → slice_range (cut_front order place n bytes) i j ≡ slice_range bytes i j
   cut_front-before i j ij le =
       let a = slice_range bytes 0 place in
-      part-append (a ++ word order n) (slice_range bytes (place + 4) (place + 8 + n)) i j ij (omega (arith, le, length-with_number))
+      part-append (a ++ word order n) (slice_range bytes (place + 4) (place + 8 + n)) i j ij
+      (omega (arith, le, length-with_number))
       ∙ part-append a (word order n) i j ij (omega (arith, le, length-before))
       ∙ part_of_front bytes place i j ij le
 
   pub cut_front-number : slice_range (cut_front order place n bytes) place (place + 4) ≡ word order n
   cut_front-number =
-      part_after_front (slice_range bytes 0 place) (word order n) (slice_range bytes (place + 4) (place + 8 + n)) place (place + 4)
+      part_after_front (slice_range bytes 0 place) (word order n) (slice_range bytes (place + 4) (place + 8 + n)) place
+      (place + 4)
       length-before
       (omega (arith, length-word order n))
 
@@ -115,13 +123,15 @@ module _ (order : Order) (place n : ℕ) (bytes : List ℕ) (room : place + 8 + 
       let b = j - s in
       let ia : s + a ≡ i = omega (arith, low) in
       let jb : s + b ≡ j = omega (arith, low, ij) in
-      part_past (slice_range bytes 0 place ++ word order n) (slice_range bytes s (place + 8 + n)) s i j a b length-with_number ia jb
+      part_past (slice_range bytes 0 place ++ word order n)
+      (slice_range bytes s (place + 8 + n)) s i j a b length-with_number ia jb
       ∙ part_of_part bytes s (place + 8 + n) a b (omega (arith, low, ij)) (omega (arith, jb, high))
       ∙ ap (λ (k : ℕ). slice_range bytes k (s + b)) ia ∙ ap (slice_range bytes i) jb
 
 -- ---- records
 
-pub record_cut : (order : Order) (n : ℕ) (bytes : List ℕ) (r : RecordValue) → n ≤ length r.packet → BeginsRecord order bytes r
+pub record_cut : (order : Order) (n : ℕ) (bytes : List ℕ) (r : RecordValue) → n ≤ length r.packet
+    → BeginsRecord order bytes r
     → BeginsRecord order (cut_record order n bytes) (record r { packet = take n r.packet })
 record_cut order n bytes r le is =
     let whole : 16 + length r.packet ≤ length bytes = is.whole in
@@ -131,10 +141,13 @@ record_cut order n bytes r le is =
     let long = length-cut_front order 8 n bytes room in
     let cut = cut_record order n bytes in
     record {
-      seconds = ap (number_in order) (cut_front-before order 8 n bytes room 0 4 (omega arith) (omega arith)) ∙ is.seconds;
-      fraction = ap (number_in order) (cut_front-before order 8 n bytes room 4 8 (omega arith) (omega arith)) ∙ is.fraction;
+      seconds = ap (number_in order) (cut_front-before order 8 n bytes room 0 4 (omega arith) (omega arith))
+          ∙ is.seconds;
+      fraction = ap (number_in order) (cut_front-before order 8 n bytes room 4 8 (omega arith) (omega arith))
+          ∙ is.fraction;
       captured_len =
-          ap (number_in order) (cut_front-number order 8 n bytes room) ∙ number-word order n (omega (arith, le, small)) ∙ sym len;
+          ap (number_in order) (cut_front-number order 8 n bytes room) ∙ number-word order n (omega (arith, le, small))
+          ∙ sym len;
       original_len =
           ap (number_in order) (cut_front-after order 8 n bytes room 12 16 (omega arith) (omega arith) (omega arith))
           ∙ is.original_len;
@@ -154,23 +167,37 @@ module _ (order : Order) (m n : ℕ) (body : List ℕ) (le : n ≤ m) (whole : 2
 
   pub length-before_options : length (cut_front order 12 n body ++ zeros (padded n - n)) ≡ 20 + padded n
   length-before_options =
-      omega (arith, length-append (cut_front order 12 n body) (zeros (padded n - n)), length-zeros (padded n - n), length-cut_front order 12 n body body_room)
+      omega (
+        arith,
+        length-append (cut_front order 12 n body) (zeros (padded n - n)),
+        length-zeros (padded n - n),
+        length-cut_front order 12 n body body_room,
+      )
 
   pub length-cut_body : length (cut_body order m n body) ≡ 20 + padded n + (length body - (20 + padded m))
   length-cut_body =
-      omega (arith, length-append (cut_front order 12 n body ++ zeros (padded n - n)) (drop (20 + padded m) body), length-before_options, length-drop (20 + padded m) body)
+      omega (
+        arith,
+        length-append (cut_front order 12 n body ++ zeros (padded n - n))
+            (drop (20 + padded m) body),
+        length-before_options,
+        length-drop (20 + padded m) body,
+      )
 
   in_front : (i j : ℕ) → i ≤ j → j ≤ 20 + n
       → slice_range (cut_body order m n body) i j ≡ slice_range (cut_front order 12 n body) i j
   in_front i j ij high =
       let front = cut_front order 12 n body in
       let long = length-cut_front order 12 n body body_room in
-      part-append (front ++ zeros (padded n - n)) (drop (20 + padded m) body) i j ij (omega (arith, high, length-before_options))
+      part-append (front ++ zeros (padded n - n)) (drop (20 + padded m) body) i j ij
+      (omega (arith, high, length-before_options))
       ∙ part-append front (zeros (padded n - n)) i j ij (omega (arith, high, long))
 
-pub body_cut : (number_len : ℕ) (order : Order) (n : ℕ) (body : List ℕ) (v : EnhancedPacketValue) → number_len ≤ 4 → n ≤ length v.packet
+pub body_cut : (number_len : ℕ) (order : Order) (n : ℕ) (body : List ℕ) (v : EnhancedPacketValue) → number_len ≤ 4
+    → n ≤ length v.packet
     → IsEnhancedPacket number_len order body v
-    → IsEnhancedPacket number_len order (cut_body order (length v.packet) n body) (record v { packet = take n v.packet })
+    → IsEnhancedPacket number_len order (cut_body order (length v.packet) n body)
+    (record v { packet = take n v.packet })
 body_cut number_len order n body v few le is =
     let m = length v.packet in
     let whole : 20 + m ≤ length body = is.whole in
@@ -214,14 +241,25 @@ body_cut number_len order n body v few le is =
 module _ (order : Order) (block_type body : List ℕ) (four : length block_type ≡ 4) where
   length-head : length (block_type ++ word order (12 + length body)) ≡ 8
   length-head =
-      omega (arith, length-append block_type (word order (12 + length body)), length-word order (12 + length body), four)
+      omega (
+        arith,
+        length-append block_type (word order (12 + length body)),
+        length-word order (12 + length body),
+        four,
+      )
 
   length-to_trailer : length (block_type ++ word order (12 + length body) ++ body) ≡ 8 + length body
   length-to_trailer = omega (arith, length-append (block_type ++ word order (12 + length body)) body, length-head)
 
   pub length-block_bytes : length (block_bytes order block_type body) ≡ 12 + length body
   length-block_bytes =
-      omega (arith, length-append (block_type ++ word order (12 + length body) ++ body) (word order (12 + length body)), length-to_trailer, length-word order (12 + length body))
+      omega (
+        arith,
+        length-append (block_type ++ word order (12 + length body) ++ body)
+            (word order (12 + length body)),
+        length-to_trailer,
+        length-word order (12 + length body),
+      )
 
   pub block_bytes-type : slice_range (block_bytes order block_type body) 0 4 ≡ block_type
   block_bytes-type =
@@ -231,7 +269,8 @@ module _ (order : Order) (block_type body : List ℕ) (four : length block_type 
       ∙ part-append block_type w 0 4 (omega arith) (omega (arith, four)) ∙ part_all block_type 4 (omega (arith, four))
 
   pub block_begins : IsTotalLen (12 + length body)
-      → BeginsBlock order (block_bytes order block_type body) (record { block_type = number_in order block_type; body = body })
+      → BeginsBlock order (block_bytes order block_type body)
+      (record { block_type = number_in order block_type; body = body })
   block_begins sound =
       let w = word order (12 + length body) in
       let n = length body in
@@ -249,7 +288,8 @@ module _ (order : Order) (block_type body : List ℕ) (four : length block_type 
         body = part_after_front (block_type ++ w) body w 8 (8 + n) length-head refl;
         trailer =
             ap (number_in order)
-            (part_past (block_type ++ w ++ body) w (8 + n) (8 + n) (12 + n) 0 4 length-to_trailer (omega arith) (omega arith)
+            (part_past (block_type ++ w ++ body) w (8 + n) (8 + n) (12 + n) 0 4 length-to_trailer (omega arith)
+            (omega arith)
             ∙ part_all w 4 (omega (arith, four_more)))
             ∙ value;
       }

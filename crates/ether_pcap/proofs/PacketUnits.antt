@@ -66,7 +66,8 @@ type_of n =
     ]
 
 -- a block that is a packet
-pub record PacketBlock (order : Order) (interfaces : List CaptureInterfaceValue) (bytes : List ℕ) (p : PacketValue) : Type 0 where
+pub record PacketBlock (order : Order) (interfaces : List CaptureInterfaceValue) (bytes : List ℕ) (p : PacketValue)
+    : Type 0 where
   pub value : BlockValue
   pub other : HasSectionType bytes → ⊥
   pub begins : BeginsBlock order bytes value
@@ -158,10 +159,13 @@ body_of_unit order interfaces bytes p b len =
 module _ (order : Order) (interfaces : List CaptureInterfaceValue) (u : List ℕ) (n : ℕ) (p : PacketValue)
     (begins : Begins u (Blocks order interfaces) (length u) (Some p) (Blocks order interfaces)) where
   -- an enhanced packet, or an obsolete packet block
-  pub enhanced_cut_in_place : (new : List ℕ) (len : Option ℕ) (number_len : ℕ) → kind_of_block (field order u 0 4) ≡ EnhancedPacket number_len
+  pub enhanced_cut_in_place : (new : List ℕ) (len : Option ℕ) (number_len : ℕ)
+      → kind_of_block (field order u 0 4) ≡ EnhancedPacket number_len
       → ((k : ℕ) (v : EnhancedPacketValue) → IsTotalLen (length u)
       → IsEnhancedPacket k order (slice_range u 8 (length u - 4)) v
-      → LeavesUnit (if nat_lt n (length v.packet) then cut_block (EnhancedPacket k) order (length v.packet) n u else Some u) u new len)
+      → LeavesUnit
+      (if nat_lt n (length v.packet) then cut_block (EnhancedPacket k) order (length v.packet) n u else Some u)
+      u new len)
       → LeavesUnit (cut_unit (Blocks order interfaces) (length p.packet) n u) u new len
   enhanced_cut_in_place new len number_len kind leaves =
       let found = block_of_unit u (Blocks order interfaces) (length u) order interfaces p begins in
@@ -172,17 +176,20 @@ module _ (order : Order) (interfaces : List CaptureInterfaceValue) (u : List ℕ
       subst (λ (z : BlockKind). IsBody z order interfaces b.value.body (Some p) interfaces) k b.body in
       let v = body.1 in
       let is : IsEnhancedPacket number_len order (slice_range u 8 (length u - 4)) v =
-      subst (λ (l : List ℕ). IsEnhancedPacket number_len order l v) (sym (body_of_unit order interfaces u p b found.1)) body.3 in
+      subst (λ (l : List ℕ). IsEnhancedPacket number_len order l v)
+      (sym (body_of_unit order interfaces u p b found.1)) body.3 in
       let same : p ≡ packet_on order body.0 v body.2 = same_packet p (packet_on order body.0 v body.2) body.6 in
       let sound : IsTotalLen (length u) = subst IsTotalLen (sym found.1) b.begins.sound in
       let m : length p.packet ≡ length v.packet = ap (λ (q : PacketValue). length q.packet) same in
-      subst (λ (i : ℕ). LeavesUnit (if nat_lt n i then cut_block (kind_of_block (field order u 0 4)) order i n u else Some u) u new len) (sym m)
-      (subst (λ (z : BlockKind). LeavesUnit (if nat_lt n (length v.packet) then cut_block z order (length v.packet) n u else Some u) u new len) (sym kind)
-      (leaves number_len v sound is))
+      let Leaves = λ (z : BlockKind) (i : ℕ).
+      LeavesUnit (if nat_lt n i then cut_block z order i n u else Some u) u new len in
+      subst (Leaves (kind_of_block (field order u 0 4))) (sym m)
+      (subst (λ (z : BlockKind). Leaves z (length v.packet)) (sym kind) (leaves number_len v sound is))
 
   -- a simple packet has as many captured bytes as its interface and its length say
   pub simple_captured : field order u 0 4 ≡ 3
-      → (i : CaptureInterfaceValue) × IsAt interfaces 0 i × (captured_by i.snap_len (field order u 8 12) ≡ length p.packet)
+      → (i : CaptureInterfaceValue) × IsAt interfaces 0 i
+      × (captured_by i.snap_len (field order u 8 12) ≡ length p.packet)
   simple_captured kind =
       let found = block_of_unit u (Blocks order interfaces) (length u) order interfaces p begins in
       let b = found.0 in
@@ -193,50 +200,56 @@ module _ (order : Order) (interfaces : List CaptureInterfaceValue) (u : List ℕ
       let is = body.3 in
       let i = body.0 in
       let q : PacketValue =
-      record { time = None; original_len = v.original_len; link_type = i.link_type; fcs_len = i.fcs_len; packet = v.packet } in
+      record {
+        time = None;
+        original_len = v.original_len;
+        link_type = i.link_type;
+        fcs_len = i.fcs_len;
+        packet = v.packet;
+      } in
       let same : p ≡ q = same_packet p q body.4 in
       let whole : 4 + length v.packet ≤ length b.value.body = is.whole in
       let place : field order b.value.body 0 4 ≡ field order u 8 12 =
       ap (λ (l : List ℕ). field order l 0 4) (sym (body_of_unit order interfaces u p b found.1))
       ∙ ap (number_in order) (part_of_part u 8 (length u - 4) 0 4 (omega arith) (omega (arith, found.1, whole))) in
-      (body.0, body.2, ap (captured_by body.0.snap_len) (sym place) ∙ is.captured_len ∙ ap (λ (q : PacketValue). length q.packet) (sym same))
+      let len = is.captured_len ∙ ap (λ (r : PacketValue). length r.packet) (sym same) in
+      (i, body.2, ap (captured_by i.snap_len) (sym place) ∙ len)
+
+  captured_on : (i : CaptureInterfaceValue) → field order u 0 4 ≡ 3 → IsAt interfaces 0 i
+      → captured_by i.snap_len (field order u 8 12) ≡ length p.packet
+  captured_on i kind at =
+      let s = simple_captured kind in
+      ap (λ (z : CaptureInterfaceValue). captured_by z.snap_len (field order u 8 12))
+      (at_one interfaces 0 i s.0 at s.1)
+      ∙ s.2
 
   pub simple_stays : (i : CaptureInterfaceValue) → field order u 0 4 ≡ 3 → IsAt interfaces 0 i
       → captured_by i.snap_len (field order u 8 12) ≤ n
       → LeavesUnit (cut_unit (Blocks order interfaces) (length p.packet) n u) u u (Some (length u))
   simple_stays i kind at le =
-      let s = simple_captured kind in
-      let m : captured_by i.snap_len (field order u 8 12) ≡ length p.packet =
-      ap (λ (z : CaptureInterfaceValue). captured_by z.snap_len (field order u 8 12)) (at_one interfaces 0 i s.0 at s.1) ∙ s.2 in
-      stays n (length p.packet) _ u (subst (λ (k : ℕ). k ≤ n) m le)
+      stays n (length p.packet) _ u (subst (λ (k : ℕ). k ≤ n) (captured_on i kind at) le)
 
   pub simple_refused : (i : CaptureInterfaceValue) → field order u 0 4 ≡ 3 → IsAt interfaces 0 i
       → n < captured_by i.snap_len (field order u 8 12)
       → LeavesUnit (cut_unit (Blocks order interfaces) (length p.packet) n u) u u None
   simple_refused i kind at lt =
-      let s = simple_captured kind in
-      let m : captured_by i.snap_len (field order u 8 12) ≡ length p.packet =
-      ap (λ (z : CaptureInterfaceValue). captured_by z.snap_len (field order u 8 12)) (at_one interfaces 0 i s.0 at s.1) ∙ s.2 in
       let k : kind_of_block (field order u 0 4) ≡ SimplePacket = ap kind_of_block kind in
       shortens n (length p.packet) (cut_block (kind_of_block (field order u 0 4)) order (length p.packet) n u) u u None
-      (subst (λ (k : ℕ). n < k) m lt)
+      (subst (λ (k : ℕ). n < k) (captured_on i kind at) lt)
       (rw k (refl, refl))
-
-  pub simple_alone : field order u 0 4 ≡ 3 → HasNoInterface interfaces 0 → ⊥
-  simple_alone kind none =
-      let s = simple_captured kind in omega (arith, none, at_within interfaces 0 s.0 s.1)
 
   pub no_packet : (field order u 0 4 ≡ 2 → ⊥) → (field order u 0 4 ≡ 3 → ⊥) → (field order u 0 4 ≡ 6 → ⊥) → ⊥
   no_packet two three six =
       let found = block_of_unit u (Blocks order interfaces) (length u) order interfaces p begins in
       let b = found.0 in
       let t = b.begins.block_type in
+      let Is = λ (z : BlockKind). IsBody z order interfaces b.value.body (Some p) interfaces in
       elim (type_of b.value.block_type) [
-        | is_interface e ↦ none_described b.value.body (subst (λ (z : BlockKind). IsBody z order interfaces b.value.body (Some p) interfaces) (ap kind_of_block e) b.body)
+        | is_interface e ↦ none_described b.value.body (subst Is (ap kind_of_block e) b.body)
         | is_obsolete e ↦ two (t ∙ e)
         | is_simple e ↦ three (t ∙ e)
         | is_enhanced e ↦ six (t ∙ e)
-        | is_other e ↦ none_other b.value.body (subst (λ (z : BlockKind). IsBody z order interfaces b.value.body (Some p) interfaces) e b.body)
+        | is_other e ↦ none_other b.value.body (subst Is e b.body)
       ]
     where
       none_described : (body : List ℕ) → IsBody InterfaceDescription order interfaces body (Some p) interfaces → ⊥

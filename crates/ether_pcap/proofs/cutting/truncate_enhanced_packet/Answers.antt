@@ -34,7 +34,10 @@ returns c number_len v sound is =
     let len = rw e at call.ensures.len in
     let cut = rw e at call.ensures.cut in
     let slen : length s ≡ length u - 12 = call.auto.body ∙ length-body order number_len u v sound is in
-    let body = part_written u s _ (length u - 4 - 8) sound.least refl (slen ∙ omega arith) (put_mid-paste 8 (length u - 4 - 8) u s s (length u - 4 - 8) refl refl (sym (slen ∙ omega arith))) in
+    let body =
+    part_written u s _ (length u - 4 - 8) sound.least refl (slen ∙ omega arith)
+    (put_mid-paste 8 (length u - 4 - 8) u s s (length u - 4 - 8) refl refl (sym (slen ∙ omega arith))) in
     shortens n m _ u c.write_u32-2.new.bytes _ lt
-    (block_cut_in_place order number_len m n k u s _ c.write_u32.new.bytes c.write_u32-2.new.bytes sound.least slen (omega (arith, call.ensures.within, slen))
+    (block_cut_in_place order number_len m n k u s _ c.write_u32.new.bytes c.write_u32-2.new.bytes sound.least slen
+    (omega (arith, call.ensures.within, slen))
     len cut body c.write_u32.ensures c.write_u32-2.ensures)
