@@ -95,7 +95,7 @@ record_refused_local order bytes more r (record_rows.too_long le lt) e =
 
 -- ---- blocks
 
-block_local : (order : Order) (bytes more : List ℕ) (b : BlockValue) → BeginsBlock order bytes b
+pub block_local : (order : Order) (bytes more : List ℕ) (b : BlockValue) → BeginsBlock order bytes b
     → BeginsBlock order (bytes ++ more) b
 block_local order bytes more b is =
     let whole : 12 + length b.body ≤ length bytes = is.whole in

@@ -1,21 +1,16 @@
 -- What a copy of a capture file has.
-use Rattle.std.proofs.Common.{◌≡◌, ◌≢◌, ◌⊎◌, ℕ, zero, suc, ◌<◌, ◌≤◌, Bool, true, false, List, [], ◌∷◌, ◌++◌, length, map, drop, length-append, length-drop, append_assoc, refl, sym, ap, subst, ◌∙◌, arith, inl, inr, Some, None}
-use Rattle.std.specs.Prelude.{Option, IsTrue, take, ⊤, nat_lt, nat_eq, slice_range, unwrap_or, if◌then◌else◌}
-use Rattle.std.proofs.lemmas.Bool.{cases_lt, lt-ltb, le-ltb}
+use Rattle.std.proofs.Common.{◌≡◌, ◌≢◌, ◌⊎◌, ℕ, zero, suc, ◌<◌, ◌≤◌, Bool, true, false, List, [], ◌∷◌, ◌++◌, length, drop, length-append, length-drop, append_assoc, refl, sym, ap, subst, ◌∙◌, arith, inl, inr, Some, None}
+use Rattle.std.specs.Prelude.{Option, IsTrue, take, ⊤, unwrap_or, if◌then◌else◌}
+use Rattle.std.proofs.lemmas.Bool.{le-ltb}
 use Rattle.std.proofs.lemmas.List.{length-take-le, take-append-drop, drop_at}
-use Rattle.ether_base.specs.Bytes.{IsBytes}
-use Rattle.ether_base.proofs.SubLists.{IsBytes-drop}
 use Rattle.ether_pcap.specs.Capture.{PacketValue, Expectation, Beginning, CaptureRefusal, Begins, Refuses, IsEnd, HasPackets}
 use Rattle.ether_pcap.specs.Capture as packets
-use Rattle.ether_pcap.specs.CaptureLaws.{Packets}
 use Rattle.ether_pcap.specs.Cutting.{cut_shorter, cut_unit, cut_packet}
 use Rattle.ether_pcap.specs.Copies.{CopyFault, Refused, NotCut, Copies, ended, refused, not_cut, unit, keeps, leaves, none, one_kept, one_left, cut_all, CutsNone, IsRead, HasPacketsTo, HasSource, IsNotCut, Copy}
 use Rattle.ether_pcap.proofs.CaptureLengths.{unit_within, unit_some}
 use Rattle.ether_pcap.proofs.CaptureLocality.{unit_local, unit_alone}
 use Rattle.ether_pcap.proofs.CaptureSome.{at_end, some_unit, some_packets}
-use Rattle.ether_pcap.proofs.CapturesOne.{unit_one, unit_apart, unit_refusal_one}
 use Rattle.ether_pcap.proofs.CutPackets.{cut_begins, uncut, not_shorter}
-use Rattle.ether_pcap.proofs.PacketsOne.{none_at_end}
 use Rattle.ether_pcap.proofs.PacketUnits.{same_after, begun, no_packet_first}
 
 -- ---- units

@@ -1,5 +1,5 @@
 -- Any bytes have one copy.
-use Rattle.std.proofs.Common.{◌≡◌, ◌⊎◌, ℕ, zero, suc, ◌<◌, ◌≤◌, Bool, List, [], ◌∷◌, ◌++◌, length, drop, length-drop, refl, sym, ap, subst, ◌∙◌, arith, inl, inr, Some, None}
+use Rattle.std.proofs.Common.{◌≡◌, ◌⊎◌, ℕ, zero, suc, ◌≤◌, Bool, List, [], ◌∷◌, ◌++◌, length, drop, length-drop, refl, sym, ap, subst, ◌∙◌, arith, inl, inr, Some, None}
 use Rattle.std.specs.Prelude.{Option, IsTrue, take, unwrap_or}
 use Rattle.ether_base.specs.Bytes.{IsBytes}
 use Rattle.ether_base.proofs.SubLists.{IsBytes-drop}

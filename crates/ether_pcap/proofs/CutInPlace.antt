@@ -12,10 +12,11 @@ use Rattle.ether_pcap.specs.Numbers.{Order, number_in, field}
 use Rattle.ether_pcap.specs.Block.{IsTotalLen}
 use Rattle.ether_pcap.specs.Bodies.{EnhancedPacketValue, IsEnhancedPacket}
 use Rattle.ether_pcap.specs.Options.{padded}
-use Rattle.ether_pcap.specs.Writing.{zeros}
+use Rattle.ether_pcap.specs.Writing.{bytes_of, zeros}
 use Rattle.ether_pcap.specs.Capture.{EnhancedPacket}
-use Rattle.ether_pcap.specs.Cutting.{word, cut_record, cut_body, block_bytes, cut_block, LeavesUnit}
-use Rattle.ether_pcap.proofs.CutUnits.{length-word, length-zeros, part_past, length-cut_front, length-block_bytes}
+use Rattle.ether_pcap.specs.Cutting.{cut_record, cut_body, block_bytes, cut_block, LeavesUnit}
+use Rattle.ether_pcap.proofs.Numbers.{length-bytes_of}
+use Rattle.ether_pcap.proofs.CutUnits.{length-zeros, part_past, length-cut_front, length-block_bytes}
 
 -- the padding, from at most three zeros
 pub zeros_of_three : (k : ℕ) → k ≤ 3 → take k (0 ∷ 0 ∷ 0 ∷ []) ≡ zeros k
@@ -72,9 +73,9 @@ module _ (order : Order) (m n : ℕ) (b : List ℕ) (le : n ≤ m) (whole : 20 +
 
   pub body_written : (x y : List ℕ) → x ≡ copy_within b from_options (length b) to_options
       → y ≡ overwritten x (20 + n) (zeros (padded n - n))
-      → take (to_options + options_len) (overwritten y 12 (word order n)) ≡ cut_body order m n b
+      → take (to_options + options_len) (overwritten y 12 (bytes_of order 4 n)) ≡ cut_body order m n b
   body_written x y is written =
-      let w = word order n in
+      let w = bytes_of order 4 n in
       let z = zeros (padded n - n) in
       let e = to_options in
       let k = options_len in
@@ -110,7 +111,7 @@ module _ (order : Order) (m n : ℕ) (b : List ℕ) (le : n ≤ m) (whole : 20 +
       let head : take 12 all ≡ take 12 b = in_front 0 12 (omega arith) (omega arith) in
       let front = take 12 b ++ w in
       ap (λ (l : List ℕ). take (e + k) (overwritten l 12 w)) same
-      ∙ number_written all w 12 (e + k) (length-word order n) (omega arith) ylong
+      ∙ number_written all w 12 (e + k) (length-bytes_of order 4 n) (omega arith) ylong
       ∙ ap (λ (l : List ℕ). l ++ w ++ slice_range all 16 (e + k)) head
       ∙ ap (λ (l : List ℕ). front ++ l) tail
       ∙ sym (append_assoc front s (z ++ d)) ∙ sym (append_assoc (front ++ s) z d)
@@ -202,11 +203,11 @@ pub block_cut_in_place : (order : Order) (number_len m n k : ℕ) (u s v y new :
     → k ≡ length (cut_body order m n (slice_range u 8 (length u - 4)))
     → take k s ≡ cut_body order m n (slice_range u 8 (length u - 4))
     → v ≡ take 8 u ++ s ++ drop (length u - 4) u
-    → y ≡ overwritten v 4 (word order (12 + k)) → new ≡ overwritten y (8 + k) (word order (12 + k))
+    → y ≡ overwritten v 4 (bytes_of order 4 (12 + k)) → new ≡ overwritten y (8 + k) (bytes_of order 4 (12 + k))
     → LeavesUnit (cut_block (EnhancedPacket number_len) order m n u) u new (Some (12 + k))
 block_cut_in_place order number_len m n k u s v y new least slen small klen cut_is body first last =
-    let w = word order (12 + k) in
-    let four = length-word order (12 + k) in
+    let w = bytes_of order 4 (12 + k) in
+    let four = length-bytes_of order 4 (12 + k) in
     let kind = slice_range u 0 4 in
     let cut = cut_body order m n (slice_range u 8 (length u - 4)) in
     let bytes = block_bytes order kind cut in
@@ -217,14 +218,14 @@ block_cut_in_place order number_len m n k u s v y new least slen small klen cut_
       ap (λ (i : ℕ). take i new) len ∙ ap (take (12 + k)) last
           ∙ block_written u s v y w k least four slen small body first
           ∙ ap (λ (l : List ℕ). kind ++ w ++ l ++ w) cut_is
-          ∙ ap (λ (i : ℕ). kind ++ word order (12 + i) ++ cut ++ word order (12 + i)) klen,
+          ∙ ap (λ (i : ℕ). kind ++ bytes_of order 4 (12 + i) ++ cut ++ bytes_of order 4 (12 + i)) klen,
     )
 
 pub record_cut_in_place : (order : Order) (n : ℕ) (u new : List ℕ) → 16 + n ≤ length u
-    → new ≡ overwritten u 8 (word order n) → LeavesUnit (Some (cut_record order n u)) u new (Some (16 + n))
+    → new ≡ overwritten u 8 (bytes_of order 4 n) → LeavesUnit (Some (cut_record order n u)) u new (Some (16 + n))
 record_cut_in_place order n u new room is =
     let len : length (cut_record order n u) ≡ 16 + n = length-cut_front order 8 n u room in (
       ap Some (sym len),
       ap (λ (i : ℕ). take i new) len ∙ ap (take (16 + n)) is
-          ∙ number_written u (word order n) 8 (16 + n) (length-word order n) (omega arith) room,
+          ∙ number_written u (bytes_of order 4 n) 8 (16 + n) (length-bytes_of order 4 n) (omega arith) room,
     )

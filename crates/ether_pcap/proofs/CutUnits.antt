@@ -1,58 +1,16 @@
 -- Units whose packet is cut.
-use Rattle.std.proofs.Common.{◌≡◌, ℕ, ◌+◌, ◌-◌, ◌*◌, ◌^◌, ◌<◌, ◌≤◌, List, [], ◌∷◌, ◌++◌, length, take, drop, reverse, refl, sym, ap, ◌∙◌, arith, length-append, length-drop}
+use Rattle.std.proofs.Common.{◌≡◌, ℕ, ◌+◌, ◌-◌, ◌*◌, ◌^◌, ◌≤◌, List, ◌++◌, length, take, drop, refl, sym, ap, ◌∙◌, arith, length-append, length-drop}
 use Rattle.std.specs.Prelude.{slice_range, zero, suc}
-use Rattle.std.proofs.lemmas.List.{reverse-reverse, length-reverse, length-take-le, take-take, drop-drop, drop_at}
-use Rattle.ether_base.specs.Bytes.{IsBytes, number, spelled}
-use Rattle.ether_base.proofs.Numbers.{IsBytes-nil, IsBytes-cons, length-spelled, number-spelled, spelled-is}
+use Rattle.std.proofs.lemmas.List.{length-take-le, take-take, drop-drop, drop_at}
 use Rattle.ether_base.proofs.SubLists.{length-part, part-append, part_of_part, part_of_front, part_all, part_after_front}
-use Rattle.ether_pcap.specs.Numbers.{Order, BigEndian, LittleEndian, number_from_low, number_in, field}
+use Rattle.ether_pcap.specs.Numbers.{Order, number_in, field}
 use Rattle.ether_pcap.specs.Record.{RecordValue, BeginsRecord}
 use Rattle.ether_pcap.specs.Block.{IsTotalLen, BeginsBlock}
 use Rattle.ether_pcap.specs.Options.{padded}
 use Rattle.ether_pcap.specs.Bodies.{EnhancedPacketValue, IsEnhancedPacket}
-use Rattle.ether_pcap.specs.Writing.{zeros}
-use Rattle.ether_pcap.specs.Cutting.{word, cut_front, cut_record, cut_body, block_bytes}
-
--- ---- the bytes of a number
-
-pub length-word : (order : Order) (n : ℕ) → length (word order n) ≡ 4
-length-word BigEndian n = length-spelled 4 n
-length-word LittleEndian n = length-reverse (spelled 4 n) ∙ length-spelled 4 n
-
-number_reversed : (l : List ℕ) → length l ≡ 4 → number_from_low l ≡ number (reverse l)
-number_reversed [] len = absurd (omega arith)
-number_reversed (a ∷ []) len = absurd (omega arith)
-number_reversed (a ∷ b ∷ []) len = absurd (omega arith)
-number_reversed (a ∷ b ∷ c ∷ []) len = absurd (omega arith)
-number_reversed (a ∷ b ∷ c ∷ d ∷ []) len = omega arith
-number_reversed (a ∷ b ∷ c ∷ d ∷ e ∷ l) len = absurd (omega arith)
-
-IsBytes-reversed : (l : List ℕ) → length l ≡ 4 → IsBytes l → IsBytes (reverse l)
-IsBytes-reversed [] len ok = absurd (omega arith)
-IsBytes-reversed (a ∷ []) len ok = absurd (omega arith)
-IsBytes-reversed (a ∷ b ∷ []) len ok = absurd (omega arith)
-IsBytes-reversed (a ∷ b ∷ c ∷ []) len ok = absurd (omega arith)
-IsBytes-reversed (a ∷ b ∷ c ∷ d ∷ []) len ok =
-    IsBytes-cons d (c ∷ b ∷ a ∷ []) (ok 3)
-    (IsBytes-cons c (b ∷ a ∷ []) (ok 2) (IsBytes-cons b (a ∷ []) (ok 1) (IsBytes-cons a [] (ok 0) IsBytes-nil)))
-IsBytes-reversed (a ∷ b ∷ c ∷ d ∷ e ∷ l) len ok = absurd (omega arith)
-
-pub number-word : (order : Order) (n : ℕ) → n < 4294967296 → number_in order (word order n) ≡ n
-number-word BigEndian n lt = number-spelled 4 n lt
-number-word LittleEndian n lt =
-    number_reversed (reverse (spelled 4 n)) (length-word LittleEndian n) ∙ ap number (reverse-reverse (spelled 4 n))
-    ∙ number-spelled 4 n lt
-
--- four bytes are those of their number
-pub word_is : (order : Order) (bytes : List ℕ) (n : ℕ) → length bytes ≡ 4 → IsBytes bytes → number_in order bytes ≡ n
-    → bytes ≡ word order n
-word_is BigEndian bytes n len ok e = sym (spelled-is 4 bytes len ok) ∙ ap (spelled 4) e
-word_is LittleEndian bytes n len ok e =
-    let back = reverse bytes in
-    let same : back ≡ spelled 4 n =
-    sym (spelled-is 4 back (length-reverse bytes ∙ len) (IsBytes-reversed bytes len ok))
-    ∙ ap (spelled 4) (sym (number_reversed bytes len) ∙ e) in
-    sym (reverse-reverse bytes) ∙ ap (λ (l : List ℕ). reverse l) same
+use Rattle.ether_pcap.specs.Writing.{bytes_of, zeros}
+use Rattle.ether_pcap.specs.Cutting.{cut_front, cut_record, cut_body, block_bytes}
+use Rattle.ether_pcap.proofs.Numbers.{length-bytes_of, number-bytes_of}
 
 pub length-zeros : (n : ℕ) → length (zeros n) ≡ n
 length-zeros zero = refl
@@ -84,16 +42,16 @@ module _ (order : Order) (place n : ℕ) (bytes : List ℕ) (room : place + 8 + 
   length-before : length (slice_range bytes 0 place) ≡ place
   length-before = length-part bytes 0 place (omega (arith, room)) ∙ omega arith
 
-  length-with_number : length (slice_range bytes 0 place ++ word order n) ≡ place + 4
+  length-with_number : length (slice_range bytes 0 place ++ bytes_of order 4 n) ≡ place + 4
   length-with_number =
-      omega (arith, length-append (slice_range bytes 0 place) (word order n), length-before, length-word order n)
+      omega (arith, length-append (slice_range bytes 0 place) (bytes_of order 4 n), length-before, length-bytes_of order 4 n)
 
   pub length-cut_front : length (cut_front order place n bytes) ≡ place + 8 + n
   length-cut_front =
       let l = length-part bytes (place + 4) (place + 8 + n) room in
       omega (
         arith,
-        length-append (slice_range bytes 0 place ++ word order n)
+        length-append (slice_range bytes 0 place ++ bytes_of order 4 n)
             (slice_range bytes (place + 4) (place + 8 + n)),
         l,
         length-with_number,
@@ -103,17 +61,17 @@ module _ (order : Order) (place n : ℕ) (bytes : List ℕ) (room : place + 8 + 
       → slice_range (cut_front order place n bytes) i j ≡ slice_range bytes i j
   cut_front-before i j ij le =
       let a = slice_range bytes 0 place in
-      part-append (a ++ word order n) (slice_range bytes (place + 4) (place + 8 + n)) i j ij
+      part-append (a ++ bytes_of order 4 n) (slice_range bytes (place + 4) (place + 8 + n)) i j ij
       (omega (arith, le, length-with_number))
-      ∙ part-append a (word order n) i j ij (omega (arith, le, length-before))
+      ∙ part-append a (bytes_of order 4 n) i j ij (omega (arith, le, length-before))
       ∙ part_of_front bytes place i j ij le
 
-  pub cut_front-number : slice_range (cut_front order place n bytes) place (place + 4) ≡ word order n
+  pub cut_front-number : slice_range (cut_front order place n bytes) place (place + 4) ≡ bytes_of order 4 n
   cut_front-number =
-      part_after_front (slice_range bytes 0 place) (word order n) (slice_range bytes (place + 4) (place + 8 + n)) place
+      part_after_front (slice_range bytes 0 place) (bytes_of order 4 n) (slice_range bytes (place + 4) (place + 8 + n)) place
       (place + 4)
       length-before
-      (omega (arith, length-word order n))
+      (omega (arith, length-bytes_of order 4 n))
 
   pub cut_front-after : (i j : ℕ) → place + 4 ≤ i → i ≤ j → j ≤ place + 8 + n
       → slice_range (cut_front order place n bytes) i j ≡ slice_range bytes i j
@@ -123,7 +81,7 @@ module _ (order : Order) (place n : ℕ) (bytes : List ℕ) (room : place + 8 + 
       let b = j - s in
       let ia : s + a ≡ i = omega (arith, low) in
       let jb : s + b ≡ j = omega (arith, low, ij) in
-      part_past (slice_range bytes 0 place ++ word order n)
+      part_past (slice_range bytes 0 place ++ bytes_of order 4 n)
       (slice_range bytes s (place + 8 + n)) s i j a b length-with_number ia jb
       ∙ part_of_part bytes s (place + 8 + n) a b (omega (arith, low, ij)) (omega (arith, jb, high))
       ∙ ap (λ (k : ℕ). slice_range bytes k (s + b)) ia ∙ ap (slice_range bytes i) jb
@@ -146,7 +104,7 @@ record_cut order n bytes r le is =
       fraction = ap (number_in order) (cut_front-before order 8 n bytes room 4 8 (omega arith) (omega arith))
           ∙ is.fraction;
       captured_len =
-          ap (number_in order) (cut_front-number order 8 n bytes room) ∙ number-word order n (omega (arith, le, small))
+          ap (number_in order) (cut_front-number order 8 n bytes room) ∙ number-bytes_of order 4 n (omega (arith, le, small))
           ∙ sym len;
       original_len =
           ap (number_in order) (cut_front-after order 8 n bytes room 12 16 (omega arith) (omega arith) (omega arith))
@@ -216,7 +174,7 @@ body_cut number_len order n body v few le is =
           ∙ ap (λ (k : ℕ). field order body 4 8 * 2 ^ 32 + k) (same 8 12 (omega arith) (omega arith)) ∙ is.time;
       captured_len =
           ap (number_in order) (front 12 16 (omega arith) (omega arith) ∙ cut_front-number order 12 n body room)
-          ∙ number-word order n (omega (arith, le, small)) ∙ sym len;
+          ∙ number-bytes_of order 4 n (omega (arith, le, small)) ∙ sym len;
       original_len =
           ap (number_in order)
           (front 16 20 (omega arith) (omega arith)
@@ -239,31 +197,31 @@ body_cut number_len order n body v few le is =
 -- ---- blocks
 
 module _ (order : Order) (block_type body : List ℕ) (four : length block_type ≡ 4) where
-  length-head : length (block_type ++ word order (12 + length body)) ≡ 8
+  length-head : length (block_type ++ bytes_of order 4 (12 + length body)) ≡ 8
   length-head =
       omega (
         arith,
-        length-append block_type (word order (12 + length body)),
-        length-word order (12 + length body),
+        length-append block_type (bytes_of order 4 (12 + length body)),
+        length-bytes_of order 4 (12 + length body),
         four,
       )
 
-  length-to_trailer : length (block_type ++ word order (12 + length body) ++ body) ≡ 8 + length body
-  length-to_trailer = omega (arith, length-append (block_type ++ word order (12 + length body)) body, length-head)
+  length-to_trailer : length (block_type ++ bytes_of order 4 (12 + length body) ++ body) ≡ 8 + length body
+  length-to_trailer = omega (arith, length-append (block_type ++ bytes_of order 4 (12 + length body)) body, length-head)
 
   pub length-block_bytes : length (block_bytes order block_type body) ≡ 12 + length body
   length-block_bytes =
       omega (
         arith,
-        length-append (block_type ++ word order (12 + length body) ++ body)
-            (word order (12 + length body)),
+        length-append (block_type ++ bytes_of order 4 (12 + length body) ++ body)
+            (bytes_of order 4 (12 + length body)),
         length-to_trailer,
-        length-word order (12 + length body),
+        length-bytes_of order 4 (12 + length body),
       )
 
   pub block_bytes-type : slice_range (block_bytes order block_type body) 0 4 ≡ block_type
   block_bytes-type =
-      let w = word order (12 + length body) in
+      let w = bytes_of order 4 (12 + length body) in
       part-append (block_type ++ w ++ body) w 0 4 (omega arith) (omega (arith, length-to_trailer))
       ∙ part-append (block_type ++ w) body 0 4 (omega arith) (omega (arith, length-head))
       ∙ part-append block_type w 0 4 (omega arith) (omega (arith, four)) ∙ part_all block_type 4 (omega (arith, four))
@@ -272,10 +230,10 @@ module _ (order : Order) (block_type body : List ℕ) (four : length block_type 
       → BeginsBlock order (block_bytes order block_type body)
       (record { block_type = number_in order block_type; body = body })
   block_begins sound =
-      let w = word order (12 + length body) in
+      let w = bytes_of order 4 (12 + length body) in
       let n = length body in
-      let four_more = length-word order (12 + n) in
-      let value : number_in order w ≡ 12 + n = number-word order (12 + n) (omega (arith, sound.most)) in
+      let four_more = length-bytes_of order 4 (12 + n) in
+      let value : number_in order w ≡ 12 + n = number-bytes_of order 4 (12 + n) (omega (arith, sound.most)) in
       record {
         block_type = ap (number_in order) block_bytes-type;
         total_len =

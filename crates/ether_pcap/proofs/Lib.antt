@@ -1,3 +1,4 @@
+pub mod Numbers
 mod Records
 mod FileHeaders
 mod Writing
@@ -20,3 +21,4 @@ pub mod CutUnits
 pub mod CutInPlace
 pub mod PacketUnits
 pub mod CutPackets
+pub mod WrittenBlocks

@@ -9,9 +9,9 @@ use Rattle.ether_pcap.specs.Block.{BlockValue, IsTotalLen, BeginsBlock}
 use Rattle.ether_pcap.specs.Section.{HasSectionType}
 use Rattle.ether_pcap.specs.FileHeader.{FileHeaderValue}
 use Rattle.ether_pcap.specs.Bodies.{EnhancedPacketValue, IsEnhancedPacket, captured_by}
-use Rattle.ether_pcap.specs.Capture.{PacketValue, packet_of_record, packet_on, CaptureInterfaceValue, IsAt, HasNoInterface, Expectation, Beginning, Records, Blocks, BlockKind, InterfaceDescription, SimplePacket, EnhancedPacket, Other, kind_of_block, IsBody, Begins, file_header, file_record, first_section, section, block}
+use Rattle.ether_pcap.specs.Capture.{PacketValue, packet_of_record, packet_on, CaptureInterfaceValue, IsAt, Expectation, Beginning, Records, Blocks, BlockKind, InterfaceDescription, SimplePacket, EnhancedPacket, Other, kind_of_block, IsBody, Begins, file_header, file_record, first_section, section, block}
 use Rattle.ether_pcap.specs.Cutting.{cut_block, cut_unit, LeavesUnit}
-use Rattle.ether_pcap.proofs.CapturesOne.{at_one, at_within}
+use Rattle.ether_pcap.proofs.CapturesOne.{at_one}
 use Rattle.ether_pcap.proofs.CutInPlace.{stays, shortens}
 
 pub same_packet : (p q : PacketValue) → Some p ≡ Some q → p ≡ q

@@ -1,20 +1,14 @@
 -- The unit of a packet that is cut to fewer captured bytes: a record (draft-ietf-opsawg-pcap, section 5), or a block with an enhanced packet
 -- or an obsolete packet block (draft-ietf-opsawg-pcapng, sections 3.1 and 4.3, appendix A).
-use Rattle.std.specs.Prelude.{◌≡◌, ℕ, ◌+◌, ◌-◌, List, ◌++◌, length, take, drop, reverse, Option, Some, None, IfSome, nat_lt, slice_range, if◌then◌else◌}
-use Rattle.ether_base.specs.Bytes.{spelled}
-use Rattle.ether_pcap.specs.Numbers.{Order, BigEndian, LittleEndian, field}
+use Rattle.std.specs.Prelude.{◌≡◌, ℕ, ◌+◌, ◌-◌, List, ◌++◌, length, take, drop, Option, Some, None, IfSome, nat_lt, slice_range, if◌then◌else◌}
+use Rattle.ether_pcap.specs.Numbers.{Order, field}
 use Rattle.ether_pcap.specs.Options.{padded}
-use Rattle.ether_pcap.specs.Writing.{zeros}
+use Rattle.ether_pcap.specs.Writing.{bytes_of, zeros}
 use Rattle.ether_pcap.specs.Capture.{PacketValue, Expectation, Beginning, Records, Blocks, BlockKind, EnhancedPacket, kind_of_block, Begins}
-
--- the four bytes of a number
-abbrev pub word : Order → ℕ → List ℕ
-word BigEndian n = spelled 4 n
-word LittleEndian n = reverse (spelled 4 n)
 
 -- what comes before the number of captured bytes; n in its place; original length 4 bytes, and n captured bytes
 abbrev pub cut_front : Order → (place n : ℕ) → List ℕ → List ℕ
-cut_front order place n bytes = slice_range bytes 0 place ++ word order n ++ slice_range bytes (place + 4) (place + 8 + n)
+cut_front order place n bytes = slice_range bytes 0 place ++ bytes_of order 4 n ++ slice_range bytes (place + 4) (place + 8 + n)
 
 -- seconds and fraction are before it in a record
 abbrev pub cut_record : Order → (n : ℕ) → List ℕ → List ℕ
@@ -27,7 +21,7 @@ cut_body order m n body = cut_front order 12 n body ++ zeros (padded n - n) ++ d
 -- type, total length, body, total length
 abbrev pub block_bytes : Order → (block_type body : List ℕ) → List ℕ
 block_bytes order block_type body =
-    let total_len = word order (12 + length body) in block_type ++ total_len ++ body ++ total_len
+    let total_len = bytes_of order 4 (12 + length body) in block_type ++ total_len ++ body ++ total_len
 
 abbrev pub cut_block : BlockKind → Order → (m n : ℕ) → List ℕ → Option (List ℕ)
 cut_block (EnhancedPacket number_len) order m n block =

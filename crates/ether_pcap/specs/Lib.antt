@@ -19,3 +19,4 @@ pub mod CaptureReading
 pub mod CaptureLaws
 pub mod Copies
 pub mod Cutting
+pub mod WritingBlocks

@@ -1,10 +1,15 @@
 -- What a classic capture file is written as: all that is read of it, and 0 for the rest (draft-ietf-opsawg-pcap, sections 4 and 5).
-use Rattle.std.specs.Prelude.{◌≡◌, ℕ, zero, suc, ◌+◌, ◌*◌, ◌/◌, ◌%◌, ◌^◌, ◌<◌, ◌≤◌, List, [], ◌∷◌, ◌++◌, length, slice_range, map, Option, Some, None, ⊤}
-use Rattle.ether_base.specs.Bytes.{IsBytes}
-use Rattle.ether_pcap.specs.Numbers.{Order, field}
+use Rattle.std.specs.Prelude.{◌≡◌, ℕ, zero, suc, ◌+◌, ◌*◌, ◌/◌, ◌%◌, ◌^◌, ◌<◌, ◌≤◌, List, [], ◌∷◌, ◌++◌, length, reverse, slice_range, map, Option, Some, None, ⊤}
+use Rattle.ether_base.specs.Bytes.{IsBytes, spelled}
+use Rattle.ether_pcap.specs.Numbers.{Order, BigEndian, LittleEndian, field}
 use Rattle.ether_pcap.specs.FileHeader.{FileHeaderValue, HasMagic}
 use Rattle.ether_pcap.specs.Record.{RecordValue, max_captured_len}
 use Rattle.ether_pcap.specs.Capture.{packet_of_record, Beginning, HasPackets}
+
+-- the k bytes of a number that has room in them
+abbrev pub bytes_of : Order → (k n : ℕ) → List ℕ
+bytes_of BigEndian k n = spelled k n
+bytes_of LittleEndian k n = reverse (spelled k n)
 
 abbrev pub zeros : ℕ → List ℕ
 zeros zero = []

@@ -3,15 +3,17 @@ ghost use Rattle.std.specs.Prelude.{◌≡◌, ℕ, ◌+◌, ◌-◌, ◌<◌, �
 ghost use Rattle.ether_base.specs.Bytes.{overwritten};
 ghost use Rattle.ether_pcap.specs.Block.{IsTotalLen};
 ghost use Rattle.ether_pcap.specs.Bodies.{EnhancedPacketValue, IsEnhancedPacket};
+ghost use Rattle.ether_pcap.specs.Writing.{bytes_of};
 ghost use Rattle.ether_pcap.specs.Options.{padded};
 ghost use Rattle.ether_pcap.specs.Capture.{Records, Blocks, EnhancedPacket as Enhanced};
-ghost use Rattle.ether_pcap.specs.Cutting.{word, cut_body, cut_block, LeavesUnit, CutsUnit};
+ghost use Rattle.ether_pcap.specs.Cutting.{cut_body, cut_block, LeavesUnit, CutsUnit};
 ghost use Rattle.ether_pcap.specs.Views.{order_of, file_header_view};
 ghost use Rattle.ether_pcap.specs.CaptureViews.{interfaces_view};
 
 use crate::capture_blocks::interface_at;
 use crate::capture_interface::CaptureInterface;
 use crate::simple_packet::captured_len;
+use crate::words::word;
 use crate::{ByteOrder, FileHeader, PcapRecord, PcapngBlock};
 
 /// Cuts the packet of a record to `len` bytes. Returns the length of the record then.
@@ -113,9 +115,9 @@ fn padded_len(len: usize) -> usize
 /// Writes a number over the four bytes at a place.
 fn write_u32(order: ByteOrder, bytes: &mut [u8], at: usize, number: u32)
     requires { at + 4 ≤ length bytes.old }
-    ensures { bytes.new ≡ overwritten bytes.old at (word (order_of order) number) }
+    ensures { bytes.new ≡ overwritten bytes.old at (bytes_of (order_of order) 4 number) }
 {
-    write_at(bytes, at, order.bytes_of_u32(number).as_slice())
+    write_at(bytes, at, word(order, number).as_slice())
 }
 
 /// Writes bytes over those at a place.

@@ -1,14 +1,17 @@
 //! The body of an enhanced packet.
-ghost use Rattle.std.specs.Prelude.{◌≡◌, ◌≤◌, List, length, IfOk, IfErr, if◌then◌else◌};
+ghost use Rattle.std.specs.Prelude.{◌≡◌, ◌-◌, ◌%◌, ◌^◌, ◌≤◌, List, ◌++◌, length, IfOk, IfErr, if◌then◌else◌};
 ghost use Rattle.ether_pcap.specs.Numbers.{field};
 ghost use Rattle.ether_pcap.specs.Bodies.{IsEnhancedPacket, RefusesEnhancedPacket};
-ghost use Rattle.ether_pcap.specs.Options.{OptionValue, HasOptions, value_of, number_of};
+ghost use Rattle.ether_pcap.specs.Options.{padded, OptionValue, HasOptions, value_of, number_of};
 ghost use Rattle.ether_pcap.specs.Capture.{fcs_in_flags};
+ghost use Rattle.ether_pcap.specs.Writing.{bytes_of};
+ghost use Rattle.ether_pcap.specs.WritingBlocks.{packet_head, packet_block_len, PacketIsRead};
 ghost use Rattle.ether_pcap.specs.Views.{order_of};
 ghost use Rattle.ether_pcap.specs.PcapngViews.{enhanced_packet_view, body_refusal_view};
 
 use crate::pcapng_option::{bytes_from, u32_option};
-use crate::{BodyError, ByteOrder, PcapRecord};
+use crate::words::{four_words, len_word, seven_words, word};
+use crate::{BodyError, ByteOrder, PcapRecord, PcapngBlock};
 
 /// The code of the option with flags, `epb_flags` of an enhanced packet and `pack_flags` of the obsolete packet block.
 const FLAGS: u16 = 2;
@@ -79,6 +82,70 @@ impl<'a> EnhancedPacket<'a> {
         ensures refused { IfErr result (λ e. RefusesEnhancedPacket (order_of byte_order) body.now (body_refusal_view e)) }
     {
         packet_of_body(byte_order, false, body)
+    }
+
+    /// How many zeros follow the packet in its block.
+    pub fn padding_len(&self) -> usize
+        ensures { let n = length self.now.packet.now in result ≡ padded n - n }
+    {
+        (self.packet.len() + 3) / 4 * 4 - self.packet.len()
+    }
+
+    /// The length of the block, modulo 2^32.
+    fn block_len(&self) -> u32
+        ensures { result ≡ packet_block_len (enhanced_packet_view self.now) % 2 ^ 32 }
+    {
+        let padded_len = (self.packet.len() + 3) / 4 * 4;
+        ((32 + padded_len % 0x1_0000_0000 + self.options.len() % 0x1_0000_0000)
+            % 0x1_0000_0000) as u32
+    }
+
+    /// The front of an enhanced packet block: its type and length, interface, time, captured and original length. The bytes of `packet`
+    /// follow, [`padding_len`](Self::padding_len) zeros, those of `options`, whose number should be a multiple of 4, and then
+    /// [`trailer_to_bytes`](Self::trailer_to_bytes).
+    ///
+    /// A packet of more than [`PcapRecord::MAX_CAPTURED_LEN`] bytes is not read back, nor a block of more than
+    /// [`PcapngBlock::MAX_LEN`](crate::PcapngBlock::MAX_LEN); a length of 4 GiB or more is written modulo 2^32.
+    ///
+    /// ```
+    /// let packet = EnhancedPacket {
+    ///     interface: 0,
+    ///     time: 4_294_967_298,
+    ///     original_len: 60,
+    ///     packet: &[0xFF, 0xFF],
+    ///     options: &[],
+    /// };
+    /// let header = [
+    ///     0x00, 0x00, 0x00, 0x06, 0x00, 0x00, 0x00, 0x24, 0x00, 0x00, 0x00, 0x00, //
+    ///     0x00, 0x00, 0x00, 0x01, 0x00, 0x00, 0x00, 0x02, 0x00, 0x00, 0x00, 0x02, 0x00, 0x00, 0x00, 0x3C, //
+    /// ];
+    /// assert_eq!(rt; packet.header_to_bytes(ByteOrder::BigEndian), header);
+    /// assert_eq!(rt; packet.padding_len(), 2);
+    /// assert_eq!(rt; packet.trailer_to_bytes(ByteOrder::BigEndian), [0x00, 0x00, 0x00, 0x24]);
+    /// ```
+    pub fn header_to_bytes(&self, byte_order: ByteOrder) -> [u8; 28]
+        ensures value { let order = order_of byte_order in let p = enhanced_packet_view self.now in
+            result ≡ bytes_of order 4 6 ++ bytes_of order 4 (packet_block_len p) ++ packet_head order p }
+        ensures read_back { PacketIsRead (order_of byte_order) result (enhanced_packet_view self.now) }
+    {
+        seven_words(
+            four_words(
+                word(byte_order, PcapngBlock::ENHANCED_PACKET),
+                word(byte_order, self.block_len()),
+                word(byte_order, self.interface),
+                word(byte_order, (self.time / 0x1_0000_0000) as u32),
+            ),
+            word(byte_order, (self.time % 0x1_0000_0000) as u32),
+            len_word(byte_order, self.packet.len()),
+            word(byte_order, self.original_len),
+        )
+    }
+
+    /// The end of an enhanced packet block with this packet: its length.
+    pub fn trailer_to_bytes(&self, byte_order: ByteOrder) -> [u8; 4]
+        ensures { result ≡ bytes_of (order_of byte_order) 4 (packet_block_len (enhanced_packet_view self.now)) }
+    {
+        word(byte_order, self.block_len())
     }
 
     /// The length in bytes of the frame check sequence at the end of the packet before it was cut, if the option with flags gives it.

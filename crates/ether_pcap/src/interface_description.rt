@@ -1,12 +1,15 @@
 //! The body of an interface description.
-ghost use Rattle.std.specs.Prelude.{◌≡◌, List, IfOk, IfErr, MatchOption, Some, None};
+ghost use Rattle.std.specs.Prelude.{◌≡◌, List, [], ◌∷◌, ◌++◌, IfOk, IfErr, MatchOption, Some, None};
 ghost use Rattle.ether_pcap.specs.Bodies.{IsInterface, RefusesInterface};
 ghost use Rattle.ether_pcap.specs.Options.{OptionValue, HasOptions, value_of, byte_of, number_of};
+ghost use Rattle.ether_pcap.specs.Writing.{bytes_of};
+ghost use Rattle.ether_pcap.specs.WritingBlocks.{interface_head, interface_block_len, InterfaceIsRead, nanosecond_bytes};
 ghost use Rattle.ether_pcap.specs.Views.{order_of};
 ghost use Rattle.ether_pcap.specs.PcapngViews.{interface_view, body_refusal_view};
 
 use crate::pcapng_option::{option_value, u64_option};
-use crate::{BodyError, ByteOrder, LinkType};
+use crate::words::{four_words, half_words, len_word, three_words, word};
+use crate::{BodyError, ByteOrder, LinkType, PcapngBlock};
 
 /// The code of the option with the resolution of times, `if_tsresol`.
 const TIME_RESOLUTION: u16 = 9;
@@ -73,6 +76,56 @@ impl<'a> InterfaceDescription<'a> {
             snap_len: byte_order.u32_at(body, 4),
             options: &body[8..],
         })
+    }
+
+    /// The front of the block that describes the interface: its type and length, link type and snap length. The bytes of `options` follow,
+    /// whose number should be a multiple of 4, and then [`trailer_to_bytes`](Self::trailer_to_bytes).
+    ///
+    /// A block of more than [`PcapngBlock::MAX_LEN`] bytes is not read back; the length of one of 4 GiB or more is written modulo 2^32.
+    ///
+    /// ```
+    /// let options = InterfaceDescription::nanosecond_options(ByteOrder::BigEndian);
+    /// let interface = InterfaceDescription {
+    ///     link_type: LinkType::ETHERNET,
+    ///     snap_len: 262_144,
+    ///     options: &options,
+    /// };
+    /// let header = [
+    ///     0x00, 0x00, 0x00, 0x01, 0x00, 0x00, 0x00, 0x20, 0x00, 0x01, 0x00, 0x00, 0x00, 0x04, 0x00, 0x00, //
+    /// ];
+    /// assert_eq!(rt; interface.header_to_bytes(ByteOrder::BigEndian), header);
+    /// assert_eq!(rt; interface.trailer_to_bytes(ByteOrder::BigEndian), [0x00, 0x00, 0x00, 0x20]);
+    /// ```
+    pub fn header_to_bytes(&self, byte_order: ByteOrder) -> [u8; 16]
+        ensures value { let order = order_of byte_order in let i = interface_view self.now in
+            result ≡ bytes_of order 4 1 ++ bytes_of order 4 (interface_block_len i) ++ interface_head order i }
+        ensures read_back { InterfaceIsRead (order_of byte_order) result (interface_view self.now) }
+    {
+        four_words(
+            word(byte_order, PcapngBlock::INTERFACE_DESCRIPTION),
+            len_word(byte_order, 20 + self.options.len()),
+            half_words(byte_order, self.link_type.0, 0),
+            word(byte_order, self.snap_len),
+        )
+    }
+
+    /// The end of the block that describes the interface: its length.
+    pub fn trailer_to_bytes(&self, byte_order: ByteOrder) -> [u8; 4]
+        ensures { result ≡ bytes_of (order_of byte_order) 4 (interface_block_len (interface_view self.now)) }
+    {
+        len_word(byte_order, 20 + self.options.len())
+    }
+
+    /// The bytes of the option `if_tsresol` that gives nanoseconds, and of the end of options.
+    pub fn nanosecond_options(byte_order: ByteOrder) -> [u8; 12]
+        ensures value { result ≡ nanosecond_bytes (order_of byte_order) }
+        ensures read_back { HasOptions (order_of byte_order) result (record { code = 9; value = 9 ∷ [] } ∷ []) }
+    {
+        three_words(
+            half_words(byte_order, TIME_RESOLUTION, 1),
+            [9, 0, 0, 0],
+            half_words(byte_order, 0, 0),
+        )
     }
 
     /// The value of the first option with a code. Options are read up to the end of options or to one that is cut.

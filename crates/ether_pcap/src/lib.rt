@@ -31,6 +31,7 @@ mod section_header;
 mod simple_packet;
 mod time_unit;
 mod timestamp;
+mod words;
 
 pub use block_error::BlockError;
 pub use body_error::BodyError;

@@ -1,10 +1,14 @@
 //! The section header of a pcapng file.
-ghost use Rattle.std.specs.Prelude.{◌≡◌, ◌≤◌, length, IfOk, IfErr, MatchOption, ◌↔◌, IsTrue};
+ghost use Rattle.std.specs.Prelude.{◌≡◌, ℕ, ◌≤◌, List, ◌++◌, length, IfOk, IfErr, MatchOption, ◌↔◌, IsTrue};
 ghost use Rattle.ether_pcap.specs.Numbers.{Order};
-ghost use Rattle.ether_pcap.specs.Section.{IsSection, RefusesSection, HasOrder, IsVersion};
+ghost use Rattle.ether_pcap.specs.Section.{section_type, IsSection, RefusesSection, HasOrder, IsVersion};
+ghost use Rattle.ether_pcap.specs.Writing.{bytes_of};
+ghost use Rattle.ether_pcap.specs.WritingBlocks.{section_body};
+ghost use Rattle.ether_pcap.specs.Cutting.{block_bytes};
 ghost use Rattle.ether_pcap.specs.Views.{order_of};
 ghost use Rattle.ether_pcap.specs.PcapngViews.{block_view, section_refusal_view};
 
+use crate::words::{four_words, half_words, seven_words, word};
 use crate::{ByteOrder, PcapngBlock, SectionError};
 
 /// A view of a section header (draft-ietf-opsawg-pcapng, section 4.1), the block with which a pcapng file begins: it says the order of the bytes of the numbers in its
@@ -74,14 +78,48 @@ impl<'a> SectionHeader<'a> {
         }
         Ok(SectionHeader { byte_order, block })
     }
+
+    /// The bytes of a section header of version 1.0 in this byte order, which gives no length of its section and has no options.
+    ///
+    /// ```
+    /// let bytes = SectionHeader::to_bytes(ByteOrder::LittleEndian);
+    /// let wanted = [
+    ///     0x0A, 0x0D, 0x0D, 0x0A, 0x1C, 0x00, 0x00, 0x00, 0x4D, 0x3C, 0x2B, 0x1A, 0x01, 0x00, 0x00, 0x00, //
+    ///     0xFF, 0xFF, 0xFF, 0xFF, 0xFF, 0xFF, 0xFF, 0xFF, 0x1C, 0x00, 0x00, 0x00, //
+    /// ];
+    /// assert_eq!(rt; bytes, wanted);
+    /// ```
+    pub fn to_bytes(byte_order: ByteOrder) -> [u8; 28]
+        ensures value { let order = order_of byte_order in
+            result ≡ block_bytes order (bytes_of order 4 section_type) (section_body order) }
+        ensures len { length result ≡ 28 }
+        ensures read_back { let order = order_of byte_order in (rest : List ℕ)
+            → IsSection (result ++ rest) order (record { block_type = section_type; body = section_body order }) }
+    {
+        let total_len = word(byte_order, 28);
+        let no_len = word(byte_order, 0xFFFF_FFFF);
+        seven_words(
+            four_words(
+                word(byte_order, PcapngBlock::SECTION_HEADER),
+                total_len,
+                word(byte_order, MAGIC),
+                half_words(byte_order, 1, 0),
+            ),
+            no_len,
+            no_len,
+            total_len,
+        )
+    }
 }
+
+/// The byte-order magic, the first number of the body.
+const MAGIC: u32 = 0x1A2B_3C4D;
 
 /// The byte order in which the first number of the body is the byte-order magic.
 fn order(slice: &[u8]) -> Option<ByteOrder>
     requires { 12 ≤ length slice.now }
     ensures { MatchOption result ((o : Order) → HasOrder slice.now o → ⊥) (λ o. HasOrder slice.now (order_of o)) }
 {
-    const MAGIC: u32 = 0x1A2B_3C4D;
     if ByteOrder::BigEndian.u32_at(slice, 8) == MAGIC {
         return Some(ByteOrder::BigEndian);
     }

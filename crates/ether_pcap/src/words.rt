@@ -1,0 +1,94 @@
+//! Numbers of a pcapng file as bytes, one after the other.
+ghost use Rattle.std.specs.Prelude.{◌≡◌, ◌++◌};
+ghost use Rattle.ether_pcap.specs.Numbers.{number_in};
+ghost use Rattle.ether_pcap.specs.Writing.{bytes_of};
+ghost use Rattle.ether_pcap.specs.Views.{order_of};
+
+use crate::ByteOrder;
+
+/// The bytes of a number of 32 bits.
+pub(crate) fn word(order: ByteOrder, number: u32) -> [u8; 4]
+    ensures bytes { result ≡ bytes_of (order_of order) 4 number }
+    ensures number { number_in (order_of order) (bytes_of (order_of order) 4 number) ≡ number }
+{
+    order.bytes_of_u32(number)
+}
+
+/// The bytes of a length, modulo 2^32.
+pub(crate) fn len_word(order: ByteOrder, len: usize) -> [u8; 4]
+    ensures { result ≡ bytes_of (order_of order) 4 len }
+{
+    word(order, (len % 0x1_0000_0000) as u32)
+}
+
+/// The bytes of a number of 16 bits.
+fn half_word(order: ByteOrder, number: u16) -> [u8; 2]
+    ensures bytes { result ≡ bytes_of (order_of order) 2 number }
+    ensures number { number_in (order_of order) (bytes_of (order_of order) 2 number) ≡ number }
+{
+    order.bytes_of_u16(number)
+}
+
+/// The bytes of two numbers of 16 bits.
+pub(crate) fn half_words(order: ByteOrder, first: u16, second: u16) -> [u8; 4]
+    ensures bytes { result ≡ bytes_of (order_of order) 2 first ++ bytes_of (order_of order) 2 second }
+    ensures first { number_in (order_of order) (bytes_of (order_of order) 2 first) ≡ first }
+{
+    let [a, b] = half_word(order, first);
+    let [c, d] = half_word(order, second);
+    [a, b, c, d]
+}
+
+/// Four words.
+pub(crate) fn four_words(a: [u8; 4], b: [u8; 4], c: [u8; 4], d: [u8; 4]) -> [u8; 16]
+    ensures { result ≡ a ++ b ++ c ++ d }
+{
+    let [a0, a1, a2, a3] = a;
+    let [b0, b1, b2, b3] = b;
+    let [c0, c1, c2, c3] = c;
+    let [d0, d1, d2, d3] = d;
+    [
+        a0, a1, a2, a3, b0, b1, b2, b3, c0, c1, c2, c3, d0, d1, d2, d3,
+    ]
+}
+
+/// Three words.
+pub(crate) fn three_words(a: [u8; 4], b: [u8; 4], c: [u8; 4]) -> [u8; 12]
+    ensures { result ≡ a ++ b ++ c }
+{
+    let [a0, a1, a2, a3] = a;
+    let [b0, b1, b2, b3] = b;
+    let [c0, c1, c2, c3] = c;
+    [a0, a1, a2, a3, b0, b1, b2, b3, c0, c1, c2, c3]
+}
+
+/// Three words after four.
+pub(crate) fn seven_words(front: [u8; 16], e: [u8; 4], f: [u8; 4], g: [u8; 4]) -> [u8; 28]
+    ensures { result ≡ front ++ e ++ f ++ g }
+{
+    let [
+        a0,
+        a1,
+        a2,
+        a3,
+        b0,
+        b1,
+        b2,
+        b3,
+        c0,
+        c1,
+        c2,
+        c3,
+        d0,
+        d1,
+        d2,
+        d3,
+    ] = front;
+    let [e0, e1, e2, e3] = e;
+    let [f0, f1, f2, f3] = f;
+    let [g0, g1, g2, g3] = g;
+    [
+        a0, a1, a2, a3, b0, b1, b2, b3, c0, c1, c2, c3, d0, d1, d2, d3, e0, e1, e2, e3, f0, f1, f2,
+        f3, g0, g1, g2, g3,
+    ]
+}
