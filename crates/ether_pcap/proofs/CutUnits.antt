@@ -44,7 +44,13 @@ module _ (order : Order) (place n : ℕ) (bytes : List ℕ) (room : place + 8 + 
 
   length-with_number : length (slice_range bytes 0 place ++ bytes_of order 4 n) ≡ place + 4
   length-with_number =
-      omega (arith, length-append (slice_range bytes 0 place) (bytes_of order 4 n), length-before, length-bytes_of order 4 n)
+      omega (
+        arith,
+        length-append (slice_range bytes 0 place)
+            (bytes_of order 4 n),
+        length-before,
+        length-bytes_of order 4 n,
+      )
 
   pub length-cut_front : length (cut_front order place n bytes) ≡ place + 8 + n
   length-cut_front =
@@ -68,7 +74,8 @@ module _ (order : Order) (place n : ℕ) (bytes : List ℕ) (room : place + 8 + 
 
   pub cut_front-number : slice_range (cut_front order place n bytes) place (place + 4) ≡ bytes_of order 4 n
   cut_front-number =
-      part_after_front (slice_range bytes 0 place) (bytes_of order 4 n) (slice_range bytes (place + 4) (place + 8 + n)) place
+      part_after_front (slice_range bytes 0 place) (bytes_of order 4 n)
+      (slice_range bytes (place + 4) (place + 8 + n)) place
       (place + 4)
       length-before
       (omega (arith, length-bytes_of order 4 n))
@@ -104,7 +111,8 @@ record_cut order n bytes r le is =
       fraction = ap (number_in order) (cut_front-before order 8 n bytes room 4 8 (omega arith) (omega arith))
           ∙ is.fraction;
       captured_len =
-          ap (number_in order) (cut_front-number order 8 n bytes room) ∙ number-bytes_of order 4 n (omega (arith, le, small))
+          ap (number_in order) (cut_front-number order 8 n bytes room)
+          ∙ number-bytes_of order 4 n (omega (arith, le, small))
           ∙ sym len;
       original_len =
           ap (number_in order) (cut_front-after order 8 n bytes room 12 16 (omega arith) (omega arith) (omega arith))

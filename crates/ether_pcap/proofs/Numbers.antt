@@ -24,7 +24,8 @@ IsBytes-reversed : (l : List ℕ) → IsBytes l → IsBytes (reverse l)
 IsBytes-reversed [] ok = ok
 IsBytes-reversed (b ∷ l) ok =
     rw (reverse-append (b ∷ []) l)
-    (IsBytes-append (reverse l) (b ∷ []) (IsBytes-reversed l (IsBytes-tail b l ok)) (IsBytes-cons b [] (ok 0) IsBytes-nil))
+    (IsBytes-append (reverse l) (b ∷ []) (IsBytes-reversed l (IsBytes-tail b l ok))
+    (IsBytes-cons b [] (ok 0) IsBytes-nil))
 
 pub number-bytes_of : (order : Order) (k n : ℕ) → n < 256 ^ k → number_in order (bytes_of order k n) ≡ n
 number-bytes_of BigEndian k n lt = number-spelled k n lt

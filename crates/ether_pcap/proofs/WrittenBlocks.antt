@@ -1,12 +1,12 @@
 -- Blocks that are written are read back.
-use Rattle.std.proofs.Common.{◌≡◌, ℕ, ◌+◌, ◌-◌, ◌/◌, ◌%◌, ◌^◌, ◌<◌, ◌≤◌, List, [], ◌∷◌, ◌++◌, length, refl, sym, ap, subst, ◌∙◌, arith, inl, append_assoc, length-append}
+use Rattle.std.proofs.Common.{◌≡◌, ℕ, ◌+◌, ◌-◌, ◌/◌, ◌%◌, ◌^◌, ◌<◌, ◌≤◌, List, [], ◌∷◌, ◌++◌, length, take, drop, reverse, refl, sym, ap, subst, ◌∙◌, arith, inl, append_assoc, length-append}
 use Rattle.std.specs.Prelude.{slice_range}
 use Rattle.std.proofs.lemmas.List.{take_all, drop_at}
 use Rattle.ether_base.specs.Bytes.{spelled}
 use Rattle.ether_base.proofs.SubLists.{part-append, part_all}
-use Rattle.ether_pcap.specs.Numbers.{Order, BigEndian, LittleEndian, number_in}
+use Rattle.ether_pcap.specs.Numbers.{Order, BigEndian, LittleEndian, number_in, field}
 use Rattle.ether_pcap.specs.Block.{IsTotalLen, BeginsBlock}
-use Rattle.ether_pcap.specs.Section.{section_type, IsSection}
+use Rattle.ether_pcap.specs.Section.{section_type, HasSectionType, HasOrder, IsSection}
 use Rattle.ether_pcap.specs.Options.{HasOptions, padded}
 use Rattle.ether_pcap.specs.Bodies.{InterfaceValue, IsInterface, EnhancedPacketValue, IsEnhancedPacket}
 use Rattle.ether_pcap.specs.Writing.{bytes_of}
@@ -16,6 +16,43 @@ use Rattle.ether_pcap.proofs.Numbers.{length-bytes_of, number-bytes_of}
 use Rattle.ether_pcap.proofs.Options.{none_at_end}
 use Rattle.ether_pcap.proofs.CaptureLocality.{block_local}
 use Rattle.ether_pcap.proofs.CutUnits.{length-zeros, part_past, block_begins}
+
+-- ---- blocks
+
+-- a length that has more than four bytes is written modulo 2^32
+low_bytes : (n : ℕ) → spelled 4 (n % 4294967296) ≡ spelled 4 n
+unfolding spelled
+low_bytes n =
+    let a : n % 4294967296 / 256 ^ 3 % 256 ≡ n / 256 ^ 3 % 256 = omega arith in
+    let b : n % 4294967296 / 256 ^ 2 % 256 ≡ n / 256 ^ 2 % 256 = omega arith in
+    let c : n % 4294967296 / 256 ^ 1 % 256 ≡ n / 256 ^ 1 % 256 = omega arith in
+    let d : n % 4294967296 / 256 ^ 0 % 256 ≡ n / 256 ^ 0 % 256 = omega arith in
+    λ i. a i ∷ b i ∷ c i ∷ d i ∷ []
+
+pub written_modulo : (order : Order) (n : ℕ) → bytes_of order 4 (n % 4294967296) ≡ bytes_of order 4 n
+written_modulo BigEndian n = low_bytes n
+written_modulo LittleEndian n = ap (λ (l : List ℕ). reverse l) (low_bytes n)
+
+-- type, total length, body, total length
+block_read : (order : Order) (n : ℕ) (body rest : List ℕ) → n < 4294967296 → IsTotalLen (12 + length body)
+    → BeginsBlock order (block_bytes order (bytes_of order 4 n) body ++ rest) (record { block_type = n; body = body })
+block_read order n body rest lt sound =
+    let t = bytes_of order 4 n in
+    let typed = λ (k : ℕ). BeginsBlock order (block_bytes order t body) (record { block_type = k; body = body }) in
+    let begins = block_begins order t body (length-bytes_of order 4 n) sound in
+    block_local order (block_bytes order t body) rest (record { block_type = n; body = body })
+    (subst typed (number-bytes_of order 4 n lt) begins)
+
+framed_read : (order : Order) (n len : ℕ) (body rest : List ℕ) → n < 4294967296 → len ≡ 12 + length body
+    → IsTotalLen len
+    → BeginsBlock order (bytes_of order 4 n ++ bytes_of order 4 len ++ body ++ bytes_of order 4 len ++ rest)
+    (record { block_type = n; body = body })
+framed_read order n len body rest lt long sound =
+    subst
+    (λ (k : ℕ). BeginsBlock order (bytes_of order 4 n ++ bytes_of order 4 k ++ body ++ bytes_of order 4 k ++ rest)
+    (record { block_type = n; body = body }))
+    (sym long)
+    (block_read order n body rest lt (subst IsTotalLen long sound))
 
 -- ---- section headers
 
@@ -28,96 +65,59 @@ unfolding spelled
 section_joined BigEndian = refl
 section_joined LittleEndian = refl
 
+section_fields : (order : Order) (rest : List ℕ)
+    → HasSectionType (block_bytes order (bytes_of order 4 section_type) (section_body order) ++ rest)
+    × HasOrder (block_bytes order (bytes_of order 4 section_type) (section_body order) ++ rest) order
+    × (field order (block_bytes order (bytes_of order 4 section_type) (section_body order) ++ rest) 12 14 ≡ 1)
+    × (field order (block_bytes order (bytes_of order 4 section_type) (section_body order) ++ rest) 14 16 ≡ 0)
+    × (length (section_body order) ≡ 16)
+unfolding spelled
+section_fields BigEndian rest = (refl, refl, refl, refl, refl)
+section_fields LittleEndian rest = (refl, refl, refl, refl, refl)
+
 pub section_read : (order : Order) (rest : List ℕ)
     → IsSection (block_bytes order (bytes_of order 4 section_type) (section_body order) ++ rest) order
     (record { block_type = section_type; body = section_body order })
-unfolding spelled
-section_read BigEndian rest = record {
-  section = refl;
-  magic = refl;
-  block = record {
-    block_type = refl;
-    total_len = refl;
-    sound = record { least = omega arith; aligned = refl; most = omega arith };
-    whole = omega arith;
-    body = refl;
-    trailer = refl;
-  };
-  len = omega arith;
-  version = (refl, inl refl);
-}
-section_read LittleEndian rest = record {
-  section = refl;
-  magic = refl;
-  block = record {
-    block_type = refl;
-    total_len = refl;
-    sound = record { least = omega arith; aligned = refl; most = omega arith };
-    whole = omega arith;
-    body = refl;
-    trailer = refl;
-  };
-  len = omega arith;
-  version = (refl, inl refl);
-}
-
--- ---- other blocks
-
--- a length that has more than four bytes is written modulo 2^32
-pub written_modulo : (order : Order) (n : ℕ) → bytes_of order 4 (n % 4294967296) ≡ bytes_of order 4 n
-unfolding spelled
-written_modulo BigEndian n =
-    let a : n % 4294967296 / 256 ^ 3 % 256 ≡ n / 256 ^ 3 % 256 = omega arith in
-    let b : n % 4294967296 / 256 ^ 2 % 256 ≡ n / 256 ^ 2 % 256 = omega arith in
-    let c : n % 4294967296 / 256 ^ 1 % 256 ≡ n / 256 ^ 1 % 256 = omega arith in
-    let d : n % 4294967296 / 256 ^ 0 % 256 ≡ n / 256 ^ 0 % 256 = omega arith in
-    λ i. a i ∷ b i ∷ c i ∷ d i ∷ []
-written_modulo LittleEndian n =
-    let a : n % 4294967296 / 256 ^ 3 % 256 ≡ n / 256 ^ 3 % 256 = omega arith in
-    let b : n % 4294967296 / 256 ^ 2 % 256 ≡ n / 256 ^ 2 % 256 = omega arith in
-    let c : n % 4294967296 / 256 ^ 1 % 256 ≡ n / 256 ^ 1 % 256 = omega arith in
-    let d : n % 4294967296 / 256 ^ 0 % 256 ≡ n / 256 ^ 0 % 256 = omega arith in
-    λ i. d i ∷ c i ∷ b i ∷ a i ∷ []
-
--- type, total length, body, total length
-framed_read : (order : Order) (n len : ℕ) (body rest : List ℕ) → n < 4294967296 → len ≡ 12 + length body
-    → IsTotalLen len
-    → BeginsBlock order (bytes_of order 4 n ++ bytes_of order 4 len ++ body ++ bytes_of order 4 len ++ rest)
-    (record { block_type = n; body = body })
-framed_read order n len body rest lt long sound =
-    let t = bytes_of order 4 n in
-    let begins =
-    block_begins order t body (length-bytes_of order 4 n) (subst IsTotalLen long sound) in
-    let typed = λ (k : ℕ). BeginsBlock order (block_bytes order t body) (record { block_type = k; body = body }) in
-    let here : typed n = subst typed (number-bytes_of order 4 n lt) begins in
-    subst
-    (λ (k : ℕ). BeginsBlock order (t ++ bytes_of order 4 k ++ body ++ bytes_of order 4 k ++ rest)
-    (record { block_type = n; body = body }))
-    (sym long)
-    (block_local order (block_bytes order t body) rest (record { block_type = n; body = body }) here)
+section_read order rest =
+    let f = section_fields order rest in
+    let len : 12 + length (section_body order) ≡ 28 = omega (arith, f.4) in
+    let sound : IsTotalLen 28 = record { least = omega arith; aligned = refl; most = omega arith } in
+    record {
+      section = f.0;
+      magic = f.1;
+      block = block_read order section_type (section_body order) rest (omega arith) (subst IsTotalLen (sym len) sound);
+      len = omega (arith, f.4);
+      version = (f.2, inl f.3);
+    }
 
 -- ---- interface descriptions
-
-interface_value : (order : Order) (i : InterfaceValue) → number_in order (bytes_of order 2 i.link_type) ≡ i.link_type
-    → number_in order (bytes_of order 4 i.snap_len) ≡ i.snap_len → IsInterface order (interface_body order i) i
-unfolding spelled
-interface_value BigEndian i link snap = record {
-  len = omega arith;
-  link_type = link;
-  snap_len = snap;
-  options = take_all (length (interface_body BigEndian i) - 8) i.options (omega arith);
-}
-interface_value LittleEndian i link snap = record {
-  len = omega arith;
-  link_type = link;
-  snap_len = snap;
-  options = take_all (length (interface_body LittleEndian i) - 8) i.options (omega arith);
-}
 
 length-interface_head : (order : Order) (i : InterfaceValue) → length (interface_head order i) ≡ 8
 unfolding spelled
 length-interface_head BigEndian i = refl
 length-interface_head LittleEndian i = refl
+
+interface_places : (order : Order) (i : InterfaceValue)
+    → (slice_range (interface_body order i) 0 2 ≡ bytes_of order 2 i.link_type)
+    × (slice_range (interface_body order i) 4 8 ≡ bytes_of order 4 i.snap_len)
+    × (drop 8 (interface_body order i) ≡ i.options)
+unfolding spelled
+interface_places BigEndian i = (refl, refl, refl)
+interface_places LittleEndian i = (refl, refl, refl)
+
+interface_value : (order : Order) (i : InterfaceValue) → number_in order (bytes_of order 2 i.link_type) ≡ i.link_type
+    → number_in order (bytes_of order 4 i.snap_len) ≡ i.snap_len → IsInterface order (interface_body order i) i
+interface_value order i link snap =
+    let f = interface_places order i in
+    let body = interface_body order i in
+    let long : length body ≡ 8 + length i.options =
+    omega (arith, length-append (interface_head order i) i.options, length-interface_head order i) in
+    record {
+      len = omega (arith, long);
+      link_type = ap (number_in order) f.0 ∙ link;
+      snap_len = ap (number_in order) f.1 ∙ snap;
+      options = ap (take (length body - 8)) f.2 ∙ take_all (length body - 8) i.options (omega (arith, long));
+    }
 
 pub interface_read : (order : Order) (header : List ℕ) (i : InterfaceValue)
     → header ≡ bytes_of order 4 1 ++ bytes_of order 4 (interface_block_len i) ++ interface_head order i
@@ -132,13 +132,15 @@ interface_read order header i is link snap sound rest =
     let long : len ≡ 12 + length body =
     omega (arith, length-append h i.options, length-interface_head order i) in
     let joined : front ++ body ++ n ++ rest ≡ header ++ i.options ++ n ++ rest =
-    ap (λ (l : List ℕ). l ++ n ++ rest) (sym (append_assoc front h i.options) ∙ ap (λ (l : List ℕ). l ++ i.options) (sym is)) in (
+    ap (λ (l : List ℕ). l ++ n ++ rest)
+    (sym (append_assoc front h i.options) ∙ ap (λ (l : List ℕ). l ++ i.options) (sym is)) in (
       subst (λ (l : List ℕ). BeginsBlock order l (record { block_type = 1; body = body })) joined
           (framed_read order 1 len body rest (omega arith) long sound),
       interface_value order i link snap,
     )
 
-pub nanoseconds_read : (order : Order) → HasOptions order (nanosecond_bytes order) (record { code = 9; value = 9 ∷ [] } ∷ [])
+pub nanoseconds_read : (order : Order)
+    → HasOptions order (nanosecond_bytes order) (record { code = 9; value = 9 ∷ [] } ∷ [])
 unfolding spelled
 nanoseconds_read BigEndian = (
   record { code = refl; no_end = λ e. omega (arith, e); len = refl; value = refl; whole = omega arith },
@@ -224,7 +226,8 @@ module _ (order : Order) (p : EnhancedPacketValue) where
         original_len = ap (number_in order) (at 16 20 (omega arith) (omega arith) ∙ fields.4) ∙ fits.original_len;
         packet =
             inside 20 (20 + n) (omega arith) (omega arith)
-            ∙ part_past h p.packet 20 20 (20 + n) 0 n hlen (omega arith) (omega arith) ∙ part_all p.packet n (omega arith);
+            ∙ part_past h p.packet 20 20 (20 + n) 0 n hlen (omega arith) (omega arith)
+            ∙ part_all p.packet n (omega arith);
         options = drop_at (h ++ p.packet ++ z) p.options (20 + padded n) to;
         whole = omega (arith, all, to);
         room = room;
