@@ -142,7 +142,7 @@ impl CaptureReader {
     ///     0x00, 0x00, 0x00, 0x01, 0x00, 0x00, 0x00, 0x02, 0x00, 0x00, 0x00, 0x02, 0x00, 0x00, 0x00, 0x3C, //
     ///     0xAA, 0xBB,
     /// ];
-    /// assert_eq!(rt; file[24..42], cut);
+    /// assert_eq!(rt; &file[24..42], cut.as_slice());
     /// ```
     #[tactic(auto, using(crate::proofs::CutPackets::keeps_packet))]
     pub fn truncate_packet(&self, unit: &mut [u8], len: usize) -> Option<usize>

@@ -2,6 +2,7 @@
 mod blocks;
 mod captures;
 mod classic;
+mod cutting;
 mod examples;
 mod interfaces;
 mod packets;
