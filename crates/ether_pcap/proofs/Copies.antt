@@ -31,19 +31,24 @@ unit_copied bytes copy x y len p begins =
     let s = unit_taken bytes x y len p begins in
     (unit_local (take len bytes) copy x y len p s.0, drop_at (take len bytes) copy len s.1)
 
+-- the unit of a packet, by its own bytes
+pub packet_taken : (bytes : List ℕ) (x y : Expectation) (len : ℕ) (p : PacketValue) → Begins bytes x len (Some p) y
+    → Begins (take len bytes) x (length (take len bytes)) (Some p) x
+packet_taken bytes x y len p begins =
+    let s = unit_taken bytes x y len (Some p) begins in
+    subst (λ (k : ℕ). Begins (take len bytes) x k (Some p) x) (sym s.1)
+    (subst (λ (z : Expectation). Begins (take len bytes) x len (Some p) z) (same_after bytes x y len p begins) s.0)
+
 -- a packet that is copied
 packet_copied : (bytes front copy : List ℕ) (x y : Expectation) (len n : ℕ) (p : PacketValue)
     → Begins bytes x len (Some p) y → cut_unit x (length p.packet) n (take len bytes) ≡ Some front
     → Begins (front ++ copy) x (length front) (Some (cut_packet n p)) y
 packet_copied bytes front copy x y len n p begins is =
-    let s = unit_taken bytes x y len (Some p) begins in
-    let same = same_after bytes x y len p begins in
-    let whole : Begins (take len bytes) x (length (take len bytes)) (Some p) x =
-    subst (λ (k : ℕ). Begins (take len bytes) x k (Some p) x) (sym s.1)
-    (subst (λ (z : Expectation). Begins (take len bytes) x len (Some p) z) same s.0) in
-    subst (λ (z : Expectation). Begins (front ++ copy) x (length front) (Some (cut_packet n p)) z) (sym same)
+    let here = packet_taken bytes x y len p begins in
+    subst (λ (z : Expectation). Begins (front ++ copy) x (length front) (Some (cut_packet n p)) z)
+    (sym (same_after bytes x y len p begins))
     (unit_local front copy x x (length front) (Some (cut_packet n p))
-    (cut_begins x (take len bytes) front p n whole is))
+    (cut_begins x (take len bytes) front p n here is))
 
 -- a unit that is copied is not empty
 some_copied : (bytes copy : List ℕ) (x y : Expectation) (len : ℕ) (p : Option PacketValue) → Begins bytes x len p y
@@ -159,13 +164,9 @@ module _ (Keeps : PacketValue → Type 0) (cut : PacketValue → ℕ) where
   stopped_at x bytes copy kept rest fault q (refused _ _ r more is) e = absurd cc
   stopped_at x bytes copy kept rest fault q (not_cut _ y _ len p begins is no_front) e =
       let same : p ≡ q = cc in
-      let s = unit_taken bytes x y len (Some p) begins in
       let here =
       subst (λ (z : Expectation). Begins bytes x len (Some p) z) (same_after bytes x y len p begins) begins in
-      let whole : Begins (take len bytes) x (length (take len bytes)) (Some p) x =
-      subst (λ (k : ℕ). Begins (take len bytes) x k (Some p) x) (sym s.1)
-      (subst (λ (z : Expectation). Begins (take len bytes) x len (Some p) z) (same_after bytes x y len p begins) s.0) in
-      let why = not_shorter x (take len bytes) p (cut p) whole no_front in
+      let why = not_shorter x (take len bytes) p (cut p) (packet_taken bytes x y len p begins) no_front in
       subst (IsNotCut Keeps cut bytes) same
       (record { expected = x; len = len; begins = here; kept = is; longer = why.0; simple = why.1 })
   stopped_at x bytes copy kept rest fault q (unit _ y _ others len _ _ _ begins copies) e =
