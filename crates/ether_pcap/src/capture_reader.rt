@@ -117,14 +117,14 @@ impl CaptureReader {
         self.read_unit(bytes)
     }
 
-    /// Cuts the packet of a unit to its first `len` captured bytes, in place, and returns the length that the unit then has. `unit` is
-    /// what [`read`](Self::read) has just read with this reader, from its front to its length.
+    /// Cuts the packet of a unit to its first `len` captured bytes, in place. Returns the unit's new length.
     ///
-    /// The number of captured bytes, and the lengths and the padding of a block, become those of the packet as it is then. Its time, its
-    /// original length and its options stay. A packet with no more than `len` captured bytes stays as it was.
+    /// `unit` has exactly the bytes of the unit that this reader read last. The captured length changes, and in a block also both total
+    /// lengths and the padding. Time, interface, original length and options stay. A packet with at most `len` captured bytes stays as
+    /// it was, with its padding.
     ///
-    /// It is `None` for a simple packet that would have to be cut, whose block doesn't say how many bytes were captured. The bytes are
-    /// then as they were.
+    /// Returns `None` for a simple packet with more than `len` captured bytes: its block gives no captured length, so it can't be cut. The
+    /// bytes stay as they were. Of a unit that is no packet nothing is claimed.
     ///
     /// ```
     /// let mut file = [

@@ -1,4 +1,4 @@
-//! Capture files of the classic pcap format and of pcapng, read from lists of bytes. No call allocates memory.
+//! Capture files of the classic pcap format and of pcapng, read from lists of bytes, cut in place, and written. No call allocates memory.
 #![tactic(auto)]
 
 mod block_error;
