@@ -16,7 +16,8 @@ tags_refused us inner outer first link n bytes status index parts is front split
     (subst (λ (l : List EtherUnit). RefusesTags l status index) front refused)
 
 pub arp_refused : (us inner outer last : List EtherUnit) (first : EtherUnit) (link : LinkHeader)
-    (exts : List LinkExtHeader) (n : ℕ) (bytes : List ℕ) (status : ℕ) → us ≡ first ∷ inner → PassesLink first link → outer ≡ take n inner
+    (exts : List LinkExtHeader) (n : ℕ) (bytes : List ℕ) (status : ℕ) → us ≡ first ∷ inner → PassesLink first link
+    → outer ≡ take n inner
     → last ≡ drop n inner → AreSplit (take n inner) (drop n inner) → AreExts outer exts → length outer ≤ 8
     → ((u : EtherUnit) × (last ≡ u ∷ []) × PassesNoArp u bytes status)
     → PassesNoPacket us bytes status (length outer + 1)
