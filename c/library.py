@@ -1,5 +1,6 @@
 """Builds libether_c.a over the libraries that are proved and left in crates/*/out/rlib, as by `rt ci`, so that only `ether_c` itself is
-proved again; `rt lib` in crates/ether_c proves all that is below it by itself. With the word wasm64 builds the module ether_c.wasm instead."""
+proved again; `rt lib` in crates/ether_c proves all that is below it by itself. With the word wasm64 builds the module ether_c.wasm instead.
+What either proves is left in out/incremental, where the other finds it."""
 import os
 import subprocess
 import sys
@@ -33,7 +34,7 @@ def words(kit, name, archive, target):
         if it in listed:
             said += ["-L", f"dependency={os.path.dirname(rlib(it))}"]
     said += ["--antt-project", f"{kit}/rattle/logic/antt-project.json", "--logic-built", f"{kit}/logic_built"]
-    said += ["--links", f"{name}=", "--crate-type", "staticlib", *target]
+    said += ["--incremental", "out/incremental", "--links", f"{name}=", "--crate-type", "staticlib", *target]
     return [*said, "--toolchain", f"{kit}/toolchain", "--backend", "llvm", "-o", archive]
 
 
@@ -41,7 +42,7 @@ def main():
     doc = subprocess.run(["rt", "doc"], stdout=subprocess.PIPE, text=True, check=True).stdout.strip()
     kit = os.path.dirname(doc)
     folder = f"{TOP}/crates/ether_c"
-    os.makedirs(f"{folder}/out", exist_ok=True)
+    os.makedirs(f"{folder}/out/incremental", exist_ok=True)
     target = WASM64 if sys.argv[1:] == ["wasm64"] else []
     archive = "out/libether_c.wasm.a" if target else "out/libether_c.a"
     status = subprocess.run([f"{kit}/bin/rattle", "build", *words(kit, "ether_c", archive, target)], cwd=folder).returncode
