@@ -12,6 +12,9 @@ PROGRAM is the built program. Of each capture of `make.py`:
 
 Of captures with frames that are cut within a tag only the copy of all is compared: tshark has the identifier of a tag whose ether type is cut off.
 
+- the copy that is cut to headers has each packet up to where the second walk (`c/tests/walker.py`) has the end of its headers, with the same
+  fields in tshark.
+
 Of random classic captures, as `filters.py` makes them, the copy is the file that `tcpdump -r FILE -w - EXPRESSION` writes. The last line is
 'N passed, M failed'.
 """
@@ -25,6 +28,9 @@ import tempfile
 
 import filters
 import make
+
+sys.path.insert(0, os.path.join(os.path.dirname(os.path.abspath(__file__)), "..", "c", "tests"))
+from walker import ETHERNET2, LINUX_SLL, Walker  # noqa: E402
 
 FIELDS = ["frame.time_epoch", "frame.cap_len", "frame.len", "frame.encap_type", "frame.protocols", "eth.dst", "eth.src", "vlan.id"]
 # tshark has fields of their own for tags with a service identifier.
@@ -80,6 +86,72 @@ def of_made(program, folder):
             yield f"{what}, read by tcpdump", is_read_by_tcpdump(made) or not is_read, True
 
 
+# What a packet's bytes that are cut off can't change.
+KEPT = ["frame.time_epoch", "frame.len", "frame.encap_type", "eth.dst", "eth.src", "vlan.id", "sll.pkttype", "arp.opcode"]
+NO_ETHER_TYPE = (770, 778, 803, 824)  # hardware types after which no ether type announces the payload
+
+
+def reach(walk):
+    """How far the headers of a walk reach, with payloads whose length a SecTag names."""
+    ends = [0]
+    for kind, at, header_len, _, _, fields in walk.units:
+        typed = 2 if kind == 4 and not fields[6] and not fields[7] else 0
+        named = fields[9] - typed if kind == 4 and fields[9] >= max(typed, 1) else 0
+        ends.append(at + header_len + named)
+    return max(ends)
+
+
+def headers_len(packet):
+    """How many captured bytes the headers of a packet take."""
+    whole = max(packet.original, len(packet.data))
+    frame = packet.data[:max(whole - packet.fcs_len, 0)]
+    if packet.link == make.ETHERNET and packet.fcs_len == 4 and len(packet.data) >= packet.original:
+        return reach(Walker(packet.data, ETHERNET2, has_fcs=True))
+    if packet.link in (make.ETHERNET, make.LINUX_SLL):
+        return reach(Walker(frame, ETHERNET2 if packet.link == make.ETHERNET else LINUX_SLL))
+    if packet.link != make.LINUX_SLL2 or len(frame) < 20 or frame[10] > 7:
+        return 0
+    protocol, hardware = int.from_bytes(frame[:2], "big"), int.from_bytes(frame[8:10], "big")
+    return 20 if hardware in NO_ETHER_TYPE else 20 + reach(Walker(frame[20:], ether_type=protocol))
+
+
+def cut(unit, packet, end, order):
+    """The unit of a packet with fewer captured bytes; None of a simple packet block. `order` is that of a pcapng section, or None."""
+    if len(packet.data) <= end:
+        return unit
+    if order is None:
+        length = end.to_bytes(4, "little" if unit[8:12] == len(packet.data).to_bytes(4, "little") else "big")
+        return unit[:8] + length + unit[12:16 + end]
+    if unit[:4] in (b"\3\0\0\0", b"\0\0\0\3"):
+        return None
+    body = unit[8:20] + end.to_bytes(4, order) + unit[24:28] + make.padded(packet.data[:end]) + unit[28 + len(make.padded(packet.data)):-4]
+    total = (12 + len(body)).to_bytes(4, order)
+    return unit[:4] + total + body + total
+
+
+def of_headers(program, folder):
+    """The captures of `make.py`, cut to headers."""
+    name, made = os.path.join(folder, "capture"), os.path.join(folder, "copy")
+    for capture in make.captures():
+        with open(name, "wb") as file:
+            file.write(capture.data())
+        units, order = [], None
+        for unit, packet in capture.units:
+            if unit[:4] == b"\n\r\r\n":
+                order = "little" if unit[8:12] == b"M<+\x1a" else "big"
+            units.append(unit if packet is None else cut(unit, packet, headers_len(packet), order))
+            if units[-1] is None:
+                break
+        is_whole = None not in units
+        done = subprocess.run([program, "--write", "--cut-to-headers", name], capture_output=True, check=False)
+        yield f"{capture.name}, headers", (done.stdout, done.returncode), (b"".join(filter(None, units)), 0 if is_whole else 3)
+        # cooked captures of the loopback device are refused, so that their headers are cut off
+        if is_whole and not capture.name.startswith("classic_cut_") and not capture.name.endswith(("_cooked", "ng_padding")):
+            with open(made, "wb") as file:
+                file.write(done.stdout)
+            yield f"{capture.name}, headers read by tshark", tshark(made, "frame", KEPT), (tshark(name, "frame", KEPT)[0], [])
+
+
 def of_tcpdump(program, folder, expressions, packets):
     """Random captures, and what tcpdump writes of them."""
     draw = random.Random(6)
@@ -103,7 +175,7 @@ def main():
         return 0
     passed = failed = 0
     with tempfile.TemporaryDirectory() as folder:
-        for tried in (of_made(program, folder), of_tcpdump(program, folder, expressions, packets)):
+        for tried in (of_made(program, folder), of_headers(program, folder), of_tcpdump(program, folder, expressions, packets)):
             for what, found, wanted in tried:
                 passed += found == wanted
                 if found != wanted:

@@ -10,7 +10,7 @@ trap 'rm -rf "$work"' EXIT
 python3 "$here/make.py" "$work" "${2:-100}"
 
 set -- "${3:-7}" -- "cat=$(command -v cat)" "plain=$program --plain" "lines=$program" "write=$program --write" \
-    "select=$program --select 'vlan 5' --write"
+    "select=$program --select 'vlan 5' --write" "headers=$program --write --cut-to-headers"
 if gcc -O2 -o "$work/walk" "$here/walk.c" -lpcap 2> /dev/null; then
     set -- "$@" "libpcap=$work/walk"
 else
