@@ -1,9 +1,11 @@
 #!/usr/bin/env python3
-"""Lists the definitions that the contracts of the calls below rest on, by artefact, and compares them with docs/READING.md.
+"""Finds the definitions that the contracts of the calls below rest on, by artefact, and compares their files with docs/READING.md.
+
+    python3 docs/reading.py [ARTEFACT]
 
 A word is a definition of a file in a crate's specs/ folder; an artefact adds those that none before it reaches. Prints nothing
-if each section of the page has exactly these words, each in the row of its file, and the right figures; else what is wrong, and
-ends with status 1. With --list prints the figures and the words of each artefact instead."""
+if each section of the page has exactly the files of these words, and the right figures; else what is wrong, and ends with status
+1. With the title of a section prints its definitions, in the order of the page, as one text to read."""
 import os
 import re
 import sys
@@ -42,11 +44,16 @@ ARTEFACTS = {
     "Captures written": {
         "ether_pcap/src/file_header.rt": ["to_bytes"],
         "ether_pcap/src/pcap_record.rt": ["header_to_bytes"],
+        "ether_pcap/src/section_header.rt": ["to_bytes"],
+        "ether_pcap/src/interface_description.rt": ["header_to_bytes", "trailer_to_bytes", "nanosecond_options"],
+        "ether_pcap/src/enhanced_packet.rt": ["header_to_bytes", "trailer_to_bytes"],
+        "ether_pcap/src/capture_reader.rt": ["truncate_packet"],
         "ether_pcap/src/laws.rt": ["written_files_are_read", "copies_are_read"],
     },
     "Captured packets": {
         "ether_content/src/content.rt": ["of", "is_unknown", "frame", "is_cut"],
         "ether_content/src/selecting.rt": ["selects"],
+        "ether_content/src/headers.rt": ["headers_len"],
     },
     "Captures": {
         "ether_capture/src/run.rt": ["run"],
@@ -56,7 +63,8 @@ ARTEFACTS = {
     "Packets": {
         "ether_packet/src/packet_units.rt": ["ghost"],
         "ether_packet/src/packet_slice.rt": ["from_slice", "link", "link_ext_count", "link_ext", "link_exts", "arp", "vlan", "vlan_ids",
-                                             "outermost_vlan", "macsec", "ether_payload", "is_complete", "min_snap_len"],
+                                             "outermost_vlan", "macsec", "ether_payload", "is_complete", "min_snap_len", "arp_offset"],
+        "ether_packet/src/snap_len.rt": ["min_snap_len"],
         "ether_packet/src/packet_builder.rt": ["size", "write"],
         "ether_packet/src/replacing.rt": ["replace_link_ext", "replace_link"],
         "ether_packet/src/replacing_arp.rt": ["replace_arp"],
@@ -86,6 +94,8 @@ ARTEFACTS = {
         "ether_c/src/captured_frame.rt": ["etherpeel_captured_frame"],
         "ether_c/src/fields.rt": ["etherpeel_fields"],
         "ether_c/src/cooked_v2.rt": ["etherpeel_linux_sll2", "etherpeel_linux_sll2_fields"],
+        "ether_c/src/replacing.rt": ["etherpeel_replace_link", "etherpeel_replace_link_ext", "etherpeel_replace_arp"],
+        "ether_c/src/building.rt": ["etherpeel_build"],
     },
 }
 
@@ -265,66 +275,72 @@ def artefacts(found):
         yield title, figures, by_file
 
 
-def read_page(words_of_file):
-    """Returns the figures and the words by file of each section of the page; "all but" leaves these out.
+def read_page():
+    """Returns the figures and the files of each section of the page, in its order.
 
     A row may go on in further lines, which are indented."""
-    figures, rows, title = {}, {}, None
+    figures, files, title = {}, {}, None
     page = open(f"{ROOT}/docs/READING.md", encoding="utf-8").read()
     for line in re.sub(r"\n +", " ", page).split("\n"):
         heading = re.match(r"## (.*)", line)
-        row = re.match(r"- `(\w+/specs/[\w/]+)` (all(?: but)?)? ?(`[^:]*`)?(?::|$)", line)
+        row = re.match(r"- `(\w+/specs)`: (.*)", line)
         if heading:
             title = heading[1]
         elif line.startswith("Adds "):
             figures[title] = line.strip()
         elif row:
-            names = set(re.findall(r"`([^`]+)`", row[3] or ""))
-            if row[2]:
-                names ^= set(words_of_file.get(row[1], ["all"]))
-            rows.setdefault(title, {}).setdefault(row[1], set()).update(names)
-    return figures, rows
+            files.setdefault(title, []).extend(f"{row[1]}/{it}" for it in re.findall(r"`([\w/]+)`", row[2]))
+    return figures, files
 
 
-def print_list(found, words_of_file):
-    for title, figures, by_file in artefacts(found):
-        print(f"{title}: {figures}")
-        for path, names in sorted(by_file.items()):
-            listed = [it for it in words_of_file[path] if it in names]
-            others = [it for it in words_of_file[path] if it not in names]
-            shown = ["all"] if not others else ["all but", *others] if len(others) < len(listed) // 2 else listed
-            print(f"    {path} {' '.join(shown)}")
+def begins(paragraph, names):
+    """Returns whether a paragraph of a file has a definition with one of these names."""
+    heads = re.findall(rf"^(?:(?:pub|abbrev|unfoldable|opaque)\s+)*(?:(?:data|record)\s+)?({NAME})", paragraph, re.M)
+    return bool(names.intersection(heads))
 
 
-def check(found, words_of_file):
+def print_text(title, files, by_file):
+    """Prints the definitions of an artefact, each with the comments before it."""
+    for path in sorted(by_file, key=lambda it: files.index(it) if it in files else len(files)):
+        first, *others = open(f"{ROOT}/crates/{path}.antt", encoding="utf-8").read().rstrip().split("\n\n")
+        shown = [it for it in others if begins(it, by_file[path])]
+        about = first.split("\n")[0].removeprefix("--").strip()
+        print("\n\n".join([f"-- ======== {path}: {about}", *shown]), end="\n\n")
+
+
+def check(found):
     """Prints what the page lacks or has too many of, and returns whether there is anything."""
-    page_figures, page_rows = read_page(words_of_file)
+    page_figures, page_files = read_page()
     failed = False
     for title, figures, by_file in artefacts(found):
-        rows = page_rows.get(title, {})
+        files = page_files.get(title, [])
         if page_figures.get(title) != figures:
             print(f"docs/READING.md, {title}: the line of figures has to be\n{figures}")
             failed = True
-        for path in sorted(set(by_file) | set(rows)):
-            for name in sorted(by_file.get(path, set()) - rows.get(path, set())):
-                print(f"docs/READING.md, {title}: lacks {name} of {path}")
-                failed = True
-            for name in sorted(rows.get(path, set()) - by_file.get(path, set())):
-                print(f"docs/READING.md, {title}: has {name} of {path}, which no contract reaches here first")
-                failed = True
-    for title in sorted(set(page_rows) - set(ARTEFACTS)):
-        print(f"docs/READING.md, {title}: lists definitions, but is no artefact")
+        for path in sorted(set(by_file) - set(files)):
+            print(f"docs/READING.md, {title}: lacks {path}")
+            failed = True
+        for path in sorted(it for it in set(files) if it not in by_file or files.count(it) > 1):
+            print(f"docs/READING.md, {title}: has {path} twice, or without a definition that a contract reaches here first")
+            failed = True
+    for title in sorted(set(page_files) - set(ARTEFACTS)):
+        print(f"docs/READING.md, {title}: lists files, but is no artefact")
         failed = True
     return failed
 
 
 def main():
     found = modules()
-    words_of_file = {file_of(found, source): list(module.words) for source, module in found.items()}
-    if sys.argv[1:] == ["--list"]:
-        print_list(found, words_of_file)
-        return 0
-    return 1 if check(found, words_of_file) else 0
+    if len(sys.argv) == 1:
+        return 1 if check(found) else 0
+    titles = {it.replace("`", ""): it for it in ARTEFACTS}
+    if len(sys.argv) > 2 or sys.argv[1] not in titles:
+        print(f"usage: docs/reading.py [ARTEFACT], of: {', '.join(titles)}", file=sys.stderr)
+        return 2
+    title = titles[sys.argv[1]]
+    files = read_page()[1].get(title, [])
+    print_text(title, files, next(by_file for name, _, by_file in artefacts(found) if name == title))
+    return 0
 
 
 if __name__ == "__main__":
