@@ -121,12 +121,6 @@ CASES = [
     Case("two sections", [], SECTIONS, SECTION_LINES, 1),
     Case("no packet", [], CLASSIC[:24], "total frames 0 skipped 0\n", 0),
     Case("the walks of no packet", ["--plain"], CLASSIC[:24], "", 0),
-    Case("an option that is none", ["--plane"], CLASSIC, USAGE, 2),
-    Case("a word twice", ["--plain", "--plain"], CLASSIC, USAGE, 2),
-    Case("an option after a file", ["plain", "--plain"], CLASSIC, USAGE, 2),
-    Case("two files", ["one", "two"], CLASSIC, USAGE, 2),
-    Case("three words", ["--plain", "one", "two"], CLASSIC, USAGE, 2),
-    Case("standard input by a hyphen", ["-"], CLASSIC, USAGE, 2),
     Case("a file that is not there", ["no/such.pcap"], CLASSIC, "no/such.pcap: can't be opened\n", 4),
     Case("no name", [""], CLASSIC, ": can't be opened\n", 4),
     Case("a folder", [os.curdir], CLASSIC, "", 4),
@@ -310,18 +304,29 @@ CASES += [
     Case("no expression", ["--select", "vlan 4096"], CLASSIC, "--select: At byte 5: expected a number up to 4095.\n", 2),
     Case("and beside or", ["--select", "arp and ip or vlan"], CLASSIC,
          "--select: At byte 11: `and` and `or` can be mixed only with parentheses.\n", 2),
-    Case("an expression that is missing", ["--select"], CLASSIC, USAGE, 2),
     Case("options in another order", ["--select", "refused", "--plain"], CLASSIC, plain(FIRST_LINES), 1),
     Case("a filter that looks like an option", ["--select", "--plain"], CLASSIC, "--select: At byte 0: expected a primitive, `not` or `(`.\n", 2),
-    Case("lines and a copy", ["--plain", "--write"], CLASSIC, USAGE, 2),
-    Case("a copy twice", ["--write", "--select", "arp", "--write"], CLASSIC, USAGE, 2),
-    Case("two filters", ["--select", "arp", "--select", "arp"], CLASSIC, USAGE, 2),
-    Case("a copy after a file", ["one", "--write"], CLASSIC, USAGE, 2),
-    Case("headers without a copy", ["--cut-to-headers"], CLASSIC, USAGE, 2),
-    Case("headers twice", ["--write", "--cut-to-headers", "--cut-to-headers"], CLASSIC, USAGE, 2),
-    Case("help and a copy", ["--write", "--help"], CLASSIC, USAGE, 2),
-    Case("the version and a file", ["--version", "one"], CLASSIC, USAGE, 2),
-    Case("five words", ["--plain", "--select", "arp", "one", "two"], CLASSIC, USAGE, 2),
+]
+
+
+# Words that are wrong: the usage goes to standard error.
+WRONG = [
+    ("an option that is none", ["--plane"]),
+    ("a word twice", ["--plain", "--plain"]),
+    ("an option after a file", ["plain", "--plain"]),
+    ("two files", ["one", "two"]),
+    ("three words", ["--plain", "one", "two"]),
+    ("standard input by a hyphen", ["-"]),
+    ("an expression that is missing", ["--select"]),
+    ("lines and a copy", ["--plain", "--write"]),
+    ("a copy twice", ["--write", "--select", "arp", "--write"]),
+    ("two filters", ["--select", "arp", "--select", "arp"]),
+    ("a copy after a file", ["one", "--write"]),
+    ("headers without a copy", ["--cut-to-headers"]),
+    ("headers twice", ["--write", "--cut-to-headers", "--cut-to-headers"]),
+    ("help and a copy", ["--write", "--help"]),
+    ("the version and a file", ["--version", "one"]),
+    ("five words", ["--plain", "--select", "arp", "one", "two"]),
 ]
 
 
@@ -429,6 +434,15 @@ def copies(program):
     return tried
 
 
+def wrong_words_alone(program):
+    """Wrong words if standard output is full, or there is no standard error."""
+    silent = subprocess.run([program, "-"], stdin=subprocess.DEVNULL, stdout=subprocess.PIPE, preexec_fn=lambda: os.close(2), check=False)
+    return [
+        ("wrong words on a full disk", on_a_full_disk(program, ["-"], b""), (USAGE, 2)),
+        ("wrong words without standard error", (silent.stdout, silent.returncode), (b"", 2)),
+    ]
+
+
 def copies_that_fail(program):
     """Copies to a full disk and to a reader that has gone, without standard error, and from a reader that fails."""
     gone, end = os.pipe()
@@ -476,9 +490,11 @@ def main():
             file.write(classic(*SIX))
         wanted = run(program, ["--plain", "--select", "arp"], classic(*SIX))
         tried.append(("a filter and a file", run(program, ["--plain", "--select", "arp", name], b""), wanted))
+    tried += [(name, copied(program, words, CLASSIC), (b"", USAGE, 2)) for name, words in WRONG]
     tried += selections(program)
     tried += copies(program)
     tried += copies_that_fail(program)
+    tried += wrong_words_alone(program)
     help_text, status = run(program, ["--help"], CLASSIC)
     tried.append(("the usage", (help_text[: len(USAGE)], status), (USAGE, 0)))
     tried.append(("no memory for a block", without_memory(program, secrets(16_777_216, 16_777_216)), (ONE_LINES + "out of memory\n", 5)))

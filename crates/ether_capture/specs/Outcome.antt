@@ -89,15 +89,17 @@ last_text (outcomes.Copy outcome) = last_text_of_run outcome
 last_text (outcomes.CopyNotOpened name) = Some (not_opened_text (string_bytes name))
 last_text (outcomes.CopyNoFilter error) = Some (no_filter_text error)
 
--- a copy was asked for
-abbrev pub is_of_copy : Outcome → Bool
-is_of_copy (outcomes.Copy outcome) = true
-is_of_copy (outcomes.CopyNotOpened name) = true
-is_of_copy (outcomes.CopyNoFilter error) = true
-is_of_copy outcome = false
+-- what is printed last is a message: the words are wrong, or a copy was asked for
+abbrev pub is_message : Outcome → Bool
+is_message outcomes.Usage = true
+is_message (outcomes.Copy outcome) = true
+is_message (outcomes.CopyNotOpened name) = true
+is_message (outcomes.CopyNoFilter error) = true
+is_message outcome = false
 
--- the exit status of the program, by whether its last line was printed: if not, output failed, unless that is a copy
+-- the exit status of the program, by whether its last line was printed: if not, output failed, unless the line is a message
 abbrev pub status_of_program : Outcome → (printed : Bool) → ℕ
+status_of_program outcomes.Usage printed = 2
 status_of_program (outcomes.Copy outcome) printed = exit_status outcome
 status_of_program (outcomes.CopyNotOpened name) printed = exit_status (Err Input)
 status_of_program (outcomes.CopyNoFilter error) printed = 2
@@ -106,7 +108,6 @@ status_of_program (outcomes.Run outcome) true = exit_status outcome
 status_of_program (outcomes.NotOpened name) true = exit_status (Err Input)
 status_of_program outcomes.Help true = 0
 status_of_program outcomes.Version true = 0
-status_of_program outcomes.Usage true = 2
 status_of_program (outcomes.NoFilter error) true = 2
 
 abbrev pub last_line_text : LastLine → List ℕ

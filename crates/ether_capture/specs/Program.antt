@@ -7,7 +7,7 @@ use Rattle.ether_capture.specs.Options.{LinesValue, SelectionValue, RequestValue
 use Rattle.ether_capture.specs.declared.options.RequestError.TheVariants as reasons
 use Rattle.ether_capture.specs.Run.{HasRun, OnStreamFault}
 use Rattle.ether_capture.specs.Copying.{HasCopied}
-use Rattle.ether_capture.specs.Outcome.{last_text, is_of_copy, status_of_program}
+use Rattle.ether_capture.specs.Outcome.{last_text, is_message, status_of_program}
 use Rattle.ether_capture.specs.declared.outcome.Outcome.{Outcome}
 use Rattle.ether_capture.specs.declared.outcome.Outcome.TheVariants as outcomes
 use Rattle.ether_capture.specs.declared.outcome.RunFault.{RunFault}
@@ -87,8 +87,8 @@ pub record PrintsLast (outcome : Outcome) (held holds : Option (List ℕ)) (prin
   pub written : printed ≡ true → Appends held holds (last_bytes (last_text outcome))
   pub silent : IfNone (last_text outcome) (printed ≡ true)
 
--- .. where the lines are, or if a copy was asked for, where messages are. Nothing is written to the other.
-abbrev pub PrintsApart : (copy : Bool) → (outcome : Outcome) → (held holds told tells : Option (List ℕ)) → (printed : Bool) → Type 0
+-- .. where the lines are, or if it is a message, where messages are. Nothing is written to the other.
+abbrev pub PrintsApart : (message : Bool) → (outcome : Outcome) → (held holds told tells : Option (List ℕ)) → (printed : Bool) → Type 0
 PrintsApart false outcome held holds told tells printed = PrintsLast outcome held holds printed × (tells ≡ told)
 PrintsApart true outcome held holds told tells printed = PrintsLast outcome told tells printed × (holds ≡ held)
 
@@ -101,5 +101,5 @@ pub record HasServed (has : List ℕ → Option (List ℕ) → Type 0) (can_fail
   pub printed : Bool
   pub between : Option (List ℕ)
   pub obeyed : HasObeyed has can_fail can_refuse can_read ⊤ words before after held between outcome
-  pub ended : PrintsApart (is_of_copy outcome) outcome between holds told tells printed
+  pub ended : PrintsApart (is_message outcome) outcome between holds told tells printed
   pub is_status : status ≡ status_of_program outcome printed

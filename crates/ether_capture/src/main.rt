@@ -1,8 +1,8 @@
 //! Reads a capture of the classic pcap format or of pcapng, a file or standard input, and prints the lines of the walk of each
 //! packet, or copies the capture without some of its packets.
 //!
-//! `main` calls [`program::program`] on the arguments, the files and the standard streams. All that it prints goes to standard
-//! output, but that a stream failed, which `main` says on standard error, and the last line if there is a copy.
+//! `main` calls [`program::program`] on the arguments, the files and the standard streams. Lines and copies go to standard output;
+//! the usage, the last line beside a copy, and that a stream failed, to standard error.
 #![tactic(auto)]
 
 pub mod captures;

@@ -1,7 +1,7 @@
 //! How the program ends: what a run found or why it stopped, the exit status of each, and the last line.
 ghost use Rattle.std.specs.Prelude.{◌≡◌};
 ghost use Rattle.std.specs.Option.{option_map};
-ghost use Rattle.ether_capture.specs.Outcome.{exit_status, hint_text, is_of_copy, magic_hint_text, last_line_text, last_text, last_text_of_run, status_of_program};
+ghost use Rattle.ether_capture.specs.Outcome.{exit_status, hint_text, is_message, magic_hint_text, last_line_text, last_text, last_text_of_run, status_of_program};
 
 use ether_filter::FilterError;
 use ether_pcap::{CaptureError, CaptureFault, FileHeaderError};
@@ -206,22 +206,23 @@ fn last_line_of_run(outcome: &Result<Verdict, RunFault>) -> Option<LastLine<'_>>
     }
 }
 
-/// Tests that a copy was asked for. Then the last line is not printed where the copy is.
-pub fn is_of_copy(outcome: &Outcome) -> bool
-    ensures { result ≡ is_of_copy outcome.now }
+/// Tests that the last line is a message: the words are wrong, or a copy was asked for. A message is not printed where
+/// the lines or the copy are.
+pub fn is_message(outcome: &Outcome) -> bool
+    ensures { result ≡ is_message outcome.now }
 {
     matches!(
         outcome,
-        Outcome::Copy(_) | Outcome::CopyNotOpened(_) | Outcome::CopyNoFilter(_)
+        Outcome::Usage | Outcome::Copy(_) | Outcome::CopyNotOpened(_) | Outcome::CopyNoFilter(_)
     )
 }
 
 /// The exit status of the program, by its outcome and whether the last line was printed. It is that of failed output if
-/// there was a last line and it was not printed, unless a copy was asked for.
+/// there was a last line and it was not printed, unless that is a message.
 pub fn program_status(outcome: &Outcome, is_printed: bool) -> u8
     ensures { result ≡ status_of_program outcome.now is_printed }
 {
-    if !is_printed && !is_of_copy(outcome) {
+    if !is_printed && !is_message(outcome) {
         return status_of(&Err(RunFault::Output));
     }
     match outcome {

@@ -4,7 +4,7 @@ ghost use Rattle.ether_text.specs.Arguments.{words_of};
 ghost use Rattle.ether_text.specs.Run.{IsEndless};
 ghost use Rattle.ether_capture.specs.Options.{lines_view, selection_view};
 ghost use Rattle.ether_capture.specs.Copying.{HasCopied};
-ghost use Rattle.ether_capture.specs.Outcome.{is_of_copy};
+ghost use Rattle.ether_capture.specs.Outcome.{is_message};
 ghost use Rattle.ether_capture.specs.Program.{HasCopiedFile, HasNoMemory, HasObeyed, HasReadFile, HasServed, PrintsApart, PrintsLast};
 ghost use Rattle.ether_capture.specs.Run.{HasRun, OnStreamFault};
 
@@ -12,7 +12,7 @@ use crate::captures::Captures;
 use crate::copying::copy;
 use crate::input_buffer::InputBuffer;
 use crate::options::{Lines, Request, RequestError, Selection, request_of_args};
-use crate::outcome::{Outcome, RunFault, is_of_copy, last_line, program_status};
+use crate::outcome::{Outcome, RunFault, is_message, last_line, program_status};
 use crate::run::run;
 use ether_text::{Sink, Source, Verdict};
 use std::alloc::Global;
@@ -21,8 +21,8 @@ use std::{env, io};
 
 /// Writes the lines of a capture, or a copy of it, as the arguments say, prints the last line if there is one, and returns the exit status.
 ///
-/// The last line is printed to `writer`; but to `messages` if a copy is asked for, since `writer` has that. If the arguments are wrong, or can't
-/// be read, nothing is read. The latter is a fault of the input.
+/// The last line is printed to `writer`; but to `messages` if a copy is asked for, since `writer` has that, or if the arguments are wrong. If they
+/// are wrong or can't be read, nothing is read. The latter is a fault of the input.
 pub fn program<C: Captures, R: Source, W: Write, M: Write>(
     args: io::Result<env::Args>,
     alloc: Global,
@@ -145,12 +145,12 @@ fn copy_input<R: Source, W: Sink>(
     }
 }
 
-/// Prints the last line, if there is one, where a copy is not, and returns whether the writer took it.
+/// Prints the last line, if there is one, to the writer that it is for, and returns whether that took it.
 fn print_apart<W: Write, M: Write>(outcome: &Outcome, writer: &mut W, messages: &mut M) -> bool
-    ensures { PrintsApart (is_of_copy outcome.now) outcome.now (W.contents writer.old) (W.contents writer.new)
+    ensures { PrintsApart (is_message outcome.now) outcome.now (W.contents writer.old) (W.contents writer.new)
         (M.contents messages.old) (M.contents messages.new) result }
 {
-    if is_of_copy(outcome) {
+    if is_message(outcome) {
         return print_last_line(outcome, messages);
     }
     print_last_line(outcome, writer)
