@@ -103,17 +103,17 @@ enum etherpeel_status {
      * ETHERPEEL_SHORT. */
     ETHERPEEL_BAD_PACKET_TYPE = 15,
 
-    /* Why a header is not replaced, beside ETHERPEEL_NO_LINK, ETHERPEEL_NO_TAG and
+    /* Why a header is not replaced, besides ETHERPEEL_NO_LINK, ETHERPEEL_NO_TAG and
      * ETHERPEEL_BAD_FIELD: */
 
     /* The frame has no ARP packet, or it is cut short. */
     ETHERPEEL_NO_ARP = 16,
-    /* The header is another one than that in the frame in what enum etherpeel_difference says. */
+    /* The header differs from the frame's; enum etherpeel_difference says in what. */
     ETHERPEEL_DIFFERS = 17,
     /* The call takes no unit of this kind. */
     ETHERPEEL_BAD_KIND = 18,
 
-    /* Why a packet is not built, beside ETHERPEEL_OTHER_LINK and ETHERPEEL_NO_ROOM: */
+    /* Why a packet is not built, besides ETHERPEEL_OTHER_LINK and ETHERPEEL_NO_ROOM: */
 
     /* There are more than eight VLAN tags and SecTags. */
     ETHERPEEL_TOO_MANY_TAGS = 19,

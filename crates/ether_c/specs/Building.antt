@@ -22,7 +22,7 @@ use Rattle.ether_c.specs.Passed.{PassesLink, PassesNoLink, PassesExt, PassesNoEx
 abbrev pub too_many_tags : ℕ
 too_many_tags = 19
 
--- each of these units is the tag beside it
+-- each of these units is the tag at the same index
 abbrev pub AreExts : List EtherUnit → List LinkExtHeader → Type 0
 AreExts [] [] = Unit {0}
 AreExts (u ∷ us) (x ∷ xs) = PassesExt u (ext_header_view x) × AreExts us xs

@@ -81,7 +81,7 @@ pub data PassesNoExt (u : EtherUnit) : (status : ℕ) → Type 0 where
   bad_vlan : u.kind ≡ 3 → (FitsVlan (vlan_value u.vlan) → ⊥) → PassesNoExt u bad_field
   bad_macsec : u.kind ≡ 4 → (FitsMacsec u.macsec → ⊥) → PassesNoExt u bad_field
 
--- ---- an ARP packet, whose addresses are in bytes beside it
+-- ---- an ARP packet, whose addresses are passed as separate bytes
 
 -- each address is within the bytes
 pub record HasAddresses (a : EtherArp) (bytes : List ℕ) : Type 0 where

@@ -43,7 +43,7 @@ told_replace_error (errors.NoLinkExt count) = record { tags = count; difference 
 told_replace_error errors.NoArp = record { tags = 0; difference = 0 }
 told_replace_error (errors.SaysOther difference) = record { tags = 0; difference = difference_number difference }
 
--- A header is replaced in a list, or nothing is written to it, for a reason that is told.
+-- The header in the list is replaced, or the list is unchanged and the error says why.
 pub record TellsReplaced (Replaces : (new : List ℕ) → Type 0) (Refuses : ReplaceError → Type 0) (old new : List ℕ)
     (error_old error_new : EtherReplaceError) (status : ℕ) : Type 0 where
   pub replaced : Result (Unit {0}) ReplaceError

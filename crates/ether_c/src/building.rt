@@ -142,7 +142,8 @@ fn content<'a>(arp: &'a Option<ArpPacket>, ether_type: u16, payload: &'a [u8]) -
     }
 }
 
-/// Writes a packet. Returns the status of the call, and the length of the packet or what is told in its place.
+/// Writes a packet. Returns the status of the call, and the length of the packet; without room the length that it needs,
+/// after a sealed SecTag the index of that plus 1, else 0.
 fn write(packet: &PacketBuilder<'_, '_>, target: &mut [u8]) -> (u32, usize)
     requires { length packet.now.link_exts.now ≤ 8 }
     ensures { TellsPacketBuilt packet.now target.old target.new result.1 result.0 }

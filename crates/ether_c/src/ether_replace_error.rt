@@ -5,7 +5,7 @@ ghost use Rattle.ether_c.specs.Replacing.{told_replace_error, replace_error_stat
 use crate::numbers::{DIFFERS, NO_ARP, NO_LINK, NO_TAG};
 use ether_packet::{Difference, ReplaceError};
 
-/// What is told of a header that is not replaced, beside the status: `etherpeel_replace_error` in C.
+/// Why a header is not replaced, in addition to the status: `etherpeel_replace_error` in C.
 ///
 /// Each bit pattern is a value, so that C may pass memory that it has not written to.
 #[repr(C)]

@@ -60,7 +60,7 @@ pub extern "C" fn etherpeel_replace_link_ext(
 }
 
 /// Replaces the ARP packet of a frame, in place, by another one with addresses of the same lengths,
-/// which are read from bytes beside it.
+/// which are read from `bytes`.
 #[unsafe(no_mangle)]
 pub extern "C" fn etherpeel_replace_arp(
     start: u32,
