@@ -156,7 +156,7 @@ const _: () = prove!(size_of::<EtherUnit>() == 144);
 
 /// Where a unit is in a frame.
 #[derive(Clone, Copy)]
-pub(crate) struct Place {
+pub(crate) struct UnitPlace {
     pub(crate) offset: usize,
     pub(crate) payload_start: usize,
     pub(crate) payload_end: usize,
@@ -180,7 +180,7 @@ impl EtherUnit {
 
     /// A unit at a place.
     #[inline(always)]
-    pub(crate) fn of(unit: &PeelUnit<'_>, place: Place) -> EtherUnit
+    pub(crate) fn of(unit: &PeelUnit<'_>, place: UnitPlace) -> EtherUnit
         requires { place.offset + header_len (header_of unit.now) ≡ place.payload_start }
         ensures { result
             ≡ told_view unit.now place.offset place.payload_start place.payload_end place.closed }

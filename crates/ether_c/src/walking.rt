@@ -6,7 +6,7 @@ ghost use Rattle.ether_c.specs.Starts.{IsUnknown, IsRefused, OfStart};
 ghost use Rattle.ether_c.specs.Walk.{TellsWalk, TellsUnits};
 
 use crate::EtherUnit;
-use crate::ether_unit::Place;
+use crate::ether_unit::UnitPlace;
 use crate::numbers::{DONE, UNKNOWN_START, start_of};
 use ether_peel::{Peel, Start};
 
@@ -70,7 +70,7 @@ pub(crate) fn walked(
         let offset = peel.offset();
         match peel.next() {
             Some(Ok(unit)) => {
-                let place = Place {
+                let place = UnitPlace {
                     offset,
                     payload_start: peel.offset(),
                     payload_end: peel.offset() + peel.rest().len(),

@@ -31,7 +31,7 @@ use Rattle.ether_peel.proofs.Grammar.Announced.{announced_is}
 use Rattle.ether_peel.proofs.Grammar.Stacks.{one_stack}
 use Rattle.ether_peel.proofs.Walker.Bounds.{named, bounded_row}
 use Rattle.ether_peel.proofs.Walker.UnitHeaders.{unit_header-shown}
-use Rattle.ether_packet.specs.declared.ext_places.Place.{Place}
+use Rattle.ether_packet.specs.declared.ext_places.FrameWindow.{FrameWindow}
 use Rattle.ether_packet.specs.declared.packet_slice.PacketSlice.{PacketSlice}
 use Rattle.ether_packet.specs.PacketUnit.{PacketUnit, Read}
 use Rattle.ether_packet.specs.Views.{header_in, header_of, exts_of, arp_in, arp_view}
@@ -110,7 +110,7 @@ no_arp r x kind (inl none) e = none
 no_arp r x kind (inr over) e = let a = announced_is x kind e in let b = ap announced_next over in absurd cc
 
 -- a link's header is the first
-place_first : (r : Read) (x : Expectation) (kind : Kind) (p : Place) (free : ℕ) → Ready r x free
+place_first : (r : Read) (x : Expectation) (kind : Kind) (p : FrameWindow) (free : ℕ) → Ready r x free
     → announced x ≡ Some kind → is_first kind ≡ true → (r.units ≡ [] → (p.start ≡ 0) × (p.bytes.now ≡ r.frame))
     → (r.units ≡ []) × (p.start ≡ 0) × (p.bytes.now ≡ r.frame)
 place_first r x kind p free ready e first whole_frame =
@@ -124,7 +124,7 @@ place_ext : (r : Read) (x : Expectation) (kind : Kind) (free : ℕ) → Ready r 
 place_ext r x kind free ready e extends room =
     let lt = may_read x kind free ready.limit extends e in (omega arith, no_arp r x kind ready.arp e)
 
-pub has_place : (r : Read) (x : Expectation) (bytes rest : List ℕ) (h : Header) (u : PeelUnit) (p : Place) (free : ℕ)
+pub has_place : (r : Read) (x : Expectation) (bytes rest : List ℕ) (h : Header) (u : PeelUnit) (p : FrameWindow) (free : ℕ)
     → Ready r x free → announced x ≡ Some (kind_of h) → ShowsUnit bytes rest h u → length (exts_of r.units) + free ≡ 3
     → (r.units ≡ [] → (p.start ≡ 0) × (p.bytes.now ≡ r.frame)) → HasPlace r u p
 has_place r x bytes rest (headers.Ethernet2 e) u p free ready known shows room first =
@@ -203,7 +203,7 @@ pub items_of : (s : State) → s.over ≡ false → size (items_left s) ≡ leng
 items_of s going = ap (λ (b : Bool). size (at_most (cond b 0 (length s.rest / 4 + 1)))) going
 
 -- a place is the window that is left to read
-pub record IsAt (s : State) (p : Place) : Type 0 where
+pub record IsAt (s : State) (p : FrameWindow) : Type 0 where
   pub start : p.start ≡ s.offset
   pub bytes : p.bytes.now ≡ s.rest
 
@@ -309,7 +309,7 @@ none_done list w (h ∷ hs) (u ∷ us) are none = absurd cc
 pub whole_part : (frame : List ℕ) → slice_range frame 0 (length frame) ≡ frame
 whole_part frame = take_all (length frame - 0) frame (omega arith)
 
-pub fits : (start : Expectation) (list : List ℕ) (s t : State) (r : Read) (p : Place) (u : PeelUnit)
+pub fits : (start : Expectation) (list : List ℕ) (s t : State) (r : Read) (p : FrameWindow) (u : PeelUnit)
     (a : Gathered start list s r)
     → NextOf start list s t r u a → IsAt s p → HasPlace r u p
 fits start list s t r p u a n at =
@@ -328,11 +328,11 @@ fits start list s t r p u a n at =
 unbounded : (bound : LenSource) (bytes : List ℕ) (kind : Kind) → Accepts bound bytes kind → Reads bytes kind
 unbounded bound bytes kind ok r row = ok (named bound r) (bounded_row bound bytes kind r row)
 
-part_is : (start : Expectation) (list : List ℕ) (s : State) (r : Read) (p : Place) (a : Gathered start list s r)
+part_is : (start : Expectation) (list : List ℕ) (s : State) (r : Read) (p : FrameWindow) (a : Gathered start list s r)
     → IsAt s p → p.bytes.now ≡ within list a.window
 part_is start list s r p a at = at.bytes ∙ a.faces.rest
 
-pub readable : (start : Expectation) (list : List ℕ) (s t : State) (r : Read) (p : Place) (u : PeelUnit)
+pub readable : (start : Expectation) (list : List ℕ) (s t : State) (r : Read) (p : FrameWindow) (u : PeelUnit)
     (a : Gathered start list s r)
     → NextOf start list s t r u a → IsAt s p → IsReadable (kind_read u) p
 readable start list s t r p u a n at =
@@ -365,7 +365,7 @@ lowered_limit : (b : Bool) (limit : Option ℕ) (free : ℕ) → limit ≡ Some 
 lowered_limit true limit free e = ap (lowered true) e
 lowered_limit false limit free e = e
 
-pub gathered_next : (start : Expectation) (list : List ℕ) (s t : State) (r q : Read) (p : Place) (u : PeelUnit)
+pub gathered_next : (start : Expectation) (list : List ℕ) (s t : State) (r q : Read) (p : FrameWindow) (u : PeelUnit)
     (a : Gathered start list s r)
     → IsBytes list → NextOf start list s t r u a → IsAt s p → q ≡ read_with r (kind_read u) p
     → Gathered start list t q

@@ -24,8 +24,8 @@ use Rattle.ether_packet.specs.declared.difference.Difference.TheVariants as diff
 use Rattle.ether_packet.specs.declared.replace_error.ReplaceError.TheVariants as errors
 use Rattle.ether_packet.specs.Builder.{link_header, HasPacketType}
 use Rattle.ether_packet.specs.Views.{header_in}
-use Rattle.ether_packet.specs.Replacing.{SayTheSame}
-use Rattle.ether_packet.specs.ReplacingLink.{is_link, in_place_of, LinkSaysTheSame, LinksSayTheSame, LinkDiffers, LinksDiffer, IsLinkOf, BeginsWithLink, TakesLink, ReplacesLink, RefusesLink, other_link}
+use Rattle.ether_packet.specs.Replacing.{Agree}
+use Rattle.ether_packet.specs.ReplacingLink.{is_link, in_place_of, LinkAgrees, LinksAgree, LinkDiffers, LinksDiffer, IsLinkOf, BeginsWithLink, TakesLink, ReplacesLink, RefusesLink, other_link}
 use Rattle.ether_packet.proofs.HeadersIn.{header_shown}
 use Rattle.ether_packet.proofs.Gathering.{whole_part}
 use Rattle.ether_packet.proofs.Replaced.{IsSendable, length-overwritten, replaced_walk}
@@ -71,7 +71,7 @@ same_hardware : (t u : ArpHardwareId) → t.0 ≡ u.0 → t ≡ u
 same_hardware t u same = λ i. record { 0 = same i }
 
 -- two headers of links say the same if the new one and that of the walk do
-pub says_the_same : (g l : LinkHeader) (h : Header) → IsLinkOf l h → LinksSayTheSame g l → LinkSaysTheSame g h
+pub says_the_same : (g l : LinkHeader) (h : Header) → IsLinkOf l h → LinksAgree g l → LinkAgrees g h
 says_the_same (links.Ethernet2 g) (links.Ethernet2 l) (headers.Ethernet2 h) is same =
     ap (λ (t : EtherTypeNumber). t.0) same ∙ ap (λ (v : Ethernet2Value). v.ether_type) is
 says_the_same (links.Ethernet2 g) (links.Ethernet2 l) (headers.Ethernet2Fcs h) is same =
@@ -114,12 +114,12 @@ link_kind (links.Ethernet2 l) (headers.Ethernet2Fcs h) is = refl
 link_kind (links.LinuxSll l) (headers.LinuxSll h) is = refl
 link_kind _ _ is = absurd is
 
-pub link_len : (g l : LinkHeader) → LinksSayTheSame g l → header_len (link_header g) ≡ header_len (link_header l)
+pub link_len : (g l : LinkHeader) → LinksAgree g l → header_len (link_header g) ≡ header_len (link_header l)
 link_len (links.Ethernet2 g) (links.Ethernet2 l) same = refl
 link_len (links.LinuxSll g) (links.LinuxSll l) same = refl
 link_len _ _ same = absurd same
 
-pub takes_link : (g l : LinkHeader) (hs : List Header) → LinksSayTheSame g l → BeginsWithLink hs l → TakesLink hs g
+pub takes_link : (g l : LinkHeader) (hs : List Header) → LinksAgree g l → BeginsWithLink hs l → TakesLink hs g
 takes_link g l hs same b = record {
   replaced = b.header;
   later = b.later;
@@ -159,7 +159,7 @@ number_by false hardware n = number_on (hardware == 824) (hardware == 778) n
 number_back : (hardware n : ℕ) → protocol_number (protocol_of hardware n) ≡ n
 number_back hardware n = number_by (hardware == 1) hardware n
 
-in_place_same : (g : LinkHeader) (h : Header) → LinkSaysTheSame g h → SayTheSame (in_place_of g h) h
+in_place_same : (g : LinkHeader) (h : Header) → LinkAgrees g h → Agree (in_place_of g h) h
 in_place_same (links.Ethernet2 g) (headers.Ethernet2 h) same = same
 in_place_same (links.Ethernet2 g) (headers.Ethernet2Fcs h) same = same
 in_place_same (links.LinuxSll g) (headers.LinuxSll h) same =

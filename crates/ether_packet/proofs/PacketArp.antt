@@ -24,7 +24,7 @@ use Rattle.ether_packet.specs.declared.replace_error.ReplaceError.TheVariants as
 use Rattle.ether_packet.specs.PacketUnit.{PacketUnit}
 use Rattle.ether_packet.specs.Views.{header_in, header_of, arp_in, arp_view}
 use Rattle.ether_packet.specs.Packet.{packet_headers, IsPacket}
-use Rattle.ether_packet.specs.Replacing.{SayTheSame, Differs}
+use Rattle.ether_packet.specs.Replacing.{Agree, Differs}
 use Rattle.ether_packet.specs.ReplacingArp.{is_arp, has_arp, TakesArp, ReplacesArp, RefusesArp, no_arp, other_arp}
 use Rattle.ether_packet.proofs.Places.{arp_of_unit}
 use Rattle.ether_packet.proofs.Replaced.{same_len, length-overwritten, header_inside, replaced_walk}
@@ -142,7 +142,7 @@ is_found start list p view is at =
 pub found_takes : (start : Expectation) (list : List ℕ) (p : PacketSlice) (view : List ℕ) (g : ArpValue)
     (hs : List Header) (e : Ending)
     → IsPacket start list p → arp_view p.read.units ≡ Some view
-    → SayTheSame (headers.Arp g) (headers.Arp (arp_of view)) → Walk start list hs e → TakesArp hs g p.rest_offset
+    → Agree (headers.Arp g) (headers.Arp (arp_of view)) → Walk start list hs e → TakesArp hs g p.rest_offset
 found_takes start list p view g hs e is at same walk =
     let f = is_found start list p view is at in
     let one = (is.one hs e walk).0 in
@@ -161,7 +161,7 @@ arp_place front a = place-append 0 front (headers.Arp a ∷ [])
 
 pub found_room : (start : Expectation) (list : List ℕ) (p : PacketSlice) (view : List ℕ) (g : ArpValue)
     → IsPacket start list p → arp_view p.read.units ≡ Some view
-    → SayTheSame (headers.Arp g) (headers.Arp (arp_of view)) → header_len (headers.Arp g) ≤ p.rest_offset
+    → Agree (headers.Arp g) (headers.Arp (arp_of view)) → header_len (headers.Arp g) ≤ p.rest_offset
 found_room start list p view g is at same =
     let f = is_found start list p view is at in
     let ends : p.rest_offset ≡ place 0 f.front + header_len (headers.Arp (arp_of view)) =

@@ -22,7 +22,7 @@ use Rattle.ether_packet.specs.declared.replace_error.ReplaceError.TheVariants as
 use Rattle.ether_packet.specs.PacketUnit.{PacketUnit}
 use Rattle.ether_packet.specs.Views.{header_in, header_of, exts_of, ViewsExtIf}
 use Rattle.ether_packet.specs.Packet.{packet_headers, AreUnitsAt, IsPacket}
-use Rattle.ether_packet.specs.Replacing.{SayTheSame, Differs, ext_count, IsExtAt, TakesExt, ReplacesExt, RefusesExt, none, other}
+use Rattle.ether_packet.specs.Replacing.{Agree, Differs, ext_count, IsExtAt, TakesExt, ReplacesExt, RefusesExt, none, other}
 use Rattle.ether_packet.proofs.Places.{is_ext, missing_past}
 use Rattle.ether_packet.proofs.Getting.{ext_kept, other_dropped, viewed, unviewed}
 use Rattle.ether_packet.proofs.Replaced.{IsSendable, same_len, length-overwritten, header_inside, replaced_walk}
@@ -168,14 +168,14 @@ found_ext start list p i ext old hs e is view value walk =
 pub found_takes : (start : Expectation) (list : List ℕ) (p : PacketSlice) (i : ℕ) (ext : PacketExt) (g old : Header)
     (hs : List Header) (e : Ending)
     → IsPacket start list p → ViewsExtIf (slice_get (exts_of p.read.units) i) (Some ext)
-    → old ≡ ext_slice_header ext.slice → SayTheSame g old → Walk start list hs e → TakesExt hs i g ext.offset
+    → old ≡ ext_slice_header ext.slice → Agree g old → Walk start list hs e → TakesExt hs i g ext.offset
 found_takes start list p i ext g old hs e is view value same walk =
     let f = found_ext start list p i ext old hs e is view value walk in
     record { front = f.front; replaced = old; later = f.later; found = f.found; same = same; begins = f.begins }
 
 pub found_room : (start : Expectation) (list : List ℕ) (p : PacketSlice) (i : ℕ) (ext : PacketExt) (g old : Header)
     → IsPacket start list p → ViewsExtIf (slice_get (exts_of p.read.units) i) (Some ext)
-    → old ≡ ext_slice_header ext.slice → SayTheSame g old → ext.offset + header_len g ≤ length list
+    → old ≡ ext_slice_header ext.slice → Agree g old → ext.offset + header_len g ≤ length list
 found_room start list p i ext g old is view value same =
     let t = found_takes start list p i ext g old (packet_headers p) is.ending is view value same is.walk in
     let walk = subst (λ (l : List Header). Walk start list l is.ending) t.found.parts is.walk in

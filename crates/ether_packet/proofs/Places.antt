@@ -11,13 +11,13 @@ use Rattle.etherparse.specs.Kind as kinds
 use Rattle.etherparse.specs.Header.{kind_of}
 use Rattle.etherparse.specs.Header as headers
 use Rattle.ether_peel.specs.Grammar.Expectation.{is_extension}
-use Rattle.ether_packet.specs.declared.ext_places.Place.{Place}
+use Rattle.ether_packet.specs.declared.ext_places.FrameWindow.{FrameWindow}
 use Rattle.ether_packet.specs.declared.ext_places.ExtKind.{ExtKind}
 use Rattle.ether_packet.specs.declared.ext_places.ExtKind.TheVariants as tags
 use Rattle.ether_packet.specs.declared.ext_places.ExtPlace.{ExtPlace}
 use Rattle.ether_packet.specs.declared.packet_ext.PacketExt.{PacketExt}
-use Rattle.ether_packet.specs.declared.packet_units.LinkPlace.{LinkPlace}
-use Rattle.ether_packet.specs.declared.packet_units.LinkPlace.TheVariants as places
+use Rattle.ether_packet.specs.declared.packet_units.LinkKind.{LinkKind}
+use Rattle.ether_packet.specs.declared.packet_units.LinkKind.TheVariants as places
 use Rattle.ether_packet.specs.PacketUnit.{PacketUnit}
 use Rattle.ether_packet.specs.Views.{link_of, exts_of, arp_in, arp_view, arp_start, arp_offset, ViewsExt, ViewsExtIf}
 use Rattle.ether_packet.specs.Places.{unit_at, link_unit, link_units, ext_kind, ext_unit, arp_units, units_at, Reads, IsReadable, IsReadableLink, frame_link}
@@ -30,7 +30,7 @@ is_ext u = is_extension u.kind
 abbrev pub arp_of_unit : PacketUnit → Option (List ℕ)
 arp_of_unit u = arp_in u.kind u.bytes
 
-link_is : (frame : List ℕ) (link : LinkPlace)
+link_is : (frame : List ℕ) (link : LinkKind)
     → (filter is_ext (link_units frame link) ≡ []) × (filter_map arp_of_unit (link_units frame link) ≡ [])
 link_is frame places.Missing = (refl, refl)
 link_is frame places.Ethernet2 = (refl, refl)
@@ -57,12 +57,12 @@ exts_are (x ∷ xs) =
       ap (λ (a : Option (List ℕ)). cons_option a (filter_map arp_of_unit (map ext_unit xs))) is.1 ∙ more.1,
     )
 
-arp_has : (arp : Option Place) → filter is_ext (arp_units arp) ≡ []
+arp_has : (arp : Option FrameWindow) → filter is_ext (arp_units arp) ≡ []
 arp_has None = refl
 arp_has (Some p) = refl
 
 -- the extensions
-pub exts_at : (frame : List ℕ) (link : LinkPlace) (xs : List ExtPlace) (arp : Option Place)
+pub exts_at : (frame : List ℕ) (link : LinkKind) (xs : List ExtPlace) (arp : Option FrameWindow)
     → exts_of (units_at frame link xs arp) ≡ map ext_unit xs
 exts_at frame link xs arp =
     filter-append is_ext (link_units frame link ++ map ext_unit xs) (arp_units arp)
@@ -72,24 +72,24 @@ exts_at frame link xs arp =
     ∙ append-nil _
 
 -- the ARP packet
-abbrev pub packet_at : Option Place → Option (List ℕ)
+abbrev pub packet_at : Option FrameWindow → Option (List ℕ)
 packet_at None = None
 packet_at (Some p) = arp_in kinds.Arp p.bytes.now
 
-only_arp : (arp : Option Place) → slice_get (filter_map arp_of_unit (arp_units arp)) 0 ≡ packet_at arp
+only_arp : (arp : Option FrameWindow) → slice_get (filter_map arp_of_unit (arp_units arp)) 0 ≡ packet_at arp
 only_arp None = refl
 only_arp (Some p) = refl
 
 -- what is found of the units is what is found of the ARP packet, if nothing is of the others
-found_last : {A : Type 0} (f : PacketUnit → Option A) (frame : List ℕ) (link : LinkPlace) (xs : List ExtPlace)
-    (arp : Option Place) → filter_map f (link_units frame link) ≡ [] → filter_map f (map ext_unit xs) ≡ []
+found_last : {A : Type 0} (f : PacketUnit → Option A) (frame : List ℕ) (link : LinkKind) (xs : List ExtPlace)
+    (arp : Option FrameWindow) → filter_map f (link_units frame link) ≡ [] → filter_map f (map ext_unit xs) ≡ []
     → filter_map f (units_at frame link xs arp) ≡ filter_map f (arp_units arp)
 found_last f frame link xs arp no_link no_ext =
     filter_map-append f (link_units frame link ++ map ext_unit xs) (arp_units arp)
     ∙ ap (λ l. l ++ filter_map f (arp_units arp)) (filter_map-append f (link_units frame link) (map ext_unit xs))
     ∙ (λ i. no_link i ++ no_ext i ++ filter_map f (arp_units arp))
 
-pub arp_at : (frame : List ℕ) (link : LinkPlace) (xs : List ExtPlace) (arp : Option Place)
+pub arp_at : (frame : List ℕ) (link : LinkKind) (xs : List ExtPlace) (arp : Option FrameWindow)
     → arp_view (units_at frame link xs arp) ≡ packet_at arp
 arp_at frame link xs arp =
     ap (λ l. slice_get l 0) (found_last arp_of_unit frame link xs arp (link_is frame link).1 (exts_are xs).1)
@@ -99,7 +99,7 @@ arp_at frame link xs arp =
 abbrev start_of_unit : PacketUnit → Option ℕ
 start_of_unit u = arp_start u.kind u.offset
 
-link_starts : (frame : List ℕ) (link : LinkPlace) → filter_map start_of_unit (link_units frame link) ≡ []
+link_starts : (frame : List ℕ) (link : LinkKind) → filter_map start_of_unit (link_units frame link) ≡ []
 link_starts frame places.Missing = refl
 link_starts frame places.Ethernet2 = refl
 link_starts frame places.Ethernet2Fcs = refl
@@ -115,21 +115,21 @@ exts_start (x ∷ xs) =
     ap (λ (a : Option ℕ). cons_option a (filter_map start_of_unit (map ext_unit xs))) (ext_starts x.kind x.place.start)
     ∙ exts_start xs
 
-abbrev pub start_at : Option Place → Option ℕ
+abbrev pub start_at : Option FrameWindow → Option ℕ
 start_at None = None
 start_at (Some p) = Some p.start
 
-only_start : (arp : Option Place) → slice_get (filter_map start_of_unit (arp_units arp)) 0 ≡ start_at arp
+only_start : (arp : Option FrameWindow) → slice_get (filter_map start_of_unit (arp_units arp)) 0 ≡ start_at arp
 only_start None = refl
 only_start (Some p) = refl
 
-pub arp_offset_at : (frame : List ℕ) (link : LinkPlace) (xs : List ExtPlace) (arp : Option Place)
+pub arp_offset_at : (frame : List ℕ) (link : LinkKind) (xs : List ExtPlace) (arp : Option FrameWindow)
     → arp_offset (units_at frame link xs arp) ≡ start_at arp
 arp_offset_at frame link xs arp =
     ap (λ l. slice_get l 0) (found_last start_of_unit frame link xs arp (link_starts frame link) (exts_start xs))
     ∙ only_start arp
 
-pub no_packet : (arp : Option Place) → packet_at arp ≡ None → arp ≡ None
+pub no_packet : (arp : Option FrameWindow) → packet_at arp ≡ None → arp ≡ None
 no_packet None e = refl
 no_packet (Some p) e = absurd cc
 
@@ -139,7 +139,7 @@ later_link : (kind : ExtKind) (at : ℕ) (bytes : List ℕ) (us : List PacketUni
 later_link tags.Vlan at bytes us = refl
 later_link tags.Macsec at bytes us = refl
 
-pub no_link : (frame : List ℕ) (xs : List ExtPlace) (arp : Option Place)
+pub no_link : (frame : List ℕ) (xs : List ExtPlace) (arp : Option FrameWindow)
     → link_of (units_at frame places.Missing xs arp) ≡ None
 no_link frame [] None = refl
 no_link frame [] (Some p) = refl
@@ -148,18 +148,18 @@ no_link frame (x ∷ xs) arp = later_link x.kind x.place.start x.place.bytes.now
 -- ---- one header more
 
 -- nothing was read
-pub nothing : (frame : List ℕ) (link : LinkPlace) (xs : List ExtPlace) (arp : Option Place)
+pub nothing : (frame : List ℕ) (link : LinkKind) (xs : List ExtPlace) (arp : Option FrameWindow)
     → units_at frame link xs arp ≡ [] → (link ≡ places.Missing) × (xs ≡ []) × (arp ≡ None)
 nothing frame places.Missing [] None e = (refl, refl, refl)
 nothing frame _ _ _ e = absurd cc
 
-first_is : (frame : List ℕ) (kind : Kind) (p : Place) → p.start ≡ 0 → p.bytes.now ≡ frame
+first_is : (frame : List ℕ) (kind : Kind) (p : FrameWindow) → p.start ≡ 0 → p.bytes.now ≡ frame
     → unit_at kind p ≡ link_unit frame kind
 first_is frame kind p start whole = λ i. record { kind = kind; offset = start i; bytes = whole i }
 
 -- the link's header comes first
-pub with_link : (frame : List ℕ) (old new : LinkPlace) (xs : List ExtPlace) (arp : Option Place) (kind : Kind)
-    (p : Place)
+pub with_link : (frame : List ℕ) (old new : LinkKind) (xs : List ExtPlace) (arp : Option FrameWindow) (kind : Kind)
+    (p : FrameWindow)
     → units_at frame old xs arp ≡ [] → p.start ≡ 0 → p.bytes.now ≡ frame
     → link_units frame new ≡ link_unit frame kind ∷ []
     → units_at frame new xs arp ≡ units_at frame old xs arp ++ unit_at kind p ∷ []
@@ -176,7 +176,7 @@ pub frame_unit : (frame : List ℕ) (b : Bool) (e : Ethernet2Value)
 frame_unit frame true e = refl
 frame_unit frame false e = refl
 
-pub readable_whole : (frame : List ℕ) (kind : Kind) (p : Place) → p.bytes.now ≡ frame → IsReadable kind p
+pub readable_whole : (frame : List ℕ) (kind : Kind) (p : FrameWindow) → p.bytes.now ≡ frame → IsReadable kind p
     → Reads frame kind
 readable_whole frame kind p whole r = subst (λ (l : List ℕ). Reads l kind) whole r
 
@@ -187,7 +187,7 @@ readable_frame frame true e r = r
 readable_frame frame false e r = r
 
 -- an extension after the others
-pub with_ext : (frame : List ℕ) (link : LinkPlace) (xs : List ExtPlace) (arp : Option Place) (x : ExtPlace) → arp ≡ None
+pub with_ext : (frame : List ℕ) (link : LinkKind) (xs : List ExtPlace) (arp : Option FrameWindow) (x : ExtPlace) → arp ≡ None
     → units_at frame link (xs ++ x ∷ []) arp ≡ units_at frame link xs arp ++ ext_unit x ∷ []
 with_ext frame link xs arp x none =
     let l = link_units frame link in
@@ -198,7 +198,7 @@ with_ext frame link xs arp x none =
     ∙ ap (λ (k : List PacketUnit). k ++ u ∷ []) (sym (ap (units_at frame link xs) none ∙ append-nil (l ++ m)))
 
 -- an ARP packet after all
-pub with_arp : (frame : List ℕ) (link : LinkPlace) (xs : List ExtPlace) (arp : Option Place) (p : Place) → arp ≡ None
+pub with_arp : (frame : List ℕ) (link : LinkKind) (xs : List ExtPlace) (arp : Option FrameWindow) (p : FrameWindow) → arp ≡ None
     → units_at frame link xs (Some p) ≡ units_at frame link xs arp ++ unit_at kinds.Arp p ∷ []
 with_arp frame link xs arp p none =
     let u = unit_at kinds.Arp p in
@@ -226,7 +226,7 @@ pub all_get : {X : Type 0} (P : X → Type 0) (xs : List X) (i : ℕ) (x : X) �
 all_get P xs i x all e =
     subst P (get_or_from_slice_get xs i x x e) (All-get_or P xs i x (slice_get_within xs i x e) all)
 
-pub ext_got : (frame : List ℕ) (link : LinkPlace) (xs : List ExtPlace) (arp : Option Place) (i : ℕ) (x : ExtPlace)
+pub ext_got : (frame : List ℕ) (link : LinkKind) (xs : List ExtPlace) (arp : Option FrameWindow) (i : ℕ) (x : ExtPlace)
     (ext : PacketExt)
     → slice_get xs i ≡ Some x → ViewsExt (ext_unit x) ext
     → ViewsExtIf (slice_get (exts_of (units_at frame link xs arp)) i) (Some ext)
@@ -236,7 +236,7 @@ ext_got frame link xs arp i x ext got views =
     ∙ ap (option_map ext_unit) got in
     subst (λ (o : Option PacketUnit). ViewsExtIf o (Some ext)) (sym e) views
 
-pub ext_missing : (frame : List ℕ) (link : LinkPlace) (xs : List ExtPlace) (arp : Option Place) (i : ℕ)
+pub ext_missing : (frame : List ℕ) (link : LinkKind) (xs : List ExtPlace) (arp : Option FrameWindow) (i : ℕ)
     → slice_get xs i ≡ None → ViewsExtIf (slice_get (exts_of (units_at frame link xs arp)) i) None
 ext_missing frame link xs arp i none =
     let e : slice_get (exts_of (units_at frame link xs arp)) i ≡ None =

@@ -12,9 +12,9 @@ use Rattle.etherparse.proofs.Reading.{arp_front_back}
 use Rattle.ether_peel.specs.Grammar.Cuts.{reach}
 use Rattle.ether_peel.specs.Grammar.Places.{place}
 use Rattle.ether_peel.proofs.Grammar.Places.{place-append}
-use Rattle.ether_packet.specs.declared.ext_places.Place.{Place}
+use Rattle.ether_packet.specs.declared.ext_places.FrameWindow.{FrameWindow}
 use Rattle.ether_packet.specs.declared.ext_places.ExtPlace.{ExtPlace}
-use Rattle.ether_packet.specs.declared.packet_units.LinkPlace.{LinkPlace}
+use Rattle.ether_packet.specs.declared.packet_units.LinkKind.{LinkKind}
 use Rattle.ether_packet.specs.PacketUnit.{PacketUnit}
 use Rattle.ether_packet.specs.Views.{header_of}
 use Rattle.ether_packet.specs.Places.{unit_at, link_units, ext_unit, headers_at}
@@ -25,7 +25,7 @@ reach-append at [] h = omega arith
 reach-append at (k ∷ hs) h = let more = reach-append (at + header_len k) hs h in omega arith
 
 -- the headers of a link and of some extensions
-abbrev pub headers_so_far : List ℕ → LinkPlace → List ExtPlace → List Header
+abbrev pub headers_so_far : List ℕ → LinkKind → List ExtPlace → List Header
 headers_so_far frame link xs = map header_of (link_units frame link) ++ map header_of (map ext_unit xs)
 
 take_next : (xs : List ExtPlace) (i : ℕ) (x : ExtPlace) → slice_get xs i ≡ Some x
@@ -35,7 +35,7 @@ take_next xs i x at =
     ap (λ (n : ℕ). take n xs) e ∙ take-suc xs i x (slice_get_within xs i x at)
     ∙ ap (λ (y : ExtPlace). take i xs ++ y ∷ []) (get_or_from_slice_get xs i x x at)
 
-headers_next : (frame : List ℕ) (link : LinkPlace) (xs : List ExtPlace) (i : ℕ) (x : ExtPlace) → slice_get xs i ≡ Some x
+headers_next : (frame : List ℕ) (link : LinkKind) (xs : List ExtPlace) (i : ℕ) (x : ExtPlace) → slice_get xs i ≡ Some x
     → headers_so_far frame link (take (i + 1) xs) ≡ headers_so_far frame link (take i xs) ++ header_of (ext_unit x) ∷ []
 headers_next frame link xs i x at =
     let first = map header_of (link_units frame link) in
@@ -47,13 +47,13 @@ headers_next frame link xs i x at =
     ∙ sym (append_assoc first (map header_of before) (header_of u ∷ []))
 
 -- where the headers of a link and of the first n extensions end, and how far they reach
-pub record Reaches (link : LinkPlace) (xs : List ExtPlace) (n at end : ℕ) : Type 0 where
+pub record Reaches (link : LinkKind) (xs : List ExtPlace) (n at end : ℕ) : Type 0 where
   pub ends : (frame : List ℕ) → at ≡ place 0 (headers_so_far frame link (take n xs))
   pub reaches : (frame : List ℕ) → end ≡ reach 0 (headers_so_far frame link (take n xs))
   pub near : at ≤ 16 + 16 * n
   pub most : end ≤ 80 + 16 * n
 
-pub reaches_first : (link : LinkPlace) (xs : List ExtPlace) (at : ℕ)
+pub reaches_first : (link : LinkKind) (xs : List ExtPlace) (at : ℕ)
     → ((frame : List ℕ) → at ≡ place 0 (map header_of (link_units frame link)))
     → ((frame : List ℕ) → at ≡ reach 0 (map header_of (link_units frame link)))
     → at ≤ 16 → Reaches link xs 0 at at
@@ -77,7 +77,7 @@ reach_next : (hs ks : List Header) (h : Header) (at end len named : ℕ) → ks 
 reach_next hs ks h at end len named next at_is end_is len_is named_is =
     let e = ap (reach 0) next ∙ reach-append 0 hs h in omega arith
 
-pub reaches_next : (link : LinkPlace) (xs : List ExtPlace) (i : ℕ) (x : ExtPlace) (h : Header) (at end len named : ℕ)
+pub reaches_next : (link : LinkKind) (xs : List ExtPlace) (i : ℕ) (x : ExtPlace) (h : Header) (at end len named : ℕ)
     → slice_get xs i ≡ Some x → h ≡ header_of (ext_unit x) → Reaches link xs i at end
     → len ≡ header_len h → len ≤ 16 → named ≡ unwrap_or (payload_len h) 0 → named < 64
     → Reaches link xs (i + 1) (at + len) (max end (at + len + named))
@@ -99,7 +99,7 @@ reaches_next link xs i x h at end len named is value r len_is few named_is less 
       most = omega arith;
     }
 
-pub reaches_all : (frame : List ℕ) (link : LinkPlace) (xs : List ExtPlace) (n at end : ℕ) → Reaches link xs n at end
+pub reaches_all : (frame : List ℕ) (link : LinkKind) (xs : List ExtPlace) (n at end : ℕ) → Reaches link xs n at end
     → length xs ≤ n
     → (at ≡ place 0 (headers_so_far frame link xs)) × (end ≡ reach 0 (headers_so_far frame link xs))
 reaches_all frame link xs n at end r past =
@@ -107,13 +107,13 @@ reaches_all frame link xs n at end r past =
     (r.ends frame ∙ ap (place 0) all, r.reaches frame ∙ ap (reach 0) all)
 
 -- without an ARP packet
-pub headers_before : (frame : List ℕ) (link : LinkPlace) (xs : List ExtPlace)
+pub headers_before : (frame : List ℕ) (link : LinkKind) (xs : List ExtPlace)
     → headers_at frame link xs None ≡ headers_so_far frame link xs
 headers_before frame link xs =
     ap (map header_of) (append-nil (link_units frame link ++ map ext_unit xs))
     ∙ map-append header_of (link_units frame link) (map ext_unit xs)
 
-pub reaches_before : (frame : List ℕ) (link : LinkPlace) (xs : List ExtPlace) (n at end : ℕ) → Reaches link xs n at end
+pub reaches_before : (frame : List ℕ) (link : LinkKind) (xs : List ExtPlace) (n at end : ℕ) → Reaches link xs n at end
     → length xs ≤ n
     → (at ≡ place 0 (headers_at frame link xs None)) × (end ≡ reach 0 (headers_at frame link xs None))
 reaches_before frame link xs n at end r past =
@@ -128,7 +128,7 @@ packet_len bytes packet same len =
     ∙ ap arp_len (arp_front_back packet (arp_front_in packet) (omega arith)) ∙ sym len
 
 -- with one
-pub reach_with_arp : (frame : List ℕ) (link : LinkPlace) (xs : List ExtPlace) (p : Place) (n : ℕ)
+pub reach_with_arp : (frame : List ℕ) (link : LinkKind) (xs : List ExtPlace) (p : FrameWindow) (n : ℕ)
     → header_len (header_of (unit_at kinds.Arp p)) ≡ n
     → reach 0 (headers_at frame link xs (Some p))
     ≡ max (reach 0 (headers_at frame link xs None)) (place 0 (headers_at frame link xs None) + n)

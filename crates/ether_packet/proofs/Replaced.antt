@@ -25,7 +25,7 @@ use Rattle.ether_peel.specs.Grammar.Stack.{Ending, Accepted, Fault, IsUnit, Stac
 use Rattle.ether_peel.proofs.Grammar.Windows.{payload_from, payload_in}
 use Rattle.ether_peel.proofs.Grammar.Places.{place_least, header_before, last_after}
 use Rattle.ether_peel.proofs.Grammar.Cleared.{whole_in}
-use Rattle.ether_packet.specs.Replacing.{SayTheSame}
+use Rattle.ether_packet.specs.Replacing.{Agree}
 
 -- ---- a list that is written over
 
@@ -74,7 +74,7 @@ part_after list bytes at i j le past =
 
 -- ---- headers that say the same
 
-pub same_self : (h : Header) → SayTheSame h h
+pub same_self : (h : Header) → Agree h h
 same_self (headers.Ethernet2 e) = refl
 same_self (headers.Ethernet2Fcs e) = refl
 same_self (headers.LinuxSll s) = (refl, refl)
@@ -96,7 +96,7 @@ LookAlike (headers.Arp g) (headers.Arp h) =
     (length g.sender_hardware ≡ length h.sender_hardware) × (length g.sender_protocol ≡ length h.sender_protocol)
 LookAlike g h = ⊥
 
-pub look_alike : (g h : Header) → SayTheSame g h → LookAlike g h
+pub look_alike : (g h : Header) → Agree g h → LookAlike g h
 look_alike (headers.Ethernet2 g) (headers.Ethernet2 h) same = tt
 look_alike (headers.Ethernet2Fcs g) (headers.Ethernet2Fcs h) same = tt
 look_alike (headers.LinuxSll g) (headers.LinuxSll h) same = same.0
@@ -123,7 +123,7 @@ alike_len (headers.Macsec g) (headers.Macsec h) alike = λ i. 6 + 8 * alike.3 i 
 alike_len (headers.Arp g) (headers.Arp h) alike = λ i. 8 + 2 * alike.0 i + 2 * alike.1 i
 alike_len _ _ alike = absurd alike
 
-pub same_len : (g h : Header) → SayTheSame g h → header_len g ≡ header_len h
+pub same_len : (g h : Header) → Agree g h → header_len g ≡ header_len h
 same_len g h same = alike_len g h (look_alike g h same)
 
 alike_payload_len : (g h : Header) → LookAlike g h → payload_len g ≡ payload_len h
@@ -149,7 +149,7 @@ pub alike_payload : (w : Window) (g h : Header) → LookAlike g h → payload w 
 alike_payload w g h alike =
     λ i. payload_from (w.start + alike_len g h alike i) (alike_trailer g h alike i) (alike_payload_len g h alike i) w
 
-same_next : (g h : Header) → SayTheSame g h → next_after g ≡ next_after h
+same_next : (g h : Header) → Agree g h → next_after g ≡ next_after h
 same_next (headers.Ethernet2 g) (headers.Ethernet2 h) same =
     λ i. next_after (headers.Ethernet2 (record g { ether_type = same i }))
 same_next (headers.Ethernet2Fcs g) (headers.Ethernet2Fcs h) same =
@@ -160,7 +160,7 @@ same_next (headers.Macsec g) (headers.Macsec h) same = ap after_payload same.0
 same_next (headers.Arp g) (headers.Arp h) same = refl
 same_next _ _ same = absurd same
 
-same_after : (x : Expectation) (g h : Header) → SayTheSame g h → after x g ≡ after x h
+same_after : (x : Expectation) (g h : Header) → Agree g h → after x g ≡ after x h
 same_after x g h same =
     λ i.
     record {
@@ -309,7 +309,7 @@ front_is list w n le =
 
 pub replaced_stack : (list : List ℕ) (x : Expectation) (w : Window) (front : List Header) (h g : Header)
     (later : List Header) (e : Ending) (at : ℕ)
-    → at ≡ place w.start front → at + header_len g ≤ length list → IsIn list w → SayTheSame g h → FitsHeader g
+    → at ≡ place w.start front → at + header_len g ≤ length list → IsIn list w → Agree g h → FitsHeader g
     → IsSendable g
     → Stack list x w (front ++ h ∷ later) e → Stack (overwritten list at (header_bytes g)) x w (front ++ g ∷ later) e
 replaced_stack list x w [] h g later e at is room inside same fits sendable s =
@@ -380,7 +380,7 @@ header_inside start list front h later e s =
 -- before.
 pub replaced_walk : (start : Expectation) (list : List ℕ) (front : List Header) (h g : Header) (later : List Header)
     (e : Ending)
-    → SayTheSame g h → FitsHeader g → IsSendable g
+    → Agree g h → FitsHeader g → IsSendable g
     → Walk start list (front ++ h ∷ later) e
     → Walk start (overwritten list (place 0 front) (header_bytes g)) (front ++ g ∷ later) e
 replaced_walk start list front h g later e same fits sendable s =

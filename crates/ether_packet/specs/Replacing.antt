@@ -14,16 +14,16 @@ use Rattle.ether_packet.specs.declared.replace_error.ReplaceError.TheVariants as
 
 -- Two headers are of one kind and length, and say the same about what follows them: they announce the same, and name the same
 -- length of a payload or none.
-abbrev pub SayTheSame : Header → Header → Type 0
-SayTheSame (headers.Ethernet2 g) (headers.Ethernet2 h) = g.ether_type ≡ h.ether_type
-SayTheSame (headers.Ethernet2Fcs g) (headers.Ethernet2Fcs h) = g.ether_type ≡ h.ether_type
-SayTheSame (headers.LinuxSll g) (headers.LinuxSll h) = (g.hardware_type ≡ h.hardware_type) × (g.protocol ≡ h.protocol)
-SayTheSame (headers.Vlan g) (headers.Vlan h) = g.ether_type ≡ h.ether_type
-SayTheSame (headers.Macsec g) (headers.Macsec h) =
+abbrev pub Agree : Header → Header → Type 0
+Agree (headers.Ethernet2 g) (headers.Ethernet2 h) = g.ether_type ≡ h.ether_type
+Agree (headers.Ethernet2Fcs g) (headers.Ethernet2Fcs h) = g.ether_type ≡ h.ether_type
+Agree (headers.LinuxSll g) (headers.LinuxSll h) = (g.hardware_type ≡ h.hardware_type) × (g.protocol ≡ h.protocol)
+Agree (headers.Vlan g) (headers.Vlan h) = g.ether_type ≡ h.ether_type
+Agree (headers.Macsec g) (headers.Macsec h) =
     (g.payload_type ≡ h.payload_type) × (g.short_len ≡ h.short_len) × (sci_present_of g.sci ≡ sci_present_of h.sci)
-SayTheSame (headers.Arp g) (headers.Arp h) =
+Agree (headers.Arp g) (headers.Arp h) =
     (length g.sender_hardware ≡ length h.sender_hardware) × (length g.sender_protocol ≡ length h.sender_protocol)
-SayTheSame g h = ⊥
+Agree g h = ⊥
 
 -- The first difference between two headers, in the order of kind and fields: g is another one in this, and the same before it.
 abbrev pub Differs : Header → Header → Difference → Type 0
@@ -56,7 +56,7 @@ pub record TakesExt (hs : List Header) (i : ℕ) (g : Header) (at : ℕ) : Type 
   pub replaced : Header
   pub later : List Header
   pub found : IsExtAt hs i front replaced later
-  pub same : SayTheSame g replaced
+  pub same : Agree g replaced
   pub begins : at ≡ place 0 front
 
 -- A list with headers hs and this ending becomes another one, in which g replaces the extension at an index. Only the bytes of
@@ -67,7 +67,7 @@ pub record ReplacesExt (start : Expectation) (old : List ℕ) (hs : List Header)
   pub replaced : Header
   pub later : List Header
   pub found : IsExtAt hs i front replaced later
-  pub same : SayTheSame g replaced
+  pub same : Agree g replaced
   pub fits : FitsHeader g
   pub bytes : new ≡ overwritten old (place 0 front) (header_bytes g)
   pub len : length new ≡ length old

@@ -12,7 +12,7 @@ use Rattle.ether_peel.specs.Grammar.Stack.{Ending, Walk}
 use Rattle.ether_packet.specs.declared.difference.Difference.{Difference}
 use Rattle.ether_packet.specs.declared.replace_error.ReplaceError.{ReplaceError}
 use Rattle.ether_packet.specs.declared.replace_error.ReplaceError.TheVariants as errors
-use Rattle.ether_packet.specs.Replacing.{SayTheSame, Differs}
+use Rattle.ether_packet.specs.Replacing.{Agree, Differs}
 
 abbrev pub is_arp : Kind → Bool
 is_arp kinds.Arp = true
@@ -28,7 +28,7 @@ pub record TakesArp (hs : List Header) (g : ArpValue) (end : ℕ) : Type 0 where
   pub front : List Header
   pub replaced : ArpValue
   pub parts : hs ≡ front ++ headers.Arp replaced ∷ []
-  pub same : SayTheSame (headers.Arp g) (headers.Arp replaced)
+  pub same : Agree (headers.Arp g) (headers.Arp replaced)
   pub ends : end ≡ place 0 hs
 
 -- A list with headers hs and this ending becomes another one, in which g replaces the ARP packet, which is the last header. Only
@@ -37,7 +37,7 @@ pub record ReplacesArp (start : Expectation) (old : List ℕ) (hs : List Header)
   pub front : List Header
   pub replaced : ArpValue
   pub parts : hs ≡ front ++ headers.Arp replaced ∷ []
-  pub same : SayTheSame (headers.Arp g) (headers.Arp replaced)
+  pub same : Agree (headers.Arp g) (headers.Arp replaced)
   pub fits : FitsHeader (headers.Arp g)
   pub bytes : new ≡ overwritten old (place 0 front) (arp_bytes g)
   pub len : length new ≡ length old

@@ -36,11 +36,11 @@ abbrev pub protocol_in : LinuxSllValue → LinuxSllProtocolType
 protocol_in s = protocol_of s.hardware_type s.protocol
 
 -- a link's header is of the same kind as the header of a walk, and says the same about what follows it
-abbrev pub LinkSaysTheSame : LinkHeader → Header → Type 0
-LinkSaysTheSame (links.Ethernet2 g) (headers.Ethernet2 h) = g.ether_type.0 ≡ h.ether_type
-LinkSaysTheSame (links.Ethernet2 g) (headers.Ethernet2Fcs h) = g.ether_type.0 ≡ h.ether_type
-LinkSaysTheSame (links.LinuxSll g) (headers.LinuxSll h) = (g.arp_hrd_type.0 ≡ h.hardware_type) × (g.protocol_type ≡ protocol_in h)
-LinkSaysTheSame g h = ⊥
+abbrev pub LinkAgrees : LinkHeader → Header → Type 0
+LinkAgrees (links.Ethernet2 g) (headers.Ethernet2 h) = g.ether_type.0 ≡ h.ether_type
+LinkAgrees (links.Ethernet2 g) (headers.Ethernet2Fcs h) = g.ether_type.0 ≡ h.ether_type
+LinkAgrees (links.LinuxSll g) (headers.LinuxSll h) = (g.arp_hrd_type.0 ≡ h.hardware_type) × (g.protocol_type ≡ protocol_in h)
+LinkAgrees g h = ⊥
 
 -- the first difference between a link's header and the header of a walk, in the order of kind and fields
 abbrev pub LinkDiffers : LinkHeader → Header → Difference → Type 0
@@ -64,7 +64,7 @@ pub record TakesLink (hs : List Header) (g : LinkHeader) : Type 0 where
   pub replaced : Header
   pub later : List Header
   pub parts : hs ≡ replaced ∷ later
-  pub same : LinkSaysTheSame g replaced
+  pub same : LinkAgrees g replaced
 
 -- A list with headers hs and this ending becomes another one, in which g replaces the first header. Only the bytes of that header
 -- are others, and the walk has all other headers and the ending as before.
@@ -98,10 +98,10 @@ pub record BeginsWithLink (hs : List Header) (g : LinkHeader) : Type 0 where
   pub is : IsLinkOf g header
 
 -- two headers of links are of one kind, and say the same about what follows them
-abbrev pub LinksSayTheSame : LinkHeader → LinkHeader → Type 0
-LinksSayTheSame (links.Ethernet2 g) (links.Ethernet2 h) = g.ether_type ≡ h.ether_type
-LinksSayTheSame (links.LinuxSll g) (links.LinuxSll h) = (g.arp_hrd_type ≡ h.arp_hrd_type) × (g.protocol_type ≡ h.protocol_type)
-LinksSayTheSame g h = ⊥
+abbrev pub LinksAgree : LinkHeader → LinkHeader → Type 0
+LinksAgree (links.Ethernet2 g) (links.Ethernet2 h) = g.ether_type ≡ h.ether_type
+LinksAgree (links.LinuxSll g) (links.LinuxSll h) = (g.arp_hrd_type ≡ h.arp_hrd_type) × (g.protocol_type ≡ h.protocol_type)
+LinksAgree g h = ⊥
 
 -- the first difference between two headers of links
 abbrev pub LinksDiffer : LinkHeader → LinkHeader → Difference → Type 0

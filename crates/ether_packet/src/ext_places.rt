@@ -6,15 +6,15 @@ use std::marker::Model;
 
 /// A window of a frame: where it starts, and its bytes.
 #[derive(Clone, Copy)]
-pub(crate) struct Place<'a> {
+pub(crate) struct FrameWindow<'a> {
     pub start: usize,
     pub bytes: &'a [u8],
 }
 
 /// Shows the number of the bytes, which are shown with the frame.
-impl fmt::Debug for Place<'_> {
+impl fmt::Debug for FrameWindow<'_> {
     fn fmt<W: fmt::Write>(&self, f: &mut fmt::Formatter<W>) -> fmt::Result {
-        f.debug_struct("Place")
+        f.debug_struct("FrameWindow")
             .field("start", &self.start)
             .field("len", &self.bytes.len())
             .finish()
@@ -32,7 +32,7 @@ pub(crate) enum ExtKind {
 #[derive(Clone, Copy, Debug)]
 pub(crate) struct ExtPlace<'a> {
     pub kind: ExtKind,
-    pub place: Place<'a>,
+    pub place: FrameWindow<'a>,
 }
 
 /// Up to three tags in order. Three fields take fewer instructions than a list, whose unused places are filled.

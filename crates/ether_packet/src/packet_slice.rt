@@ -10,7 +10,7 @@ ghost use Rattle.ether_packet.specs.Getters.{first_tags, vlans_of, vlan_ids_of, 
 ghost use Rattle.ether_packet.specs.VlanIds.{IsOutermost};
 
 use crate::PacketExt;
-use crate::ext_places::Place;
+use crate::ext_places::FrameWindow;
 use crate::packet_units::PacketUnits;
 use arrayvec::ArrayVec;
 use ether_peel::{Peel, PeelFault, RestKind, Start};
@@ -300,11 +300,11 @@ impl<'a> PacketSlice<'a> {
 
 /// The window left to read.
 #[inline(always)]
-fn place_of<'a>(peel: &Peel<'a>) -> Place<'a>
+fn place_of<'a>(peel: &Peel<'a>) -> FrameWindow<'a>
     ensures start { result.start ≡ peel.now.offset }
     ensures bytes { result.bytes.now ≡ peel.now.rest }
 {
-    Place {
+    FrameWindow {
         start: peel.offset(),
         bytes: peel.rest(),
     }

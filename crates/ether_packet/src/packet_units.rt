@@ -13,7 +13,7 @@ ghost use Rattle.ether_packet.specs.Places.{Reads, kind_read, ext_kind, ext_unit
 ghost use Rattle.ether_packet.specs.Views.{header_of, link_of, exts_of, arp_view, arp_offset, vlan_of_unit, macsec_of_unit, ViewsExtIf, ViewsExt, ViewsSecTag, ViewsSecTagIf};
 
 use crate::PacketExt;
-use crate::ext_places::{ExtKind, ExtPlace, ExtPlaces, Place};
+use crate::ext_places::{ExtKind, ExtPlace, ExtPlaces, FrameWindow};
 use ether_peel::PeelUnit;
 use etherparse::{
     ArpPacketSlice, Ethernet2Header, Ethernet2Slice, LinkExtSlice, LinkSlice, LinuxSllHeader,
@@ -23,7 +23,7 @@ use std::marker::Model;
 
 /// The header of a link that a frame begins with, if it has one.
 #[derive(Clone, Copy, Debug)]
-enum LinkPlace {
+enum LinkKind {
     Missing,
     Ethernet2,
     Ethernet2Fcs,
@@ -34,9 +34,9 @@ enum LinkPlace {
 #[derive(Debug, Drop)]
 pub(crate) struct PacketUnits<'a> {
     frame: &'a [u8],
-    link: LinkPlace,
+    link: LinkKind,
     exts: ExtPlaces<'a>,
-    arp: Option<Place<'a>>,
+    arp: Option<FrameWindow<'a>>,
 }
 
 impl<'a> Model for PacketUnits<'a> {
@@ -58,7 +58,7 @@ impl<'a> PacketUnits<'a> {
     {
         PacketUnits {
             frame,
-            link: LinkPlace::Missing,
+            link: LinkKind::Missing,
             exts: ExtPlaces::new(),
             arp: None,
         }
@@ -66,14 +66,14 @@ impl<'a> PacketUnits<'a> {
 
     /// Adds a header that was read in a window.
     #[inline(always)]
-    pub fn add(&mut self, unit: &PeelUnit<'a>, place: Place<'a>)
+    pub fn add(&mut self, unit: &PeelUnit<'a>, place: FrameWindow<'a>)
         requires fits { HasPlace self.old unit.now place }
         requires readable { IsReadable (kind_read unit.now) place }
         ensures { self.new ≡ read_with self.old (kind_read unit.now) place.entry }
     {
         match unit {
             PeelUnit::Ethernet2(slice) => self.link = frame_place(slice),
-            PeelUnit::LinuxSll(_) => self.link = LinkPlace::LinuxSll,
+            PeelUnit::LinuxSll(_) => self.link = LinkKind::LinuxSll,
             PeelUnit::Vlan(_) => self.add_ext(ExtKind::Vlan, place),
             PeelUnit::Macsec(_) => self.add_ext(ExtKind::Macsec, place),
             PeelUnit::Arp(_) => self.arp = Some(place),
@@ -82,7 +82,7 @@ impl<'a> PacketUnits<'a> {
 
     /// Adds a VLAN tag or SecTag.
     #[inline(always)]
-    fn add_ext(&mut self, kind: ExtKind, place: Place<'a>)
+    fn add_ext(&mut self, kind: ExtKind, place: FrameWindow<'a>)
         requires fits { HasPlaceForExt self.old }
         requires readable { IsReadable (ext_kind kind) place }
         ensures { self.new ≡ read_with self.old (ext_kind kind) place.entry }
@@ -96,10 +96,10 @@ impl<'a> PacketUnits<'a> {
         ensures { result ≡ link_of self.now.units }
     {
         match self.link {
-            LinkPlace::Missing => None,
-            LinkPlace::Ethernet2 => Some(LinkSlice::Ethernet2(frame_of(self.frame))),
-            LinkPlace::Ethernet2Fcs => Some(LinkSlice::Ethernet2(frame_with_fcs_of(self.frame))),
-            LinkPlace::LinuxSll => Some(LinkSlice::LinuxSll(capture_of(self.frame))),
+            LinkKind::Missing => None,
+            LinkKind::Ethernet2 => Some(LinkSlice::Ethernet2(frame_of(self.frame))),
+            LinkKind::Ethernet2Fcs => Some(LinkSlice::Ethernet2(frame_with_fcs_of(self.frame))),
+            LinkKind::LinuxSll => Some(LinkSlice::LinuxSll(linux_sll_slice(self.frame))),
         }
     }
 
@@ -175,7 +175,7 @@ impl<'a> PacketUnits<'a> {
         ensures { result ≡ arp_view self.now.units }
     {
         match self.arp {
-            Some(place) => Some(packet_of(place.bytes)),
+            Some(place) => Some(arp_slice(place.bytes)),
             None => None,
         }
     }
@@ -198,7 +198,7 @@ impl<'a> PacketUnits<'a> {
         let (at, end) = tags_reach(self.link, &self.exts);
         match self.arp {
             Some(place) => {
-                let packet = packet_of(place.bytes);
+                let packet = arp_slice(place.bytes);
                 end.max(at + packet.slice().len())
             }
             None => end,
@@ -207,7 +207,7 @@ impl<'a> PacketUnits<'a> {
 }
 
 /// Where the headers of a link and of tags end, and how far they reach.
-fn tags_reach(link: LinkPlace, exts: &ExtPlaces<'_>) -> (usize, usize)
+fn tags_reach(link: LinkKind, exts: &ExtPlaces<'_>) -> (usize, usize)
     requires { All IsReadableExt exts.now }
     ensures place { (frame : List ℕ)
         → result.0 ≡ place_after 0 (headers_at frame link exts.now NoPlace) }
@@ -220,7 +220,7 @@ fn tags_reach(link: LinkPlace, exts: &ExtPlaces<'_>) -> (usize, usize)
     for index in 0..exts.len() {
         if let Some(ext) = exts.get(index) {
             let slice = ext_of(ext).slice;
-            at += tag_len(&slice);
+            at += ext_len(&slice);
             end = end.max(at + named_len(&slice));
         }
     }
@@ -228,21 +228,21 @@ fn tags_reach(link: LinkPlace, exts: &ExtPlaces<'_>) -> (usize, usize)
 }
 
 /// The length of the link's header, 0 if there is none.
-fn link_len(link: LinkPlace) -> usize
+fn link_len(link: LinkKind) -> usize
     ensures place { (frame : List ℕ)
         → result ≡ place_after 0 (map header_of (link_units frame link)) }
     ensures reach { (frame : List ℕ) → result ≡ reach 0 (map header_of (link_units frame link)) }
     ensures bound { result ≤ 16 }
 {
     match link {
-        LinkPlace::Missing => 0,
-        LinkPlace::Ethernet2 | LinkPlace::Ethernet2Fcs => Ethernet2Header::LEN,
-        LinkPlace::LinuxSll => LinuxSllHeader::LEN,
+        LinkKind::Missing => 0,
+        LinkKind::Ethernet2 | LinkKind::Ethernet2Fcs => Ethernet2Header::LEN,
+        LinkKind::LinuxSll => LinuxSllHeader::LEN,
     }
 }
 
 /// The length of a tag.
-fn tag_len(ext: &LinkExtSlice<'_>) -> usize
+fn ext_len(ext: &LinkExtSlice<'_>) -> usize
     ensures value { result ≡ header_len (ext_slice_header ext.now) }
     ensures bound { result ≤ 16 }
 {
@@ -265,13 +265,13 @@ fn named_len(ext: &LinkExtSlice<'_>) -> usize
 
 /// Whether a frame has a frame check sequence.
 #[inline(always)]
-fn frame_place(slice: &Ethernet2Slice<'_>) -> LinkPlace
+fn frame_place(slice: &Ethernet2Slice<'_>) -> LinkKind
     ensures { result ≡ frame_link slice.now.has_fcs }
 {
     if slice.fcs().is_some() {
-        LinkPlace::Ethernet2Fcs
+        LinkKind::Ethernet2Fcs
     } else {
-        LinkPlace::Ethernet2
+        LinkKind::Ethernet2
     }
 }
 
@@ -301,7 +301,7 @@ fn frame_with_fcs_of(bytes: &[u8]) -> Ethernet2Slice<'_>
 
 /// A cooked capture that was read before.
 #[inline(always)]
-fn capture_of(bytes: &[u8]) -> LinuxSllSlice<'_>
+fn linux_sll_slice(bytes: &[u8]) -> LinuxSllSlice<'_>
     requires { Reads bytes.now kinds.LinuxSll }
     ensures { result ≡ bytes.now }
 {
@@ -355,7 +355,7 @@ fn sec_tag_of(bytes: &[u8]) -> MacsecSlice<'_>
 
 /// An ARP packet that was read before.
 #[inline(always)]
-fn packet_of(bytes: &[u8]) -> ArpPacketSlice<'_>
+fn arp_slice(bytes: &[u8]) -> ArpPacketSlice<'_>
     requires { Reads bytes.now kinds.Arp }
     ensures bytes { result ≡ slice_range bytes.now 0 (arp_len (arp_front_in bytes.now)) }
     ensures value { arp_of result ≡ arp_of bytes.now }

@@ -6,8 +6,8 @@ ghost use Rattle.ether_peel.specs.Grammar.Stack.{Ending, Walk};
 ghost use Rattle.ether_peel.specs.Walker.Start.{start_with};
 ghost use Rattle.ether_packet.specs.Builder.{link_header};
 ghost use Rattle.ether_packet.specs.Packet.{packet_start};
-ghost use Rattle.ether_packet.specs.Replacing.{SayTheSame, Differs, TakesExt, ReplacesExt, RefusesExt};
-ghost use Rattle.ether_packet.specs.ReplacingLink.{has_link, BeginsWithLink, LinksSayTheSame, LinksDiffer, TakesLink, ReplacesLink, RefusesLink};
+ghost use Rattle.ether_packet.specs.Replacing.{Agree, Differs, TakesExt, ReplacesExt, RefusesExt};
+ghost use Rattle.ether_packet.specs.ReplacingLink.{has_link, BeginsWithLink, LinksAgree, LinksDiffer, TakesLink, ReplacesLink, RefusesLink};
 
 use crate::packet_builder::{write_ext, write_link_header};
 use crate::{Difference, PacketSlice, ReplaceError};
@@ -92,7 +92,7 @@ fn find_ext(
 
 /// The first difference between two tags in kind, length and what they say about what follows them.
 fn ext_difference(new: &LinkExtHeader, old: &LinkExtHeader) -> Option<Difference>
-    ensures none { result ≡ None → SayTheSame (ext_header_view new.now) (ext_header_view old.now) }
+    ensures none { result ≡ None → Agree (ext_header_view new.now) (ext_header_view old.now) }
     ensures some { IfSome result (Differs (ext_header_view new.now) (ext_header_view old.now)) }
 {
     match (new, old) {
@@ -204,7 +204,7 @@ fn link_of(start: Start, frame: &[u8]) -> Option<LinkHeader>
 
 /// The first difference between two headers of links in kind and what they say about what follows them.
 fn link_difference(new: &LinkHeader, old: &LinkHeader) -> Option<Difference>
-    ensures none { result ≡ None → LinksSayTheSame new.now old.now }
+    ensures none { result ≡ None → LinksAgree new.now old.now }
     ensures some { IfSome result (LinksDiffer new.now old.now) }
 {
     match (new, old) {

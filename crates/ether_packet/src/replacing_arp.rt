@@ -5,7 +5,7 @@ ghost use Rattle.etherparse.specs.Header.{Header, header_len};
 ghost use Rattle.etherparse.specs.Header as headers;
 ghost use Rattle.ether_peel.specs.Grammar.Stack.{Ending, Walk};
 ghost use Rattle.ether_packet.specs.Packet.{packet_start};
-ghost use Rattle.ether_packet.specs.Replacing.{SayTheSame, Differs};
+ghost use Rattle.ether_packet.specs.Replacing.{Agree, Differs};
 ghost use Rattle.ether_packet.specs.ReplacingArp.{TakesArp, ReplacesArp, RefusesArp};
 
 use crate::packet_builder::write_arp;
@@ -88,7 +88,7 @@ fn find_arp(start: Start, frame: &[u8], packet: &ArpPacket) -> Result<usize, Rep
 
 /// The first difference between two ARP packets in the lengths of their addresses.
 fn arp_difference(new: &ArpPacket, old: &ArpPacketSlice<'_>) -> Option<Difference>
-    ensures none { result ≡ None → SayTheSame (headers.Arp new.now) (headers.Arp (arp_of old.now)) }
+    ensures none { result ≡ None → Agree (headers.Arp new.now) (headers.Arp (arp_of old.now)) }
     ensures some { IfSome result (Differs (headers.Arp new.now) (headers.Arp (arp_of old.now))) }
 {
     if new.hw_addr_size() != old.hw_addr_size() {

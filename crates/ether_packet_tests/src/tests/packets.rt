@@ -299,7 +299,7 @@ fn shown_by_debug(rt: HostRuntime) -> Result<(), Fail> {
     assert_eq!(rt;
         format!(in rt.alloc(); "{packet:?}")?.as_str(),
         "PacketSlice { read: PacketUnits { frame: [0, 10, 8, 0, 69], link: Missing, exts: ExtPlaces { first: \
-Some(ExtPlace { kind: Vlan, place: Place { start: 0, len: 5 } }), second: None, third: None }, arp: None }, \
+Some(ExtPlace { kind: Vlan, place: FrameWindow { start: 0, len: 5 } }), second: None, third: None }, arp: None }, \
 rest: [69], rest_offset: 4, rest_kind: EtherType(0x0800 (Internet Protocol version 4 (IPv4))), fault: None }"
     );
     Ok(())

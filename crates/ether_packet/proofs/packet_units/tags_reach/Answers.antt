@@ -14,11 +14,11 @@ loop-index-preserved c =
     omega arith in
     elim c.match-get.branch [
       | in-Some w ↦
-          let len = w.tag_len-at.ensures in
+          let len = w.ext_len-at.ensures in
           let named = w.named_len.ensures in
           let next =
           reaches_next c.args.link xs i w.in-Some.ext (ext_slice_header w.ext_of.result.slice) c.loop-index.at
-          c.loop-index.end w.tag_len-at.result w.named_len.result (sym c.get.ensures ∙ w.in-Some.is)
+          c.loop-index.end w.ext_len-at.result w.named_len.result (sym c.get.ensures ∙ w.in-Some.is)
           w.ext_of.ensures.header c.loop-index.invariant len.value len.bound named.value named.bound in
           subst (λ n. Reaches c.args.link xs (i + 1) n c.match-get.end) (sym w.at-is)
           (subst (Reaches c.args.link xs (i + 1) _) (sym (w.end-is ∙ w.max-end.ensures)) next)

@@ -8,7 +8,7 @@ use Rattle.ether_packet.proofs.packet_units.PacketUnits.arp.Goals as goal
 pub returns-in-Some : goal.returns-in-Some
 returns-in-Some c =
     let a = c.self.inside in
-    ap Some c.packet_of.ensures.bytes ∙ sym (arp_at a.frame.now a.link a.exts a.arp ∙ ap packet_at c.in-Some.is)
+    ap Some c.arp_slice.ensures.bytes ∙ sym (arp_at a.frame.now a.link a.exts a.arp ∙ ap packet_at c.in-Some.is)
     ∙ ap (λ (r : Read). arp_view r.units) c.self.view_is
 
 pub returns-in-None : goal.returns-in-None

@@ -1,5 +1,5 @@
 use Rattle.std.proofs.Common.{ap, sym, ◌∙◌}
-use Rattle.ether_packet.specs.declared.packet_units.LinkPlace.{LinkPlace}
+use Rattle.ether_packet.specs.declared.packet_units.LinkKind.{LinkKind}
 use Rattle.ether_packet.specs.PacketUnit.{Read}
 use Rattle.ether_packet.specs.Views.{link_of}
 use Rattle.ether_packet.specs.Places.{units_at}
@@ -10,6 +10,6 @@ pub returns-in-Missing : goal.returns-in-Missing
 returns-in-Missing c =
     let a = c.self.inside in
     sym
-    (ap (λ (l : LinkPlace). link_of (units_at a.frame.now l a.exts a.arp)) c.in-Missing.is
+    (ap (λ (l : LinkKind). link_of (units_at a.frame.now l a.exts a.arp)) c.in-Missing.is
     ∙ no_link a.frame.now a.exts a.arp)
     ∙ ap (λ (r : Read). link_of r.units) c.self.view_is

@@ -11,10 +11,10 @@ pub returns-in-Some : goal.returns-in-Some
 returns-in-Some c =
     let a = c.self.inside in
     let len = ap length c.slice.ensures.bytes in
-    let own = packet_len _ c.packet_of-packet.result c.packet_of-packet.ensures.value (sym len ∙ c.slice.ensures.len) in
+    let own = packet_len _ c.arp_slice-packet.result c.arp_slice-packet.ensures.value (sym len ∙ c.slice.ensures.len) in
     c.max.ensures
     ∙ (λ i. max (c.tags_reach-at.ensures.reach a.frame.now i) (c.tags_reach-at.ensures.place a.frame.now i + len i))
-    ∙ sym (reach_with_arp a.frame.now a.link a.exts c.in-Some.place (length c.packet_of-packet.result) own)
+    ∙ sym (reach_with_arp a.frame.now a.link a.exts c.in-Some.place (length c.arp_slice-packet.result) own)
     ∙ ap (λ o. reach 0 (headers_at a.frame.now a.link a.exts o)) (sym c.in-Some.is)
     ∙ ap (λ (r : Read). reach 0 (map header_of r.units)) c.self.view_is
 

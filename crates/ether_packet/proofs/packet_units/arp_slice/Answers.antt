@@ -1,6 +1,6 @@
 use Rattle.std.proofs.Common.{arith, sym}
 use Rattle.ether_packet.proofs.HeadersIn.{packet_shown}
-use Rattle.ether_packet.proofs.packet_units.packet_of.Goals as goal
+use Rattle.ether_packet.proofs.packet_units.arp_slice.Goals as goal
 
 pub returns-clause-value : goal.returns-clause-value
 returns-clause-value c =
