@@ -12,7 +12,6 @@ import sys
 
 ROOT = os.path.dirname(os.path.dirname(os.path.abspath(__file__)))
 NAME = r"[^\s(){}\[\],;.λ∀→=|]+"
-LINES_A_MINUTE = 10
 
 # The artefacts in the order of the page, each with its public calls by file. "ghost" means the ghost members of a file's impls that say
 # what its calls do: of a model that is its value, while its view and its invariant are the representation, which nobody outside sees.
@@ -271,7 +270,7 @@ def artefacts(found):
         by_file = {}
         for source, name in added:
             by_file.setdefault(file_of(found, source), set()).add(name)
-        figures = f"Adds {len(added)} definitions, {lines} lines, {round(lines / LINES_A_MINUTE)} minutes; {count_lines(found, reached)} lines in all."
+        figures = f"Adds {len(added)} definitions, {lines} lines; {count_lines(found, reached)} in all."
         yield title, figures, by_file
 
 
