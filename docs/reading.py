@@ -1,11 +1,11 @@
 #!/usr/bin/env python3
-"""Finds the definitions that the contracts of the calls below rest on, by artefact, and compares their files with docs/READING.md.
+"""Finds the definitions that the contracts of the calls below rest on, by artefact, and compares them with docs/READING.md.
 
     python3 docs/reading.py [ARTEFACT]
 
 A word is a definition of a file in a crate's specs/ folder; an artefact adds those that none before it reaches. Prints nothing
-if each section of the page has exactly the files of these words, and the right figures; else what is wrong, and ends with status
-1. With the title of a section prints its definitions, in the order of the page, as one text to read."""
+if the page has the right figures, and the order below exactly the files of these words; else what is wrong, and ends with status
+1. With the title of a section of the page prints its definitions, in that order, as one text to read."""
 import os
 import re
 import sys
@@ -96,6 +96,78 @@ ARTEFACTS = {
         "ether_c/src/replacing.rt": ["etherpeel_replace_link", "etherpeel_replace_link_ext", "etherpeel_replace_arp"],
         "ether_c/src/building.rt": ["etherpeel_build"],
     },
+}
+
+
+# The files of each artefact, in the order in which they are read.
+ORDER = {
+    "`Peel` alone": """
+        ether_base: Bytes Formats/Ethernet2 Formats/Vlan Formats/Macsec Formats/LinuxSll Formats/LinuxSllProtocolType Formats/Arp
+        ether_base: Formats/Kind Formats/Header Formats/Refusal
+        ether_peel: Grammar/Window Grammar/Expectation Grammar/Stack Walker/State Walker/Start
+        ether_tags: Macsec
+        ether_peel: Walker/Fault Walker/Next
+    """,
+    "The main theorem": """
+        ether_base: Bytes Formats/Ethernet2 Formats/Vlan Formats/Macsec Formats/LinuxSll Formats/Arp Formats/Header WriteFront
+        ether_peel: Grammar/Stack Grammar/Endings Grammar/Places Grammar/Cuts Grammar/Extensions Grammar/Cleared Walker/Summary
+        ether_peel: Walker/MainTheorem
+    """,
+    "The calls of the walk": """
+        ether_base: Bytes
+        ether_peel: Grammar/Demands Grammar/Completion Walker/Summary Walker/WriteBack Walker/Limits Walker/Feeding
+    """,
+    "The tool": """
+        ether_tool: Frame
+        ether_base: Texts/NumberText
+        ether_text: HexText Lines WalkText Verdict
+        ether_tool: Mode Command Answer
+        ether_text: Run
+        ether_tool: Run Outcome
+        ether_text: Arguments
+        ether_tool: Program
+    """,
+    "Filters": """
+        ether_filter: Primitives Expressions Words Numerals Tokens Grammar Texts Refusals
+    """,
+    "Capture files": """
+        ether_pcap: Numbers FileHeader Record Block Section Options Bodies Capture CaptureReading Views PcapngViews CaptureViews
+    """,
+    "Captures written": """
+        ether_pcap: Writing WritingBlocks Cutting Copies Views PcapngViews
+    """,
+    "Captured packets": """
+        ether_base: Texts/NumberText Enumerations/LinuxNonstandardEtherType Formats/LinuxSllProtocolType
+        ether_sll2: LinuxSll2
+        ether_content: Content ContentViews Selecting Headers
+    """,
+    "Captures": """
+        ether_pcap: Capture
+        ether_capture: LinuxSll2Lines FrameLines Packets
+        ether_text: Run
+        ether_capture: Run Copying Options
+        ether_pcap: Texts PcapngTexts CaptureTexts
+        ether_filter: ErrorTexts
+        ether_capture: Outcome Program
+    """,
+    "Packets": """
+        ether_base: Bytes Formats/Ethernet2 Formats/Vlan Formats/Macsec Formats/LinuxSll Formats/LinuxSllProtocolType Formats/Arp
+        ether_base: Formats/Header
+        ether_tags: Ethernet2 Vlan Macsec LinkExt
+        ether_sll: LinuxSll Link
+        ether_packet: PacketUnit Views Packet Getters VlanIds Building Builder Replacing ReplacingLink ReplacingArp
+        ether_peel: Grammar/Places
+        ether_packet: TypedLink Popping Pushing Setting Laws
+    """,
+    "C": """
+        ether_c: Numbers Starts Found Units Walk
+        ether_base: Enumerations/Layer Enumerations/LenSource Texts/NumberText Enumerations/ArpHardwareId Texts/LengthErrors
+        ether_base: Texts/LinuxSllErrors Texts/MacsecErrors
+        ether_peel: Walker/Texts
+        ether_c: Calls Packet
+        ether_pcap: CaptureTexts
+        ether_c: Captured CapturedFrame Tags Library Selection Filters FieldTables Fields CookedV2 Passed Replacing Building
+    """,
 }
 
 
@@ -274,22 +346,16 @@ def artefacts(found):
         yield title, figures, by_file
 
 
-def read_page():
-    """Returns the figures and the files of each section of the page, in its order.
+def files_of(title):
+    """Returns the files of an artefact, in their order."""
+    rows = (row.split(":") for row in ORDER.get(title, "").split("\n") if row.strip())
+    return [f"{crate.strip()}/specs/{it}" for crate, files in rows for it in files.split()]
 
-    A row may go on in further lines, which are indented."""
-    figures, files, title = {}, {}, None
+
+def read_page():
+    """Returns the figures of each section of the page."""
     page = open(f"{ROOT}/docs/READING.md", encoding="utf-8").read()
-    for line in re.sub(r"\n +", " ", page).split("\n"):
-        heading = re.match(r"## (.*)", line)
-        row = re.match(r"- `(\w+/specs)`: (.*)", line)
-        if heading:
-            title = heading[1]
-        elif line.startswith("Adds "):
-            figures[title] = line.strip()
-        elif row:
-            files.setdefault(title, []).extend(f"{row[1]}/{it}" for it in re.findall(r"`([\w/]+)`", row[2]))
-    return figures, files
+    return dict(re.findall(r"^## (.*)\n\n(Adds .*)$", page, re.M))
 
 
 def begins(paragraph, names):
@@ -308,22 +374,22 @@ def print_text(title, files, by_file):
 
 
 def check(found):
-    """Prints what the page lacks or has too many of, and returns whether there is anything."""
-    page_figures, page_files = read_page()
+    """Prints what the page and the order lack or have too many of, and returns whether there is anything."""
+    page_figures = read_page()
     failed = False
     for title, figures, by_file in artefacts(found):
-        files = page_files.get(title, [])
+        files = files_of(title)
         if page_figures.get(title) != figures:
             print(f"docs/READING.md, {title}: the line of figures has to be\n{figures}")
             failed = True
         for path in sorted(set(by_file) - set(files)):
-            print(f"docs/READING.md, {title}: lacks {path}")
+            print(f"docs/reading.py, {title}: lacks {path}")
             failed = True
         for path in sorted(it for it in set(files) if it not in by_file or files.count(it) > 1):
-            print(f"docs/READING.md, {title}: has {path} twice, or without a definition that a contract reaches here first")
+            print(f"docs/reading.py, {title}: has {path} twice, or without a definition that a contract reaches here first")
             failed = True
-    for title in sorted(set(page_files) - set(ARTEFACTS)):
-        print(f"docs/READING.md, {title}: lists files, but is no artefact")
+    for title in sorted(set(page_figures) - set(ARTEFACTS)):
+        print(f"docs/READING.md, {title}: has figures, but is no artefact")
         failed = True
     return failed
 
@@ -337,8 +403,11 @@ def main():
         print(f"usage: docs/reading.py [ARTEFACT], of: {', '.join(titles)}", file=sys.stderr)
         return 2
     title = titles[sys.argv[1]]
-    files = read_page()[1].get(title, [])
-    print_text(title, files, next(by_file for name, _, by_file in artefacts(found) if name == title))
+    try:
+        print_text(title, files_of(title), next(by_file for name, _, by_file in artefacts(found) if name == title))
+        sys.stdout.flush()
+    except BrokenPipeError:
+        os.dup2(os.open(os.devnull, os.O_WRONLY), sys.stdout.fileno())
     return 0
 
 
