@@ -47,7 +47,7 @@ ARTEFACTS = {
         "ether_pcap/src/interface_description.rt": ["header_to_bytes", "trailer_to_bytes", "nanosecond_options"],
         "ether_pcap/src/enhanced_packet.rt": ["header_to_bytes", "trailer_to_bytes"],
         "ether_pcap/src/capture_reader.rt": ["truncate_packet"],
-        "ether_pcap/src/laws.rt": ["written_files_are_read", "copies_are_read"],
+        "ether_pcap/src/laws.rt": ["written_files_are_read", "written_sections_are_read", "copies_are_read"],
     },
     "Captured packets": {
         "ether_content/src/content.rt": ["of", "is_unknown", "frame", "is_cut"],

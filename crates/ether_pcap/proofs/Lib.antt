@@ -22,3 +22,4 @@ pub mod CutInPlace
 pub mod PacketUnits
 pub mod CutPackets
 pub mod WrittenBlocks
+mod WrittenSections

@@ -92,7 +92,7 @@ section_read order rest =
 
 -- ---- interface descriptions
 
-length-interface_head : (order : Order) (i : InterfaceValue) → length (interface_head order i) ≡ 8
+pub length-interface_head : (order : Order) (i : InterfaceValue) → length (interface_head order i) ≡ 8
 unfolding spelled
 length-interface_head BigEndian i = refl
 length-interface_head LittleEndian i = refl
@@ -153,7 +153,7 @@ nanoseconds_read LittleEndian = (
 
 -- ---- enhanced packets
 
-length-packet_head : (order : Order) (p : EnhancedPacketValue) → length (packet_head order p) ≡ 20
+pub length-packet_head : (order : Order) (p : EnhancedPacketValue) → length (packet_head order p) ≡ 20
 unfolding spelled
 length-packet_head BigEndian p = refl
 length-packet_head LittleEndian p = refl
@@ -185,10 +185,10 @@ pub record PacketFits (order : Order) (p : EnhancedPacketValue) : Type 0 where
   pub original_len : number_in order (bytes_of order 4 p.original_len) ≡ p.original_len
 
 module _ (order : Order) (p : EnhancedPacketValue) where
-  length-padding : length (packet_padding p) ≡ padded (length p.packet) - length p.packet
+  pub length-padding : length (packet_padding p) ≡ padded (length p.packet) - length p.packet
   length-padding = length-zeros (padded (length p.packet) - length p.packet)
 
-  length-to_options : length (packet_head order p ++ p.packet ++ packet_padding p) ≡ 20 + padded (length p.packet)
+  pub length-to_options : length (packet_head order p ++ p.packet ++ packet_padding p) ≡ 20 + padded (length p.packet)
   length-to_options =
       omega (
         arith,

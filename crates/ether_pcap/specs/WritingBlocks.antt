@@ -1,12 +1,15 @@
 -- What blocks of a pcapng file are written as: all that is read of them, and 0 for what is reserved (draft-ietf-opsawg-pcapng, sections 3.1,
 -- 3.5 and 4.1 to 4.3).
-use Rattle.std.specs.Prelude.{ℕ, ◌+◌, ◌-◌, ◌/◌, ◌%◌, ◌^◌, ◌≤◌, List, [], ◌∷◌, ◌++◌, length}
+use Rattle.std.specs.Prelude.{ℕ, ◌+◌, ◌-◌, ◌/◌, ◌%◌, ◌^◌, ◌<◌, ◌≤◌, List, [], ◌∷◌, ◌++◌, length, None}
 use Rattle.ether_pcap.specs.Numbers.{Order}
 use Rattle.ether_pcap.specs.Block.{IsTotalLen, BeginsBlock}
 use Rattle.ether_pcap.specs.Record.{max_captured_len}
-use Rattle.ether_pcap.specs.Options.{padded}
+use Rattle.ether_pcap.specs.Section.{section_type}
+use Rattle.ether_pcap.specs.Options.{padded, OptionValue, HasOptions}
 use Rattle.ether_pcap.specs.Bodies.{InterfaceValue, IsInterface, EnhancedPacketValue, IsEnhancedPacket}
 use Rattle.ether_pcap.specs.Writing.{bytes_of, zeros}
+use Rattle.ether_pcap.specs.Cutting.{block_bytes}
+use Rattle.ether_pcap.specs.Capture.{CaptureInterfaceValue, PacketValue, described_by, packet_on, IsAt, max_interfaces, Beginning, HasPackets}
 
 -- byte-order magic, version 1.0, and the number that stands for a section length that is not given (4.1)
 abbrev pub section_body : Order → List ℕ
@@ -58,3 +61,49 @@ PacketIsRead order header p =
     → BeginsBlock order (header ++ p.packet ++ packet_padding p ++ p.options ++ bytes_of order 4 (packet_block_len p) ++ rest)
     (record { block_type = 6; body = packet_body order p })
     × IsEnhancedPacket 4 order (packet_body order p) p
+
+-- ---- a whole file
+
+abbrev pub section_bytes : Order → List ℕ
+section_bytes order = block_bytes order (bytes_of order 4 section_type) (section_body order)
+
+abbrev pub interface_bytes : Order → InterfaceValue → List ℕ
+interface_bytes order i =
+    let len = bytes_of order 4 (interface_block_len i) in bytes_of order 4 1 ++ len ++ interface_head order i ++ i.options ++ len
+
+abbrev pub packet_bytes : Order → EnhancedPacketValue → List ℕ
+packet_bytes order p =
+    let len = bytes_of order 4 (packet_block_len p) in
+    bytes_of order 4 6 ++ len ++ packet_head order p ++ p.packet ++ packet_padding p ++ p.options ++ len
+
+-- the numbers of an interface or a packet have room in their bytes, and the block is none that a reader refuses
+pub record FitsInterface (i : InterfaceValue) : Type 0 where
+  pub link_type : i.link_type < 2 ^ 16
+  pub snap_len : i.snap_len < 2 ^ 32
+  pub total_len : IsTotalLen (interface_block_len i)
+
+pub record FitsPacket (p : EnhancedPacketValue) : Type 0 where
+  pub interface : p.interface < 2 ^ 32
+  pub time : p.time < 2 ^ 64
+  pub original_len : p.original_len < 2 ^ 32
+  pub captured_len : length p.packet ≤ max_captured_len
+  pub total_len : IsTotalLen (packet_block_len p)
+
+-- What follows a section header, where the section has described these interfaces: further ones, packets of those described before them,
+-- and further sections. The packets are those that the blocks say.
+pub data WritesBlocks : Order → (before : List CaptureInterfaceValue) → (bytes : List ℕ) → List PacketValue → Type 0 where
+  end : (order : Order) (before : List CaptureInterfaceValue) → WritesBlocks order before [] []
+  section : (order next : Order) (before : List CaptureInterfaceValue) (bytes : List ℕ) (packets : List PacketValue)
+      → WritesBlocks next [] bytes packets → WritesBlocks order before (section_bytes next ++ bytes) packets
+  interface : (order : Order) (before : List CaptureInterfaceValue) (bytes : List ℕ) (packets : List PacketValue) (i : InterfaceValue) (options : List OptionValue)
+      → FitsInterface i → HasOptions order i.options options → length before < max_interfaces
+      → WritesBlocks order (before ++ described_by order i options ∷ []) bytes packets → WritesBlocks order before (interface_bytes order i ++ bytes) packets
+  packet : (order : Order) (before : List CaptureInterfaceValue) (bytes : List ℕ) (packets : List PacketValue) (p : EnhancedPacketValue) (options : List OptionValue)
+      (i : CaptureInterfaceValue) → FitsPacket p → HasOptions order p.options options → IsAt before p.interface i
+      → WritesBlocks order before bytes packets → WritesBlocks order before (packet_bytes order p ++ bytes) (packet_on order i p options ∷ packets)
+
+-- A file that is written as a section header and blocks has exactly their packets, and nothing else.
+abbrev pub WrittenSectionsAreRead : Type 0
+WrittenSectionsAreRead =
+    (order : Order) (bytes : List ℕ) (packets : List PacketValue) → WritesBlocks order [] bytes packets
+    → HasPackets Beginning (section_bytes order ++ bytes) packets [] None

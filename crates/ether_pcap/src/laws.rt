@@ -1,6 +1,7 @@
 //! The laws of the format. Each is the contract of a function that does nothing.
 ghost use Rattle.ether_pcap.specs.Laws.{FileHeadersAreOne, RecordsAreOne, ContentsAreOne, BlocksAreOne, BodiesAreOne, SectionsAreOne, OptionsAreOne};
 ghost use Rattle.ether_pcap.specs.Writing.{WrittenFilesAreRead};
+ghost use Rattle.ether_pcap.specs.WritingBlocks.{WrittenSectionsAreRead};
 ghost use Rattle.ether_pcap.specs.Copies.{CopiesAreRead, CopiesAreOne};
 ghost use Rattle.ether_pcap.specs.CaptureLaws.{UnitsAreLocal, UnitLengths, UnitsAreOne, PacketsAreOne};
 
@@ -64,6 +65,12 @@ pub fn packets_are_one()
 /// A classic file that is written as a header and records has exactly their packets, and nothing else.
 pub fn written_files_are_read()
     ensures { WrittenFilesAreRead }
+{}
+
+/// A pcapng file that is written as a section header, descriptions of interfaces and enhanced packets has exactly these packets, and nothing
+/// else. Further sections may follow.
+pub fn written_sections_are_read()
+    ensures { WrittenSectionsAreRead }
 {}
 
 /// A copy of a capture file without some of its packets, and with others cut, is a file of the same format with exactly the packets that
