@@ -8,9 +8,9 @@ use Rattle.etherparse.specs.Header as headers
 use Rattle.ether_c.specs.declared.ether_field.EtherField.{EtherField}
 use Rattle.ether_c.specs.declared.field_place.FieldPlace.{FieldPlace}
 use Rattle.ether_c.specs.FieldTables.{header_fields, trailer_fields, moved, sec_tag_fields, sci_fields, payload_type_fields}
-use Rattle.ether_c.specs.Fields.{told_field}
-use Rattle.ether_c.specs.FieldViews.{put_all, AreIn, told_table, told_placed_fields}
-use Rattle.ether_c.proofs.UnitsTold.{Holds, put_next}
+use Rattle.ether_c.specs.Fields.{c_field}
+use Rattle.ether_c.specs.FieldViews.{put_all, AreIn, c_table, c_placed_fields}
+use Rattle.ether_c.proofs.UnitsGiven.{Holds, put_next}
 
 -- ---- elements that are put one after the other
 
@@ -115,10 +115,10 @@ fields_in list start (headers.Arp a) le = (
 )
 
 pub length-placed : (list : List ℕ) (index start finish : ℕ) (h : Header)
-    → length (told_placed_fields list index start finish h) ≡ length (header_fields h) + length (trailer_fields h)
+    → length (c_placed_fields list index start finish h) ≡ length (header_fields h) + length (trailer_fields h)
 length-placed list index start finish h =
-    length-append (told_table list index start (header_fields h)) (told_table list index finish (trailer_fields h))
-    ∙ (λ i. (length-map (map (moved start) (header_fields h)) (told_field list index)
+    length-append (c_table list index start (header_fields h)) (c_table list index finish (trailer_fields h))
+    ∙ (λ i. (length-map (map (moved start) (header_fields h)) (c_field list index)
     ∙ length-map (header_fields h) (moved start)) i
-    + (length-map (map (moved finish) (trailer_fields h)) (told_field list index)
+    + (length-map (map (moved finish) (trailer_fields h)) (c_field list index)
     ∙ length-map (trailer_fields h) (moved finish)) i)

@@ -1,10 +1,10 @@
 pub mod Missing
-pub mod UnitsTold
-pub mod CapturedTold
+pub mod UnitsGiven
+pub mod CapturedGiven
 pub mod Addresses
 pub mod BuiltTags
 pub mod BuiltParts
 pub mod Marks
 pub mod BitNumbers
 pub mod FieldLists
-pub mod FieldsTold
+pub mod FieldsGiven

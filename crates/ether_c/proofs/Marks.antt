@@ -8,7 +8,7 @@ use Rattle.ether_c.specs.declared.ether_captured.EtherCaptured.{EtherCaptured}
 use Rattle.ether_c.specs.Selection.{IsMark, AreMarks}
 use Rattle.ether_c.specs.Filters.{PutsMarks}
 use Rattle.ether_c.specs.Numbers.{done}
-use Rattle.ether_c.proofs.UnitsTold.{put_at}
+use Rattle.ether_c.proofs.UnitsGiven.{put_at}
 
 marks-append : (x : Expression) (cs : List EtherCaptured) (ms : List ℕ) (c : EtherCaptured) (m : ℕ) → AreMarks x cs ms
     → IsMark x c m

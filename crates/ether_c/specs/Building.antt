@@ -108,7 +108,7 @@ built_len (Ok end) = end
 built_len (Err e) = build_error_len e
 
 -- a packet is written to the front of the target, or nothing is
-pub record TellsPacketBuilt (p : PacketBuilder) (old new : List ℕ) (len status : ℕ) : Type 0 where
+pub record GivesPacketBuilt (p : PacketBuilder) (old new : List ℕ) (len status : ℕ) : Type 0 where
   pub built : Result ℕ BuildError
   pub ok : IfOk built (λ end. IsWritten p old end new)
   pub refused : IfErr built (RefusesPacket p old)
@@ -118,7 +118,7 @@ pub record TellsPacketBuilt (p : PacketBuilder) (old new : List ℕ) (len status
   pub status_is : status ≡ built_status built
 
 -- the units are those of a packet, or nothing is written
-pub data TellsBuild (us : List EtherUnit) (ether_type : ℕ) (bytes old new : List ℕ) (len status : ℕ) : Type 0 where
-  is_packet : (p : PacketBuilder) → PassesPacket us ether_type bytes p → TellsPacketBuilt p old new len status
-      → TellsBuild us ether_type bytes old new len status
-  no_packet : PassesNoPacket us bytes status len → new ≡ old → TellsBuild us ether_type bytes old new len status
+pub data GivesBuild (us : List EtherUnit) (ether_type : ℕ) (bytes old new : List ℕ) (len status : ℕ) : Type 0 where
+  is_packet : (p : PacketBuilder) → PassesPacket us ether_type bytes p → GivesPacketBuilt p old new len status
+      → GivesBuild us ether_type bytes old new len status
+  no_packet : PassesNoPacket us bytes status len → new ≡ old → GivesBuild us ether_type bytes old new len status

@@ -16,16 +16,16 @@ use Rattle.ether_peel.specs.declared.walk_summary.Summary.{Summary}
 use Rattle.ether_c.specs.declared.ether_fed.EtherFed.{EtherFed}
 use Rattle.ether_c.specs.declared.ether_found.EtherFound.{EtherFound}
 use Rattle.ether_c.specs.Numbers.{done, no_room, no_text}
-use Rattle.ether_c.specs.Found.{told_summary, told_feed}
+use Rattle.ether_c.specs.Found.{c_summary, c_feed}
 
 -- ---- summaries
 
 -- the summary of the list's one walk, as a struct of C
-pub record TellsSummary (start : Expectation) (list : List ℕ)
-    (status : ℕ) (told : EtherFound) : Type 0 where
+pub record GivesSummary (start : Expectation) (list : List ℕ)
+    (status : ℕ) (given : EtherFound) : Type 0 where
   pub found : Summary
   pub summary : IsSummary start list found
-  pub told_is : told ≡ told_summary found
+  pub is_given : given ≡ c_summary found
   pub status_is : status ≡ done
 
 -- ---- writing back
@@ -40,7 +40,7 @@ written_len (Ok end) = end
 written_len (Err error) = error.required_len
 
 -- the target holds what writing back leaves in it, or is too short and stays as it is
-pub record TellsWriteBack (start : Expectation) (list old new : List ℕ)
+pub record GivesWriteBack (start : Expectation) (list old new : List ℕ)
     (status len : ℕ) : Type 0 where
   pub written : Result ℕ SliceWriteSpaceError
   pub ok : IfOk written (λ end. WritesBack start list end old new)
@@ -52,11 +52,11 @@ pub record TellsWriteBack (start : Expectation) (list old new : List ℕ)
 -- ---- feeding
 
 -- what a reader takes of the list, as a struct of C
-pub record TellsFeed (start : Expectation) (list : List ℕ)
-    (status : ℕ) (told : EtherFed) : Type 0 where
+pub record GivesFeed (start : Expectation) (list : List ℕ)
+    (status : ℕ) (given : EtherFed) : Type 0 where
   pub fed : Feed
   pub feed : IsFeed start list fed
-  pub told_is : told ≡ told_feed fed
+  pub is_given : given ≡ c_feed fed
   pub status_is : status ≡ done
 
 -- ---- missing bytes
@@ -73,7 +73,7 @@ abbrev pub MissesAtEnd : Option PeelFault → ℕ → Type 0
 MissesAtEnd None n = n ≡ 0
 MissesAtEnd (Some f) n = MissesOf f n
 
-pub record TellsMissing (start : Expectation) (list : List ℕ) (status missing : ℕ) : Type 0 where
+pub record GivesMissing (start : Expectation) (list : List ℕ) (status missing : ℕ) : Type 0 where
   pub found : Summary
   pub summary : IsSummary start list found
   pub misses : MissesAtEnd found.fault missing
@@ -94,7 +94,7 @@ fill_bytes None = []
 fill_bytes (Some fill) = fill.items
 
 -- the list has a completion, which is written to the target; or it has none, and nothing is written
-pub record TellsCompletion (start : Expectation) (list old new : List ℕ)
+pub record GivesCompletion (start : Expectation) (list old new : List ℕ)
     (status len : ℕ) : Type 0 where
   pub found : Option (ArrayVec ℕ)
   pub completion : MatchOption found (NothingToComplete start list)
@@ -115,7 +115,7 @@ abbrev pub PutsEndText : Option PeelFault → (old new : List ℕ) → (status l
 PutsEndText None old new status len = (status ≡ done) × (len ≡ 0) × (new ≡ old)
 PutsEndText (Some f) old new status len = PutsText f old new status len
 
-pub record TellsText (start : Expectation) (list old new : List ℕ) (status len : ℕ) : Type 0 where
+pub record GivesText (start : Expectation) (list old new : List ℕ) (status len : ℕ) : Type 0 where
   pub found : Summary
   pub summary : IsSummary start list found
   pub text : PutsEndText found.fault old new status len

@@ -13,27 +13,27 @@ use Rattle.ether_c.specs.Calls.{PutsBytes}
 -- ---- packets
 
 -- a time, if there is one
-abbrev pub IsToldTime : EtherCaptured → Option TimeValue → Type 0
-IsToldTime c None = (c.has_time ≡ 0) × (c.seconds ≡ 0) × (c.nanoseconds ≡ 0)
-IsToldTime c (Some t) = (c.has_time ≡ 1) × (c.seconds ≡ t.seconds) × (c.nanoseconds ≡ t.nanoseconds)
+abbrev pub HoldsTime : EtherCaptured → Option TimeValue → Type 0
+HoldsTime c None = (c.has_time ≡ 0) × (c.seconds ≡ 0) × (c.nanoseconds ≡ 0)
+HoldsTime c (Some t) = (c.has_time ≡ 1) × (c.seconds ≡ t.seconds) × (c.nanoseconds ≡ t.nanoseconds)
 
 -- the length of a frame check sequence, if it is known
-abbrev pub IsToldFcsLen : EtherCaptured → Option ℕ → Type 0
-IsToldFcsLen c None = (c.has_fcs_len ≡ 0) × (c.fcs_len ≡ 0)
-IsToldFcsLen c (Some n) = (c.has_fcs_len ≡ 1) × (c.fcs_len ≡ n)
+abbrev pub HoldsFcsLen : EtherCaptured → Option ℕ → Type 0
+HoldsFcsLen c None = (c.has_fcs_len ≡ 0) × (c.fcs_len ≡ 0)
+HoldsFcsLen c (Some n) = (c.has_fcs_len ≡ 1) × (c.fcs_len ≡ n)
 
-pub record IsToldPacket (c : EtherCaptured) (p : PacketValue) : Type 0 where
+pub record HoldsPacket (c : EtherCaptured) (p : PacketValue) : Type 0 where
   pub bytes : c.packet.now ≡ p.packet
-  pub time : IsToldTime c p.time
+  pub time : HoldsTime c p.time
   pub original_len : c.original_len ≡ p.original_len
   pub link_type : c.link_type ≡ p.link_type
-  pub fcs_len : IsToldFcsLen c p.fcs_len
+  pub fcs_len : HoldsFcsLen c p.fcs_len
 
 -- each packet, in the order of the file
-abbrev pub AreTold : List EtherCaptured → List PacketValue → Type 0
-AreTold [] [] = Unit {0}
-AreTold (c ∷ cs) (p ∷ ps) = IsToldPacket c p × AreTold cs ps
-AreTold _ _ = ⊥
+abbrev pub HoldPackets : List EtherCaptured → List PacketValue → Type 0
+HoldPackets [] [] = Unit {0}
+HoldPackets (c ∷ cs) (p ∷ ps) = HoldsPacket c p × HoldPackets cs ps
+HoldPackets _ _ = ⊥
 
 -- ---- a file
 
@@ -46,10 +46,10 @@ pub record HasCaptured (file : List ℕ) (old new : List EtherCaptured) (count :
   pub has : HasPackets Beginning file packets left
       (option_map (λ f. capture_refusal_view f.error) fault)
   pub place : IfSome fault (λ f. f.offset + length left ≡ length file)
-  pub told : List EtherCaptured
-  pub are : AreTold told packets
+  pub given : List EtherCaptured
+  pub are : HoldPackets given packets
   pub counted : count ≡ length packets
-  pub held : new ≡ take (length old) told ++ drop count old
+  pub held : new ≡ take (length old) given ++ drop count old
 
 -- what the call returns at the end of the file, and if the file can't be read on: it ends within what
 -- would come next, or another fault
@@ -64,17 +64,17 @@ capture_status (Some required) = short
 capture_status None = bad_capture
 
 -- the end of the file, or the place of what can't be read and how many bytes it needs
-abbrev pub IsToldEnd : (file : List ℕ) → Option CaptureFault → EtherCaptureEnd → (status : ℕ) → Type 0
-IsToldEnd file None end status = (end.offset ≡ length file) × (end.needed ≡ 0) × (status ≡ done)
-IsToldEnd file (Some f) end status =
+abbrev pub HoldsEnd : (file : List ℕ) → Option CaptureFault → EtherCaptureEnd → (status : ℕ) → Type 0
+HoldsEnd file None end status = (end.offset ≡ length file) × (end.needed ≡ 0) × (status ≡ done)
+HoldsEnd file (Some f) end status =
     let required = required_len (capture_refusal_view f.error) in
     (end.offset ≡ f.offset) × (end.needed ≡ unwrap_or required 0) × (status ≡ capture_status required)
 
-pub record TellsCapture (file : List ℕ) (old new : List EtherCaptured) (count : ℕ)
+pub record GivesCapture (file : List ℕ) (old new : List EtherCaptured) (count : ℕ)
     (end : EtherCaptureEnd) (status : ℕ) : Type 0 where
   pub fault : Option CaptureFault
   pub captured : HasCaptured file old new count fault
-  pub told : IsToldEnd file fault end status
+  pub given : HoldsEnd file fault end status
 
 -- ---- texts
 
@@ -89,7 +89,7 @@ abbrev pub PutsCaptureEnd : Option CaptureFault → (old new : List ℕ) → (st
 PutsCaptureEnd None old new status len = (status ≡ done) × (len ≡ 0) × (new ≡ old)
 PutsCaptureEnd (Some f) old new status len = PutsCaptureText f old new status len
 
-pub record TellsCaptureText (file old new : List ℕ) (status len : ℕ) : Type 0 where
+pub record GivesCaptureText (file old new : List ℕ) (status len : ℕ) : Type 0 where
   pub count : ℕ
   pub fault : Option CaptureFault
   pub captured : HasCaptured file [] [] count fault

@@ -19,7 +19,7 @@ frame_offset (LinuxSll2 bytes) = 20
 frame_offset _ = 0
 
 -- the one frame that is walked, with the numbers of its start
-pub record IsToldFrame (content : ContentValue) (f : EtherFrame) : Type 0 where
+pub record HoldsFrame (content : ContentValue) (f : EtherFrame) : Type 0 where
   pub begins : Start
   pub walked : IsWalked content (next_of begins) f.bytes.now
   pub start : start_numbered f.start f.ether_type ≡ Some begins
@@ -27,7 +27,7 @@ pub record IsToldFrame (content : ContentValue) (f : EtherFrame) : Type 0 where
   pub offset : f.offset ≡ frame_offset content
 
 -- there is such a frame; or nothing is walked, and nothing is written
-pub data TellsFrame (content : ContentValue) (old new : EtherFrame) (status : ℕ) : Type 0 where
-  told : IsToldFrame content new → status ≡ done → TellsFrame content old new status
+pub data GivesFrame (content : ContentValue) (old new : EtherFrame) (status : ℕ) : Type 0 where
+  given : HoldsFrame content new → status ≡ done → GivesFrame content old new status
   none : ((next : Next) (bytes : List ℕ) → IsWalked content next bytes → ⊥) → new ≡ old → status ≡ unknown_start
-      → TellsFrame content old new status
+      → GivesFrame content old new status

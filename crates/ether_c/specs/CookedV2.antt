@@ -6,7 +6,7 @@ use Rattle.ether_sll2.specs.LinuxSll2.{LinuxSll2Value, BeginsLinuxSll2, LinuxSll
 use Rattle.ether_c.specs.declared.ether_field.EtherField.{EtherField}
 use Rattle.ether_c.specs.declared.ether_linux_sll2.EtherLinuxSll2.{EtherLinuxSll2}
 use Rattle.ether_c.specs.FieldTables.{linux_sll2_fields}
-use Rattle.ether_c.specs.Fields.{told_field, Fronts}
+use Rattle.ether_c.specs.Fields.{c_field, Fronts}
 use Rattle.ether_c.specs.Numbers.{done}
 use Rattle.ether_c.specs.Captured.{short}
 
@@ -19,8 +19,8 @@ start_number None = 0
 start_number (Some n) = 4
 
 -- a header of twenty bytes; the payload begins after them
-abbrev pub told_linux_sll2 : LinuxSll2Value → EtherLinuxSll2
-told_linux_sll2 s = let ether_type = told_ether_type (protocol_on s.hardware_type s.protocol) in record {
+abbrev pub c_linux_sll2 : LinuxSll2Value → EtherLinuxSll2
+c_linux_sll2 s = let ether_type = told_ether_type (protocol_on s.hardware_type s.protocol) in record {
   payload_start = 20;
   interface_index = s.interface_index;
   start = start_number ether_type;
@@ -46,26 +46,26 @@ no_linux_sll2 packet_type = record {
   address = replicate 8 0;
 }
 
-abbrev pub told_linux_sll2_refusal : LinuxSll2Refusal → EtherLinuxSll2
-told_linux_sll2_refusal (Short required len) = no_linux_sll2 0
-told_linux_sll2_refusal (PacketType n) = no_linux_sll2 n
+abbrev pub c_linux_sll2_refusal : LinuxSll2Refusal → EtherLinuxSll2
+c_linux_sll2_refusal (Short required len) = no_linux_sll2 0
+c_linux_sll2_refusal (PacketType n) = no_linux_sll2 n
 
 abbrev pub linux_sll2_status : LinuxSll2Refusal → ℕ
 linux_sll2_status (Short required len) = short
 linux_sll2_status (PacketType n) = bad_packet_type
 
 -- the bytes begin with a header, or they are refused
-pub data TellsLinuxSll2 (bytes : List ℕ) : (told : EtherLinuxSll2) → (status : ℕ) → Type 0 where
+pub data GivesLinuxSll2 (bytes : List ℕ) : (given : EtherLinuxSll2) → (status : ℕ) → Type 0 where
   read : (s : LinuxSll2Value) → AcceptsLinuxSll2 bytes → BeginsLinuxSll2 bytes s
-      → TellsLinuxSll2 bytes (told_linux_sll2 s) done
+      → GivesLinuxSll2 bytes (c_linux_sll2 s) done
   refused : (r : LinuxSll2Refusal) → RefusesLinuxSll2 bytes r
-      → TellsLinuxSll2 bytes (told_linux_sll2_refusal r) (linux_sll2_status r)
+      → GivesLinuxSll2 bytes (c_linux_sll2_refusal r) (linux_sll2_status r)
 
 -- the array holds the fields of the header from its front on, as many as it has room for; nothing is written of a
 -- header that is refused
-pub record TellsLinuxSll2Fields (bytes : List ℕ) (old new : List EtherField) (count_old count : ℕ)
+pub record GivesLinuxSll2Fields (bytes : List ℕ) (old new : List EtherField) (count_old count : ℕ)
     (status : ℕ) : Type 0 where
   pub accepted : AcceptsLinuxSll2 bytes
-      → Fronts (map (told_field bytes 0) linux_sll2_fields) old new count × (status ≡ done)
+      → Fronts (map (c_field bytes 0) linux_sll2_fields) old new count × (status ≡ done)
   pub refused : (r : LinuxSll2Refusal) → RefusesLinuxSll2 bytes r
       → (new ≡ old) × (count ≡ count_old) × (status ≡ linux_sll2_status r)

@@ -4,7 +4,7 @@ use Rattle.etherparse.specs.Header.{Header}
 use Rattle.ether_c.specs.declared.ether_field.EtherField.{EtherField}
 use Rattle.ether_c.specs.declared.field_place.FieldPlace.{FieldPlace}
 use Rattle.ether_c.specs.FieldTables.{moved, header_fields, trailer_fields}
-use Rattle.ether_c.specs.Fields.{told_field}
+use Rattle.ether_c.specs.Fields.{c_field}
 
 -- an array with elements written from a place on, those that it has a place for
 abbrev pub put_all : List EtherField → (at : ℕ) → List EtherField → List EtherField
@@ -17,10 +17,10 @@ AreIn list start [] = Unit {0}
 AreIn list start (f ∷ fs) = (8 * start + (f.first + f.len) ≤ 8 * length list) × AreIn list start fs
 
 -- the fields of a table, of what begins at a byte, in the unit with an index
-abbrev pub told_table : List ℕ → (unit start : ℕ) → List FieldPlace → List EtherField
-told_table list unit start table = map (told_field list unit) (map (moved start) table)
+abbrev pub c_table : List ℕ → (unit start : ℕ) → List FieldPlace → List EtherField
+c_table list unit start table = map (c_field list unit) (map (moved start) table)
 
 -- those of a unit: of the header, which begins at a byte, and of what comes after the payload, which ends at one
-abbrev pub told_placed_fields : List ℕ → (unit start finish : ℕ) → Header → List EtherField
-told_placed_fields list unit start finish h =
-    told_table list unit start (header_fields h) ++ told_table list unit finish (trailer_fields h)
+abbrev pub c_placed_fields : List ℕ → (unit start finish : ℕ) → Header → List EtherField
+c_placed_fields list unit start finish h =
+    c_table list unit start (header_fields h) ++ c_table list unit finish (trailer_fields h)

@@ -15,8 +15,8 @@ field_value list first len = if nat_lt 64 len then 0 else bits_number list first
 
 -- A field of a list, of the unit with an index. Places and indexes that their numbers have no room for wrap around: a
 -- list that long has 2 ^ 61 bytes, or 2 ^ 32 units.
-abbrev pub told_field : List ℕ → (unit : ℕ) → FieldPlace → EtherField
-told_field list unit f = record {
+abbrev pub c_field : List ℕ → (unit : ℕ) → FieldPlace → EtherField
+c_field list unit f = record {
   bit_offset = f.first % 2 ^ 64;
   bit_len = f.len;
   value = field_value list f.first f.len;
@@ -25,14 +25,14 @@ told_field list unit f = record {
 }
 
 -- those of the headers of a stack, each in the payload of the one before it; the first is the unit with this index
-abbrev pub told_fields : List ℕ → (unit : ℕ) → Window → List Header → List EtherField
-told_fields list unit w [] = []
-told_fields list unit w (h ∷ hs) = map (told_field list unit) (unit_fields w h)
-    ++ told_fields list (unit + 1) (payload w h) hs
+abbrev pub c_fields : List ℕ → (unit : ℕ) → Window → List Header → List EtherField
+c_fields list unit w [] = []
+c_fields list unit w (h ∷ hs) = map (c_field list unit) (unit_fields w h)
+    ++ c_fields list (unit + 1) (payload w h) hs
 
 -- these are the first elements of an array, as far as it has room for them, and after so many what it held before
-abbrev pub Fronts : (told old new : List EtherField) → (count : ℕ) → Type 0
-Fronts told old new count = (new ≡ take (length old) told ++ drop count old) × (count ≡ length told)
+abbrev pub Fronts : (given old new : List EtherField) → (count : ℕ) → Type 0
+Fronts given old new count = (new ≡ take (length old) given ++ drop count old) × (count ≡ length given)
 
 -- The list has a walk and no second one, whose fields are counted. The array holds them from its front on, as many as
 -- it has room for.
@@ -41,9 +41,9 @@ pub record HasFields (start : Expectation) (list : List ℕ) (old new : List Eth
   pub ending : Ending
   pub walk : Walk start list headers ending
   pub one : (hs : List Header) (e : Ending) → Walk start list hs e → (hs ≡ headers) × (e ≡ ending)
-  pub fields : Fronts (told_fields list 0 (whole start list) headers) old new count
+  pub fields : Fronts (c_fields list 0 (whole start list) headers) old new count
 
-pub record TellsFields (start : Expectation) (list : List ℕ) (old new : List EtherField) (status count : ℕ) : Type 0
+pub record GivesFields (start : Expectation) (list : List ℕ) (old new : List EtherField) (status count : ℕ) : Type 0
   where
     pub fields : HasFields start list old new count
     pub status_is : status ≡ done

@@ -36,8 +36,8 @@ abbrev pub greatest_expected : FilterErrorKind → ℕ
 greatest_expected (kinds.ExpectedNumber most) = most
 greatest_expected _ = 0
 
-abbrev pub told_filter_error : FilterError → EtherFilterError
-told_filter_error e = record {
+abbrev pub c_filter_error : FilterError → EtherFilterError
+c_filter_error e = record {
   offset = e.offset;
   kind = filter_error_number e.kind;
   greatest = greatest_expected e.kind;
@@ -53,12 +53,12 @@ pub record PutsMarks (x : Expression) (packets : List EtherCaptured) (old new : 
   pub kept : length old < length packets → (new ≡ old) × (status ≡ no_room)
 
 -- the text means an expression, which selects packets; or it means none, and no mark is written
-pub record TellsSelection (text : List ℕ) (packets : List EtherCaptured) (old new : List ℕ)
+pub record GivesSelection (text : List ℕ) (packets : List EtherCaptured) (old new : List ℕ)
     (error_old error_new : EtherFilterError) (status : ℕ) : Type 0 where
   pub parsed : Result Expression FilterError
   pub ok : IfOk parsed (λ x. IsExpressionOf text x × PutsMarks x packets old new status × (error_new ≡ error_old))
   pub refused : IfErr parsed (λ e. RefusesText text e
-      × (new ≡ old) × (error_new ≡ told_filter_error e) × (status ≡ bad_filter))
+      × (new ≡ old) × (error_new ≡ c_filter_error e) × (status ≡ bad_filter))
 
 -- ---- texts
 
@@ -69,7 +69,7 @@ PutsFilterText e old new status len =
     ⊎ ((status ≡ no_text) × (len ≡ 0) × (new ≡ old))
 
 -- no text if the filter's means an expression
-pub record TellsFilterText (text old new : List ℕ) (status len : ℕ) : Type 0 where
+pub record GivesFilterText (text old new : List ℕ) (status len : ℕ) : Type 0 where
   pub parsed : Result Expression FilterError
   pub ok : IfOk parsed (λ x. IsExpressionOf text x × (status ≡ done) × (len ≡ 0) × (new ≡ old))
   pub refused : IfErr parsed (λ e. RefusesText text e × PutsFilterText e old new status len)

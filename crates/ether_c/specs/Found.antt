@@ -30,8 +30,8 @@ no_fault = record {
 }
 
 -- A length that is required: in an open window with the number of bytes that are missing.
-abbrev pub told_length : (offset : ℕ) → (closed : Bool) → LenError → EtherFault
-told_length offset closed e = record {
+abbrev pub c_length : (offset : ℕ) → (closed : Bool) → LenError → EtherFault
+c_length offset closed e = record {
   offset = offset;
   required_len = e.required_len;
   len = e.len;
@@ -46,33 +46,33 @@ told_length offset closed e = record {
 
 -- By its error: a length; a packet type or a hardware type of a cooked capture that is not
 -- supported; the version of a SecTag; its short length. What belongs to another error is 0.
-abbrev pub told_error : (offset : ℕ) → (closed : Bool) → PeelError → EtherFault
-told_error offset closed (errors.Len e) = told_length offset closed e
-told_error offset closed (errors.LinuxSll (linux_sll.UnsupportedPacketTypeField n)) =
+abbrev pub c_error : (offset : ℕ) → (closed : Bool) → PeelError → EtherFault
+c_error offset closed (errors.Len e) = c_length offset closed e
+c_error offset closed (errors.LinuxSll (linux_sll.UnsupportedPacketTypeField n)) =
     record no_fault { offset = offset; kind = 2; packet_type = n; closed = bit closed }
-told_error offset closed (errors.LinuxSll (linux_sll.UnsupportedArpHardwareId hardware)) =
+c_error offset closed (errors.LinuxSll (linux_sll.UnsupportedArpHardwareId hardware)) =
     record no_fault { offset = offset; kind = 3; hardware_type = hardware.0; closed = bit closed }
-told_error offset closed (errors.Macsec macsec.UnexpectedVersion) =
+c_error offset closed (errors.Macsec macsec.UnexpectedVersion) =
     record no_fault { offset = offset; kind = 4; closed = bit closed }
-told_error offset closed (errors.Macsec macsec.InvalidUnmodifiedShortLen) =
+c_error offset closed (errors.Macsec macsec.InvalidUnmodifiedShortLen) =
     record no_fault { offset = offset; kind = 5; closed = bit closed }
 
-abbrev pub told_fault : PeelFault → EtherFault
-told_fault f = told_error f.offset f.closed f.error
+abbrev pub c_fault : PeelFault → EtherFault
+c_fault f = c_error f.offset f.closed f.error
 
-abbrev pub told_end : Option PeelFault → EtherFault
-told_end None = no_fault
-told_end (Some f) = told_fault f
+abbrev pub c_end : Option PeelFault → EtherFault
+c_end None = no_fault
+c_end (Some f) = c_fault f
 
-abbrev pub told_summary : Summary → EtherFound
-told_summary s = record {
+abbrev pub c_summary : Summary → EtherFound
+c_summary s = record {
   units = s.units;
   rest_start = s.rest_start;
   rest_end = s.rest_end;
-  fault = told_end s.fault;
+  fault = c_end s.fault;
   rest_kind = rest_kind_number s.kind;
   rest_protocol = rest_protocol_of s.kind;
 }
 
-abbrev pub told_feed : Feed → EtherFed
-told_feed f = record { refusals = f.refusals; taken = f.taken; fault = told_end f.fault }
+abbrev pub c_feed : Feed → EtherFed
+c_feed f = record { refusals = f.refusals; taken = f.taken; fault = c_end f.fault }

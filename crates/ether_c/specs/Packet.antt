@@ -7,23 +7,23 @@ use Rattle.ether_packet.specs.Packet.{packet_start, packet_headers, IsPacket}
 use Rattle.ether_packet.specs.Getters.{vlan_ids_of, SnapsAt}
 use Rattle.ether_c.specs.declared.ether_headers.EtherHeaders.{EtherHeaders}
 use Rattle.ether_c.specs.declared.ether_unit.EtherUnit.{EtherUnit}
-use Rattle.ether_c.specs.Calls.{TellsSummary}
-use Rattle.ether_c.specs.Walk.{TellsUnits}
+use Rattle.ether_c.specs.Calls.{GivesSummary}
+use Rattle.ether_c.specs.Walk.{GivesUnits}
 
 -- the first three of a list of numbers, with 0 in the place of those that are not there
-abbrev pub told_ids : List ℕ → List ℕ
-told_ids ids =
+abbrev pub c_ids : List ℕ → List ℕ
+c_ids ids =
     unwrap_or (slice_get ids 0) 0 ∷ unwrap_or (slice_get ids 1) 0 ∷ unwrap_or (slice_get ids 2) 0 ∷ []
 
 -- The packet of a list: its headers as units, with what the array held before after them; what is
 -- left of it; the identifiers of its VLAN tags; and the least cut that keeps its headers.
-pub record TellsPacket (start : Start) (list : List ℕ) (old : List EtherUnit)
+pub record GivesPacket (start : Start) (list : List ℕ) (old : List EtherUnit)
     (new : EtherHeaders) (status : ℕ) : Type 0 where
   pub packet : PacketSlice
   pub is : IsPacket (packet_start start) list packet
-  pub units : TellsUnits (packet_start start) list old new.units new.found.units
-  pub found : TellsSummary (packet_start start) list status new.found
-  pub ids : new.vlan_ids ≡ told_ids (vlan_ids_of (packet_headers packet))
+  pub units : GivesUnits (packet_start start) list old new.units new.found.units
+  pub found : GivesSummary (packet_start start) list status new.found
+  pub ids : new.vlan_ids ≡ c_ids (vlan_ids_of (packet_headers packet))
   pub id_count : new.vlan_count ≡ length (vlan_ids_of (packet_headers packet))
   pub snap : new.min_snap_len ≡ reach 0 (packet_headers packet)
   pub least : SnapsAt packet new.min_snap_len

@@ -37,21 +37,21 @@ replace_error_status (errors.NoLinkExt count) = 7
 replace_error_status errors.NoArp = 16
 replace_error_status (errors.SaysOther difference) = 17
 
-abbrev pub told_replace_error : ReplaceError → EtherReplaceError
-told_replace_error errors.NoLink = record { tags = 0; difference = 0 }
-told_replace_error (errors.NoLinkExt count) = record { tags = count; difference = 0 }
-told_replace_error errors.NoArp = record { tags = 0; difference = 0 }
-told_replace_error (errors.SaysOther difference) = record { tags = 0; difference = difference_number difference }
+abbrev pub c_replace_error : ReplaceError → EtherReplaceError
+c_replace_error errors.NoLink = record { tags = 0; difference = 0 }
+c_replace_error (errors.NoLinkExt count) = record { tags = count; difference = 0 }
+c_replace_error errors.NoArp = record { tags = 0; difference = 0 }
+c_replace_error (errors.SaysOther difference) = record { tags = 0; difference = difference_number difference }
 
 -- The header in the list is replaced, or the list is unchanged and the error says why.
-pub record TellsReplaced (Replaces : (new : List ℕ) → Type 0) (Refuses : ReplaceError → Type 0) (old new : List ℕ)
+pub record GivesReplaced (Replaces : (new : List ℕ) → Type 0) (Refuses : ReplaceError → Type 0) (old new : List ℕ)
     (error_old error_new : EtherReplaceError) (status : ℕ) : Type 0 where
   pub replaced : Result (Unit {0}) ReplaceError
   pub ok : IfOk replaced (λ _. Replaces new)
   pub refused : IfErr replaced Refuses
   pub kept : IfErr replaced (λ _. new ≡ old)
   pub kept_error : IfOk replaced (λ _. error_new ≡ error_old)
-  pub told : IfErr replaced (λ e. error_new ≡ told_replace_error e)
+  pub given : IfErr replaced (λ e. error_new ≡ c_replace_error e)
   pub status_done : IfOk replaced (λ _. status ≡ done)
   pub status_error : IfErr replaced (λ e. status ≡ replace_error_status e)
 
@@ -64,10 +64,10 @@ pub data OfPassed {H : Type 0} (Is : H → Type 0) (IsNone : (status : ℕ) → 
   none : IsNone status → Kept → OfPassed Is IsNone Does Kept status
 
 -- whatever the limit on tags
-abbrev pub TellsReplaceLink : Start → EtherUnit → (old new : List ℕ)
+abbrev pub GivesReplaceLink : Start → EtherUnit → (old new : List ℕ)
     → (error_old error_new : EtherReplaceError) → (status : ℕ) → Type 0
-TellsReplaceLink start u old new error_old error_new status =
-    OfPassed (PassesLink u) (PassesNoLink u) (λ g. TellsReplaced
+GivesReplaceLink start u old new error_old error_new status =
+    OfPassed (PassesLink u) (PassesNoLink u) (λ g. GivesReplaced
     (λ n. (limit : Option ℕ) (hs : List Header) (e : Ending)
     → Walk (start_with start limit) old hs e → ReplacesLink (start_with start limit) old hs e g n)
     (λ error. (limit : Option ℕ) (hs : List Header) (e : Ending)
@@ -75,19 +75,19 @@ TellsReplaceLink start u old new error_old error_new status =
     old new error_old error_new status)
     ((new ≡ old) × (error_new ≡ error_old)) status
 
-abbrev pub TellsReplaceExt : (start : Expectation) (index : ℕ) → EtherUnit → (old new : List ℕ)
+abbrev pub GivesReplaceExt : (start : Expectation) (index : ℕ) → EtherUnit → (old new : List ℕ)
     → (error_old error_new : EtherReplaceError) → (status : ℕ) → Type 0
-TellsReplaceExt start index u old new error_old error_new status =
-    OfPassed (PassesExt u) (PassesNoExt u) (λ g. TellsReplaced
+GivesReplaceExt start index u old new error_old error_new status =
+    OfPassed (PassesExt u) (PassesNoExt u) (λ g. GivesReplaced
     (λ n. (hs : List Header) (e : Ending) → Walk start old hs e → ReplacesExt start old hs e index g n)
     (λ error. (hs : List Header) (e : Ending) → Walk start old hs e → RefusesExt hs index g error)
     old new error_old error_new status)
     ((new ≡ old) × (error_new ≡ error_old)) status
 
-abbrev pub TellsReplaceArp : (start : Expectation) → EtherUnit → (bytes : List ℕ) → (old new : List ℕ)
+abbrev pub GivesReplaceArp : (start : Expectation) → EtherUnit → (bytes : List ℕ) → (old new : List ℕ)
     → (error_old error_new : EtherReplaceError) → (status : ℕ) → Type 0
-TellsReplaceArp start u bytes old new error_old error_new status =
-    OfPassed (PassesArp u bytes) (PassesNoArp u bytes) (λ g. TellsReplaced
+GivesReplaceArp start u bytes old new error_old error_new status =
+    OfPassed (PassesArp u bytes) (PassesNoArp u bytes) (λ g. GivesReplaced
     (λ n. (hs : List Header) (e : Ending) → Walk start old hs e → ReplacesArp start old hs e g n)
     (λ error. (hs : List Header) (e : Ending) → Walk start old hs e → RefusesArp hs g error)
     old new error_old error_new status)

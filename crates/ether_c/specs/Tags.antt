@@ -13,7 +13,7 @@ use Rattle.ether_packet.specs.Pushing.{IsPushed, RefusesPush}
 use Rattle.ether_packet.specs.Setting.{SetsTag, RefusesTag, SetsTpid, RefusesTpid}
 use Rattle.ether_c.specs.declared.ether_unit.EtherVlan.{EtherVlan}
 use Rattle.ether_c.specs.Numbers.{done, no_room}
-use Rattle.ether_c.specs.Units.{told_vlan}
+use Rattle.ether_c.specs.Units.{c_vlan}
 
 -- ---- what a call returns
 
@@ -37,13 +37,13 @@ tag_error_status errors.Unannounced = 10
 abbrev pub vlan_value : EtherVlan → VlanValue
 vlan_value t = record { pcp = t.pcp; dei = t.dei; vid = t.vid; ether_type = t.ether_type }
 
--- a tag is taken off and told; or nothing is written, for a reason
-pub record TellsPop (start : Expectation) (old new : List ℕ) (tag_old tag_new : EtherVlan)
+-- a tag is taken off and returned; or nothing is written, for a reason
+pub record GivesPop (start : Expectation) (old new : List ℕ) (tag_old tag_new : EtherVlan)
     (status : ℕ) : Type 0 where
   pub popped : Result SingleVlanHeader TagError
   pub ok : IfOk popped (λ tag. (hs : List Header) (e : Ending)
       → Walk start old hs e → IsPopped start old hs e (vlan_view tag) new)
-  pub told : IfOk popped (λ tag. tag_new ≡ told_vlan (headers.Vlan (vlan_view tag)))
+  pub given : IfOk popped (λ tag. tag_new ≡ c_vlan (headers.Vlan (vlan_view tag)))
   pub refused : IfErr popped (λ error. (hs : List Header) (e : Ending)
       → Walk start old hs e → RefusesPop hs error)
   pub kept : IfErr popped (λ _. (new ≡ old) × (tag_new ≡ tag_old))
@@ -51,7 +51,7 @@ pub record TellsPop (start : Expectation) (old new : List ℕ) (tag_old tag_new 
   pub status_error : IfErr popped (λ error. status ≡ tag_error_status error)
 
 -- a tag is put in, or nothing is written, for a reason
-pub record TellsPush (start : Expectation) (tag : VlanValue) (tpid : ℕ) (old new : List ℕ)
+pub record GivesPush (start : Expectation) (tag : VlanValue) (tpid : ℕ) (old new : List ℕ)
     (status : ℕ) : Type 0 where
   pub pushed : Result (Unit {0}) TagError
   pub ok : IfOk pushed (λ _. (hs : List Header) (e : Ending)
@@ -70,7 +70,7 @@ abbrev pub with_control : (control tag : VlanValue) → VlanValue
 with_control control tag = record tag { pcp = control.pcp; dei = control.dei; vid = control.vid }
 
 -- a tag is changed, or nothing is written, for a reason
-pub record TellsSet (start : Expectation) (index : ℕ) (change : VlanValue → VlanValue)
+pub record GivesSet (start : Expectation) (index : ℕ) (change : VlanValue → VlanValue)
     (old new : List ℕ) (status : ℕ) : Type 0 where
   pub put : Result (Unit {0}) TagError
   pub ok : IfOk put (λ _. (hs : List Header) (e : Ending)
@@ -82,7 +82,7 @@ pub record TellsSet (start : Expectation) (index : ℕ) (change : VlanValue → 
   pub status_error : IfErr put (λ error. status ≡ tag_error_status error)
 
 -- what announces a tag is changed, or nothing is written, for a reason
-pub record TellsSetTpid (start : Expectation) (index tpid : ℕ) (old new : List ℕ)
+pub record GivesSetTpid (start : Expectation) (index tpid : ℕ) (old new : List ℕ)
     (status : ℕ) : Type 0 where
   pub put : Result (Unit {0}) TagError
   pub ok : IfOk put (λ _. (hs : List Header) (e : Ending)

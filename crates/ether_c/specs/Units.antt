@@ -14,35 +14,35 @@ use Rattle.ether_c.specs.declared.ether_unit.EtherUnit.{EtherUnit}
 
 -- ---- fields of headers, each 0 in a unit of another kind
 
-abbrev pub told_ethernet2 : Header → EtherEthernet2
-told_ethernet2 (headers.Ethernet2 e) = record {
+abbrev pub c_ethernet2 : Header → EtherEthernet2
+c_ethernet2 (headers.Ethernet2 e) = record {
   destination = spelled 6 e.destination;
   source = spelled 6 e.source;
   ether_type = e.ether_type;
   has_fcs = 0;
 }
-told_ethernet2 (headers.Ethernet2Fcs e) = record {
+c_ethernet2 (headers.Ethernet2Fcs e) = record {
   destination = spelled 6 e.destination;
   source = spelled 6 e.source;
   ether_type = e.ether_type;
   has_fcs = 1;
 }
-told_ethernet2 _ = record {
+c_ethernet2 _ = record {
   destination = replicate 6 0;
   source = replicate 6 0;
   ether_type = 0;
   has_fcs = 0;
 }
 
-abbrev pub told_linux_sll : Header → EtherLinuxSll
-told_linux_sll (headers.LinuxSll s) = record {
+abbrev pub c_linux_sll : Header → EtherLinuxSll
+c_linux_sll (headers.LinuxSll s) = record {
   packet_type = s.packet_type;
   hardware_type = s.hardware_type;
   address_len = s.address_len;
   address = spelled 8 s.address;
   protocol = s.protocol;
 }
-told_linux_sll _ = record {
+c_linux_sll _ = record {
   packet_type = 0;
   hardware_type = 0;
   address_len = 0;
@@ -50,14 +50,14 @@ told_linux_sll _ = record {
   protocol = 0;
 }
 
-abbrev pub told_vlan : Header → EtherVlan
-told_vlan (headers.Vlan v) = record {
+abbrev pub c_vlan : Header → EtherVlan
+c_vlan (headers.Vlan v) = record {
   vid = v.vid;
   ether_type = v.ether_type;
   pcp = v.pcp;
   dei = v.dei;
 }
-told_vlan _ = record {
+c_vlan _ = record {
   vid = 0;
   ether_type = 0;
   pcp = 0;
@@ -65,8 +65,8 @@ told_vlan _ = record {
 }
 
 -- the ether type and the SCI are 0 if there is none
-abbrev pub told_macsec : Header → EtherMacsec
-told_macsec (headers.Macsec t) = record {
+abbrev pub c_macsec : Header → EtherMacsec
+c_macsec (headers.Macsec t) = record {
   sci = unwrap_or t.sci 0;
   packet_number = t.packet_number;
   ether_type = unwrap_or (readable_type t.payload_type) 0;
@@ -78,7 +78,7 @@ told_macsec (headers.Macsec t) = record {
   association_number = t.association_number;
   short_len = t.short_len;
 }
-told_macsec _ = record {
+c_macsec _ = record {
   sci = 0;
   packet_number = 0;
   ether_type = 0;
@@ -92,8 +92,8 @@ told_macsec _ = record {
 }
 
 -- with the places of the four addresses in the frame
-abbrev pub told_arp : (start : ℕ) → Header → EtherArp
-told_arp start (headers.Arp a) = record {
+abbrev pub c_arp : (start : ℕ) → Header → EtherArp
+c_arp start (headers.Arp a) = record {
   sender_hardware = start + 8;
   sender_protocol = start + 8 + length a.sender_hardware;
   target_hardware = start + 8 + length a.sender_hardware + length a.sender_protocol;
@@ -104,7 +104,7 @@ told_arp start (headers.Arp a) = record {
   hardware_size = length a.sender_hardware;
   protocol_size = length a.sender_protocol;
 }
-told_arp start _ = record {
+c_arp start _ = record {
   sender_hardware = 0;
   sender_protocol = 0;
   target_hardware = 0;
@@ -128,22 +128,22 @@ header_number (headers.Macsec t) = 4
 header_number (headers.Arp a) = 5
 
 -- a header at the start of a window, and the window of its payload
-abbrev pub told_unit : Window → Header → EtherUnit
-told_unit w h = record {
+abbrev pub c_unit : Window → Header → EtherUnit
+c_unit w h = record {
   offset = w.start;
   header_len = header_len h;
   payload_start = (payload w h).start;
   payload_end = (payload w h).finish;
   kind = header_number h;
   closed = bit (payload w h).closed;
-  ethernet2 = told_ethernet2 h;
-  linux_sll = told_linux_sll h;
-  vlan = told_vlan h;
-  macsec = told_macsec h;
-  arp = told_arp w.start h;
+  ethernet2 = c_ethernet2 h;
+  linux_sll = c_linux_sll h;
+  vlan = c_vlan h;
+  macsec = c_macsec h;
+  arp = c_arp w.start h;
 }
 
 -- the headers of a stack, each in the payload of the one before it
-abbrev pub told_units : Window → List Header → List EtherUnit
-told_units w [] = []
-told_units w (h ∷ hs) = told_unit w h ∷ told_units (payload w h) hs
+abbrev pub c_units : Window → List Header → List EtherUnit
+c_units w [] = []
+c_units w (h ∷ hs) = c_unit w h ∷ c_units (payload w h) hs

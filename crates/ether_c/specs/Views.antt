@@ -12,7 +12,7 @@ use Rattle.etherparse.specs.Header as headers
 use Rattle.ether_peel.specs.declared.peel_unit.PeelUnit.{PeelUnit}
 use Rattle.ether_peel.specs.declared.peel_unit.PeelUnit.TheVariants as units
 use Rattle.ether_c.specs.declared.ether_unit.EtherUnit.{EtherUnit}
-use Rattle.ether_c.specs.Units.{header_number, told_ethernet2, told_linux_sll, told_vlan, told_macsec, told_arp}
+use Rattle.ether_c.specs.Units.{header_number, c_ethernet2, c_linux_sll, c_vlan, c_macsec, c_arp}
 
 abbrev pub ethernet2_header : Frame → Header
 ethernet2_header f =
@@ -28,20 +28,20 @@ header_of (units.Macsec packet) = headers.Macsec (sec_tag_of (tag_bytes packet.h
 header_of (units.Arp bytes) = headers.Arp (arp_of bytes)
 
 -- a header that starts at a place, with the places of its payload and the mark of that
-abbrev pub told_placed : Header → (offset start finish : ℕ) → (closed : Bool) → EtherUnit
-told_placed h offset start finish closed = record {
+abbrev pub c_placed : Header → (offset start finish : ℕ) → (closed : Bool) → EtherUnit
+c_placed h offset start finish closed = record {
   offset = offset;
   header_len = start - offset;
   payload_start = start;
   payload_end = finish;
   kind = header_number h;
   closed = bit closed;
-  ethernet2 = told_ethernet2 h;
-  linux_sll = told_linux_sll h;
-  vlan = told_vlan h;
-  macsec = told_macsec h;
-  arp = told_arp offset h;
+  ethernet2 = c_ethernet2 h;
+  linux_sll = c_linux_sll h;
+  vlan = c_vlan h;
+  macsec = c_macsec h;
+  arp = c_arp offset h;
 }
 
-abbrev pub told_view : PeelUnit → (offset start finish : ℕ) → (closed : Bool) → EtherUnit
-told_view u = told_placed (header_of u)
+abbrev pub c_view : PeelUnit → (offset start finish : ℕ) → (closed : Bool) → EtherUnit
+c_view u = c_placed (header_of u)

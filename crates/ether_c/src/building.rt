@@ -1,6 +1,6 @@
 //! Packets that are built.
 ghost use Rattle.std.specs.Prelude.{◌≡◌, ◌≤◌, [], ◌∷◌, length, take, drop, IfOk, IfErr, OnOk};
-ghost use Rattle.ether_c.specs.Building.{TellsBuild, PassesParts, PassesNoPacket, AreExts, AreSplit, RefusesTags, ArePassedArp, HasContent, TellsPacketBuilt};
+ghost use Rattle.ether_c.specs.Building.{GivesBuild, PassesParts, PassesNoPacket, AreExts, AreSplit, RefusesTags, ArePassedArp, HasContent, GivesPacketBuilt};
 ghost use Rattle.ether_c.specs.Passed.{PassesNoArp};
 ghost use Rattle.ether_c.specs.declared.ether_unit.EtherUnit.{EtherUnit as unit};
 
@@ -37,10 +37,10 @@ pub extern "C" fn etherpeel_build(
     target: &mut [u8],
     len: &mut usize,
 ) -> u32
-    ensures { TellsBuild units.now ether_type payload.now target.old target.new len.new result }
+    ensures { GivesBuild units.now ether_type payload.now target.old target.new len.new result }
 {
     let mut tags = [LinkExtHeader::Vlan(SingleVlanHeader::default()); MAX_TAGS];
-    let (status, told) = match parts(units, payload, &mut tags) {
+    let (status, given) = match parts(units, payload, &mut tags) {
         Ok(parts) => {
             let packet = PacketBuilder {
                 link: parts.link,
@@ -51,7 +51,7 @@ pub extern "C" fn etherpeel_build(
         }
         Err(refusal) => refusal,
     };
-    *len = told;
+    *len = given;
     status
 }
 
@@ -146,7 +146,7 @@ fn content<'a>(arp: &'a Option<ArpPacket>, ether_type: u16, payload: &'a [u8]) -
 /// after a sealed SecTag the index of that plus 1, else 0.
 fn write(packet: &PacketBuilder<'_, '_>, target: &mut [u8]) -> (u32, usize)
     requires { length packet.now.link_exts.now ≤ 8 }
-    ensures { TellsPacketBuilt packet.now target.old target.new result.1 result.0 }
+    ensures { GivesPacketBuilt packet.now target.old target.new result.1 result.0 }
 {
     match packet.write(target) {
         Ok(end) => (DONE, end),

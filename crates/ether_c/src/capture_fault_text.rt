@@ -1,7 +1,7 @@
 //! The text of the fault in which a capture file ends.
 ghost use Rattle.std.specs.Prelude.{◌≡◌, IfSome};
 ghost use Rattle.ether_pcap.specs.CaptureTexts.{capture_fault_text};
-ghost use Rattle.ether_c.specs.Captured.{TellsCaptureText, PutsCaptureText};
+ghost use Rattle.ether_c.specs.Captured.{GivesCaptureText, PutsCaptureText};
 
 use crate::capturing::captured;
 use crate::numbers::{DONE, NO_TEXT};
@@ -17,7 +17,7 @@ const LONGEST: usize = 512;
 /// is no fault.
 #[unsafe(no_mangle)]
 pub extern "C" fn etherpeel_capture_fault_text(file: &[u8], text: &mut [u8], len: &mut usize) -> u32
-    ensures { TellsCaptureText file.now text.old text.new result len.new }
+    ensures { GivesCaptureText file.now text.old text.new result len.new }
 {
     let (_count, fault) = captured(file, &mut []);
     let (status, needed) = match &fault {

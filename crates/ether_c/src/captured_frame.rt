@@ -1,6 +1,6 @@
 //! What is walked of a captured packet.
 ghost use Rattle.ether_content.specs.Content.{content_of};
-ghost use Rattle.ether_c.specs.CapturedFrame.{TellsFrame};
+ghost use Rattle.ether_c.specs.CapturedFrame.{GivesFrame};
 ghost use Rattle.ether_c.specs.Selection.{packet_value};
 
 use crate::numbers::{DONE, UNKNOWN_START};
@@ -16,7 +16,7 @@ pub extern "C" fn etherpeel_captured_frame<'a>(
     packet: &EtherCaptured<'a>,
     frame: &mut EtherFrame<'a>,
 ) -> u32
-    ensures { TellsFrame (content_of (packet_value packet.now)) frame.old frame.new result }
+    ensures { GivesFrame (content_of (packet_value packet.now)) frame.old frame.new result }
 {
     match EtherFrame::of(Content::of(&packet.to_packet())) {
         Some(found) => {

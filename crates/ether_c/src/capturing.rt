@@ -1,6 +1,6 @@
 //! The packets of a capture file in an array.
 ghost use Rattle.std.specs.Prelude.{◌≡◌, slice_set};
-ghost use Rattle.ether_c.specs.Captured.{HasCaptured, TellsCapture};
+ghost use Rattle.ether_c.specs.Captured.{HasCaptured, GivesCapture};
 
 use crate::EtherCaptured;
 use crate::numbers::{BAD_CAPTURE, DONE, SHORT};
@@ -30,7 +30,7 @@ pub extern "C" fn etherpeel_capture<'a>(
     count: &mut usize,
     end: &mut EtherCaptureEnd,
 ) -> u32
-    ensures { TellsCapture file.now packets.old packets.new count.new end.new result }
+    ensures { GivesCapture file.now packets.old packets.new count.new end.new result }
 {
     let (found, fault) = captured(file, packets);
     *count = found;

@@ -2,7 +2,7 @@
 ghost use Rattle.std.specs.Prelude.{◌≡◌};
 ghost use Rattle.ether_peel.specs.Walker.Start.{start_of as start_meant, limited_start};
 ghost use Rattle.ether_c.specs.Starts.{IsUnknown, IsRefused, OfStart};
-ghost use Rattle.ether_c.specs.Calls.{TellsCompletion, PutsBytes, fill_bytes};
+ghost use Rattle.ether_c.specs.Calls.{GivesCompletion, PutsBytes, fill_bytes};
 
 use crate::numbers::{DONE, UNKNOWN_START, start_of};
 use crate::putting::put_bytes;
@@ -20,8 +20,8 @@ pub extern "C" fn etherpeel_completion(
 ) -> u32
     ensures unknown { IsUnknown start ether_type
         → IsRefused result ((fill.new ≡ fill.old) × (len.new ≡ len.old)) }
-    ensures told { OfStart start ether_type
-        (λ s. TellsCompletion (start_meant s) bytes.now fill.old fill.new result len.new) }
+    ensures given { OfStart start ether_type
+        (λ s. GivesCompletion (start_meant s) bytes.now fill.old fill.new result len.new) }
 {
     let Some(start) = start_of(start, ether_type) else {
         return UNKNOWN_START;
@@ -44,8 +44,8 @@ pub extern "C" fn etherpeel_completion_limited(
 ) -> u32
     ensures unknown { IsUnknown start ether_type
         → IsRefused result ((fill.new ≡ fill.old) × (len.new ≡ len.old)) }
-    ensures told { OfStart start ether_type
-        (λ s. TellsCompletion (limited_start s limit) bytes.now fill.old fill.new result len.new) }
+    ensures given { OfStart start ether_type
+        (λ s. GivesCompletion (limited_start s limit) bytes.now fill.old fill.new result len.new) }
 {
     let Some(start) = start_of(start, ether_type) else {
         return UNKNOWN_START;

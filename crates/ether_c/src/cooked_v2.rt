@@ -1,5 +1,5 @@
 //! Packets of Linux cooked capture v2.
-ghost use Rattle.ether_c.specs.CookedV2.{TellsLinuxSll2, TellsLinuxSll2Fields, linux_sll2_status};
+ghost use Rattle.ether_c.specs.CookedV2.{GivesLinuxSll2, GivesLinuxSll2Fields, linux_sll2_status};
 ghost use Rattle.ether_sll2.specs.Views.{refusal_view};
 ghost use Rattle.std.specs.Prelude.{◌≡◌};
 
@@ -11,7 +11,7 @@ use ether_sll2::{LinuxSll2Error, LinuxSll2Slice};
 /// The header of a packet of Linux cooked capture v2, and what the walk of its payload starts with.
 #[unsafe(no_mangle)]
 pub extern "C" fn etherpeel_linux_sll2(bytes: &[u8], header: &mut EtherLinuxSll2) -> u32
-    ensures { TellsLinuxSll2 bytes.now header.new result }
+    ensures { GivesLinuxSll2 bytes.now header.new result }
 {
     match LinuxSll2Slice::from_slice(bytes) {
         Ok(packet) => {
@@ -33,7 +33,7 @@ pub extern "C" fn etherpeel_linux_sll2_fields(
     fields: &mut [EtherField],
     count: &mut usize,
 ) -> u32
-    ensures { TellsLinuxSll2Fields bytes.now fields.old fields.new count.old count.new result }
+    ensures { GivesLinuxSll2Fields bytes.now fields.old fields.new count.old count.new result }
 {
     match LinuxSll2Slice::from_slice(bytes) {
         Ok(_) => {

@@ -1,7 +1,7 @@
 //! A packet of a capture file, as a struct of C.
 ghost use Rattle.std.specs.Prelude.{◌≡◌};
 ghost use Rattle.ether_pcap.specs.CaptureViews.{captured_packet_view};
-ghost use Rattle.ether_c.specs.Captured.{IsToldPacket};
+ghost use Rattle.ether_c.specs.Captured.{HoldsPacket};
 ghost use Rattle.ether_c.specs.Selection.{packet_value};
 
 use ether_pcap::{CapturedPacket, LinkType, Timestamp};
@@ -34,7 +34,7 @@ const _: () = prove!(size_of::<EtherCaptured<'_>>() == 40);
 impl<'a> EtherCaptured<'a> {
     /// A packet of a capture file.
     pub(crate) fn of(packet: CapturedPacket<'a>) -> EtherCaptured<'a>
-        ensures { IsToldPacket result (captured_packet_view packet.entry) }
+        ensures { HoldsPacket result (captured_packet_view packet.entry) }
     {
         let (has_time, seconds, nanoseconds) = match packet.time {
             Some(time) => (1, time.seconds, time.nanoseconds),

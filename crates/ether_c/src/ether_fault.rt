@@ -1,7 +1,7 @@
 //! A unit that is refused, as a struct of C.
 ghost use Rattle.std.specs.Prelude.{◌≡◌, ◌-◌, if◌then◌else◌};
 ghost use Rattle.ether_peel.specs.declared.peel_error.PeelError.TheVariants as errors;
-ghost use Rattle.ether_c.specs.Found.{told_fault, told_end};
+ghost use Rattle.ether_c.specs.Found.{c_fault, c_end};
 
 use crate::numbers;
 use ether_peel::{PeelError, PeelFault};
@@ -61,7 +61,7 @@ impl EtherFault {
     /// How a walk ended: with this fault or with none.
     #[inline(always)]
     pub(crate) fn of_end(fault: &Option<PeelFault>) -> EtherFault
-        ensures { result ≡ told_end fault.now }
+        ensures { result ≡ c_end fault.now }
     {
         match fault {
             Some(fault) => EtherFault::of(fault),
@@ -72,7 +72,7 @@ impl EtherFault {
     /// The fault of a walk.
     #[inline(always)]
     pub(crate) fn of(fault: &PeelFault) -> EtherFault
-        ensures { result ≡ told_fault fault.now }
+        ensures { result ≡ c_fault fault.now }
     {
         let placed = EtherFault {
             offset: fault.offset,

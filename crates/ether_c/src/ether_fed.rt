@@ -1,6 +1,6 @@
 //! The result of feeding a walk, as a struct of C.
 ghost use Rattle.std.specs.Prelude.{◌≡◌};
-ghost use Rattle.ether_c.specs.Found.{told_feed};
+ghost use Rattle.ether_c.specs.Found.{c_feed};
 
 use crate::EtherFault;
 use ether_peel::Feed;
@@ -26,7 +26,7 @@ impl EtherFed {
     /// The result of feeding a walk.
     #[inline(always)]
     pub(crate) fn of(fed: &Feed) -> EtherFed
-        ensures { result ≡ told_feed fed.now }
+        ensures { result ≡ c_feed fed.now }
     {
         EtherFed {
             refusals: fed.refusals,

@@ -1,7 +1,7 @@
 //! A field of a header, as a struct of C.
 ghost use Rattle.std.specs.Prelude.{◌≡◌, ◌+◌, ◌*◌, ◌≤◌, length};
 ghost use Rattle.ether_c.specs.FieldTables.{moved};
-ghost use Rattle.ether_c.specs.Fields.{told_field};
+ghost use Rattle.ether_c.specs.Fields.{c_field};
 
 use crate::field_place::FieldPlace;
 use crate::field_value::field_value;
@@ -31,7 +31,7 @@ impl EtherField {
     /// The field at a place of what begins at a byte, of the unit with an index.
     pub(crate) fn of(bytes: &[u8], unit: usize, start: usize, place: FieldPlace) -> EtherField
         requires { 8 * start + (place.first + place.len) ≤ 8 * length bytes.now }
-        ensures { result ≡ told_field bytes.now unit (moved start place) }
+        ensures { result ≡ c_field bytes.now unit (moved start place) }
     {
         EtherField {
             bit_offset: start.wrapping_mul(8).wrapping_add(place.first),

@@ -1,6 +1,6 @@
 //! Why a text is no expression of a filter, as a struct of C.
 ghost use Rattle.std.specs.Prelude.{◌≡◌};
-ghost use Rattle.ether_c.specs.Filters.{told_filter_error, filter_error_number, greatest_expected};
+ghost use Rattle.ether_c.specs.Filters.{c_filter_error, filter_error_number, greatest_expected};
 
 use ether_filter::{FilterError, FilterErrorKind};
 
@@ -26,7 +26,7 @@ const _: () = prove!(size_of::<EtherFilterError>() == 16);
 impl EtherFilterError {
     /// Why a text is no expression.
     pub(crate) fn of(error: &FilterError) -> EtherFilterError
-        ensures { result ≡ told_filter_error error.now }
+        ensures { result ≡ c_filter_error error.now }
     {
         EtherFilterError {
             offset: error.offset,

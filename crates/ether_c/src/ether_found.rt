@@ -1,6 +1,6 @@
 //! The result of a whole walk, as a struct of C.
 ghost use Rattle.std.specs.Prelude.{◌≡◌};
-ghost use Rattle.ether_c.specs.Found.{told_summary};
+ghost use Rattle.ether_c.specs.Found.{c_summary};
 
 use crate::{EtherFault, numbers};
 use ether_peel::Summary;
@@ -33,7 +33,7 @@ impl EtherFound {
     /// Sets it to the result of a walk.
     #[inline(always)]
     pub(crate) fn set(&mut self, found: &Summary)
-        ensures { self.new ≡ told_summary found.now }
+        ensures { self.new ≡ c_summary found.now }
     {
         *self = EtherFound {
             units: found.units,

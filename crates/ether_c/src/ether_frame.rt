@@ -3,7 +3,7 @@ ghost use Rattle.std.specs.Prelude.{◌≡◌, ℕ, List, Some, None, IfSome};
 ghost use Rattle.ether_peel.specs.Grammar.Expectation.{Next};
 ghost use Rattle.ether_content.specs.Content.{IsWalked};
 ghost use Rattle.ether_content.specs.ContentViews.{content_view};
-ghost use Rattle.ether_c.specs.CapturedFrame.{IsToldFrame, frame_offset, first_ether_type};
+ghost use Rattle.ether_c.specs.CapturedFrame.{HoldsFrame, frame_offset, first_ether_type};
 ghost use Rattle.ether_c.specs.Numbers.{start_numbered};
 
 use ether_content::Content;
@@ -30,7 +30,7 @@ const _: () = prove!(size_of::<EtherFrame<'_>>() == 32);
 impl<'a> EtherFrame<'a> {
     /// The frame that is walked of a packet.
     pub(crate) fn of(content: Content<'a>) -> Option<EtherFrame<'a>>
-        ensures some { IfSome result (IsToldFrame (content_view content.entry)) }
+        ensures some { IfSome result (HoldsFrame (content_view content.entry)) }
         ensures none { result ≡ None → (next : Next) (bytes : List ℕ)
             → IsWalked (content_view content.entry) next bytes → ⊥ }
     {

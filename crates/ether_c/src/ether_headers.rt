@@ -1,6 +1,6 @@
 //! All headers of a packet, as a struct of C.
 ghost use Rattle.std.specs.Prelude.{◌≡◌, unwrap_or, slice_get};
-ghost use Rattle.ether_c.specs.Packet.{told_ids};
+ghost use Rattle.ether_c.specs.Packet.{c_ids};
 
 use crate::{EtherFound, EtherUnit};
 use arrayvec::ArrayVec;
@@ -29,7 +29,7 @@ const _: () = prove!(size_of::<EtherHeaders>() == 824);
 
 /// The numbers of up to three VLAN identifiers, with 0 in the place of those that are not there.
 pub(crate) fn vlan_ids(ids: &ArrayVec<VlanId, 3>) -> [u16; 3]
-    ensures { result ≡ told_ids ids.now.items }
+    ensures { result ≡ c_ids ids.now.items }
 {
     [vlan_id(ids, 0), vlan_id(ids, 1), vlan_id(ids, 2)]
 }

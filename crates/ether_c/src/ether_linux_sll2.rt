@@ -3,7 +3,7 @@ ghost use Rattle.std.specs.Prelude.{◌≡◌, ◌≤◌, length, unwrap_or};
 ghost use Rattle.ether_sll2.specs.LinuxSll2.{linux_sll2_of, protocol_of_header};
 ghost use Rattle.ether_sll2.specs.Views.{refusal_view};
 ghost use Rattle.ether_base.specs.Formats.LinuxSllProtocolType.{told_ether_type};
-ghost use Rattle.ether_c.specs.CookedV2.{told_linux_sll2, told_linux_sll2_refusal, start_number};
+ghost use Rattle.ether_c.specs.CookedV2.{c_linux_sll2, c_linux_sll2_refusal, start_number};
 
 use ether_peel::Start;
 use ether_sll2::{LinuxSll2Error, LinuxSll2Header, LinuxSll2Slice};
@@ -52,7 +52,7 @@ impl EtherLinuxSll2 {
 
     /// The header of a packet.
     pub(crate) fn of(packet: &LinuxSll2Slice<'_>) -> EtherLinuxSll2
-        ensures { result ≡ told_linux_sll2 (linux_sll2_of packet.now) }
+        ensures { result ≡ c_linux_sll2 (linux_sll2_of packet.now) }
     {
         let (start, ether_type) = start_of(packet);
         EtherLinuxSll2 {
@@ -70,7 +70,7 @@ impl EtherLinuxSll2 {
 
     /// Why there is no header: the packet type that is not supported, or nothing if bytes are missing.
     pub(crate) fn of_refusal(error: &LinuxSll2Error) -> EtherLinuxSll2
-        ensures { result ≡ told_linux_sll2_refusal (refusal_view error.now) }
+        ensures { result ≡ c_linux_sll2_refusal (refusal_view error.now) }
     {
         match error {
             LinuxSll2Error::Len { .. } => EtherLinuxSll2::NONE,

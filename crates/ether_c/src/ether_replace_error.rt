@@ -1,6 +1,6 @@
 //! Why a header is not replaced, as a struct of C.
 ghost use Rattle.std.specs.Prelude.{◌≡◌};
-ghost use Rattle.ether_c.specs.Replacing.{told_replace_error, replace_error_status, difference_number};
+ghost use Rattle.ether_c.specs.Replacing.{c_replace_error, replace_error_status, difference_number};
 
 use crate::numbers::{DIFFERS, NO_ARP, NO_LINK, NO_TAG};
 use ether_packet::{Difference, ReplaceError};
@@ -23,7 +23,7 @@ const _: () = prove!(size_of::<EtherReplaceError>() == 16);
 impl EtherReplaceError {
     /// Why a header is not replaced.
     pub(crate) fn of(error: &ReplaceError) -> EtherReplaceError
-        ensures { result ≡ told_replace_error error.now }
+        ensures { result ≡ c_replace_error error.now }
     {
         let (tags, difference) = match error {
             ReplaceError::NoLink | ReplaceError::NoArp => (0, 0),

@@ -6,9 +6,9 @@ ghost use Rattle.etherparse.specs.Macsec.{sec_tag_of, tag_bytes};
 ghost use Rattle.etherparse.specs.Arp.{arp_of};
 ghost use Rattle.etherparse.specs.Header as headers;
 ghost use Rattle.etherparse.specs.Header.{header_len};
-ghost use Rattle.ether_c.specs.Units.{told_ethernet2, told_linux_sll, told_vlan, told_macsec, told_arp};
+ghost use Rattle.ether_c.specs.Units.{c_ethernet2, c_linux_sll, c_vlan, c_macsec, c_arp};
 ghost use Rattle.ether_c.specs.Tags.{vlan_value};
-ghost use Rattle.ether_c.specs.Views.{ethernet2_header, header_of, told_view};
+ghost use Rattle.ether_c.specs.Views.{ethernet2_header, header_of, c_view};
 
 use ether_peel::PeelUnit;
 use etherparse::{
@@ -183,7 +183,7 @@ impl EtherUnit {
     pub(crate) fn of(unit: &PeelUnit<'_>, place: UnitPlace) -> EtherUnit
         requires { place.offset + header_len (header_of unit.now) ≡ place.payload_start }
         ensures { result
-            ≡ told_view unit.now place.offset place.payload_start place.payload_end place.closed }
+            ≡ c_view unit.now place.offset place.payload_start place.payload_end place.closed }
     {
         let placed = EtherUnit {
             offset: place.offset,
@@ -233,7 +233,7 @@ impl EtherEthernet2 {
 
     #[inline(always)]
     fn of(frame: &Ethernet2Slice<'_>) -> EtherEthernet2
-        ensures { result ≡ told_ethernet2 (ethernet2_header frame.now) }
+        ensures { result ≡ c_ethernet2 (ethernet2_header frame.now) }
     {
         EtherEthernet2 {
             destination: frame.destination(),
@@ -255,7 +255,7 @@ impl EtherLinuxSll {
 
     #[inline(always)]
     fn of(packet: &LinuxSllSlice<'_>) -> EtherLinuxSll
-        ensures { result ≡ told_linux_sll (headers.LinuxSll (linux_sll_of packet.now)) }
+        ensures { result ≡ c_linux_sll (headers.LinuxSll (linux_sll_of packet.now)) }
     {
         EtherLinuxSll {
             packet_type: u16::from(packet.packet_type()),
@@ -277,7 +277,7 @@ impl EtherVlan {
 
     #[inline(always)]
     fn of(tag: &SingleVlanSlice<'_>) -> EtherVlan
-        ensures { result ≡ told_vlan (headers.Vlan (vlan_of tag.now)) }
+        ensures { result ≡ c_vlan (headers.Vlan (vlan_of tag.now)) }
     {
         EtherVlan {
             vid: tag.vlan_identifier().value(),
@@ -289,7 +289,7 @@ impl EtherVlan {
 
     /// The fields of a tag as a value.
     pub(crate) fn of_header(tag: SingleVlanHeader) -> EtherVlan
-        ensures { result ≡ told_vlan (headers.Vlan (vlan_view tag)) }
+        ensures { result ≡ c_vlan (headers.Vlan (vlan_view tag)) }
     {
         EtherVlan {
             vid: tag.vlan_id.value(),
@@ -335,7 +335,7 @@ impl EtherMacsec {
 
     #[inline(always)]
     fn of(tag: &MacsecHeaderSlice<'_>) -> EtherMacsec
-        ensures { result ≡ told_macsec (headers.Macsec (sec_tag_of (tag_bytes tag.now))) }
+        ensures { result ≡ c_macsec (headers.Macsec (sec_tag_of (tag_bytes tag.now))) }
     {
         let (encrypted, changed, ether_type) = match tag.ptype() {
             MacsecPType::Unmodified(ether_type) => (0, 0, ether_type.0),
@@ -378,7 +378,7 @@ impl EtherArp {
     #[inline(always)]
     fn of(packet: &ArpPacketSlice<'_>, offset: usize) -> EtherArp
         requires { offset + header_len (headers.Arp (arp_of packet.now)) < 2 ^ 64 }
-        ensures { result ≡ told_arp offset (headers.Arp (arp_of packet.now)) }
+        ensures { result ≡ c_arp offset (headers.Arp (arp_of packet.now)) }
     {
         let hardware_size = packet.hw_addr_size();
         let protocol_size = packet.proto_addr_size();

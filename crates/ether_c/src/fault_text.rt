@@ -3,7 +3,7 @@ ghost use Rattle.std.specs.Prelude.{◌≡◌, IfSome};
 ghost use Rattle.ether_peel.specs.Walker.Start.{start_of as start_meant, limited_start};
 ghost use Rattle.ether_peel.specs.Walker.Texts.{peel_fault_text};
 ghost use Rattle.ether_c.specs.Starts.{IsUnknown, IsRefused, OfStart};
-ghost use Rattle.ether_c.specs.Calls.{TellsText, PutsEndText, PutsText};
+ghost use Rattle.ether_c.specs.Calls.{GivesText, PutsEndText, PutsText};
 
 use crate::numbers::{DONE, NO_TEXT, UNKNOWN_START, start_of};
 use crate::putting::put_bytes;
@@ -26,8 +26,8 @@ pub extern "C" fn etherpeel_fault_text(
 ) -> u32
     ensures unknown { IsUnknown start ether_type
         → IsRefused result ((text.new ≡ text.old) × (len.new ≡ len.old)) }
-    ensures told { OfStart start ether_type
-        (λ s. TellsText (start_meant s) bytes.now text.old text.new result len.new) }
+    ensures given { OfStart start ether_type
+        (λ s. GivesText (start_meant s) bytes.now text.old text.new result len.new) }
 {
     let Some(start) = start_of(start, ether_type) else {
         return UNKNOWN_START;
@@ -50,8 +50,8 @@ pub extern "C" fn etherpeel_fault_text_limited(
 ) -> u32
     ensures unknown { IsUnknown start ether_type
         → IsRefused result ((text.new ≡ text.old) × (len.new ≡ len.old)) }
-    ensures told { OfStart start ether_type
-        (λ s. TellsText (limited_start s limit) bytes.now text.old text.new result len.new) }
+    ensures given { OfStart start ether_type
+        (λ s. GivesText (limited_start s limit) bytes.now text.old text.new result len.new) }
 {
     let Some(start) = start_of(start, ether_type) else {
         return UNKNOWN_START;

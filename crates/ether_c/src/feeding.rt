@@ -2,7 +2,7 @@
 ghost use Rattle.std.specs.Prelude.{◌≡◌};
 ghost use Rattle.ether_peel.specs.Walker.Start.{start_of as start_meant, limited_start};
 ghost use Rattle.ether_c.specs.Starts.{IsUnknown, IsRefused, OfStart};
-ghost use Rattle.ether_c.specs.Calls.{TellsFeed};
+ghost use Rattle.ether_c.specs.Calls.{GivesFeed};
 
 use crate::EtherFed;
 use crate::numbers::{DONE, UNKNOWN_START, start_of};
@@ -17,8 +17,8 @@ pub extern "C" fn etherpeel_feed(
     fed: &mut EtherFed,
 ) -> u32
     ensures unknown { IsUnknown start ether_type → IsRefused result (fed.new ≡ fed.old) }
-    ensures told { OfStart start ether_type
-        (λ s. TellsFeed (start_meant s) bytes.now result fed.new) }
+    ensures given { OfStart start ether_type
+        (λ s. GivesFeed (start_meant s) bytes.now result fed.new) }
 {
     let Some(start) = start_of(start, ether_type) else {
         return UNKNOWN_START;
@@ -37,8 +37,8 @@ pub extern "C" fn etherpeel_feed_limited(
     fed: &mut EtherFed,
 ) -> u32
     ensures unknown { IsUnknown start ether_type → IsRefused result (fed.new ≡ fed.old) }
-    ensures told { OfStart start ether_type
-        (λ s. TellsFeed (limited_start s limit) bytes.now result fed.new) }
+    ensures given { OfStart start ether_type
+        (λ s. GivesFeed (limited_start s limit) bytes.now result fed.new) }
 {
     let Some(start) = start_of(start, ether_type) else {
         return UNKNOWN_START;

@@ -1,6 +1,6 @@
 //! Fields written to an array.
 ghost use Rattle.std.specs.Prelude.{◌≡◌, ◌+◌, ◌<◌, ◌^◌, length, slice_set};
-ghost use Rattle.ether_c.specs.FieldViews.{put_all, AreIn, told_table};
+ghost use Rattle.ether_c.specs.FieldViews.{put_all, AreIn, c_table};
 
 use crate::EtherField;
 use crate::field_place::FieldPlace;
@@ -17,7 +17,7 @@ pub(crate) fn put_table(
 ) -> usize
     requires within { AreIn bytes.now start table.now }
     requires room { at + length table.now < 2 ^ 64 }
-    ensures fields { fields.new ≡ put_all fields.old at (told_table bytes.now unit start table.now) }
+    ensures fields { fields.new ≡ put_all fields.old at (c_table bytes.now unit start table.now) }
     ensures next { result ≡ at + length table.now }
 {
     let mut next = at;

@@ -5,8 +5,8 @@ ghost use Rattle.ether_peel.specs.Walker.Start.{start_of as start_meant};
 ghost use Rattle.ether_c.specs.Starts.{IsUnknown, IsRefused, OfStart};
 ghost use Rattle.ether_c.specs.Views.{header_of};
 ghost use Rattle.ether_c.specs.FieldTables.{header_fields, trailer_fields};
-ghost use Rattle.ether_c.specs.Fields.{TellsFields, HasFields};
-ghost use Rattle.ether_c.specs.FieldViews.{put_all, AreIn, told_table, told_placed_fields};
+ghost use Rattle.ether_c.specs.Fields.{GivesFields, HasFields};
+ghost use Rattle.ether_c.specs.FieldViews.{put_all, AreIn, c_table, c_placed_fields};
 
 use crate::field_putting::put_table;
 use crate::numbers::{DONE, UNKNOWN_START, start_of};
@@ -25,8 +25,8 @@ pub extern "C" fn etherpeel_fields(
 ) -> u32
     ensures unknown { IsUnknown start ether_type
         → IsRefused result ((fields.new ≡ fields.old) × (count.new ≡ count.old)) }
-    ensures told { OfStart start ether_type
-        (λ s. TellsFields (start_meant s) bytes.now fields.old fields.new result count.new) }
+    ensures given { OfStart start ether_type
+        (λ s. GivesFields (start_meant s) bytes.now fields.old fields.new result count.new) }
 {
     let Some(start) = start_of(start, ether_type) else {
         return UNKNOWN_START;
@@ -80,7 +80,7 @@ fn put_unit(
     requires trailer { place.payload_end + trailer_len (header_of unit.now) ≤ length bytes.now }
     requires room { at + length (header_fields (header_of unit.now)) + length (trailer_fields (header_of unit.now)) < 2 ^ 64 }
     ensures fields { fields.new ≡ put_all fields.old at
-        (told_placed_fields bytes.now place.index place.start place.payload_end (header_of unit.now)) }
+        (c_placed_fields bytes.now place.index place.start place.payload_end (header_of unit.now)) }
     ensures next { result ≡ at + length (header_fields (header_of unit.now)) + length (trailer_fields (header_of unit.now)) }
 {
     let next = put_header(bytes, unit, place, fields, at);
@@ -108,7 +108,7 @@ fn put_header(
     requires header { place.start + header_len (header_of unit.now) ≤ length bytes.now }
     requires room { at + length (header_fields (header_of unit.now)) < 2 ^ 64 }
     ensures fields { fields.new ≡ put_all fields.old at
-        (told_table bytes.now place.index place.start (header_fields (header_of unit.now))) }
+        (c_table bytes.now place.index place.start (header_fields (header_of unit.now))) }
     ensures next { result ≡ at + length (header_fields (header_of unit.now)) }
 {
     let UnitPlace { index, start, .. } = place;

@@ -1,7 +1,7 @@
 //! The text of why a text is no expression of a filter.
 ghost use Rattle.std.specs.Prelude.{◌≡◌, IfSome};
 ghost use Rattle.ether_filter.specs.ErrorTexts.{filter_error_text};
-ghost use Rattle.ether_c.specs.Filters.{TellsFilterText, PutsFilterText};
+ghost use Rattle.ether_c.specs.Filters.{GivesFilterText, PutsFilterText};
 
 use crate::numbers::{DONE, NO_TEXT};
 use crate::putting::put_bytes;
@@ -19,7 +19,7 @@ pub extern "C" fn etherpeel_filter_error_text(
     text: &mut [u8],
     len: &mut usize,
 ) -> u32
-    ensures { TellsFilterText expression.now text.old text.new result len.new }
+    ensures { GivesFilterText expression.now text.old text.new result len.new }
 {
     let (status, needed) = match Filter::parse(expression) {
         Ok(_) => (DONE, 0),

@@ -3,7 +3,7 @@
 //! program is built with them.
 //!
 //! Each export calls the crates below, and its contract says what those calls say; the fields of
-//! headers are told here, by tables (`specs/FieldTables.antt`). Each struct that is passed has a file of
+//! headers are given here, by tables (`specs/FieldTables.antt`). Each struct that is passed has a file of
 //! its own, and `specs/` says each of its fields. Enumerations are passed as numbers
 //! (`specs/Numbers.antt`), and a start that has no number is refused. No call allocates memory or keeps
 //! a pointer.

@@ -2,7 +2,7 @@
 ghost use Rattle.std.specs.Prelude.{◌≡◌};
 ghost use Rattle.ether_peel.specs.Walker.Start.{start_of as start_meant, limited_start};
 ghost use Rattle.ether_c.specs.Starts.{IsUnknown, IsRefused, OfStart};
-ghost use Rattle.ether_c.specs.Calls.{TellsMissing, MissesAtEnd};
+ghost use Rattle.ether_c.specs.Calls.{GivesMissing, MissesAtEnd};
 
 use crate::numbers::{DONE, UNKNOWN_START, start_of};
 use ether_peel::{PeelFault, summary, summary_limited};
@@ -16,8 +16,8 @@ pub extern "C" fn etherpeel_missing(
     missing: &mut usize,
 ) -> u32
     ensures unknown { IsUnknown start ether_type → IsRefused result (missing.new ≡ missing.old) }
-    ensures told { OfStart start ether_type
-        (λ s. TellsMissing (start_meant s) bytes.now result missing.new) }
+    ensures given { OfStart start ether_type
+        (λ s. GivesMissing (start_meant s) bytes.now result missing.new) }
 {
     let Some(start) = start_of(start, ether_type) else {
         return UNKNOWN_START;
@@ -36,8 +36,8 @@ pub extern "C" fn etherpeel_missing_limited(
     missing: &mut usize,
 ) -> u32
     ensures unknown { IsUnknown start ether_type → IsRefused result (missing.new ≡ missing.old) }
-    ensures told { OfStart start ether_type
-        (λ s. TellsMissing (limited_start s limit) bytes.now result missing.new) }
+    ensures given { OfStart start ether_type
+        (λ s. GivesMissing (limited_start s limit) bytes.now result missing.new) }
 {
     let Some(start) = start_of(start, ether_type) else {
         return UNKNOWN_START;

@@ -2,7 +2,7 @@
 ghost use Rattle.std.specs.Prelude.{◌≡◌};
 ghost use Rattle.ether_peel.specs.Walker.Start.{start_of as start_meant};
 ghost use Rattle.ether_c.specs.Starts.{IsUnknown, IsRefused, OfStart};
-ghost use Rattle.ether_c.specs.Tags.{TellsPop};
+ghost use Rattle.ether_c.specs.Tags.{GivesPop};
 
 use crate::EtherVlan;
 use crate::numbers::{DONE, UNKNOWN_START, start_of, tag_error};
@@ -19,8 +19,8 @@ pub extern "C" fn etherpeel_pop_vlan(
 ) -> u32
     ensures unknown { IsUnknown start ether_type
         → IsRefused result ((frame.new ≡ frame.old) × (tag.new ≡ tag.old)) }
-    ensures told { OfStart start ether_type
-        (λ s. TellsPop (start_meant s) frame.old frame.new tag.old tag.new result) }
+    ensures given { OfStart start ether_type
+        (λ s. GivesPop (start_meant s) frame.old frame.new tag.old tag.new result) }
 {
     let Some(start) = start_of(start, ether_type) else {
         return UNKNOWN_START;

@@ -3,7 +3,7 @@ ghost use Rattle.std.specs.Prelude.{◌≡◌};
 ghost use Rattle.etherparse.specs.Vlan.{FitsVlan};
 ghost use Rattle.ether_peel.specs.Walker.Start.{start_of as start_meant};
 ghost use Rattle.ether_c.specs.Starts.{IsUnknown, IsRefused, OfStart};
-ghost use Rattle.ether_c.specs.Tags.{TellsPush, vlan_value, bad_field};
+ghost use Rattle.ether_c.specs.Tags.{GivesPush, vlan_value, bad_field};
 
 use crate::EtherVlan;
 use crate::numbers::{BAD_FIELD, DONE, UNKNOWN_START, start_of, tag_error};
@@ -24,9 +24,9 @@ pub extern "C" fn etherpeel_push_vlan(
     ensures unfit { OfStart start ether_type
         (λ _. (FitsVlan (vlan_value tag.now) → ⊥)
         → (result ≡ bad_field) × (buffer.new ≡ buffer.old)) }
-    ensures told { OfStart start ether_type
+    ensures given { OfStart start ether_type
         (λ s. FitsVlan (vlan_value tag.now)
-        → TellsPush (start_meant s) (vlan_value tag.now) tpid buffer.old buffer.new result) }
+        → GivesPush (start_meant s) (vlan_value tag.now) tpid buffer.old buffer.new result) }
 {
     let Some(start) = start_of(start, ether_type) else {
         return UNKNOWN_START;

@@ -1,7 +1,7 @@
 //! All headers of a packet in one call.
 ghost use Rattle.std.specs.Prelude.{◌≡◌};
 ghost use Rattle.ether_c.specs.Starts.{IsUnknown, IsRefused, OfStart};
-ghost use Rattle.ether_c.specs.Packet.{TellsPacket};
+ghost use Rattle.ether_c.specs.Packet.{GivesPacket};
 
 use crate::EtherHeaders;
 use crate::ether_headers::vlan_ids;
@@ -20,8 +20,8 @@ pub extern "C" fn etherpeel_packet(
     headers: &mut EtherHeaders,
 ) -> u32
     ensures unknown { IsUnknown start ether_type → IsRefused result (headers.new ≡ headers.old) }
-    ensures told { OfStart start ether_type
-        (λ s. TellsPacket s bytes.now headers.old.units headers.new result) }
+    ensures given { OfStart start ether_type
+        (λ s. GivesPacket s bytes.now headers.old.units headers.new result) }
 {
     let Some(start) = start_of(start, ether_type) else {
         return UNKNOWN_START;

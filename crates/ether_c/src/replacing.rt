@@ -3,7 +3,7 @@ ghost use Rattle.std.specs.Prelude.{◌≡◌, IfOk, IfErr};
 ghost use Rattle.ether_packet.specs.Packet.{packet_start};
 ghost use Rattle.ether_c.specs.Numbers.{done};
 ghost use Rattle.ether_c.specs.Starts.{IsUnknown, IsRefused, OfStart};
-ghost use Rattle.ether_c.specs.Replacing.{TellsReplaceLink, TellsReplaceExt, TellsReplaceArp, told_replace_error, replace_error_status};
+ghost use Rattle.ether_c.specs.Replacing.{GivesReplaceLink, GivesReplaceExt, GivesReplaceArp, c_replace_error, replace_error_status};
 
 use crate::numbers::{DONE, UNKNOWN_START, start_of};
 use crate::{EtherReplaceError, EtherUnit, ether_replace_error};
@@ -21,14 +21,14 @@ pub extern "C" fn etherpeel_replace_link(
 ) -> u32
     ensures unknown { IsUnknown start ether_type
         → IsRefused result ((frame.new ≡ frame.old) × (error.new ≡ error.old)) }
-    ensures told { OfStart start ether_type
-        (λ s. TellsReplaceLink s header.now frame.old frame.new error.old error.new result) }
+    ensures given { OfStart start ether_type
+        (λ s. GivesReplaceLink s header.now frame.old frame.new error.old error.new result) }
 {
     let Some(start) = start_of(start, ether_type) else {
         return UNKNOWN_START;
     };
     match header.to_link() {
-        Ok(link) => told(replace_link(start, frame, &link), error),
+        Ok(link) => answer(replace_link(start, frame, &link), error),
         Err(status) => status,
     }
 }
@@ -46,15 +46,15 @@ pub extern "C" fn etherpeel_replace_link_ext(
 ) -> u32
     ensures unknown { IsUnknown start ether_type
         → IsRefused result ((frame.new ≡ frame.old) × (error.new ≡ error.old)) }
-    ensures told { OfStart start ether_type
-        (λ s. TellsReplaceExt (packet_start s) index header.now frame.old frame.new
+    ensures given { OfStart start ether_type
+        (λ s. GivesReplaceExt (packet_start s) index header.now frame.old frame.new
         error.old error.new result) }
 {
     let Some(start) = start_of(start, ether_type) else {
         return UNKNOWN_START;
     };
     match header.to_link_ext() {
-        Ok(ext) => told(replace_link_ext(start, frame, index, &ext), error),
+        Ok(ext) => answer(replace_link_ext(start, frame, index, &ext), error),
         Err(status) => status,
     }
 }
@@ -72,24 +72,24 @@ pub extern "C" fn etherpeel_replace_arp(
 ) -> u32
     ensures unknown { IsUnknown start ether_type
         → IsRefused result ((frame.new ≡ frame.old) × (error.new ≡ error.old)) }
-    ensures told { OfStart start ether_type
-        (λ s. TellsReplaceArp (packet_start s) header.now bytes.now frame.old frame.new
+    ensures given { OfStart start ether_type
+        (λ s. GivesReplaceArp (packet_start s) header.now bytes.now frame.old frame.new
         error.old error.new result) }
 {
     let Some(start) = start_of(start, ether_type) else {
         return UNKNOWN_START;
     };
     match header.to_arp(bytes) {
-        Ok(packet) => told(replace_arp(start, frame, &packet), error),
+        Ok(packet) => answer(replace_arp(start, frame, &packet), error),
         Err(status) => status,
     }
 }
 
 /// The status of a call, which writes why a header is not replaced.
-fn told(replaced: Result<(), ReplaceError>, error: &mut EtherReplaceError) -> u32
+fn answer(replaced: Result<(), ReplaceError>, error: &mut EtherReplaceError) -> u32
     ensures kept { IfOk replaced (λ _. error.new ≡ error.old) }
     ensures done { IfOk replaced (λ _. result ≡ done) }
-    ensures error { IfErr replaced (λ e. error.new ≡ told_replace_error e) }
+    ensures error { IfErr replaced (λ e. error.new ≡ c_replace_error e) }
     ensures status { IfErr replaced (λ e. result ≡ replace_error_status e) }
 {
     match replaced {

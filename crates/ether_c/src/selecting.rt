@@ -1,6 +1,6 @@
 //! The packets that a filter selects.
 ghost use Rattle.ether_c.specs.Selection.{IsMark};
-ghost use Rattle.ether_c.specs.Filters.{TellsSelection, PutsMarks};
+ghost use Rattle.ether_c.specs.Filters.{GivesSelection, PutsMarks};
 
 use crate::numbers::{BAD_FILTER, DONE, NO_ROOM};
 use crate::{EtherCaptured, EtherFilterError};
@@ -18,7 +18,7 @@ pub extern "C" fn etherpeel_select(
     matches: &mut [u8],
     error: &mut EtherFilterError,
 ) -> u32
-    ensures { TellsSelection expression.now packets.now matches.old matches.new error.old error.new result }
+    ensures { GivesSelection expression.now packets.now matches.old matches.new error.old error.new result }
 {
     match Filter::parse(expression) {
         Ok(filter) => put_marks(&filter, packets, matches),

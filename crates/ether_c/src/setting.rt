@@ -3,7 +3,7 @@ ghost use Rattle.std.specs.Prelude.{◌≡◌, ◌<◌, ◌≤◌};
 ghost use Rattle.etherparse.specs.Vlan.{FitsVlan};
 ghost use Rattle.ether_packet.specs.Packet.{packet_start};
 ghost use Rattle.ether_c.specs.Starts.{IsUnknown, IsRefused, OfStart};
-ghost use Rattle.ether_c.specs.Tags.{TellsSet, TellsSetTpid, vlan_value, with_vid, with_control, bad_field};
+ghost use Rattle.ether_c.specs.Tags.{GivesSet, GivesSetTpid, vlan_value, with_vid, with_control, bad_field};
 
 use crate::EtherVlan;
 use crate::numbers::{BAD_FIELD, DONE, UNKNOWN_START, start_of, tag_error};
@@ -22,9 +22,9 @@ pub extern "C" fn etherpeel_set_vlan_id(
     ensures unknown { IsUnknown start ether_type → IsRefused result (frame.new ≡ frame.old) }
     ensures unfit { OfStart start ether_type
         (λ _. 4096 ≤ vid → (result ≡ bad_field) × (frame.new ≡ frame.old)) }
-    ensures told { OfStart start ether_type
+    ensures given { OfStart start ether_type
         (λ s. vid < 4096
-        → TellsSet (packet_start s) index (with_vid vid) frame.old frame.new result) }
+        → GivesSet (packet_start s) index (with_vid vid) frame.old frame.new result) }
 {
     let Some(start) = start_of(start, ether_type) else {
         return UNKNOWN_START;
@@ -52,9 +52,9 @@ pub extern "C" fn etherpeel_set_vlan_tag(
     ensures unfit { OfStart start ether_type
         (λ _. (FitsVlan (vlan_value tag.now) → ⊥)
         → (result ≡ bad_field) × (frame.new ≡ frame.old)) }
-    ensures told { OfStart start ether_type
+    ensures given { OfStart start ether_type
         (λ s. FitsVlan (vlan_value tag.now)
-        → TellsSet (packet_start s) index (with_control (vlan_value tag.now)) frame.old frame.new result) }
+        → GivesSet (packet_start s) index (with_control (vlan_value tag.now)) frame.old frame.new result) }
 {
     let Some(start) = start_of(start, ether_type) else {
         return UNKNOWN_START;
@@ -85,8 +85,8 @@ pub extern "C" fn etherpeel_set_tpid(
     tpid: u16,
 ) -> u32
     ensures unknown { IsUnknown start ether_type → IsRefused result (frame.new ≡ frame.old) }
-    ensures told { OfStart start ether_type
-        (λ s. TellsSetTpid (packet_start s) index tpid frame.old frame.new result) }
+    ensures given { OfStart start ether_type
+        (λ s. GivesSetTpid (packet_start s) index tpid frame.old frame.new result) }
 {
     let Some(start) = start_of(start, ether_type) else {
         return UNKNOWN_START;

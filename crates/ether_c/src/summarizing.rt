@@ -3,7 +3,7 @@ ghost use Rattle.std.specs.Prelude.{◌≡◌, ◌/◌, ◌<◌, length};
 ghost use Rattle.ether_peel.specs.Walker.Start.{start_of as start_meant, limited_start};
 ghost use Rattle.ether_peel.specs.Walker.Limits.{IsFrontOfUnlimited};
 ghost use Rattle.ether_c.specs.Starts.{IsUnknown, IsRefused, OfStart};
-ghost use Rattle.ether_c.specs.Calls.{TellsSummary};
+ghost use Rattle.ether_c.specs.Calls.{GivesSummary};
 
 use crate::EtherFound;
 use crate::numbers::{DONE, UNKNOWN_START, start_of};
@@ -18,8 +18,8 @@ pub extern "C" fn etherpeel_summary(
     found: &mut EtherFound,
 ) -> u32
     ensures unknown { IsUnknown start ether_type → IsRefused result (found.new ≡ found.old) }
-    ensures told { OfStart start ether_type
-        (λ s. TellsSummary (start_meant s) bytes.now result found.new) }
+    ensures given { OfStart start ether_type
+        (λ s. GivesSummary (start_meant s) bytes.now result found.new) }
 {
     let Some(start) = start_of(start, ether_type) else {
         return UNKNOWN_START;
@@ -38,12 +38,12 @@ pub extern "C" fn etherpeel_summary_limited(
     found: &mut EtherFound,
 ) -> u32
     ensures unknown { IsUnknown start ether_type → IsRefused result (found.new ≡ found.old) }
-    ensures told { OfStart start ether_type
-        (λ s. TellsSummary (limited_start s limit) bytes.now result found.new) }
+    ensures given { OfStart start ether_type
+        (λ s. GivesSummary (limited_start s limit) bytes.now result found.new) }
     ensures front { OfStart start ether_type (λ s. IsFrontOfUnlimited s bytes.now limit) }
     ensures spare { OfStart start ether_type (λ s.
         length bytes.now / 4 < limit
-        → TellsSummary (start_meant s) bytes.now result found.new) }
+        → GivesSummary (start_meant s) bytes.now result found.new) }
 {
     let Some(start) = start_of(start, ether_type) else {
         return UNKNOWN_START;

@@ -3,7 +3,7 @@ ghost use Rattle.std.specs.Prelude.{◌≡◌, slice_set};
 ghost use Rattle.ether_peel.specs.Walker.Start.{start_of as start_meant, limited_start, start_with};
 ghost use Rattle.ether_peel.specs.Walker.Next.{begun, FacesWalk};
 ghost use Rattle.ether_c.specs.Starts.{IsUnknown, IsRefused, OfStart};
-ghost use Rattle.ether_c.specs.Walk.{TellsWalk, TellsUnits};
+ghost use Rattle.ether_c.specs.Walk.{GivesWalk, GivesUnits};
 
 use crate::EtherUnit;
 use crate::ether_unit::UnitPlace;
@@ -21,8 +21,8 @@ pub extern "C" fn etherpeel_walk(
 ) -> u32
     ensures unknown { IsUnknown start ether_type
         → IsRefused result ((units.new ≡ units.old) × (count.new ≡ count.old)) }
-    ensures told { OfStart start ether_type
-        (λ s. TellsWalk (start_meant s) bytes.now units.old units.new result count.new) }
+    ensures given { OfStart start ether_type
+        (λ s. GivesWalk (start_meant s) bytes.now units.old units.new result count.new) }
 {
     let Some(start) = start_of(start, ether_type) else {
         return UNKNOWN_START;
@@ -44,8 +44,8 @@ pub extern "C" fn etherpeel_walk_limited(
 ) -> u32
     ensures unknown { IsUnknown start ether_type
         → IsRefused result ((units.new ≡ units.old) × (count.new ≡ count.old)) }
-    ensures told { OfStart start ether_type
-        (λ s. TellsWalk (limited_start s limit) bytes.now units.old units.new result count.new) }
+    ensures given { OfStart start ether_type
+        (λ s. GivesWalk (limited_start s limit) bytes.now units.old units.new result count.new) }
 {
     let Some(start) = start_of(start, ether_type) else {
         return UNKNOWN_START;
@@ -62,7 +62,7 @@ pub(crate) fn walked(
     limit: Option<usize>,
     units: &mut [EtherUnit],
 ) -> usize
-    ensures { TellsUnits (start_with start limit) bytes.now units.old units.new result }
+    ensures { GivesUnits (start_with start limit) bytes.now units.old units.new result }
 {
     let mut peel = begun_walk(start, bytes, limit);
     let mut count = 0;

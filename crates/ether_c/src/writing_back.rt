@@ -2,7 +2,7 @@
 ghost use Rattle.std.specs.Prelude.{◌≡◌};
 ghost use Rattle.ether_peel.specs.Walker.Start.{start_of as start_meant, limited_start};
 ghost use Rattle.ether_c.specs.Starts.{IsUnknown, IsRefused, OfStart};
-ghost use Rattle.ether_c.specs.Calls.{TellsWriteBack, written_status, written_len};
+ghost use Rattle.ether_c.specs.Calls.{GivesWriteBack, written_status, written_len};
 
 use crate::numbers::{DONE, NO_ROOM, UNKNOWN_START, start_of};
 use ether_peel::{write_back, write_back_limited};
@@ -19,13 +19,13 @@ pub extern "C" fn etherpeel_write_back(
 ) -> u32
     ensures unknown { IsUnknown start ether_type
         → IsRefused result ((target.new ≡ target.old) × (len.new ≡ len.old)) }
-    ensures told { OfStart start ether_type
-        (λ s. TellsWriteBack (start_meant s) bytes.now target.old target.new result len.new) }
+    ensures given { OfStart start ether_type
+        (λ s. GivesWriteBack (start_meant s) bytes.now target.old target.new result len.new) }
 {
     let Some(start) = start_of(start, ether_type) else {
         return UNKNOWN_START;
     };
-    let (status, end) = told(write_back(start, bytes, target));
+    let (status, end) = answer(write_back(start, bytes, target));
     *len = end;
     status
 }
@@ -43,21 +43,21 @@ pub extern "C" fn etherpeel_write_back_limited(
 ) -> u32
     ensures unknown { IsUnknown start ether_type
         → IsRefused result ((target.new ≡ target.old) × (len.new ≡ len.old)) }
-    ensures told { OfStart start ether_type
-        (λ s. TellsWriteBack (limited_start s limit) bytes.now target.old target.new
+    ensures given { OfStart start ether_type
+        (λ s. GivesWriteBack (limited_start s limit) bytes.now target.old target.new
         result len.new) }
 {
     let Some(start) = start_of(start, ether_type) else {
         return UNKNOWN_START;
     };
-    let (status, end) = told(write_back_limited(start, bytes, target, limit));
+    let (status, end) = answer(write_back_limited(start, bytes, target, limit));
     *len = end;
     status
 }
 
 /// The status of the call, and its length: the number of bytes that were written, or that the
 /// target needs.
-fn told(written: Result<usize, SliceWriteSpaceError>) -> (u32, usize)
+fn answer(written: Result<usize, SliceWriteSpaceError>) -> (u32, usize)
     ensures status { result.0 ≡ written_status written }
     ensures len { result.1 ≡ written_len written }
 {

@@ -1,7 +1,7 @@
 use Rattle.std.proofs.Common.{◌≡◌, ◌+◌, length, sym, ap, subst, arith, rules}
 use Rattle.std.specs.Iterator.{size}
 use Rattle.ether_pcap.specs.CaptureReading.{State, items_left}
-use Rattle.ether_c.proofs.CapturedTold.{CapturedSoFar, captured_first, captured_packet, captured_fault, captured_none}
+use Rattle.ether_c.proofs.CapturedGiven.{CapturedSoFar, captured_first, captured_packet, captured_fault, captured_none}
 use Rattle.ether_c.proofs.capturing.captured.Goals as goal
 
 pub loop-packet-init : goal.loop-packet-init

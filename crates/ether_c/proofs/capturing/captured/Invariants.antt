@@ -1,7 +1,7 @@
 use Rattle.std.proofs.Common.{◌+◌, ◌≤◌, length}
 use Rattle.std.specs.Iterator.{size}
 use Rattle.ether_pcap.specs.CaptureReading.{items_left}
-use Rattle.ether_c.proofs.CapturedTold.{CapturedSoFar}
+use Rattle.ether_c.proofs.CapturedGiven.{CapturedSoFar}
 use Rattle.ether_c.proofs.capturing.captured.Given as goal
 
 abbrev pub invariant-loop-packet : goal.invariant-loop-packet

@@ -5,10 +5,10 @@ use Rattle.ether_peel.specs.Walker.Start.{start_of}
 use Rattle.ether_peel.specs.Walker.Next.{items_left}
 use Rattle.ether_peel.proofs.Walker.Summarizing.{unit_next}
 use Rattle.ether_c.specs.Views.{header_of}
-use Rattle.ether_c.specs.FieldViews.{put_all, told_placed_fields}
-use Rattle.ether_c.proofs.UnitsTold.{UnitTold, unit_told}
+use Rattle.ether_c.specs.FieldViews.{put_all, c_placed_fields}
+use Rattle.ether_c.proofs.UnitsGiven.{UnitGiven, unit_given}
 use Rattle.ether_c.proofs.FieldLists.{few_fields}
-use Rattle.ether_c.proofs.FieldsTold.{UnitPlaced, unit_placed, fields_first, fields_unit, fields_fault, fields_none}
+use Rattle.ether_c.proofs.FieldsGiven.{UnitPlaced, unit_placed, fields_first, fields_unit, fields_fault, fields_none}
 use Rattle.ether_c.proofs.fields.fields_walked.Goals as goal
 use Rattle.ether_c.proofs.fields.fields_walked.Goals.{In-Some-Ok}
 
@@ -25,25 +25,25 @@ loop-unit-init c =
     )
 
 -- the unit that is given
-told : (c : In-Some-Ok)
+given : (c : In-Some-Ok)
     → (let a = c.loop-unit.invariant.1
-    in UnitTold c.args.bytes.now a.window a.left a.ending c.loop-unit.peel c.next.new.self c.in-Some-Ok.unit)
-told c =
+    in UnitGiven c.args.bytes.now a.window a.left a.ending c.loop-unit.peel c.next.new.self c.in-Some-Ok.unit)
+given c =
     let a = c.loop-unit.invariant.1 in
     let gives = rw c.in-Some-Ok.field-0-is at c.in-Some-Ok.ensures.steps in
     let next = unit_next c.args.bytes.now a.window a.left a.ending c.loop-unit.peel c.next.new.self c.in-Some-Ok.unit
     (gives.next a.going c.args.bytes.now a.window a.left a.ending a.faces) in
-    unit_told c.args.bytes.now a.window a.left a.ending c.loop-unit.peel c.next.new.self c.in-Some-Ok.unit
+    unit_given c.args.bytes.now a.window a.left a.ending c.loop-unit.peel c.next.new.self c.in-Some-Ok.unit
     (λ i. omega (arith, c.type_inv.bytes i)) a.faces next
 
 -- .. is in the frame
 placed : (c : In-Some-Ok)
     → (let a = c.loop-unit.invariant.1
-    in UnitPlaced c.args.bytes.now a.window c.loop-unit.peel c.next.new.self c.in-Some-Ok.unit (told c).next.header)
+    in UnitPlaced c.args.bytes.now a.window c.loop-unit.peel c.next.new.self c.in-Some-Ok.unit (given c).next.header)
 placed c =
     let a = c.loop-unit.invariant.1 in
     unit_placed c.args.bytes.now a.window a.left a.ending c.loop-unit.peel c.next.new.self c.in-Some-Ok.unit a.faces
-    (told c)
+    (given c)
 
 pub put_unit-count-requires-clause-header : goal.put_unit-count-requires-clause-header
 put_unit-count-requires-clause-header c =
@@ -74,13 +74,13 @@ loop-unit-preserved c =
     let rest = c.rest.ensures in
     let put = c.put_unit-count.ensures.fields
     ∙ (λ i. put_all c.loop-unit.fields c.loop-unit.count
-    (told_placed_fields c.args.bytes.now c.loop-unit.index (from i) (to i + length (rest i))
+    (c_placed_fields c.args.bytes.now c.loop-unit.index (from i) (to i + length (rest i))
     (header_of c.in-Some-Ok.unit))) in (
       omega arith,
       fields_unit (start_of c.args.start) c.args.bytes.now c.loop-unit.peel c.next.new.self c.in-Some-Ok.unit
           c.loop-unit.index c.loop-unit.count c.put_unit-count.result
           c.args.fields.now c.loop-unit.fields c.put_unit-count.new.fields c.loop-unit.invariant.1
-          (told (goal.at.loop-unit-preserved c).In-Some-Ok) put c.put_unit-count.ensures.next,
+          (given (goal.at.loop-unit-preserved c).In-Some-Ok) put c.put_unit-count.ensures.next,
     )
 
 pub returns-in-Some-Err : goal.returns-in-Some-Err

@@ -2,7 +2,7 @@ use Rattle.std.proofs.Common.{◌+◌, ◌/◌, ◌≤◌, length}
 use Rattle.std.specs.Iterator.{size}
 use Rattle.ether_peel.specs.Walker.Start.{start_of}
 use Rattle.ether_peel.specs.Walker.Next.{items_left}
-use Rattle.ether_c.proofs.FieldsTold.{FieldsSoFar}
+use Rattle.ether_c.proofs.FieldsGiven.{FieldsSoFar}
 use Rattle.ether_c.proofs.fields.fields_walked.Given as goal
 
 abbrev pub invariant-loop-unit : goal.invariant-loop-unit

@@ -4,8 +4,8 @@ use Rattle.ether_peel.specs.Walker.State.{State}
 use Rattle.ether_peel.specs.Walker.Start.{start_with}
 use Rattle.ether_peel.specs.Walker.Next.{items_left}
 use Rattle.ether_peel.proofs.Walker.Summarizing.{unit_next}
-use Rattle.ether_c.specs.Views.{told_view}
-use Rattle.ether_c.proofs.UnitsTold.{UnitTold, unit_told, tells_first, tells_unit, tells_fault, tells_none}
+use Rattle.ether_c.specs.Views.{c_view}
+use Rattle.ether_c.proofs.UnitsGiven.{UnitGiven, unit_given, gives_first, gives_unit, gives_fault, gives_none}
 use Rattle.ether_c.proofs.walking.walked.Goals as goal
 use Rattle.ether_c.proofs.walking.walked.Goals.{In-Some-Ok}
 
@@ -17,25 +17,25 @@ loop-unit-init c =
     let left : size (items_left c.begun_walk-peel.result)
     ≡ length list / 4 + 1 = ap (λ (s : State). size (items_left s)) c.begun_walk-peel.ensures.state in (
       omega arith,
-      tells_first (start_with c.args.start c.args.limit) list c.begun_walk-peel.result c.args.units.now
+      gives_first (start_with c.args.start c.args.limit) list c.begun_walk-peel.result c.args.units.now
           walk.headers walk.ending walk.walk walk.faces going,
     )
 
 -- the unit that is given
-told : (c : In-Some-Ok)
+given : (c : In-Some-Ok)
     → (let a = c.loop-unit.invariant.1
-    in UnitTold c.args.bytes.now a.window a.left a.ending c.loop-unit.peel c.next.new.self c.in-Some-Ok.unit)
-told c =
+    in UnitGiven c.args.bytes.now a.window a.left a.ending c.loop-unit.peel c.next.new.self c.in-Some-Ok.unit)
+given c =
     let a = c.loop-unit.invariant.1 in
     let gives = rw c.in-Some-Ok.field-0-is at c.in-Some-Ok.ensures.steps in
     let next = unit_next c.args.bytes.now a.window a.left a.ending c.loop-unit.peel c.next.new.self c.in-Some-Ok.unit
     (gives.next a.going c.args.bytes.now a.window a.left a.ending a.faces) in
-    unit_told c.args.bytes.now a.window a.left a.ending c.loop-unit.peel c.next.new.self c.in-Some-Ok.unit
+    unit_given c.args.bytes.now a.window a.left a.ending c.loop-unit.peel c.next.new.self c.in-Some-Ok.unit
     (λ i. omega (arith, c.type_inv.bytes i)) a.faces next
 
 pub of-requires : goal.of-requires
 of-requires c =
-    let after = (told (goal.at.of-requires c).In-Some-Ok).after in
+    let after = (given (goal.at.of-requires c).In-Some-Ok).after in
     let from = c.offset-offset.ensures.value in
     let to = c.offset.ensures.value in
     omega arith
@@ -49,21 +49,21 @@ loop-unit-preserved c =
     let again = c.offset-in-Some-Ok.ensures.value in
     let rest = c.rest.ensures in
     let mark = c.closed.ensures in
-    let shown = c.of.ensures ∙ (λ i. told_view c.in-Some-Ok.unit (from i) (to i) (again i + length (rest i)) (mark i))
+    let shown = c.of.ensures ∙ (λ i. c_view c.in-Some-Ok.unit (from i) (to i) (again i + length (rest i)) (mark i))
     in (
       omega arith,
-      tells_unit (start_with c.args.start c.args.limit) c.args.bytes.now c.loop-unit.peel c.next.new.self
+      gives_unit (start_with c.args.start c.args.limit) c.args.bytes.now c.loop-unit.peel c.next.new.self
           c.in-Some-Ok.unit c.loop-unit.count c.args.units.now c.loop-unit.units c.put.new.units c.of.result
-          c.loop-unit.invariant.1 (told (goal.at.loop-unit-preserved c).In-Some-Ok) shown c.put.ensures,
+          c.loop-unit.invariant.1 (given (goal.at.loop-unit-preserved c).In-Some-Ok) shown c.put.ensures,
     )
 
 pub returns-in-Some-Err : goal.returns-in-Some-Err
 returns-in-Some-Err c =
     let gives = rw c.in-Some-Err.field-0-is at c.in-Some-Err.ensures.steps in
-    tells_fault (start_with c.args.start c.args.limit) c.args.bytes.now c.loop-unit.peel c.next.new.self
+    gives_fault (start_with c.args.start c.args.limit) c.args.bytes.now c.loop-unit.peel c.next.new.self
     c.loop-unit.count c.in-Some-Err.field-0-0 c.args.units.now c.loop-unit.units c.loop-unit.invariant.1 gives
 
 pub returns-in-None : goal.returns-in-None
 returns-in-None c =
-    tells_none (start_with c.args.start c.args.limit) c.args.bytes.now c.loop-unit.peel c.next.new.self
+    gives_none (start_with c.args.start c.args.limit) c.args.bytes.now c.loop-unit.peel c.next.new.self
     c.loop-unit.count c.args.units.now c.loop-unit.units c.loop-unit.invariant.1 c.in-None.ensures.steps

@@ -10,24 +10,24 @@ use Rattle.ether_pcap.specs.declared.captured_packet.CapturedPacket.{CapturedPac
 use Rattle.ether_pcap.specs.declared.capture_fault.CaptureFault.{CaptureFault}
 use Rattle.ether_pcap.proofs.CaptureSome.{some_packets}
 use Rattle.ether_c.specs.declared.ether_captured.EtherCaptured.{EtherCaptured}
-use Rattle.ether_c.specs.Captured.{IsToldPacket, AreTold, HasCaptured}
-use Rattle.ether_c.proofs.UnitsTold.{Holds, put_next}
+use Rattle.ether_c.specs.Captured.{HoldsPacket, HoldPackets, HasCaptured}
+use Rattle.ether_c.proofs.UnitsGiven.{Holds, put_next}
 
--- ---- packets that are told
+-- ---- packets that are given
 
-told-append : (cs : List EtherCaptured) (ps : List PacketValue) (c : EtherCaptured) (p : PacketValue) → AreTold cs ps
-    → IsToldPacket c p
-    → AreTold (cs ++ c ∷ []) (ps ++ p ∷ [])
-told-append [] [] c p are is = (is, tt)
-told-append [] (q ∷ qs) c p are is = absurd are
-told-append (d ∷ ds) [] c p are is = absurd are
-told-append (d ∷ ds) (q ∷ qs) c p are is = (are.0, told-append ds qs c p are.1 is)
+given-append : (cs : List EtherCaptured) (ps : List PacketValue) (c : EtherCaptured) (p : PacketValue) → HoldPackets cs ps
+    → HoldsPacket c p
+    → HoldPackets (cs ++ c ∷ []) (ps ++ p ∷ [])
+given-append [] [] c p are is = (is, tt)
+given-append [] (q ∷ qs) c p are is = absurd are
+given-append (d ∷ ds) [] c p are is = absurd are
+given-append (d ∷ ds) (q ∷ qs) c p are is = (are.0, given-append ds qs c p are.1 is)
 
-told-length : (cs : List EtherCaptured) (ps : List PacketValue) → AreTold cs ps → length cs ≡ length ps
-told-length [] [] are = refl
-told-length [] (q ∷ qs) are = absurd are
-told-length (d ∷ ds) [] are = absurd are
-told-length (d ∷ ds) (q ∷ qs) are = ap suc (told-length ds qs are.1)
+given-length : (cs : List EtherCaptured) (ps : List PacketValue) → HoldPackets cs ps → length cs ≡ length ps
+given-length [] [] are = refl
+given-length [] (q ∷ qs) are = absurd are
+given-length (d ∷ ds) [] are = absurd are
+given-length (d ∷ ds) (q ∷ qs) are = ap suc (given-length ds qs are.1)
 
 -- ---- what comes next
 
@@ -102,10 +102,10 @@ pub record CapturedSoFar (file : List ℕ) (s : State) (count : ℕ) (old new : 
   pub place : s.offset + length s.rest ≡ length file
   pub before : List PacketValue
   pub parts : packets ≡ before ++ todo
-  pub told : List EtherCaptured
-  pub are : AreTold told before
-  pub counted : count ≡ length told
-  pub held : Holds told old new count
+  pub given : List EtherCaptured
+  pub are : HoldPackets given before
+  pub counted : count ≡ length given
+  pub held : Holds given old new count
 
 pub captured_first : (file : List ℕ) (old : List EtherCaptured) → CapturedSoFar file (start file) 0 old old
 captured_first file old =
@@ -121,7 +121,7 @@ captured_first file old =
       place = omega arith;
       before = [];
       parts = refl;
-      told = [];
+      given = [];
       are = tt;
       counted = refl;
       held = ap (λ (l : List EtherCaptured). l ++ old) (sym (take-nil (length old)));
@@ -129,7 +129,7 @@ captured_first file old =
 
 pub captured_packet : (file : List ℕ) (s t : State) (q : CapturedPacket) (count : ℕ)
     (old mid new : List EtherCaptured) (c : EtherCaptured) → CapturedSoFar file s count old mid
-    → Gives s (Some (Ok q)) t → IsToldPacket c (captured_packet_view q) → new ≡ set mid count c
+    → Gives s (Some (Ok q)) t → HoldsPacket c (captured_packet_view q) → new ≡ set mid count c
     → CapturedSoFar file t (count + 1) old new
 captured_packet file s t q count old mid new c a gives is put =
     let n = packet_next a.todo a.left a.fault s t q (gives.next a.going a.todo a.left a.fault a.rest) in
@@ -147,24 +147,24 @@ captured_packet file s t q count old mid new c a gives is put =
       before = a.before ++ p ∷ [];
       parts = a.parts ∙ ap (λ (l : List PacketValue). a.before ++ l) n.parts
           ∙ sym (append_assoc a.before (p ∷ []) n.later);
-      told = a.told ++ c ∷ [];
-      are = told-append a.told a.before c p a.are is;
-      counted = let e = length-append a.told (c ∷ []) in omega arith;
-      held = put ∙ put_next a.told old mid c count a.counted a.held;
+      given = a.given ++ c ∷ [];
+      are = given-append a.given a.before c p a.are is;
+      counted = let e = length-append a.given (c ∷ []) in omega arith;
+      held = put ∙ put_next a.given old mid c count a.counted a.held;
     }
 
 -- ---- the end
 
-all_told : (file : List ℕ) (s : State) (count : ℕ) (old new : List EtherCaptured)
+all_given : (file : List ℕ) (s : State) (count : ℕ) (old new : List EtherCaptured)
     (a : CapturedSoFar file s count old new) → a.todo ≡ [] → a.packets ≡ a.before
-all_told file s count old new a none = a.parts ∙ ap (λ (l : List PacketValue). a.before ++ l) none ∙ append-nil a.before
+all_given file s count old new a none = a.parts ∙ ap (λ (l : List PacketValue). a.before ++ l) none ∙ append-nil a.before
 
 pub captured_fault : (file : List ℕ) (s t : State) (f : CaptureFault) (count : ℕ) (old new : List EtherCaptured)
     → CapturedSoFar file s count old new
     → Gives s (Some (Err f)) t → HasCaptured file old new count (Some f)
 captured_fault file s t f count old new a gives =
     let n = fault_next a.todo a.left a.fault s t f (gives.next a.going a.todo a.left a.fault a.rest) in
-    let all = all_told file s count old new a n.none_left in
+    let all = all_given file s count old new a n.none_left in
     let place = gives.place a.going ∙ a.place in
     let at = n.place in
     let rest : length t.rest ≡ length a.left = ap length n.rest in
@@ -173,9 +173,9 @@ captured_fault file s t f count old new a gives =
       left = a.left;
       has = subst (λ (r : Option CaptureRefusal). HasPackets Beginning file a.packets a.left r) n.refusal a.has;
       place = omega arith;
-      told = a.told;
-      are = subst (λ (ps : List PacketValue). AreTold a.told ps) (sym all) a.are;
-      counted = a.counted ∙ told-length a.told a.before a.are ∙ ap length (sym all);
+      given = a.given;
+      are = subst (λ (ps : List PacketValue). HoldPackets a.given ps) (sym all) a.are;
+      counted = a.counted ∙ given-length a.given a.before a.are ∙ ap length (sym all);
       held = a.held;
     }
 
@@ -184,14 +184,14 @@ pub captured_none : (file : List ℕ) (s t : State) (count : ℕ) (old new : Lis
     → Gives s None t → HasCaptured file old new count None
 captured_none file s t count old new a gives =
     let n = none_next a.todo a.left a.fault s t (gives.next a.going a.todo a.left a.fault a.rest) in
-    let all = all_told file s count old new a n.none_left in
+    let all = all_given file s count old new a n.none_left in
     record {
       packets = a.packets;
       left = a.left;
       has = subst (λ (r : Option CaptureRefusal). HasPackets Beginning file a.packets a.left r) n.no_fault a.has;
       place = tt;
-      told = a.told;
-      are = subst (λ (ps : List PacketValue). AreTold a.told ps) (sym all) a.are;
-      counted = a.counted ∙ told-length a.told a.before a.are ∙ ap length (sym all);
+      given = a.given;
+      are = subst (λ (ps : List PacketValue). HoldPackets a.given ps) (sym all) a.are;
+      counted = a.counted ∙ given-length a.given a.before a.are ∙ ap length (sym all);
       held = a.held;
     }

@@ -18,9 +18,9 @@ use Rattle.ether_c.specs.declared.ether_unit.EtherUnit.{EtherUnit}
 use Rattle.ether_c.specs.declared.ether_field.EtherField.{EtherField}
 use Rattle.ether_c.specs.Views.{header_of}
 use Rattle.ether_c.specs.FieldTables.{header_fields, trailer_fields, moved}
-use Rattle.ether_c.specs.Fields.{told_field, told_fields, HasFields}
-use Rattle.ether_c.specs.FieldViews.{put_all, told_placed_fields}
-use Rattle.ether_c.proofs.UnitsTold.{Holds, UnitTold}
+use Rattle.ether_c.specs.Fields.{c_field, c_fields, HasFields}
+use Rattle.ether_c.specs.FieldViews.{put_all, c_placed_fields}
+use Rattle.ether_c.proofs.UnitsGiven.{Holds, UnitGiven}
 use Rattle.ether_c.proofs.FieldLists.{put_all_next, few_fields, length-placed}
 
 -- ---- a walk that is under way
@@ -35,7 +35,7 @@ pub record FieldsSoFar (start : Expectation) (list : List ℕ) (s : State) (inde
   pub faces : Faces list window s left ending
   pub going : s.over ≡ false
   pub front : List EtherField
-  pub parts : told_fields list 0 (whole start list) headers ≡ front ++ told_fields list index window left
+  pub parts : c_fields list 0 (whole start list) headers ≡ front ++ c_fields list index window left
   pub counted : count ≡ length front
   pub few : count ≤ 2 * s.offset
   pub holds : Holds front old new count
@@ -80,11 +80,11 @@ pub record UnitPlaced (list : List ℕ) (w : Window) (s t : State) (u : PeelUnit
 
 pub unit_placed : (list : List ℕ) (w : Window) (left : List Header) (e : Ending) (s t : State) (u : PeelUnit)
     → Faces list w s left e
-    → (n : UnitTold list w left e s t u) → UnitPlaced list w s t u n.next.header
+    → (n : UnitGiven list w left e s t u) → UnitPlaced list w s t u n.next.header
 unit_placed list w left e s t u faces n =
     let h = n.next.header in
     let inner = n.next.faces in
-    let end : t.offset + length t.rest ≡ (payload w h).finish = ap (λ (x : EtherUnit). x.payload_end) n.told in
+    let end : t.offset + length t.rest ≡ (payload w h).finish = ap (λ (x : EtherUnit). x.payload_end) n.given in
     let after = n.after in
     let at = inner.offset in
     let ordered = inner.inside.ordered in
@@ -93,7 +93,7 @@ unit_placed list w left e s t u faces n =
     inside in
     let len = ap trailer_len n.header in
     record {
-      from = ap (λ (x : EtherUnit). x.offset) n.told;
+      from = ap (λ (x : EtherUnit). x.offset) n.given;
       end = end;
       header = omega arith;
       trailer = omega arith;
@@ -101,21 +101,21 @@ unit_placed list w left e s t u faces n =
 
 pub fields_unit : (start : Expectation) (list : List ℕ) (s t : State) (u : PeelUnit) (index count next : ℕ)
     (old mid new : List EtherField)
-    (a : FieldsSoFar start list s index count old mid) (n : UnitTold list a.window a.left a.ending s t u)
-    → new ≡ put_all mid count (told_placed_fields list index s.offset (t.offset + length t.rest) (header_of u))
+    (a : FieldsSoFar start list s index count old mid) (n : UnitGiven list a.window a.left a.ending s t u)
+    → new ≡ put_all mid count (c_placed_fields list index s.offset (t.offset + length t.rest) (header_of u))
     → next ≡ count + length (header_fields (header_of u)) + length (trailer_fields (header_of u))
     → FieldsSoFar start list t (index + 1) next old new
 fields_unit start list s t u index count next old mid new a n put more =
     let h = n.next.header in
     let w = a.window in
     let placed = unit_placed list w a.left a.ending s t u a.faces n in
-    let own = told_placed_fields list index w.start (payload w h).finish h in
-    let later = told_fields list (index + 1) (payload w h) n.next.later in
-    let same : told_placed_fields list index s.offset (t.offset + length t.rest) (header_of u) ≡ own =
-    λ i. told_placed_fields list index (placed.from i) (placed.end i) (n.header i) in
-    let joined : told_fields list index w (h ∷ n.next.later) ≡ own ++ later =
+    let own = c_placed_fields list index w.start (payload w h).finish h in
+    let later = c_fields list (index + 1) (payload w h) n.next.later in
+    let same : c_placed_fields list index s.offset (t.offset + length t.rest) (header_of u) ≡ own =
+    λ i. c_placed_fields list index (placed.from i) (placed.end i) (n.header i) in
+    let joined : c_fields list index w (h ∷ n.next.later) ≡ own ++ later =
     ap (λ (l : List EtherField). l ++ later)
-    (map-append (told_field list index) (map (moved w.start) (header_fields h))
+    (map-append (c_field list index) (map (moved w.start) (header_fields h))
     (map (moved (payload w h).finish) (trailer_fields h))) in
     let own_length : length own
     ≡ length (header_fields h) + length (trailer_fields h) = length-placed list index w.start (payload w h).finish
@@ -137,7 +137,7 @@ fields_unit start list s t u index count next old mid new a n put more =
       faces = n.next.faces;
       going = n.next.going;
       front = a.front ++ own;
-      parts = a.parts ∙ ap (λ (l : List Header). a.front ++ told_fields list index w l) n.next.parts
+      parts = a.parts ∙ ap (λ (l : List Header). a.front ++ c_fields list index w l) n.next.parts
           ∙ ap (λ (l : List EtherField). a.front ++ l) joined
           ∙ sym (append_assoc a.front own later);
       counted = let e = length-append a.front own in omega arith;
@@ -152,8 +152,8 @@ fields_end : (start : Expectation) (list : List ℕ) (s : State) (index count : 
     (a : FieldsSoFar start list s index count old new)
     → a.left ≡ [] → HasFields start list old new count
 fields_end start list s index count old new a none =
-    let all : told_fields list 0 (whole start list) a.headers ≡ a.front =
-    a.parts ∙ ap (λ (l : List Header). a.front ++ told_fields list index a.window l) none ∙ append-nil a.front in
+    let all : c_fields list 0 (whole start list) a.headers ≡ a.front =
+    a.parts ∙ ap (λ (l : List Header). a.front ++ c_fields list index a.window l) none ∙ append-nil a.front in
     record {
       headers = a.headers;
       ending = a.ending;

@@ -20,9 +20,9 @@ use Rattle.ether_peel.proofs.Walker.ViewValues.{ethernet2_shown, linux_sll_shown
 use Rattle.ether_peel.proofs.Walker.Summarizing.{UnitNext, fault_next, none_next}
 use Rattle.ether_peel.proofs.Grammar.Stacks.{one_stack}
 use Rattle.ether_c.specs.declared.ether_unit.EtherUnit.{EtherUnit}
-use Rattle.ether_c.specs.Units.{told_unit, told_units}
-use Rattle.ether_c.specs.Views.{header_of, told_placed, told_view}
-use Rattle.ether_c.specs.Walk.{TellsUnits}
+use Rattle.ether_c.specs.Units.{c_unit, c_units}
+use Rattle.ether_c.specs.Views.{header_of, c_placed, c_view}
+use Rattle.ether_c.specs.Walk.{GivesUnits}
 
 -- ---- the header of a view
 
@@ -89,7 +89,7 @@ put_next front old mid u count counted held =
 
 -- ---- a walk that is under way
 
-pub record TellsSoFar (start : Expectation) (list : List ℕ) (s : State) (count : ℕ) (old new : List EtherUnit) : Type
+pub record GivesSoFar (start : Expectation) (list : List ℕ) (s : State) (count : ℕ) (old new : List EtherUnit) : Type
     0 where
   pub headers : List Header
   pub ending : Ending
@@ -99,14 +99,14 @@ pub record TellsSoFar (start : Expectation) (list : List ℕ) (s : State) (count
   pub faces : Faces list window s left ending
   pub going : s.over ≡ false
   pub front : List EtherUnit
-  pub parts : told_units (whole start list) headers ≡ front ++ told_units window left
+  pub parts : c_units (whole start list) headers ≡ front ++ c_units window left
   pub counted : count ≡ length front
   pub holds : Holds front old new count
 
-pub tells_first : (start : Expectation) (list : List ℕ) (s : State) (old : List EtherUnit) (hs : List Header)
+pub gives_first : (start : Expectation) (list : List ℕ) (s : State) (old : List EtherUnit) (hs : List Header)
     (e : Ending) → Walk start list hs e → Faces list (whole start list) s hs e → s.over ≡ false
-    → TellsSoFar start list s 0 old old
-tells_first start list s old hs e walk faces going = record {
+    → GivesSoFar start list s 0 old old
+gives_first start list s old hs e walk faces going = record {
   headers = hs;
   ending = e;
   walk = walk;
@@ -123,12 +123,12 @@ tells_first start list s old hs e walk faces going = record {
 -- ---- a unit
 
 -- the unit that is given, and its places
-pub record UnitTold (list : List ℕ) (w : Window) (left : List Header) (e : Ending) (s t : State) (u : PeelUnit) : Type
+pub record UnitGiven (list : List ℕ) (w : Window) (left : List Header) (e : Ending) (s t : State) (u : PeelUnit) : Type
     0 where
   pub next : UnitNext list w left e s t u
   pub header : header_of u ≡ next.header
   pub after : s.offset + header_len (header_of u) ≡ t.offset
-  pub told : told_view u s.offset t.offset (t.offset + length t.rest) t.closed ≡ told_unit w next.header
+  pub given : c_view u s.offset t.offset (t.offset + length t.rest) t.closed ≡ c_unit w next.header
 
 same_end : (list : List ℕ) (w : Window) (s : State) (hs : List Header) (e : Ending) → Faces list w s hs e
     → s.offset + length s.rest ≡ w.finish
@@ -139,9 +139,9 @@ same_end list w s hs e faces =
     ∙ length-part list w.start w.finish faces.inside.inside in
     omega arith
 
-pub unit_told : (list : List ℕ) (w : Window) (left : List Header) (e : Ending) (s t : State) (u : PeelUnit)
-    → IsBytes list → Faces list w s left e → UnitNext list w left e s t u → UnitTold list w left e s t u
-unit_told list w left e s t u ok faces n =
+pub unit_given : (list : List ℕ) (w : Window) (left : List Header) (e : Ending) (s t : State) (u : PeelUnit)
+    → IsBytes list → Faces list w s left e → UnitNext list w left e s t u → UnitGiven list w left e s t u
+unit_given list w left e s t u ok faces n =
     let own = subst (λ (l : List Header). Faces list w s l e) n.parts faces in
     let unit = own.stack.0 in
     let shows = subst (λ (l : List ℕ). ShowsUnit l t.rest n.header u) own.rest n.shows in
@@ -152,28 +152,28 @@ unit_told list w left e s t u ok faces n =
     let to = inner.offset in
     let end = same_end list (payload w n.header) t n.later e inner in
     let mark = inner.closed in
-    let places : told_view u s.offset t.offset (t.offset + length t.rest) t.closed
-    ≡ told_placed n.header w.start (payload w n.header).start (payload w n.header).finish
+    let places : c_view u s.offset t.offset (t.offset + length t.rest) t.closed
+    ≡ c_placed n.header w.start (payload w n.header).start (payload w n.header).finish
     (payload w n.header).closed =
-    λ i. told_placed (same i) (from i) (to i) (end i) (mark i) in
+    λ i. c_placed (same i) (from i) (to i) (end i) (mark i) in
     let long : (payload w n.header).start - w.start ≡ header_len n.header = omega arith in
     let len = ap header_len same in
     record {
       next = n;
       header = same;
       after = omega arith;
-      told = places ∙ (λ i. record (told_unit w n.header) { header_len = long i });
+      given = places ∙ (λ i. record (c_unit w n.header) { header_len = long i });
     }
 
-pub tells_unit : (start : Expectation) (list : List ℕ) (s t : State) (u : PeelUnit) (count : ℕ)
-    (old mid new : List EtherUnit) (told : EtherUnit) (a : TellsSoFar start list s count old mid)
-    (n : UnitTold list a.window a.left a.ending s t u)
-    → told ≡ told_view u s.offset t.offset (t.offset + length t.rest) t.closed → new ≡ set mid count told
-    → TellsSoFar start list t (count + 1) old new
-tells_unit start list s t u count old mid new told a n is put =
+pub gives_unit : (start : Expectation) (list : List ℕ) (s t : State) (u : PeelUnit) (count : ℕ)
+    (old mid new : List EtherUnit) (given : EtherUnit) (a : GivesSoFar start list s count old mid)
+    (n : UnitGiven list a.window a.left a.ending s t u)
+    → given ≡ c_view u s.offset t.offset (t.offset + length t.rest) t.closed → new ≡ set mid count given
+    → GivesSoFar start list t (count + 1) old new
+gives_unit start list s t u count old mid new given a n is put =
     let h = n.next.header in
-    let unit = told_unit a.window h in
-    let later = told_units (payload a.window h) n.next.later in
+    let unit = c_unit a.window h in
+    let later = c_units (payload a.window h) n.next.later in
     let counted = a.counted in
     record {
       headers = a.headers;
@@ -184,43 +184,43 @@ tells_unit start list s t u count old mid new told a n is put =
       faces = n.next.faces;
       going = n.next.going;
       front = a.front ++ unit ∷ [];
-      parts = a.parts ∙ ap (λ (l : List Header). a.front ++ told_units a.window l) n.next.parts
+      parts = a.parts ∙ ap (λ (l : List Header). a.front ++ c_units a.window l) n.next.parts
           ∙ sym (append_assoc a.front (unit ∷ []) later);
       counted = let e = length-append a.front (unit ∷ []) in omega arith;
-      holds = put ∙ ap (set mid count) (is ∙ n.told) ∙ put_next a.front old mid unit count a.counted a.holds;
+      holds = put ∙ ap (set mid count) (is ∙ n.given) ∙ put_next a.front old mid unit count a.counted a.holds;
     }
 
 -- ---- the end
 
-length-told : (w : Window) (hs : List Header) → length (told_units w hs) ≡ length hs
-length-told w [] = refl
-length-told w (h ∷ hs) = ap suc (length-told (payload w h) hs)
+length-given : (w : Window) (hs : List Header) → length (c_units w hs) ≡ length hs
+length-given w [] = refl
+length-given w (h ∷ hs) = ap suc (length-given (payload w h) hs)
 
-tells_end : (start : Expectation) (list : List ℕ) (s : State) (count : ℕ) (old new : List EtherUnit)
-    (a : TellsSoFar start list s count old new) → a.left ≡ [] → TellsUnits start list old new count
-tells_end start list s count old new a none =
-    let all : told_units (whole start list) a.headers ≡ a.front = a.parts
-    ∙ ap (λ (l : List Header). a.front ++ told_units a.window l) none ∙ append-nil a.front in
+gives_end : (start : Expectation) (list : List ℕ) (s : State) (count : ℕ) (old new : List EtherUnit)
+    (a : GivesSoFar start list s count old new) → a.left ≡ [] → GivesUnits start list old new count
+gives_end start list s count old new a none =
+    let all : c_units (whole start list) a.headers ≡ a.front = a.parts
+    ∙ ap (λ (l : List Header). a.front ++ c_units a.window l) none ∙ append-nil a.front in
     record {
       headers = a.headers;
       ending = a.ending;
       walk = a.walk;
       one = λ ks f other. one_stack list start (whole start list) ks a.headers f a.ending other a.walk;
-      counted = a.counted ∙ sym (ap length all) ∙ length-told (whole start list) a.headers;
+      counted = a.counted ∙ sym (ap length all) ∙ length-given (whole start list) a.headers;
       units = a.holds ∙ ap (λ (l : List EtherUnit). take (length old) l ++ drop count old) (sym all);
     }
 
-pub tells_fault : (start : Expectation) (list : List ℕ) (s t : State) (count : ℕ) (f : PeelFault)
-    (old new : List EtherUnit) → TellsSoFar start list s count old new → Gives s (Some (Err f)) t
-    → TellsUnits start list old new count
-tells_fault start list s t count f old new a gives =
-    tells_end start list s count old new a
+pub gives_fault : (start : Expectation) (list : List ℕ) (s t : State) (count : ℕ) (f : PeelFault)
+    (old new : List EtherUnit) → GivesSoFar start list s count old new → Gives s (Some (Err f)) t
+    → GivesUnits start list old new count
+gives_fault start list s t count f old new a gives =
+    gives_end start list s count old new a
     (fault_next list a.window a.left a.ending s t f
     (gives.next a.going list a.window a.left a.ending a.faces)).none_left
 
-pub tells_none : (start : Expectation) (list : List ℕ) (s t : State) (count : ℕ) (old new : List EtherUnit)
-    → TellsSoFar start list s count old new → Gives s None t → TellsUnits start list old new count
-tells_none start list s t count old new a gives =
-    tells_end start list s count old new a
+pub gives_none : (start : Expectation) (list : List ℕ) (s t : State) (count : ℕ) (old new : List EtherUnit)
+    → GivesSoFar start list s count old new → Gives s None t → GivesUnits start list old new count
+gives_none start list s t count old new a gives =
+    gives_end start list s count old new a
     (none_next list a.window a.left a.ending s t
     (gives.next a.going list a.window a.left a.ending a.faces)).none_left
