@@ -1,4 +1,4 @@
-//! Tests of `ether_filter`, and what callers learn of the derived traits of its types. They stand above it so that it is proved
+//! Tests of `ether_filter`, and what callers learn of the derived traits of its types. They are in a crate above it, so that it is proved
 //! once.
 #![tactic(auto)]
 

@@ -1,12 +1,11 @@
-//! Tests of `ether_peel`, and what callers learn of the derived traits of its types. They stand above it so that it is proved
-//! once.
+//! Tests of `ether_peel`, and what callers learn of the derived traits of its types. They are in a crate above it, so that it
+//! is proved once.
 #![tactic(auto)]
 
 #[cfg(test)]
 mod derived_traits;
 #[cfg(test)]
 mod plain;
-#[cfg(test)]
-mod test_frames;
+pub mod test_frames;
 #[cfg(test)]
 mod tests;

@@ -1,4 +1,6 @@
-//! Frames that the tests of several modules read.
+//! Frames that the tests of several modules read: made ones, frames that were sent between two virtual Ethernet devices of
+//! Linux and captured there, and worked examples of IEEE 802.1AE. The fields that the tests expect of the latter two are
+//! those that tshark prints; where a payload ends is counted by hand.
 
 /// The addresses of the made frames: to all stations, from 02:00:00:00:00:01.
 pub const ADDRESSES: [u8; 12] = [0xFF, 0xFF, 0xFF, 0xFF, 0xFF, 0xFF, 2, 0, 0, 0, 0, 1];

@@ -1,5 +1,5 @@
 //! Tests of `etherparse` and of the libraries that it re-exports, by its public paths, and of `ether_sll2`, and what callers
-//! learn of the derived traits of their types. They stand above them so that each library is proved once.
+//! learn of the derived traits of their types. They are in a crate above them, so that each library is proved once.
 #![tactic(auto)]
 
 #[cfg(test)]

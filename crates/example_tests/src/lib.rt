@@ -1,4 +1,4 @@
-//! Tests of the example programs, which stand above them so that each example is proved once.
+//! Tests of the example programs, in a crate above them, so that each example is proved once.
 #![tactic(auto)]
 
 #[cfg(test)]
