@@ -179,7 +179,7 @@ with_content link xs content n =
     ∙ ap (λ (k : ℕ). place k content) (add_last (place a xs) n)
     ∙ ap (λ (k : ℕ). place k content) (sym (place-add n a xs)) ∙ sym (place-append (n + a) xs content)
 
-link_len : (link : LinkHeader) → link_header_len link ≡ header_len (link_header link)
+pub link_len : (link : LinkHeader) → link_header_len link ≡ header_len (link_header link)
 link_len (links.LinuxSll h) = refl
 link_len (links.Ethernet2 h) = refl
 

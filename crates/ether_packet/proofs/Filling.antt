@@ -89,7 +89,7 @@ content_fits : (c : PacketContent) → AllFit (content_headers c)
 content_fits (contents.Payload t bytes) fits = tt
 content_fits (contents.Arp packet) fits = fits
 
-content_long : (c : PacketContent) → AllFit (content_headers c) → length (content_bytes c) ≡ content_len c
+pub content_long : (c : PacketContent) → AllFit (content_headers c) → length (content_bytes c) ≡ content_len c
 content_long (contents.Payload t bytes) fits = refl
 content_long (contents.Arp packet) fits = length-header_bytes (headers.Arp packet.now) fits.0
 

@@ -3,6 +3,7 @@ pub mod Places
 pub mod Reaching
 pub mod Gathering
 pub mod Getting
+pub mod Unchanged
 pub mod Written
 pub mod Building
 pub mod Chains

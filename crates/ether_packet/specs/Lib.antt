@@ -11,6 +11,7 @@ pub mod ReplacingLink
 pub mod ReplacingArp
 pub mod VlanIds
 pub mod TypedLink
+pub mod Unchanged
 pub mod Popping
 pub mod Texts
 pub mod Pushing

@@ -404,7 +404,7 @@ pub(crate) fn write_arp(target: &mut [u8], end: usize, packet: &ArpPacket) -> us
 }
 
 /// Replaces the bytes of a target from a place on.
-fn write_at(target: &mut [u8], at: usize, bytes: &[u8])
+pub(crate) fn write_at(target: &mut [u8], at: usize, bytes: &[u8])
     requires { at + length bytes.now ≤ length target.old }
     ensures { target.new ≡ overwritten target.old at bytes.now }
 {
