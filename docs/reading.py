@@ -62,15 +62,18 @@ ARTEFACTS = {
     "Packets": {
         "ether_packet/src/packet_units.rt": ["ghost"],
         "ether_packet/src/packet_slice.rt": ["from_slice", "link", "link_ext_count", "link_ext", "link_exts", "arp", "vlan", "vlan_ids",
-                                             "outermost_vlan", "macsec", "ether_payload", "is_complete", "min_snap_len", "arp_offset"],
+                                             "outermost_vlan", "macsec", "ether_payload", "is_complete", "min_snap_len", "arp_offset",
+                                             "to_parts"],
+        "ether_packet/src/packet_parts.rt": ["link_exts", "builder"],
         "ether_packet/src/snap_len.rt": ["min_snap_len"],
         "ether_packet/src/packet_builder.rt": ["size", "write"],
+        "ether_packet/src/writing_unchanged.rt": ["write_unchanged"],
         "ether_packet/src/replacing.rt": ["replace_link_ext", "replace_link"],
         "ether_packet/src/replacing_arp.rt": ["replace_arp"],
         "ether_packet/src/popping.rt": ["pop_vlan"],
         "ether_packet/src/pushing.rt": ["push_vlan"],
         "ether_packet/src/setting.rt": ["set_vlan_id", "set_vlan_tag", "set_tpid"],
-        "ether_packet/src/laws.rt": ["popped_after_pushed", "pushed_after_popped"],
+        "ether_packet/src/laws.rt": ["parts_go_back", "popped_after_pushed", "pushed_after_popped"],
     },
     "C": {
         "ether_c/src/walking.rt": ["etherpeel_walk", "etherpeel_walk_limited"],
@@ -157,7 +160,7 @@ ORDER = {
         ether_sll: LinuxSll Link
         ether_packet: PacketUnit Views Packet Getters VlanIds Building Builder Replacing ReplacingLink ReplacingArp
         ether_peel: Grammar/Places
-        ether_packet: TypedLink Popping Pushing Setting Laws
+        ether_packet: Unchanged Parts TypedLink Popping Pushing Setting Laws
     """,
     "C": """
         ether_c: Numbers Starts Found Units Walk

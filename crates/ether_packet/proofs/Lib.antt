@@ -5,6 +5,8 @@ pub mod Gathering
 pub mod Getting
 pub mod Unchanged
 pub mod Written
+mod Parts
+mod PartsBack
 pub mod Building
 pub mod Chains
 pub mod Filling

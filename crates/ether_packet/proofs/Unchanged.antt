@@ -3,7 +3,6 @@ use Rattle.std.proofs.Common.{◌≡◌, ℕ, ◌+◌, ◌<◌, ◌≤◌, List,
 use Rattle.std.specs.Prelude.{flat_map}
 use Rattle.std.proofs.lemmas.Grind.{flat_map-append}
 use Rattle.std.proofs.lemmas.List.{append-nil, drop_at, drop-drop, length-append, take_at, take_all}
-use Rattle.std.proofs.Math.Seq.{drop-length}
 use Rattle.etherparse.specs.Bytes.{overwritten}
 use Rattle.etherparse.specs.Types.LinkExtHeader.{LinkExtHeader}
 use Rattle.etherparse.specs.LinkExt.{ext_header_view}

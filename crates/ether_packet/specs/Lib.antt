@@ -12,6 +12,7 @@ pub mod ReplacingArp
 pub mod VlanIds
 pub mod TypedLink
 pub mod Unchanged
+pub mod Parts
 pub mod Popping
 pub mod Texts
 pub mod Pushing

@@ -1,5 +1,5 @@
 //! The headers of a packet, read in one call.
-ghost use Rattle.std.specs.Prelude.{◌≡◌, ◌↔◌, ◌+◌, ◌≤◌, [], length, None, IsTrue, MatchOption, slice_get};
+ghost use Rattle.std.specs.Prelude.{◌≡◌, ◌↔◌, ◌+◌, ◌≤◌, [], length, None, false, IsTrue, MatchOption, slice_get};
 ghost use Rattle.etherparse.specs.Vlan.{vlan_view};
 ghost use Rattle.ether_peel.specs.Grammar.Cuts.{reach};
 ghost use Rattle.ether_peel.specs.Walker.Start.{kind_shown};
@@ -8,15 +8,17 @@ ghost use Rattle.ether_packet.specs.Views.{link_of, exts_of, arp_view, arp_offse
 ghost use Rattle.ether_packet.specs.Packet.{link_exts_cap, packet_start, packet_headers, IsPacket};
 ghost use Rattle.ether_packet.specs.Getters.{first_tags, vlans_of, vlan_ids_of, sec_tags_of, last_ext, HoldsPayload, SnapsAt, TellsAccepted};
 ghost use Rattle.ether_packet.specs.VlanIds.{IsOutermost};
+ghost use Rattle.ether_packet.specs.Parts.{ArePartsOf};
+ghost use Rattle.ether_packet.specs.ReplacingLink.{has_link};
 
-use crate::PacketExt;
 use crate::ext_places::FrameWindow;
 use crate::packet_units::PacketUnits;
+use crate::{PacketExt, PacketParts};
 use arrayvec::ArrayVec;
 use ether_peel::{Peel, PeelFault, RestKind, Start};
 use etherparse::{
-    ArpPacketSlice, DoubleVlanSlice, EtherPayloadSlice, LinkSlice, MacsecSlice, SingleVlanHeader,
-    VlanId, VlanSlice,
+    ArpPacketSlice, DoubleVlanSlice, EtherPayloadSlice, EtherType, LinkSlice, MacsecSlice,
+    SingleVlanHeader, VlanId, VlanSlice,
 };
 
 /// How many VLAN tags and SecTags a packet holds at most.
@@ -266,6 +268,21 @@ impl<'a> PacketSlice<'a> {
                 None => None,
             },
         }
+    }
+
+    /// The headers as values that can be changed and written, with what follows them.
+    ///
+    /// `None` if the header of the link is refused, or if the frame begins with what an ether type announces. After a fault the
+    /// parts are the headers before it and the bytes of the window in which it came.
+    pub fn to_parts(&self) -> Option<PacketParts<'a>>
+        ensures { MatchOption result (has_link (packet_headers self.now) ≡ false)
+            (λ parts. ArePartsOf parts self.now) }
+    {
+        let ether_type = match self.rest_kind {
+            RestKind::EtherType(ether_type) => ether_type,
+            _ => EtherType(0),
+        };
+        self.read.to_parts(ether_type, self.rest)
     }
 
     /// Whether no header is refused. What follows the headers may still be cut short.

@@ -1,23 +1,27 @@
 //! The headers of a packet, kept as windows of the frame: a view is made when it is asked for.
-ghost use Rattle.std.specs.Prelude.{◌≡◌, ◌≤◌, ◌<◌, ℕ, List, [], map, unwrap_or, true, false, length, slice_get, slice_range, None as NoPlace};
+ghost use Rattle.std.specs.Prelude.{◌≡◌, ◌≤◌, ◌<◌, ℕ, List, [], ◌∷◌, map, unwrap_or, IfSome, MatchOption, Some, true, false, length, slice_get, slice_range, None as NoPlace};
 ghost use Rattle.std.specs.List.{All};
 ghost use Rattle.std.specs.Option.{option_and_then};
 ghost use Rattle.etherparse.specs.Kind as kinds;
 ghost use Rattle.etherparse.specs.Header.{header_len, payload_len};
-ghost use Rattle.etherparse.specs.LinkExt.{ext_slice_header};
+ghost use Rattle.etherparse.specs.LinkExt.{ext_header_view, ext_slice_header};
 ghost use Rattle.ether_peel.specs.Grammar.Places.{place as place_after};
 ghost use Rattle.ether_peel.specs.Grammar.Cuts.{reach};
 ghost use Rattle.etherparse.specs.Macsec.{sec_tag_of as sec_tag_meant, tag_bytes};
 ghost use Rattle.etherparse.specs.Arp.{arp_front_in, arp_len, arp_of};
-ghost use Rattle.ether_packet.specs.Places.{Reads, kind_read, ext_kind, ext_unit, link_units, headers_at, frame_link, HasPlace, HasPlaceForExt, IsReadable, IsReadableExt, read_with};
+ghost use Rattle.ether_packet.specs.PacketUnit.{PacketUnit};
+ghost use Rattle.ether_packet.specs.Parts.{HaveHeaders, arp_headers};
+ghost use Rattle.ether_packet.specs.Places.{Reads, arp_units, kind_read, ext_kind, ext_unit, link_units, headers_at, frame_link, HasPlace, HasPlaceForExt, IsReadable, IsReadableExt, IsReadableLink, read_with};
+ghost use Rattle.ether_packet.specs.ReplacingLink.{IsLinkOf, has_link};
 ghost use Rattle.ether_packet.specs.Views.{header_of, link_of, exts_of, arp_view, arp_offset, vlan_of_unit, macsec_of_unit, ViewsExtIf, ViewsExt, ViewsSecTag, ViewsSecTagIf};
 
-use crate::PacketExt;
 use crate::ext_places::{ExtKind, ExtPlace, ExtPlaces, FrameWindow};
+use crate::{PacketExt, PacketParts};
 use ether_peel::PeelUnit;
 use etherparse::{
-    ArpPacketSlice, Ethernet2Header, Ethernet2Slice, LinkExtSlice, LinkSlice, LinuxSllHeader,
-    LinuxSllSlice, MacsecSlice, SingleVlanSlice,
+    ArpPacket, ArpPacketSlice, EtherType, Ethernet2Header, Ethernet2Slice, LinkExtHeader,
+    LinkExtSlice, LinkHeader, LinkSlice, LinuxSllHeader, LinuxSllSlice, MacsecSlice,
+    SingleVlanHeader, SingleVlanSlice,
 };
 use std::marker::Model;
 
@@ -191,6 +195,35 @@ impl<'a> PacketUnits<'a> {
         }
     }
 
+    /// The headers as values, before a rest that an ether type announces; `None` without a link's header.
+    pub fn to_parts(&self, ether_type: EtherType, rest: &'a [u8]) -> Option<PacketParts<'a>>
+        ensures { MatchOption result (has_link (map header_of self.now.units) ≡ false)
+            (λ p. HaveHeaders p (map header_of self.now.units) × (p.ether_type ≡ ether_type) × (p.rest.now ≡ rest.now)) }
+    {
+        let Some(link) = link_header(self.link, self.frame) else {
+            return None;
+        };
+        Some(PacketParts {
+            link,
+            tags: [self.ext_header(0), self.ext_header(1), self.ext_header(2)],
+            tag_count: self.ext_count(),
+            arp: arp_packet(self.arp),
+            ether_type,
+            rest,
+        })
+    }
+
+    /// The VLAN tag or SecTag at an index as a value, or any if there are not so many.
+    fn ext_header(&self, index: usize) -> LinkExtHeader
+        ensures { (u : PacketUnit) → slice_get (exts_of self.now.units) index ≡ Some u
+            → ext_header_view result ≡ header_of u }
+    {
+        match self.ext(index) {
+            Some(ext) => ext.slice.to_header(),
+            None => LinkExtHeader::Vlan(SingleVlanHeader::default()),
+        }
+    }
+
     /// How far the headers reach, with the payloads whose length a SecTag names.
     pub fn min_snap_len(&self) -> usize
         ensures { result ≡ reach 0 (map header_of self.now.units) }
@@ -203,6 +236,31 @@ impl<'a> PacketUnits<'a> {
             }
             None => end,
         }
+    }
+}
+
+/// The header of a link as a value.
+fn link_header(link: LinkKind, frame: &[u8]) -> Option<LinkHeader>
+    requires { IsReadableLink frame.now link }
+    ensures { MatchOption result (link_units frame.now link ≡ [])
+        (λ g. (u : PacketUnit) × (link_units frame.now link ≡ u ∷ []) × IsLinkOf g (header_of u)) }
+{
+    match link {
+        LinkKind::Missing => None,
+        LinkKind::Ethernet2 => Some(LinkHeader::Ethernet2(frame_of(frame).to_header())),
+        LinkKind::Ethernet2Fcs => Some(LinkHeader::Ethernet2(frame_with_fcs_of(frame).to_header())),
+        LinkKind::LinuxSll => Some(LinkHeader::LinuxSll(linux_sll_slice(frame).to_header())),
+    }
+}
+
+/// The ARP packet as a value.
+fn arp_packet(arp: Option<FrameWindow<'_>>) -> Option<ArpPacket>
+    requires { IfSome arp (IsReadable kinds.Arp) }
+    ensures { arp_headers result ≡ map header_of (arp_units arp.entry) }
+{
+    match arp {
+        Some(place) => Some(arp_slice(place.bytes).to_packet()),
+        None => None,
     }
 }
 

@@ -2,6 +2,7 @@
 mod building;
 mod frames;
 mod packets;
+mod parts;
 mod replacing;
 mod replacing_arp;
 mod replacing_links;
