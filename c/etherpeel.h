@@ -862,9 +862,11 @@ uint32_t etherpeel_replace_arp(uint32_t start, uint16_t ether_type, uint8_t *fra
  * The payload is the `payload_len` bytes at `payload`, which `ether_type` announces. If the last
  * unit is of ETHERPEEL_UNIT_ARP, the packet ends with it: its addresses are read from these bytes
  * as by etherpeel_replace_arp, and `ether_type` is ignored. NULL is allowed if `payload_len` is 0.
- * What the units say about what follows them is ignored. The ether type of each header is set: that
- * before a VLAN tag to 0x88A8 if another VLAN tag follows, else to 0x8100. The short length of each
- * SecTag is set to the number of bytes after it with its ether type, or 0 if that is above 63.
+ * The ether type of each header is set by what follows it. Before a VLAN tag, an ether type that
+ * announces one stays: 0x8100, 0x88A8 or 0x9100. Any other becomes 0x88A8 if another VLAN tag
+ * follows that tag, else 0x8100. The short length of each SecTag is set to the number of bytes
+ * after it with its ether type, or 0 if that is above 63: so 48 to 63 are set too, although
+ * IEEE 802.1AE, 9.7, wants 0 for them.
  * There is no frame check sequence.
  * *written_len is the length of the packet. The bytes of `target` after it stay as they were.
  * Returns ETHERPEEL_DONE, or the first of these that applies, and then `target` stays as it was. By

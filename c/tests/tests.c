@@ -1265,6 +1265,8 @@ static void building(void) {
     /* two VLAN tags: the outer one is a service tag (IEEE 802.1Q, table 9-1) */
     static const uint8_t two[] = {ADDRESSES, 0x88, 0xA8, 0x00, 0x0A, 0x81,
                                   0x00,      0x00, 0x64, 0x08, 0x00, 0x45};
+    static const uint8_t kept[] = {ADDRESSES, 0x91, 0x00, 0x00, 0x0A, 0x88,
+                                   0xA8,      0x00, 0x64, 0x08, 0x00, 0x45};
     /* a SecTag that names three bytes: an ether type and one of payload (IEEE 802.1AE, 9.7) */
     static const uint8_t plain[] = {ADDRESSES, 0x88, 0xE5, 0x00, 3, 0, 0, 0, 1, 0x08, 0x00, 0x45};
     /* one with SCI, ES, E and C, and an encrypted byte */
@@ -1282,6 +1284,10 @@ static void building(void) {
     units[1].vlan.pcp = units[1].vlan.dei = units[2].vlan.pcp = units[2].vlan.dei = 0;
     units[1].vlan.vid = 10, units[2].vlan.vid = 100;
     CHECK(is_built(units, 3, 0x0800, TAGGED + 18, 1, two, sizeof two));
+    /* ether types that announce a tag stay before one */
+    units[0].ethernet2.ether_type = 0x9100, units[1].vlan.ether_type = 0x88A8;
+    units[2].vlan.ether_type = 0x8100;
+    CHECK(is_built(units, 3, 0x0800, TAGGED + 18, 1, kept, sizeof kept));
     units[1] = unit_of(ETHERPEEL_START_ETHER_TYPE, 0x88E5, NAMED, sizeof NAMED, 0);
     CHECK(is_built(units, 2, 0x0800, TAGGED + 18, 1, plain, sizeof plain));
     units[1] = unit_of(ETHERPEEL_START_ETHER_TYPE, 0x88E5, SEALED, sizeof SEALED, 0);

@@ -312,6 +312,8 @@ def building():
     check("tagged", etherpeel.build([link, vlan], TAGGED[18:], 0x0800), TAGGED)
     check("two tags", etherpeel.build([link, etherpeel.Vlan(10), etherpeel.Vlan(100)], bytearray(b"E"), 0x0800),
           ADDRESSES + bytes.fromhex("88a8 000a 8100 0064 0800 45"))
+    kept = [link._replace(ether_type=0x9100), etherpeel.Vlan(10, ether_type=0x88A8), etherpeel.Vlan(100)]
+    check("kept types", etherpeel.build(kept, b"E", 0x0800), ADDRESSES + bytes.fromhex("9100 000a 88a8 0064 0800 45"))
     arp = etherpeel.walk(ARP)[1].header
     check("ARP", etherpeel.build([link, arp]), ARP)
     sec_tag = etherpeel.Macsec(1)

@@ -97,9 +97,10 @@ def build(headers: Sequence[Header], payload: Buffer = b"", ether_type: Optional
 
     The first header is of Ethernet II, or of cooked capture with the hardware type 1. Up to eight VLAN tags and SecTags follow,
     the outermost first, and maybe an ARP packet, which takes the place of the payload. Only the last tag, before a payload, may
-    be a SecTag whose payload is encrypted or changed. What the headers say about what follows them is ignored. The ether type of
-    each is set: that before a VLAN tag to 0x88A8 if another VLAN tag follows, else to 0x8100. The short length of each SecTag is
-    set to the number of bytes after it with its ether type, or 0 if that is above 63. There is no frame check sequence.
+    be a SecTag whose payload is encrypted or changed. The ether type of each header is set by what follows it. Before a VLAN tag,
+    an ether type that announces one stays: 0x8100, 0x88A8 or 0x9100. Any other becomes 0x88A8 if another VLAN tag follows that
+    tag, else 0x8100. The short length of each SecTag is set to the number of bytes after it with its ether type, or 0 if that is
+    above 63. There is no frame check sequence.
 
     Raises `BuildError` if there is no such packet.
     """

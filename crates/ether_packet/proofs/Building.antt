@@ -4,7 +4,7 @@ use Rattle.std.specs.Prelude.{flat_map, Some, None, nat_lt, if◌then◌else◌}
 use Rattle.std.proofs.lemmas.List.{length-append}
 use Rattle.etherparse.specs.Ethernet2.{Ethernet2Value}
 use Rattle.etherparse.specs.LinuxSll.{LinuxSllValue, is_supported}
-use Rattle.etherparse.specs.Vlan.{VlanValue}
+use Rattle.etherparse.specs.Vlan.{VlanValue, is_vlan_ether_type}
 use Rattle.etherparse.specs.Macsec.{PayloadType, SecTagValue, ether_type_len, known_len, sec_tag_len, sec_tag_front_of, encrypted_of, changed_of, short_len_for}
 use Rattle.etherparse.specs.Macsec as payloads
 use Rattle.etherparse.specs.Kind.{Kind}
@@ -23,8 +23,9 @@ use Rattle.ether_peel.specs.Grammar.Places.{place}
 use Rattle.ether_peel.specs.Grammar.Stack.{whole}
 use Rattle.ether_peel.proofs.Grammar.Carrying.{led}
 use Rattle.ether_peel.proofs.Grammar.Cleared.{whole_in}
-use Rattle.ether_packet.specs.Building.{type_of, retyped, before, built, is_unmodified, IsChain, AllFit, expected_after, window_after, BeginsWith}
+use Rattle.ether_packet.specs.Building.{vlan_type, own_type, type_of, retyped, before, built, is_unmodified, IsChain, AllFit, expected_after, window_after, BeginsWith}
 use Rattle.ether_packet.proofs.Written.{Fitting, Fits, written}
+use Rattle.ether_packet.proofs.TypedLinks.{announced_vlan}
 
 -- ---- a header before n bytes is as long as it is before others
 
@@ -47,7 +48,7 @@ header_len_before (headers.Arp a) t n = refl
 pub place-built : (at : ℕ) (hs : List Header) (t n : ℕ) → place at (built hs t n) ≡ place at hs
 place-built at [] t n = refl
 place-built at (h ∷ hs) t n =
-    ap (λ (k : ℕ). place (at + k) (built hs t n)) (header_len_before h (type_of hs t) (place n hs))
+    ap (λ (k : ℕ). place (at + k) (built hs t n)) (header_len_before h (type_of (own_type h) hs t) (place n hs))
     ∙ place-built (at + header_len h) hs t n
 
 -- ---- the short length of a SecTag
@@ -132,57 +133,68 @@ AreInner (h ∷ hs) = IsInner h × AreInner hs
 abbrev pub expecting : ℕ → Expectation
 expecting t = record { next = EtherType t; limit = None }
 
-vlan_announced : (v : VlanValue) (hs : List Header) (t : ℕ)
-    → announced (expecting (type_of (headers.Vlan v ∷ hs) t)) ≡ Some kinds.Vlan
-vlan_announced v [] t = refl
-vlan_announced v (headers.Ethernet2 e ∷ hs) t = refl
-vlan_announced v (headers.Ethernet2Fcs e ∷ hs) t = refl
-vlan_announced v (headers.LinuxSll s ∷ hs) t = refl
-vlan_announced v (headers.Vlan u ∷ hs) t = refl
-vlan_announced v (headers.Macsec m ∷ hs) t = refl
-vlan_announced v (headers.Arp a ∷ hs) t = refl
+set_announced : (hs : List Header) → announced (expecting (vlan_type hs)) ≡ Some kinds.Vlan
+set_announced [] = refl
+set_announced (headers.Ethernet2 e ∷ hs) = refl
+set_announced (headers.Ethernet2Fcs e ∷ hs) = refl
+set_announced (headers.LinuxSll s ∷ hs) = refl
+set_announced (headers.Vlan u ∷ hs) = refl
+set_announced (headers.Macsec m ∷ hs) = refl
+set_announced (headers.Arp a ∷ hs) = refl
+
+either_announced : (b : Bool) (own t : ℕ) → (b ≡ true → announced (expecting own) ≡ Some kinds.Vlan)
+    → announced (expecting t) ≡ Some kinds.Vlan → announced (expecting (if b then own else t)) ≡ Some kinds.Vlan
+either_announced true own t kept set = kept refl
+either_announced false own t kept set = set
+
+vlan_announced : (own : ℕ) (v : VlanValue) (hs : List Header) (t : ℕ)
+    → announced (expecting (type_of own (headers.Vlan v ∷ hs) t)) ≡ Some kinds.Vlan
+vlan_announced own v hs t =
+    either_announced (is_vlan_ether_type own) own (vlan_type hs) (announced_vlan own) (set_announced hs)
 
 later_chain : (h : Header) (hs : List Header) → IsChain (h ∷ hs) → IsChain hs
 later_chain h [] chain = tt
 later_chain h (g ∷ hs) chain = chain.1
 
 -- after a SecTag whose payload can be read comes what its ether type announces, and after another one nothing
-after_tag : (m : SecTagValue) (p : PayloadType) (hs : List Header) (t n k : ℕ) → m.payload_type ≡ p
+after_tag : (m : SecTagValue) (p : PayloadType) (own : ℕ) (hs : List Header) (t n k : ℕ) → m.payload_type ≡ p
     → IsChain (headers.Macsec m ∷ hs)
-    → Fits (expecting (type_of hs t)) (built hs t n) n
-    → Fits (after (expecting k) (before (headers.Macsec m) (type_of hs t) (place n hs))) (built hs t n) n
-after_tag m p [] t n k e chain fits = tt
-after_tag m (payloads.Unmodified old) (g ∷ hs) t n k e chain fits =
+    → Fits (expecting (type_of own hs t)) (built hs t n) n
+    → Fits (after (expecting k) (before (headers.Macsec m) (type_of own hs t) (place n hs))) (built hs t n) n
+after_tag m p own [] t n k e chain fits = tt
+after_tag m (payloads.Unmodified old) own (g ∷ hs) t n k e chain fits =
     subst
     (λ (q : PayloadType).
     Fits
     (after (expecting k)
-    (before (headers.Macsec (record m { payload_type = q })) (type_of (g ∷ hs) t) (place n (g ∷ hs))))
+    (before (headers.Macsec (record m { payload_type = q })) (type_of own (g ∷ hs) t) (place n (g ∷ hs))))
     (built (g ∷ hs) t n) n)
     (sym e) fits
-after_tag m payloads.Modified (g ∷ hs) t n k e chain fits =
+after_tag m payloads.Modified own (g ∷ hs) t n k e chain fits =
     let f : true ≡ false = sym chain.0 ∙ ap is_unmodified e in absurd cc
-after_tag m payloads.EncryptedUnmodified (g ∷ hs) t n k e chain fits =
+after_tag m payloads.EncryptedUnmodified own (g ∷ hs) t n k e chain fits =
     let f : true ≡ false = sym chain.0 ∙ ap is_unmodified e in absurd cc
-after_tag m payloads.Encrypted (g ∷ hs) t n k e chain fits =
+after_tag m payloads.Encrypted own (g ∷ hs) t n k e chain fits =
     let f : true ≡ false = sym chain.0 ∙ ap is_unmodified e in absurd cc
 
-pub inner_fits : (hs : List Header) (t n : ℕ) → AreInner hs → IsChain hs → AllFit (built hs t n)
-    → Fits (expecting (type_of hs t)) (built hs t n) n
-inner_fits [] t n inner chain fit = tt
-inner_fits (headers.Vlan v ∷ hs) t n inner chain fit =
-    let own =
-    vlan_fits (expecting (type_of (headers.Vlan v ∷ hs) t)) (record v { ether_type = type_of hs t })
-    (place n (built hs t n)) (vlan_announced v hs t) fit.0 in
-    (own, inner_fits hs t n inner.1 (later_chain (headers.Vlan v) hs chain) fit.1)
-inner_fits (headers.Macsec m ∷ hs) t n inner chain fit =
-    let own = macsec_fits (expecting 0x88E5) m (type_of hs t) (place n hs) refl fit.0 in
-    let later = inner_fits hs t n inner.1 (later_chain (headers.Macsec m) hs chain) fit.1 in (
-      subst (λ (k : ℕ). Fitting (expecting 0x88E5) (before (headers.Macsec m) (type_of hs t) (place n hs)) k)
-          (sym (place-built n hs t n)) own,
-      after_tag m m.payload_type hs t n 0x88E5 refl chain later,
+pub inner_fits : (own : ℕ) (hs : List Header) (t n : ℕ) → AreInner hs → IsChain hs → AllFit (built hs t n)
+    → Fits (expecting (type_of own hs t)) (built hs t n) n
+inner_fits own [] t n inner chain fit = tt
+inner_fits own (headers.Vlan v ∷ hs) t n inner chain fit =
+    let mine =
+    vlan_fits (expecting (type_of own (headers.Vlan v ∷ hs) t))
+    (record v { ether_type = type_of v.ether_type hs t })
+    (place n (built hs t n)) (vlan_announced own v hs t) fit.0 in
+    (mine, inner_fits v.ether_type hs t n inner.1 (later_chain (headers.Vlan v) hs chain) fit.1)
+inner_fits own (headers.Macsec m ∷ hs) t n inner chain fit =
+    let k = own_type (headers.Macsec m) in
+    let mine = macsec_fits (expecting 0x88E5) m (type_of k hs t) (place n hs) refl fit.0 in
+    let later = inner_fits k hs t n inner.1 (later_chain (headers.Macsec m) hs chain) fit.1 in (
+      subst (λ (l : ℕ). Fitting (expecting 0x88E5) (before (headers.Macsec m) (type_of k hs t) (place n hs)) l)
+          (sym (place-built n hs t n)) mine,
+      after_tag m m.payload_type k hs t n 0x88E5 refl chain later,
     )
-inner_fits (headers.Arp a ∷ []) t n inner chain fit = (
+inner_fits own (headers.Arp a ∷ []) t n inner chain fit = (
   record {
     announced = refl;
     fits = fit.0;
@@ -192,10 +204,10 @@ inner_fits (headers.Arp a ∷ []) t n inner chain fit = (
   },
   tt,
 )
-inner_fits (headers.Arp a ∷ g ∷ hs) t n inner chain fit = let f : true ≡ false = sym chain.0 in absurd cc
-inner_fits (headers.Ethernet2 e ∷ hs) t n inner chain fit = absurd inner.0
-inner_fits (headers.Ethernet2Fcs e ∷ hs) t n inner chain fit = absurd inner.0
-inner_fits (headers.LinuxSll s ∷ hs) t n inner chain fit = absurd inner.0
+inner_fits own (headers.Arp a ∷ g ∷ hs) t n inner chain fit = let f : true ≡ false = sym chain.0 in absurd cc
+inner_fits own (headers.Ethernet2 e ∷ hs) t n inner chain fit = absurd inner.0
+inner_fits own (headers.Ethernet2Fcs e ∷ hs) t n inner chain fit = absurd inner.0
+inner_fits own (headers.LinuxSll s ∷ hs) t n inner chain fit = absurd inner.0
 
 -- ---- the header of a link
 
@@ -206,7 +218,7 @@ pub ethernet2_fits : (e : Ethernet2Value) (hs : List Header) (t n : ℕ) → Are
     → AllFit (built (headers.Ethernet2 e ∷ hs) t n)
     → Fits (beginning kinds.Ethernet2) (built (headers.Ethernet2 e ∷ hs) t n) n
 ethernet2_fits e hs t n inner chain fit =
-    let h = before (headers.Ethernet2 e) (type_of hs t) (place n hs) in (
+    let h = before (headers.Ethernet2 e) (type_of e.ether_type hs t) (place n hs) in (
       record {
         announced = refl;
         fits = fit.0;
@@ -218,7 +230,7 @@ ethernet2_fits e hs t n inner chain fit =
         named = λ p e. absurd cc;
         no_trailer = refl;
       },
-      inner_fits hs t n inner chain fit.1,
+      inner_fits e.ether_type hs t n inner chain fit.1,
     )
 
 -- a cooked capture of Ethernet
@@ -227,10 +239,10 @@ pub linux_sll_fits : (s : LinuxSllValue) (hs : List Header) (t n : ℕ) → s.ha
     → AllFit (built (headers.LinuxSll s ∷ hs) t n)
     → Fits (beginning kinds.LinuxSll) (built (headers.LinuxSll s ∷ hs) t n) n
 linux_sll_fits s hs t n hardware packet inner chain fit =
-    let v : LinuxSllValue = record s { protocol = type_of hs t } in
+    let v : LinuxSllValue = record s { protocol = type_of s.protocol hs t } in
     let h = headers.LinuxSll v in
     let supported : is_supported v.hardware_type ≡ true = ap is_supported hardware in
-    let later = inner_fits hs t n inner chain fit.1 in (
+    let later = inner_fits s.protocol hs t n inner chain fit.1 in (
       record {
         announced = refl;
         fits = fit.0;

@@ -20,7 +20,7 @@ use Rattle.ether_peel.proofs.Grammar.Places.{place-append, place_least}
 use Rattle.ether_packet.specs.declared.packet_builder.PacketContent.{PacketContent}
 use Rattle.ether_packet.specs.declared.packet_builder.PacketContent.TheVariants as contents
 use Rattle.ether_packet.specs.declared.packet_builder.PacketBuilder.{PacketBuilder}
-use Rattle.ether_packet.specs.Building.{vlan_type, type_of, before, built, IsChain, AllFit}
+use Rattle.ether_packet.specs.Building.{vlan_type, own_type, type_of, before, built, IsChain, AllFit}
 use Rattle.ether_packet.specs.Builder.{link_header, link_start, content_headers, content_type, content_payload, content_bytes, content_len, inner_headers, built_headers, packet_len, IsEthernet, HasPacketType, IsWritten}
 use Rattle.ether_packet.proofs.Written.{Fits, length-headers, place-add, place-first}
 use Rattle.ether_packet.proofs.Building.{AreInner, header_len_before, place-built, ethernet2_fits, linux_sll_fits, begins_with}
@@ -48,8 +48,8 @@ one_more first second third last =
 
 -- ---- header by header
 
--- From a place on the target holds the last headers of the packet, as they are written. One ether type announces them,
--- and another one a VLAN tag before them.
+-- From a place on the target holds the last headers of the packet, as they are written. One ether type announces them
+-- after a header that announces no VLAN tag yet, and another one a VLAN tag before them.
 pub record Filled (p : PacketBuilder) (old target : List ℕ) (hs : List Header) (at announced vlan : ℕ) : Type 0 where
   pub fit : AllFit (built hs (content_type p.content) (length (content_payload p.content)))
   pub bytes : target
@@ -57,7 +57,7 @@ pub record Filled (p : PacketBuilder) (old target : List ℕ) (hs : List Header)
       ++ (flat_map header_bytes (built hs (content_type p.content) (length (content_payload p.content)))
       ++ content_payload p.content ++ drop (packet_len p) old)
   pub rest : at + place (length (content_payload p.content)) hs ≡ packet_len p
-  pub type : announced ≡ type_of hs (content_type p.content)
+  pub type : announced ≡ type_of 0 hs (content_type p.content)
   pub tag : vlan ≡ vlan_type hs
 
 -- the headers from an index on
@@ -95,7 +95,7 @@ content_long (contents.Arp packet) fits = length-header_bytes (headers.Arp packe
 
 pub filled_content : (p : PacketBuilder) (old target : List ℕ) (at t v : ℕ) → at + content_len p.content ≡ packet_len p
     → target ≡ overwritten old at (content_bytes p.content) → AllFit (content_headers p.content)
-    → t ≡ type_of (content_headers p.content) (content_type p.content) → v ≡ vlan_type (content_headers p.content)
+    → t ≡ type_of 0 (content_headers p.content) (content_type p.content) → v ≡ vlan_type (content_headers p.content)
     → Filled p old target (content_headers p.content) at t v
 filled_content p old target at t v ends bytes fits type tag =
     let c = p.content in
@@ -136,30 +136,31 @@ pub filled_next : (p : PacketBuilder) (old target new : List ℕ) (h : Header) (
     (at announced vlan start following next tag : ℕ)
     → packet_len p ≤ length old → Filled p old target hs at announced vlan
     → start + header_len h ≡ at → following ≡ packet_len p - at
-    → new ≡ overwritten target start (header_bytes (before h announced following))
-    → FitsHeader (before h announced following)
-    → next ≡ type_of (h ∷ hs) (content_type p.content) → tag ≡ vlan_type (h ∷ hs)
+    → (let k = content_type p.content in
+    new ≡ overwritten target start (header_bytes (before h (type_of (own_type h) hs k) following)))
+    → FitsHeader (before h (type_of (own_type h) hs (content_type p.content)) following)
+    → next ≡ type_of 0 (h ∷ hs) (content_type p.content) → tag ≡ vlan_type (h ∷ hs)
     → Filled p old new (h ∷ hs) start next tag
 filled_next p old target new h hs at announced vlan start following next tag room so_far ends is bytes fits type
     vlan_is =
     let m = length (content_payload p.content) in
     let k = content_type p.content in
+    let t = type_of (own_type h) hs k in
     let rest = so_far.rest in
     let long : following ≡ place m hs = omega (arith, rest, is) in
-    let own : before h announced following ≡ before h (type_of hs k) (place m hs) =
-    (λ i. before h (so_far.type i) (long i)) in
-    let len : length (header_bytes (before h announced following)) ≡ header_len h =
-    length-header_bytes (before h announced following) fits ∙ header_len_before h announced following in
-    let end : start + length (header_bytes (before h announced following)) ≡ at = omega (arith, len, ends) in
+    let own : before h t following ≡ before h t (place m hs) = ap (before h t) long in
+    let len : length (header_bytes (before h t following)) ≡ header_len h =
+    length-header_bytes (before h t following) fits ∙ header_len_before h t following in
+    let end : start + length (header_bytes (before h t following)) ≡ at = omega (arith, len, ends) in
     let more = place-first m h hs in
     record {
       fit = (subst FitsHeader own fits, so_far.fit);
       bytes =
           bytes
-          ∙ written_before old _ target (header_bytes (before h announced following)) start at so_far.bytes end
+          ∙ written_before old _ target (header_bytes (before h t following)) start at so_far.bytes end
           (omega (arith, rest, room))
           ∙ ap (λ (l : List ℕ). take start old ++ l)
-          (one_more (header_bytes (before h announced following)) (flat_map header_bytes (built hs k m))
+          (one_more (header_bytes (before h t following)) (flat_map header_bytes (built hs k m))
           (content_payload p.content) (drop (packet_len p) old))
           ∙ ap
           (λ (g : Header).
@@ -207,22 +208,24 @@ link_fits (links.Ethernet2 h) hs t n ethernet packet inner chain fit =
 pub filled_all : (p : PacketBuilder) (old target new : List ℕ) (at announced vlan : ℕ) → IsEthernet p.link
     → HasPacketType p.link → IsChain (inner_headers p) → packet_len p ≤ length old
     → Filled p old target (inner_headers p) at announced vlan
-    → new ≡ overwritten target 0 (header_bytes (before (link_header p.link) announced 0))
-    → FitsHeader (before (link_header p.link) announced 0)
+    → (let t = type_of (own_type (link_header p.link)) (inner_headers p) (content_type p.content) in
+    new ≡ overwritten target 0 (header_bytes (before (link_header p.link) t 0)))
+    → FitsHeader
+    (before (link_header p.link)
+    (type_of (own_type (link_header p.link)) (inner_headers p) (content_type p.content)) 0)
     → IsWritten p old (packet_len p) new
 filled_all p old target new at announced vlan ethernet packet chain room so_far bytes fits =
     let k = content_type p.content in
     let m = length (content_payload p.content) in
     let hs = inner_headers p in
     let end = packet_len p in
-    let h = before (link_header p.link) announced 0 in
+    let t = type_of (own_type (link_header p.link)) hs k in
+    let h = before (link_header p.link) t 0 in
     let rest = so_far.rest in
     let first = place-first m (link_header p.link) hs in
-    let own : h ≡ before (link_header p.link) (type_of hs k) (place m hs) =
-    any_length p.link announced 0 (place m hs)
-    ∙ ap (λ (t : ℕ). before (link_header p.link) t (place m hs)) so_far.type in
+    let own : h ≡ before (link_header p.link) t (place m hs) = any_length p.link t 0 (place m hs) in
     let len : length (header_bytes h) ≡ header_len (link_header p.link) =
-    length-header_bytes h fits ∙ header_len_before (link_header p.link) announced 0 in
+    length-header_bytes h fits ∙ header_len_before (link_header p.link) t 0 in
     let at_is : 0 + length (header_bytes h) ≡ at = omega (arith, len, rest, first) in
     let payload = content_payload p.content in
     let inner = flat_map header_bytes (built hs k m) in

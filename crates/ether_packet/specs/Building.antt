@@ -1,5 +1,6 @@
 -- A packet as it is built: headers, where each announces the next one, and a payload.
-use Rattle.std.specs.Prelude.{◌≡◌, ℕ, List, [], ◌∷◌, ◌++◌, length, Bool, true, false}
+use Rattle.std.specs.Prelude.{◌≡◌, ℕ, List, [], ◌∷◌, ◌++◌, length, Bool, true, false, if◌then◌else◌}
+use Rattle.etherparse.specs.Vlan.{is_vlan_ether_type}
 use Rattle.etherparse.specs.Macsec.{PayloadType, SecTagValue, short_len_for}
 use Rattle.etherparse.specs.Macsec as payloads
 use Rattle.etherparse.specs.Header.{Header, FitsHeader}
@@ -17,13 +18,26 @@ abbrev pub vlan_type : List Header → ℕ
 vlan_type (headers.Vlan inner ∷ hs) = 0x88A8
 vlan_type hs = 0x8100
 
--- the ether type that announces these headers, or a payload of type t if there is none
-abbrev pub type_of : List Header → ℕ → ℕ
-type_of [] t = t
-type_of (headers.Vlan v ∷ hs) t = vlan_type hs
-type_of (headers.Macsec m ∷ hs) t = 0x88E5
-type_of (headers.Arp a ∷ hs) t = 0x0806
-type_of (h ∷ hs) t = 0
+abbrev pub payload_ether_type : PayloadType → ℕ
+payload_ether_type (payloads.Unmodified t) = t
+payload_ether_type p = 0
+
+-- the ether type that a header has, 0 if it has none
+abbrev pub own_type : Header → ℕ
+own_type (headers.Ethernet2 e) = e.ether_type
+own_type (headers.LinuxSll s) = s.protocol
+own_type (headers.Vlan v) = v.ether_type
+own_type (headers.Macsec m) = payload_ether_type m.payload_type
+own_type h = 0
+
+-- The ether type that announces these headers, or a payload of type t if there is none. A header that has the ether type `own` keeps
+-- it before a VLAN tag, if it announces one.
+abbrev pub type_of : (own : ℕ) → List Header → (t : ℕ) → ℕ
+type_of own [] t = t
+type_of own (headers.Vlan v ∷ hs) t = if is_vlan_ether_type own then own else vlan_type hs
+type_of own (headers.Macsec m ∷ hs) t = 0x88E5
+type_of own (headers.Arp a ∷ hs) t = 0x0806
+type_of own (h ∷ hs) t = 0
 
 abbrev pub retyped : PayloadType → ℕ → PayloadType
 retyped (payloads.Unmodified old) t = payloads.Unmodified t
@@ -44,7 +58,7 @@ named_before m n = headers.Macsec (record m { short_len = short_len_for m.payloa
 -- headers before a payload of n bytes of type t
 abbrev pub built : List Header → (t n : ℕ) → List Header
 built [] t n = []
-built (h ∷ hs) t n = before h (type_of hs t) (place n hs) ∷ built hs t n
+built (h ∷ hs) t n = before h (type_of (own_type h) hs t) (place n hs) ∷ built hs t n
 
 abbrev pub is_unmodified : PayloadType → Bool
 is_unmodified (payloads.Unmodified t) = true

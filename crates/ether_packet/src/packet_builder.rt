@@ -6,10 +6,11 @@ ghost use Rattle.etherparse.specs.Header as headers;
 ghost use Rattle.etherparse.specs.Header.{Header, FitsHeader, header_bytes, header_len};
 ghost use Rattle.etherparse.specs.Macsec.{sec_tag_view};
 ghost use Rattle.etherparse.specs.Arp.{arp_bytes};
-ghost use Rattle.ether_packet.specs.Building.{vlan_type as vlan_type_of, type_of, before as header_before, named_before, is_readable, IsChain, AllFit};
+ghost use Rattle.ether_packet.specs.Building.{vlan_type as vlan_type_of, own_type, type_of, before as header_before, named_before, is_readable, IsChain, AllFit};
 ghost use Rattle.ether_packet.specs.Builder.{link_header, content_headers, content_type, content_bytes, content_len as content_len_of, inner_headers, packet_len, IsEthernet, IsOtherLink, HasPacketType, IsSealedAt, IsWritten, RefusesPacket, RefusesSpace};
 
 use crate::BuildError;
+use crate::typed_link::announces_vlan;
 use etherparse::err::{Layer, SliceWriteSpaceError};
 use etherparse::{
     ArpHardwareId, ArpPacket, EtherType, Ethernet2Header, LinkExtHeader, LinkHeader,
@@ -27,9 +28,13 @@ pub enum PacketContent<'a> {
 
 /// The parts of a packet, outermost first.
 ///
-/// When it is written, the ether type of each header is set by what follows it, and the short length of each SecTag by
-/// the length of what follows it, if there is room for that. A VLAN tag that another one follows is announced as a
-/// service tag (0x88A8), and any other as a customer tag (0x8100).
+/// When it is written, the ether type of each header is set by what follows it. Before a VLAN tag, an ether type that
+/// announces one stays: 0x8100, 0x88A8 or 0x9100. Any other becomes 0x88A8 if the tag is followed by another one, and
+/// 0x8100 if it isn't (IEEE 802.1Q, table 9-1: service tag, customer tag).
+///
+/// The short length of each SecTag is set to the number of bytes that follow it, with its ether type, up to 63, and to 0
+/// if they are more. So lengths of 48 to 63 are named, although IEEE 802.1AE, 9.7, wants 0 for them: see
+/// [`MacsecHeader::set_payload_len`].
 ///
 /// ```
 /// let tags = [LinkExtHeader::Vlan(SingleVlanHeader::from_bytes([0x00, 0x64, 0x00, 0x00]))];
@@ -41,6 +46,16 @@ pub enum PacketContent<'a> {
 /// let mut target = [0; 19];
 /// assert_eq!(rt; packet.write(&mut target), Ok(19));
 /// assert_eq!(rt; target[12..], [0x81, 0x00, 0x00, 0x64, 0x08, 0x00, 0x45]);
+///
+/// let service_tag = PacketBuilder {
+///     link: LinkHeader::Ethernet2(Ethernet2Header {
+///         ether_type: EtherType::PROVIDER_BRIDGING,
+///         ..Ethernet2Header::default()
+///     }),
+///     ..packet
+/// };
+/// assert_eq!(rt; service_tag.write(&mut target), Ok(19));
+/// assert_eq!(rt; target[12..], [0x88, 0xA8, 0x00, 0x64, 0x08, 0x00, 0x45]);
 /// ```
 #[derive(Debug, Drop)]
 pub struct PacketBuilder<'a, 'b> {
@@ -147,7 +162,7 @@ impl<'a, 'b> PacketBuilder<'a, 'b> {
         for i in (0..exts.len()).rev() {
             front = write_ext_before(target, len, &exts[i], front);
         }
-        write_link(target, &self.link, front.ether_type);
+        write_link(target, &self.link, front);
     }
 }
 
@@ -156,10 +171,26 @@ impl<'a, 'b> PacketBuilder<'a, 'b> {
 struct Front {
     /// Where it starts.
     at: usize,
-    /// What announces it.
+    /// What announces it after a header that announces no VLAN tag yet.
     ether_type: EtherType,
-    /// What announces a VLAN tag before it.
+    /// What announces a VLAN tag before it, after such a header: 0x88A8 if it begins with a VLAN tag.
     vlan_type: EtherType,
+}
+
+impl Front {
+    /// What announces it after a header with this ether type, which stays if both are of a VLAN tag.
+    #[inline(always)]
+    fn type_after(self, own: EtherType) -> EtherType
+        ensures { (hs : List Header) (t : ℕ) → self.ether_type.0 ≡ type_of 0 hs t
+            → self.vlan_type.0 ≡ vlan_type_of hs → result.0 ≡ type_of own.0 hs t }
+    {
+        let is_tag = self.vlan_type == EtherType::PROVIDER_BRIDGING;
+        if is_tag && announces_vlan(own) {
+            own
+        } else {
+            self.ether_type
+        }
+    }
 }
 
 /// The hardware type of a link whose header no ether type can follow.
@@ -192,13 +223,18 @@ fn write_ext_before(target: &mut [u8], len: usize, ext: &LinkExtHeader, front: F
     requires start { header_len (ext_header_view ext.now) ≤ front.at }
     requires front { front.at ≤ len }
     requires end { len ≤ length target.old }
-    ensures bytes { target.new ≡ overwritten target.old result.at (header_bytes
-        (header_before (ext_header_view ext.now) front.ether_type.0 (len - front.at))) }
-    ensures fits { FitsHeader
-        (header_before (ext_header_view ext.now) front.ether_type.0 (len - front.at)) }
+    ensures bytes { (hs : List Header) (t : ℕ) → front.ether_type.0 ≡ type_of 0 hs t
+        → front.vlan_type.0 ≡ vlan_type_of hs
+        → target.new ≡ overwritten target.old result.at (header_bytes
+        (header_before (ext_header_view ext.now)
+        (type_of (own_type (ext_header_view ext.now)) hs t) (len - front.at))) }
+    ensures fits { (hs : List Header) (t : ℕ) → front.ether_type.0 ≡ type_of 0 hs t
+        → front.vlan_type.0 ≡ vlan_type_of hs
+        → FitsHeader (header_before (ext_header_view ext.now)
+        (type_of (own_type (ext_header_view ext.now)) hs t) (len - front.at)) }
     ensures start { result.at + header_len (ext_header_view ext.now) ≡ front.at }
     ensures ether_type { (hs : List Header) (t : ℕ) → front.vlan_type.0 ≡ vlan_type_of hs
-        → result.ether_type.0 ≡ type_of (ext_header_view ext.now ∷ hs) t }
+        → result.ether_type.0 ≡ type_of 0 (ext_header_view ext.now ∷ hs) t }
     ensures vlan_type { (hs : List Header)
         → result.vlan_type.0 ≡ vlan_type_of (ext_header_view ext.now ∷ hs) }
 {
@@ -206,7 +242,7 @@ fn write_ext_before(target: &mut [u8], len: usize, ext: &LinkExtHeader, front: F
         LinkExtHeader::Vlan(tag) => {
             let at = front.at - SingleVlanHeader::LEN;
             let tag = SingleVlanHeader {
-                ether_type: front.ether_type,
+                ether_type: front.type_after(tag.ether_type),
                 ..*tag
             };
             put_at(target, at, tag.to_bytes());
@@ -217,38 +253,37 @@ fn write_ext_before(target: &mut [u8], len: usize, ext: &LinkExtHeader, front: F
             }
         }
         LinkExtHeader::Macsec(tag) => Front {
-            at: write_sec_tag(target, front.at, tag, front.ether_type, len - front.at),
+            at: write_sec_tag(target, tag, front, len - front.at),
             ether_type: EtherType::MACSEC,
             vlan_type: EtherType::VLAN_TAGGED_FRAME,
         },
     }
 }
 
-/// Writes a SecTag so that it ends at a place, before a number of bytes that an ether type announces, and returns where
-/// it starts. Inlined, it would take the registers of the loop over the tags.
+/// Writes a SecTag before the front of a packet, which has a number of bytes, and returns where it starts. Inlined, it
+/// would take the registers of the loop over the tags.
 #[inline(never)]
-fn write_sec_tag(
-    target: &mut [u8],
-    end: usize,
-    tag: &MacsecHeader,
-    ether_type: EtherType,
-    following: usize,
-) -> usize
-    requires start { header_len (headers.Macsec (sec_tag_view tag.now)) ≤ end }
-    requires end { end ≤ length target.old }
-    ensures bytes { target.new ≡ overwritten target.old result (header_bytes
-        (header_before (headers.Macsec (sec_tag_view tag.now)) ether_type.0 following)) }
-    ensures fits { FitsHeader
-        (header_before (headers.Macsec (sec_tag_view tag.now)) ether_type.0 following) }
-    ensures start { result + header_len (headers.Macsec (sec_tag_view tag.now)) ≡ end }
+fn write_sec_tag(target: &mut [u8], tag: &MacsecHeader, front: Front, following: usize) -> usize
+    requires start { header_len (headers.Macsec (sec_tag_view tag.now)) ≤ front.at }
+    requires end { front.at ≤ length target.old }
+    ensures bytes { (hs : List Header) (t : ℕ) → front.ether_type.0 ≡ type_of 0 hs t
+        → front.vlan_type.0 ≡ vlan_type_of hs
+        → target.new ≡ overwritten target.old result (header_bytes
+        (header_before (headers.Macsec (sec_tag_view tag.now))
+        (type_of (own_type (headers.Macsec (sec_tag_view tag.now))) hs t) following)) }
+    ensures fits { (hs : List Header) (t : ℕ) → front.ether_type.0 ≡ type_of 0 hs t
+        → front.vlan_type.0 ≡ vlan_type_of hs
+        → FitsHeader (header_before (headers.Macsec (sec_tag_view tag.now))
+        (type_of (own_type (headers.Macsec (sec_tag_view tag.now))) hs t) following) }
+    ensures start { result + header_len (headers.Macsec (sec_tag_view tag.now)) ≡ front.at }
 {
     match tag.ptype {
-        MacsecPType::Unmodified(_) => {
-            let ptype = MacsecPType::Unmodified(ether_type);
+        MacsecPType::Unmodified(own) => {
+            let ptype = MacsecPType::Unmodified(front.type_after(own));
             let tag = MacsecHeader { ptype, ..*tag };
-            write_sized_sec_tag::<16, 8>(target, end, tag, following)
+            write_sized_sec_tag::<16, 8>(target, front.at, tag, following)
         }
-        _ => write_sealed_sec_tag(target, end, tag, following),
+        _ => write_sealed_sec_tag(target, front.at, tag, following),
     }
 }
 
@@ -293,27 +328,32 @@ fn write_sized_sec_tag<const LONG: usize, const SHORT: usize>(
     at
 }
 
-/// Writes the header of a link.
+/// Writes the header of a link before the front of a packet.
 #[inline(always)]
-fn write_link(target: &mut [u8], link: &LinkHeader, ether_type: EtherType)
+fn write_link(target: &mut [u8], link: &LinkHeader, front: Front)
     requires { header_len (link_header link.now) ≤ length target.old }
-    ensures bytes { target.new
-        ≡ overwritten target.old 0
-        (header_bytes (header_before (link_header link.now) ether_type.0 0)) }
-    ensures fits { FitsHeader (header_before (link_header link.now) ether_type.0 0) }
+    ensures bytes { (hs : List Header) (t : ℕ) → front.ether_type.0 ≡ type_of 0 hs t
+        → front.vlan_type.0 ≡ vlan_type_of hs
+        → target.new ≡ overwritten target.old 0 (header_bytes
+        (header_before (link_header link.now) (type_of (own_type (link_header link.now)) hs t) 0)) }
+    ensures fits { (hs : List Header) (t : ℕ) → front.ether_type.0 ≡ type_of 0 hs t
+        → front.vlan_type.0 ≡ vlan_type_of hs
+        → FitsHeader (header_before (link_header link.now)
+        (type_of (own_type (link_header link.now)) hs t) 0) }
     ensures packet_type { HasPacketType link.now }
 {
     match link {
         LinkHeader::Ethernet2(header) => {
             let header = Ethernet2Header {
-                ether_type,
+                ether_type: front.type_after(header.ether_type),
                 ..*header
             };
             put_at(target, 0, header.to_bytes());
         }
         LinkHeader::LinuxSll(header) => {
+            let own = EtherType(u16::from(header.protocol_type));
             let header = LinuxSllHeader {
-                protocol_type: LinuxSllProtocolType::EtherType(ether_type),
+                protocol_type: LinuxSllProtocolType::EtherType(front.type_after(own)),
                 ..*header
             };
             put_at(target, 0, header.to_bytes());
@@ -368,7 +408,7 @@ fn write_content(target: &mut [u8], len: usize, content: &PacketContent<'_>) -> 
     ensures fits { AllFit (content_headers content.now) }
     ensures start { result.at + content_len_of content.now ≡ len }
     ensures ether_type { result.ether_type.0
-        ≡ type_of (content_headers content.now) (content_type content.now) }
+        ≡ type_of 0 (content_headers content.now) (content_type content.now) }
     ensures vlan_type { result.vlan_type.0 ≡ vlan_type_of (content_headers content.now) }
 {
     let vlan_type = EtherType::VLAN_TAGGED_FRAME;

@@ -1,7 +1,7 @@
 use Rattle.std.proofs.Common.{◌≡◌, ℕ, ◌-◌, List, length, sym, ap, subst, ◌∙◌, arith}
 use Rattle.etherparse.specs.LinkExt.{ext_header_view}
 use Rattle.etherparse.specs.Header.{Header}
-use Rattle.ether_packet.specs.Builder.{content_type, IsWritten}
+use Rattle.ether_packet.specs.Builder.{content_type, inner_headers, IsWritten}
 use Rattle.ether_packet.proofs.Filling.{Filled, later, later_none, later_before, room_for_content, room_for_link, room_before, filled_content, filled_next, filled_all}
 use Rattle.ether_packet.proofs.packet_builder.PacketBuilder.write_whole.Goals as goal
 
@@ -48,7 +48,9 @@ loop-i-preserved c =
     (filled_next p c.args.target.now l.target front.new.target (ext_header_view x) (later p l.i) l.front.at
     l.front.ether_type.0 l.front.vlan_type.0 front.result.at (c.args.len - l.front.at) front.result.ether_type.0
     front.result.vlan_type.0
-    (omega (arith, len, room)) l.invariant tag.start (ap (λ (n : ℕ). n - l.front.at) len) tag.bytes tag.fits
+    (omega (arith, len, room)) l.invariant tag.start (ap (λ (n : ℕ). n - l.front.at) len)
+    (tag.bytes (later p l.i) (content_type p.content) l.invariant.type l.invariant.tag)
+    (tag.fits (later p l.i) (content_type p.content) l.invariant.type l.invariant.tag)
     (tag.ether_type (later p l.i) (content_type p.content) l.invariant.tag) (tag.vlan_type (later p l.i)))
 
 pub write_link-requires : goal.write_link-requires
@@ -75,4 +77,6 @@ returns c =
     let link = c.write_link.ensures in
     subst (λ (n : ℕ). IsWritten p c.args.target.now n c.write_link.new.target) (sym len)
     (filled_all p c.args.target.now l.target c.write_link.new.target l.front.at l.front.ether_type.0 l.front.vlan_type.0
-    c.requires.ethernet link.packet_type c.requires.chain (omega (arith, len, room)) so_far link.bytes link.fits)
+    c.requires.ethernet link.packet_type c.requires.chain (omega (arith, len, room)) so_far
+    (link.bytes (inner_headers p) (content_type p.content) so_far.type so_far.tag)
+    (link.fits (inner_headers p) (content_type p.content) so_far.type so_far.tag))
