@@ -394,7 +394,7 @@ COPIES += [
     Copy("headers of the packets that match", [CUT, "--select", "not refused"], CLASSIC, CLASSIC[:24] + CUT_CLASSIC[58:]),
     Copy("a packet with options", [CUT], LONG_PACKET, CUT_LONG_PACKET),
     Copy("a simple packet that can't be cut", [CUT], NO_PACKETS + CUT_PACKET + LONG_SIMPLE + CUT_PACKET, NO_PACKETS + CUT_PACKET,
-         f"byte {len(NO_PACKETS) + 48}: A simple packet can't be cut, since its block has no number of captured bytes.\n", 3),
+         f"byte {len(NO_PACKETS) + 48}: This packet can't be edited: its block has no number of captured bytes, or it would be too long.\n", 3),
     Copy("one that is left out", [CUT, "--select", "refused"], NO_PACKETS + LONG_SIMPLE + CUT_PACKET, NO_PACKETS + CUT_PACKET),
 ]
 

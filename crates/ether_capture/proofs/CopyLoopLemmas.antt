@@ -1,49 +1,49 @@
 -- How far a copy has come, one unit of the capture after another.
-use Rattle.std.proofs.Common.{◌≡◌, ◌≢◌, ◌⊎◌, ℕ, ◌+◌, ◌-◌, ◌≤◌, List, [], ◌∷◌, ◌++◌, length, take, drop, slice_range, Bool, true, false, Option, Some, None, Result, Ok, Err, IsErrAnd, IfErr, refl, sym, ap, subst, ◌∙◌, arith, append_assoc, append-nil, length-append, length-drop, unwrap_or, inl, inr}
-use borrow.Rule.Slice.PartMut.{put_mid, post_of}
+use Rattle.std.proofs.Common.{◌≡◌, ◌≢◌, ◌⊎◌, ℕ, zero, suc, ◌+◌, ◌-◌, ◌≤◌, List, [], ◌∷◌, ◌++◌, length, take, drop, slice_range, Option, Some, None, Result, Ok, Err, IsErrAnd, IfErr, refl, sym, ap, subst, ◌∙◌, arith, append_assoc, append-nil, unwrap_or, inl, inr}
 use Rattle.std.proofs.lemmas.List.{take-append-le, take-append-drop, drop-append-le, length-take-le}
 use Rattle.std.specs.Io.KnownBytes.{Appends}
 use Rattle.ether_filter.specs.Expressions.{Expression}
 use Rattle.ether_pcap.specs.Capture.{PacketValue, Expectation, Beginning, CaptureRefusal, Begins, Refuses, required_len, IsEnd, HasPackets}
-use Rattle.ether_pcap.specs.Cutting.{cut_unit}
-use Rattle.ether_pcap.specs.Copies.{CopyFault, Refused, NotCut, Copies, ended, refused, not_cut, unit, keeps, leaves, CutsNone, cut_all}
+use Rattle.ether_pcap.specs.Editing.{EditedValue, unit_after}
+use Rattle.ether_pcap.specs.Writing.{zeros}
+use Rattle.ether_pcap.specs.Copies.{CopyFault, Refused, NotEdited, Copies, ended, refused, not_edited, unit, keeps, leaves, EditsNone, edited_all}
 use Rattle.ether_pcap.proofs.CaptureLocality.{unit_local, unit_alone, refusal_local}
 use Rattle.ether_pcap.proofs.CaptureSome.{at_end}
-use Rattle.ether_pcap.proofs.Copies.{copy_read, copy_source, copy_nothing, copy_all, unit_uncut}
+use Rattle.ether_pcap.proofs.Copies.{copy_read, copy_source, copy_nothing, copy_all}
 use Rattle.ether_pcap.proofs.PacketUnits.{same_after}
+use Rattle.ether_content.specs.Editing.{EditValue}
 use Rattle.ether_text.specs.OutputBuffer.{contents_of, WritesOut}
 use Rattle.ether_text.specs.declared.output_buffer.OutputBuffer.{OutputBuffer}
 use Rattle.ether_text.proofs.KnownBytesLemmas.{Appends-none, Appends-then, Appends-written_out}
 use Rattle.ether_capture.specs.Options.{SelectionValue}
 use Rattle.ether_capture.specs.Packets.{counted}
-use Rattle.ether_capture.specs.Copying.{IsCopied, CutsTo, IsCopyTo, CopyGoesOn, CopiesOn}
-use Rattle.ether_capture.specs.CopyLoop.{CopyReached, IsEdit, IsPacketOf, edited, TakesEdited, StopsUncut, StopsAtPacket, StopsAfter, OnNotCut, IsCopyStart}
+use Rattle.ether_capture.specs.Copying.{IsCopied, EditsTo, EditsIf, IsCopyTo, CopyGoesOn, CopiesOn}
+use Rattle.ether_capture.specs.CopyLoop.{CopyReached, IsUnitOf, Writes, writes_unit, writes_nothing, writes_packet, TakesUnit, StopsUnwritten, StopsAtPacket, StopsAfter, OnNotEdited, IsCopyStart}
 use Rattle.ether_capture.specs.declared.outcome.RunFault.{RunFault}
 use Rattle.ether_capture.specs.declared.outcome.RunFault.TheVariants as faults
 use Rattle.ether_capture.specs.declared.copy_loop.CopyLoop.{CopyLoop}
-use Rattle.ether_capture.specs.declared.copy_loop.Edit.{Edit}
-use Rattle.ether_capture.specs.declared.copy_loop.Edit.TheVariants as edits
 use Rattle.ether_capture.proofs.FrameLoopLemmas.{front_after, front_len}
 
 -- ---- copies
 
-none_cut : (cut : Bool) (to : PacketValue → ℕ) → cut ≡ false → CutsTo cut to → CutsNone to
-none_cut true to whole cuts = absurd cc
-none_cut false to whole cuts = λ p. let e = cuts p in omega (arith, e)
+none_edited : (asked : Option EditValue) (edit : PacketValue → Option EditedValue) → asked ≡ None
+    → EditsTo asked edit → EditsNone edit
+none_edited None edit none edits = λ p. edits p None refl
+none_edited (Some e) edit none edits = absurd cc
 
-module _ (asked : SelectionValue) (to : PacketValue → ℕ) (cuts : CutsTo asked.cut to) where
+module _ (asked : SelectionValue) (edit : PacketValue → Option EditedValue) (edits : EditsTo asked.edit edit) where
   abbrev pub Copied : Expectation → (bytes copy : List ℕ) → (kept : List PacketValue) → (rest : List ℕ)
       → Option CopyFault → Type 0
-  Copied = Copies (IsCopied asked.select) to
+  Copied = Copies (IsCopied asked.select) edit
 
   abbrev pub GoesOn : (input copy : List ℕ) → (kept : List PacketValue) → Expectation → (buffered : List ℕ) → Type 0
-  GoesOn = CopyGoesOn asked.select to
+  GoesOn = CopyGoesOn asked.select edit
 
   -- what is known of a copy
   pub is_copy : (bytes copy : List ℕ) (kept : List PacketValue) (rest : List ℕ) (fault : Option CopyFault)
-      → Copied Beginning bytes copy kept rest fault → IsCopyTo to asked bytes copy rest fault
+      → Copied Beginning bytes copy kept rest fault → IsCopyTo edit asked bytes copy rest fault
   is_copy bytes copy kept rest fault copies =
-      let source = copy_source (IsCopied asked.select) to Beginning bytes copy kept rest fault copies in
+      let source = copy_source (IsCopied asked.select) edit Beginning bytes copy kept rest fault copies in
       record {
         packets = source.packets;
         kept = kept;
@@ -51,18 +51,18 @@ module _ (asked : SelectionValue) (to : PacketValue → ℕ) (cuts : CutsTo aske
         selected = source.selected;
         copies = copies;
         is_read = λ some.
-            copy_read (IsCopied asked.select) to Beginning bytes copy kept rest fault copies (inr (not_empty some));
+            copy_read (IsCopied asked.select) edit Beginning bytes copy kept rest fault copies (inr (not_empty some));
         nothing = λ none.
-            (copy_nothing (IsCopied asked.select) to Beginning bytes copy kept rest fault copies refl none).1;
+            (copy_nothing (IsCopied asked.select) edit Beginning bytes copy kept rest fault copies refl none).1;
         all = λ every whole.
-            copy_all to (none_cut asked.cut to whole cuts) Beginning bytes copy kept rest fault
-            (subst (λ (s : Option Expression). Copies (IsCopied s) to Beginning bytes copy kept rest fault)
+            copy_all edit (none_edited asked.edit edit whole edits) Beginning bytes copy kept rest fault
+            (subst (λ (s : Option Expression). Copies (IsCopied s) edit Beginning bytes copy kept rest fault)
             every copies);
       }
     where
       not_empty : (fault ≡ None) ⊎ (copy ≢ []) → copy ≢ []
       not_empty (inl none) = λ e.
-          (copy_nothing (IsCopied asked.select) to Beginning bytes copy kept rest fault copies refl e).2 none
+          (copy_nothing (IsCopied asked.select) edit Beginning bytes copy kept rest fault copies refl e).2 none
       not_empty (inr some) = some
 
   -- nothing is read
@@ -102,7 +102,7 @@ module _ (asked : SelectionValue) (to : PacketValue → ℕ) (cuts : CutsTo aske
   CopyGoesOn-kept : (input copy front : List ℕ) (kept : List PacketValue) (p : PacketValue) (x y : Expectation)
       (buffered : List ℕ) (len : ℕ)
       → len ≤ length buffered → Begins buffered x len (Some p) y → IsCopied asked.select p
-      → cut_unit x (length p.packet) (to p) (take len buffered) ≡ Some front → GoesOn input copy kept x buffered
+      → unit_after x p (edit p) (take len buffered) ≡ Some front → GoesOn input copy kept x buffered
       → GoesOn input (copy ++ front) (kept ++ p ∷ []) y (drop len buffered)
   CopyGoesOn-kept input copy front kept p x y buffered len within is copied fits go later more others rest fault
       copies =
@@ -115,9 +115,9 @@ module _ (asked : SelectionValue) (to : PacketValue → ℕ) (cuts : CutsTo aske
       copied (same_fit fits)
       (after y buffered later more len others rest fault within copies))))
     where
-      same_fit : cut_unit x (length p.packet) (to p) (take len buffered) ≡ Some front
-          → cut_unit x (length p.packet) (to p) (take len (buffered ++ later)) ≡ Some front
-      same_fit e = ap (cut_unit x (length p.packet) (to p)) (take-append-le len buffered later within) ∙ e
+      same_fit : unit_after x p (edit p) (take len buffered) ≡ Some front
+          → unit_after x p (edit p) (take len (buffered ++ later)) ≡ Some front
+      same_fit e = ap (unit_after x p (edit p)) (take-append-le len buffered later within) ∙ e
 
   -- a packet is left out
   CopyGoesOn-left : (input copy : List ℕ) (kept : List PacketValue) (p : PacketValue) (x y : Expectation)
@@ -152,17 +152,17 @@ module _ (asked : SelectionValue) (to : PacketValue → ℕ) (cuts : CutsTo aske
       front [] ys e = refl
       front (b ∷ xs) ys e = absurd cc
 
-  -- a packet that can't be cut
+  -- a packet that can't be edited
   pub copied_to_packet : (input copy : List ℕ) (kept : List PacketValue) (x : Expectation) (buffered later : List ℕ)
       (len : ℕ) (p : PacketValue)
       → len ≤ length buffered → Begins buffered x len (Some p) x → IsCopied asked.select p
-      → cut_unit x (length p.packet) (to p) (take len buffered) ≡ None → GoesOn input copy kept x buffered
-      → Copied Beginning (input ++ later) copy kept (buffered ++ later) (Some (NotCut p))
-  copied_to_packet input copy kept x buffered later len p within begins is uncut go =
-      ended_copy (input ++ later) copy kept (buffered ++ later) (Some (NotCut p))
-      (go later [] [] (buffered ++ later) (Some (NotCut p))
-      (not_cut x x (buffered ++ later) len p (unit_local buffered later x x len (Some p) begins) is
-      (ap (cut_unit x (length p.packet) (to p)) (take-append-le len buffered later within) ∙ uncut)))
+      → unit_after x p (edit p) (take len buffered) ≡ None → GoesOn input copy kept x buffered
+      → Copied Beginning (input ++ later) copy kept (buffered ++ later) (Some (NotEdited p))
+  copied_to_packet input copy kept x buffered later len p within begins is not_written go =
+      ended_copy (input ++ later) copy kept (buffered ++ later) (Some (NotEdited p))
+      (go later [] [] (buffered ++ later) (Some (NotEdited p))
+      (not_edited x x (buffered ++ later) len p (unit_local buffered later x x len (Some p) begins) is
+      (ap (unit_after x p (edit p)) (take-append-le len buffered later within) ∙ not_written)))
 
   -- the end of a capture that has begun
   pub copied_to_end : (input copy : List ℕ) (kept : List PacketValue) (x : Expectation) → x ≢ Beginning
@@ -186,36 +186,35 @@ module _ (asked : SelectionValue) (to : PacketValue → ℕ) (cuts : CutsTo aske
   pub read_so_far : (input copy : List ℕ) (kept : List PacketValue) (x : Expectation) (buffered : List ℕ)
       (r : CaptureRefusal)
       → Refuses buffered x r → GoesOn input copy kept x buffered → copy ≢ []
-      → HasPackets Beginning copy (cut_all to kept) [] None
+      → HasPackets Beginning copy (edited_all edit kept) [] None
   read_so_far input copy kept x buffered r is go some =
       elim (at_end x buffered) [
         | inl end ↦
             let go2 = subst (λ (l : List ℕ). GoesOn input copy kept x l) end.1 go in
-            copy_read (IsCopied asked.select) to Beginning input copy kept [] None
+            copy_read (IsCopied asked.select) edit Beginning input copy kept [] None
             (copied_to_end input copy kept x end.0 go2) (inr some)
         | inr more ↦
-            copy_read (IsCopied asked.select) to Beginning (input ++ []) copy kept (buffered ++ []) (Some (Refused r))
+            copy_read (IsCopied asked.select) edit Beginning (input ++ []) copy kept (buffered ++ []) (Some (Refused r))
             (copied_at_last input copy kept x buffered r more is go) (inr some)
       ]
 
 -- ---- one unit
-
--- a packet that is copied as it is, or cut, is cut to as many bytes as is said
-cut_as_said : (asked : SelectionValue) (to : PacketValue → ℕ) (x : Expectation) (bytes : List ℕ) (p : PacketValue)
-    (edit : Edit) → CutsTo asked.cut to → IsEdit asked (Some p) edit → IsCopied asked.select p
-    → cut_unit x (length p.packet) (to p) bytes ≡ edited x bytes (Some p) edit
-cut_as_said asked to x bytes p edits.LeaveOut cuts is copied = absurd (is copied)
-cut_as_said asked to x bytes p edits.Copy cuts is copied =
-    unit_uncut to (none_cut asked.cut to is.1 cuts) x p bytes
-cut_as_said asked to x bytes p (edits.Cut n) cuts is copied =
-    let cuts2 = subst (λ (b : Bool). CutsTo b to) is.1 cuts in
-    ap (λ m. cut_unit x (length p.packet) m bytes) (cuts2 p n is.2)
 
 some_text : (a b : List ℕ) → Some a ≡ Some b → a ≡ b
 some_text a b e = ap (λ (o : Option (List ℕ)). unwrap_or o a) e
 
 some_none : (a : List ℕ) → Some a ≡ None → ⊥
 some_none a e = absurd cc
+
+-- what is written for a packet that is copied, by any function that says what it is edited to
+edited_as_said : (asked : SelectionValue) (edit : PacketValue → Option EditedValue) (x y : Expectation)
+    (own bytes : List ℕ) (p : PacketValue) (o : Option EditedValue) (text : Option (List ℕ))
+    → EditsTo asked.edit edit → EditsIf asked.edit p o → x ≡ y → own ≡ bytes → unit_after x p o own ≡ text
+    → unit_after y p (edit p) bytes ≡ text
+edited_as_said asked edit x y own bytes p o text edits is at unit_is e =
+    ap (λ (z : Option EditedValue). unit_after y p z bytes) (edits p o is)
+    ∙ ap (λ (z : Expectation). unit_after z p o bytes) (sym at)
+    ∙ ap (unit_after x p o) (sym unit_is) ∙ e
 
 -- ---- how far the run has come
 
@@ -227,9 +226,9 @@ module _ {W : Type 0} (asked : SelectionValue) (contents : W → Option (List �
     front = [];
     copy = [];
     kept = [];
-    parts = λ to cuts.
-        subst (λ (x : Expectation). CopyGoesOn asked.select to [] [] [] x []) (sym is.is_reader)
-        (CopyGoesOn-start asked to cuts);
+    parts = λ edit edits.
+        subst (λ (x : Expectation). CopyGoesOn asked.select edit [] [] [] x []) (sym is.is_reader)
+        (CopyGoesOn-start asked edit edits);
     place = refl;
     is_offset = is.is_offset;
     written = Appends-none (contents_of contents out);
@@ -260,8 +259,8 @@ module _ {W : Type 0} (asked : SelectionValue) (contents : W → Option (List �
     front = so_far.front;
     copy = so_far.copy;
     kept = so_far.kept;
-    parts = λ to cuts.
-        CopyGoesOn-more asked to cuts input so_far.copy so_far.kept at.reader buffered chunk (so_far.parts to cuts);
+    parts = λ edit edits.
+        CopyGoesOn-more asked edit edits input so_far.copy so_far.kept at.reader buffered chunk (so_far.parts edit edits);
     place = ap (λ (l : List ℕ). l ++ chunk) so_far.place ∙ append_assoc so_far.front buffered chunk;
     is_offset = so_far.is_offset;
     written = so_far.written;
@@ -292,20 +291,23 @@ module _ {W : Type 0} (asked : SelectionValue) (contents : W → Option (List �
   }
 
   -- a packet is taken that is copied
-  kept_taken : (held : Option (List ℕ)) (input buffered : List ℕ) (old new : CopyLoop) (y : Expectation)
-      (from to : OutputBuffer W) (len : ℕ) (p : PacketValue) (edit : Edit) (copy : List ℕ)
-      → len ≤ length buffered → Begins buffered old.reader len (Some p) y → IsEdit asked (Some p) edit
-      → IsCopied asked.select p → edited old.reader (take len buffered) (Some p) edit ≡ Some copy
+  kept_taken : (held : Option (List ℕ)) (input buffered : List ℕ) (old new : CopyLoop) (x y : Expectation)
+      (from to : OutputBuffer W) (len : ℕ) (p : PacketValue) (o : Option EditedValue) (own copy : List ℕ)
+      → len ≤ length buffered → Begins buffered old.reader len (Some p) y → IsCopied asked.select p
+      → EditsIf asked.edit p o → x ≡ y → own ≡ take len buffered → unit_after x p o own ≡ Some copy
       → Appends (contents_of contents from) (contents_of contents to) copy
       → new.offset ≡ counted (old.offset + len) → new.reader ≡ y
       → CopyReached asked contents held input buffered old from
       → CopyReached asked contents held input (drop len buffered) new to
-  kept_taken held input buffered old new y from to len p edit copy within begins is copied text written offset reader
-      so_far =
+  kept_taken held input buffered old new x y from to len p o own copy within begins copied is at unit_is text written
+      offset reader so_far =
       copied_more held input buffered old new y from to len copy (so_far.kept ++ p ∷ []) within so_far
-      (λ cut cuts.
-      CopyGoesOn-kept asked cut cuts input so_far.copy copy so_far.kept p old.reader y buffered len within begins copied
-      (cut_as_said asked cut old.reader (take len buffered) p edit cuts is copied ∙ text) (so_far.parts cut cuts))
+      (λ edit edits.
+      CopyGoesOn-kept asked edit edits input so_far.copy copy so_far.kept p old.reader y buffered len within begins
+      copied
+      (edited_as_said asked edit x old.reader own (take len buffered) p o (Some copy) edits is
+      (at ∙ same_after buffered old.reader y len p begins) unit_is text)
+      (so_far.parts edit edits))
       written offset reader
 
   -- a packet is taken that is left out
@@ -320,111 +322,115 @@ module _ {W : Type 0} (asked : SelectionValue) (contents : W → Option (List �
       let same : so_far.copy ++ copy ≡ so_far.copy =
       ap (λ (l : List ℕ). so_far.copy ++ l) none ∙ append-nil so_far.copy in
       copied_more held input buffered old new y from to len copy so_far.kept within so_far
-      (λ cut cuts.
-      subst (λ (l : List ℕ). CopyGoesOn asked.select cut input l so_far.kept y (drop len buffered)) (sym same)
-      (CopyGoesOn-left asked cut cuts input so_far.copy so_far.kept p old.reader y buffered len within begins is
-      (so_far.parts cut cuts)))
+      (λ edit edits.
+      subst (λ (l : List ℕ). CopyGoesOn asked.select edit input l so_far.kept y (drop len buffered)) (sym same)
+      (CopyGoesOn-left asked edit edits input so_far.copy so_far.kept p old.reader y buffered len within begins is
+      (so_far.parts edit edits)))
       written offset reader
 
-  packet_taken : (held : Option (List ℕ)) (input buffered : List ℕ) (old new : CopyLoop) (y : Expectation)
-      (from to : OutputBuffer W) (len : ℕ) (p : PacketValue) (edit : Edit) (copy : List ℕ)
-      → len ≤ length buffered → Begins buffered old.reader len (Some p) y → IsEdit asked (Some p) edit
-      → edited old.reader (take len buffered) (Some p) edit ≡ Some copy
+  -- .. by what is written for it
+  written_unit : (held : Option (List ℕ)) (input buffered : List ℕ) (old new : CopyLoop) (x y : Expectation)
+      (from to : OutputBuffer W) (len : ℕ) (packet : Option PacketValue) (own copy : List ℕ)
+      (text : Option (List ℕ))
+      → len ≤ length buffered → Begins buffered old.reader len packet y → x ≡ y → own ≡ take len buffered
+      → text ≡ Some copy → Writes asked x own packet text
       → Appends (contents_of contents from) (contents_of contents to) copy
       → new.offset ≡ counted (old.offset + len) → new.reader ≡ y
       → CopyReached asked contents held input buffered old from
       → CopyReached asked contents held input (drop len buffered) new to
-  packet_taken held input buffered old new y from to len p edits.LeaveOut copy within begins is text written offset
-      reader so_far =
-      left_taken held input buffered old new y from to len p copy within begins is (sym (some_text [] copy text))
-      written
-      offset reader so_far
-  packet_taken held input buffered old new y from to len p edits.Copy copy within begins is text written offset reader
-      so_far =
-      kept_taken held input buffered old new y from to len p edits.Copy copy within begins is is.0 text written offset
-      reader so_far
-  packet_taken held input buffered old new y from to len p (edits.Cut n) copy within begins is text written offset
-      reader so_far =
-      kept_taken held input buffered old new y from to len p (edits.Cut n) copy within begins is is.0 text
-      written offset
-      reader so_far
+  written_unit held input buffered old new x y from to len packet own copy text within begins at unit_is is writes_unit
+      written offset reader so_far =
+      let same : take len buffered ≡ copy = sym unit_is ∙ some_text own copy is in
+      copied_more held input buffered old new y from to len copy so_far.kept within so_far
+      (λ edit edits.
+      subst (λ (l : List ℕ). CopyGoesOn asked.select edit input (so_far.copy ++ l) so_far.kept y (drop len buffered))
+      same
+      (CopyGoesOn-unit asked edit edits input so_far.copy so_far.kept old.reader y buffered len within begins
+      (so_far.parts edit edits)))
+      written offset reader
+  written_unit held input buffered old new x y from to len packet own copy text within begins at unit_is is
+      (writes_nothing p not_copied) written offset reader so_far =
+      left_taken held input buffered old new y from to len p copy within begins not_copied
+      (sym (some_text [] copy is)) written offset reader so_far
+  written_unit held input buffered old new x y from to len packet own copy text within begins at unit_is is
+      (writes_packet p o _ kept edits e) written offset reader so_far =
+      kept_taken held input buffered old new x y from to len p o own copy within begins kept edits at unit_is (e ∙ is)
+      written offset reader so_far
 
   -- a unit is taken
   pub CopyReached-unit : (held : Option (List ℕ)) (input buffered : List ℕ) (old new : CopyLoop) (y : Expectation)
-      (from to : OutputBuffer W) (len : ℕ) (packet : Option PacketValue) (edit : Edit)
-      → len ≤ length buffered → Begins buffered old.reader len packet y → IsEdit asked packet edit
-      → TakesEdited contents (edited y (take len buffered) packet edit) len (record old { reader = y }) from new to
+      (from to : OutputBuffer W) (len : ℕ) (packet : Option PacketValue) (own : List ℕ)
+      → len ≤ length buffered → Begins buffered old.reader len packet y → own ≡ take len buffered
+      → TakesUnit asked contents own packet (record old { reader = y }) from new to
       → CopyReached asked contents held input buffered old from
       → CopyReached asked contents held input (drop len buffered) new to
-  CopyReached-unit held input buffered old new y from to len None edit within begins is takes so_far =
-      let text = ap (edited y (take len buffered) None) (sym is) ∙ takes.is_copy in
-      let same : take len buffered ≡ takes.copy = some_text (take len buffered) takes.copy text in
-      copied_more held input buffered old new y from to len takes.copy so_far.kept within so_far
-      (λ cut cuts.
-      subst (λ (l : List ℕ). CopyGoesOn asked.select cut input (so_far.copy ++ l) so_far.kept y (drop len buffered))
-      same
-      (CopyGoesOn-unit asked cut cuts input so_far.copy so_far.kept old.reader y buffered len within begins
-      (so_far.parts cut cuts)))
-      takes.written takes.is_offset takes.same_reader
-  CopyReached-unit held input buffered old new y from to len (Some p) edit within begins is takes so_far =
-      let same = same_after buffered old.reader y len p begins in
-      packet_taken held input buffered old new y from to len p edit takes.copy within begins is
-      (subst (λ (z : Expectation). edited z (take len buffered) (Some p) edit ≡ Some takes.copy) same takes.is_copy)
-      takes.written takes.is_offset takes.same_reader so_far
+  CopyReached-unit held input buffered old new y from to len packet own within begins unit_is takes so_far =
+      let long : length own ≡ len = ap length unit_is ∙ length-take-le len buffered within in
+      written_unit held input buffered old new y y from to len packet own takes.copy (Some takes.copy) within begins refl
+      unit_is refl takes.writes takes.written
+      (takes.is_offset ∙ ap (λ (k : ℕ). counted (old.offset + k)) long) takes.same_reader so_far
 
-  -- a packet can't be cut
+  -- a packet can't be edited
   packet_stops : (held : Option (List ℕ)) (input buffered : List ℕ) (old : CopyLoop) (from to : OutputBuffer W)
-      (len : ℕ) (p : PacketValue) (edit : Edit) (offset : ℕ)
-      → Begins buffered old.reader len (Some p) old.reader → IsEdit asked (Some p) edit → IsCopied asked.select p
-      → edited old.reader (take len buffered) (Some p) edit ≡ None → offset ≡ old.offset → to ≡ from
+      (x : Expectation) (len : ℕ) (p : PacketValue) (o : Option EditedValue) (own : List ℕ) (offset : ℕ)
+      → Begins buffered old.reader len (Some p) old.reader → IsCopied asked.select p → EditsIf asked.edit p o
+      → x ≡ old.reader → own ≡ take len buffered → unit_after x p o own ≡ None
+      → offset ≡ old.offset → to ≡ from
       → CopyReached asked contents held input buffered old from → StopsAtPacket asked contents held input offset to
-  packet_stops held input buffered old from to len p edit offset begins is copied none at same so_far = record {
-    front = so_far.front;
-    copy = so_far.copy;
-    kept = so_far.kept;
-    buffered = buffered;
-    expected = old.reader;
-    len = len;
-    packet = p;
-    parts = so_far.parts;
-    begins = begins;
-    copied = copied;
-    uncut = λ cut cuts. cut_as_said asked cut old.reader (take len buffered) p edit cuts is copied ∙ none;
-    place = so_far.place;
-    is_offset = at ∙ so_far.is_offset;
-    written =
-        subst (λ (out : OutputBuffer W). Appends held (contents_of contents out) so_far.copy) (sym same) so_far.written;
-  }
+  packet_stops held input buffered old from to x len p o own offset begins copied is same unit_is none at same_out
+      so_far = record {
+        front = so_far.front;
+        copy = so_far.copy;
+        kept = so_far.kept;
+        buffered = buffered;
+        expected = old.reader;
+        len = len;
+        packet = p;
+        parts = so_far.parts;
+        begins = begins;
+        copied = copied;
+        not_written = λ edit edits.
+            edited_as_said asked edit x old.reader own (take len buffered) p o None edits is same unit_is none;
+        place = so_far.place;
+        is_offset = at ∙ so_far.is_offset;
+        written =
+            subst (λ (out : OutputBuffer W). Appends held (contents_of contents out) so_far.copy) (sym same_out)
+            so_far.written;
+      }
+
+  unwritten_unit : (held : Option (List ℕ)) (input buffered : List ℕ) (old : CopyLoop) (x y : Expectation)
+      (from to : OutputBuffer W) (len : ℕ) (packet : Option PacketValue) (own : List ℕ) (offset : ℕ)
+      (text : Option (List ℕ))
+      → Begins buffered old.reader len packet y → x ≡ y → own ≡ take len buffered → text ≡ None
+      → Writes asked x own packet text → offset ≡ old.offset → to ≡ from
+      → CopyReached asked contents held input buffered old from → StopsAtPacket asked contents held input offset to
+  unwritten_unit held input buffered old x y from to len packet own offset text begins at unit_is none writes_unit place
+      same_out so_far = absurd (some_none own none)
+  unwritten_unit held input buffered old x y from to len packet own offset text begins at unit_is none
+      (writes_nothing p not_copied) place same_out so_far = absurd (some_none [] none)
+  unwritten_unit held input buffered old x y from to len packet own offset text begins at unit_is none
+      (writes_packet p o _ kept edits e) place same_out so_far =
+      let same = same_after buffered old.reader y len p begins in
+      packet_stops held input buffered old from to x len p o own offset
+      (subst (λ (z : Expectation). Begins buffered old.reader len (Some p) z) same begins) kept edits (at ∙ same)
+      unit_is (e ∙ none) place same_out so_far
 
   pub CopyReached-stopped : (held : Option (List ℕ)) (input buffered : List ℕ) (old : CopyLoop) (y : Expectation)
-      (from to : OutputBuffer W) (len : ℕ) (packet : Option PacketValue) (edit : Edit) (offset : ℕ)
-      → Begins buffered old.reader len packet y → IsEdit asked packet edit
-      → StopsUncut (edited y (take len buffered) packet edit) (record old { reader = y }) from offset to
+      (from to : OutputBuffer W) (len : ℕ) (packet : Option PacketValue) (own : List ℕ) (offset : ℕ)
+      → Begins buffered old.reader len packet y → own ≡ take len buffered
+      → StopsUnwritten asked own packet (record old { reader = y }) from offset to
       → CopyReached asked contents held input buffered old from → StopsAtPacket asked contents held input offset to
-  CopyReached-stopped held input buffered old y from to len None edit offset begins is stops so_far =
-      absurd (some_none (take len buffered) (ap (edited y (take len buffered) None) (sym is) ∙ stops.uncut))
-  CopyReached-stopped held input buffered old y from to len (Some p) edits.LeaveOut offset begins is stops so_far =
-      absurd (some_none [] stops.uncut)
-  CopyReached-stopped held input buffered old y from to len (Some p) edits.Copy offset begins is stops so_far =
-      absurd (some_none (take len buffered) stops.uncut)
-  CopyReached-stopped held input buffered old y from to len (Some p) (edits.Cut n) offset begins is stops so_far =
-      let same = same_after buffered old.reader y len p begins in
-      packet_stops held input buffered old from to len p (edits.Cut n) offset
-      (subst (λ (z : Expectation). Begins buffered old.reader len (Some p) z) same begins) is is.0
-      (subst (λ (z : Expectation). edited z (take len buffered) (Some p) (edits.Cut n) ≡ None) same stops.uncut)
-      stops.is_offset stops.same_out so_far
+  CopyReached-stopped held input buffered old y from to len packet own offset begins unit_is stops so_far =
+      unwritten_unit held input buffered old y y from to len packet own offset None begins refl unit_is refl
+      stops.not_written stops.is_offset stops.same_out so_far
 
 -- ---- the unit that is taken
 
--- a unit that was read has the packet that is to be cut
-pub packet_of_unit : (asked : SelectionValue) (buffered : List ℕ) (x y : Expectation) (len : ℕ)
-    (packet : Option PacketValue) (edit : Edit) → len ≤ length buffered → Begins buffered x len packet y
-    → IsEdit asked packet edit → IsPacketOf y (take len buffered) packet edit
-packet_of_unit asked buffered x y len None edit within begins is =
-    subst (λ (e : Edit). IsPacketOf y (take len buffered) None e) (sym is) tt
-packet_of_unit asked buffered x y len (Some p) edits.LeaveOut within begins is = tt
-packet_of_unit asked buffered x y len (Some p) edits.Copy within begins is = tt
-packet_of_unit asked buffered x y len (Some p) (edits.Cut n) within begins is =
+-- a unit that was read has this packet
+pub packet_of_unit : (buffered : List ℕ) (x y : Expectation) (len : ℕ) (packet : Option PacketValue)
+    → len ≤ length buffered → Begins buffered x len packet y → IsUnitOf y (take len buffered) packet
+packet_of_unit buffered x y len None within begins = tt
+packet_of_unit buffered x y len (Some p) within begins =
     let front = take len buffered in
     let long : length front ≡ len = length-take-le len buffered within in
     let whole = subst (λ (l : List ℕ). Begins l x len (Some p) y) (sym (take-append-drop len buffered)) begins in
@@ -434,50 +440,30 @@ packet_of_unit asked buffered x y len (Some p) (edits.Cut n) within begins is =
     (subst (λ (k : ℕ). Begins front x k (Some p) y) (sym long) alone)
 
 -- it is the front of what was buffered
-pub unit_is : (bytes whole : List ℕ) (at len : ℕ) → drop at bytes ≡ drop at whole
-    → slice_range bytes at (at + len) ≡ take len (drop at whole)
-unit_is bytes whole at len same =
-    let n : at + len - at ≡ len = omega arith in
-    ap (λ k. take k (drop at bytes)) n ∙ ap (take len) same
+pub unit_is : (bytes : List ℕ) (at len : ℕ) → slice_range bytes at (at + len) ≡ take len (drop at bytes)
+unit_is bytes at len = let n : at + len - at ≡ len = omega arith in ap (λ k. take k (drop at bytes)) n
 
--- what is written for it
-pub unit_written : {W : Type 0} (contents : W → Option (List ℕ)) (asked : SelectionValue) (buffered bytes : List ℕ)
-    (y : Expectation) (len : ℕ) (packet : Option PacketValue) (edit : Edit) (old new : CopyLoop)
-    (from to : OutputBuffer W)
-    → len ≤ length buffered → bytes ≡ take len buffered
-    → TakesEdited contents (edited y bytes packet edit) (length bytes) old from new to
-    → TakesEdited contents (edited y (take len buffered) packet edit) len old from new to
-unit_written contents asked buffered bytes y len packet edit old new from to within is takes =
-    subst (λ (k : ℕ). TakesEdited contents (edited y (take len buffered) packet edit) k old from new to)
-    (length-take-le len buffered within)
-    (subst (λ (l : List ℕ). TakesEdited contents (edited y l packet edit) (length l) old from new to) is takes)
-
--- .. nothing, if its packet can't be cut
-pub unit_uncuttable : {W : Type 0} (asked : SelectionValue) (contents : W → Option (List ℕ))
-    (whole bytes buffered : List ℕ) (x y : Expectation) (len : ℕ) (packet : Option PacketValue) (edit : Edit)
+-- a packet that can't be edited stops the run
+pub unit_unwritten : {W : Type 0} (asked : SelectionValue) (contents : W → Option (List ℕ))
+    (whole bytes buffered : List ℕ) (y : Expectation) (len : ℕ) (packet : Option PacketValue)
     (first old : CopyLoop) (begin from to : OutputBuffer W) (fault : RunFault)
-    → bytes ≡ take len buffered → old.reader ≡ x → Begins buffered x len packet y → IsEdit asked packet edit
-    → IsPacketOf y bytes packet edit
-    → OnNotCut fault (λ offset. (p : Option PacketValue) → IsPacketOf y bytes p edit
-    → StopsUncut (edited y bytes p edit) (record old { reader = y }) from offset to)
+    → bytes ≡ take len buffered → Begins buffered old.reader len packet y
+    → OnNotEdited fault (λ offset. StopsUnwritten asked bytes packet (record old { reader = y }) from offset to)
     → ((held : Option (List ℕ)) (input : List ℕ) → CopyReached asked contents held input whole first begin
     → CopyReached asked contents held input buffered old from)
-    → OnNotCut fault (λ offset. StopsAfter asked contents whole first begin offset to)
-unit_uncuttable asked contents whole bytes buffered x y len packet edit first old begin from to (faults.NotCut offset)
-    is at begins edits of stops reached = λ held input so_far.
-    CopyReached-stopped asked contents held input buffered old y from to len packet edit offset
-    (subst (λ (z : Expectation). Begins buffered z len packet y) (sym at) begins) edits
-    (subst (λ (l : List ℕ). StopsUncut (edited y l packet edit) (record old { reader = y }) from offset to) is
-    (stops packet of))
+    → OnNotEdited fault (λ offset. StopsAfter asked contents whole first begin offset to)
+unit_unwritten asked contents whole bytes buffered y len packet first old begin from to (faults.NotEdited offset) is
+    begins stops reached = λ held input so_far.
+    CopyReached-stopped asked contents held input buffered old y from to len packet bytes offset begins is stops
     (reached held input so_far)
-unit_uncuttable asked contents whole bytes buffered x y len packet edit first old begin from to (faults.Capture f)
-    is at begins edits of stops reached = tt
-unit_uncuttable asked contents whole bytes buffered x y len packet edit first old begin from to faults.Input
-    is at begins edits of stops reached = tt
-unit_uncuttable asked contents whole bytes buffered x y len packet edit first old begin from to faults.Output
-    is at begins edits of stops reached = tt
-unit_uncuttable asked contents whole bytes buffered x y len packet edit first old begin from to faults.Memory
-    is at begins edits of stops reached = tt
+unit_unwritten asked contents whole bytes buffered y len packet first old begin from to (faults.Capture f) is begins
+    stops reached = tt
+unit_unwritten asked contents whole bytes buffered y len packet first old begin from to faults.Input is begins stops
+    reached = tt
+unit_unwritten asked contents whole bytes buffered y len packet first old begin from to faults.Output is begins stops
+    reached = tt
+unit_unwritten asked contents whole bytes buffered y len packet first old begin from to faults.Memory is begins stops
+    reached = tt
 
 -- what is so of a fault is so of the same one
 pub err_is : {A : Type 0} (r : Result A RunFault) (fault : RunFault) (P : RunFault → Type 0)
@@ -485,11 +471,10 @@ pub err_is : {A : Type 0} (r : Result A RunFault) (fault : RunFault) (P : RunFau
 err_is (Ok a) fault P is p = tt
 err_is (Err other) fault P is p = subst P (sym is) p
 
--- a slice is as long as it was once a part of it was written
-pub put_len : (a k : ℕ) (xs ys : List ℕ) → a + k ≤ length xs → length ys ≡ k → length (put_mid a k xs ys) ≡ length xs
-put_len a k xs ys fits is =
-    let first = length-append (take a xs) (ys ++ post_of a k xs) in
-    let second = length-append ys (post_of a k xs) in
-    let t = length-take-le a xs (omega (arith, fits)) in
-    let d : length (post_of a k xs) ≡ length (drop a xs) - k = length-drop k (drop a xs) in
-    first ∙ omega (arith, fits, is, second, t, d, length-drop a xs)
+-- the padding, from at most three zeros
+pub zeros_of_three : (k : ℕ) → k ≤ 3 → take k (0 ∷ 0 ∷ 0 ∷ []) ≡ zeros k
+zeros_of_three zero le = refl
+zeros_of_three (suc zero) le = refl
+zeros_of_three (suc (suc zero)) le = refl
+zeros_of_three (suc (suc (suc zero))) le = refl
+zeros_of_three (suc (suc (suc (suc k)))) le = absurd (omega arith)

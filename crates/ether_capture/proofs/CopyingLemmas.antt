@@ -4,7 +4,8 @@ use Rattle.std.specs.Io.KnownBytes.{Consumes, IsAtEnd, Keeps}
 use Rattle.ether_pcap.specs.Capture.{PacketValue, Beginning, CaptureRefusal, Refuses, required_len, IsEnd}
 use Rattle.ether_pcap.specs.CaptureViews.{capture_refusal_view}
 use Rattle.ether_pcap.proofs.CaptureLengths.{unit_within}
-use Rattle.ether_pcap.specs.Copies.{Refused, NotCut, Copies}
+use Rattle.ether_pcap.specs.Editing.{EditedValue}
+use Rattle.ether_pcap.specs.Copies.{Refused, NotEdited, Copies}
 use Rattle.ether_pcap.specs.declared.capture_error.CaptureError.{CaptureError}
 use Rattle.ether_text.specs.OutputBuffer.{contents_of, WritesOut}
 use Rattle.ether_text.specs.declared.output_buffer.OutputBuffer.{OutputBuffer}
@@ -14,11 +15,11 @@ use Rattle.ether_text.proofs.KnownBytesLemmas.{Consumes-kept}
 use Rattle.ether_text.specs.Run.{IsLeft, BreaksOffAfter}
 use Rattle.ether_text.proofs.RunLemmas.{IsLeft-left_of, IsLeft-end, answers_flushed, stops_flushed, breaks_flushed}
 use Rattle.ether_capture.specs.Options.{SelectionValue}
-use Rattle.ether_capture.specs.Copying.{IsCopied, CutsTo, CopyGoesOn, CopiesToUnit, HasCopied}
-use Rattle.ether_capture.specs.CopyLoop.{CopyReached, CopiesUnits, CopyLeavesRest, OnNotCut, StopsAtPacket, StopsAfter, IsCopyFault}
+use Rattle.ether_capture.specs.Copying.{IsCopied, EditsTo, CopyGoesOn, CopiesToUnit, HasCopied}
+use Rattle.ether_capture.specs.CopyLoop.{CopyReached, CopiesUnits, CopyLeavesRest, OnNotEdited, StopsAtPacket, StopsAfter, IsCopyFault}
 use Rattle.ether_capture.specs.Run.{NeedsMemory}
 use Rattle.ether_capture.specs.declared.outcome.RunFault.{RunFault}
-use Rattle.ether_capture.specs.declared.outcome.RunFault.TheVariants.{Capture, NotCut as Uncut, Input, Output, Memory}
+use Rattle.ether_capture.specs.declared.outcome.RunFault.TheVariants.{Capture, NotEdited as Unedited, Input, Output, Memory}
 use Rattle.ether_capture.specs.declared.copy_loop.CopyLoop.{CopyLoop}
 use Rattle.ether_capture.proofs.CopyLoopLemmas.{is_copy, copied_for_good, copied_to_packet, copied_to_end, copied_at_last, read_so_far}
 use Rattle.ether_capture.proofs.RunLemmas.{refused_nothing}
@@ -44,9 +45,9 @@ module _ {W : Type 0} (asked : SelectionValue) (contents : W → Option (List �
         (fault : RunFault)
         → fault ≡ Capture (record { offset = at.offset; error = error }) → Consumes before after input
         → IsLeft after left
-        → ((to : PacketValue → ℕ) → CutsTo asked.cut to → (copy : List ℕ) (kept : List PacketValue)
-        → CopyGoesOn asked.select to input copy kept at.reader buffered
-        → Copies (IsCopied asked.select) to Beginning (input ++ left) copy kept (buffered ++ left)
+        → ((edit : PacketValue → Option EditedValue) → EditsTo asked.edit edit → (copy : List ℕ) (kept : List PacketValue)
+        → CopyGoesOn asked.select edit input copy kept at.reader buffered
+        → Copies (IsCopied asked.select) edit Beginning (input ++ left) copy kept (buffered ++ left)
         (Some (Refused (capture_refusal_view error))))
         → CopyReached asked contents held input buffered at out
         → HasCopied asked before after held (contents_of contents out) (Err fault)
@@ -62,10 +63,10 @@ module _ {W : Type 0} (asked : SelectionValue) (contents : W → Option (List �
               record {
                 front = so_far.front;
                 rest = buffered ++ left;
-                is_copy = λ to cuts.
-                    is_copy asked to cuts (input ++ left) so_far.copy so_far.kept (buffered ++ left)
+                is_copy = λ edit edits.
+                    is_copy asked edit edits (input ++ left) so_far.copy so_far.kept (buffered ++ left)
                     (Some (Refused (capture_refusal_view error)))
-                    (copies to cuts so_far.copy so_far.kept (so_far.parts to cuts));
+                    (copies edit edits so_far.copy so_far.kept (so_far.parts edit edits));
                 place = ap (λ (l : List ℕ). l ++ left) so_far.place ∙ append_assoc so_far.front buffered left;
                 is_offset = so_far.is_offset;
               };
@@ -82,8 +83,8 @@ module _ {W : Type 0} (asked : SelectionValue) (contents : W → Option (List �
     stopped_for_good input buffered at out error fault is read refused none so_far =
         let left : List ℕ = unwrap_or after [] in
         stops input buffered left at out error fault is read (IsLeft-left_of after)
-        (λ to cuts copy kept go.
-        copied_for_good asked to cuts input copy kept at.reader buffered left (capture_refusal_view error)
+        (λ edit edits copy kept go.
+        copied_for_good asked edit edits input copy kept at.reader buffered left (capture_refusal_view error)
         (λ e. refused_nothing buffered at.reader (capture_refusal_view error) e refused none) refused none go) so_far
 
     -- the capture ends within a unit
@@ -95,8 +96,8 @@ module _ {W : Type 0} (asked : SelectionValue) (contents : W → Option (List �
         → HasCopied asked before after held (contents_of contents out) (Err fault)
     stopped_at_end input buffered at out error fault is read end more refused so_far =
         stops input buffered [] at out error fault is read (IsLeft-end after end)
-        (λ to cuts copy kept go.
-        copied_at_last asked to cuts input copy kept at.reader buffered (capture_refusal_view error) more refused go)
+        (λ edit edits copy kept go.
+        copied_at_last asked edit edits input copy kept at.reader buffered (capture_refusal_view error) more refused go)
         so_far
 
     -- all is copied
@@ -112,11 +113,11 @@ module _ {W : Type 0} (asked : SelectionValue) (contents : W → Option (List �
       at_end = end;
       answered =
           record {
-            is_copy = λ to cuts.
-                is_copy asked to cuts input so_far.copy so_far.kept [] None
-                (copied_to_end asked to cuts input so_far.copy so_far.kept at.reader over.0
-                (subst (λ (l : List ℕ). CopyGoesOn asked.select to input so_far.copy so_far.kept at.reader l) over.1
-                (so_far.parts to cuts)));
+            is_copy = λ edit edits.
+                is_copy asked edit edits input so_far.copy so_far.kept [] None
+                (copied_to_end asked edit edits input so_far.copy so_far.kept at.reader over.0
+                (subst (λ (l : List ℕ). CopyGoesOn asked.select edit input so_far.copy so_far.kept at.reader l) over.1
+                (so_far.parts edit edits)));
             accepted = refl;
           };
       is_verdict = refl;
@@ -142,17 +143,17 @@ module _ {W : Type 0} (asked : SelectionValue) (contents : W → Option (List �
             parts = so_far.parts;
             begun = refused;
             unfinished = unfinished;
-            is_read = λ some to cuts.
-                read_so_far asked to cuts input so_far.copy so_far.kept at.reader buffered reason refused
-                (so_far.parts to cuts) some;
+            is_read = λ some edit edits.
+                read_so_far asked edit edits input so_far.copy so_far.kept at.reader buffered reason refused
+                (so_far.parts edit edits) some;
           };
       written = so_far.written;
     }
 
-    -- a packet can't be cut
+    -- a packet can't be edited
     stopped_at_packet : (input : List ℕ) (offset : ℕ) (out : OutputBuffer W) → Consumes before after input
         → StopsAtPacket asked contents held input offset out
-        → HasCopied asked before after held (contents_of contents out) (Err (Uncut offset))
+        → HasCopied asked before after held (contents_of contents out) (Err (Unedited offset))
     stopped_at_packet input offset out read s =
         let left : List ℕ = unwrap_or after [] in
         record {
@@ -166,11 +167,11 @@ module _ {W : Type 0} (asked : SelectionValue) (contents : W → Option (List �
             record {
               front = s.front;
               rest = s.buffered ++ left;
-              is_copy = λ to cuts.
-                  is_copy asked to cuts (input ++ left) s.copy s.kept (s.buffered ++ left) (Some (NotCut s.packet))
-                  (copied_to_packet asked to cuts input s.copy s.kept s.expected s.buffered left s.len s.packet
+              is_copy = λ edit edits.
+                  is_copy asked edit edits (input ++ left) s.copy s.kept (s.buffered ++ left) (Some (NotEdited s.packet))
+                  (copied_to_packet asked edit edits input s.copy s.kept s.expected s.buffered left s.len s.packet
                   (unit_within s.buffered s.expected s.expected s.len (Some s.packet) s.begins) s.begins s.copied
-                  (s.uncut to cuts) (s.parts to cuts));
+                  (s.not_written edit edits) (s.parts edit edits));
               place = ap (λ (l : List ℕ). l ++ left) s.place ∙ append_assoc s.front s.buffered left;
               is_offset = s.is_offset;
             },
@@ -180,11 +181,11 @@ module _ {W : Type 0} (asked : SelectionValue) (contents : W → Option (List �
 
     -- .. or the writer fails
     stopped_copying : (fault : RunFault) (input buffered : List ℕ) (old : CopyLoop) (from to : OutputBuffer W)
-        → IsCopyFault fault → OnNotCut fault (λ offset. StopsAfter asked contents buffered old from offset to)
+        → IsCopyFault fault → OnNotEdited fault (λ offset. StopsAfter asked contents buffered old from offset to)
         → Consumes before after input → CopyReached asked contents held input buffered old from
         → HasCopied asked before after held (contents_of contents to) (Err fault)
     stopped_copying (Capture fault) input buffered old from to is stops read so_far = absurd is
-    stopped_copying (Uncut offset) input buffered old from to is stops read so_far =
+    stopped_copying (Unedited offset) input buffered old from to is stops read so_far =
         stopped_at_packet input offset to read (stops held input so_far)
     stopped_copying Input input buffered old from to is stops read so_far = absurd is
     stopped_copying Output input buffered old from to is stops read so_far = tt
@@ -193,7 +194,7 @@ module _ {W : Type 0} (asked : SelectionValue) (contents : W → Option (List �
     pub stopped_with : (r : Result Verdict RunFault) (fault : RunFault) (input buffered : List ℕ) (old : CopyLoop)
         (from to : OutputBuffer W)
         → IsErrAnd r (λ other. other ≡ fault) → IsCopyFault fault
-        → OnNotCut fault (λ offset. StopsAfter asked contents buffered old from offset to)
+        → OnNotEdited fault (λ offset. StopsAfter asked contents buffered old from offset to)
         → Consumes before after input → CopyReached asked contents held input buffered old from
         → HasCopied asked before after held (contents_of contents to) r
     stopped_with (Ok verdict) fault input buffered old from to is of stops read so_far = absurd is
@@ -235,7 +236,7 @@ HasCopied-flushed asked contents before after held from to (Ok verdict) drains h
     answers_flushed contents before after held from to drains verdict h
 HasCopied-flushed asked contents before after held from to (Err (Capture fault)) drains h =
     stops_flushed contents before after held from to drains h
-HasCopied-flushed asked contents before after held from to (Err (Uncut offset)) drains h =
+HasCopied-flushed asked contents before after held from to (Err (Unedited offset)) drains h =
     stops_flushed contents before after held from to drains h
 HasCopied-flushed asked contents before after held from to (Err Input) drains h =
     breaks_flushed contents before after held from to drains h

@@ -6,6 +6,7 @@ use Rattle.std.specs.Vec.Iter.{into_iter_steps}
 use Rattle.std.specs.declared.vec.IntoIter.{IntoIter}
 use Rattle.ether_text.proofs.ArgumentsLemmas.{words_end}
 use Rattle.ether_capture.specs.Options.{AskedValue, nothing_asked, Asks, no_word, file, plain, write, cut, select, IsName, IsWord, AskSame, words_left, clashes, IsRequestOf, OptionsAsk, lines, copy, RequestValue, NamesRequest, help, version, options, RefusesAsked, RefusesOptions, RefusesWords, request_view}
+use Rattle.ether_content.specs.Editing.{CutToHeaders}
 use Rattle.ether_capture.specs.declared.options.Request.{Request}
 use Rattle.ether_capture.specs.declared.options.RequestError.{RequestError}
 use Rattle.ether_capture.specs.declared.options.RequestError.TheVariants as reasons
@@ -26,7 +27,7 @@ abbrev pub Follows : Word → AskedValue → (word : List ℕ) → (words : List
 Follows kinds.Name a word words c = (words ≡ []) × (c ≡ record a { file = Some word })
 Follows kinds.Plain a word words c = (a.plain ≡ false) × Asks (record a { plain = true }) words c
 Follows kinds.Write a word words c = (a.write ≡ false) × Asks (record a { write = true }) words c
-Follows kinds.Cut a word words c = (a.cut ≡ false) × Asks (record a { cut = true }) words c
+Follows kinds.Cut a word words c = (a.edit ≡ None) × Asks (record a { edit = Some CutToHeaders }) words c
 Follows kinds.Select a word words c =
     (text : List ℕ) × (others : List (List ℕ)) × (words ≡ text ∷ others) × (a.text ≡ None)
     × Asks (record a { text = Some text }) others c
@@ -74,7 +75,7 @@ follows_write kinds.Version a c words is rest = absurd (differ 119 118 _ _ refl 
 follows_write kinds.Unknown a c words is rest = absurd (is.2 refl)
 
 follows_cut : (kind : Word) (a c : AskedValue) (words : List (List ℕ)) → IsWord (codes "--cut-to-headers") kind
-    → (a.cut ≡ false) × Asks (record a { cut = true }) words c → Follows kind a (codes "--cut-to-headers") words c
+    → (a.edit ≡ None) × Asks (record a { edit = Some CutToHeaders }) words c → Follows kind a (codes "--cut-to-headers") words c
 follows_cut kinds.Name a c words is rest = absurd (is refl)
 follows_cut kinds.Plain a c words is rest = absurd (differ 99 112 _ _ refl refl (λ e. omega (arith, e)) is)
 follows_cut kinds.Write a c words is rest = absurd (differ 99 119 _ _ refl refl (λ e. omega (arith, e)) is)
@@ -158,8 +159,8 @@ ask_write a word words is first c = (
   λ asks. (follows kinds.Write a c word words is asks).1,
 )
 
-pub ask_cut : (a : AskedValue) (word : List ℕ) (words : List (List ℕ)) → IsWord word kinds.Cut → a.cut ≡ false
-    → AskSame a (word ∷ words) (record a { cut = true }) words
+pub ask_cut : (a : AskedValue) (word : List ℕ) (words : List (List ℕ)) → IsWord word kinds.Cut → a.edit ≡ None
+    → AskSame a (word ∷ words) (record a { edit = Some CutToHeaders }) words
 ask_cut a word words is first c = (
   λ asks. precedes kinds.Cut a c word words is (first, asks),
   λ asks. (follows kinds.Cut a c word words is asks).1,

@@ -21,7 +21,7 @@ use Rattle.ether_capture.specs.Packets.{GoesOn}
 use Rattle.ether_capture.specs.Run.{AnswersCapture, StopsAtFault, EndsInUnit, AnswersSlice, NeedsMemory, HasRun, IsOutput, OnStreamFault, totals_of}
 use Rattle.ether_capture.specs.FrameLoop.{Reached, TakesUnits, LeavesRest}
 use Rattle.ether_capture.specs.declared.outcome.RunFault.{RunFault}
-use Rattle.ether_capture.specs.declared.outcome.RunFault.TheVariants.{Capture, NotCut, Input, Output, Memory}
+use Rattle.ether_capture.specs.declared.outcome.RunFault.TheVariants.{Capture, NotEdited, Input, Output, Memory}
 use Rattle.ether_capture.specs.declared.frame_loop.FrameLoop.{FrameLoop}
 use Rattle.ether_capture.proofs.PacketsLemmas.{refused_for_good, GoesOn-ended, refused_at_last}
 
@@ -259,7 +259,7 @@ HasRun-flushed asked contents before after held from to (Ok verdict) drains h =
     answers_flushed contents before after held from to drains verdict h
 HasRun-flushed asked contents before after held from to (Err (Capture fault)) drains h =
     stops_flushed contents before after held from to drains h
-HasRun-flushed asked contents before after held from to (Err (NotCut offset)) drains h = absurd h
+HasRun-flushed asked contents before after held from to (Err (NotEdited offset)) drains h = absurd h
 HasRun-flushed asked contents before after held from to (Err Input) drains h =
     breaks_flushed contents before after held from to drains h
 HasRun-flushed asked contents before after held from to (Err Output) drains h = tt
@@ -286,7 +286,7 @@ slice_answers asked can_fail bytes after held holds (Ok verdict) short h failed 
     answers_slice (AnswersCapture asked) bytes after held holds verdict h
 slice_answers asked can_fail bytes after held holds (Err (Capture fault)) short h failed =
     stops_slice (StopsAtFault asked fault) bytes after held holds h
-slice_answers asked can_fail bytes after held holds (Err (NotCut offset)) short h failed = absurd h
+slice_answers asked can_fail bytes after held holds (Err (NotEdited offset)) short h failed = absurd h
 slice_answers asked can_fail bytes after held holds (Err Input) short h failed =
     absurd (no_endless_slice bytes after short failed)
 slice_answers asked can_fail bytes after held holds (Err Output) short h failed = failed

@@ -1,12 +1,14 @@
 -- What the words after the program's name ask for.
 use Rattle.std.specs.Prelude.{◌≡◌, ◌≢◌, ◌↔◌, ℕ, List, [], ◌∷◌, map, codes, Bool, true, false, if◌then◌else◌, Option, Some, None, String, string_bytes, ⊤}
-use Rattle.std.specs.Option.{option_map}
+use Rattle.std.specs.Option.{option_map, is_some}
 use Rattle.std.specs.Vec.Iter.{into_iter_items}
 use Rattle.std.specs.declared.vec.IntoIter.{IntoIter}
 use Rattle.ether_filter.specs.Expressions.{Expression}
 use Rattle.ether_filter.specs.Texts.{IsExpressionOf}
 use Rattle.ether_filter.specs.Refusals.{RefusesText}
 use Rattle.ether_filter.specs.declared.filter_error.FilterError.{FilterError}
+use Rattle.ether_content.specs.Editing.{EditValue, CutToHeaders}
+use Rattle.ether_content.specs.EditingViews.{edit_view}
 use Rattle.ether_capture.specs.declared.options.Asked.{Asked}
 use Rattle.ether_capture.specs.declared.options.Lines.{Lines}
 use Rattle.ether_capture.specs.declared.options.RequestError.{RequestError}
@@ -25,13 +27,13 @@ pub record LinesValue : Type 0 where
 abbrev pub lines_view : Lines → LinesValue
 lines_view asked = record { plain = asked.is_plain; select = asked.filter }
 
--- the packets that an expression selects, or all; each as it is, or cut where its headers end
+-- the packets that an expression selects, or all; each as it is, or edited
 pub record SelectionValue : Type 0 where
   pub select : Option Expression
-  pub cut : Bool
+  pub edit : Option EditValue
 
 abbrev pub selection_view : Selection → SelectionValue
-selection_view asked = record { select = asked.filter; cut = asked.is_cut }
+selection_view asked = record { select = asked.filter; edit = option_map edit_view asked.edit }
 
 -- these lines of the capture in the file of this name, or of standard input; a copy of the capture with these packets; the usage; the version
 pub data RequestValue : Type 0 where
@@ -57,15 +59,15 @@ IsName (byte ∷ bytes) = byte ≢ 45
 pub record AskedValue : Type 0 where
   pub plain : Bool
   pub write : Bool
-  pub cut : Bool
+  pub edit : Option EditValue
   pub text : Option (List ℕ)
   pub file : Option (List ℕ)
 
 abbrev pub nothing_asked : AskedValue
-nothing_asked = record { plain = false; write = false; cut = false; text = None; file = None }
+nothing_asked = record { plain = false; write = false; edit = None; text = None; file = None }
 
--- What is asked for with these words, after the words before them. Options come in any order, each once at most, and the name of a file
--- comes last.
+-- What is asked for with these words, after the words before them. Options come in any order, each once at most, with one edit
+-- at most, and the name of a file comes last.
 pub data Asks : AskedValue → List (List ℕ) → AskedValue → Type 0 where
   no_word : (a : AskedValue) → Asks a [] a
   file : (a : AskedValue) (name : List ℕ) → IsName name → Asks a (name ∷ []) (record a { file = Some name })
@@ -73,7 +75,7 @@ pub data Asks : AskedValue → List (List ℕ) → AskedValue → Type 0 where
       → Asks a (codes "--plain" ∷ words) b
   write : (a b : AskedValue) (words : List (List ℕ)) → a.write ≡ false → Asks (record a { write = true }) words b
       → Asks a (codes "--write" ∷ words) b
-  cut : (a b : AskedValue) (words : List (List ℕ)) → a.cut ≡ false → Asks (record a { cut = true }) words b
+  cut : (a b : AskedValue) (words : List (List ℕ)) → a.edit ≡ None → Asks (record a { edit = Some CutToHeaders }) words b
       → Asks a (codes "--cut-to-headers" ∷ words) b
   select : (a b : AskedValue) (text : List ℕ) (words : List (List ℕ)) → a.text ≡ None → Asks (record a { text = Some text }) words b
       → Asks a (codes "--select" ∷ text ∷ words) b
@@ -86,16 +88,16 @@ IsSelection None None = ⊤
 IsSelection (Some text) (Some x) = IsExpressionOf text x
 IsSelection text other = ⊥
 
--- an option is asked for that does not go with the others: no copy is plain, and no packet is cut without a copy
+-- an option is asked for that does not go with the others: no copy is plain, and no packet is edited without a copy
 abbrev pub clashes : AskedValue → Bool
-clashes a = if a.write then a.plain else a.cut
+clashes a = if a.write then a.plain else is_some a.edit
 
 -- what is asked for is lines, or a copy
 pub data IsRequestOf (a : AskedValue) : RequestValue → Type 0 where
   lines : (select : Option Expression) → a.write ≡ false → clashes a ≡ false → IsSelection a.text select
       → IsRequestOf a (Capture (record { plain = a.plain; select = select }) a.file)
   copy : (select : Option Expression) → a.write ≡ true → clashes a ≡ false → IsSelection a.text select
-      → IsRequestOf a (Copy (record { select = select; cut = a.cut }) a.file)
+      → IsRequestOf a (Copy (record { select = select; edit = a.edit }) a.file)
 
 pub data NamesRequest : List (List ℕ) → RequestValue → Type 0 where
   help : NamesRequest (codes "--help" ∷ []) Help
@@ -133,7 +135,7 @@ abbrev pub asked_view : Asked → AskedValue
 asked_view asked = record {
   plain = asked.is_plain;
   write = asked.is_copy;
-  cut = asked.is_cut;
+  edit = option_map edit_view asked.edit;
   text = option_map string_bytes asked.text;
   file = option_map string_bytes asked.file;
 }

@@ -15,14 +15,14 @@ use Rattle.ether_pcap.specs.declared.capture_fault.CaptureFault.{CaptureFault}
 use Rattle.ether_capture.specs.declared.outcome.LastLine.{LastLine}
 use Rattle.ether_capture.specs.declared.outcome.LastLine.TheVariants as last_lines
 use Rattle.ether_capture.specs.declared.outcome.RunFault.{RunFault}
-use Rattle.ether_capture.specs.declared.outcome.RunFault.TheVariants.{Capture, NotCut, Input, Output, Memory}
+use Rattle.ether_capture.specs.declared.outcome.RunFault.TheVariants.{Capture, NotEdited, Input, Output, Memory}
 
 -- the exit status of a run
 abbrev pub exit_status : Result Verdict RunFault → ℕ
 exit_status (Ok AllAccepted) = 0
 exit_status (Ok SomeRefused) = 1
 exit_status (Err (Capture fault)) = 3
-exit_status (Err (NotCut offset)) = 3
+exit_status (Err (NotEdited offset)) = 3
 exit_status (Err Input) = 4
 exit_status (Err Output) = 4
 exit_status (Err Memory) = 5
@@ -51,9 +51,9 @@ hint_text _ = []
 abbrev pub fault_line_text : CaptureFault → List ℕ
 fault_line_text fault = codes "byte " ++ (decimal fault.offset ++ (codes ": " ++ (capture_error_text fault.error ++ hint_text fault.error)))
 
-abbrev pub not_cut_text : (offset : ℕ) → List ℕ
-not_cut_text offset =
-    codes "byte " ++ (decimal offset ++ (codes ": " ++ codes "A simple packet can't be cut, since its block has no number of captured bytes."))
+abbrev pub not_edited_text : (offset : ℕ) → List ℕ
+not_edited_text offset =
+    codes "byte " ++ (decimal offset ++ (codes ": " ++ codes "This packet can't be edited: its block has no number of captured bytes, or it would be too long."))
 
 abbrev pub help_text : List ℕ
 help_text = codes "usage: ether_capture [--plain | --write [--cut-to-headers]] [--select EXPR] [FILE]\n\nPrints the link-layer headers of each packet of a capture, pcap or pcapng: FILE, or standard input.\n\n  --plain           leave out the lines of packets and the totals\n  --select EXPR     only packets that match EXPR, in words of pcap-filter(7), as 'vlan 5 or arp'\n  --write           write the capture itself, without the other packets; faults go to standard error\n  --cut-to-headers  with --write, cut each packet where its link-layer headers end\n  --help            print this text\n  --version         print the version"
@@ -72,7 +72,7 @@ no_filter_text error = codes "--select: " ++ filter_error_text error
 abbrev pub last_text_of_run : Result Verdict RunFault → Option (List ℕ)
 last_text_of_run (Ok verdict) = None
 last_text_of_run (Err (Capture fault)) = Some (fault_line_text fault)
-last_text_of_run (Err (NotCut offset)) = Some (not_cut_text offset)
+last_text_of_run (Err (NotEdited offset)) = Some (not_edited_text offset)
 last_text_of_run (Err Input) = None
 last_text_of_run (Err Output) = None
 last_text_of_run (Err Memory) = Some memory_text
@@ -112,7 +112,7 @@ status_of_program (outcomes.NoFilter error) true = 2
 
 abbrev pub last_line_text : LastLine → List ℕ
 last_line_text (last_lines.Fault fault) = fault_line_text fault.now
-last_line_text (last_lines.NotCut offset) = not_cut_text offset
+last_line_text (last_lines.NotEdited offset) = not_edited_text offset
 last_line_text last_lines.Memory = memory_text
 last_line_text (last_lines.NotOpened name) = not_opened_text name.now
 last_line_text last_lines.Help = help_text

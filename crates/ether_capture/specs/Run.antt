@@ -13,7 +13,7 @@ use Rattle.ether_capture.specs.FrameLines.{AnswersPacket, skip_count, totals_lin
 use Rattle.ether_capture.specs.Packets.{counted, GoesOn}
 use Rattle.ether_pcap.specs.declared.capture_fault.CaptureFault.{CaptureFault}
 use Rattle.ether_capture.specs.declared.outcome.RunFault.{RunFault}
-use Rattle.ether_capture.specs.declared.outcome.RunFault.TheVariants.{Capture, NotCut, Input, Output, Memory}
+use Rattle.ether_capture.specs.declared.outcome.RunFault.TheVariants.{Capture, NotEdited, Input, Output, Memory}
 
 -- this is the text for the packets in order, after so many before them, and all says that each is accepted
 abbrev pub AreAnswered : (asked : LinesValue) → (before : ℕ) → List PacketValue → (text : List ℕ) → (all : Bool) → Type 0
@@ -68,7 +68,7 @@ NeedsMemory (Some n) = 65536 < n
 abbrev pub HasRun : (asked : LinesValue) → (before after held holds : Option (List ℕ)) → Result Verdict RunFault → Type 0
 HasRun asked before after held holds (Ok verdict) = AnswersAll (AnswersCapture asked) before after held holds verdict
 HasRun asked before after held holds (Err (Capture fault)) = StopsIn (StopsAtFault asked fault) before after held holds
-HasRun asked before after held holds (Err (NotCut offset)) = ⊥
+HasRun asked before after held holds (Err (NotEdited offset)) = ⊥
 HasRun asked before after held holds (Err Input) = BreaksOffAfter (EndsInUnit (λ n. n ≢ None) asked) before after held holds
 HasRun asked before after held holds (Err Output) = ⊤
 HasRun asked before after held holds (Err Memory) = BreaksOffAfter (EndsInUnit NeedsMemory asked) before after held holds
@@ -79,7 +79,7 @@ AnswersSlice asked can_fail bytes held holds (Ok verdict) =
     (text : List ℕ) × (all : Bool) × AnswersCapture asked bytes text all × (verdict ≡ verdict_of all) × Appends held holds text
 AnswersSlice asked can_fail bytes held holds (Err (Capture fault)) =
     (text : List ℕ) × StopsAtFault asked fault bytes text × Appends held holds text
-AnswersSlice asked can_fail bytes held holds (Err (NotCut offset)) = ⊥
+AnswersSlice asked can_fail bytes held holds (Err (NotEdited offset)) = ⊥
 AnswersSlice asked can_fail bytes held holds (Err Input) = ⊥
 AnswersSlice asked can_fail bytes held holds (Err Output) = can_fail
 AnswersSlice asked can_fail bytes held holds (Err Memory) =
@@ -90,7 +90,7 @@ AnswersSlice asked can_fail bytes held holds (Err Memory) =
 -- the stream that has failed
 abbrev pub stream_of : RunFault → Option Stream
 stream_of (Capture fault) = None
-stream_of (NotCut offset) = None
+stream_of (NotEdited offset) = None
 stream_of Input = Some streams.Input
 stream_of Output = Some streams.Output
 stream_of Memory = None

@@ -10,6 +10,7 @@ ghost use Rattle.ether_capture.specs.Options.{selection_view};
 ghost use Rattle.ether_capture.specs.Run.{IfSettled, IsOutput, OnInput, OnStreamFault};
 
 use crate::copy_loop::CopyLoop;
+use crate::edit_buffer::EditBuffer;
 use crate::input_buffer::InputBuffer;
 use crate::options::Selection;
 use crate::outcome::RunFault;
@@ -18,14 +19,16 @@ use ether_text::{InputReader, OutputBuffer, Sink, Source, Verdict};
 /// Reads a capture to its end, and writes it again without the packets that the filter leaves out. Without a filter all is written.
 ///
 /// Each unit is written as it was read: the file header, section headers, descriptions of interfaces and any other block, and the packets
-/// that the filter selects, which may be cut to their headers. So what is written is a capture of the same format. The verdict is
+/// that the filter selects, each edited if that is asked for. So what is written is a capture of the same format. The verdict is
 /// [`Verdict::AllAccepted`].
 ///
-/// It reads, writes and stops as [`run`](crate::run::run) does, and with [`RunFault::NotCut`] at a simple packet that would have to be cut.
+/// It reads, writes and stops as [`run`](crate::run::run) does, and with [`RunFault::NotEdited`] at a packet that is to be edited and can't
+/// be.
 /// At a fault of the capture, the units before it have been written and flushed.
 pub fn copy<R: Source, W: Sink>(
     asked: &Selection,
     buffer: InputBuffer,
+    edits: EditBuffer,
     reader: &mut R,
     writer: &mut W,
 ) -> Result<Verdict, RunFault>
@@ -37,7 +40,7 @@ pub fn copy<R: Source, W: Sink>(
 {
     let mut input = InputReader::new(reader);
     let mut out = OutputBuffer::new(writer);
-    copy_capture(asked, buffer, &mut input, &mut out)
+    copy_capture(asked, buffer, edits, &mut input, &mut out)
 }
 
 /// Reads the capture to its end, and writes the copy and flushes it. After a fault of the reader or the writer neither is called
@@ -45,6 +48,7 @@ pub fn copy<R: Source, W: Sink>(
 fn copy_capture<R: Source, W: Sink>(
     asked: &Selection,
     buffer: InputBuffer,
+    edits: EditBuffer,
     input: &mut InputReader<'_, R>,
     out: &mut OutputBuffer<'_, W>,
 ) -> Result<Verdict, RunFault>
@@ -58,8 +62,8 @@ fn copy_capture<R: Source, W: Sink>(
     ensures marks { Marks W.can_fail out.old out.new }
     ensures flushed { IfSettled result (W.is_flushed out.new.writer.now) }
 {
-    let outcome = copy_units(asked, buffer, input, out);
-    if let Ok(_) | Err(RunFault::Capture(_) | RunFault::NotCut(_) | RunFault::Memory) = outcome {
+    let outcome = copy_units(asked, buffer, edits, input, out);
+    if let Ok(_) | Err(RunFault::Capture(_) | RunFault::NotEdited(_) | RunFault::Memory) = outcome {
         out.flush()?;
     }
     outcome
@@ -69,6 +73,7 @@ fn copy_capture<R: Source, W: Sink>(
 fn copy_units<R: Source, W: Sink>(
     asked: &Selection,
     buffer: InputBuffer,
+    edits: EditBuffer,
     input: &mut InputReader<'_, R>,
     out: &mut OutputBuffer<'_, W>,
 ) -> Result<Verdict, RunFault>
@@ -82,7 +87,7 @@ fn copy_units<R: Source, W: Sink>(
     ensures cause { IfErr result (λ fault. OnInput fault (StopsReading R.remaining R.can_fail input.old input.new)) }
     ensures marks { Marks W.can_fail out.old out.new }
 {
-    let mut units = CopyLoop::new();
+    let mut units = CopyLoop::new(edits);
     let mut buffer = buffer;
     buffer.clear();
     loop {

@@ -3,7 +3,7 @@ ghost use Rattle.std.specs.Prelude.{◌≡◌, ◌+◌, ◌≤◌, ◌<◌, List
 ghost use Rattle.std.specs.Io.KnownBytes.{Keeps, Consumes, IsAtEnd};
 ghost use Rattle.ether_text.specs.InputReader.{HasCause, ReadsOn};
 ghost use Rattle.ether_text.specs.OutputBuffer.{Marks};
-ghost use Rattle.ether_capture.specs.CopyLoop.{CopiesUnits, CopyLeavesRest, IsCopyFault, OnNotCut, OnOutput, StopsAfter};
+ghost use Rattle.ether_capture.specs.CopyLoop.{CopiesUnits, CopyLeavesRest, IsCopyFault, OnNotEdited, OnOutput, StopsAfter};
 ghost use Rattle.ether_capture.specs.Options.{selection_view};
 
 use crate::copy_loop::CopyLoop;
@@ -83,21 +83,15 @@ impl InputBuffer {
         ensures same_writer { out.new.writer.ghost_name ≡ out.old.writer.ghost_name }
         ensures ok { IfOk result (λ error. CopyLeavesRest (selection_view asked.now) W.contents (items self.old) units.old out.old
             (items self.new) error units.new out.new) }
-        ensures stopped { IfErr result (λ fault. OnNotCut fault (λ offset.
+        ensures stopped { IfErr result (λ fault. OnNotEdited fault (λ offset.
             StopsAfter (selection_view asked.now) W.contents (items self.old) units.old out.old offset out.new)) }
         ensures fault { IfErr result IsCopyFault }
         ensures failed { IfErr result (λ fault. OnOutput fault (out.new.has_failed ≡ true)) }
         ensures marks { Marks W.can_fail out.old out.new }
     {
         let (start, end) = (self.start, self.end);
-        let (taken, error) = copy_between(
-            start,
-            end,
-            self.bytes.as_mut_slice(),
-            units,
-            asked,
-            out,
-        )?;
+        let bytes = &self.bytes.as_slice()[start..end];
+        let (taken, error) = units.take_units(asked, bytes, out)?;
         self.start = start + taken;
         Ok(error)
     }
@@ -154,34 +148,6 @@ impl InputBuffer {
         self.end = end + count;
         Ok(count)
     }
-}
-
-/// Copies the units at the front of a part of a slice. Returns how many bytes that took, and why what is left does not begin with a
-/// unit. Of the bytes that were not taken each stays.
-fn copy_between<W: Sink>(
-    start: usize,
-    end: usize,
-    bytes: &mut [u8],
-    units: &mut CopyLoop,
-    asked: &Selection,
-    out: &mut OutputBuffer<'_, W>,
-) -> Result<(usize, CaptureError), RunFault>
-    requires ordered { start ≤ end }
-    requires within { end ≤ length bytes.old }
-    ensures same_writer { out.new.writer.ghost_name ≡ out.old.writer.ghost_name }
-    ensures len { length bytes.new ≡ length bytes.old }
-    ensures bound { IfOk result (λ found. start + found.0 ≤ end) }
-    ensures left { IfOk result (λ found. slice_range bytes.new (start + found.0) end
-        ≡ drop found.0 (slice_range bytes.old start end)) }
-    ensures ok { IfOk result (λ found. CopiesUnits (selection_view asked.now) W.contents (slice_range bytes.old start end)
-        units.old out.old found.0 found.1 units.new out.new) }
-    ensures stopped { IfErr result (λ fault. OnNotCut fault (λ offset.
-        StopsAfter (selection_view asked.now) W.contents (slice_range bytes.old start end) units.old out.old offset out.new)) }
-    ensures fault { IfErr result IsCopyFault }
-    ensures failed { IfErr result (λ fault. OnOutput fault (out.new.has_failed ≡ true)) }
-    ensures marks { Marks W.can_fail out.old out.new }
-{
-    units.take_units(asked, &mut bytes[start..end], out)
 }
 
 /// Reads some bytes to the place `end` of a slice, and returns their number. The bytes before it stay.

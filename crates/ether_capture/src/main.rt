@@ -8,6 +8,7 @@
 pub mod captures;
 mod copy_loop;
 pub mod copying;
+pub mod edit_buffer;
 mod frame_lines;
 mod frame_loop;
 pub mod input_buffer;

@@ -5,6 +5,7 @@ ghost use Rattle.std.specs.Vec.Iter.{into_iter_items};
 ghost use Rattle.ether_text.specs.Arguments.{words_after};
 ghost use Rattle.ether_capture.specs.Options.{IsName, IsWord, words_left, asked_view, nothing_asked, clashes, AskSame, AskNothing, IsSelection, RefusesSelection, IsRequestOf, RefusesAsked, OptionsAsk, RefusesOptions, NamesRequest, RefusesWords, request_view};
 
+use ether_content::PacketEdit;
 use ether_filter::{Filter, FilterError};
 use std::env;
 
@@ -33,8 +34,8 @@ pub struct Lines {
 pub struct Selection {
     /// Which packets are copied; all of them without a filter.
     pub filter: Option<Filter>,
-    /// Whether each packet is cut where its headers end.
-    pub is_cut: bool,
+    /// How each packet is edited, if it is.
+    pub edit: Option<PacketEdit>,
 }
 
 /// What the words ask for.
@@ -100,7 +101,7 @@ fn request_of_options(first: String, mut args: env::Args) -> Result<Request, Req
 struct Asked {
     is_plain: bool,
     is_copy: bool,
-    is_cut: bool,
+    edit: Option<PacketEdit>,
     text: Option<String>,
     file: Option<String>,
 }
@@ -113,7 +114,7 @@ impl Asked {
         Asked {
             is_plain: false,
             is_copy: false,
-            is_cut: false,
+            edit: None,
             text: None,
             file: None,
         }
@@ -131,7 +132,7 @@ impl Asked {
             Word::Name if args.next().is_none() => self.file = Some(word),
             Word::Plain if !self.is_plain => self.is_plain = true,
             Word::Write if !self.is_copy => self.is_copy = true,
-            Word::Cut if !self.is_cut => self.is_cut = true,
+            Word::Cut if self.edit.is_none() => self.edit = Some(PacketEdit::CutToHeaders),
             Word::Select if self.text.is_none() => match args.next() {
                 Some(text) => self.text = Some(text),
                 None => return Err(RequestError::Usage),
@@ -148,7 +149,7 @@ impl Asked {
         if self.is_copy {
             self.is_plain
         } else {
-            self.is_cut
+            self.edit.is_some()
         }
     }
 
@@ -164,7 +165,7 @@ impl Asked {
             Ok(filter) if self.is_copy => Ok(Request::Copy(
                 Selection {
                     filter,
-                    is_cut: self.is_cut,
+                    edit: self.edit,
                 },
                 self.file,
             )),

@@ -41,8 +41,8 @@ fn magic_hint(number: u32) -> &'static str
 pub enum RunFault {
     /// The capture can't be read further. A place above `usize::MAX` is given as that.
     Capture(CaptureFault),
-    /// The packet at this place, a simple one, is to be cut, and can't be.
-    NotCut(usize),
+    /// The packet at this place is to be edited, and can't be.
+    NotEdited(usize),
     /// The reader failed, or never came to an end.
     Input,
     /// The writer failed.
@@ -88,7 +88,7 @@ pub fn status_of(outcome: &Result<Verdict, RunFault>) -> u8
     match outcome {
         Ok(Verdict::AllAccepted) => 0,
         Ok(Verdict::SomeRefused) => 1,
-        Err(RunFault::Capture(_) | RunFault::NotCut(_)) => 3,
+        Err(RunFault::Capture(_) | RunFault::NotEdited(_)) => 3,
         Err(RunFault::Input | RunFault::Output) => 4,
         Err(RunFault::Memory) => 5,
     }
@@ -125,9 +125,9 @@ pub const USAGE: &str =
 pub const HELP: &str =
     "usage: ether_capture [--plain | --write [--cut-to-headers]] [--select EXPR] [FILE]\n\nPrints the link-layer headers of each packet of a capture, pcap or pcapng: FILE, or standard input.\n\n  --plain           leave out the lines of packets and the totals\n  --select EXPR     only packets that match EXPR, in words of pcap-filter(7), as 'vlan 5 or arp'\n  --write           write the capture itself, without the other packets; faults go to standard error\n  --cut-to-headers  with --write, cut each packet where its link-layer headers end\n  --help            print this text\n  --version         print the version";
 
-/// Why a packet can't be cut.
-const NOT_CUT: &str =
-    "A simple packet can't be cut, since its block has no number of captured bytes.";
+/// Why a packet can't be edited.
+const NOT_EDITED: &str =
+    "This packet can't be edited: its block has no number of captured bytes, or it would be too long.";
 
 /// What `--version` prints, without its LF.
 pub const VERSION: &str = "ether_capture 1.0";
@@ -137,8 +137,8 @@ pub const VERSION: &str = "ether_capture 1.0";
 pub enum LastLine<'a> {
     /// The capture can't be read further.
     Fault(&'a CaptureFault),
-    /// The packet at this place can't be cut.
-    NotCut(usize),
+    /// The packet at this place can't be edited.
+    NotEdited(usize),
     /// Memory was refused.
     Memory,
     /// The file of this name can't be opened.
@@ -167,7 +167,7 @@ impl fmt::Display for LastLine<'_> {
                 let hint = hint(error);
                 write!(f, "byte {offset}: {error}{hint}")
             }
-            LastLine::NotCut(offset) => { write!(f, "byte {offset}: {NOT_CUT}") }
+            LastLine::NotEdited(offset) => { write!(f, "byte {offset}: {NOT_EDITED}") }
             LastLine::Memory => f.write_str("out of memory"),
             LastLine::NotOpened(name) => write!(f, "{name}: can't be opened"),
             LastLine::Help => write!(f, "{HELP}"),
@@ -200,7 +200,7 @@ fn last_line_of_run(outcome: &Result<Verdict, RunFault>) -> Option<LastLine<'_>>
 {
     match outcome {
         Err(RunFault::Capture(fault)) => Some(LastLine::Fault(fault)),
-        Err(RunFault::NotCut(offset)) => Some(LastLine::NotCut(*offset)),
+        Err(RunFault::NotEdited(offset)) => Some(LastLine::NotEdited(*offset)),
         Err(RunFault::Memory) => Some(LastLine::Memory),
         _ => None,
     }

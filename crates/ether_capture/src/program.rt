@@ -10,6 +10,7 @@ ghost use Rattle.ether_capture.specs.Run.{HasRun, OnStreamFault};
 
 use crate::captures::Captures;
 use crate::copying::copy;
+use crate::edit_buffer::EditBuffer;
 use crate::input_buffer::InputBuffer;
 use crate::options::{Lines, Request, RequestError, Selection, request_of_args};
 use crate::outcome::{Outcome, RunFault, is_message, last_line, program_status};
@@ -139,9 +140,9 @@ fn copy_input<R: Source, W: Sink>(
     ensures failed { IfErr result (λ fault. OnStreamFault fault
         (R.can_fail ⊎ IsEndless (R.remaining reader.old) (R.remaining reader.new)) W.can_fail) }
 {
-    match InputBuffer::new(alloc) {
-        Ok(buffer) => copy(asked, buffer, reader, writer),
-        Err(_) => Err(RunFault::Memory),
+    match (InputBuffer::new(alloc), EditBuffer::new(alloc)) {
+        (Ok(buffer), Ok(edits)) => copy(asked, buffer, edits, reader, writer),
+        _ => Err(RunFault::Memory),
     }
 }
 

@@ -1,3 +1,4 @@
 pub mod SelectingLemmas
 pub mod ContentLemmas
 pub mod HeadersLemmas
+pub mod EditingLemmas

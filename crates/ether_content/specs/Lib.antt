@@ -1,4 +1,6 @@
 pub mod Content
 pub mod ContentViews
 pub mod Selecting
+pub mod Editing
+pub mod EditingViews
 pub mod Headers

@@ -1,12 +1,14 @@
-//! What is walked of a captured packet, by its link type, how long its headers are, and which packets a filter selects. No call
-//! allocates memory.
+//! What is walked of a captured packet, by its link type, how long its headers are, which packets a filter selects, and what an edit makes
+//! of a packet. No call allocates memory.
 #![tactic(auto)]
 
 mod content;
+mod editing;
 mod headers;
 pub mod laws;
 mod selecting;
 
 pub use content::{Content, is_cut};
+pub use editing::{EditedPacket, NoRoom, PacketEdit, edit_packet};
 pub use headers::headers_len;
 pub use selecting::selects;

@@ -4,20 +4,20 @@ use Rattle.std.specs.Prelude.{Option, IsTrue, take, unwrap_or}
 use Rattle.ether_base.specs.Bytes.{IsBytes}
 use Rattle.ether_base.proofs.SubLists.{IsBytes-drop}
 use Rattle.ether_pcap.specs.Capture.{PacketValue, Expectation, CaptureRefusal, Begins, Refuses, IsEnd}
-use Rattle.ether_pcap.specs.Cutting.{cut_unit}
-use Rattle.ether_pcap.specs.Copies.{CopyFault, Refused, NotCut, Copies, ended, refused, not_cut, unit, keeps, leaves, Copy}
+use Rattle.ether_pcap.specs.Editing.{EditedValue, unit_after}
+use Rattle.ether_pcap.specs.Copies.{CopyFault, Refused, NotEdited, Copies, ended, refused, not_edited, unit, keeps, leaves, Copy}
 use Rattle.ether_pcap.proofs.CaptureLengths.{unit_within, unit_some}
 use Rattle.ether_pcap.proofs.CapturesOne.{unit_one, unit_apart, unit_refusal_one}
 use Rattle.ether_pcap.proofs.PacketUnits.{same_packet}
 use Rattle.ether_pcap.proofs.PacketsOne.{none_at_end}
 
-module _ (Keeps : PacketValue → Type 0) (cut : PacketValue → ℕ) where
+module _ (Keeps : PacketValue → Type 0) (edit : PacketValue → Option EditedValue) where
   -- a unit, which has this front of the bytes, what is copied of it, and what is copied after it
   abbrev Joined : Expectation → Option PacketValue → (front others : List ℕ) → (ps : List PacketValue)
       → (copy : List ℕ) → (kept : List PacketValue) → Type 0
   Joined x None front others ps copy kept = (copy ≡ front ++ others) × (kept ≡ ps)
   Joined x (Some p) front others ps copy kept =
-      (Keeps p × (u : List ℕ) × (cut_unit x (length p.packet) (cut p) front ≡ Some u) × (copy ≡ u ++ others)
+      (Keeps p × (u : List ℕ) × (unit_after x p (edit p) front ≡ Some u) × (copy ≡ u ++ others)
       × (kept ≡ p ∷ ps))
       ⊎ (¬ (Keeps p) × (copy ≡ others) × (kept ≡ ps))
 
@@ -26,17 +26,17 @@ module _ (Keeps : PacketValue → Type 0) (cut : PacketValue → ℕ) where
     end : IsEnd x bytes → Step x bytes [] [] [] None
     refusal : (r : CaptureRefusal) → ¬ (IsEnd x bytes) → Refuses bytes x r → Step x bytes [] [] bytes (Some (Refused r))
     stuck : (len : ℕ) (p : PacketValue) (y : Expectation) → Begins bytes x len (Some p) y → Keeps p
-        → cut_unit x (length p.packet) (cut p) (take len bytes) ≡ None → Step x bytes [] [] bytes (Some (NotCut p))
+        → unit_after x p (edit p) (take len bytes) ≡ None → Step x bytes [] [] bytes (Some (NotEdited p))
     further : (len : ℕ) (p : Option PacketValue) (y : Expectation) (others copy : List ℕ) (ps kept : List PacketValue)
         (rest : List ℕ) (fault : Option CopyFault)
-        → Begins bytes x len p y → Copies Keeps cut y (drop len bytes) others ps rest fault
+        → Begins bytes x len p y → Copies Keeps edit y (drop len bytes) others ps rest fault
         → Joined x p (take len bytes) others ps copy kept → Step x bytes copy kept rest fault
 
   first_step : (x : Expectation) (bytes copy : List ℕ) (kept : List PacketValue) (rest : List ℕ)
-      (fault : Option CopyFault) → Copies Keeps cut x bytes copy kept rest fault → Step x bytes copy kept rest fault
+      (fault : Option CopyFault) → Copies Keeps edit x bytes copy kept rest fault → Step x bytes copy kept rest fault
   first_step x bytes copy kept rest fault (ended _ _ is) = end is
   first_step x bytes copy kept rest fault (refused _ _ r more is) = refusal r more is
-  first_step x bytes copy kept rest fault (not_cut _ y _ len p begins is no_front) = stuck len p y begins is no_front
+  first_step x bytes copy kept rest fault (not_edited _ y _ len p begins is no_front) = stuck len p y begins is no_front
   first_step x bytes copy kept rest fault (unit _ y _ others len _ _ _ begins copies) =
       further len None y others _ kept kept rest fault begins copies (refl, refl)
   first_step x bytes copy kept rest fault (keeps _ y _ front others len p ps _ _ begins is fits copies) =
@@ -55,7 +55,7 @@ module _ (Keeps : PacketValue → Type 0) (cut : PacketValue → ℕ) where
       (a ∙ ap (λ (l : List ℕ). front ++ l) e ∙ sym c, b ∙ f ∙ sym d)
   same_joined x (Some p) front others more copy other ps qs kept left e f (inl (is, u, g, a, b))
       (inl (is2, v, h, c, d)) =
-      let same = same_front u v (cut_unit x (length p.packet) (cut p) front) g h in (
+      let same = same_front u v (unit_after x p (edit p) front) g h in (
         a ∙ ap (λ (l : List ℕ). l ++ others) same ∙ ap (λ (l : List ℕ). v ++ l) e ∙ sym c,
         b ∙ ap (λ (l : List PacketValue). p ∷ l) f ∙ sym d,
       )
@@ -68,11 +68,11 @@ module _ (Keeps : PacketValue → Type 0) (cut : PacketValue → ℕ) where
   same_joined x (Some p) front others more copy other ps qs kept left e f (inr (not_kept, a, b)) (inr (no2, c, d)) =
       (a ∙ e ∙ sym c, b ∙ f ∙ sym d)
 
-  -- a packet that can't be cut is not copied
+  -- a packet that can't be edited is not copied
   stuck_apart : (x y z : Expectation) (bytes others copy : List ℕ) (len n : ℕ) (p : PacketValue)
       (q : Option PacketValue) (ps kept : List PacketValue)
       → IsBytes bytes → Begins bytes x len (Some p) y → Keeps p
-      → cut_unit x (length p.packet) (cut p) (take len bytes) ≡ None → Begins bytes x n q z
+      → unit_after x p (edit p) (take len bytes) ≡ None → Begins bytes x n q z
       → Joined x q (take n bytes) others ps copy kept → ⊥
   stuck_apart x y z bytes others copy len n p q ps kept ok begins is no_front begins2 joined =
       let e = unit_one bytes x y z len n (Some p) q ok begins begins2 in
@@ -126,7 +126,7 @@ module _ (Keeps : PacketValue → Type 0) (cut : PacketValue → ℕ) where
   one_step fuel x bytes copy other kept left rest rest2 fault fault2 le ok (stuck n q z begins kept1 none)
       (stuck m p y begins2 kept2 none2) =
       let e = unit_one bytes x z y n m (Some q) (Some p) ok begins begins2 in
-      (refl, refl, refl, ap (λ (t : PacketValue). Some (NotCut t)) (same_packet q p e.1))
+      (refl, refl, refl, ap (λ (t : PacketValue). Some (NotEdited t)) (same_packet q p e.1))
   one_step fuel x bytes copy other kept left rest rest2 fault fault2 le ok (stuck n q z begins kept1 none)
       (further m p y _ _ _ _ _ _ begins2 copies joined) =
       absurd (stuck_apart x z y bytes _ _ n m q p _ _ ok begins kept1 none begins2 joined)
@@ -149,8 +149,8 @@ module _ (Keeps : PacketValue → Type 0) (cut : PacketValue → ℕ) where
       let a = unit_some bytes x z n q begins in
       let b = unit_within bytes x z n q begins in
       let copies3 =
-      subst (λ (k : ℕ). Copies Keeps cut z (drop k bytes) more qs rest2 fault2) (sym e.0)
-      (subst (λ (w : Expectation). Copies Keeps cut w (drop m bytes) more qs rest2 fault2) (sym e.2) copies2) in
+      subst (λ (k : ℕ). Copies Keeps edit z (drop k bytes) more qs rest2 fault2) (sym e.0)
+      (subst (λ (w : Expectation). Copies Keeps edit w (drop m bytes) more qs rest2 fault2) (sym e.2) copies2) in
       let joined3 =
       subst (λ (k : ℕ). Joined x q (take k bytes) more qs other left) (sym e.0)
       (subst (λ (o : Option PacketValue). Joined x o (take m bytes) more qs other left) (sym e.1) joined2) in
@@ -162,11 +162,11 @@ module _ (Keeps : PacketValue → Type 0) (cut : PacketValue → ℕ) where
       let t = same_joined x q (take n bytes) others more copy other ps qs kept left s.0 s.1 joined joined3 in
       (t.0, t.1, s.2, s.3)
 
-pub one_copy : (test : PacketValue → Bool) (cut : PacketValue → ℕ) (x : Expectation) (bytes : List ℕ)
-    (c d : Copy test cut x bytes)
+pub one_copy : (test : PacketValue → Bool) (edit : PacketValue → Option EditedValue) (x : Expectation) (bytes : List ℕ)
+    (c d : Copy test edit x bytes)
     → IsBytes bytes → (c.copy ≡ d.copy) × (c.kept ≡ d.kept) × (c.rest ≡ d.rest) × (c.fault ≡ d.fault)
-one_copy test cut x bytes c d ok =
+one_copy test edit x bytes c d ok =
     let Keeps = λ (p : PacketValue). IsTrue (test p) in
-    one_step Keeps cut (length bytes) x bytes c.copy d.copy c.kept d.kept c.rest d.rest c.fault d.fault (omega arith) ok
-    (first_step Keeps cut x bytes c.copy c.kept c.rest c.fault c.copies)
-    (first_step Keeps cut x bytes d.copy d.kept d.rest d.fault d.copies)
+    one_step Keeps edit (length bytes) x bytes c.copy d.copy c.kept d.kept c.rest d.rest c.fault d.fault (omega arith) ok
+    (first_step Keeps edit x bytes c.copy c.kept c.rest c.fault c.copies)
+    (first_step Keeps edit x bytes d.copy d.kept d.rest d.fault d.copies)

@@ -17,9 +17,9 @@ pub mod CaptureSome
 pub mod CaptureReadingLemmas
 pub mod Copies
 pub mod CopiesOne
-pub mod CutUnits
-pub mod CutInPlace
+pub mod EditUnits
 pub mod PacketUnits
-pub mod CutPackets
+pub mod EditPackets
+mod EditedBlocks
 pub mod WrittenBlocks
 mod WrittenSections

@@ -1,18 +1,15 @@
 -- Units that are packets: a record, or a block of one of three types.
-use Rattle.std.proofs.Common.{◌≡◌, ℕ, ◌+◌, ◌-◌, ◌<◌, ◌≤◌, List, length, refl, sym, ap, subst, ◌∙◌, arith, inl, inr, Some, None}
-use Rattle.std.specs.Prelude.{◌≢◌, Option, unwrap_or, slice_range, nat_lt, if◌then◌else◌}
+use Rattle.std.proofs.Common.{◌≡◌, ℕ, ◌+◌, ◌-◌, ◌≤◌, List, length, refl, sym, ap, subst, ◌∙◌, arith, inl, inr, Some, None}
+use Rattle.std.specs.Prelude.{◌≢◌, Option, unwrap_or, slice_range}
 use Rattle.std.proofs.lemmas.Bool.{cases_eq, ne_eqb}
-use Rattle.ether_base.proofs.SubLists.{part_of_part}
-use Rattle.ether_pcap.specs.Numbers.{Order, number_in, field}
+use Rattle.ether_pcap.specs.Numbers.{Order, field}
 use Rattle.ether_pcap.specs.Record.{RecordValue, BeginsRecord, record_len}
 use Rattle.ether_pcap.specs.Block.{BlockValue, IsTotalLen, BeginsBlock}
 use Rattle.ether_pcap.specs.Section.{HasSectionType}
 use Rattle.ether_pcap.specs.FileHeader.{FileHeaderValue}
-use Rattle.ether_pcap.specs.Bodies.{EnhancedPacketValue, IsEnhancedPacket, captured_by}
-use Rattle.ether_pcap.specs.Capture.{PacketValue, packet_of_record, packet_on, CaptureInterfaceValue, IsAt, Expectation, Beginning, Records, Blocks, BlockKind, InterfaceDescription, SimplePacket, EnhancedPacket, Other, kind_of_block, IsBody, Begins, file_header, file_record, first_section, section, block}
-use Rattle.ether_pcap.specs.Cutting.{cut_block, cut_unit, LeavesUnit}
-use Rattle.ether_pcap.proofs.CapturesOne.{at_one}
-use Rattle.ether_pcap.proofs.CutInPlace.{stays, shortens}
+use Rattle.ether_pcap.specs.Bodies.{EnhancedPacketValue, IsEnhancedPacket}
+use Rattle.ether_pcap.specs.Editing.{EditedValue, edited_block, unit_with}
+use Rattle.ether_pcap.specs.Capture.{PacketValue, packet_of_record, packet_on, CaptureInterfaceValue, Expectation, Beginning, Records, Blocks, BlockKind, InterfaceDescription, SimplePacket, EnhancedPacket, Other, kind_of_block, IsBody, Begins, file_header, file_record, first_section, section, block}
 
 pub same_packet : (p q : PacketValue) → Some p ≡ Some q → p ≡ q
 same_packet p q e = ap (λ (o : Option PacketValue). unwrap_or o p) e
@@ -154,106 +151,85 @@ body_of_unit order interfaces bytes p b len =
     let e : length bytes - 4 ≡ 8 + length b.value.body = omega (arith, len) in
     ap (slice_range bytes 8) e ∙ b.begins.body
 
--- ---- blocks that are cut in place
+-- ---- how many bytes a packet has
 
-module _ (order : Order) (interfaces : List CaptureInterfaceValue) (u : List ℕ) (n : ℕ) (p : PacketValue)
+-- as many as a reader accepts, at most
+few_in_body : (kind : BlockKind) (order : Order) (interfaces : List CaptureInterfaceValue) (body : List ℕ)
+    (p : PacketValue) → IsBody kind order interfaces body (Some p) interfaces → length p.packet ≤ 262144
+few_in_body InterfaceDescription order interfaces body p (i, d, lt, e, f) = absurd cc
+few_in_body SimplePacket order interfaces body p (i, v, at, is, e, f) =
+    let q : PacketValue =
+    record {
+      time = None;
+      original_len = v.original_len;
+      link_type = i.link_type;
+      fcs_len = i.fcs_len;
+      packet = v.packet;
+    } in
+    let m : length p.packet ≡ length v.packet = ap (λ (r : PacketValue). length r.packet) (same_packet p q e) in
+    omega (arith, m, is.room)
+few_in_body (EnhancedPacket n) order interfaces body p (i, v, o, is, at, has, e, f) =
+    let m : length p.packet ≡ length v.packet =
+    ap (λ (r : PacketValue). length r.packet) (same_packet p (packet_on order i v o) e) in
+    omega (arith, m, is.room)
+few_in_body Other order interfaces body p (e, f) = absurd cc
+
+pub packet_room : (x : Expectation) (u : List ℕ) (p : PacketValue) → Begins u x (length u) (Some p) x
+    → length p.packet ≤ 262144
+packet_room Beginning u p begins = absurd (no_packet_first u Beginning Beginning (length u) p refl begins)
+packet_room (Records h) u p begins =
+    let s = record_of_unit u (Records h) (length u) h p begins in
+    let m : length p.packet ≡ length s.0.packet = ap (λ (q : PacketValue). length q.packet) s.3 in
+    omega (arith, m, s.1.room)
+packet_room (Blocks order interfaces) u p begins =
+    let b = (block_of_unit u (Blocks order interfaces) (length u) order interfaces p begins).0 in
+    few_in_body (kind_of_block b.value.block_type) order interfaces b.value.body p b.body
+
+-- ---- a block whose packet is edited
+
+module _ (order : Order) (interfaces : List CaptureInterfaceValue) (u : List ℕ) (p : PacketValue)
     (begins : Begins u (Blocks order interfaces) (length u) (Some p) (Blocks order interfaces)) where
+  abbrev Is : BlockKind → List ℕ → Type 0
+  Is kind body = IsBody kind order interfaces body (Some p) interfaces
+
+  unit_body : (kind : BlockKind) → kind_of_block (field order u 0 4) ≡ kind
+      → Is kind (slice_range u 8 (length u - 4))
+  unit_body kind is =
+      let found = block_of_unit u (Blocks order interfaces) (length u) order interfaces p begins in
+      let b = found.0 in
+      subst (Is kind) (sym (body_of_unit order interfaces u p b found.1))
+      (subst (λ (z : BlockKind). Is z b.value.body) (ap kind_of_block (sym b.begins.block_type) ∙ is) b.body)
+
   -- an enhanced packet, or an obsolete packet block
-  pub enhanced_cut_in_place : (new : List ℕ) (len : Option ℕ) (number_len : ℕ)
+  pub enhanced_edited : (number_len : ℕ) (e : EditedValue) (new : Option (List ℕ))
       → kind_of_block (field order u 0 4) ≡ EnhancedPacket number_len
       → ((k : ℕ) (v : EnhancedPacketValue) → IsTotalLen (length u)
       → IsEnhancedPacket k order (slice_range u 8 (length u - 4)) v
-      → LeavesUnit
-      (if nat_lt n (length v.packet) then cut_block (EnhancedPacket k) order (length v.packet) n u else Some u)
-      u new len)
-      → LeavesUnit (cut_unit (Blocks order interfaces) (length p.packet) n u) u new len
-  enhanced_cut_in_place new len number_len kind leaves =
+      → new ≡ edited_block (EnhancedPacket k) order (length v.packet) e u)
+      → new ≡ unit_with (Blocks order interfaces) (length p.packet) e u
+  enhanced_edited number_len e new kind edits =
       let found = block_of_unit u (Blocks order interfaces) (length u) order interfaces p begins in
-      let b = found.0 in
-      let k : kind_of_block b.value.block_type ≡ EnhancedPacket number_len =
-      ap kind_of_block (sym b.begins.block_type) ∙ kind in
-      let body : IsBody (EnhancedPacket number_len) order interfaces b.value.body (Some p) interfaces =
-      subst (λ (z : BlockKind). IsBody z order interfaces b.value.body (Some p) interfaces) k b.body in
-      let v = body.1 in
-      let is : IsEnhancedPacket number_len order (slice_range u 8 (length u - 4)) v =
-      subst (λ (l : List ℕ). IsEnhancedPacket number_len order l v)
-      (sym (body_of_unit order interfaces u p b found.1)) body.3 in
-      let same : p ≡ packet_on order body.0 v body.2 = same_packet p (packet_on order body.0 v body.2) body.6 in
-      let sound : IsTotalLen (length u) = subst IsTotalLen (sym found.1) b.begins.sound in
-      let m : length p.packet ≡ length v.packet = ap (λ (q : PacketValue). length q.packet) same in
-      let Leaves = λ (z : BlockKind) (i : ℕ).
-      LeavesUnit (if nat_lt n i then cut_block z order i n u else Some u) u new len in
-      subst (Leaves (kind_of_block (field order u 0 4))) (sym m)
-      (subst (λ (z : BlockKind). Leaves z (length v.packet)) (sym kind) (leaves number_len v sound is))
+      let (i, v, options, is, at, has, f, g) = unit_body (EnhancedPacket number_len) kind in
+      let m : length p.packet ≡ length v.packet =
+      ap (λ (q : PacketValue). length q.packet) (same_packet p (packet_on order i v options) f) in
+      let sound : IsTotalLen (length u) = subst IsTotalLen (sym found.1) found.0.begins.sound in
+      edits number_len v sound is ∙ ap (λ (k : ℕ). edited_block (EnhancedPacket number_len) order k e u) (sym m)
+      ∙ ap (λ (z : BlockKind). edited_block z order (length p.packet) e u) (sym kind)
 
-  -- a simple packet has as many captured bytes as its interface and its length say
-  pub simple_captured : field order u 0 4 ≡ 3
-      → (i : CaptureInterfaceValue) × IsAt interfaces 0 i
-      × (captured_by i.snap_len (field order u 8 12) ≡ length p.packet)
-  simple_captured kind =
-      let found = block_of_unit u (Blocks order interfaces) (length u) order interfaces p begins in
-      let b = found.0 in
-      let k : kind_of_block b.value.block_type ≡ SimplePacket = ap kind_of_block (sym b.begins.block_type ∙ kind) in
-      let body : IsBody SimplePacket order interfaces b.value.body (Some p) interfaces =
-      subst (λ (z : BlockKind). IsBody z order interfaces b.value.body (Some p) interfaces) k b.body in
-      let v = body.1 in
-      let is = body.3 in
-      let i = body.0 in
-      let q : PacketValue =
-      record {
-        time = None;
-        original_len = v.original_len;
-        link_type = i.link_type;
-        fcs_len = i.fcs_len;
-        packet = v.packet;
-      } in
-      let same : p ≡ q = same_packet p q body.4 in
-      let whole : 4 + length v.packet ≤ length b.value.body = is.whole in
-      let place : field order b.value.body 0 4 ≡ field order u 8 12 =
-      ap (λ (l : List ℕ). field order l 0 4) (sym (body_of_unit order interfaces u p b found.1))
-      ∙ ap (number_in order) (part_of_part u 8 (length u - 4) 0 4 (omega arith) (omega (arith, found.1, whole))) in
-      let len = is.captured_len ∙ ap (λ (r : PacketValue). length r.packet) (sym same) in
-      (i, body.2, ap (captured_by i.snap_len) (sym place) ∙ len)
-
-  captured_on : (i : CaptureInterfaceValue) → field order u 0 4 ≡ 3 → IsAt interfaces 0 i
-      → captured_by i.snap_len (field order u 8 12) ≡ length p.packet
-  captured_on i kind at =
-      let s = simple_captured kind in
-      ap (λ (z : CaptureInterfaceValue). captured_by z.snap_len (field order u 8 12))
-      (at_one interfaces 0 i s.0 at s.1)
-      ∙ s.2
-
-  pub simple_stays : (i : CaptureInterfaceValue) → field order u 0 4 ≡ 3 → IsAt interfaces 0 i
-      → captured_by i.snap_len (field order u 8 12) ≤ n
-      → LeavesUnit (cut_unit (Blocks order interfaces) (length p.packet) n u) u u (Some (length u))
-  simple_stays i kind at le =
-      stays n (length p.packet) _ u (subst (λ (k : ℕ). k ≤ n) (captured_on i kind at) le)
-
-  pub simple_refused : (i : CaptureInterfaceValue) → field order u 0 4 ≡ 3 → IsAt interfaces 0 i
-      → n < captured_by i.snap_len (field order u 8 12)
-      → LeavesUnit (cut_unit (Blocks order interfaces) (length p.packet) n u) u u None
-  simple_refused i kind at lt =
-      let k : kind_of_block (field order u 0 4) ≡ SimplePacket = ap kind_of_block kind in
-      shortens n (length p.packet) (cut_block (kind_of_block (field order u 0 4)) order (length p.packet) n u) u u None
-      (subst (λ (k : ℕ). n < k) (captured_on i kind at) lt)
-      (rw k (refl, refl))
-
-  pub no_packet : (field order u 0 4 ≡ 2 → ⊥) → (field order u 0 4 ≡ 3 → ⊥) → (field order u 0 4 ≡ 6 → ⊥) → ⊥
-  no_packet two three six =
-      let found = block_of_unit u (Blocks order interfaces) (length u) order interfaces p begins in
-      let b = found.0 in
-      let t = b.begins.block_type in
-      let Is = λ (z : BlockKind). IsBody z order interfaces b.value.body (Some p) interfaces in
-      elim (type_of b.value.block_type) [
-        | is_interface e ↦ none_described b.value.body (subst Is (ap kind_of_block e) b.body)
-        | is_obsolete e ↦ two (t ∙ e)
-        | is_simple e ↦ three (t ∙ e)
-        | is_enhanced e ↦ six (t ∙ e)
-        | is_other e ↦ none_other b.value.body (subst Is e b.body)
+  -- .. no other block is edited
+  pub other_edited : (e : EditedValue) → (field order u 0 4 ≡ 2 → ⊥) → (field order u 0 4 ≡ 6 → ⊥)
+      → None ≡ unit_with (Blocks order interfaces) (length p.packet) e u
+  other_edited e two six =
+      elim (type_of (field order u 0 4)) [
+        | is_interface is ↦ none InterfaceDescription (ap kind_of_block is) refl
+        | is_obsolete is ↦ absurd (two is)
+        | is_simple is ↦ none SimplePacket (ap kind_of_block is) refl
+        | is_enhanced is ↦ absurd (six is)
+        | is_other is ↦ none Other is refl
       ]
     where
-      none_described : (body : List ℕ) → IsBody InterfaceDescription order interfaces body (Some p) interfaces → ⊥
-      none_described body (i, d, lt, e, f) = absurd cc
-
-      none_other : (body : List ℕ) → IsBody Other order interfaces body (Some p) interfaces → ⊥
-      none_other body (e, f) = absurd cc
+      none : (kind : BlockKind) → kind_of_block (field order u 0 4) ≡ kind
+          → None ≡ edited_block kind order (length p.packet) e u
+          → None ≡ unit_with (Blocks order interfaces) (length p.packet) e u
+      none kind is e_none =
+          e_none ∙ ap (λ (z : BlockKind). edited_block z order (length p.packet) e u) (sym is)

@@ -10,12 +10,12 @@ use Rattle.ether_pcap.specs.Section.{section_type, HasSectionType, HasOrder, IsS
 use Rattle.ether_pcap.specs.Options.{HasOptions, padded}
 use Rattle.ether_pcap.specs.Bodies.{InterfaceValue, IsInterface, EnhancedPacketValue, IsEnhancedPacket}
 use Rattle.ether_pcap.specs.Writing.{bytes_of}
-use Rattle.ether_pcap.specs.Cutting.{block_bytes}
+use Rattle.ether_pcap.specs.Editing.{block_bytes}
 use Rattle.ether_pcap.specs.WritingBlocks.{section_body, interface_head, interface_body, interface_block_len, InterfaceIsRead, nanosecond_bytes, packet_head, packet_padding, packet_body, packet_block_len, PacketIsRead}
 use Rattle.ether_pcap.proofs.Numbers.{length-bytes_of, number-bytes_of}
 use Rattle.ether_pcap.proofs.Options.{none_at_end}
 use Rattle.ether_pcap.proofs.CaptureLocality.{block_local}
-use Rattle.ether_pcap.proofs.CutUnits.{length-zeros, part_past, block_begins}
+use Rattle.ether_pcap.proofs.EditUnits.{length-zeros, part_past, block_begins}
 
 -- ---- blocks
 

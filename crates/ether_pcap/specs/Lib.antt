@@ -18,5 +18,5 @@ pub mod CaptureTexts
 pub mod CaptureReading
 pub mod CaptureLaws
 pub mod Copies
-pub mod Cutting
+pub mod Editing
 pub mod WritingBlocks

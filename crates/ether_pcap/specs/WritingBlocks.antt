@@ -8,7 +8,7 @@ use Rattle.ether_pcap.specs.Section.{section_type}
 use Rattle.ether_pcap.specs.Options.{padded, OptionValue, HasOptions}
 use Rattle.ether_pcap.specs.Bodies.{InterfaceValue, IsInterface, EnhancedPacketValue, IsEnhancedPacket}
 use Rattle.ether_pcap.specs.Writing.{bytes_of, zeros}
-use Rattle.ether_pcap.specs.Cutting.{block_bytes}
+use Rattle.ether_pcap.specs.Editing.{block_bytes}
 use Rattle.ether_pcap.specs.Capture.{CaptureInterfaceValue, PacketValue, described_by, packet_on, IsAt, max_interfaces, Beginning, HasPackets}
 
 -- byte-order magic, version 1.0, and the number that stands for a section length that is not given (4.1)

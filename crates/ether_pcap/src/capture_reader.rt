@@ -1,19 +1,19 @@
 //! A reader of capture files of either format, one unit at a time.
-ghost use Rattle.std.specs.Prelude.{◌≡◌, ◌≢◌, ℕ, ◌<◌, ◌≤◌, ◌↔◌, length, Some, IfOk, IfErr, OnErr, IsTrue};
+ghost use Rattle.std.specs.Prelude.{◌≡◌, ◌≢◌, ℕ, ◌<◌, ◌≤◌, ◌↔◌, length, Some, IfSome, IfOk, IfErr, OnErr, IsTrue};
 ghost use Rattle.std.specs.Option.{option_map};
 ghost use Rattle.ether_pcap.specs.FileHeader.{FileHeaderValue, IsFileHeader};
 ghost use Rattle.ether_pcap.specs.Capture.{Expectation, Beginning, Records, Begins, Refuses, required_len};
-ghost use Rattle.ether_pcap.specs.Cutting.{CutsUnit, KeepsPacket};
+ghost use Rattle.ether_pcap.specs.Editing.{EditsUnit, HasEditedPacket, padding_of};
 ghost use Rattle.ether_pcap.specs.Section.{HasSectionType, IsSection, RefusesSection};
 ghost use Rattle.ether_pcap.specs.Views.{file_header_view};
 ghost use Rattle.ether_pcap.specs.PcapngViews.{block_view, section_refusal_view};
 ghost use Rattle.ether_pcap.specs.CaptureViews.{captured_packet_view, capture_refusal_view};
 
 use crate::capture_blocks::{Interfaces, read_block};
-use crate::cutting::{truncate_block, truncate_record};
+use crate::editing::{edited_block, edited_record};
 use crate::{
-    ByteOrder, CaptureError, CaptureUnit, CapturedPacket, FileHeader, PcapRecord, PcapngBlock,
-    SectionHeader, Timestamp,
+    ByteOrder, CaptureError, CaptureUnit, CapturedPacket, EditedUnit, FileHeader, PcapRecord,
+    PcapngBlock, SectionHeader, Timestamp,
 };
 use arrayvec::ArrayVec;
 use std::marker::Model;
@@ -117,17 +117,17 @@ impl CaptureReader {
         self.read_unit(bytes)
     }
 
-    /// Cuts the packet of a unit to its first `len` captured bytes, in place. Returns the unit's new length.
+    /// The unit of a packet with these captured bytes and this original length in place of its own.
     ///
-    /// `unit` has exactly the bytes of the unit that this reader read last. The captured length changes, and in a block also both total
-    /// lengths and the padding. Time, interface, original length and options stay. A packet with at most `len` captured bytes stays as
-    /// it was, with its padding.
+    /// `unit` has exactly the bytes of the unit that this reader read last. The captured and the original length change, and in a block
+    /// also both total lengths and the padding, which is then of zeros. Time, interface and options stay.
     ///
-    /// Returns `None` for a simple packet with more than `len` captured bytes: its block gives no captured length, so it can't be cut. The
-    /// bytes stay as they were. Of a unit that is no packet nothing is claimed.
+    /// Returns `None` for a simple packet, whose block gives no captured length; if there are more than
+    /// [`PcapRecord::MAX_CAPTURED_LEN`] bytes, or the original length has more than 32 bits; and if the block would be longer than
+    /// [`PcapngBlock::MAX_LEN`]. Of a unit that is no packet nothing is claimed.
     ///
     /// ```
-    /// let mut file = [
+    /// let file = [
     ///     0xA1, 0xB2, 0xC3, 0xD4, 0x00, 0x02, 0x00, 0x04, 0x00, 0x00, 0x00, 0x00, // file header
     ///     0x00, 0x00, 0x00, 0x00, 0x00, 0x00, 0xFF, 0xFF, 0x00, 0x00, 0x00, 0x01, //
     ///     0x00, 0x00, 0x00, 0x01, 0x00, 0x00, 0x00, 0x02, 0x00, 0x00, 0x00, 0x03, 0x00, 0x00, 0x00, 0x3C, // record
@@ -136,26 +136,34 @@ impl CaptureReader {
     /// let mut reader = CaptureReader::new();
     /// let header_len = reader.read(&file)?.len;
     /// let record_len = reader.read(&file[header_len..])?.len;
-    /// let unit = &mut file[header_len..header_len + record_len];
-    /// assert_eq!(rt; reader.truncate_packet(unit, 2), Some(18));
-    /// let cut = [
-    ///     0x00, 0x00, 0x00, 0x01, 0x00, 0x00, 0x00, 0x02, 0x00, 0x00, 0x00, 0x02, 0x00, 0x00, 0x00, 0x3C, //
-    ///     0xAA, 0xBB,
+    /// let unit = &file[header_len..header_len + record_len];
+    /// let header = [
+    ///     0x00, 0x00, 0x00, 0x01, 0x00, 0x00, 0x00, 0x02, 0x00, 0x00, 0x00, 0x02, 0x00, 0x00, 0x00, 0x3B,
     /// ];
-    /// assert_eq!(rt; &file[24..42], cut.as_slice());
+    /// let packet = &[0xAA, 0xCC];
+    /// assert_eq!(rt; reader.edit_unit(unit, packet, 59), Some(EditedUnit::Record { header, packet }));
     /// ```
-    #[tactic(auto, using(crate::proofs::CutPackets::keeps_packet))]
-    pub fn truncate_packet(&self, unit: &mut [u8], len: usize) -> Option<usize>
-        ensures cut { CutsUnit self.now len unit.old unit.new result }
-        ensures packet { KeepsPacket self.now len unit.old unit.new result }
-        ensures same_len { length unit.new ≡ length unit.old }
+    #[tactic(auto, using(crate::proofs::EditPackets::has_edited_packet))]
+    pub fn edit_unit<'a>(
+        &self,
+        unit: &'a [u8],
+        packet: &'a [u8],
+        original_len: u64,
+    ) -> Option<EditedUnit<'a>>
+        ensures edited { EditsUnit self.now unit.now (record { original_len = original_len; packet = packet.now }) result }
+        ensures packet { HasEditedPacket self.now unit.now (record { original_len = original_len; packet = packet.now }) result }
+        ensures padding { IfSome result (λ u. padding_of u ≤ 3) }
     {
+        if packet.len() > PcapRecord::MAX_CAPTURED_LEN as usize
+            || original_len > u64::from(u32::MAX)
+        {
+            return None;
+        }
+        let original_len = original_len as u32;
         match self.progress {
             Progress::Nothing => None,
-            Progress::Classic(header) => truncate_record(&header, unit, len),
-            Progress::Section(byte_order) => {
-                truncate_block(byte_order, self.interfaces.as_slice(), unit, len)
-            }
+            Progress::Classic(header) => edited_record(&header, unit, packet, original_len),
+            Progress::Section(byte_order) => edited_block(byte_order, unit, packet, original_len),
         }
     }
 

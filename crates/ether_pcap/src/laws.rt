@@ -73,14 +73,14 @@ pub fn written_sections_are_read()
     ensures { WrittenSectionsAreRead }
 {}
 
-/// A copy of a capture file without some of its packets, and with others cut, is a file of the same format with exactly the packets that
-/// are kept, in their order, each with its first captured bytes. If nothing is copied, nothing was read. A copy ends before a simple packet
-/// that would have to be cut.
+/// A copy of a capture file without some of its packets, and with others edited, is a file of the same format with exactly the packets that
+/// are kept, in their order, each as it was edited. If nothing is copied, nothing was read. A copy ends before a packet that can't be
+/// edited: a simple one, or one that would be too long.
 pub fn copies_are_read()
     ensures { CopiesAreRead }
 {}
 
-/// Any bytes have a copy by a test of packets and by how many bytes each is cut to, and only one.
+/// Any bytes have a copy by a test of packets and by what each is edited to, and only one.
 pub fn copies_are_one()
     ensures { CopiesAreOne }
 {}

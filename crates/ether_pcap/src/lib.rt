@@ -1,4 +1,4 @@
-//! Capture files of the classic pcap format and of pcapng, read from lists of bytes, cut in place, and written. No call allocates memory.
+//! Capture files of the classic pcap format and of pcapng, read from lists of bytes, edited unit by unit, and written. No call allocates memory.
 #![tactic(auto)]
 
 mod block_error;
@@ -12,7 +12,8 @@ mod capture_packets;
 mod capture_reader;
 mod capture_unit;
 mod captured_packet;
-mod cutting;
+mod edited_unit;
+mod editing;
 mod enhanced_packet;
 mod file_header;
 mod file_header_error;
@@ -42,6 +43,7 @@ pub use capture_packets::CapturePackets;
 pub use capture_reader::CaptureReader;
 pub use capture_unit::CaptureUnit;
 pub use captured_packet::CapturedPacket;
+pub use edited_unit::EditedUnit;
 pub use enhanced_packet::EnhancedPacket;
 pub use file_header::FileHeader;
 pub use file_header_error::FileHeaderError;

@@ -4,7 +4,7 @@ ghost use Rattle.ether_pcap.specs.Numbers.{Order};
 ghost use Rattle.ether_pcap.specs.Section.{section_type, IsSection, RefusesSection, HasOrder, IsVersion};
 ghost use Rattle.ether_pcap.specs.Writing.{bytes_of};
 ghost use Rattle.ether_pcap.specs.WritingBlocks.{section_body};
-ghost use Rattle.ether_pcap.specs.Cutting.{block_bytes};
+ghost use Rattle.ether_pcap.specs.Editing.{block_bytes};
 ghost use Rattle.ether_pcap.specs.Views.{order_of};
 ghost use Rattle.ether_pcap.specs.PcapngViews.{block_view, section_refusal_view};
 

@@ -1,8 +1,8 @@
-//! Small captures, read and cut. Their fields were printed by Wireshark's `tshark`.
+//! Small captures, read and edited. Their fields were printed by Wireshark's `tshark`.
 mod blocks;
 mod captures;
 mod classic;
-mod cutting;
+mod editing;
 mod examples;
 mod interfaces;
 mod packets;

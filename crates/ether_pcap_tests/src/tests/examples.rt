@@ -1,9 +1,9 @@
 //! The examples of the documentation.
 use super::equal;
 use ether_pcap::{
-    ByteOrder, CaptureError, CaptureReader, CaptureUnit, CapturedPacket, EnhancedPacket,
-    FileHeader, InterfaceDescription, LinkType, PcapRecord, PcapRecords, PcapngBlock, RecordError,
-    SectionHeader, SimplePacket, TimeUnit, Timestamp,
+    ByteOrder, CaptureError, CaptureReader, CaptureUnit, CapturedPacket, EditedUnit,
+    EnhancedPacket, FileHeader, InterfaceDescription, LinkType, PcapRecord, PcapRecords,
+    PcapngBlock, RecordError, SectionHeader, SimplePacket, TimeUnit, Timestamp,
 };
 use std::test::Fail;
 
@@ -217,8 +217,8 @@ fn of_a_reader(rt: HostRuntime) -> Result<(), Fail> {
 }
 
 #[test]
-fn of_a_cut_packet(rt: HostRuntime) -> Result<(), Fail> {
-    let mut file = [
+fn of_an_edited_packet(rt: HostRuntime) -> Result<(), Fail> {
+    let file = [
         0xA1, 0xB2, 0xC3, 0xD4, 0x00, 0x02, 0x00, 0x04, 0x00, 0x00, 0x00, 0x00, // file header
         0x00, 0x00, 0x00, 0x00, 0x00, 0x00, 0xFF, 0xFF, 0x00, 0x00, 0x00, 0x01, //
         0x00, 0x00, 0x00, 0x01, 0x00, 0x00, 0x00, 0x02, 0x00, 0x00, 0x00, 0x03, 0x00, 0x00, 0x00,
@@ -228,17 +228,21 @@ fn of_a_cut_packet(rt: HostRuntime) -> Result<(), Fail> {
     let mut reader = CaptureReader::new();
     let header_len = reader.read(&file)?.len;
     let record_len = reader.read(file.get(24..).unwrap_or(&[]))?.len;
-    let found = reader.truncate_packet(&mut file[24..43], 2);
-    let cut = [
+    let packet = [0xAA, 0xCC];
+    let found = reader.edit_unit(&file[24..43], &packet, 59);
+    let header = [
         0x00, 0x00, 0x00, 0x01, 0x00, 0x00, 0x00, 0x02, 0x00, 0x00, 0x00, 0x02, 0x00, 0x00, 0x00,
-        0x3C, //
-        0xAA, 0xBB,
+        0x3B,
     ];
+    let wanted = EditedUnit::Record {
+        header,
+        packet: &packet,
+    };
     equal(
         &rt,
         "a record",
-        &(header_len, record_len, found, file.get(24..42)),
-        &(24, 19, Some(18), Some(cut.as_slice())),
+        &(header_len, record_len, found),
+        &(24, 19, Some(wanted)),
     );
     Ok(())
 }

@@ -10,12 +10,10 @@ invariant-loop-unit g l =
       same_writer : l.out.writer.ghost_name ≡ l.fn.out.writer.ghost_name;
       marks : Marks g.W.Sink.can_fail l.fn.out l.out;
       within : l.at ≤ length l.fn.bytes;
-      len : length l.bytes ≡ length l.fn.bytes;
-      left : drop l.at l.bytes ≡ drop l.at l.fn.bytes;
       reached : (held : Option (List ℕ)) (input : List ℕ)
           → CopyReached (selection_view l.fn.asked) g.W.Sink.contents held input l.fn.bytes l.fn.self l.fn.out
           → CopyReached (selection_view l.fn.asked) g.W.Sink.contents held input (drop l.at l.fn.bytes) l.self l.out;
     }
 
 abbrev pub decreases-loop-unit : goal.decreases-loop-unit
-decreases-loop-unit g l = length l.bytes - l.at
+decreases-loop-unit g l = length l.fn.bytes - l.at

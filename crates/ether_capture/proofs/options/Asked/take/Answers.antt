@@ -1,5 +1,6 @@
 use Rattle.std.proofs.Common.{rules, ℕ, List, map, ap, subst}
 use Rattle.std.specs.Prelude.{string_bytes}
+use Rattle.ether_content.specs.EditingViews.{edit_view}
 use Rattle.ether_capture.specs.Options.{IsWord, asked_view, words_left}
 use Rattle.ether_capture.specs.declared.options.Word.TheVariants as kinds
 use Rattle.ether_capture.proofs.OptionsLemmas.{ask_plain, ask_write, ask_cut, ask_select, none_taken, none_mapped, ask_name_last}
@@ -26,7 +27,8 @@ returns-in-Write-clause-ok c =
 pub returns-in-Cut-clause-ok : goal.returns-in-Cut-clause-ok
 returns-in-Cut-clause-ok c =
     let is = subst (λ (w : List ℕ). IsWord w kinds.Cut) c.as_str.ensures.value c.in-Cut.ensures in
-    ask_cut (asked_view c.args.self.now) (string_bytes c.args.word) (words_left c.args.args.now) is (search rules)
+    ask_cut (asked_view c.args.self.now) (string_bytes c.args.word) (words_left c.args.args.now) is
+    (none_mapped edit_view c.args.self.now.edit (search rules))
 
 pub returns-in-Some-clause-ok : goal.returns-in-Some-clause-ok
 returns-in-Some-clause-ok c =

@@ -2,7 +2,7 @@ use Rattle.std.proofs.Common.{◌≡◌}
 use Rattle.ether_pcap.specs.Section.{section_type}
 use Rattle.ether_pcap.specs.Writing.{bytes_of}
 use Rattle.ether_pcap.specs.WritingBlocks.{section_body}
-use Rattle.ether_pcap.specs.Cutting.{block_bytes}
+use Rattle.ether_pcap.specs.Editing.{block_bytes}
 use Rattle.ether_pcap.specs.Views.{order_of}
 use Rattle.ether_pcap.proofs.WrittenBlocks.{section_joined, section_read}
 use Rattle.ether_pcap.proofs.section_header.SectionHeader.to_bytes.Goals as goal

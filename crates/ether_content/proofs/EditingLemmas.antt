@@ -1,0 +1,295 @@
+-- What an edit makes of the frame of a captured packet.
+use Rattle.std.proofs.Common.{◌≡◌, ℕ, ◌+◌, ◌-◌, ◌≤◌, List, [], ◌∷◌, ◌++◌, length, take, drop, Bool, true, false, None, refl, sym, ap, subst, ◌∙◌, arith, inl, inr, append-nil, length-append, length-drop}
+use Rattle.std.specs.Prelude.{◌≢◌, slice_range, max, nat_lt, nat_eq, not, ◌&&◌, if◌then◌else◌}
+use borrow.Rule.Slice.PartMut.{put_mid, post_of}
+use Rattle.std.proofs.lemmas.Bool.{cases_lt, lt-ltb, le-ltb}
+use Rattle.std.proofs.lemmas.List.{length-take-le, take-take, take_all, take_at, drop-drop, drop-append-le}
+use Rattle.std.proofs.Math.Seq.{take-append-add}
+use Rattle.ether_base.specs.Bytes.{IsBytes}
+use Rattle.ether_base.proofs.SubLists.{rest_of_part}
+use Rattle.etherparse.specs.Header.{Header}
+use Rattle.etherparse.specs.Kind as kinds
+use Rattle.etherparse.specs.Vlan.{VlanValue}
+use Rattle.ether_peel.specs.Grammar.Expectation.{Next, Start}
+use Rattle.ether_peel.specs.Grammar.Stack.{Ending, Walk, whole}
+use Rattle.ether_peel.proofs.Grammar.Stacks.{some_stack}
+use Rattle.ether_peel.specs.Walker.Start.{start_of, next_of}
+use Rattle.ether_peel.specs.declared.start.Start.{Start as PeelStart}
+use Rattle.ether_packet.specs.TypedLink.{with_type}
+use Rattle.ether_packet.specs.Popping.{IsPopped, RefusesPop}
+use Rattle.ether_packet.specs.declared.tag_error.TagError.{TagError}
+use Rattle.ether_packet.proofs.TypedLinks.{means_whole_list, len_kept, link_least}
+use Rattle.ether_pcap.proofs.EditUnits.{part_past}
+use Rattle.ether_pcap.specs.Capture.{PacketValue}
+use Rattle.ether_pcap.specs.Editing.{EditedValue, edited_packet}
+use Rattle.ether_content.specs.Content.{ContentValue, Frame, LinuxSll2, Unknown, content_of, is_cut, fcs_len, has_fcs, without_fcs}
+use Rattle.ether_content.specs.ContentViews.{content_view}
+use Rattle.ether_content.specs.Editing.{PopVlan, Edits, with_frame, frame_start, Pops, refused, not_popped}
+use Rattle.ether_content.specs.declared.content.Content.{Content}
+use Rattle.ether_content.specs.declared.content.Content.TheVariants as contents
+
+-- ---- the frame of a packet
+
+-- what is walked, by the link type, whether a whole check sequence is there, all bytes, and those without it
+abbrev content_by : (ethernet cooked cooked2 fcs : Bool) → (all without : List ℕ) → ContentValue
+content_by ethernet cooked cooked2 fcs all without =
+    if ethernet then (if fcs then Frame (Start kinds.Ethernet2Fcs) all else Frame (Start kinds.Ethernet2) without)
+    else (if cooked then Frame (Start kinds.LinuxSll) without else (if cooked2 then LinuxSll2 without else Unknown))
+
+framed : (start next : Next) (bytes frame : List ℕ) → Frame start bytes ≡ Frame next frame
+    → (start ≡ next) × (bytes ≡ frame)
+framed start next bytes frame is = let a : start ≡ next = cc in let b : bytes ≡ frame = cc in (a, b)
+
+-- what is so of all bytes, and of those without a check sequence, is so of a frame
+frame_by : (a b c d : Bool) (all without : List ℕ) (next : Next) (frame : List ℕ) (P : List ℕ → Type 0)
+    → content_by a b c d all without ≡ Frame next frame → P all → P without → P frame
+frame_by true b c true all without next frame P is p q = subst P (framed _ next all frame is).1 p
+frame_by true b c false all without next frame P is p q = subst P (framed _ next without frame is).1 q
+frame_by false true c d all without next frame P is p q = subst P (framed _ next without frame is).1 q
+frame_by false false true d all without next frame P is p q = absurd cc
+frame_by false false false d all without next frame P is p q = absurd cc
+
+-- another frame in its place
+frame_after : (a b c d : Bool) (all without all2 without2 : List ℕ) (next : Next) (frame new : List ℕ)
+    → content_by a b c d all without ≡ Frame next frame → (all ≡ frame → all2 ≡ new)
+    → (without ≡ frame → without2 ≡ new) → content_by a b c d all2 without2 ≡ Frame next new
+frame_after true b c true all without all2 without2 next frame new is f g =
+    let s = framed _ next all frame is in
+    ap (λ (n : Next). Frame n all2) s.0 ∙ ap (Frame next) (f s.1)
+frame_after true b c false all without all2 without2 next frame new is f g =
+    let s = framed _ next without frame is in
+    ap (λ (n : Next). Frame n without2) s.0 ∙ ap (Frame next) (g s.1)
+frame_after false true c d all without all2 without2 next frame new is f g =
+    let s = framed _ next without frame is in
+    ap (λ (n : Next). Frame n without2) s.0 ∙ ap (Frame next) (g s.1)
+frame_after false false true d all without all2 without2 next frame new is f g = absurd cc
+frame_after false false false d all without all2 without2 next frame new is f g = absurd cc
+
+-- the front of a list
+abbrev IsFront : (list front : List ℕ) → Type 0
+IsFront list front = (length front ≤ length list) × (take (length front) list ≡ front)
+
+front_taken : (n : ℕ) (list : List ℕ) → IsFront list (take n list)
+front_taken n list =
+    elim (cases_lt n (length list)) [
+      | inl lt ↦ let len = length-take-le n list (omega (arith, lt)) in
+          (omega (arith, len, lt), ap (λ (k : ℕ). take k list) len)
+      | inr le ↦ let all = take_all n list le in
+          subst (IsFront list) (sym all) (omega arith, take_all (length list) list (omega arith))
+    ]
+
+-- a frame is the front of its packet
+pub frame_front : (p : PacketValue) (next : Next) (frame : List ℕ) → content_of p ≡ Frame next frame
+    → (length frame ≤ length p.packet) × (take (length frame) p.packet ≡ frame)
+frame_front p next frame is =
+    frame_by (nat_eq p.link_type 1) (nat_eq p.link_type 113) (nat_eq p.link_type 276) (has_fcs p) p.packet
+    (without_fcs p) next frame (IsFront p.packet) is (omega arith, take_all (length p.packet) p.packet (omega arith))
+    (front_taken (max p.original_len (length p.packet) - fcs_len p) p.packet)
+
+-- ---- the content of a packet with another frame
+
+-- it is as long as before, but for some bytes of the frame: at its end what was cut, or follows the frame, is as before
+pub record KeepsEnd (p : PacketValue) (frame new : List ℕ) (original_len : ℕ) : Type 0 where
+  pub same_cut : nat_lt (length new + (length p.packet - length frame)) original_len ≡ is_cut p
+  pub exact : without_fcs p ≡ frame → max p.original_len (length p.packet) - fcs_len p ≤ length p.packet
+      → max original_len (length new + (length p.packet - length frame)) - fcs_len p ≡ length new
+  pub at_least : without_fcs p ≡ frame → length p.packet ≤ max p.original_len (length p.packet) - fcs_len p
+      → length new ≤ max original_len (length new + (length p.packet - length frame)) - fcs_len p
+
+pub content_after : (p : PacketValue) (next : Next) (frame new : List ℕ) (original_len : ℕ)
+    → content_of p ≡ Frame next frame → KeepsEnd p frame new original_len
+    → content_of (edited_packet (with_frame p frame new original_len) p) ≡ Frame next new
+content_after p next frame new original_len is keeps =
+    let rest = drop (length frame) p.packet in
+    let packet = new ++ rest in
+    let q = edited_packet (with_frame p frame new original_len) p in
+    let n = length-append new rest in
+    let m = length-drop (length frame) p.packet in
+    let len : length packet ≡ length new + (length p.packet - length frame) = omega (arith, n, m) in
+    let cut : is_cut q ≡ is_cut p = ap (λ (k : ℕ). nat_lt k original_len) len ∙ keeps.same_cut in
+    let fcs : has_fcs q ≡ has_fcs p = ap (λ (b : Bool). not b && nat_eq (fcs_len p) 4) cut in
+    let t = max p.original_len (length p.packet) - fcs_len p in
+    let t2 = max original_len (length packet) - fcs_len p in
+    let t2_is = ap (λ (k : ℕ). max original_len k - fcs_len p) len in
+    let none : length p.packet ≤ length frame → rest ≡ [] =
+    λ le. no_items rest (omega (arith, m, le)) in
+    let whole : p.packet ≡ frame → packet ≡ new =
+    λ same. let k = ap length same in
+    ap (λ (l : List ℕ). new ++ l) (none (omega (arith, k))) ∙ append-nil new in
+    let part : without_fcs p ≡ frame → without_fcs q ≡ new =
+    λ same. elim (cases_lt t (length p.packet)) [
+      | inl lt ↦ let e = t2_is ∙ keeps.exact same (omega (arith, lt)) in
+          take_at new rest t2 (sym e)
+      | inr le ↦
+          let k : p.packet ≡ frame = sym (take_all t p.packet le) ∙ same in
+          let long = keeps.at_least same le in
+          ap (take t2) (whole k) ∙ take_all t2 new (omega (arith, t2_is, long))
+    ] in
+    let cooked = nat_eq p.link_type 113 in
+    let cooked2 = nat_eq p.link_type 276 in
+    ap (λ (b : Bool). content_by (nat_eq p.link_type 1) cooked cooked2 b packet (without_fcs q)) fcs
+    ∙ frame_after (nat_eq p.link_type 1) cooked cooked2 (has_fcs p) p.packet (without_fcs p) packet (without_fcs q)
+    next frame new is whole part
+  where
+    no_items : (list : List ℕ) → length list ≡ 0 → list ≡ []
+    no_items [] e = refl
+    no_items (x ∷ list) e = absurd cc
+
+less_cut : (n o : ℕ) → 4 ≤ n → nat_lt (n - 4) (o - 4) ≡ nat_lt n o
+less_cut n o le =
+    elim (cases_lt n o) [
+      | inl lt ↦ lt-ltb (n - 4) (o - 4) (omega (arith, lt, le)) ∙ sym (lt-ltb n o lt)
+      | inr more ↦ le-ltb (n - 4) (o - 4) (omega (arith, more, le)) ∙ sym (le-ltb n o more)
+    ]
+
+less_max : (n o : ℕ) → max (o - 4) (n - 4) ≡ max o n - 4
+less_max n o = omega arith
+
+-- with four bytes less
+pub keeps_end_less : (p : PacketValue) (frame new : List ℕ) → length new + 4 ≡ length frame
+    → length frame ≤ length p.packet → KeepsEnd p frame new (p.original_len - 4)
+keeps_end_less p frame new less front =
+    let n = length p.packet in
+    let o = p.original_len in
+    let t = max o n - fcs_len p in
+    let len : length new + (n - length frame) ≡ n - 4 = omega (arith, less, front) in
+    let most : max (o - 4) (length new + (n - length frame)) ≡ max o n - 4 =
+    ap (max (o - 4)) len ∙ less_max n o in
+    record {
+      same_cut = ap (λ (k : ℕ). nat_lt k (o - 4)) len ∙ less_cut n o (omega (arith, less, front));
+      exact = λ part le. let k = sym (length-take-le t p.packet le) ∙ ap length part in omega (arith, most, k, less);
+      at_least = λ part le. let k = ap length (sym (take_all t p.packet le) ∙ part) in omega (arith, most, k, less, le);
+    }
+
+-- ---- in a buffer
+
+-- a packet after four bytes of a buffer, of which another frame replaces that at the front
+pub replaced_front : (buffer new packet : List ℕ) (k s : ℕ) → 4 + length packet ≤ length buffer
+    → slice_range buffer 4 (4 + length packet) ≡ packet → k ≤ length packet → length new ≡ k → s ≤ k
+    → slice_range (put_mid 4 (4 + k - 4) buffer new) (4 + s) (4 + length packet) ≡ drop s new ++ drop k packet
+replaced_front buffer new packet k s room is within len small =
+    let n = length packet in
+    let front = take 4 buffer in
+    let kk : 4 + k - 4 ≡ k = omega arith in
+    let post = post_of 4 (4 + k - 4) buffer in
+    let four : length front ≡ 4 = length-take-le 4 buffer (omega (arith, room)) in
+    let part : slice_range (front ++ (new ++ post)) (4 + s) (4 + n) ≡ slice_range (new ++ post) s n =
+    part_past front (new ++ post) 4 (4 + s) (4 + n) s n four refl refl in
+    let rest : drop s (new ++ post) ≡ drop s new ++ post = drop-append-le s new post (omega (arith, len, small)) in
+    let left = length-drop s new in
+    let split : n - s ≡ length (drop s new) + (n - k) = omega (arith, left, len, small, within) in
+    let post_is : post ≡ drop (4 + k) buffer =
+    ap (λ (j : ℕ). drop j (drop 4 buffer)) kk ∙ drop-drop k 4 buffer
+    ∙ ap (λ (j : ℕ). drop j buffer) (the_sum k) in
+    let tail : take (n - k) post ≡ drop k packet =
+    ap (take (n - k)) post_is ∙ ap (λ (j : ℕ). take j (drop (4 + k) buffer)) (less n k)
+    ∙ sym (rest_of_part buffer 4 (4 + n) k (omega (arith, within))) ∙ ap (drop k) is in
+    part ∙ ap (take (n - s)) rest ∙ ap (λ (j : ℕ). take j (drop s new ++ post)) split
+    ∙ take-append-add (drop s new) post (n - k) ∙ ap (λ (l : List ℕ). drop s new ++ l) tail
+  where
+    the_sum : (k : ℕ) → 4 + k ≡ 4 + k
+    the_sum k = refl
+
+    less : (n k : ℕ) → n - k ≡ 4 + n - (4 + k)
+    less n k = omega arith
+
+-- a part of it is there
+pub front_there : (buffer packet frame : List ℕ) → slice_range buffer 4 (4 + length packet) ≡ packet
+    → length frame ≤ length packet → take (length frame) packet ≡ frame
+    → slice_range buffer 4 (4 + length frame) ≡ frame
+front_there buffer packet frame is le front =
+    let a : 4 + length frame - 4 ≡ length frame = omega arith in
+    let b : 4 + length packet - 4 ≡ length packet = omega arith in
+    ap (λ (k : ℕ). take k (drop 4 buffer)) a
+    ∙ sym (take-take (length frame) (length packet) (drop 4 buffer) le)
+    ∙ ap (λ (k : ℕ). take (length frame) (take k (drop 4 buffer))) (sym b)
+    ∙ ap (take (length frame)) is ∙ front
+
+-- ---- a VLAN tag that is taken off
+
+-- the header of the link is in the new frame
+popped_room : (next : Next) (frame : List ℕ) (hs : List Header) (e : Ending) (tag : VlanValue) (new : List ℕ)
+    → IsPopped (frame_start next) frame hs e tag new → 14 ≤ length (drop 4 new)
+popped_room next frame hs e tag new is =
+    let h = with_type is.link tag.ether_type in
+    let m = means_whole_list (frame_start next) (drop 4 new) h is.walk.0 in
+    let len = len_kept is.link tag.ether_type is.begins.is_link in
+    let least = link_least is.link is.begins.is_link in
+    omega (arith, m.whole, len, least)
+
+pub record PopDone (p : PacketValue) (after : List ℕ) : Type 0 where
+  pub pops : Pops p (record { original_len = p.original_len - 4; packet = slice_range after 8 (4 + length p.packet) })
+  pub least : 8 ≤ 4 + length p.packet
+
+pub pop_done : (p : PacketValue) (start : PeelStart) (frame buffer new : List ℕ) (tag : VlanValue) → IsBytes frame
+    → content_of p ≡ Frame (next_of start) frame → 4 + length p.packet ≤ length buffer
+    → slice_range buffer 4 (4 + length p.packet) ≡ p.packet
+    → length new ≡ length (slice_range buffer 4 (4 + length frame))
+    → ((hs : List Header) (e : Ending) → Walk (start_of start) (slice_range buffer 4 (4 + length frame)) hs e
+    → IsPopped (start_of start) (slice_range buffer 4 (4 + length frame)) hs e tag new)
+    → PopDone p (put_mid 4 (4 + length frame - 4) buffer new)
+pop_done p start frame buffer new tag ok is room there len popped =
+    let front = frame_front p (next_of start) frame is in
+    let here = front_there buffer p.packet frame there front.0 front.1 in
+    let same : length new ≡ length frame = len ∙ ap length here in
+    let x = frame_start (next_of start) in
+    let some = some_stack frame x (whole x frame) ok in
+    let is_popped : IsPopped x frame some.0 some.1 tag new =
+    subst (λ (l : List ℕ). IsPopped x l some.0 some.1 tag new) here
+    (popped some.0 some.1 (subst (λ (l : List ℕ). Walk x l some.0 some.1) (sym here) some.2)) in
+    let least = popped_room (next_of start) frame some.0 some.1 tag new is_popped in
+    let shorter = length-drop 4 new in
+    let after = put_mid 4 (4 + length frame - 4) buffer new in
+    let edited : EditedValue = record { original_len = p.original_len - 4; packet = slice_range after 8 (4 + length p.packet) } in
+    let bytes : slice_range after 8 (4 + length p.packet) ≡ drop 4 new ++ drop (length frame) p.packet =
+    replaced_front buffer new p.packet (length frame) 4 room there front.0 same (omega (arith, same, shorter, least)) in
+    let edited_is : edited ≡ with_frame p frame (drop 4 new) (p.original_len - 4) =
+    λ i. record { original_len = p.original_len - 4; packet = bytes i } in
+    let keeps = keeps_end_less p frame (drop 4 new) (omega (arith, same, shorter, least)) front.0 in
+    record {
+      pops =
+          record {
+            next = next_of start;
+            frame = frame;
+            headers = some.0;
+            ending = some.1;
+            tag = tag;
+            new = new;
+            is_frame = record { content = is; walk = some.2 };
+            popped = is_popped;
+            is = edited_is;
+            content =
+                ap (λ (e : EditedValue). content_of (edited_packet e p)) edited_is
+                ∙ content_after p (next_of start) frame (drop 4 new) (p.original_len - 4) is keeps;
+          };
+      least = omega (arith, front.0, same, shorter, least);
+    }
+
+pub not_framed : (c : Content) → ((start : PeelStart) → (bytes : _) → c ≡ contents.Frame start bytes → ⊥)
+    → (next : Next) (frame : List ℕ) → content_view c ≢ Frame next frame
+not_framed (contents.Frame start bytes) not next frame is = not start bytes refl
+not_framed (contents.LinuxSll2 bytes) not next frame is = absurd cc
+not_framed contents.Unknown not next frame is = absurd cc
+
+pub pop_refused : (p : PacketValue) (start : PeelStart) (frame buffer : List ℕ) (error : TagError) → IsBytes frame
+    → content_of p ≡ Frame (next_of start) frame → slice_range buffer 4 (4 + length p.packet) ≡ p.packet
+    → ((hs : List Header) (e : Ending) → Walk (start_of start) (slice_range buffer 4 (4 + length frame)) hs e
+    → RefusesPop hs error)
+    → Edits PopVlan p None
+pop_refused p start frame buffer error ok is there refuses =
+    let front = frame_front p (next_of start) frame is in
+    let here = front_there buffer p.packet frame there front.0 front.1 in
+    let x = frame_start (next_of start) in
+    let some = some_stack frame x (whole x frame) ok in
+    not_popped p
+    (refused (next_of start) frame some.0 some.1 error (record { content = is; walk = some.2 })
+    (refuses some.0 some.1 (subst (λ (l : List ℕ). Walk x l some.0 some.1) (sym here) some.2)))
+
+-- a list is as long as it was once a part of it was written
+pub put_len : (a k : ℕ) (xs ys : List ℕ) → a + k ≤ length xs → length ys ≡ k → length (put_mid a k xs ys) ≡ length xs
+put_len a k xs ys fits is =
+    let first = length-append (take a xs) (ys ++ post_of a k xs) in
+    let second = length-append ys (post_of a k xs) in
+    let t = length-take-le a xs (omega (arith, fits)) in
+    let d : length (post_of a k xs) ≡ length (drop a xs) - k = length-drop k (drop a xs) in
+    first ∙ omega (arith, fits, is, second, t, d, length-drop a xs)

@@ -1,0 +1,57 @@
+-- What an edit makes of a captured packet.
+use Rattle.std.specs.Prelude.{◌≡◌, ◌≢◌, ℕ, ◌-◌, ◌<◌, ◌≤◌, List, ◌++◌, length, take, drop, Option, Some, None}
+use Rattle.etherparse.specs.Header.{Header}
+use Rattle.etherparse.specs.Vlan.{VlanValue}
+use Rattle.ether_peel.specs.Grammar.Expectation.{Next, Expectation}
+use Rattle.ether_peel.specs.Grammar.Stack.{Ending, Walk}
+use Rattle.ether_packet.specs.Popping.{IsPopped, RefusesPop}
+use Rattle.ether_packet.specs.declared.tag_error.TagError.{TagError}
+use Rattle.ether_pcap.specs.Capture.{PacketValue}
+use Rattle.ether_pcap.specs.Editing.{EditedValue, edited_packet}
+use Rattle.ether_content.specs.Content.{Frame, content_of}
+use Rattle.ether_content.specs.Headers.{HeadersTake}
+
+-- a packet is cut where its headers end; or the VLAN tag after the header of its link is taken off
+pub data EditValue : Type 0 where
+  CutToHeaders : EditValue
+  PopVlan : EditValue
+
+abbrev pub frame_start : Next → Expectation
+frame_start next = record { next = next; limit = None }
+
+-- A packet is a frame of Ethernet or of cooked capture v1, with this walk.
+pub record IsFrame (p : PacketValue) (next : Next) (frame : List ℕ) (hs : List Header) (e : Ending) : Type 0 where
+  pub content : content_of p ≡ Frame next frame
+  pub walk : Walk (frame_start next) frame hs e
+
+-- another frame in place of that of a packet; what was captured after it, of a frame check sequence, stays
+abbrev pub with_frame : PacketValue → (frame new : List ℕ) → (original_len : ℕ) → EditedValue
+with_frame p frame new original_len = record { original_len = original_len; packet = new ++ drop (length frame) p.packet }
+
+-- The VLAN tag after the header of a frame's link is taken off, and the packet has four bytes less. It is still a frame, with the walk that
+-- `IsPopped` says.
+pub record Pops (p : PacketValue) (edited : EditedValue) : Type 0 where
+  pub next : Next
+  pub frame : List ℕ
+  pub headers : List Header
+  pub ending : Ending
+  pub tag : VlanValue
+  pub new : List ℕ
+  pub is_frame : IsFrame p next frame headers ending
+  pub popped : IsPopped (frame_start next) frame headers ending tag new
+  pub is : edited ≡ with_frame p frame (drop 4 new) (p.original_len - 4)
+  pub content : content_of (edited_packet edited p) ≡ Frame next (drop 4 new)
+
+-- A packet stays as it is: it is no frame, or its frame is refused.
+pub data Stays (Refuses : (frame : List ℕ) → List Header → TagError → Type 0) (p : PacketValue) : Type 0 where
+  no_frame : ((next : Next) (frame : List ℕ) → content_of p ≢ Frame next frame) → Stays Refuses p
+  refused : (next : Next) (frame : List ℕ) (hs : List Header) (e : Ending) (error : TagError) → IsFrame p next frame hs e → Refuses frame hs error
+      → Stays Refuses p
+
+-- what an edit makes of a packet, if it does not stay
+pub data Edits : EditValue → PacketValue → Option EditedValue → Type 0 where
+  cuts : (p : PacketValue) (n : ℕ) → HeadersTake (content_of p) n → n < length p.packet
+      → Edits CutToHeaders p (Some (record { original_len = p.original_len; packet = take n p.packet }))
+  not_cut : (p : PacketValue) (n : ℕ) → HeadersTake (content_of p) n → length p.packet ≤ n → Edits CutToHeaders p None
+  pops : (p : PacketValue) (e : EditedValue) → Pops p e → Edits PopVlan p (Some e)
+  not_popped : (p : PacketValue) → Stays (λ frame hs error. RefusesPop hs error) p → Edits PopVlan p None

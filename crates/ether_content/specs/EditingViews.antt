@@ -1,0 +1,15 @@
+-- An edit, and a packet that was edited, as values.
+use Rattle.std.specs.Prelude.{ℕ, List, slice_range}
+use Rattle.ether_pcap.specs.Editing.{EditedValue}
+use Rattle.ether_content.specs.Editing.{EditValue, CutToHeaders, PopVlan}
+use Rattle.ether_content.specs.declared.editing.PacketEdit.{PacketEdit}
+use Rattle.ether_content.specs.declared.editing.PacketEdit.TheVariants as edits
+use Rattle.ether_content.specs.declared.editing.EditedPacket.{EditedPacket}
+
+abbrev pub edit_view : PacketEdit → EditValue
+edit_view edits.CutToHeaders = CutToHeaders
+edit_view edits.PopVlan = PopVlan
+
+-- the captured bytes are a part of a buffer
+abbrev pub edited_view : (buffer : List ℕ) → EditedPacket → EditedValue
+edited_view buffer e = record { original_len = e.original_len; packet = slice_range buffer e.start e.end }

@@ -1,0 +1,160 @@
+//! What a captured packet is edited to.
+ghost use Rattle.std.specs.Prelude.{◌≡◌, ◌+◌, ◌<◌, ◌≤◌, length, slice_range, IfOk, IfSome, OnOk, OnErr};
+ghost use Rattle.std.specs.Option.{option_map};
+ghost use Rattle.ether_peel.specs.Walker.Start.{next_of};
+ghost use Rattle.ether_pcap.specs.CaptureViews.{captured_packet_view};
+ghost use Rattle.ether_content.specs.Content.{content_of};
+ghost use Rattle.ether_content.specs.Content as contents;
+ghost use Rattle.ether_content.specs.Editing.{CutToHeaders, PopVlan, Edits};
+ghost use Rattle.ether_content.specs.EditingViews.{edit_view, edited_view};
+
+use crate::content::Content;
+use crate::headers::headers_len;
+use ether_packet::pop_vlan;
+use ether_pcap::CapturedPacket;
+use ether_peel::Start;
+
+/// An edit of captured packets.
+#[derive(Clone, Copy, PartialEq, Eq, Debug)]
+pub enum PacketEdit {
+    /// A packet is cut where its headers end, as [`headers_len`] says.
+    CutToHeaders,
+    /// The VLAN tag after the header of a frame's link is taken off, as [`pop_vlan`](ether_packet::pop_vlan) does it.
+    PopVlan,
+}
+
+/// A packet that was edited.
+#[derive(Clone, Copy, PartialEq, Eq, Debug)]
+pub struct EditedPacket {
+    /// Where its captured bytes begin in the buffer.
+    pub start: usize,
+    /// Where they end.
+    pub end: usize,
+    /// How many bytes it has without being cut.
+    pub original_len: u64,
+}
+
+/// A buffer has too few bytes for a packet that is to be edited.
+#[derive(Clone, Copy, PartialEq, Eq, Debug)]
+pub struct NoRoom;
+
+/// How many bytes a buffer has to have more than a packet that is edited in it.
+const FREE: usize = 4;
+
+/// Edits a packet, with a buffer for the bytes that it has then. Returns `None` if it stays as it is.
+///
+/// A packet stays that has no more bytes than its headers take, or is no frame of Ethernet or of cooked capture v1 with a VLAN tag to be
+/// taken off. What was captured of a frame check sequence stays, and doesn't fit the new frame.
+///
+/// # Errors
+///
+/// The buffer has fewer than four bytes more than were captured of the packet.
+///
+/// ```
+/// let packet = CapturedPacket {
+///     time: None,
+///     original_len: 60,
+///     link_type: LinkType::ETHERNET,
+///     fcs_len: None,
+///     packet: &[
+///         0xFF, 0xFF, 0xFF, 0xFF, 0xFF, 0xFF, 0x02, 0x00, 0x00, 0x00, 0x00, 0x01, 0x81, 0x00, // Ethernet II
+///         0xB1, 0x23, 0x08, 0x00, // VLAN 291
+///         0x45, 0x00,
+///     ],
+/// };
+/// let mut buffer = [0; 24];
+/// let edited = edit_packet(PacketEdit::PopVlan, &packet, &mut buffer)?;
+/// assert_eq!(rt; edited, Some(EditedPacket { start: 8, end: 24, original_len: 56 }));
+/// assert_eq!(rt; buffer[8..], [
+///     0xFF, 0xFF, 0xFF, 0xFF, 0xFF, 0xFF, 0x02, 0x00, 0x00, 0x00, 0x00, 0x01, 0x08, 0x00, // Ethernet II
+///     0x45, 0x00,
+/// ]);
+/// ```
+pub fn edit_packet(
+    edit: PacketEdit,
+    packet: &CapturedPacket<'_>,
+    buffer: &mut [u8],
+) -> Result<Option<EditedPacket>, NoRoom>
+    ensures ok { IfOk result (λ edited. Edits (edit_view edit) (captured_packet_view packet.now)
+        (option_map (edited_view buffer.new) edited)) }
+    ensures within { IfOk result (λ edited. IfSome edited (λ e. (e.start ≤ e.end) × (e.end ≤ length buffer.new))) }
+    ensures len { length buffer.new ≡ length buffer.old }
+    ensures room { OnOk result (length packet.now.packet.now + 4 ≤ length buffer.old) }
+    ensures no_room { OnErr result (length buffer.old < length packet.now.packet.now + 4) }
+{
+    if buffer.len() < FREE || buffer.len() - FREE < packet.packet.len() {
+        return Err(NoRoom);
+    }
+    match edit {
+        PacketEdit::CutToHeaders => Ok(cut_to_headers(packet, buffer)),
+        PacketEdit::PopVlan => Ok(pop(packet, buffer)),
+    }
+}
+
+/// Cuts a packet where its headers end.
+fn cut_to_headers(packet: &CapturedPacket<'_>, buffer: &mut [u8]) -> Option<EditedPacket>
+    requires { length packet.now.packet.now + 4 ≤ length buffer.old }
+    ensures edits { Edits CutToHeaders (captured_packet_view packet.now) (option_map (edited_view buffer.new) result) }
+    ensures within { IfSome result (λ e. (e.start ≤ e.end) × (e.end ≤ length buffer.new)) }
+    ensures len { length buffer.new ≡ length buffer.old }
+{
+    let len = headers_len(packet);
+    if packet.packet.len() <= len {
+        return None;
+    }
+    let end = FREE + len;
+    put_between(buffer, FREE, end, &packet.packet[..len]);
+    Some(EditedPacket {
+        start: FREE,
+        end,
+        original_len: u64::from(packet.original_len),
+    })
+}
+
+/// Takes off the VLAN tag after the header of a frame's link.
+fn pop(packet: &CapturedPacket<'_>, buffer: &mut [u8]) -> Option<EditedPacket>
+    requires { length packet.now.packet.now + 4 ≤ length buffer.old }
+    ensures edits { Edits PopVlan (captured_packet_view packet.now) (option_map (edited_view buffer.new) result) }
+    ensures within { IfSome result (λ e. (e.start ≤ e.end) × (e.end ≤ length buffer.new)) }
+    ensures len { length buffer.new ≡ length buffer.old }
+{
+    match Content::of(packet) {
+        Content::Frame(start, frame) => pop_frame(start, frame, packet, buffer),
+        _ => None,
+    }
+}
+
+/// Takes off the VLAN tag of the frame that a packet is.
+fn pop_frame(
+    start: Start,
+    frame: &[u8],
+    packet: &CapturedPacket<'_>,
+    buffer: &mut [u8],
+) -> Option<EditedPacket>
+    requires room { length packet.now.packet.now + 4 ≤ length buffer.old }
+    requires frame { content_of (captured_packet_view packet.now) ≡ contents.Frame (next_of start) frame.now }
+    ensures edits { Edits PopVlan (captured_packet_view packet.now) (option_map (edited_view buffer.new) result) }
+    ensures within { IfSome result (λ e. (e.start ≤ e.end) × (e.end ≤ length buffer.new)) }
+    ensures len { length buffer.new ≡ length buffer.old }
+{
+    let end = FREE + packet.packet.len();
+    put_between(buffer, FREE, end, packet.packet);
+    match pop_vlan(start, &mut buffer[FREE..FREE + frame.len()]) {
+        Ok(_) => Some(EditedPacket {
+            start: FREE + 4,
+            end,
+            original_len: u64::from(packet.original_len).saturating_sub(4),
+        }),
+        Err(_) => None,
+    }
+}
+
+/// Writes bytes between two places of a buffer.
+fn put_between(buffer: &mut [u8], start: usize, end: usize, bytes: &[u8])
+    requires ordered { start + length bytes.now ≡ end }
+    requires room { end ≤ length buffer.old }
+    ensures bytes { slice_range buffer.new start end ≡ bytes.now }
+    ensures len { length buffer.new ≡ length buffer.old }
+{
+    buffer[start..end].copy_from_slice(bytes);
+}

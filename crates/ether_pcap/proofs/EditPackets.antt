@@ -1,0 +1,310 @@
+-- A unit whose packet is edited begins with the edited packet.
+use Rattle.std.proofs.Common.{◌≡◌, ◌⊎◌, ℕ, ◌+◌, ◌-◌, ◌%◌, ◌<◌, ◌≤◌, List, ◌++◌, length, refl, sym, ap, subst, ◌∙◌, arith, inl, inr, Some, None}
+use Rattle.std.specs.Prelude.{Option, Bool, true, false, unwrap_or, slice_range, if◌then◌else◌, IfSome}
+use Rattle.std.specs.Option.{option_map}
+use Rattle.std.proofs.lemmas.Bool.{cases_lt, lt-ltb, le-ltb}
+use Rattle.ether_base.specs.Bytes.{number}
+use Rattle.ether_base.proofs.SubLists.{length-part}
+use Rattle.ether_pcap.specs.Numbers.{Order, field}
+use Rattle.ether_pcap.specs.Record.{RecordValue, record_len}
+use Rattle.ether_pcap.specs.Block.{IsTotalLen}
+use Rattle.ether_pcap.specs.Section.{HasSectionType}
+use Rattle.ether_pcap.specs.FileHeader.{FileHeaderValue}
+use Rattle.ether_pcap.specs.Bodies.{EnhancedPacketValue}
+use Rattle.ether_pcap.specs.Capture.{PacketValue, packet_on, CaptureInterfaceValue, Expectation, Beginning, Records, Blocks, BlockKind, EnhancedPacket, SimplePacket, InterfaceDescription, Other, kind_of_block, IsBody, Begins, file_record, block}
+use Rattle.ether_pcap.specs.Editing.{EditedValue, edited_record, edited_body, block_bytes, edited_block, unit_with, is_too_long, edited_unit, edited_packet, unit_after, packet_after, unit_bytes, EditsUnit, HasEditedPacket}
+use Rattle.ether_pcap.specs.declared.edited_unit.EditedUnit.{EditedUnit}
+use Rattle.ether_pcap.proofs.CaptureLocality.{unit_local}
+use Rattle.ether_pcap.proofs.EditUnits.{length-edited_front, length-edited_body, length-block_bytes, block_bytes-type, record_edited, body_edited, block_begins}
+use Rattle.ether_pcap.proofs.PacketUnits.{record_of_unit, PacketBlock, block_of_unit, body_of_unit, type_of, is_interface, is_obsolete, is_simple, is_enhanced, is_other, same_packet, no_packet_first, packet_room}
+
+same_bytes : (a b : List ℕ) → Some a ≡ Some b → a ≡ b
+same_bytes a b e = ap (λ (o : Option (List ℕ)). unwrap_or o a) e
+
+-- ---- lengths
+
+-- what has room
+data Room (e : EditedValue) : Type 0 where
+  long_packet : 262144 < length e.packet → Room e
+  long_original : length e.packet ≤ 262144 → 4294967295 < e.original_len → Room e
+  fits : length e.packet ≤ 262144 → e.original_len ≤ 4294967295 → Room e
+
+room_of : (e : EditedValue) → Room e
+room_of e =
+    elim (cases_lt 262144 (length e.packet)) [
+      | inl long ↦ long_packet long
+      | inr small ↦ elim (cases_lt 4294967295 e.original_len) [
+        | inl long ↦ long_original small long
+        | inr four ↦ fits small four
+      ]
+    ]
+
+too_long : (e : EditedValue) → 262144 < length e.packet → is_too_long e ≡ true
+too_long e long = rw (lt-ltb 262144 (length e.packet) long) refl
+
+too_large : (e : EditedValue) → length e.packet ≤ 262144 → 4294967295 < e.original_len → is_too_long e ≡ true
+too_large e small long = rw (le-ltb 262144 (length e.packet) small, lt-ltb 4294967295 e.original_len long) refl
+
+not_too_long : (e : EditedValue) → length e.packet ≤ 262144 → e.original_len ≤ 4294967295 → is_too_long e ≡ false
+not_too_long e small four = rw (le-ltb 262144 (length e.packet) small, le-ltb 4294967295 e.original_len four) refl
+
+-- a unit that is edited has room for the packet
+record Fits (x : Expectation) (m : ℕ) (e : EditedValue) (unit new : List ℕ) : Type 0 where
+  small : length e.packet ≤ 262144
+  four : e.original_len ≤ 4294967295
+  is : unit_with x m e unit ≡ Some new
+
+pub unit_fits : (x : Expectation) (m : ℕ) (e : EditedValue) (unit : List ℕ) → length e.packet ≤ 262144
+    → e.original_len ≤ 4294967295 → edited_unit x m e unit ≡ unit_with x m e unit
+unit_fits x m e unit small four =
+    ap (λ (b : Bool). if b then None else unit_with x m e unit) (not_too_long e small four)
+
+pub unit_too_long : (x : Expectation) (m : ℕ) (e : EditedValue) (unit : List ℕ)
+    → (262144 < length e.packet) ⊎ (4294967295 < e.original_len) → edited_unit x m e unit ≡ None
+unit_too_long x m e unit why =
+    elim (room_of e) [
+      | long_packet long ↦ none (too_long e long)
+      | long_original small long ↦ none (too_large e small long)
+      | fits small four ↦ elim why [ inl long ↦ absurd (omega (arith, long, small)) | inr long ↦ absurd (omega (arith, long, four)) ]
+    ]
+  where
+    none : is_too_long e ≡ true → edited_unit x m e unit ≡ None
+    none long = ap (λ (b : Bool). if b then None else unit_with x m e unit) long
+
+fits_if : (x : Expectation) (m : ℕ) (e : EditedValue) (unit new : List ℕ) → edited_unit x m e unit ≡ Some new
+    → Fits x m e unit new
+fits_if x m e unit new is =
+    elim (room_of e) [
+      | long_packet long ↦ no_unit (unit_too_long x m e unit (inl long))
+      | long_original small long ↦ no_unit (unit_too_long x m e unit (inr long))
+      | fits small four ↦ record { small = small; four = four; is = sym (unit_fits x m e unit small four) ∙ is }
+    ]
+  where
+    no_unit : edited_unit x m e unit ≡ None → Fits x m e unit new
+    no_unit none = let bad : None ≡ Some new = sym none ∙ is in absurd cc
+
+-- ---- records
+
+record_begins : (h : FileHeaderValue) (u new : List ℕ) (p : PacketValue) (e : EditedValue)
+    → Begins u (Records h) (length u) (Some p) (Records h) → Fits (Records h) (length p.packet) e u new
+    → Begins new (Records h) (length new) (Some (edited_packet e p)) (Records h)
+record_begins h u new p e begins room =
+    let s = record_of_unit u (Records h) (length u) h p begins in
+    let r = s.0 in
+    let t : RecordValue = record r { original_len = e.original_len; packet = e.packet } in
+    let whole : 16 + length r.packet ≤ length u = s.1.whole in
+    let long : length (edited_record h.order e u) ≡ record_len t =
+    length-edited_front h.order 8 e u (omega (arith, whole)) in
+    let unit = file_record h t (record_edited h.order e u r room.small room.four s.1) in
+    let Unit = λ (l : List ℕ) (k : ℕ) (q : PacketValue). Begins l (Records h) k (Some (edited_packet e q)) (Records h) in
+    subst (λ (l : List ℕ). Unit l (length l) p) (same_bytes _ _ room.is)
+    (subst (λ (k : ℕ). Unit (edited_record h.order e u) k p) (sym long)
+    (subst (Unit (edited_record h.order e u) (record_len t)) (sym s.3) unit))
+
+-- ---- blocks
+
+edited_sound : (order : Order) (m : ℕ) (e : EditedValue) (body : List ℕ) → 20 + m ≤ length body
+    → IsTotalLen (12 + length body) → 12 + length (edited_body order m e body) ≤ 16777216
+    → IsTotalLen (12 + length (edited_body order m e body))
+edited_sound order m e body whole sound most =
+    let l = length-edited_body order m e body (omega (arith, whole)) in
+    let aligned : (12 + length body) % 4 ≡ 0 = sound.aligned in
+    record {
+      least = omega arith;
+      aligned = omega (arith, l, aligned, whole);
+      most = most;
+    }
+
+-- what is written of a block
+record BlockFits (order : Order) (m : ℕ) (e : EditedValue) (u new : List ℕ) : Type 0 where
+  most : 12 + length (edited_body order m e (slice_range u 8 (length u - 4))) ≤ 16777216
+  is : block_bytes order (slice_range u 0 4) (edited_body order m e (slice_range u 8 (length u - 4))) ≡ new
+
+block_fits : (number_len : ℕ) (order : Order) (m : ℕ) (e : EditedValue) (u new : List ℕ)
+    → edited_block (EnhancedPacket number_len) order m e u ≡ Some new → BlockFits order m e u new
+block_fits number_len order m e u new is =
+    let body = edited_body order m e (slice_range u 8 (length u - 4)) in
+    let all = block_bytes order (slice_range u 0 4) body in
+    let Is = λ (b : Bool). (if b then None else Some all) ≡ Some new in
+    elim (cases_lt 16777216 (12 + length body)) [
+      | inl long ↦
+          let bad : None ≡ Some new = subst Is (lt-ltb 16777216 (12 + length body) long) is in
+          absurd cc
+      | inr most ↦
+          record { most = most; is = same_bytes all new (subst Is (le-ltb 16777216 (12 + length body) most) is) }
+    ]
+
+module _ (order : Order) (interfaces : List CaptureInterfaceValue) (u : List ℕ) (p : PacketValue) (e : EditedValue)
+    (b : PacketBlock order interfaces u p) (len : length u ≡ 12 + length b.value.body)
+    (small : length e.packet ≤ 262144) (four : e.original_len ≤ 4294967295) where
+  enhanced_begins : (number_len : ℕ) (new : List ℕ) → number_len ≤ 4
+      → kind_of_block b.value.block_type ≡ EnhancedPacket number_len
+      → IsBody (EnhancedPacket number_len) order interfaces b.value.body (Some p) interfaces
+      → BlockFits order (length p.packet) e u new
+      → Begins new (Blocks order interfaces) (length new) (Some (edited_packet e p)) (Blocks order interfaces)
+  enhanced_begins number_len new few kind (i, v, options, is, at, has, f, g) room =
+      let same : p ≡ packet_on order i v options = same_packet p (packet_on order i v options) f in
+      let m : length p.packet ≡ length v.packet = ap (λ (q : PacketValue). length q.packet) same in
+      let body = b.value.body in
+      let w : EnhancedPacketValue = record v { original_len = e.original_len; packet = e.packet } in
+      let inner = edited_body order (length v.packet) e body in
+      let type_bytes = slice_range u 0 4 in
+      let whole : 20 + length v.packet ≤ length body = is.whole in
+      let type_len : length type_bytes ≡ 4 = length-part u 0 4 (omega (arith, len)) ∙ omega arith in
+      let all = block_bytes order type_bytes inner in
+      let inner_is : edited_body order (length p.packet) e (slice_range u 8 (length u - 4)) ≡ inner =
+      ap (λ (k : ℕ). edited_body order k e (slice_range u 8 (length u - 4))) m
+      ∙ ap (edited_body order (length v.packet) e) (body_of_unit order interfaces u p b len) in
+      let most : 12 + length inner ≤ 16777216 =
+      subst (λ (l : List ℕ). 12 + length l ≤ 16777216) inner_is room.most in
+      let sound = edited_sound order (length v.packet) e body whole b.begins.sound most in
+      let begins = block_begins order type_bytes inner type_len sound in
+      let t : field order u 0 4 ≡ b.value.block_type = b.begins.block_type in
+      let other : HasSectionType all → ⊥ =
+      λ (has : HasSectionType all). b.other (ap number (sym (block_bytes-type order type_bytes inner type_len)) ∙ has) in
+      let k : EnhancedPacket number_len ≡ kind_of_block (field order u 0 4) = sym (ap kind_of_block t ∙ kind) in
+      let q : PacketValue = edited_packet e (packet_on order i v options) in
+      let inside : IsBody (EnhancedPacket number_len) order interfaces inner (Some q) interfaces =
+      (i, w, options, body_edited number_len order e body v few small four is, at, has, refl, refl) in
+      let x = Blocks order interfaces in
+      let unit : Begins all x (12 + length inner) (Some q) x =
+      block order interfaces interfaces (Some q) (record { block_type = field order u 0 4; body = inner }) other begins
+      (subst (λ (z : BlockKind). IsBody z order interfaces inner (Some q) interfaces) k inside) in
+      let is_new : all ≡ new = ap (block_bytes order type_bytes) (sym inner_is) ∙ room.is in
+      let Unit = λ (l : List ℕ) (j : ℕ) (r : PacketValue). Begins l x j (Some (edited_packet e r)) x in
+      subst (λ (l : List ℕ). Unit l (length l) p) is_new
+      (subst (λ (j : ℕ). Unit all j p) (sym (length-block_bytes order type_bytes inner type_len))
+      (subst (Unit all (12 + length inner)) (sym same) unit))
+
+  -- what is edited is an enhanced packet, or an obsolete packet block
+  by_kind : (kind : BlockKind) (new : List ℕ) → edited_block kind order (length p.packet) e u ≡ Some new
+      → (number_len : ℕ) × (kind ≡ EnhancedPacket number_len) × BlockFits order (length p.packet) e u new
+  by_kind InterfaceDescription new is = absurd cc
+  by_kind SimplePacket new is = absurd cc
+  by_kind (EnhancedPacket k) new is = (k, refl, block_fits k order (length p.packet) e u new is)
+  by_kind Other new is = absurd cc
+
+  few_bytes : (t k : ℕ) → kind_of_block t ≡ EnhancedPacket k → k ≤ 4
+  few_bytes t k is =
+      elim (type_of t) [
+        | is_interface e ↦ let f : InterfaceDescription ≡ EnhancedPacket k = ap kind_of_block (sym e) ∙ is in absurd cc
+        | is_obsolete e ↦ let f : EnhancedPacket 2 ≡ EnhancedPacket k = ap kind_of_block (sym e) ∙ is in
+            let g : 2 ≡ k = cc in omega (arith, g)
+        | is_simple e ↦ let f : SimplePacket ≡ EnhancedPacket k = ap kind_of_block (sym e) ∙ is in absurd cc
+        | is_enhanced e ↦ let f : EnhancedPacket 4 ≡ EnhancedPacket k = ap kind_of_block (sym e) ∙ is in
+            let g : 4 ≡ k = cc in omega (arith, g)
+        | is_other e ↦ let f : Other ≡ EnhancedPacket k = sym e ∙ is in absurd cc
+      ]
+
+  block_edited : (new : List ℕ) → unit_with (Blocks order interfaces) (length p.packet) e u ≡ Some new
+      → Begins new (Blocks order interfaces) (length new) (Some (edited_packet e p)) (Blocks order interfaces)
+  block_edited new is =
+      let found = by_kind (kind_of_block (field order u 0 4)) new is in
+      let k : kind_of_block b.value.block_type ≡ EnhancedPacket found.0 =
+      ap kind_of_block (sym b.begins.block_type) ∙ found.1 in
+      enhanced_begins found.0 new (few_bytes (field order u 0 4) found.0 found.1) k
+      (subst (λ (z : BlockKind). IsBody z order interfaces b.value.body (Some p) interfaces) k b.body) found.2
+
+-- ---- units
+
+unit_begins : (x : Expectation) (u new : List ℕ) (p : PacketValue) (e : EditedValue) → Begins u x (length u) (Some p) x
+    → Fits x (length p.packet) e u new → Begins new x (length new) (Some (edited_packet e p)) x
+unit_begins Beginning u new p e begins room = let bad : None ≡ Some new = room.is in absurd cc
+unit_begins (Records h) u new p e begins room = record_begins h u new p e begins room
+unit_begins (Blocks order interfaces) u new p e begins room =
+    let found = block_of_unit u (Blocks order interfaces) (length u) order interfaces p begins in
+    block_edited order interfaces u p e found.0 found.1 room.small room.four new room.is
+
+-- the unit of a packet that is edited is one of the edited packet
+pub edited_begins : (x : Expectation) (u new : List ℕ) (p : PacketValue) (o : Option EditedValue)
+    → Begins u x (length u) (Some p) x → unit_after x p o u ≡ Some new
+    → Begins new x (length new) (Some (packet_after p o)) x
+edited_begins x u new p None begins is =
+    subst (λ (l : List ℕ). Begins l x (length l) (Some p) x) (same_bytes u new is) begins
+edited_begins x u new p (Some e) begins is =
+    unit_begins x u new p e begins (fits_if x (length p.packet) e u new is)
+
+has_edited : (x : Expectation) (unit : List ℕ) (e : EditedValue) (result : Option EditedUnit) (p : PacketValue)
+    → Begins unit x (length unit) (Some p) x
+    → option_map unit_bytes result ≡ edited_unit x (length p.packet) e unit
+    → IfSome result (λ u. (more : List ℕ)
+    → Begins (unit_bytes u ++ more) x (length (unit_bytes u)) (Some (edited_packet e p)) x)
+has_edited x unit e None p begins is = tt
+has_edited x unit e (Some u) p begins is = λ more.
+    unit_local (unit_bytes u) more x x (length (unit_bytes u)) (Some (edited_packet e p))
+    (edited_begins x unit (unit_bytes u) p (Some e) begins (sym is))
+
+pub has_edited_packet : (x : Expectation) (unit : List ℕ) (e : EditedValue) (result : Option EditedUnit)
+    → EditsUnit x unit e result → HasEditedPacket x unit e result
+has_edited_packet x unit e result edits p begins = has_edited x unit e result p begins (edits p begins)
+
+-- ---- a packet that can't be edited
+
+abbrev Why : PacketValue → EditedValue → Type 0
+Why p e = (p.time ≡ None) ⊎ (length p.packet < length e.packet) ⊎ (4294967295 < e.original_len)
+
+longer_body : (order : Order) (m : ℕ) (e : EditedValue) (body : List ℕ) → 20 + m ≤ length body
+    → IsTotalLen (12 + length body) → 16777216 < 12 + length (edited_body order m e body) → m < length e.packet
+longer_body order m e body whole sound long =
+    let l = length-edited_body order m e body (omega (arith, whole)) in
+    let most : 12 + length body ≤ 16777216 = sound.most in
+    let aligned : (12 + length body) % 4 ≡ 0 = sound.aligned in
+    omega (arith, l, most, aligned, whole, long)
+
+why_block : (kind : BlockKind) (order : Order) (interfaces : List CaptureInterfaceValue) (u body : List ℕ)
+    (p : PacketValue) (e : EditedValue)
+    → slice_range u 8 (length u - 4) ≡ body → IsTotalLen (12 + length body)
+    → IsBody kind order interfaces body (Some p) interfaces → edited_block kind order (length p.packet) e u ≡ None
+    → Why p e
+why_block InterfaceDescription order interfaces u body p e is_body sound (i, d, lt, f, g) is = absurd cc
+why_block SimplePacket order interfaces u body p e is_body sound (i, q, at, v, f, g) is =
+    let a : PacketValue =
+    record {
+      time = None;
+      original_len = q.original_len;
+      link_type = i.link_type;
+      fcs_len = i.fcs_len;
+      packet = q.packet;
+    } in
+    inl (ap (λ (r : PacketValue). r.time) (same_packet p a f))
+why_block (EnhancedPacket k) order interfaces u body p e is_body sound (i, v, options, is_v, at, has, f, g) is =
+    let same : p ≡ packet_on order i v options = same_packet p (packet_on order i v options) f in
+    let m : length p.packet ≡ length v.packet = ap (λ (q : PacketValue). length q.packet) same in
+    let new = edited_body order (length p.packet) e (slice_range u 8 (length u - 4)) in
+    let all = block_bytes order (slice_range u 0 4) new in
+    let Is = λ (b : Bool). (if b then None else Some all) ≡ None in
+    let whole : 20 + length p.packet ≤ length body = omega (arith, m, is_v.whole) in
+    elim (cases_lt 16777216 (12 + length new)) [
+      | inl long ↦
+          inr (inl (longer_body order (length p.packet) e body whole sound
+          (subst (λ (l : List ℕ). 16777216 < 12 + length (edited_body order (length p.packet) e l)) is_body long)))
+      | inr most ↦
+          let bad : Some all ≡ None = subst Is (le-ltb 16777216 (12 + length new) most) is in
+          absurd cc
+    ]
+why_block Other order interfaces u body p e is_body sound (f, g) is = absurd cc
+
+why_unit : (x : Expectation) (u : List ℕ) (p : PacketValue) (e : EditedValue) → Begins u x (length u) (Some p) x
+    → unit_with x (length p.packet) e u ≡ None → Why p e
+why_unit Beginning u p e begins is = absurd (no_packet_first u Beginning Beginning (length u) p refl begins)
+why_unit (Records h) u p e begins is = absurd cc
+why_unit (Blocks order interfaces) u p e begins is =
+    let found = block_of_unit u (Blocks order interfaces) (length u) order interfaces p begins in
+    let b = found.0 in
+    why_block (kind_of_block (field order u 0 4)) order interfaces u b.value.body p e
+    (body_of_unit order interfaces u p b found.1) b.begins.sound
+    (subst (λ (z : BlockKind). IsBody z order interfaces b.value.body (Some p) interfaces)
+    (ap kind_of_block (sym b.begins.block_type)) b.body)
+    is
+
+pub not_written : (x : Expectation) (u : List ℕ) (p : PacketValue) (o : Option EditedValue)
+    → Begins u x (length u) (Some p) x → unit_after x p o u ≡ None
+    → (e : EditedValue) × (o ≡ Some e) × (edited_unit x (length p.packet) e u ≡ None) × Why p e
+not_written x u p None begins is = let bad : Some u ≡ None = is in absurd cc
+not_written x u p (Some e) begins is =
+    elim (room_of e) [
+      | long_packet long ↦ (e, refl, is, inr (inl (omega (arith, long, packet_room x u p begins))))
+      | long_original small long ↦ (e, refl, is, inr (inr long))
+      | fits small four ↦
+          (e, refl, is, why_unit x u p e begins (sym (unit_fits x (length p.packet) e u small four) ∙ is))
+    ]
