@@ -37,28 +37,6 @@ ARTEFACTS = {
         "ether_filter/src/filter.rt": ["parse", "matches"],
         "ether_filter/src/laws.rt": ["texts_mean_one"],
     },
-    "Capture files": {
-        "ether_pcap/src/capture_packets.rt": ["from_slice", "rest", "offset", "ghost"],
-    },
-    "Captures written": {
-        "ether_pcap/src/file_header.rt": ["to_bytes"],
-        "ether_pcap/src/pcap_record.rt": ["header_to_bytes"],
-        "ether_pcap/src/section_header.rt": ["to_bytes"],
-        "ether_pcap/src/interface_description.rt": ["header_to_bytes", "trailer_to_bytes", "nanosecond_options"],
-        "ether_pcap/src/enhanced_packet.rt": ["header_to_bytes", "trailer_to_bytes"],
-        "ether_pcap/src/capture_reader.rt": ["truncate_packet"],
-        "ether_pcap/src/laws.rt": ["written_files_are_read", "written_sections_are_read", "copies_are_read"],
-    },
-    "Captured packets": {
-        "ether_content/src/content.rt": ["of", "is_unknown", "frame", "is_cut"],
-        "ether_content/src/selecting.rt": ["selects"],
-        "ether_content/src/headers.rt": ["headers_len"],
-    },
-    "Captures": {
-        "ether_capture/src/run.rt": ["run"],
-        "ether_capture/src/copying.rt": ["copy"],
-        "ether_capture/src/program.rt": ["program"],
-    },
     "Packets": {
         "ether_packet/src/packet_units.rt": ["ghost"],
         "ether_packet/src/packet_slice.rt": ["from_slice", "link", "link_ext_count", "link_ext", "link_exts", "arp", "vlan", "vlan_ids",
@@ -74,6 +52,29 @@ ARTEFACTS = {
         "ether_packet/src/pushing.rt": ["push_vlan"],
         "ether_packet/src/setting.rt": ["set_vlan_id", "set_vlan_tag", "set_tpid"],
         "ether_packet/src/laws.rt": ["parts_go_back", "popped_after_pushed", "pushed_after_popped"],
+    },
+    "Capture files": {
+        "ether_pcap/src/capture_packets.rt": ["from_slice", "rest", "offset", "ghost"],
+    },
+    "Captures written": {
+        "ether_pcap/src/file_header.rt": ["to_bytes"],
+        "ether_pcap/src/pcap_record.rt": ["header_to_bytes"],
+        "ether_pcap/src/section_header.rt": ["to_bytes"],
+        "ether_pcap/src/interface_description.rt": ["header_to_bytes", "trailer_to_bytes", "nanosecond_options"],
+        "ether_pcap/src/enhanced_packet.rt": ["header_to_bytes", "trailer_to_bytes"],
+        "ether_pcap/src/capture_reader.rt": ["edit_unit"],
+        "ether_pcap/src/laws.rt": ["written_files_are_read", "written_sections_are_read", "copies_are_read"],
+    },
+    "Captured packets": {
+        "ether_content/src/content.rt": ["of", "is_unknown", "frame", "is_cut"],
+        "ether_content/src/selecting.rt": ["selects"],
+        "ether_content/src/headers.rt": ["headers_len"],
+        "ether_content/src/editing.rt": ["edit_packet"],
+    },
+    "Captures": {
+        "ether_capture/src/run.rt": ["run"],
+        "ether_capture/src/copying.rt": ["copy"],
+        "ether_capture/src/program.rt": ["program"],
     },
     "C": {
         "ether_c/src/walking.rt": ["etherpeel_walk", "etherpeel_walk_limited"],
@@ -133,16 +134,25 @@ ORDER = {
     "Filters": """
         ether_filter: Primitives Expressions Words Numerals Tokens Grammar Texts Refusals
     """,
+    "Packets": """
+        ether_base: Bytes Formats/Ethernet2 Formats/Vlan Formats/Macsec Formats/LinuxSll Formats/LinuxSllProtocolType Formats/Arp
+        ether_base: Formats/Header
+        ether_tags: Ethernet2 Vlan Macsec LinkExt
+        ether_sll: LinuxSll Link
+        ether_packet: PacketUnit Views Packet Getters VlanIds Building Builder Replacing ReplacingLink ReplacingArp
+        ether_peel: Grammar/Places
+        ether_packet: Unchanged Parts TypedLink Popping Pushing Setting Laws
+        ether_base: Enumerations/LinuxNonstandardEtherType Texts/NumberText
+    """,
     "Capture files": """
         ether_pcap: Numbers FileHeader Record Block Section Options Bodies Capture CaptureReading Views PcapngViews CaptureViews
     """,
     "Captures written": """
-        ether_pcap: Writing WritingBlocks Cutting Copies Views PcapngViews
+        ether_pcap: Writing WritingBlocks Editing Copies Views PcapngViews
     """,
     "Captured packets": """
-        ether_base: Texts/NumberText Enumerations/LinuxNonstandardEtherType Formats/LinuxSllProtocolType
         ether_sll2: LinuxSll2
-        ether_content: Content ContentViews Selecting Headers
+        ether_content: Content ContentViews Selecting Headers Editing EditingViews
     """,
     "Captures": """
         ether_pcap: Capture
@@ -152,15 +162,6 @@ ORDER = {
         ether_pcap: Texts PcapngTexts CaptureTexts
         ether_filter: ErrorTexts
         ether_capture: Outcome Program
-    """,
-    "Packets": """
-        ether_base: Bytes Formats/Ethernet2 Formats/Vlan Formats/Macsec Formats/LinuxSll Formats/LinuxSllProtocolType Formats/Arp
-        ether_base: Formats/Header
-        ether_tags: Ethernet2 Vlan Macsec LinkExt
-        ether_sll: LinuxSll Link
-        ether_packet: PacketUnit Views Packet Getters VlanIds Building Builder Replacing ReplacingLink ReplacingArp
-        ether_peel: Grammar/Places
-        ether_packet: Unchanged Parts TypedLink Popping Pushing Setting Laws
     """,
     "C": """
         ether_c: Numbers Starts Found Units Walk
