@@ -1,2 +1,3 @@
+pub mod Ports
 pub mod Stations
 pub mod Switching

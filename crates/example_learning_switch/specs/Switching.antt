@@ -1,11 +1,13 @@
 -- What a switch with room for 64 stations knows from the frames that it took, the newest first.
-use Rattle.std.specs.Prelude.{◌≡◌, ℕ, List, [], ◌∷◌, length, Option, Some, None, Bool, false, ◌||◌, nat_eq, if◌then◌else◌}
+use Rattle.std.specs.Prelude.{◌≡◌, ℕ, List, [], ◌∷◌, length, Option, Some, None, option_map, Bool, false, ◌||◌, nat_eq, if◌then◌else◌}
 use Rattle.std.specs.List.{list_any}
+use Rattle.etherparse.specs.Header.{Header}
 use Rattle.example_learning_switch.specs.declared.decision.Decision.{Decision}
 use Rattle.example_learning_switch.specs.declared.decision.Decision.TheVariants.{Port, Drop, Flood}
 use Rattle.example_learning_switch.specs.declared.entry.Entry.{Entry}
+use Rattle.example_learning_switch.specs.declared.port.Port.{Port as SwitchPort}
 use Rattle.example_learning_switch.specs.declared.stations.Stations.{Stations}
-use Rattle.example_learning_switch.specs.Stations.{is_group}
+use Rattle.example_learning_switch.specs.Stations.{is_group, stations_of}
 
 -- a frame, and the port that it came from
 pub record Taken : Type 0 where
@@ -13,9 +15,12 @@ pub record Taken : Type 0 where
   pub source : ℕ
   pub destination : ℕ
 
--- one with these stations
-abbrev pub taken : ℕ → Stations → Taken
-taken port s = record { port = port; source = s.source; destination = s.destination }
+abbrev pub taken_with : (port : ℕ) → Stations → Taken
+taken_with port s = record { port = port; source = s.source; destination = s.destination }
+
+-- a frame with these headers, if the port that it came from gives it a VLAN
+abbrev pub taken : SwitchPort → List Header → Option Taken
+taken port hs = option_map (taken_with port.number) (stations_of port.kind hs)
 
 -- whether a station is among these
 abbrev pub is_among : ℕ → List ℕ → Bool

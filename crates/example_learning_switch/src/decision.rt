@@ -1,4 +1,17 @@
 //! Where a frame goes.
+ghost use Rattle.std.specs.Prelude.{◌≡◌, ◌≤◌, List, length, drop, Some, is_some, IsSome, IfSome, IfNone, IsTrue};
+ghost use Rattle.etherparse.specs.Header.{Header};
+ghost use Rattle.ether_peel.specs.Grammar.Stack.{Ending, Walk};
+ghost use Rattle.ether_peel.specs.Walker.Start.{start_of};
+ghost use Rattle.example_learning_switch.specs.Ports.{includes as includes_of, Leaves};
+ghost use Rattle.example_learning_switch.specs.declared.port.PortKind.TheVariants as kinds;
+ghost use Rattle.example_learning_switch.specs.Stations.{stations_of, goes_out};
+
+use crate::port::{Port, PortKind, is_member};
+use crate::stations::Stations;
+use crate::{retagging, stations};
+use ether_peel::Start;
+use etherparse::VlanId;
 
 /// Where a switch sends a frame.
 #[derive(Clone, Copy, PartialEq, Eq, Debug)]
@@ -9,4 +22,129 @@ pub enum Decision {
     Drop,
     /// To all ports but the one that it came from.
     Flood,
+}
+
+impl Decision {
+    /// Makes a frame ready to leave by a port, and returns where it begins then.
+    ///
+    /// The buffer has four bytes that are free, and then the frame, as it came from a port. It leaves as `buffer[at..]`:
+    /// with a VLAN tag if it goes from an access port to a trunk, announced by 0x8100, with priority 0; without its tag if
+    /// it goes from a trunk to an access port; and else as it came.
+    ///
+    /// `None` if it does not go to the port by this decision, if the port is no member of its VLAN, or if it is not
+    /// switched; the buffer then stays as it was.
+    ///
+    /// # Examples
+    ///
+    /// ```
+    /// let mut buffer = [
+    ///     0x00, 0x00, 0x00, 0x00, // free
+    ///     0x02, 0x00, 0x00, 0x00, 0x00, 0x01, 0x02, 0x00, 0x00, 0x00, 0x00, 0x02, 0x81, 0x00, // Ethernet II
+    ///     0x00, 0x0A, 0x08, 0x06, // VLAN
+    ///     0x00,
+    /// ];
+    /// let trunk = Port { number: 1, kind: PortKind::Trunk };
+    /// let access = Port { number: 2, kind: PortKind::Access(VlanId::try_new(10)?) };
+    /// assert_eq!(rt; Decision::Flood.send(trunk, trunk, &mut buffer), None);
+    /// assert_eq!(rt; Decision::Flood.send(trunk, access, &mut buffer), Some(8));
+    /// assert_eq!(rt; buffer[8..], [
+    ///     0x02, 0x00, 0x00, 0x00, 0x00, 0x01, 0x02, 0x00, 0x00, 0x00, 0x00, 0x02, 0x08, 0x06, // Ethernet II
+    ///     0x00,
+    /// ]);
+    /// ```
+    pub fn send(self, from: Port, to: Port, buffer: &mut [u8]) -> Option<usize>
+        ensures sent { IfSome result (λ at. (hs : List Header) (e : Ending)
+            → Walk (start_of Start.Ethernet2) (drop 4 buffer.old) hs e
+            → Leaves from.kind to.kind (drop 4 buffer.old) hs e (drop at buffer.new)) }
+        ensures goes { (hs : List Header) (e : Ending)
+            → Walk (start_of Start.Ethernet2) (drop 4 buffer.old) hs e
+            → is_some result ≡ goes_out self from to hs }
+        ensures kept { IfNone result (buffer.new ≡ buffer.old) }
+    {
+        if !self.allows(&from, &to, buffer) {
+            return None;
+        }
+        leave(from.kind, to.kind, buffer)
+    }
+
+    /// Whether the frame after four bytes of a buffer goes from one port to another.
+    fn allows(self, from: &Port, to: &Port, buffer: &[u8]) -> bool
+        ensures goes { (hs : List Header) (e : Ending)
+            → Walk (start_of Start.Ethernet2) (drop 4 buffer.now) hs e
+            → result ≡ goes_out self from.now to.now hs }
+        ensures room { IsTrue result → 4 ≤ length buffer.now }
+    {
+        if !self.includes(from.number, to.number) {
+            return false;
+        }
+        let Some(frame) = buffer.get(4..) else {
+            return false;
+        };
+        match stations::read(from.kind, frame) {
+            Some(stations) => is_member(to.kind, stations.vlan_id),
+            None => false,
+        }
+    }
+
+    /// Whether a frame that came from a port is to go to another.
+    fn includes(self, from: u16, to: u16) -> bool
+        ensures { result ≡ includes_of self from to }
+    {
+        match self {
+            Decision::Port(number) => to == number,
+            Decision::Drop => false,
+            Decision::Flood => to != from,
+        }
+    }
+}
+
+/// Makes a frame ready that came from a port of one kind, and goes to one of another.
+fn leave(from: PortKind, to: PortKind, buffer: &mut [u8]) -> Option<usize>
+    requires { 4 ≤ length buffer.old }
+    ensures sent { IfSome result (λ at. (hs : List Header) (e : Ending)
+        → Walk (start_of Start.Ethernet2) (drop 4 buffer.old) hs e
+        → Leaves from to (drop 4 buffer.old) hs e (drop at buffer.new)) }
+    ensures done { (hs : List Header) (e : Ending)
+        → Walk (start_of Start.Ethernet2) (drop 4 buffer.old) hs e
+        → (s : Stations) → stations_of from hs ≡ Some s → IsSome result }
+    ensures kept { IfNone result (buffer.new ≡ buffer.old) }
+{
+    match from {
+        PortKind::Access(vlan_id) => leave_access(vlan_id, to, buffer),
+        PortKind::Trunk => leave_trunk(to, buffer),
+    }
+}
+
+/// Makes a frame ready that came from an access port.
+fn leave_access(vlan_id: VlanId, to: PortKind, buffer: &mut [u8]) -> Option<usize>
+    requires { 4 ≤ length buffer.old }
+    ensures sent { IfSome result (λ at. (hs : List Header) (e : Ending)
+        → Walk (start_of Start.Ethernet2) (drop 4 buffer.old) hs e
+        → Leaves (kinds.Access vlan_id) to (drop 4 buffer.old) hs e (drop at buffer.new)) }
+    ensures done { (hs : List Header) (e : Ending)
+        → Walk (start_of Start.Ethernet2) (drop 4 buffer.old) hs e
+        → (s : Stations) → stations_of (kinds.Access vlan_id) hs ≡ Some s → IsSome result }
+    ensures kept { IfNone result (buffer.new ≡ buffer.old) }
+{
+    match to {
+        PortKind::Access(_) => Some(4),
+        PortKind::Trunk => retagging::tag(vlan_id, buffer),
+    }
+}
+
+/// Makes a frame ready that came from a trunk.
+fn leave_trunk(to: PortKind, buffer: &mut [u8]) -> Option<usize>
+    requires { 4 ≤ length buffer.old }
+    ensures sent { IfSome result (λ at. (hs : List Header) (e : Ending)
+        → Walk (start_of Start.Ethernet2) (drop 4 buffer.old) hs e
+        → Leaves kinds.Trunk to (drop 4 buffer.old) hs e (drop at buffer.new)) }
+    ensures done { (hs : List Header) (e : Ending)
+        → Walk (start_of Start.Ethernet2) (drop 4 buffer.old) hs e
+        → (s : Stations) → stations_of kinds.Trunk hs ≡ Some s → IsSome result }
+    ensures kept { IfNone result (buffer.new ≡ buffer.old) }
+{
+    match to {
+        PortKind::Access(_) => retagging::untag(buffer),
+        PortKind::Trunk => Some(4),
+    }
 }

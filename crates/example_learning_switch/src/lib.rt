@@ -1,28 +1,32 @@
-//! A learning switch for frames with VLAN tags, as an example of a program over `ether_peel`. No call allocates memory.
+//! A learning switch for VLANs, as an example of a program over `ether_peel` and `ether_packet`. No call allocates memory.
 #![tactic(auto)]
 
-ghost use Rattle.std.specs.Prelude.{◌≡◌, ℕ, List, [], ◌∷◌, Some, None, if◌then◌else◌};
+ghost use Rattle.std.specs.Prelude.{◌≡◌, ℕ, List, [], ◌∷◌, Some, None, IfSome, false, if◌then◌else◌};
 ghost use Rattle.etherparse.specs.Header.{Header};
 ghost use Rattle.ether_peel.specs.Grammar.Stack.{Ending, Walk};
 ghost use Rattle.ether_peel.specs.Walker.Start.{start_of};
-ghost use Rattle.example_learning_switch.specs.Stations.{stations_of, is_group as is_group_of};
+ghost use Rattle.example_learning_switch.specs.Ports.{includes};
+ghost use Rattle.example_learning_switch.specs.Stations.{is_group as is_group_of};
 ghost use Rattle.example_learning_switch.specs.Switching.{Taken, taken, decision, port_in, toward as toward_of, Knows};
 
 mod decision;
 mod entry;
+mod port;
+mod retagging;
 mod stations;
 
 use arrayvec::ArrayVec;
 pub use decision::Decision;
 use entry::Entry;
 use ether_peel::Start;
-use stations::{Stations, is_group};
+pub use port::{Port, PortKind};
+use stations::is_group;
 use std::marker::Model;
 
 /// How many stations a switch learns at most.
 const CAPACITY: usize = 64;
 
-/// A learning switch for trunk ports, whose frames have VLAN tags (IEEE 802.1Q, 8.6 to 8.8).
+/// A learning switch with access ports and trunks (IEEE 802.1Q, 8.6 to 8.8).
 ///
 /// A station is an address in a VLAN, so the same address in two VLANs is two stations. The switch keeps the port of
 /// the last frame from each of the first [`CAPACITY`](Self::CAPACITY) stations. Entries do not age.
@@ -38,10 +42,11 @@ const CAPACITY: usize = 64;
 ///     0x02, 0x00, 0x00, 0x00, 0x00, 0x01, 0x02, 0x00, 0x00, 0x00, 0x00, 0x02, 0x81, 0x00, // Ethernet II
 ///     0x00, 0x0A, 0x08, 0x06, // VLAN
 /// ];
+/// let (first, second) = (Port { number: 1, kind: PortKind::Trunk }, Port { number: 2, kind: PortKind::Trunk });
 /// let mut switch = Switch::new();
-/// assert_eq!(rt; switch.forward(1, &request), Some(Decision::Flood));
-/// assert_eq!(rt; switch.forward(2, &reply), Some(Decision::Port(1)));
-/// assert_eq!(rt; switch.forward(1, &reply[..17]), None);
+/// assert_eq!(rt; switch.forward(first, &request), Some(Decision::Flood));
+/// assert_eq!(rt; switch.forward(second, &reply), Some(Decision::Port(1)));
+/// assert_eq!(rt; switch.forward(first, &reply[..17]), None);
 /// ```
 #[derive(Debug, Drop)]
 pub struct Switch {
@@ -72,28 +77,29 @@ impl Switch {
 
     /// Learns the source of a frame that came from a port, and then returns where the frame goes.
     ///
-    /// The frame begins with an Ethernet II header and has no frame check sequence. It's switched if a VLAN tag is
-    /// directly after the header; what follows the tag isn't read. A priority tag (identifier 0) counts as VLAN 0.
+    /// The frame begins with an Ethernet II header and has no frame check sequence. From a trunk it's switched if a VLAN
+    /// tag is directly after the header, from an access port if the ether type announces none. What follows isn't read. A
+    /// priority tag (identifier 0) counts as VLAN 0. [`Decision::send`] makes the frame ready to leave by a port.
     ///
     /// The address of a group is never learned, and if the table is full no other station is: frames to either are
-    /// flooded. `None` if there is no such tag, or if header or tag is cut short: nothing is learned then.
-    pub fn forward(&mut self, port: u16, frame: &[u8]) -> Option<Decision>
-        ensures tagged { (hs : List Header) (e : Ending) → Walk (start_of Start.Ethernet2) frame.now hs e
-            → (s : Stations) → stations_of hs ≡ Some s
-            → (earlier : List Taken) → Knows self.old earlier
-            → (result ≡ Some (decision (taken port s) earlier)) × Knows self.new (taken port s ∷ earlier) }
+    /// flooded. `None` if the frame isn't switched, or if header or tag is cut short: nothing is learned then.
+    pub fn forward(&mut self, port: Port, frame: &[u8]) -> Option<Decision>
+        ensures switched { (hs : List Header) (e : Ending) → Walk (start_of Start.Ethernet2) frame.now hs e
+            → (f : Taken) → taken port hs ≡ Some f → (earlier : List Taken) → Knows self.old earlier
+            → (result ≡ Some (decision f earlier)) × Knows self.new (f ∷ earlier) }
         ensures other { (hs : List Header) (e : Ending) → Walk (start_of Start.Ethernet2) frame.now hs e
-            → stations_of hs ≡ None → (result ≡ None) × (self.new ≡ self.old) }
+            → taken port hs ≡ None → (result ≡ None) × (self.new ≡ self.old) }
+        ensures never_back { IfSome result (λ d. includes d port.number port.number ≡ false) }
     {
-        let stations = stations::read(frame)?;
-        self.learn(port, stations.source);
-        Some(self.decide(port, stations.destination))
+        let stations = stations::read(port.kind, frame)?;
+        self.learn(port.number, stations.source);
+        Some(self.decide(port.number, stations.destination))
     }
 
     /// Learns that frames from a station come from a port.
     fn learn(&mut self, port: u16, source: u64)
         ensures { (earlier : List Taken) → Knows self.old earlier → (destination : ℕ)
-            → Knows self.new (taken port (record { source = source; destination = destination }) ∷ earlier) }
+            → Knows self.new (record { port = port; source = source; destination = destination } ∷ earlier) }
     {
         if is_group(source) {
             return;
@@ -111,8 +117,9 @@ impl Switch {
 
     /// Where a frame from a port to a station goes.
     fn decide(&self, port: u16, destination: u64) -> Decision
-        ensures { result ≡ (if is_group_of destination then Decision.Flood
+        ensures value { result ≡ (if is_group_of destination then Decision.Flood
             else toward_of port (port_in self.now destination)) }
+        ensures never_back { includes result port port ≡ false }
     {
         if is_group(destination) {
             return Decision::Flood;

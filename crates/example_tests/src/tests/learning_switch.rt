@@ -1,6 +1,16 @@
 //! Frames of two VLANs from three ports, one after the other, and stations beyond the capacity.
-use example_learning_switch::{Decision, Switch};
+use etherparse::VlanId;
+use example_learning_switch::{Decision, Port, PortKind, Switch};
+use std::process::Abort;
 use std::test::Fail;
+
+/// A trunk with a number.
+fn trunk(number: u16) -> Port {
+    Port {
+        number,
+        kind: PortKind::Trunk,
+    }
+}
 
 /// A frame of Ethernet II with one VLAN tag before IPv4: the last bytes of two addresses, and a VLAN identifier.
 fn frame(destination: [u8; 2], source: [u8; 2], vlan_id: u8) -> [u8; 18] {
@@ -55,7 +65,7 @@ fn of_a_learning_switch(rt: HostRuntime) -> Result<(), Fail> {
     ];
     let mut switch = Switch::new();
     for (name, port, bytes, decision) in examples {
-        assert_eq!(rt; switch.forward(port, &bytes), decision, "{name}");
+        assert_eq!(rt; switch.forward(trunk(port), &bytes), decision, "{name}");
     }
     Ok(())
 }
@@ -66,11 +76,11 @@ fn of_frames_that_are_not_switched(rt: HostRuntime) -> Result<(), Fail> {
     let mut switch = Switch::new();
     let mut untagged = frame(b, a, 10);
     untagged[12] = 0x08;
-    assert_eq!(rt; switch.forward(1, &untagged), None);
-    assert_eq!(rt; switch.forward(1, &frame(b, a, 10)[..17]), None);
-    assert_eq!(rt; switch.forward(1, &frame(b, a, 10)[..13]), None);
+    assert_eq!(rt; switch.forward(trunk(1), &untagged), None);
+    assert_eq!(rt; switch.forward(trunk(1), &frame(b, a, 10)[..17]), None);
+    assert_eq!(rt; switch.forward(trunk(1), &frame(b, a, 10)[..13]), None);
     assert_eq!(rt;
-        switch.forward(2, &frame(a, b, 10)),
+        switch.forward(trunk(2), &frame(a, b, 10)),
         Some(Decision::Flood),
         "A is not learned"
     );
@@ -81,7 +91,7 @@ fn of_frames_that_are_not_switched(rt: HostRuntime) -> Result<(), Fail> {
 fn of_a_full_table(rt: HostRuntime) -> Result<(), Fail> {
     let mut switch = Switch::new();
     for last in 0..70 {
-        let found = switch.forward(1, &frame([0xFF, 0xFF], [2, last], 10));
+        let found = switch.forward(trunk(1), &frame([0xFF, 0xFF], [2, last], 10));
         assert_eq!(rt; found, Some(Decision::Flood), "{last}");
     }
     for last in 0..70 {
@@ -90,8 +100,154 @@ fn of_a_full_table(rt: HostRuntime) -> Result<(), Fail> {
         } else {
             Decision::Flood
         };
-        let found = switch.forward(2, &frame([2, last], [2, 200], 10));
+        let found = switch.forward(trunk(2), &frame([2, last], [2, 200], 10));
         assert_eq!(rt; found, Some(goes_to), "{last}");
     }
+    Ok(())
+}
+
+/// Whether a frame that came from a port leaves by another, and how.
+fn sends(
+    rt: &impl Abort,
+    name: &str,
+    decision: Decision,
+    ports: (Port, Port),
+    frame: &[u8],
+    wanted: Option<&[u8]>,
+) {
+    let (from, to) = ports;
+    let mut buffer = [0xAA; 32];
+    let end = (4 + frame.len()).min(32);
+    for (byte, to) in frame.iter().zip(buffer[4..].iter_mut()) {
+        *to = *byte;
+    }
+    let before = buffer;
+    let sent = decision.send(from, to, &mut buffer[..end]);
+    assert_eq!(rt; sent.is_some(), wanted.is_some(), "{name}");
+    match (sent, wanted) {
+        (Some(at), Some(wanted)) => assert_eq!(rt; buffer[at.min(end)..end], *wanted, "{name}"),
+        _ => assert_eq!(rt; buffer, before, "{name}"),
+    }
+}
+
+/// From 02::0A to all stations, without a tag and with that of VLAN 10.
+const REQUEST: [u8; 15] = [
+    0xFF, 0xFF, 0xFF, 0xFF, 0xFF, 0xFF, 2, 0, 0, 0, 0, 0xA, 0x08, 0x06, 0x45,
+];
+
+const TAGGED_REQUEST: [u8; 19] = [
+    0xFF, 0xFF, 0xFF, 0xFF, 0xFF, 0xFF, 2, 0, 0, 0, 0, 0xA, 0x81, 0x00, 0x00, 0x0A, 0x08, 0x06,
+    0x45,
+];
+
+/// From 02::0B to 02::0A, without a tag and with a service tag of VLAN 10, PCP 7 and DEI 1.
+const REPLY: [u8; 15] = [2, 0, 0, 0, 0, 0xA, 2, 0, 0, 0, 0, 0xB, 0x08, 0x06, 0x45];
+
+const TAGGED_REPLY: [u8; 19] = [
+    2, 0, 0, 0, 0, 0xA, 2, 0, 0, 0, 0, 0xB, 0x88, 0xA8, 0xF0, 0x0A, 0x08, 0x06, 0x45,
+];
+
+/// Two access ports of VLAN 10, a trunk, and an access port of VLAN 20.
+fn ports() -> Result<[Port; 4], Fail> {
+    let access = |number, vlan_id| Port {
+        number,
+        kind: PortKind::Access(vlan_id),
+    };
+    let (ten, twenty) = (VlanId::try_new(10)?, VlanId::try_new(20)?);
+    Ok([access(1, ten), access(2, ten), trunk(3), access(4, twenty)])
+}
+
+#[test]
+fn of_access_ports(rt: HostRuntime) -> Result<(), Fail> {
+    let [a, b, uplink, c] = ports()?;
+    let (flood, port_1) = (Some(Decision::Flood), Some(Decision::Port(1)));
+    let mut switch = Switch::new();
+    assert_eq!(rt; switch.forward(a, &REQUEST), flood);
+    assert_eq!(rt;
+        switch.forward(uplink, &TAGGED_REPLY),
+        port_1,
+        "A was seen on port 1"
+    );
+    assert_eq!(rt; switch.forward(c, &REPLY), flood, "A in another VLAN");
+    assert_eq!(rt; switch.forward(b, &REPLY), port_1, "B moves to port 2");
+    assert_eq!(rt;
+        switch.forward(a, &TAGGED_REPLY),
+        None,
+        "a tag at an access port"
+    );
+    assert_eq!(rt; switch.forward(uplink, &REPLY), None, "no tag at a trunk");
+    assert_eq!(rt; switch.forward(a, &REPLY[..13]), None, "cut short");
+    Ok(())
+}
+
+#[test]
+fn of_frames_that_leave(rt: HostRuntime) -> Result<(), Fail> {
+    let [a, b, uplink, c] = ports()?;
+    let (flood, port_1) = (Decision::Flood, Decision::Port(1));
+    let leave: [(&str, Decision, (Port, Port), &[u8], &[u8]); 5] = [
+        ("as it came", flood, (a, b), &REQUEST, &REQUEST),
+        ("with a tag", flood, (a, uplink), &REQUEST, &TAGGED_REQUEST),
+        (
+            "without its tag",
+            port_1,
+            (uplink, a),
+            &TAGGED_REPLY,
+            &REPLY,
+        ),
+        (
+            "to a trunk",
+            flood,
+            (uplink, trunk(5)),
+            &TAGGED_REPLY,
+            &TAGGED_REPLY,
+        ),
+        ("flooded", flood, (uplink, b), &TAGGED_REQUEST, &REQUEST),
+    ];
+    let stay: [(&str, Decision, (Port, Port), &[u8]); 8] = [
+        ("back", flood, (a, a), &REQUEST),
+        ("another VLAN", flood, (a, c), &REQUEST),
+        (
+            "another VLAN, from a trunk",
+            flood,
+            (uplink, c),
+            &TAGGED_REQUEST,
+        ),
+        ("another port", port_1, (uplink, b), &TAGGED_REPLY),
+        ("nowhere", Decision::Drop, (uplink, a), &TAGGED_REPLY),
+        (
+            "a tag at an access port",
+            flood,
+            (a, uplink),
+            &TAGGED_REQUEST,
+        ),
+        ("no tag at a trunk", flood, (uplink, a), &REQUEST),
+        ("no frame", flood, (a, b), &[]),
+    ];
+    for (name, decision, ports, frame, wanted) in leave {
+        sends(&rt, name, decision, ports, frame, Some(wanted));
+    }
+    for (name, decision, ports, frame) in stay {
+        sends(&rt, name, decision, ports, frame, None);
+    }
+    assert_eq!(rt; flood.send(a, b, &mut [0; 3]), None);
+    Ok(())
+}
+
+#[test]
+fn of_the_example(rt: HostRuntime) -> Result<(), Fail> {
+    let [_, access, _, _] = ports()?;
+    let mut buffer = [
+        0, 0, 0, 0, // free
+        2, 0, 0, 0, 0, 1, 2, 0, 0, 0, 0, 2, 0x81, 0x00, // Ethernet II
+        0x00, 0x0A, 0x08, 0x06, // VLAN
+        0,
+    ];
+    let untagged = [2, 0, 0, 0, 0, 1, 2, 0, 0, 0, 0, 2, 0x08, 0x06, 0];
+    assert_eq!(rt; Decision::Flood.send(trunk(1), trunk(1), &mut buffer), None);
+    assert_eq!(rt;
+        Decision::Flood.send(trunk(1), access, &mut buffer),
+        Some(8)
+    );
+    assert_eq!(rt; buffer[8..], *untagged.as_slice());
     Ok(())
 }

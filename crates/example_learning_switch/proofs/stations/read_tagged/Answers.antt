@@ -1,11 +1,12 @@
 use Rattle.std.proofs.Common.{◌≡◌, refl, subst, Some, Ok, Option, Result, arith}
+use Rattle.etherparse.specs.Bytes.{IsBytes}
 use Rattle.ether_peel.specs.Walker.State.{State}
 use Rattle.ether_peel.specs.Walker.Next.{Gives}
 use Rattle.ether_peel.specs.declared.peel_unit.PeelUnit.{PeelUnit}
 use Rattle.ether_peel.specs.declared.peel_unit.PeelUnit.TheVariants as units
 use Rattle.ether_peel.specs.declared.peel_fault.PeelFault.{PeelFault}
-use Rattle.example_learning_switch.proofs.Reading.{stations_read}
-use Rattle.example_learning_switch.proofs.stations.read.Goals as goal
+use Rattle.example_learning_switch.proofs.Reading.{link_read, trunk_stations}
+use Rattle.example_learning_switch.proofs.stations.read_tagged.Goals as goal
 
 pub returns : goal.returns
 returns c hs e walk =
@@ -20,15 +21,10 @@ returns c hs e walk =
     let second =
     subst (λ (r : Option (Result PeelUnit PeelFault)). Gives c.next.new.self r c.next-2.new.self) b
     c.in-Some-Ok-Vlan.ensures.steps in
-    let r =
-    stations_read c.args.frame.now hs e c.next.new.self c.next-2.new.self link tag
-    (λ i. omega (arith, c.type_inv.frame i)) walk first second in
+    let bytes : IsBytes c.args.frame.now = λ i. omega (arith, c.type_inv.frame i) in
+    let link_is = link_read c.args.frame.now hs e c.next.new.self link bytes walk first in
     rw (
-      r,
-      c.station.ensures,
-      c.station-2.ensures,
-      c.source.ensures,
-      c.destination.ensures,
-      c.vlan_identifier-vlan_id.ensures,
-    )
-    refl
+      trunk_stations _ hs e c.next.new.self c.next-2.new.self _ tag bytes link_is second,
+      c.stations_in.ensures,
+      c.vlan_identifier.ensures,
+    ) refl
