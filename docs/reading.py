@@ -54,15 +54,15 @@ ARTEFACTS = {
         "ether_packet/src/laws.rt": ["parts_go_back", "popped_after_pushed", "pushed_after_popped"],
     },
     "Capture files": {
-        "ether_pcap/src/capture_packets.rt": ["from_slice", "rest", "offset", "ghost"],
+        "ether_pcap/src/capture/capture_packets.rt": ["from_slice", "rest", "offset", "ghost"],
     },
     "Captures written": {
-        "ether_pcap/src/file_header.rt": ["to_bytes"],
-        "ether_pcap/src/pcap_record.rt": ["header_to_bytes"],
-        "ether_pcap/src/section_header.rt": ["to_bytes"],
-        "ether_pcap/src/interface_description.rt": ["header_to_bytes", "trailer_to_bytes", "nanosecond_options"],
-        "ether_pcap/src/enhanced_packet.rt": ["header_to_bytes", "trailer_to_bytes"],
-        "ether_pcap/src/capture_reader.rt": ["edit_unit"],
+        "ether_pcap/src/classic/file_header.rt": ["to_bytes"],
+        "ether_pcap/src/classic/pcap_record.rt": ["header_to_bytes"],
+        "ether_pcap/src/pcapng/section_header.rt": ["to_bytes"],
+        "ether_pcap/src/pcapng/interface_description.rt": ["header_to_bytes", "trailer_to_bytes", "nanosecond_options"],
+        "ether_pcap/src/pcapng/enhanced_packet.rt": ["header_to_bytes", "trailer_to_bytes"],
+        "ether_pcap/src/capture/capture_reader.rt": ["edit_unit"],
         "ether_pcap/src/laws.rt": ["written_files_are_read", "written_sections_are_read", "copies_are_read"],
     },
     "Captured packets": {

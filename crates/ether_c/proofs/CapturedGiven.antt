@@ -6,8 +6,8 @@ use Rattle.std.proofs.lemmas.List.{append_assoc, append-nil, length-append}
 use Rattle.ether_pcap.specs.Capture.{PacketValue, Beginning, CaptureRefusal, HasPackets}
 use Rattle.ether_pcap.specs.CaptureReading.{State, start, GivesNext, Gives}
 use Rattle.ether_pcap.specs.CaptureViews.{captured_packet_view, capture_refusal_view}
-use Rattle.ether_pcap.specs.declared.captured_packet.CapturedPacket.{CapturedPacket}
-use Rattle.ether_pcap.specs.declared.capture_fault.CaptureFault.{CaptureFault}
+use Rattle.ether_pcap.specs.declared.capture.captured_packet.CapturedPacket.{CapturedPacket}
+use Rattle.ether_pcap.specs.declared.capture.capture_fault.CaptureFault.{CaptureFault}
 use Rattle.ether_pcap.proofs.CaptureSome.{some_packets}
 use Rattle.ether_c.specs.declared.ether_captured.EtherCaptured.{EtherCaptured}
 use Rattle.ether_c.specs.Captured.{HoldsPacket, HoldPackets, HasCaptured}

@@ -4,7 +4,7 @@ use Rattle.std.specs.Option.{option_map}
 use Rattle.ether_pcap.specs.Capture.{TimeValue, PacketValue, Beginning, HasPackets, required_len}
 use Rattle.ether_pcap.specs.CaptureViews.{capture_refusal_view}
 use Rattle.ether_pcap.specs.CaptureTexts.{capture_fault_text}
-use Rattle.ether_pcap.specs.declared.capture_fault.CaptureFault.{CaptureFault}
+use Rattle.ether_pcap.specs.declared.capture.capture_fault.CaptureFault.{CaptureFault}
 use Rattle.ether_c.specs.declared.ether_captured.EtherCaptured.{EtherCaptured}
 use Rattle.ether_c.specs.declared.capturing.EtherCaptureEnd.{EtherCaptureEnd}
 use Rattle.ether_c.specs.Numbers.{done, no_text}

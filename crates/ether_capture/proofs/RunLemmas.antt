@@ -8,7 +8,7 @@ use Rattle.ether_pcap.specs.Section as section_rows
 use Rattle.ether_pcap.specs.Capture.{PacketValue, Expectation, Beginning, CaptureRefusal, Refuses, file_header_refused, file_record_refused, first_section_refused, section_refused, block_refused, body_refused, required_len, IsEnd, HasPackets}
 use Rattle.ether_pcap.specs.CaptureViews.{capture_refusal_view}
 use Rattle.ether_pcap.proofs.CaptureLengths.{required_above}
-use Rattle.ether_pcap.specs.declared.capture_error.CaptureError.{CaptureError}
+use Rattle.ether_pcap.specs.declared.capture.capture_error.CaptureError.{CaptureError}
 use Rattle.ether_text.specs.OutputBuffer.{contents_of, WritesOut}
 use Rattle.ether_text.specs.declared.output_buffer.OutputBuffer.{OutputBuffer}
 use Rattle.ether_text.specs.declared.verdict.Verdict.{Verdict}

@@ -4,7 +4,7 @@ use Rattle.std.specs.Io.KnownBytes.{Appends}
 use Rattle.ether_pcap.specs.Capture.{PacketValue, Expectation, Beginning, Begins, Refuses}
 use Rattle.ether_pcap.specs.CaptureViews.{capture_refusal_view}
 use Rattle.ether_pcap.specs.Editing.{EditedValue, unit_after}
-use Rattle.ether_pcap.specs.declared.capture_error.CaptureError.{CaptureError}
+use Rattle.ether_pcap.specs.declared.capture.capture_error.CaptureError.{CaptureError}
 use Rattle.ether_content.specs.Editing.{EditValue}
 use Rattle.ether_text.specs.OutputBuffer.{contents_of, Takes}
 use Rattle.ether_text.specs.declared.output_buffer.OutputBuffer.{OutputBuffer}

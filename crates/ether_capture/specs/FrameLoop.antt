@@ -4,7 +4,7 @@ use Rattle.std.specs.List.{sum_by}
 use Rattle.std.specs.Io.KnownBytes.{Appends}
 use Rattle.ether_pcap.specs.Capture.{PacketValue, Beginning, Refuses}
 use Rattle.ether_pcap.specs.CaptureViews.{capture_refusal_view}
-use Rattle.ether_pcap.specs.declared.capture_error.CaptureError.{CaptureError}
+use Rattle.ether_pcap.specs.declared.capture.capture_error.CaptureError.{CaptureError}
 use Rattle.ether_text.specs.OutputBuffer.{contents_of}
 use Rattle.ether_text.specs.Verdict.{verdict_of, verdict_with}
 use Rattle.ether_text.specs.declared.output_buffer.OutputBuffer.{OutputBuffer}

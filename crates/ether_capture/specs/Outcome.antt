@@ -2,16 +2,16 @@
 use Rattle.std.specs.Prelude.{ℕ, ◌/◌, ◌^◌, List, [], ◌++◌, codes, nat_eq, Option, Some, None, Result, Ok, Err, Bool, true, false, if◌then◌else◌, string_bytes}
 use Rattle.std.specs.Fmt.{decimal}
 use Rattle.ether_pcap.specs.CaptureTexts.{capture_error_text}
-use Rattle.ether_pcap.specs.declared.capture_error.CaptureError.{CaptureError}
-use Rattle.ether_pcap.specs.declared.capture_error.CaptureError.TheVariants as errors
-use Rattle.ether_pcap.specs.declared.file_header_error.FileHeaderError.TheVariants as file_errors
+use Rattle.ether_pcap.specs.declared.capture.capture_error.CaptureError.{CaptureError}
+use Rattle.ether_pcap.specs.declared.capture.capture_error.CaptureError.TheVariants as errors
+use Rattle.ether_pcap.specs.declared.classic.file_header_error.FileHeaderError.TheVariants as file_errors
 use Rattle.ether_filter.specs.ErrorTexts.{filter_error_text}
 use Rattle.ether_filter.specs.declared.filter_error.FilterError.{FilterError}
 use Rattle.ether_text.specs.declared.verdict.Verdict.{Verdict}
 use Rattle.ether_text.specs.declared.verdict.Verdict.TheVariants.{AllAccepted, SomeRefused}
 use Rattle.ether_capture.specs.declared.outcome.Outcome.{Outcome}
 use Rattle.ether_capture.specs.declared.outcome.Outcome.TheVariants as outcomes
-use Rattle.ether_pcap.specs.declared.capture_fault.CaptureFault.{CaptureFault}
+use Rattle.ether_pcap.specs.declared.capture.capture_fault.CaptureFault.{CaptureFault}
 use Rattle.ether_capture.specs.declared.outcome.LastLine.{LastLine}
 use Rattle.ether_capture.specs.declared.outcome.LastLine.TheVariants as last_lines
 use Rattle.ether_capture.specs.declared.outcome.RunFault.{RunFault}

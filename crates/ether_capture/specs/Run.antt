@@ -11,7 +11,7 @@ use Rattle.ether_text.specs.declared.verdict.Verdict.{Verdict}
 use Rattle.ether_capture.specs.Options.{LinesValue}
 use Rattle.ether_capture.specs.FrameLines.{AnswersPacket, skip_count, totals_line_if}
 use Rattle.ether_capture.specs.Packets.{counted, GoesOn}
-use Rattle.ether_pcap.specs.declared.capture_fault.CaptureFault.{CaptureFault}
+use Rattle.ether_pcap.specs.declared.capture.capture_fault.CaptureFault.{CaptureFault}
 use Rattle.ether_capture.specs.declared.outcome.RunFault.{RunFault}
 use Rattle.ether_capture.specs.declared.outcome.RunFault.TheVariants.{Capture, NotEdited, Input, Output, Memory}
 

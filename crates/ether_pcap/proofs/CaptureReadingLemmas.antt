@@ -6,8 +6,8 @@ use Rattle.ether_base.specs.Bytes.{IsBytes}
 use Rattle.ether_pcap.specs.Capture.{PacketValue, Expectation, CaptureRefusal, Begins, Refuses, IsEnd, HasPackets, ended, refused, unit, packet}
 use Rattle.ether_pcap.specs.CaptureReading.{State, FirstPacket, here, later, GivesNext, Gives}
 use Rattle.ether_pcap.specs.CaptureViews.{captured_packet_view, capture_refusal_view}
-use Rattle.ether_pcap.specs.declared.captured_packet.CapturedPacket.{CapturedPacket}
-use Rattle.ether_pcap.specs.declared.capture_fault.CaptureFault.{CaptureFault}
+use Rattle.ether_pcap.specs.declared.capture.captured_packet.CapturedPacket.{CapturedPacket}
+use Rattle.ether_pcap.specs.declared.capture.capture_fault.CaptureFault.{CaptureFault}
 use Rattle.ether_pcap.proofs.PacketsOne.{packets_one}
 use Rattle.ether_pcap.proofs.CaptureSome.{some_packets}
 

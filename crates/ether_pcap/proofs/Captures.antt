@@ -19,11 +19,11 @@ use Rattle.ether_pcap.specs.Block.{BlockValue}
 use Rattle.ether_pcap.specs.Views.{order_of}
 use Rattle.ether_pcap.specs.CaptureViews.{capture_interface_view, interfaces_view, expectation_of}
 use Rattle.ether_pcap.specs.declared.byte_order.ByteOrder.{ByteOrder}
-use Rattle.ether_pcap.specs.declared.file_header.FileHeader.{FileHeader}
-use Rattle.ether_pcap.specs.declared.capture_reader.Progress.{Progress}
-use Rattle.ether_pcap.specs.declared.capture_reader.Progress.TheVariants as progress
-use Rattle.ether_pcap.specs.declared.interface_description.InterfaceDescription.{InterfaceDescription}
-use Rattle.ether_pcap.specs.declared.capture_interface.CaptureInterface.{CaptureInterface}
+use Rattle.ether_pcap.specs.declared.classic.file_header.FileHeader.{FileHeader}
+use Rattle.ether_pcap.specs.declared.capture.capture_reader.Progress.{Progress}
+use Rattle.ether_pcap.specs.declared.capture.capture_reader.Progress.TheVariants as progress
+use Rattle.ether_pcap.specs.declared.pcapng.interface_description.InterfaceDescription.{InterfaceDescription}
+use Rattle.ether_pcap.specs.declared.capture.capture_interface.CaptureInterface.{CaptureInterface}
 
 -- bytes that begin with a section's type are at least four
 pub section_len : (bytes : List ℕ) → IsBytes bytes → HasSectionType bytes → 4 ≤ length bytes

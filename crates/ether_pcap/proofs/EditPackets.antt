@@ -13,7 +13,7 @@ use Rattle.ether_pcap.specs.FileHeader.{FileHeaderValue}
 use Rattle.ether_pcap.specs.Bodies.{EnhancedPacketValue}
 use Rattle.ether_pcap.specs.Capture.{PacketValue, packet_on, CaptureInterfaceValue, Expectation, Beginning, Records, Blocks, BlockKind, EnhancedPacket, SimplePacket, InterfaceDescription, Other, kind_of_block, IsBody, Begins, file_record, block}
 use Rattle.ether_pcap.specs.Editing.{EditedValue, edited_record, edited_body, block_bytes, edited_block, unit_with, is_too_long, edited_unit, edited_packet, unit_after, packet_after, unit_bytes, EditsUnit, HasEditedPacket}
-use Rattle.ether_pcap.specs.declared.edited_unit.EditedUnit.{EditedUnit}
+use Rattle.ether_pcap.specs.declared.capture.edited_unit.EditedUnit.{EditedUnit}
 use Rattle.ether_pcap.proofs.CaptureLocality.{unit_local}
 use Rattle.ether_pcap.proofs.EditUnits.{length-edited_front, length-edited_body, length-block_bytes, block_bytes-type, record_edited, body_edited, block_begins}
 use Rattle.ether_pcap.proofs.PacketUnits.{record_of_unit, PacketBlock, block_of_unit, body_of_unit, type_of, is_interface, is_obsolete, is_simple, is_enhanced, is_other, same_packet, no_packet_first, packet_room}

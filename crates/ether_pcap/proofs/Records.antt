@@ -9,8 +9,8 @@ use Rattle.ether_pcap.specs.Record.{RecordValue, RecordRefusal, Short, TooLong, 
 use Rattle.ether_pcap.specs.Laws.{Contents}
 use Rattle.ether_pcap.specs.Views.{order_of, record_view, record_refusal_view}
 use Rattle.ether_pcap.specs.Reading.{State, Gives, GivesNext}
-use Rattle.ether_pcap.specs.declared.pcap_record.PcapRecord.{PcapRecord}
-use Rattle.ether_pcap.specs.declared.record_fault.RecordFault.{RecordFault}
+use Rattle.ether_pcap.specs.declared.classic.pcap_record.PcapRecord.{PcapRecord}
+use Rattle.ether_pcap.specs.declared.classic.record_fault.RecordFault.{RecordFault}
 
 pub record_one : (order : Order) (bytes : List ℕ) (r s : RecordValue) → BeginsRecord order bytes r
     → BeginsRecord order bytes s → r ≡ s

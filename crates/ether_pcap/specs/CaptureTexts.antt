@@ -3,9 +3,9 @@ use Rattle.std.specs.Prelude.{ℕ, List, ◌++◌, codes}
 use Rattle.std.specs.Fmt.{decimal}
 use Rattle.ether_pcap.specs.Texts.{file_header_error_text, record_error_text}
 use Rattle.ether_pcap.specs.PcapngTexts.{section_error_text, block_error_text, body_error_text}
-use Rattle.ether_pcap.specs.declared.capture_error.CaptureError.{CaptureError}
-use Rattle.ether_pcap.specs.declared.capture_fault.CaptureFault.{CaptureFault}
-use Rattle.ether_pcap.specs.declared.capture_error.CaptureError.TheVariants as errors
+use Rattle.ether_pcap.specs.declared.capture.capture_error.CaptureError.{CaptureError}
+use Rattle.ether_pcap.specs.declared.capture.capture_fault.CaptureFault.{CaptureFault}
+use Rattle.ether_pcap.specs.declared.capture.capture_error.CaptureError.TheVariants as errors
 
 abbrev pub capture_error_text : CaptureError → List ℕ
 capture_error_text (errors.File error) = file_header_error_text error

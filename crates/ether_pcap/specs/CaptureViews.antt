@@ -4,13 +4,13 @@ use Rattle.std.specs.Option.{option_map}
 use Rattle.ether_pcap.specs.Capture.{TimeValue, PacketValue, CaptureInterfaceValue, Expectation, Beginning, Records, Blocks, CaptureRefusal, File, Record, Section, Block, Body, NoInterface, TooManyInterfaces}
 use Rattle.ether_pcap.specs.Views.{order_of, file_header_view, file_refusal_view, record_refusal_view}
 use Rattle.ether_pcap.specs.PcapngViews.{section_refusal_view, block_refusal_view, body_refusal_view}
-use Rattle.ether_pcap.specs.declared.timestamp.Timestamp.{Timestamp}
-use Rattle.ether_pcap.specs.declared.captured_packet.CapturedPacket.{CapturedPacket}
-use Rattle.ether_pcap.specs.declared.capture_interface.CaptureInterface.{CaptureInterface}
-use Rattle.ether_pcap.specs.declared.capture_reader.Progress.{Progress}
-use Rattle.ether_pcap.specs.declared.capture_reader.Progress.TheVariants as progress
-use Rattle.ether_pcap.specs.declared.capture_error.CaptureError.{CaptureError}
-use Rattle.ether_pcap.specs.declared.capture_error.CaptureError.TheVariants as errors
+use Rattle.ether_pcap.specs.declared.capture.timestamp.Timestamp.{Timestamp}
+use Rattle.ether_pcap.specs.declared.capture.captured_packet.CapturedPacket.{CapturedPacket}
+use Rattle.ether_pcap.specs.declared.capture.capture_interface.CaptureInterface.{CaptureInterface}
+use Rattle.ether_pcap.specs.declared.capture.capture_reader.Progress.{Progress}
+use Rattle.ether_pcap.specs.declared.capture.capture_reader.Progress.TheVariants as progress
+use Rattle.ether_pcap.specs.declared.capture.capture_error.CaptureError.{CaptureError}
+use Rattle.ether_pcap.specs.declared.capture.capture_error.CaptureError.TheVariants as errors
 
 abbrev pub timestamp_view : Timestamp → TimeValue
 timestamp_view t = record { seconds = t.seconds; nanoseconds = t.nanoseconds }

@@ -8,8 +8,8 @@ use Rattle.ether_pcap.specs.Options.{padded}
 use Rattle.ether_pcap.specs.Record.{max_captured_len}
 use Rattle.ether_pcap.specs.Writing.{bytes_of, zeros}
 use Rattle.ether_pcap.specs.Capture.{PacketValue, Expectation, Beginning, Records, Blocks, BlockKind, EnhancedPacket, kind_of_block, Begins}
-use Rattle.ether_pcap.specs.declared.edited_unit.EditedUnit.{EditedUnit}
-use Rattle.ether_pcap.specs.declared.edited_unit.EditedUnit.TheVariants as units
+use Rattle.ether_pcap.specs.declared.capture.edited_unit.EditedUnit.{EditedUnit}
+use Rattle.ether_pcap.specs.declared.capture.edited_unit.EditedUnit.TheVariants as units
 
 -- what a packet is edited to: its length before it was cut, and its captured bytes
 pub record EditedValue : Type 0 where

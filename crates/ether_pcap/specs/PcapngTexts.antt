@@ -2,12 +2,12 @@
 use Rattle.std.specs.Prelude.{ℕ, List, ◌++◌, codes}
 use Rattle.std.specs.Fmt.{decimal}
 use Rattle.ether_pcap.specs.Texts.{eight_digits}
-use Rattle.ether_pcap.specs.declared.block_error.BlockError.{BlockError}
-use Rattle.ether_pcap.specs.declared.block_error.BlockError.TheVariants as block_errors
-use Rattle.ether_pcap.specs.declared.body_error.BodyError.{BodyError}
-use Rattle.ether_pcap.specs.declared.body_error.BodyError.TheVariants as body_errors
-use Rattle.ether_pcap.specs.declared.section_error.SectionError.{SectionError}
-use Rattle.ether_pcap.specs.declared.section_error.SectionError.TheVariants as section_errors
+use Rattle.ether_pcap.specs.declared.pcapng.block_error.BlockError.{BlockError}
+use Rattle.ether_pcap.specs.declared.pcapng.block_error.BlockError.TheVariants as block_errors
+use Rattle.ether_pcap.specs.declared.pcapng.body_error.BodyError.{BodyError}
+use Rattle.ether_pcap.specs.declared.pcapng.body_error.BodyError.TheVariants as body_errors
+use Rattle.ether_pcap.specs.declared.pcapng.section_error.SectionError.{SectionError}
+use Rattle.ether_pcap.specs.declared.pcapng.section_error.SectionError.TheVariants as section_errors
 
 abbrev pub block_error_text : BlockError → List ℕ
 block_error_text (block_errors.Len required len) =

@@ -6,17 +6,17 @@ use Rattle.ether_pcap.specs.Bodies as body_rows
 use Rattle.ether_pcap.specs.Options.{OptionValue}
 use Rattle.ether_pcap.specs.Section.{SectionRefusal}
 use Rattle.ether_pcap.specs.Section as section_rows
-use Rattle.ether_pcap.specs.declared.pcapng_block.PcapngBlock.{PcapngBlock}
-use Rattle.ether_pcap.specs.declared.interface_description.InterfaceDescription.{InterfaceDescription}
-use Rattle.ether_pcap.specs.declared.enhanced_packet.EnhancedPacket.{EnhancedPacket}
-use Rattle.ether_pcap.specs.declared.simple_packet.SimplePacket.{SimplePacket}
-use Rattle.ether_pcap.specs.declared.pcapng_option.PcapngOption.{PcapngOption}
-use Rattle.ether_pcap.specs.declared.block_error.BlockError.{BlockError}
-use Rattle.ether_pcap.specs.declared.block_error.BlockError.TheVariants as block_errors
-use Rattle.ether_pcap.specs.declared.body_error.BodyError.{BodyError}
-use Rattle.ether_pcap.specs.declared.body_error.BodyError.TheVariants as body_errors
-use Rattle.ether_pcap.specs.declared.section_error.SectionError.{SectionError}
-use Rattle.ether_pcap.specs.declared.section_error.SectionError.TheVariants as section_errors
+use Rattle.ether_pcap.specs.declared.pcapng.pcapng_block.PcapngBlock.{PcapngBlock}
+use Rattle.ether_pcap.specs.declared.pcapng.interface_description.InterfaceDescription.{InterfaceDescription}
+use Rattle.ether_pcap.specs.declared.pcapng.enhanced_packet.EnhancedPacket.{EnhancedPacket}
+use Rattle.ether_pcap.specs.declared.pcapng.simple_packet.SimplePacket.{SimplePacket}
+use Rattle.ether_pcap.specs.declared.pcapng.pcapng_option.PcapngOption.{PcapngOption}
+use Rattle.ether_pcap.specs.declared.pcapng.block_error.BlockError.{BlockError}
+use Rattle.ether_pcap.specs.declared.pcapng.block_error.BlockError.TheVariants as block_errors
+use Rattle.ether_pcap.specs.declared.pcapng.body_error.BodyError.{BodyError}
+use Rattle.ether_pcap.specs.declared.pcapng.body_error.BodyError.TheVariants as body_errors
+use Rattle.ether_pcap.specs.declared.pcapng.section_error.SectionError.{SectionError}
+use Rattle.ether_pcap.specs.declared.pcapng.section_error.SectionError.TheVariants as section_errors
 
 abbrev pub block_view : PcapngBlock → BlockValue
 block_view b = record { block_type = b.block_type; body = b.body.now }

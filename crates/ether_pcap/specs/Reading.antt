@@ -3,9 +3,9 @@ use Rattle.std.specs.Prelude.{◌≡◌, ℕ, ◌+◌, ◌/◌, List, [], ◌∷
 use Rattle.std.specs.Iterator.{Count, at_most}
 use Rattle.ether_pcap.specs.Record.{RecordValue, RecordRefusal, HasRecords, record_len}
 use Rattle.ether_pcap.specs.Views.{order_of, record_view, record_refusal_view}
-use Rattle.ether_pcap.specs.declared.file_header.FileHeader.{FileHeader}
-use Rattle.ether_pcap.specs.declared.pcap_record.PcapRecord.{PcapRecord}
-use Rattle.ether_pcap.specs.declared.record_fault.RecordFault.{RecordFault}
+use Rattle.ether_pcap.specs.declared.classic.file_header.FileHeader.{FileHeader}
+use Rattle.ether_pcap.specs.declared.classic.pcap_record.PcapRecord.{PcapRecord}
+use Rattle.ether_pcap.specs.declared.classic.record_fault.RecordFault.{RecordFault}
 
 -- the file's header, the bytes that are left to read, their place in the file, and whether a refusal was returned
 pub record State : Type 0 where

@@ -1,11 +1,11 @@
 -- The texts of the errors.
 use Rattle.std.specs.Prelude.{ℕ, ◌/◌, ◌%◌, ◌^◌, List, [], ◌∷◌, ◌++◌, codes, true}
 use Rattle.std.specs.Fmt.{decimal, digit_glyph}
-use Rattle.ether_pcap.specs.declared.file_header_error.FileHeaderError.{FileHeaderError}
-use Rattle.ether_pcap.specs.declared.file_header_error.FileHeaderError.TheVariants as file_errors
-use Rattle.ether_pcap.specs.declared.record_error.RecordError.{RecordError}
-use Rattle.ether_pcap.specs.declared.record_error.RecordError.TheVariants as record_errors
-use Rattle.ether_pcap.specs.declared.record_fault.RecordFault.{RecordFault}
+use Rattle.ether_pcap.specs.declared.classic.file_header_error.FileHeaderError.{FileHeaderError}
+use Rattle.ether_pcap.specs.declared.classic.file_header_error.FileHeaderError.TheVariants as file_errors
+use Rattle.ether_pcap.specs.declared.classic.record_error.RecordError.{RecordError}
+use Rattle.ether_pcap.specs.declared.classic.record_error.RecordError.TheVariants as record_errors
+use Rattle.ether_pcap.specs.declared.classic.record_fault.RecordFault.{RecordFault}
 
 -- the two hexadecimal digits of a byte
 unfoldable pub two_digits : ℕ → List ℕ

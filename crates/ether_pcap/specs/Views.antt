@@ -6,14 +6,14 @@ use Rattle.ether_pcap.specs.Record.{RecordValue, RecordRefusal}
 use Rattle.ether_pcap.specs.Record as record_rows
 use Rattle.ether_pcap.specs.declared.byte_order.ByteOrder.{ByteOrder}
 use Rattle.ether_pcap.specs.declared.byte_order.ByteOrder.TheVariants as orders
-use Rattle.ether_pcap.specs.declared.time_unit.TimeUnit.{TimeUnit}
-use Rattle.ether_pcap.specs.declared.time_unit.TimeUnit.TheVariants as units
-use Rattle.ether_pcap.specs.declared.file_header.FileHeader.{FileHeader}
-use Rattle.ether_pcap.specs.declared.file_header_error.FileHeaderError.{FileHeaderError}
-use Rattle.ether_pcap.specs.declared.file_header_error.FileHeaderError.TheVariants as file_errors
-use Rattle.ether_pcap.specs.declared.pcap_record.PcapRecord.{PcapRecord}
-use Rattle.ether_pcap.specs.declared.record_error.RecordError.{RecordError}
-use Rattle.ether_pcap.specs.declared.record_error.RecordError.TheVariants as record_errors
+use Rattle.ether_pcap.specs.declared.classic.time_unit.TimeUnit.{TimeUnit}
+use Rattle.ether_pcap.specs.declared.classic.time_unit.TimeUnit.TheVariants as units
+use Rattle.ether_pcap.specs.declared.classic.file_header.FileHeader.{FileHeader}
+use Rattle.ether_pcap.specs.declared.classic.file_header_error.FileHeaderError.{FileHeaderError}
+use Rattle.ether_pcap.specs.declared.classic.file_header_error.FileHeaderError.TheVariants as file_errors
+use Rattle.ether_pcap.specs.declared.classic.pcap_record.PcapRecord.{PcapRecord}
+use Rattle.ether_pcap.specs.declared.classic.record_error.RecordError.{RecordError}
+use Rattle.ether_pcap.specs.declared.classic.record_error.RecordError.TheVariants as record_errors
 
 abbrev pub order_of : ByteOrder → Order
 order_of orders.BigEndian = BigEndian

@@ -1,61 +1,25 @@
 //! Capture files of the classic pcap format and of pcapng, read from lists of bytes, edited unit by unit, and written. No call allocates memory.
 #![tactic(auto)]
 
-mod block_error;
-mod body_error;
 mod byte_order;
-mod capture_blocks;
-mod capture_error;
-mod capture_fault;
-mod capture_interface;
-mod capture_packets;
-mod capture_reader;
-mod capture_unit;
-mod captured_packet;
-mod edited_unit;
-mod editing;
-mod enhanced_packet;
-mod file_header;
-mod file_header_error;
+pub mod capture;
+pub mod classic;
 mod hex_digits;
-mod interface_description;
 pub mod laws;
 mod link_type;
-mod pcap_record;
-mod pcap_records;
-mod pcapng_block;
-mod pcapng_option;
-mod record_error;
-mod record_fault;
-mod section_error;
-mod section_header;
-mod simple_packet;
-mod time_unit;
-mod timestamp;
+pub mod pcapng;
 mod words;
 
-pub use block_error::BlockError;
-pub use body_error::BodyError;
 pub use byte_order::ByteOrder;
-pub use capture_error::CaptureError;
-pub use capture_fault::CaptureFault;
-pub use capture_packets::CapturePackets;
-pub use capture_reader::CaptureReader;
-pub use capture_unit::CaptureUnit;
-pub use captured_packet::CapturedPacket;
-pub use edited_unit::EditedUnit;
-pub use enhanced_packet::EnhancedPacket;
-pub use file_header::FileHeader;
-pub use file_header_error::FileHeaderError;
-pub use interface_description::InterfaceDescription;
+pub use capture::{
+    CaptureError, CaptureFault, CapturePackets, CaptureReader, CaptureUnit, CapturedPacket,
+    EditedUnit, Timestamp,
+};
+pub use classic::{
+    FileHeader, FileHeaderError, PcapRecord, PcapRecords, RecordError, RecordFault, TimeUnit,
+};
 pub use link_type::LinkType;
-pub use pcap_record::PcapRecord;
-pub use pcap_records::PcapRecords;
-pub use pcapng_block::PcapngBlock;
-pub use record_error::RecordError;
-pub use record_fault::RecordFault;
-pub use section_error::SectionError;
-pub use section_header::SectionHeader;
-pub use simple_packet::SimplePacket;
-pub use time_unit::TimeUnit;
-pub use timestamp::Timestamp;
+pub use pcapng::{
+    BlockError, BodyError, EnhancedPacket, InterfaceDescription, PcapngBlock, SectionError,
+    SectionHeader, SimplePacket,
+};

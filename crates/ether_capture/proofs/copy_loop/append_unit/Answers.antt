@@ -1,6 +1,6 @@
 use Rattle.std.proofs.Common.{◌≤◌, sym, subst}
 use Rattle.ether_pcap.specs.Editing.{padding_of, unit_bytes}
-use Rattle.ether_pcap.specs.declared.edited_unit.EditedUnit.{EditedUnit}
+use Rattle.ether_pcap.specs.declared.capture.edited_unit.EditedUnit.{EditedUnit}
 use Rattle.ether_text.specs.OutputBuffer.{Takes}
 use Rattle.ether_text.proofs.OutputBufferLemmas.{Takes-then, Takes-same}
 use Rattle.ether_capture.proofs.CopyLoopLemmas.{zeros_of_three}

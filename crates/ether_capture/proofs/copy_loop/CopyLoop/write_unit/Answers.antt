@@ -2,7 +2,7 @@ use Rattle.std.proofs.Common.{◌≡◌, [], Some, None, true, false, sym, subst
 use Rattle.std.specs.Prelude.{Option}
 use Rattle.std.specs.Option.{option_map}
 use Rattle.ether_pcap.specs.CaptureViews.{captured_packet_view}
-use Rattle.ether_pcap.specs.declared.captured_packet.CapturedPacket.{CapturedPacket}
+use Rattle.ether_pcap.specs.declared.capture.captured_packet.CapturedPacket.{CapturedPacket}
 use Rattle.ether_text.proofs.OutputBufferLemmas.{Takes-none}
 use Rattle.ether_capture.specs.Options.{selection_view}
 use Rattle.ether_capture.specs.CopyLoop.{Writes, writes_unit, writes_nothing, writes_packet, WritesText}

@@ -1,0 +1,36 @@
+use Rattle.std.proofs.Common.{◌∙◌, ap, ℕ, Option, Some, refl}
+use Rattle.ether_pcap.specs.Capture.{enhanced_alone, fcs_of}
+use Rattle.ether_pcap.specs.PcapngViews.{enhanced_packet_view}
+use Rattle.ether_pcap.specs.CaptureViews.{capture_interface_view}
+use Rattle.ether_pcap.specs.Views.{order_of}
+use Rattle.ether_pcap.proofs.Options.{some_options}
+use Rattle.ether_pcap.proofs.capture.capture_blocks.enhanced_packet.Goals as goal
+
+pub returns-in_default-clause-refused : goal.returns-in_default-clause-refused
+returns-in_default-clause-refused c =
+    enhanced_alone _ (enhanced_packet_view c.in-Ok.packet) c.in-Ok.ensures.packet c.in_default.ensures
+
+pub returns-clause-packet : goal.returns-clause-packet
+returns-clause-packet c =
+    let p = enhanced_packet_view c.in-Ok.packet in
+    let i = capture_interface_view c.in-Some.interface in
+    let all = some_options (order_of c.args.byte_order) p.options in
+    let fcs = c.first_of.ensures ∙ ap (λ (n : Option ℕ). fcs_of n i.fcs_len) (c.fcs_len.ensures all.0 all.1) in
+    let time = c.time.ensures in (
+      i,
+      p,
+      all.0,
+      c.in-Ok.ensures.packet,
+      c.in-Some.ensures,
+      all.1,
+      (λ k.
+          Some
+          (record {
+            time = time k;
+            original_len = p.original_len;
+            link_type = i.link_type;
+            fcs_len = fcs k;
+            packet = p.packet;
+          })),
+      refl,
+    )

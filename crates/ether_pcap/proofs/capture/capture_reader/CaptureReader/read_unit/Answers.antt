@@ -1,0 +1,44 @@
+use Rattle.std.proofs.Common.{rules, subst, sym, ◌∙◌}
+use Rattle.std.specs.Prelude.{None}
+use Rattle.ether_pcap.specs.Section.{HasSectionType}
+use Rattle.ether_pcap.specs.Capture.{Expectation, Records, Begins, Refuses, Section, File, file_header, file_header_refused}
+use Rattle.ether_pcap.specs.Views.{order_of, file_header_view, file_refusal_view}
+use Rattle.ether_pcap.specs.PcapngViews.{block_view, section_refusal_view}
+use Rattle.ether_pcap.proofs.Captures.{section_unit, section_not_read, nothing_read}
+use Rattle.ether_pcap.proofs.capture.capture_reader.CaptureReader.read_unit.Goals as goal
+
+pub returns-in-Err-clause-refused : goal.returns-in-Err-clause-refused
+returns-in-Err-clause-refused c =
+    let r = section_refusal_view c.in-Err.error in
+    let has : HasSectionType c.args.bytes.now = c.if-begins_section.ensures.0 (search rules) in
+    subst (λ (x : Expectation). Refuses c.args.bytes.now x (Section r)) c.self.view_is
+    (section_not_read c.self.inside.progress c.self.inside.interfaces.items c.args.bytes.now r c.in_default.not-Classic
+    has c.in-Err.ensures.refused)
+
+pub returns-then-begins_section-clause-unit : goal.returns-then-begins_section-clause-unit
+returns-then-begins_section-clause-unit c =
+    let u =
+    section_unit c.self.inside.progress c.self.inside.interfaces.items c.args.bytes.now
+    (order_of c.in-Ok.section.byte_order) (block_view c.in-Ok.section.block) c.block_len-len.result
+    c.in_default.not-Classic c.in-Ok.ensures.section c.block_len-len.ensures in
+    rw (← c.self.view_is, c.clear.ensures) u
+
+pub returns-in-Err-from_slice-clause-refused : goal.returns-in-Err-from_slice-clause-refused
+returns-in-Err-from_slice-clause-refused c =
+    let r = file_refusal_view c.in-Err-from_slice.error in
+    let e =
+    nothing_read c.self.inside.progress c.self.inside.interfaces.items c.in_default.not-Classic
+    c.in_default-progress.not-Section in
+    let other : HasSectionType c.args.bytes.now → ⊥ = λ has. let t = c.if-begins_section.ensures.1 has in absurd cc in
+    subst (λ (x : Expectation). Refuses c.args.bytes.now x (File r)) (sym e ∙ c.self.view_is)
+    (file_header_refused r other c.in-Err-from_slice.ensures.refused)
+
+pub returns-clause-unit : goal.returns-clause-unit
+returns-clause-unit c =
+    let h = file_header_view c.in-Ok-from_slice.header in
+    let e =
+    nothing_read c.self.inside.progress c.self.inside.interfaces.items c.in_default.not-Classic
+    c.in_default-progress.not-Section in
+    let other : HasSectionType c.args.bytes.now → ⊥ = λ has. let t = c.if-begins_section.ensures.1 has in absurd cc in
+    subst (λ (x : Expectation). Begins c.args.bytes.now x 24 None (Records h)) (sym e ∙ c.self.view_is)
+    (file_header h other c.in-Ok-from_slice.ensures.header)

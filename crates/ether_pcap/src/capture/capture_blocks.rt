@@ -1,0 +1,192 @@
+//! The blocks of a section of a pcapng file, read in the order of the file.
+ghost use Rattle.std.specs.Prelude.{◌≡◌, ◌≢◌, ◌+◌, length, Some, None, IfOk, IfErr, OnErr, MatchOption, if◌then◌else◌};
+ghost use Rattle.std.specs.Option.{option_map};
+ghost use Rattle.ether_pcap.specs.Capture.{InterfaceDescription as Description, SimplePacket as Simple, EnhancedPacket as Enhanced, Blocks, IsAt, HasNoInterface, IsBody, RefusesBody, kind_of_block, Begins, Refuses, fcs_of};
+ghost use Rattle.ether_pcap.specs.Section.{HasSectionType};
+ghost use Rattle.ether_pcap.specs.Views.{order_of};
+ghost use Rattle.ether_pcap.specs.CaptureViews.{captured_packet_view, capture_refusal_view, capture_interface_view, interfaces_view};
+
+use crate::capture::capture_interface::CaptureInterface;
+use crate::pcapng::enhanced_packet::packet_of_body;
+use crate::{ByteOrder, CaptureError, CaptureUnit, CapturedPacket, PcapngBlock, SimplePacket};
+use arrayvec::ArrayVec;
+
+/// The greatest number of interfaces of a section that is read.
+pub(crate) const MAX_INTERFACES: usize = 4_096;
+
+/// The interfaces that a section has described.
+pub(crate) type Interfaces = ArrayVec<CaptureInterface, MAX_INTERFACES>;
+
+/// The block at the front of bytes that begin with no section header.
+#[inline(always)]
+#[tactic(auto, using(crate::specs::Capture::block, crate::specs::Capture::block_refused, crate::specs::Capture::body_refused))]
+pub(crate) fn read_block<'a>(
+    byte_order: ByteOrder,
+    interfaces: &mut Interfaces,
+    bytes: &'a [u8],
+) -> Result<CaptureUnit<'a>, CaptureError>
+    requires { HasSectionType bytes.now → ⊥ }
+    ensures unit { IfOk result (λ u. Begins bytes.now
+        (Blocks (order_of byte_order) (interfaces_view interfaces.old.items))
+        u.len
+        (option_map captured_packet_view u.packet)
+        (Blocks (order_of byte_order) (interfaces_view interfaces.new.items))) }
+    ensures refused { IfErr result (λ e. Refuses bytes.now
+        (Blocks (order_of byte_order) (interfaces_view interfaces.old.items))
+        (capture_refusal_view e)) }
+    ensures same { OnErr result (interfaces.new ≡ interfaces.old) }
+{
+    let block = match PcapngBlock::from_slice(byte_order, bytes) {
+        Ok(block) => block,
+        Err(error) => return Err(CaptureError::Block(error)),
+    };
+    let packet = read_body(byte_order, interfaces, block)?;
+    Ok(CaptureUnit {
+        len: block.block_len(),
+        packet,
+    })
+}
+
+/// The packet, if the block is one. Appends the interface, if it describes one.
+fn read_body<'a>(
+    byte_order: ByteOrder,
+    interfaces: &mut Interfaces,
+    block: PcapngBlock<'a>,
+) -> Result<Option<CapturedPacket<'a>>, CaptureError>
+    ensures body { IfOk result (λ p. IsBody (kind_of_block block.entry.block_type) (order_of byte_order)
+        (interfaces_view interfaces.old.items)
+        block.entry.body.now
+        (option_map captured_packet_view p)
+        (interfaces_view interfaces.new.items)) }
+    ensures refused { IfErr result (λ e. RefusesBody (order_of byte_order)
+        (interfaces_view interfaces.old.items)
+        block.entry.body.now
+        (kind_of_block block.entry.block_type)
+        (capture_refusal_view e)) }
+    ensures same { OnErr result (interfaces.new ≡ interfaces.old) }
+{
+    match block.block_type {
+        PcapngBlock::INTERFACE_DESCRIPTION => {
+            add_interface(byte_order, interfaces, block.body)?;
+            Ok(None)
+        }
+        PcapngBlock::SIMPLE_PACKET => {
+            let packet = simple_packet(byte_order, interfaces.as_slice(), block.body)?;
+            Ok(Some(packet))
+        }
+        PcapngBlock::ENHANCED_PACKET => {
+            let packet = enhanced_packet(byte_order, interfaces.as_slice(), true, block.body)?;
+            Ok(Some(packet))
+        }
+        PcapngBlock::PACKET => {
+            let packet = enhanced_packet(byte_order, interfaces.as_slice(), false, block.body)?;
+            Ok(Some(packet))
+        }
+        _ => Ok(None),
+    }
+}
+
+/// Appends the interface that the body of an interface description describes.
+#[tactic(auto, using(crate::specs::Capture::interface, crate::specs::Capture::too_many))]
+fn add_interface(
+    byte_order: ByteOrder,
+    interfaces: &mut Interfaces,
+    body: &[u8],
+) -> Result<(), CaptureError>
+    ensures body { IfOk result (λ _. IsBody Description (order_of byte_order)
+        (interfaces_view interfaces.old.items) body.now None (interfaces_view interfaces.new.items)) }
+    ensures refused { IfErr result (λ e. RefusesBody (order_of byte_order)
+        (interfaces_view interfaces.old.items) body.now Description (capture_refusal_view e)) }
+    ensures same { OnErr result (interfaces.new ≡ interfaces.old) }
+{
+    let interface = match CaptureInterface::from_body(byte_order, body) {
+        Ok(interface) => interface,
+        Err(error) => return Err(CaptureError::Body(error)),
+    };
+    if interfaces.is_full() {
+        return Err(CaptureError::TooManyInterfaces);
+    }
+    interfaces.push(interface);
+    Ok(())
+}
+
+/// The packet in the body of a simple packet, which is one of the first interface.
+#[tactic(auto, using(crate::specs::Capture::simple_alone, crate::specs::Capture::simple))]
+fn simple_packet<'a>(
+    byte_order: ByteOrder,
+    interfaces: &[CaptureInterface],
+    body: &'a [u8],
+) -> Result<CapturedPacket<'a>, CaptureError>
+    ensures packet { IfOk result (λ p. IsBody Simple (order_of byte_order) (interfaces_view interfaces.now)
+        body.now (Some (captured_packet_view p)) (interfaces_view interfaces.now)) }
+    ensures refused { IfErr result (λ e. RefusesBody (order_of byte_order) (interfaces_view interfaces.now)
+        body.now Simple (capture_refusal_view e)) }
+{
+    let Some(interface) = interface_at(interfaces, 0) else {
+        return Err(CaptureError::NoInterface(0));
+    };
+    let packet = match SimplePacket::from_body(byte_order, interface.snap_len, body) {
+        Ok(packet) => packet,
+        Err(error) => return Err(CaptureError::Body(error)),
+    };
+    Ok(CapturedPacket {
+        time: None,
+        original_len: packet.original_len,
+        link_type: interface.link_type,
+        fcs_len: interface.fcs_len,
+        packet: packet.packet,
+    })
+}
+
+/// The packet in the body of an enhanced packet, or of an obsolete packet block.
+#[tactic(auto, using(crate::specs::Capture::enhanced, crate::specs::Capture::enhanced_alone))]
+fn enhanced_packet<'a>(
+    byte_order: ByteOrder,
+    interfaces: &[CaptureInterface],
+    is_enhanced: bool,
+    body: &'a [u8],
+) -> Result<CapturedPacket<'a>, CaptureError>
+    ensures packet { IfOk result (λ p. IsBody (Enhanced (if is_enhanced then 4 else 2)) (order_of byte_order)
+        (interfaces_view interfaces.now) body.now (Some (captured_packet_view p)) (interfaces_view interfaces.now)) }
+    ensures refused { IfErr result (λ e. RefusesBody (order_of byte_order) (interfaces_view interfaces.now)
+        body.now (Enhanced (if is_enhanced then 4 else 2)) (capture_refusal_view e)) }
+{
+    let packet = match packet_of_body(byte_order, is_enhanced, body) {
+        Ok(packet) => packet,
+        Err(error) => return Err(CaptureError::Body(error)),
+    };
+    let Some(interface) = interface_at(interfaces, packet.interface) else {
+        return Err(CaptureError::NoInterface(packet.interface));
+    };
+    Ok(CapturedPacket {
+        time: interface.time(packet.time),
+        original_len: packet.original_len,
+        link_type: interface.link_type,
+        fcs_len: first_of(packet.fcs_len(byte_order), interface.fcs_len),
+        packet: packet.packet,
+    })
+}
+
+/// The first of two lengths that is known.
+fn first_of(of_packet: Option<u8>, of_interface: Option<u8>) -> Option<u8>
+    ensures { result ≡ fcs_of of_packet of_interface }
+{
+    match of_packet {
+        Some(len) => Some(len),
+        None => of_interface,
+    }
+}
+
+/// The interface of a number, counted from 0.
+pub(crate) fn interface_at(interfaces: &[CaptureInterface], number: u32) -> Option<CaptureInterface>
+    ensures { MatchOption result
+        (HasNoInterface (interfaces_view interfaces.now) number)
+        (λ i. IsAt (interfaces_view interfaces.now) number (capture_interface_view i)) }
+{
+    let index = number as usize;
+    if index < interfaces.len() {
+        Some(interfaces[index])
+    } else {
+        None
+    }
+}

@@ -1,0 +1,241 @@
+//! A reader of capture files of either format, one unit at a time.
+ghost use Rattle.std.specs.Prelude.{◌≡◌, ◌≢◌, ℕ, ◌<◌, ◌≤◌, ◌↔◌, length, Some, IfSome, IfOk, IfErr, OnErr, IsTrue};
+ghost use Rattle.std.specs.Option.{option_map};
+ghost use Rattle.ether_pcap.specs.FileHeader.{FileHeaderValue, IsFileHeader};
+ghost use Rattle.ether_pcap.specs.Capture.{Expectation, Beginning, Records, Begins, Refuses, required_len};
+ghost use Rattle.ether_pcap.specs.Editing.{EditsUnit, HasEditedPacket, padding_of};
+ghost use Rattle.ether_pcap.specs.Section.{HasSectionType, IsSection, RefusesSection};
+ghost use Rattle.ether_pcap.specs.Views.{file_header_view};
+ghost use Rattle.ether_pcap.specs.PcapngViews.{block_view, section_refusal_view};
+ghost use Rattle.ether_pcap.specs.CaptureViews.{captured_packet_view, capture_refusal_view};
+
+use crate::capture::capture_blocks::{Interfaces, read_block};
+use crate::capture::editing::{edited_block, edited_record};
+use crate::{
+    ByteOrder, CaptureError, CaptureUnit, CapturedPacket, EditedUnit, FileHeader, PcapRecord,
+    PcapngBlock, SectionHeader, Timestamp,
+};
+use arrayvec::ArrayVec;
+use std::marker::Model;
+
+/// What was read of a file.
+#[derive(Clone, Copy)]
+pub(crate) enum Progress {
+    /// Nothing.
+    Nothing,
+    /// The header of a classic file.
+    Classic(FileHeader),
+    /// A section header of a pcapng file, in this byte order.
+    Section(ByteOrder),
+}
+
+/// A reader of capture files of the classic pcap format and of pcapng, one unit at a time.
+///
+/// It keeps what it needs of the file header, or of the section header and the interfaces of the section, and no bytes: a program
+/// can read a file through a buffer of its own. The first bytes say which format it is. The table of interfaces takes 96 KiB.
+///
+/// ```
+/// let file = [
+///     0xA1, 0xB2, 0xC3, 0xD4, 0x00, 0x02, 0x00, 0x04, 0x00, 0x00, 0x00, 0x00, // file header
+///     0x00, 0x00, 0x00, 0x00, 0x00, 0x00, 0xFF, 0xFF, 0x00, 0x00, 0x00, 0x01, //
+///     0x00, 0x00, 0x00, 0x01, 0x00, 0x00, 0x00, 0x02, 0x00, 0x00, 0x00, 0x01, 0x00, 0x00, 0x00, 0x01, // record
+///     0xFF,
+/// ];
+/// let mut reader = CaptureReader::new();
+/// let header = reader.read(&file)?;
+/// assert_eq!(rt; header.len, 24);
+/// assert_eq!(rt; header.packet, None);
+/// let record = reader.read(&file[24..])?;
+/// assert_eq!(rt; record.len, 17);
+/// if let Some(packet) = record.packet {
+///     let time = Timestamp {
+///         seconds: 1,
+///         nanoseconds: 2_000,
+///     };
+///     assert_eq!(rt; packet.time, Some(time));
+///     assert_eq!(rt; packet.packet, [0xFF].as_slice());
+/// }
+/// ```
+#[derive(Drop)]
+pub struct CaptureReader {
+    progress: Progress,
+    interfaces: Interfaces,
+}
+
+impl Model for CaptureReader {
+    ghost use Rattle.ether_pcap.specs.Capture.{Expectation};
+    ghost use Rattle.ether_pcap.specs.CaptureViews.{expectation_of};
+
+    ghost Value = { Expectation };
+
+    ghost view = { λ r. expectation_of r.progress r.interfaces.items };
+}
+
+impl CaptureReader {
+    /// The greatest number of interfaces of a section that is read, 4,096.
+    pub const MAX_INTERFACES: usize = crate::capture::capture_blocks::MAX_INTERFACES;
+
+    /// A reader that has read nothing yet.
+    pub fn new() -> CaptureReader
+        ensures { result ≡ Beginning }
+    {
+        CaptureReader {
+            progress: Progress::Nothing,
+            interfaces: ArrayVec::new(),
+        }
+    }
+
+    /// Tests that a unit was read. If nothing is left to read then, the file has ended where a file may end.
+    pub fn has_begun(&self) -> bool
+        ensures { IsTrue result ↔ (self.now ≢ Beginning) }
+    {
+        !matches!(self.progress, Progress::Nothing)
+    }
+
+    /// Reads the unit at the front of a slice. Bytes after it are not read.
+    ///
+    /// At the beginning a file whose first four bytes are the type of a section header is one of pcapng, and any other a classic
+    /// one. In a section a further section header begins another, which describes interfaces of its own. Blocks of other types than
+    /// interface descriptions, simple packets, enhanced packets and the obsolete packet blocks are units without a packet.
+    ///
+    /// # Errors
+    ///
+    /// The reader is as it was then. If the slice ends within the unit, [`CaptureError::required_len`] says how many bytes it needs at
+    /// least, more than the slice has: the unit can be read again with so many. Otherwise, the file can't be read on.
+    #[inline(always)]
+    #[tactic(auto, using(crate::proofs::CaptureLengths::unit_within, crate::proofs::CaptureLengths::unit_some, crate::proofs::CaptureLengths::required_above))]
+    pub fn read<'a>(&mut self, bytes: &'a [u8]) -> Result<CaptureUnit<'a>, CaptureError>
+        ensures unit { IfOk result (λ u. Begins bytes.now
+            self.old u.len (option_map captured_packet_view u.packet) self.new) }
+        ensures refused { IfErr result (λ e. Refuses bytes.now self.old (capture_refusal_view e)) }
+        ensures same { OnErr result (self.new ≡ self.old) }
+        ensures within { IfOk result (λ u. u.len ≤ length bytes.now) }
+        ensures some { IfOk result (λ u. 0 < u.len) }
+        ensures short { IfErr result (λ e. (n : ℕ)
+            → required_len (capture_refusal_view e) ≡ Some n → length bytes.now < n) }
+    {
+        self.read_unit(bytes)
+    }
+
+    /// The unit of a packet with these captured bytes and this original length in place of its own.
+    ///
+    /// `unit` has exactly the bytes of the unit that this reader read last. The captured and the original length change, and in a block
+    /// also both total lengths and the padding, which is then of zeros. Time, interface and options stay.
+    ///
+    /// Returns `None` for a simple packet, whose block gives no captured length; if there are more than
+    /// [`PcapRecord::MAX_CAPTURED_LEN`] bytes, or the original length has more than 32 bits; and if the block would be longer than
+    /// [`PcapngBlock::MAX_LEN`]. Of a unit that is no packet nothing is claimed.
+    ///
+    /// ```
+    /// let file = [
+    ///     0xA1, 0xB2, 0xC3, 0xD4, 0x00, 0x02, 0x00, 0x04, 0x00, 0x00, 0x00, 0x00, // file header
+    ///     0x00, 0x00, 0x00, 0x00, 0x00, 0x00, 0xFF, 0xFF, 0x00, 0x00, 0x00, 0x01, //
+    ///     0x00, 0x00, 0x00, 0x01, 0x00, 0x00, 0x00, 0x02, 0x00, 0x00, 0x00, 0x03, 0x00, 0x00, 0x00, 0x3C, // record
+    ///     0xAA, 0xBB, 0xCC,
+    /// ];
+    /// let mut reader = CaptureReader::new();
+    /// let header_len = reader.read(&file)?.len;
+    /// let record_len = reader.read(&file[header_len..])?.len;
+    /// let unit = &file[header_len..header_len + record_len];
+    /// let header = [
+    ///     0x00, 0x00, 0x00, 0x01, 0x00, 0x00, 0x00, 0x02, 0x00, 0x00, 0x00, 0x02, 0x00, 0x00, 0x00, 0x3B,
+    /// ];
+    /// let packet = &[0xAA, 0xCC];
+    /// assert_eq!(rt; reader.edit_unit(unit, packet, 59), Some(EditedUnit::Record { header, packet }));
+    /// ```
+    #[tactic(auto, using(crate::proofs::EditPackets::has_edited_packet))]
+    pub fn edit_unit<'a>(
+        &self,
+        unit: &'a [u8],
+        packet: &'a [u8],
+        original_len: u64,
+    ) -> Option<EditedUnit<'a>>
+        ensures edited { EditsUnit self.now unit.now (record { original_len = original_len; packet = packet.now }) result }
+        ensures packet { HasEditedPacket self.now unit.now (record { original_len = original_len; packet = packet.now }) result }
+        ensures padding { IfSome result (λ u. padding_of u ≤ 3) }
+    {
+        if packet.len() > PcapRecord::MAX_CAPTURED_LEN as usize
+            || original_len > u64::from(u32::MAX)
+        {
+            return None;
+        }
+        let original_len = original_len as u32;
+        match self.progress {
+            Progress::Nothing => None,
+            Progress::Classic(header) => edited_record(&header, unit, packet, original_len),
+            Progress::Section(byte_order) => edited_block(byte_order, unit, packet, original_len),
+        }
+    }
+
+    /// The unit at the front of a slice.
+    #[inline(always)]
+    fn read_unit<'a>(&mut self, bytes: &'a [u8]) -> Result<CaptureUnit<'a>, CaptureError>
+        ensures unit { IfOk result (λ u. Begins bytes.now
+            self.old u.len (option_map captured_packet_view u.packet) self.new) }
+        ensures refused { IfErr result (λ e. Refuses bytes.now self.old (capture_refusal_view e)) }
+        ensures same { OnErr result (self.new ≡ self.old) }
+    {
+        if let Progress::Classic(header) = self.progress {
+            return read_record(&header, bytes);
+        }
+        if begins_section(bytes) {
+            let section = match SectionHeader::from_slice(bytes) {
+                Ok(section) => section,
+                Err(error) => return Err(CaptureError::Section(error)),
+            };
+            let byte_order = section.byte_order;
+            let len = section.block.block_len();
+            self.progress = Progress::Section(byte_order);
+            self.interfaces.clear();
+            return Ok(CaptureUnit { len, packet: None });
+        }
+        if let Progress::Section(byte_order) = self.progress {
+            return read_block(byte_order, &mut self.interfaces, bytes);
+        }
+        let header = match FileHeader::from_slice(bytes) {
+            Ok(header) => header,
+            Err(error) => return Err(CaptureError::File(error)),
+        };
+        self.progress = Progress::Classic(header);
+        Ok(CaptureUnit {
+            len: FileHeader::LEN,
+            packet: None,
+        })
+    }
+}
+
+/// Tests that a slice begins with the type of a section header.
+fn begins_section(bytes: &[u8]) -> bool
+    ensures { IsTrue result ↔ HasSectionType bytes.now }
+{
+    bytes.len() >= 4 && ByteOrder::BigEndian.u32_at(bytes, 0) == PcapngBlock::SECTION_HEADER
+}
+
+/// The record at the front of a slice.
+#[tactic(auto, using(crate::specs::Capture::file_record_refused))]
+fn read_record<'a>(header: &FileHeader, bytes: &'a [u8]) -> Result<CaptureUnit<'a>, CaptureError>
+    ensures unit { IfOk result (λ u. Begins bytes.now
+        (Records (file_header_view header.now))
+        u.len
+        (option_map captured_packet_view u.packet)
+        (Records (file_header_view header.now))) }
+    ensures refused { IfErr result (λ e. Refuses bytes.now
+        (Records (file_header_view header.now))
+        (capture_refusal_view e)) }
+{
+    let record = match PcapRecord::from_slice(header, bytes) {
+        Ok(record) => record,
+        Err(error) => return Err(CaptureError::Record(error)),
+    };
+    let time = Timestamp::from_nanoseconds(record.nanoseconds(header.time_unit));
+    Ok(CaptureUnit {
+        len: record.record_len(),
+        packet: Some(CapturedPacket {
+            time: Some(time),
+            original_len: record.original_len,
+            link_type: header.link_type,
+            fcs_len: header.fcs_len,
+            packet: record.packet,
+        }),
+    })
+}
