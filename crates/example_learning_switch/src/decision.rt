@@ -45,23 +45,23 @@ impl Decision {
     /// ];
     /// let trunk = Port { number: 1, kind: PortKind::Trunk };
     /// let access = Port { number: 2, kind: PortKind::Access(VlanId::try_new(10)?) };
-    /// assert_eq!(rt; Decision::Flood.send(trunk, trunk, &mut buffer), None);
-    /// assert_eq!(rt; Decision::Flood.send(trunk, access, &mut buffer), Some(8));
+    /// assert_eq!(rt; Decision::Flood.send(&trunk, &trunk, &mut buffer), None);
+    /// assert_eq!(rt; Decision::Flood.send(&trunk, &access, &mut buffer), Some(8));
     /// assert_eq!(rt; buffer[8..], [
     ///     0x02, 0x00, 0x00, 0x00, 0x00, 0x01, 0x02, 0x00, 0x00, 0x00, 0x00, 0x02, 0x08, 0x06, // Ethernet II
     ///     0x00,
     /// ]);
     /// ```
-    pub fn send(self, from: Port, to: Port, buffer: &mut [u8]) -> Option<usize>
+    pub fn send(self, from: &Port, to: &Port, buffer: &mut [u8]) -> Option<usize>
         ensures sent { IfSome result (λ at. (hs : List Header) (e : Ending)
             → Walk (start_of Start.Ethernet2) (drop 4 buffer.old) hs e
-            → Leaves from.kind to.kind (drop 4 buffer.old) hs e (drop at buffer.new)) }
+            → Leaves from.now.kind to.now.kind (drop 4 buffer.old) hs e (drop at buffer.new)) }
         ensures goes { (hs : List Header) (e : Ending)
             → Walk (start_of Start.Ethernet2) (drop 4 buffer.old) hs e
-            → is_some result ≡ goes_out self from to hs }
+            → is_some result ≡ goes_out self from.now to.now hs }
         ensures kept { IfNone result (buffer.new ≡ buffer.old) }
     {
-        if !self.allows(&from, &to, buffer) {
+        if !self.allows(from, to, buffer) {
             return None;
         }
         leave(from.kind, to.kind, buffer)

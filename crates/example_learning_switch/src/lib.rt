@@ -44,9 +44,9 @@ const CAPACITY: usize = 64;
 /// ];
 /// let (first, second) = (Port { number: 1, kind: PortKind::Trunk }, Port { number: 2, kind: PortKind::Trunk });
 /// let mut switch = Switch::new();
-/// assert_eq!(rt; switch.forward(first, &request), Some(Decision::Flood));
-/// assert_eq!(rt; switch.forward(second, &reply), Some(Decision::Port(1)));
-/// assert_eq!(rt; switch.forward(first, &reply[..17]), None);
+/// assert_eq!(rt; switch.forward(&first, &request), Some(Decision::Flood));
+/// assert_eq!(rt; switch.forward(&second, &reply), Some(Decision::Port(1)));
+/// assert_eq!(rt; switch.forward(&first, &reply[..17]), None);
 /// ```
 #[derive(Debug, Drop)]
 pub struct Switch {
@@ -83,13 +83,13 @@ impl Switch {
     ///
     /// The address of a group is never learned, and if the table is full no other station is: frames to either are
     /// flooded. `None` if the frame isn't switched, or if header or tag is cut short: nothing is learned then.
-    pub fn forward(&mut self, port: Port, frame: &[u8]) -> Option<Decision>
+    pub fn forward(&mut self, port: &Port, frame: &[u8]) -> Option<Decision>
         ensures switched { (hs : List Header) (e : Ending) → Walk (start_of Start.Ethernet2) frame.now hs e
-            → (f : Taken) → taken port hs ≡ Some f → (earlier : List Taken) → Knows self.old earlier
+            → (f : Taken) → taken port.now hs ≡ Some f → (earlier : List Taken) → Knows self.old earlier
             → (result ≡ Some (decision f earlier)) × Knows self.new (f ∷ earlier) }
         ensures other { (hs : List Header) (e : Ending) → Walk (start_of Start.Ethernet2) frame.now hs e
-            → taken port hs ≡ None → (result ≡ None) × (self.new ≡ self.old) }
-        ensures never_back { IfSome result (λ d. includes d port.number port.number ≡ false) }
+            → taken port.now hs ≡ None → (result ≡ None) × (self.new ≡ self.old) }
+        ensures never_back { IfSome result (λ d. includes d port.now.number port.now.number ≡ false) }
     {
         let stations = stations::read(port.kind, frame)?;
         self.learn(port.number, stations.source);

@@ -5,7 +5,7 @@ use Rattle.example_learning_switch.proofs.Switch.forward.Goals as goal
 
 pub returns-clause-switched : goal.returns-clause-switched
 returns-clause-switched c hs e walk f is earlier knows =
-    let n = c.args.port.number in
+    let n = c.args.port.now.number in
     let found = c.in_ok-stations.stations in
     let some : Some (taken_with n found) ≡ Some f =
     ap (option_map (taken_with n)) (c.in_ok-stations.ensures hs e walk) ∙ is in
