@@ -266,7 +266,9 @@ fn ether_types_of_other_headers(rt: HostRuntime) -> Result<(), Fail> {
         0x00, 0x07, 0, 0, 0, 1, 0x91, 0x00, // SecTag: an ether type, four bytes and one
         0, 10, 0x08, 0x00, 0x45,
     ];
-    let untagged = [0xFF, 0xFF, 0xFF, 0xFF, 0xFF, 0xFF, 2, 0, 0, 0, 0, 1, 0x08, 0x06];
+    let untagged = [
+        0xFF, 0xFF, 0xFF, 0xFF, 0xFF, 0xFF, 2, 0, 0, 0, 0, 1, 0x08, 0x06,
+    ];
     let (one, inner) = (
         [tag(10, 0)],
         [
