@@ -193,45 +193,48 @@ fn tag(vlan_id: u8, ether_type: u16) -> LinkExtHeader {
     LinkExtHeader::Vlan(SingleVlanHeader::from_bytes([0, vlan_id, high, low]))
 }
 
+#[test]
+fn the_example(rt: HostRuntime) {
+    let tags = [LinkExtHeader::Vlan(SingleVlanHeader::from_bytes([0x00, 0x64, 0x00, 0x00]))];
+    let packet = PacketBuilder {
+        link: LinkHeader::Ethernet2(Ethernet2Header::default()),
+        link_exts: &tags,
+        content: PacketContent::Payload(EtherType::IPV4, &[0x45]),
+    };
+    let mut target = [0; 19];
+    assert_eq!(rt; packet.write(&mut target), Ok(19));
+    assert_eq!(rt;
+        target[12..],
+        *[0x81, 0x00, 0x00, 0x64, 0x08, 0x00, 0x45].as_slice()
+    );
+    let service_tag = PacketBuilder {
+        link: LinkHeader::Ethernet2(Ethernet2Header {
+            ether_type: EtherType::PROVIDER_BRIDGING,
+            ..Ethernet2Header::default()
+        }),
+        ..packet
+    };
+    assert_eq!(rt; service_tag.write(&mut target), Ok(19));
+    assert_eq!(rt;
+        target[12..],
+        *[0x88, 0xA8, 0x00, 0x64, 0x08, 0x00, 0x45].as_slice()
+    );
+}
+
 /// Ether types that announce a VLAN tag stay before one, and no others.
 #[test]
 fn ether_types_before_tags(rt: HostRuntime) {
-    // after the addresses: each ether type, and the identifiers 10 and 100
+    // the ether types of two headers, and what follows the addresses: with the tags of VLANs 10 and 100
     let examples = [
-        ("both set", 0, 0, [0x88, 0xA8, 0, 10, 0x81, 0x00, 0, 100]),
-        (
-            "customer tags",
-            0x8100,
-            0x8100,
-            [0x81, 0x00, 0, 10, 0x81, 0x00, 0, 100],
-        ),
-        (
-            "service tags",
-            0x88A8,
-            0x88A8,
-            [0x88, 0xA8, 0, 10, 0x88, 0xA8, 0, 100],
-        ),
-        (
-            "the older number",
-            0x9100,
-            0x9100,
-            [0x91, 0x00, 0, 10, 0x91, 0x00, 0, 100],
-        ),
-        (
-            "the second set",
-            0x9100,
-            0x0800,
-            [0x91, 0x00, 0, 10, 0x81, 0x00, 0, 100],
-        ),
-        (
-            "the first set",
-            0x88E5,
-            0x88A8,
-            [0x88, 0xA8, 0, 10, 0x88, 0xA8, 0, 100],
-        ),
+        (0x0000, 0x0000, [0x88, 0xA8, 0, 10, 0x81, 0x00, 0, 100]),
+        (0x8100, 0x8100, [0x81, 0x00, 0, 10, 0x81, 0x00, 0, 100]),
+        (0x88A8, 0x88A8, [0x88, 0xA8, 0, 10, 0x88, 0xA8, 0, 100]),
+        (0x9100, 0x9100, [0x91, 0x00, 0, 10, 0x91, 0x00, 0, 100]),
+        (0x9100, 0x0800, [0x91, 0x00, 0, 10, 0x81, 0x00, 0, 100]),
+        (0x88E5, 0x88A8, [0x88, 0xA8, 0, 10, 0x88, 0xA8, 0, 100]),
     ];
     let addresses = [0xFF, 0xFF, 0xFF, 0xFF, 0xFF, 0xFF, 2, 0, 0, 0, 0, 1];
-    for (name, first, second, tags) in examples {
+    for (first, second, tags) in examples {
         let exts = [tag(10, second), tag(100, 0x9100)];
         let packet = PacketBuilder {
             link: ethernet2(first),
@@ -239,65 +242,70 @@ fn ether_types_before_tags(rt: HostRuntime) {
             content: PacketContent::Payload(EtherType::IPV4, &[0x45]),
         };
         let mut target = [0; 23];
-        assert_eq!(rt; packet.write(&mut target), Ok(23), "{name}");
-        assert_eq!(rt; target[..12], *addresses.as_slice(), "{name}");
-        assert_eq!(rt; target[12..20], *tags.as_slice(), "{name}");
-        assert_eq!(rt; target[20..], *[0x08, 0x00, 0x45].as_slice(), "{name}");
+        assert_eq!(rt; packet.write(&mut target), Ok(23), "{first:#x} {second:#x}");
+        assert_eq!(rt; target[..12], *addresses.as_slice());
+        assert_eq!(rt; target[12..20], *tags.as_slice(), "{first:#x} {second:#x}");
+        assert_eq!(rt; target[20..], *[0x08, 0x00, 0x45].as_slice());
     }
 }
 
-/// A cooked capture and a SecTag keep such an ether type too. Before another header it does not stay.
+/// A service tag after the header of a cooked capture.
 #[test]
-fn ether_types_of_other_headers(rt: HostRuntime) -> Result<(), Fail> {
-    let arp = ArpPacket::from_slice(&TWICE_TAGGED_ARP_REQUEST[22..])?;
-    let capture = LinkHeader::LinuxSll(LinuxSllHeader {
-        protocol_type: LinuxSllProtocolType::EtherType(EtherType::PROVIDER_BRIDGING),
-        packet_type: LinuxSllPacketType::HOST,
-        arp_hrd_type: ArpHardwareId::ETHERNET,
-        sender_address_valid_length: 6,
-        sender_address: [2, 0, 0, 0, 0, 1, 0, 0],
-    });
+fn ether_type_of_a_capture(rt: HostRuntime) {
     let service = [
         0, 0, 0, 1, 0, 6, 2, 0, 0, 0, 0, 1, 0, 0, 0x88, 0xA8, // cooked capture
         0, 10, 0x08, 0x00, 0x45,
     ];
+    let packet = PacketBuilder {
+        link: LinkHeader::LinuxSll(LinuxSllHeader {
+            protocol_type: LinuxSllProtocolType::EtherType(EtherType::PROVIDER_BRIDGING),
+            packet_type: LinuxSllPacketType::HOST,
+            arp_hrd_type: ArpHardwareId::ETHERNET,
+            sender_address_valid_length: 6,
+            sender_address: [2, 0, 0, 0, 0, 1, 0, 0],
+        }),
+        link_exts: &[tag(10, 0)],
+        content: PacketContent::Payload(EtherType::IPV4, &[0x45]),
+    };
+    let mut target = [0; 21];
+    assert_eq!(rt; packet.write(&mut target), Ok(21));
+    assert_eq!(rt; target, service);
+}
+
+/// A SecTag keeps 0x9100 before a VLAN tag. Ethernet II before a SecTag does not keep 0x8100.
+#[test]
+fn ether_type_of_a_sec_tag(rt: HostRuntime) {
     let secured = [
         0xFF, 0xFF, 0xFF, 0xFF, 0xFF, 0xFF, 2, 0, 0, 0, 0, 1, 0x88, 0xE5, // Ethernet II
         0x00, 0x07, 0, 0, 0, 1, 0x91, 0x00, // SecTag: an ether type, four bytes and one
         0, 10, 0x08, 0x00, 0x45,
     ];
-    let untagged = [
-        0xFF, 0xFF, 0xFF, 0xFF, 0xFF, 0xFF, 2, 0, 0, 0, 0, 1, 0x08, 0x06,
+    let exts = [
+        macsec(MacsecPType::Unmodified(EtherType(0x9100))),
+        tag(10, 0),
     ];
-    let (one, inner) = (
-        [tag(10, 0)],
-        [
-            macsec(MacsecPType::Unmodified(EtherType(0x9100))),
-            tag(10, 0),
-        ],
-    );
-    let mut target = [0; 42];
-    let packet = PacketBuilder {
-        link: capture,
-        link_exts: &one,
-        content: PacketContent::Payload(EtherType::IPV4, &[0x45]),
-    };
-    assert_eq!(rt; packet.write(&mut target), Ok(21));
-    assert_eq!(rt; target[..21], *service.as_slice());
     let packet = PacketBuilder {
         link: ethernet2(0x8100),
-        link_exts: &inner,
+        link_exts: &exts,
         content: PacketContent::Payload(EtherType::IPV4, &[0x45]),
     };
+    let mut target = [0; 27];
     assert_eq!(rt; packet.write(&mut target), Ok(27));
-    assert_eq!(rt; target[..27], *secured.as_slice());
+    assert_eq!(rt; target, secured);
+}
+
+/// Before an ARP packet 0x8100 does not stay.
+#[test]
+fn ether_type_before_arp(rt: HostRuntime) -> Result<(), Fail> {
+    let arp = ArpPacket::from_slice(&TWICE_TAGGED_ARP_REQUEST[22..])?;
     let packet = PacketBuilder {
         link: ethernet2(0x8100),
         link_exts: &[],
         content: PacketContent::Arp(&arp),
     };
+    let mut target = [0; 42];
     assert_eq!(rt; packet.write(&mut target), Ok(42));
-    assert_eq!(rt; target[..14], *untagged.as_slice());
+    assert_eq!(rt; target[12..22], TWICE_TAGGED_ARP_REQUEST[20..30]);
     Ok(())
 }
 
