@@ -30,7 +30,8 @@ typed_never l hs error (hardware_type s later parts other) = absurd cc
 pub push_never : (buffer : List ℕ) (vid : ℕ) (hs : List Header) (s : Stations) (error : TagError) → 4 ≤ length buffer
     → stations_of (Access vid) hs ≡ Some s → RefusesPush buffer hs 0x8100 error → ⊥
 push_never buffer vid (headers.Ethernet2 l ∷ hs) s error room is (pushes.other_tpid none) = absurd cc
-push_never buffer vid (headers.Ethernet2 l ∷ hs) s error room is (pushes.no_room tpid short) = omega (arith, room, short)
+push_never buffer vid (headers.Ethernet2 l ∷ hs) s error room is (pushes.no_room tpid short) =
+    omega (arith, room, short)
 push_never buffer vid (headers.Ethernet2 l ∷ hs) s error room is (pushes.link e tpid long r) = typed_never l hs e r
 push_never buffer vid [] s error room is r = absurd cc
 push_never buffer vid (headers.Ethernet2Fcs l ∷ hs) s error room is r = absurd cc

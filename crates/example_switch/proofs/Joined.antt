@@ -1,5 +1,5 @@
 -- Lines, one after the other.
-use Rattle.std.proofs.Common.{◌≡◌, ℕ, suc, ◌+◌, ◌<◌, List, [], ◌∷◌, ◌++◌, length, drop, slice_index_or, Result, Ok, Err, refl, sym, ap, subst, ◌∙◌, append_assoc, arith}
+use Rattle.std.proofs.Common.{◌≡◌, ℕ, suc, ◌+◌, ◌<◌, List, ◌∷◌, ◌++◌, length, drop, slice_index_or, Result, Ok, Err, sym, subst, ◌∙◌, arith}
 use Rattle.std.specs.Prelude.{IfOk}
 use Rattle.std.proofs.Math.Seq.{drop-cons}
 use Rattle.etherparse.specs.Header.{Header}
@@ -14,8 +14,8 @@ if_ok (Ok x) P Q f p = f x p
 if_ok (Err e) P Q f p = tt
 
 -- the lines of the ports from an index on, with one port more
-pub one_more : (d : Decision) (from : Port) (frame : List ℕ) (hs : List Header) (e : Ending) (kinds : List PortKind) (i : ℕ)
-    (kind : PortKind) (text later : List ℕ)
+pub one_more : (d : Decision) (from : Port) (frame : List ℕ) (hs : List Header) (e : Ending) (kinds : List PortKind)
+    (i : ℕ) (kind : PortKind) (text later : List ℕ)
     → i < length kinds → kind ≡ slice_index_or kinds i kind → HasLine d from (port_at (i + 1) kind) frame hs e text
     → HasLines d from frame hs e (i + 1 + 1) (drop (i + 1) kinds) later
     → HasLines d from frame hs e (i + 1) (drop i kinds) (text ++ later)

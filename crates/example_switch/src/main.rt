@@ -6,47 +6,36 @@
 #![tactic(auto)]
 
 mod lines;
+mod reading;
 
 use etherparse::VlanId;
-use example_learning_switch::{Port, PortKind, Switch};
+use example_learning_switch::{PortKind, Switch};
+use lines::frame_lines;
+use reading::read_line;
 use std::env;
 
-/// Why the program ends early.
+/// Why the program does not begin.
 #[derive(Debug, Drop, thiserror::Error)]
-enum SwitchError {
-    /// An argument is no port, or there are more than 65,535.
+enum PortError {
+    /// An argument is no port.
     #[error("a port is `trunk` or a VLAN identifier")]
-    Port,
-    /// A line is none of a frame, or names no port.
-    #[error("a line is the number of a port, a space, and a frame in hexadecimal digits")]
-    Line,
+    Argument,
+    /// There are more than 65,535.
+    #[error("there are at most 65,535 ports")]
+    Count,
 }
 
 /// The port that an argument names.
-fn kind_of(argument: &str) -> Result<PortKind, SwitchError> {
+fn kind_of(argument: &str) -> Result<PortKind, PortError> {
     if argument == "trunk" {
         return Ok(PortKind::Trunk);
     }
     match argument.parse::<u16>() {
         Ok(number) => match VlanId::try_new(number) {
             Ok(vlan_id) => Ok(PortKind::Access(vlan_id)),
-            Err(_) => Err(SwitchError::Port),
+            Err(_) => Err(PortError::Argument),
         },
-        Err(_) => Err(SwitchError::Port),
-    }
-}
-
-/// The port that a number names.
-fn port_of(ports: &[PortKind], number: &str) -> Result<Port, SwitchError> {
-    let Ok(number) = number.parse::<u16>() else {
-        return Err(SwitchError::Line);
-    };
-    match ports.get(usize::from(number).wrapping_sub(1)) {
-        Some(kind) => Ok(Port {
-            number,
-            kind: *kind,
-        }),
-        None => Err(SwitchError::Line),
+        Err(_) => Err(PortError::Argument),
     }
 }
 
@@ -57,23 +46,14 @@ fn main(rt: HostRuntime) -> anyhow::Result<()> {
         ports.push(kind_of(argument.as_str())?)?;
     }
     if ports.len() >= 1 << 16 {
-        return Err(SwitchError::Port.into());
+        return Err(PortError::Count.into());
     }
     let mut switch = Switch::new();
     for line in rt.lines(alloc) {
         let line = line?;
-        let Some((number, digits)) = line.as_str().split_once(' ') else {
-            return Err(SwitchError::Line.into());
-        };
-        let port = port_of(ports.as_slice(), number)?;
-        let frame = hex::decode(alloc, digits)?;
-        let text = lines::frame_lines(
-            alloc,
-            &mut switch,
-            ports.as_slice(),
-            &port,
-            frame.as_slice(),
-        )?;
+        let received = read_line(alloc, ports.as_slice(), line.as_str())?;
+        let frame = received.frame.as_slice();
+        let text = frame_lines(alloc, &mut switch, ports.as_slice(), &received.port, frame)?;
         print!(rt; "{text}")?;
     }
     Ok(())

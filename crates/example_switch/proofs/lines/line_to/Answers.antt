@@ -1,4 +1,4 @@
-use Rattle.std.proofs.Common.{rules, ◌≡◌, List, ℕ, drop, refl, sym, subst, ap, ◌∙◌}
+use Rattle.std.proofs.Common.{rules, ◌≡◌, List, ℕ, drop, sym, subst}
 use Rattle.std.specs.Prelude.{string_bytes}
 use Rattle.ether_peel.specs.Grammar.Stack.{Walk}
 use Rattle.ether_peel.specs.Walker.Start.{start_of}

@@ -1,5 +1,4 @@
-use Rattle.std.proofs.Common.{◌≡◌, List, ℕ, drop, true, false, sym, subst, ap, ◌∙◌}
-use Rattle.std.specs.Prelude.{string_bytes}
+use Rattle.std.proofs.Common.{drop, sym, subst, ap, ◌∙◌}
 use Rattle.example_switch.specs.Lines.{line_of, HasLine, sent, passed}
 use Rattle.example_switch.proofs.Joined.{if_ok}
 use Rattle.example_switch.proofs.lines.send_line.Goals as goal
