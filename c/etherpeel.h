@@ -49,8 +49,8 @@
 
 /* The version of this interface. The first number changes if a struct, a number or a call changes
  * its meaning, the second if some are added. */
-#define ETHERPEEL_VERSION_MAJOR 2
-#define ETHERPEEL_VERSION_MINOR 2
+#define ETHERPEEL_VERSION_MAJOR 3
+#define ETHERPEEL_VERSION_MINOR 0
 #define ETHERPEEL_VERSION (ETHERPEEL_VERSION_MAJOR * 0x10000 + ETHERPEEL_VERSION_MINOR * 0x100)
 
 #ifdef __cplusplus

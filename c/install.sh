@@ -19,9 +19,9 @@ fi
 to=${DESTDIR:-}$prefix
 install -D -m 644 "$here/etherpeel.h" "$to/include/etherpeel.h"
 install -D -m 644 "$archive" "$to/lib/libetherpeel.a"
-sh "$here/link.sh" "${CC:-cc}" "$archive" "$to/lib/libetherpeel.so.2.2.0"
-ln -sf libetherpeel.so.2.2.0 "$to/lib/libetherpeel.so.2"
-ln -sf libetherpeel.so.2 "$to/lib/libetherpeel.so"
+sh "$here/link.sh" "${CC:-cc}" "$archive" "$to/lib/libetherpeel.so.3.0.0"
+ln -sf libetherpeel.so.3.0.0 "$to/lib/libetherpeel.so.3"
+ln -sf libetherpeel.so.3 "$to/lib/libetherpeel.so"
 mkdir -p "$to/lib/pkgconfig"
 sed "s|@PREFIX@|$prefix|" "$here/etherpeel.pc.in" > "$to/lib/pkgconfig/etherpeel.pc"
 install -D -m 644 "$here/etherpeel.3" "$to/share/man/man3/etherpeel.3"

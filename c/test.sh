@@ -118,13 +118,13 @@ callers_in_c() {
         done
     done
     run "The header with others" sh tests/beside.sh "$cc" "$cxx" "$library" "$work"
-    run "The shared library" sh tests/shared.sh "$cc" "$library" "$work/libetherpeel.so.2" "$work"
+    run "The shared library" sh tests/shared.sh "$cc" "$library" "$work/libetherpeel.so.3" "$work"
 }
 
 callers_in_python() {
     mkdir "$work/package"
     cp -r python/etherpeel "$work/package"
-    cp "$work/libetherpeel.so.2" "$work/package/etherpeel"
+    cp "$work/libetherpeel.so.3" "$work/package/etherpeel"
     run "Python, $python" "$python" tests/tests.py "$work/package"
     scapy=$(python_with scapy "$python" /usr/bin/python3)
     if [ -n "$scapy" ]; then
@@ -134,7 +134,7 @@ callers_in_python() {
     fi
 }
 
-sh link.sh "${cc:-$kit_linker}" "$library" "$work/libetherpeel.so.2"
+sh link.sh "${cc:-$kit_linker}" "$library" "$work/libetherpeel.so.3"
 if [ -n "$cc" ]; then callers_in_c; fi
 if [ -n "$python" ]; then callers_in_python; fi
 if [ -n "$cc" ] && [ -n "$python" ]; then

@@ -11,7 +11,7 @@ import zipfile
 
 HERE = os.path.dirname(os.path.abspath(__file__))
 C = os.path.dirname(HERE)
-NAME, VERSION, TAG = "etherpeel", "2.2.0", "py3-none-linux_x86_64"
+NAME, VERSION, TAG = "etherpeel", "3.0.0", "py3-none-linux_x86_64"
 INFO = f"{NAME}-{VERSION}.dist-info"
 METADATA = f"""Metadata-Version: 2.1
 Name: {NAME}
@@ -32,7 +32,7 @@ def shared_library(folder):
     archive = os.environ.get("ETHERPEEL_LIBRARY", f"{os.path.dirname(C)}/crates/ether_c/out/libether_c.a")
     if not os.path.exists(archive):
         raise SystemExit(f"{archive} is missing: run `rt lib` in crates/ether_c first")
-    path = os.path.join(folder, "libetherpeel.so.2")
+    path = os.path.join(folder, "libetherpeel.so.3")
     subprocess.run(["sh", f"{C}/link.sh", os.environ.get("CC", "cc"), archive, path], check=True)
     with open(path, "rb") as file:
         content = file.read()
@@ -41,7 +41,7 @@ def shared_library(folder):
 
 
 def build_wheel(wheel_directory, config_settings=None, metadata_directory=None):
-    files = {f"{NAME}/libetherpeel.so.2": shared_library(wheel_directory)}
+    files = {f"{NAME}/libetherpeel.so.3": shared_library(wheel_directory)}
     for name in sorted(os.listdir(f"{HERE}/{NAME}")):
         if name.endswith(".py") or name == "py.typed":
             with open(f"{HERE}/{NAME}/{name}", "rb") as file:

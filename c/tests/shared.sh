@@ -14,7 +14,7 @@ declared=$(sed -nE 's/^(uint32_t|size_t) (etherpeel_[a-z0-9_]+)\(.*/\2/p' etherp
 if command -v nm > "$work/shared.log" && command -v readelf > "$work/shared.log"; then
     exported=$(nm -D --defined-only "$shared" | awk '$2 != "A" { sub(/@.*/, "", $3); print $3 }' | sort)
     check "exported names" "$exported" "$declared"
-    check "soname" "$(readelf -d "$shared" | sed -n 's/.*SONAME.*\[\(.*\)\]/\1/p')" libetherpeel.so.2
+    check "soname" "$(readelf -d "$shared" | sed -n 's/.*SONAME.*\[\(.*\)\]/\1/p')" libetherpeel.so.3
     check "names that the static one needs" "$(nm -u "$library" | awk '$1 == "U" { printf "%s ", $2 }')" '__udivti3 memcpy memmove memset '
     check "names that the shared one needs" "$(nm -D -u "$shared" | awk '$1 == "U" { sub(/@.*/, "", $2); printf "%s ", $2 }')" 'memcpy memmove memset '
 else

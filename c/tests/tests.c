@@ -92,7 +92,7 @@ static void layout(void) {
 /* ---- the library: its version, the sizes of its structs, link types ---- */
 
 static void library(void) {
-    CHECK(ETHERPEEL_VERSION == 0x020200 && etherpeel_version() == 0x020200 && etherpeel_fits());
+    CHECK(ETHERPEEL_VERSION == 0x030000 && etherpeel_version() == 0x030000 && etherpeel_fits());
     CHECK(etherpeel_sizeof(ETHERPEEL_STRUCT_FAULT) == 56 &&
           etherpeel_sizeof(ETHERPEEL_STRUCT_UNIT) == 144);
     CHECK(etherpeel_sizeof(0) == 0 && etherpeel_sizeof(99) == 0 && etherpeel_sizeof(~0u) == 0);

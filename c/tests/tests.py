@@ -20,7 +20,7 @@ def layout():
     check("sizes", sizes, [56, 88, 72, 16, 16, 6, 24, 40, 144, 824, 40, 16, 16, 32, 32, 32, 16])
     check("offsets", [getattr(_library.Unit, f).offset for f in
                       ("kind", "closed", "ethernet2", "linux_sll", "vlan", "macsec", "arp")], [32, 36, 38, 54, 70, 80, 104])
-    check("version", _library.lib.etherpeel_version(), 0x020200)
+    check("version", _library.lib.etherpeel_version(), 0x030000)
     with open(os.path.join(os.path.dirname(os.path.abspath(__file__)), "..", "etherpeel.h"), encoding="ascii") as file:
         header = file.read()
     for kind, enum, prefix in ((Status, "status", ""), (Start, "start", "START_"), (RestKind, "rest_kind", "REST_"),

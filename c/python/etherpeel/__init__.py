@@ -35,7 +35,7 @@ __all__ = [
     "select", "set_tpid", "set_vlan_id", "set_vlan_tag", "start_of_link_type", "summary", "walk", "write_back",
     "write_back_into",
 ]
-__version__ = "2.2.0"
+__version__ = "3.0.0"
 
 # ---- calls
 

@@ -4,7 +4,7 @@ import os
 from enum import IntEnum
 
 u8, u16, u32, u64, size = C.c_uint8, C.c_uint16, C.c_uint32, C.c_uint64, C.c_size_t
-MAJOR, VERSION = 2, 0x020200
+MAJOR, VERSION = 3, 0x030000
 
 
 class Status(IntEnum):
@@ -129,7 +129,7 @@ def calls(lib):
     return {name: getattr(lib, "etherpeel_" + name) for name in [*names, "packet"]}
 
 
-lib = load(os.path.join(os.path.dirname(os.path.abspath(__file__)), "libetherpeel.so.2"))
+lib = load(os.path.join(os.path.dirname(os.path.abspath(__file__)), "libetherpeel.so.3"))
 CALLS = calls(lib)
 
 # ---- words and results of calls

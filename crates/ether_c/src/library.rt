@@ -11,9 +11,9 @@ use crate::{
 /// The version of the library: 0x10000 times the first number, 0x100 times the second, and the third.
 #[unsafe(no_mangle)]
 pub extern "C" fn etherpeel_version() -> u32
-    ensures { result ≡ version_number 2 2 0 }
+    ensures { result ≡ version_number 3 0 0 }
 {
-    0x02_02_00
+    0x03_00_00
 }
 
 /// The size in bytes of the struct with a number, 0 if none has it.
