@@ -16,7 +16,7 @@ from dataclasses import dataclass
 from programs import count, run, run_in_pieces, run_until_a_fault, on_a_full_disk
 
 FAILED = ("ether_capture: input or output failed\n", 4)
-USAGE = "usage: ether_capture [--plain | --write [--cut-to-headers]] [--select EXPR] [FILE]\n"
+USAGE = "usage: ether_capture [--plain | --write [--cut-to-headers | --pop-vlan]] [--select EXPR] [FILE]\n"
 
 
 def joined(*parts):
@@ -324,6 +324,8 @@ WRONG = [
     ("a copy after a file", ["one", "--write"]),
     ("headers without a copy", ["--cut-to-headers"]),
     ("headers twice", ["--write", "--cut-to-headers", "--cut-to-headers"]),
+    ("a tag less without a copy", ["--pop-vlan"]),
+    ("two edits", ["--write", "--pop-vlan", "--cut-to-headers"]),
     ("help and a copy", ["--write", "--help"]),
     ("the version and a file", ["--version", "one"]),
     ("five words", ["--plain", "--select", "arp", "one", "two"]),
@@ -398,6 +400,43 @@ COPIES += [
     Copy("one that is left out", [CUT, "--select", "refused"], NO_PACKETS + LONG_SIMPLE + CUT_PACKET, NO_PACKETS + CUT_PACKET),
 ]
 
+# The same captures without the VLAN tag after the header of a link. The second tag of a frame that breaks off within it then is cut short.
+POP = "--pop-vlan"
+POPPED_CLASSIC = CLASSIC[:24] + joined(
+    "6553f100 0001e240 0000000f 00000038", "ffffffffffff 3aeeb62ff6d7 8100 00",
+    "6553f101 00000005 0000002a 0000002a", "ffffffffffff 3aeeb62ff6d7 0800", "4500001c00010000400100000a0900020a0900010800f7fd00010001")
+TAGGED_WITH_FCS = WITH_FCS[:24] + joined(
+    "01000000 02000000 18000000 18000000", "020000000001 020000000002 8100 0005 88b5 0102 aabbccdd",
+    "01000000 ffc99a3b 16000000 18000000", "020000000001 020000000002 8100 0005 88b5 0102 aabb")
+POPPED_WITH_FCS = WITH_FCS[:24] + joined(
+    "01000000 02000000 14000000 14000000", "020000000001 020000000002 88b5 0102 aabbccdd",
+    "01000000 ffc99a3b 12000000 14000000", "020000000001 020000000002 88b5 0102 aabb")
+POPPED_LONG_PACKET = SECTION_HEADER + ETHERNET + joined(
+    "06000000 48000000 00000000 240a0600 40222018 0f000000 2a000000 ffffffffffff 3aeeb62ff6d7 0800 45 00", OPTIONS, "48000000")
+TAGGED_COOKED = NO_PACKETS + joined(
+    "06000000 38000000 01000000 fe9c9717 15cd853d 15000000 15000000", "0004 0001 0006 0200000000010000 8100 b123 0800 45 000000 38000000")
+POPPED_COOKED = NO_PACKETS + joined(
+    "06000000 34000000 01000000 fe9c9717 15cd853d 11000000 11000000", "0004 0001 0006 0200000000010000 0800 45 000000 34000000")
+TAGGED_OBSOLETE = SECTION_HEADER + ETHERNET + joined(
+    "02000000 34000000 0000 0007 240a0600 40222018 12000000 12000000 ffffffffffff 3aeeb62ff6d7 88a8 b123 0800 0000 34000000")
+POPPED_OBSOLETE = SECTION_HEADER + ETHERNET + joined(
+    "02000000 30000000 0000 0007 240a0600 40222018 0e000000 0e000000 ffffffffffff 3aeeb62ff6d7 0800 0000 30000000")
+BEFORE_SIMPLE = SECTIONS[:SECTIONS.index(SIMPLE)]
+NOT_EDITED = "This packet can't be edited: its block has no number of captured bytes, or it would be too long.\n"
+COPIES += [
+    Copy("a tag less in a classic file", [POP], CLASSIC, POPPED_CLASSIC),
+    Copy("a tag less in the packets that match", [POP, "--select", "vlan 291"], CLASSIC, CLASSIC[:24] + POPPED_CLASSIC[55:]),
+    Copy("a tag less in frames with a check sequence", [POP], TAGGED_WITH_FCS, POPPED_WITH_FCS),
+    Copy("frames that have no tag", [POP], WITH_FCS, WITH_FCS),
+    Copy("a tag less in a packet with options", [POP], LONG_PACKET, POPPED_LONG_PACKET),
+    Copy("a tag less in a cooked capture", [POP], TAGGED_COOKED, POPPED_COOKED),
+    Copy("a tag less in an obsolete packet block", [POP], TAGGED_OBSOLETE, POPPED_OBSOLETE),
+    Copy("cooked capture v2 stays", [POP], cooked("8100 0000 00000003 0001 04 06 0200000000010000 b123 0800 45"),
+         cooked("8100 0000 00000003 0001 04 06 0200000000010000 b123 0800 45")),
+    Copy("a tag of a simple packet", [POP], SECTIONS, BEFORE_SIMPLE, f"byte {len(BEFORE_SIMPLE)}: {NOT_EDITED}", 3),
+    Copy("a simple packet that is left out", [POP, "--select", "not vlan 291"], SECTIONS, BEFORE_SIMPLE + SECOND_SECTION),
+]
+
 
 def copied(program, words, capture, **how):
     """What the program writes, what it says on standard error, and its status."""
@@ -426,7 +465,8 @@ def copies(program):
         if it.words[:1] == ["--select"]:
             tried.append((f"a copy after its filter: {it.name}", copied(program, [*it.words, "--write"], it.capture), wanted))
         if it.copy:
-            tried.append((f"a copy of it: {it.name}", copied(program, ["--write", *it.words], it.copy), (it.copy, "", 0)))
+            words = [] if POP in it.words else it.words  # with another tag less, or with no match, it is another copy
+            tried.append((f"a copy of it: {it.name}", copied(program, ["--write", *words], it.copy), (it.copy, "", 0)))
         if len(it.capture) < 500 and it.status == 0:
             for step in (1, 7, 59):
                 found = copied_in_pieces(program, ["--write", *it.words], it.capture, step)

@@ -5,8 +5,8 @@ use Rattle.std.specs.Option.{option_map, is_none}
 use Rattle.std.specs.Vec.Iter.{into_iter_steps}
 use Rattle.std.specs.declared.vec.IntoIter.{IntoIter}
 use Rattle.ether_text.proofs.ArgumentsLemmas.{words_end}
-use Rattle.ether_capture.specs.Options.{AskedValue, nothing_asked, Asks, no_word, file, plain, write, cut, select, IsName, IsWord, AskSame, words_left, clashes, IsRequestOf, OptionsAsk, lines, copy, RequestValue, NamesRequest, help, version, options, RefusesAsked, RefusesOptions, RefusesWords, request_view}
-use Rattle.ether_content.specs.Editing.{CutToHeaders}
+use Rattle.ether_capture.specs.Options.{AskedValue, nothing_asked, Asks, no_word, file, plain, write, cut, pop, select, IsName, IsWord, AskSame, words_left, clashes, IsRequestOf, OptionsAsk, lines, copy, RequestValue, NamesRequest, help, version, options, RefusesAsked, RefusesOptions, RefusesWords, request_view}
+use Rattle.ether_content.specs.Editing.{CutToHeaders, PopVlan}
 use Rattle.ether_capture.specs.declared.options.Request.{Request}
 use Rattle.ether_capture.specs.declared.options.RequestError.{RequestError}
 use Rattle.ether_capture.specs.declared.options.RequestError.TheVariants as reasons
@@ -15,12 +15,18 @@ use Rattle.ether_capture.specs.declared.options.Word.TheVariants as kinds
 
 -- ---- one word
 
--- the letter after two hyphens tells options apart
+-- letters after two hyphens tell options apart
 abbrev third : List ℕ → ℕ
-third [] = 0
-third (a ∷ []) = 0
-third (a ∷ b ∷ []) = 0
 third (a ∷ b ∷ c ∷ bytes) = c
+third _ = 0
+
+abbrev fourth : List ℕ → ℕ
+fourth (a ∷ b ∷ c ∷ d ∷ bytes) = d
+fourth _ = 0
+
+abbrev fifth : List ℕ → ℕ
+fifth (a ∷ b ∷ c ∷ d ∷ e ∷ bytes) = e
+fifth _ = 0
 
 -- what follows a word, by its kind
 abbrev pub Follows : Word → AskedValue → (word : List ℕ) → (words : List (List ℕ)) → AskedValue → Type 0
@@ -28,6 +34,7 @@ Follows kinds.Name a word words c = (words ≡ []) × (c ≡ record a { file = S
 Follows kinds.Plain a word words c = (a.plain ≡ false) × Asks (record a { plain = true }) words c
 Follows kinds.Write a word words c = (a.write ≡ false) × Asks (record a { write = true }) words c
 Follows kinds.Cut a word words c = (a.edit ≡ None) × Asks (record a { edit = Some CutToHeaders }) words c
+Follows kinds.Pop a word words c = (a.edit ≡ None) × Asks (record a { edit = Some PopVlan }) words c
 Follows kinds.Select a word words c =
     (text : List ℕ) × (others : List (List ℕ)) × (words ≡ text ∷ others) × (a.text ≡ None)
     × Asks (record a { text = Some text }) others c
@@ -44,58 +51,84 @@ follows_file kinds.Name a name named is = (refl, refl)
 follows_file kinds.Plain a name named is = absurd (no_hyphen name (codes "-plain") named is)
 follows_file kinds.Write a name named is = absurd (no_hyphen name (codes "-write") named is)
 follows_file kinds.Cut a name named is = absurd (no_hyphen name (codes "-cut-to-headers") named is)
+follows_file kinds.Pop a name named is = absurd (no_hyphen name (codes "-pop-vlan") named is)
 follows_file kinds.Select a name named is = absurd (no_hyphen name (codes "-select") named is)
 follows_file kinds.Help a name named is = absurd (no_hyphen name (codes "-help") named is)
 follows_file kinds.Version a name named is = absurd (no_hyphen name (codes "-version") named is)
 follows_file kinds.Unknown a name named is = absurd (is.0 named)
 
-differ : (m n : ℕ) (v w : List ℕ) → third v ≡ m → third w ≡ n → (m ≡ n → ⊥) → v ≡ w → ⊥
-differ m n v w e f other same = other (sym e ∙ ap third same ∙ f)
+differ : (letter : List ℕ → ℕ) (m n : ℕ) (v w : List ℕ) → letter v ≡ m → letter w ≡ n → (m ≡ n → ⊥) → v ≡ w → ⊥
+differ letter m n v w e f other same = other (sym e ∙ ap letter same ∙ f)
 
 follows_plain : (kind : Word) (a c : AskedValue) (words : List (List ℕ)) → IsWord (codes "--plain") kind
-    → (a.plain ≡ false) × Asks (record a { plain = true }) words c → Follows kind a (codes "--plain") words c
+    → (a.plain ≡ false) × Asks (record a { plain = true }) words c
+    → Follows kind a (codes "--plain") words c
 follows_plain kinds.Name a c words is rest = absurd (is refl)
 follows_plain kinds.Plain a c words is rest = rest
-follows_plain kinds.Write a c words is rest = absurd (differ 112 119 _ _ refl refl (λ e. omega (arith, e)) is)
-follows_plain kinds.Cut a c words is rest = absurd (differ 112 99 _ _ refl refl (λ e. omega (arith, e)) is)
-follows_plain kinds.Select a c words is rest = absurd (differ 112 115 _ _ refl refl (λ e. omega (arith, e)) is)
-follows_plain kinds.Help a c words is rest = absurd (differ 112 104 _ _ refl refl (λ e. omega (arith, e)) is)
-follows_plain kinds.Version a c words is rest = absurd (differ 112 118 _ _ refl refl (λ e. omega (arith, e)) is)
+follows_plain kinds.Write a c words is rest = absurd (differ third 112 119 _ _ refl refl (λ e. omega (arith, e)) is)
+follows_plain kinds.Cut a c words is rest = absurd (differ third 112 99 _ _ refl refl (λ e. omega (arith, e)) is)
+follows_plain kinds.Pop a c words is rest = absurd (differ fourth 108 111 _ _ refl refl (λ e. omega (arith, e)) is)
+follows_plain kinds.Select a c words is rest = absurd (differ third 112 115 _ _ refl refl (λ e. omega (arith, e)) is)
+follows_plain kinds.Help a c words is rest = absurd (differ third 112 104 _ _ refl refl (λ e. omega (arith, e)) is)
+follows_plain kinds.Version a c words is rest = absurd (differ third 112 118 _ _ refl refl (λ e. omega (arith, e)) is)
 follows_plain kinds.Unknown a c words is rest = absurd (is.1 refl)
 
 follows_write : (kind : Word) (a c : AskedValue) (words : List (List ℕ)) → IsWord (codes "--write") kind
-    → (a.write ≡ false) × Asks (record a { write = true }) words c → Follows kind a (codes "--write") words c
+    → (a.write ≡ false) × Asks (record a { write = true }) words c
+    → Follows kind a (codes "--write") words c
 follows_write kinds.Name a c words is rest = absurd (is refl)
-follows_write kinds.Plain a c words is rest = absurd (differ 119 112 _ _ refl refl (λ e. omega (arith, e)) is)
+follows_write kinds.Plain a c words is rest = absurd (differ third 119 112 _ _ refl refl (λ e. omega (arith, e)) is)
 follows_write kinds.Write a c words is rest = rest
-follows_write kinds.Cut a c words is rest = absurd (differ 119 99 _ _ refl refl (λ e. omega (arith, e)) is)
-follows_write kinds.Select a c words is rest = absurd (differ 119 115 _ _ refl refl (λ e. omega (arith, e)) is)
-follows_write kinds.Help a c words is rest = absurd (differ 119 104 _ _ refl refl (λ e. omega (arith, e)) is)
-follows_write kinds.Version a c words is rest = absurd (differ 119 118 _ _ refl refl (λ e. omega (arith, e)) is)
+follows_write kinds.Cut a c words is rest = absurd (differ third 119 99 _ _ refl refl (λ e. omega (arith, e)) is)
+follows_write kinds.Pop a c words is rest = absurd (differ third 119 112 _ _ refl refl (λ e. omega (arith, e)) is)
+follows_write kinds.Select a c words is rest = absurd (differ third 119 115 _ _ refl refl (λ e. omega (arith, e)) is)
+follows_write kinds.Help a c words is rest = absurd (differ third 119 104 _ _ refl refl (λ e. omega (arith, e)) is)
+follows_write kinds.Version a c words is rest = absurd (differ third 119 118 _ _ refl refl (λ e. omega (arith, e)) is)
 follows_write kinds.Unknown a c words is rest = absurd (is.2 refl)
 
 follows_cut : (kind : Word) (a c : AskedValue) (words : List (List ℕ)) → IsWord (codes "--cut-to-headers") kind
-    → (a.edit ≡ None) × Asks (record a { edit = Some CutToHeaders }) words c → Follows kind a (codes "--cut-to-headers") words c
+    → (a.edit ≡ None) × Asks (record a { edit = Some CutToHeaders }) words c
+    → Follows kind a (codes "--cut-to-headers") words c
 follows_cut kinds.Name a c words is rest = absurd (is refl)
-follows_cut kinds.Plain a c words is rest = absurd (differ 99 112 _ _ refl refl (λ e. omega (arith, e)) is)
-follows_cut kinds.Write a c words is rest = absurd (differ 99 119 _ _ refl refl (λ e. omega (arith, e)) is)
+follows_cut kinds.Plain a c words is rest = absurd (differ third 99 112 _ _ refl refl (λ e. omega (arith, e)) is)
+follows_cut kinds.Write a c words is rest = absurd (differ third 99 119 _ _ refl refl (λ e. omega (arith, e)) is)
 follows_cut kinds.Cut a c words is rest = rest
-follows_cut kinds.Select a c words is rest = absurd (differ 99 115 _ _ refl refl (λ e. omega (arith, e)) is)
-follows_cut kinds.Help a c words is rest = absurd (differ 99 104 _ _ refl refl (λ e. omega (arith, e)) is)
-follows_cut kinds.Version a c words is rest = absurd (differ 99 118 _ _ refl refl (λ e. omega (arith, e)) is)
+follows_cut kinds.Pop a c words is rest = absurd (differ third 99 112 _ _ refl refl (λ e. omega (arith, e)) is)
+follows_cut kinds.Select a c words is rest = absurd (differ third 99 115 _ _ refl refl (λ e. omega (arith, e)) is)
+follows_cut kinds.Help a c words is rest = absurd (differ third 99 104 _ _ refl refl (λ e. omega (arith, e)) is)
+follows_cut kinds.Version a c words is rest = absurd (differ third 99 118 _ _ refl refl (λ e. omega (arith, e)) is)
 follows_cut kinds.Unknown a c words is rest = absurd (is.3 refl)
+
+follows_pop : (kind : Word) (a c : AskedValue) (words : List (List ℕ)) → IsWord (codes "--pop-vlan") kind
+    → (a.edit ≡ None) × Asks (record a { edit = Some PopVlan }) words c
+    → Follows kind a (codes "--pop-vlan") words c
+follows_pop kinds.Name a c words is rest = absurd (is refl)
+follows_pop kinds.Plain a c words is rest = absurd (differ fourth 111 108 _ _ refl refl (λ e. omega (arith, e)) is)
+follows_pop kinds.Write a c words is rest = absurd (differ third 112 119 _ _ refl refl (λ e. omega (arith, e)) is)
+follows_pop kinds.Cut a c words is rest = absurd (differ third 112 99 _ _ refl refl (λ e. omega (arith, e)) is)
+follows_pop kinds.Pop a c words is rest = rest
+follows_pop kinds.Select a c words is rest = absurd (differ third 112 115 _ _ refl refl (λ e. omega (arith, e)) is)
+follows_pop kinds.Help a c words is rest = absurd (differ third 112 104 _ _ refl refl (λ e. omega (arith, e)) is)
+follows_pop kinds.Version a c words is rest = absurd (differ third 112 118 _ _ refl refl (λ e. omega (arith, e)) is)
+follows_pop kinds.Unknown a c words is rest = absurd (is.4 refl)
 
 follows_select : (kind : Word) (a c : AskedValue) (text : List ℕ) (words : List (List ℕ))
     → IsWord (codes "--select") kind → (a.text ≡ None) × Asks (record a { text = Some text }) words c
     → Follows kind a (codes "--select") (text ∷ words) c
 follows_select kinds.Name a c text words is rest = absurd (is refl)
-follows_select kinds.Plain a c text words is rest = absurd (differ 115 112 _ _ refl refl (λ e. omega (arith, e)) is)
-follows_select kinds.Write a c text words is rest = absurd (differ 115 119 _ _ refl refl (λ e. omega (arith, e)) is)
-follows_select kinds.Cut a c text words is rest = absurd (differ 115 99 _ _ refl refl (λ e. omega (arith, e)) is)
+follows_select kinds.Plain a c text words is rest =
+    absurd (differ third 115 112 _ _ refl refl (λ e. omega (arith, e)) is)
+follows_select kinds.Write a c text words is rest =
+    absurd (differ third 115 119 _ _ refl refl (λ e. omega (arith, e)) is)
+follows_select kinds.Cut a c text words is rest = absurd (differ third 115 99 _ _ refl refl (λ e. omega (arith, e)) is)
+follows_select kinds.Pop a c text words is rest =
+    absurd (differ third 115 112 _ _ refl refl (λ e. omega (arith, e)) is)
 follows_select kinds.Select a c text words is rest = (text, words, refl, rest.0, rest.1)
-follows_select kinds.Help a c text words is rest = absurd (differ 115 104 _ _ refl refl (λ e. omega (arith, e)) is)
-follows_select kinds.Version a c text words is rest = absurd (differ 115 118 _ _ refl refl (λ e. omega (arith, e)) is)
-follows_select kinds.Unknown a c text words is rest = absurd (is.4 refl)
+follows_select kinds.Help a c text words is rest =
+    absurd (differ third 115 104 _ _ refl refl (λ e. omega (arith, e)) is)
+follows_select kinds.Version a c text words is rest =
+    absurd (differ third 115 118 _ _ refl refl (λ e. omega (arith, e)) is)
+follows_select kinds.Unknown a c text words is rest = absurd (is.5 refl)
 
 pub follows : (kind : Word) (a c : AskedValue) (word : List ℕ) (words : List (List ℕ)) → IsWord word kind
     → Asks a (word ∷ words) c → Follows kind a word words c
@@ -103,6 +136,7 @@ follows kind a c word words is (file _ _ named) = follows_file kind a word named
 follows kind a c word words is (plain _ _ _ first asks) = follows_plain kind a c words is (first, asks)
 follows kind a c word words is (write _ _ _ first asks) = follows_write kind a c words is (first, asks)
 follows kind a c word words is (cut _ _ _ first asks) = follows_cut kind a c words is (first, asks)
+follows kind a c word words is (pop _ _ _ first asks) = follows_pop kind a c words is (first, asks)
 follows kind a c word words is (select _ _ text others first asks) =
     follows_select kind a c text others is (first, asks)
 
@@ -117,6 +151,8 @@ precedes kinds.Write a c word words is (first, asks) =
     subst (λ (w : List ℕ). Asks a (w ∷ words) c) (sym is) (write a c words first asks)
 precedes kinds.Cut a c word words is (first, asks) =
     subst (λ (w : List ℕ). Asks a (w ∷ words) c) (sym is) (cut a c words first asks)
+precedes kinds.Pop a c word words is (first, asks) =
+    subst (λ (w : List ℕ). Asks a (w ∷ words) c) (sym is) (pop a c words first asks)
 precedes kinds.Select a c word words is (text, others, same, first, asks) =
     subst (λ (l : List (List ℕ)). Asks a (word ∷ l) c) (sym same)
     (subst (λ (w : List ℕ). Asks a (w ∷ text ∷ others) c) (sym is) (select a c text others first asks))
@@ -164,6 +200,13 @@ pub ask_cut : (a : AskedValue) (word : List ℕ) (words : List (List ℕ)) → I
 ask_cut a word words is first c = (
   λ asks. precedes kinds.Cut a c word words is (first, asks),
   λ asks. (follows kinds.Cut a c word words is asks).1,
+)
+
+pub ask_pop : (a : AskedValue) (word : List ℕ) (words : List (List ℕ)) → IsWord word kinds.Pop → a.edit ≡ None
+    → AskSame a (word ∷ words) (record a { edit = Some PopVlan }) words
+ask_pop a word words is first c = (
+  λ asks. precedes kinds.Pop a c word words is (first, asks),
+  λ asks. (follows kinds.Pop a c word words is asks).1,
 )
 
 abbrev tail_of : List (List ℕ) → List (List ℕ)
@@ -277,23 +320,37 @@ lone_named words left word request (Err error) same named is last = tt
 
 help_word : (kind : Word) (word : List ℕ) → IsWord word kind → word ≡ codes "--help" → kind ≡ kinds.Help
 help_word kinds.Name word is e = absurd (no_hyphen word (codes "-help") is e)
-help_word kinds.Plain word is e = absurd (differ 112 104 _ _ refl refl (λ n. omega (arith, n)) (sym is ∙ e))
-help_word kinds.Write word is e = absurd (differ 119 104 _ _ refl refl (λ n. omega (arith, n)) (sym is ∙ e))
-help_word kinds.Cut word is e = absurd (differ 99 104 _ _ refl refl (λ n. omega (arith, n)) (sym is ∙ e))
-help_word kinds.Select word is e = absurd (differ 115 104 _ _ refl refl (λ n. omega (arith, n)) (sym is ∙ e))
+help_word kinds.Plain word is e =
+    absurd (differ third 112 104 _ _ refl refl (λ n. omega (arith, n)) (sym is ∙ e))
+help_word kinds.Write word is e =
+    absurd (differ third 119 104 _ _ refl refl (λ n. omega (arith, n)) (sym is ∙ e))
+help_word kinds.Cut word is e =
+    absurd (differ third 99 104 _ _ refl refl (λ n. omega (arith, n)) (sym is ∙ e))
+help_word kinds.Pop word is e =
+    absurd (differ third 112 104 _ _ refl refl (λ n. omega (arith, n)) (sym is ∙ e))
+help_word kinds.Select word is e =
+    absurd (differ third 115 104 _ _ refl refl (λ n. omega (arith, n)) (sym is ∙ e))
 help_word kinds.Help word is e = refl
-help_word kinds.Version word is e = absurd (differ 118 104 _ _ refl refl (λ n. omega (arith, n)) (sym is ∙ e))
-help_word kinds.Unknown word is e = absurd (is.5 e)
+help_word kinds.Version word is e =
+    absurd (differ third 118 104 _ _ refl refl (λ n. omega (arith, n)) (sym is ∙ e))
+help_word kinds.Unknown word is e = absurd (is.6 e)
 
 version_word : (kind : Word) (word : List ℕ) → IsWord word kind → word ≡ codes "--version" → kind ≡ kinds.Version
 version_word kinds.Name word is e = absurd (no_hyphen word (codes "-version") is e)
-version_word kinds.Plain word is e = absurd (differ 112 118 _ _ refl refl (λ n. omega (arith, n)) (sym is ∙ e))
-version_word kinds.Write word is e = absurd (differ 119 118 _ _ refl refl (λ n. omega (arith, n)) (sym is ∙ e))
-version_word kinds.Cut word is e = absurd (differ 99 118 _ _ refl refl (λ n. omega (arith, n)) (sym is ∙ e))
-version_word kinds.Select word is e = absurd (differ 115 118 _ _ refl refl (λ n. omega (arith, n)) (sym is ∙ e))
-version_word kinds.Help word is e = absurd (differ 104 118 _ _ refl refl (λ n. omega (arith, n)) (sym is ∙ e))
+version_word kinds.Plain word is e =
+    absurd (differ third 112 118 _ _ refl refl (λ n. omega (arith, n)) (sym is ∙ e))
+version_word kinds.Write word is e =
+    absurd (differ third 119 118 _ _ refl refl (λ n. omega (arith, n)) (sym is ∙ e))
+version_word kinds.Cut word is e =
+    absurd (differ third 99 118 _ _ refl refl (λ n. omega (arith, n)) (sym is ∙ e))
+version_word kinds.Pop word is e =
+    absurd (differ third 112 118 _ _ refl refl (λ n. omega (arith, n)) (sym is ∙ e))
+version_word kinds.Select word is e =
+    absurd (differ third 115 118 _ _ refl refl (λ n. omega (arith, n)) (sym is ∙ e))
+version_word kinds.Help word is e =
+    absurd (differ third 104 118 _ _ refl refl (λ n. omega (arith, n)) (sym is ∙ e))
 version_word kinds.Version word is e = refl
-version_word kinds.Unknown word is e = absurd (is.6 e)
+version_word kinds.Unknown word is e = absurd (is.7 e)
 
 -- words of which the first is no lone option
 pub options_named : (words left : List (List ℕ)) (word : List ℕ) (r : Result Request RequestError)

@@ -7,7 +7,7 @@ use Rattle.ether_filter.specs.Expressions.{Expression}
 use Rattle.ether_filter.specs.Texts.{IsExpressionOf}
 use Rattle.ether_filter.specs.Refusals.{RefusesText}
 use Rattle.ether_filter.specs.declared.filter_error.FilterError.{FilterError}
-use Rattle.ether_content.specs.Editing.{EditValue, CutToHeaders}
+use Rattle.ether_content.specs.Editing.{EditValue, CutToHeaders, PopVlan}
 use Rattle.ether_content.specs.EditingViews.{edit_view}
 use Rattle.ether_capture.specs.declared.options.Asked.{Asked}
 use Rattle.ether_capture.specs.declared.options.Lines.{Lines}
@@ -77,6 +77,8 @@ pub data Asks : AskedValue → List (List ℕ) → AskedValue → Type 0 where
       → Asks a (codes "--write" ∷ words) b
   cut : (a b : AskedValue) (words : List (List ℕ)) → a.edit ≡ None → Asks (record a { edit = Some CutToHeaders }) words b
       → Asks a (codes "--cut-to-headers" ∷ words) b
+  pop : (a b : AskedValue) (words : List (List ℕ)) → a.edit ≡ None → Asks (record a { edit = Some PopVlan }) words b
+      → Asks a (codes "--pop-vlan" ∷ words) b
   select : (a b : AskedValue) (text : List ℕ) (words : List (List ℕ)) → a.text ≡ None → Asks (record a { text = Some text }) words b
       → Asks a (codes "--select" ∷ text ∷ words) b
 
@@ -146,12 +148,13 @@ IsWord word kinds.Name = IsName word
 IsWord word kinds.Plain = word ≡ codes "--plain"
 IsWord word kinds.Write = word ≡ codes "--write"
 IsWord word kinds.Cut = word ≡ codes "--cut-to-headers"
+IsWord word kinds.Pop = word ≡ codes "--pop-vlan"
 IsWord word kinds.Select = word ≡ codes "--select"
 IsWord word kinds.Help = word ≡ codes "--help"
 IsWord word kinds.Version = word ≡ codes "--version"
 IsWord word kinds.Unknown =
-    ¬ (IsName word) × (word ≢ codes "--plain") × (word ≢ codes "--write") × (word ≢ codes "--cut-to-headers") × (word ≢ codes "--select")
-    × (word ≢ codes "--help") × (word ≢ codes "--version")
+    ¬ (IsName word) × (word ≢ codes "--plain") × (word ≢ codes "--write") × (word ≢ codes "--cut-to-headers") × (word ≢ codes "--pop-vlan")
+    × (word ≢ codes "--select") × (word ≢ codes "--help") × (word ≢ codes "--version")
 
 -- the same is asked for with these words after those before them
 abbrev pub AskSame : (a : AskedValue) → (words : List (List ℕ)) → (b : AskedValue) → (left : List (List ℕ)) → Type 0

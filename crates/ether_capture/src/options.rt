@@ -53,8 +53,8 @@ pub enum Request {
 
 /// What the program's arguments ask for. The first of them is its own name.
 ///
-/// In any order there may be `--plain` or `--write`, with the latter `--cut-to-headers`, and `--select` with the text of a filter; after
-/// them a word that does not begin with a hyphen, which names a file. `--help` and `--version` come alone.
+/// In any order there may be `--plain` or `--write`, with the latter `--cut-to-headers` or `--pop-vlan`, and `--select` with the text of a
+/// filter; after them a word that does not begin with a hyphen, which names a file. `--help` and `--version` come alone.
 pub fn request_of_args(mut args: env::Args) -> Result<Request, RequestError>
     ensures ok { IfOk result (λ request. NamesRequest (words_after (into_iter_items args)) (request_view request)) }
     ensures err { IfErr result (RefusesWords (words_after (into_iter_items args))) }
@@ -133,6 +133,7 @@ impl Asked {
             Word::Plain if !self.is_plain => self.is_plain = true,
             Word::Write if !self.is_copy => self.is_copy = true,
             Word::Cut if self.edit.is_none() => self.edit = Some(PacketEdit::CutToHeaders),
+            Word::Pop if self.edit.is_none() => self.edit = Some(PacketEdit::PopVlan),
             Word::Select if self.text.is_none() => match args.next() {
                 Some(text) => self.text = Some(text),
                 None => return Err(RequestError::Usage),
@@ -207,6 +208,8 @@ enum Word {
     Write,
     /// `--cut-to-headers`.
     Cut,
+    /// `--pop-vlan`.
+    Pop,
     /// `--select`.
     Select,
     /// `--help`.
@@ -228,6 +231,7 @@ fn word_of(word: &str) -> Word
         "--plain" => Word::Plain,
         "--write" => Word::Write,
         "--cut-to-headers" => Word::Cut,
+        "--pop-vlan" => Word::Pop,
         "--select" => Word::Select,
         "--help" => Word::Help,
         "--version" => Word::Version,

@@ -3,7 +3,7 @@ use Rattle.std.specs.Prelude.{string_bytes}
 use Rattle.ether_content.specs.EditingViews.{edit_view}
 use Rattle.ether_capture.specs.Options.{IsWord, asked_view, words_left}
 use Rattle.ether_capture.specs.declared.options.Word.TheVariants as kinds
-use Rattle.ether_capture.proofs.OptionsLemmas.{ask_plain, ask_write, ask_cut, ask_select, none_taken, none_mapped, ask_name_last}
+use Rattle.ether_capture.proofs.OptionsLemmas.{ask_plain, ask_write, ask_cut, ask_pop, ask_select, none_taken, none_mapped, ask_name_last}
 use Rattle.ether_capture.proofs.options.Asked.take.Goals as goal
 
 pub returns-in-Name-clause-ok : goal.returns-in-Name-clause-ok
@@ -28,6 +28,12 @@ pub returns-in-Cut-clause-ok : goal.returns-in-Cut-clause-ok
 returns-in-Cut-clause-ok c =
     let is = subst (λ (w : List ℕ). IsWord w kinds.Cut) c.as_str.ensures.value c.in-Cut.ensures in
     ask_cut (asked_view c.args.self.now) (string_bytes c.args.word) (words_left c.args.args.now) is
+    (none_mapped edit_view c.args.self.now.edit (search rules))
+
+pub returns-in-Pop-clause-ok : goal.returns-in-Pop-clause-ok
+returns-in-Pop-clause-ok c =
+    let is = subst (λ (w : List ℕ). IsWord w kinds.Pop) c.as_str.ensures.value c.in-Pop.ensures in
+    ask_pop (asked_view c.args.self.now) (string_bytes c.args.word) (words_left c.args.args.now) is
     (none_mapped edit_view c.args.self.now.edit (search rules))
 
 pub returns-in-Some-clause-ok : goal.returns-in-Some-clause-ok
