@@ -16,7 +16,7 @@ from dataclasses import dataclass
 from programs import count, run, run_in_pieces, run_until_a_fault, on_a_full_disk
 
 FAILED = ("ether_capture: input or output failed\n", 4)
-USAGE = "usage: ether_capture [--plain | --write [--cut-to-headers | --pop-vlan]] [--select EXPR] [FILE]\n"
+USAGE = "usage: ether_capture [--plain | --write [--cut-to-headers | --pop-vlan | --push-vlan TPID:ID]] [--select EXPR] [FILE]\n"
 
 
 def joined(*parts):
@@ -325,6 +325,14 @@ WRONG = [
     ("headers without a copy", ["--cut-to-headers"]),
     ("headers twice", ["--write", "--cut-to-headers", "--cut-to-headers"]),
     ("a tag less without a copy", ["--pop-vlan"]),
+    ("a tag more without a copy", ["--push-vlan", "0x8100:5"]),
+    ("no tag to put in", ["--write", "--push-vlan"]),
+    ("a tag without a TPID", ["--write", "--push-vlan", "5"]),
+    ("a TPID of another kind", ["--write", "--push-vlan", "0x8101:5"]),
+    ("a tag of 13 bits", ["--write", "--push-vlan", "0x8100:4096"]),
+    ("a tag in three parts", ["--write", "--push-vlan", "0x8100:5:6"]),
+    ("an octal identifier", ["--write", "--push-vlan", "0x8100:05"]),
+    ("a number of more than 32 bits", ["--write", "--push-vlan", "0x100008100:5"]),
     ("two edits", ["--write", "--pop-vlan", "--cut-to-headers"]),
     ("help and a copy", ["--write", "--help"]),
     ("the version and a file", ["--version", "one"]),
@@ -437,6 +445,35 @@ COPIES += [
     Copy("a simple packet that is left out", [POP, "--select", "not vlan 291"], SECTIONS, BEFORE_SIMPLE + SECOND_SECTION),
 ]
 
+# The same captures with a VLAN tag more after the header of a link.
+PUSH = "--push-vlan"
+PUSHED_CLASSIC = CLASSIC[:24] + joined(
+    "6553f100 0001e240 00000017 00000040", "ffffffffffff 3aeeb62ff6d7 8100 0005 88a8 0001 8100 00",
+    "6553f101 00000005 00000032 00000032", "ffffffffffff 3aeeb62ff6d7 8100 0005 8100 b123 0800",
+    "4500001c00010000400100000a0900020a0900010800f7fd00010001")
+PUSHED_WITH_FCS = WITH_FCS[:24] + joined(
+    "01000000 02000000 18000000 18000000", "020000000001 020000000002 88a8 0fff 88b5 0102 e9c0cdc8",
+    "01000000 ffc99a3b 16000000 18000000", "020000000001 020000000002 88a8 0fff 88b5 0102 e9c0")
+PUSHED_LONG_PACKET = SECTION_HEADER + ETHERNET + joined(
+    "06000000 50000000 00000000 240a0600 40222018 17000000 32000000 ffffffffffff 3aeeb62ff6d7 9100 0000 8100 b123 0800 45 00", OPTIONS, "50000000")
+FULL = classic(bytes.fromhex("ffffffffffff3aeeb62ff6d70800") + bytes(262_130))
+COPIES += [
+    Copy("a tag more in a classic file", [PUSH, "0x8100:5"], CLASSIC, PUSHED_CLASSIC),
+    Copy("a tag more, in decimal", [PUSH, "33024:0x005"], CLASSIC, PUSHED_CLASSIC),
+    Copy("a tag more in the packets that match", [PUSH, "0x8100:5", "--select", "refused"], CLASSIC, PUSHED_CLASSIC[:63]),
+    Copy("a tag more in frames with a check sequence", [PUSH, "0x88a8:4095"], WITH_FCS, PUSHED_WITH_FCS),
+    Copy("a tag more in a packet with options", [PUSH, "0x9100:0"], LONG_PACKET, PUSHED_LONG_PACKET),
+    Copy("the tag that was taken off a cooked capture", [PUSH, "0x8100:291"], POPPED_COOKED, TAGGED_COOKED.replace(b"\xb1\x23", b"\x01\x23")),
+    Copy("a tag more in no frame", [PUSH, "0x8100:5"], cooked("8100 0000 00000003 0001 04 06 0200000000010000 b123 0800 45"),
+         cooked("8100 0000 00000003 0001 04 06 0200000000010000 b123 0800 45")),
+    Copy("a tag more in a simple packet", [PUSH, "0x8100:5"], NO_PACKETS + SIMPLE, NO_PACKETS, f"byte {len(NO_PACKETS)}: {NOT_EDITED}", 3),
+    Copy("a packet that would be too long", [PUSH, "0x8100:5"], FULL, FULL[:24], f"byte 24: {NOT_EDITED}", 3),
+    Copy("a packet that is as long as it may be", [PUSH, "0x8100:5"], classic(FULL[40:-4]),
+         classic(FULL[40:52] + joined("8100 0005") + FULL[52:-4])),
+    Copy("an original length that has no room for four bytes more", [PUSH, "0x8100:5"], CLASSIC[:36] + joined("fffffffc") + CLASSIC[40:59],
+         CLASSIC[:24], f"byte 24: {NOT_EDITED}", 3),
+]
+
 
 def copied(program, words, capture, **how):
     """What the program writes, what it says on standard error, and its status."""
@@ -465,7 +502,7 @@ def copies(program):
         if it.words[:1] == ["--select"]:
             tried.append((f"a copy after its filter: {it.name}", copied(program, [*it.words, "--write"], it.capture), wanted))
         if it.copy:
-            words = [] if POP in it.words else it.words  # with another tag less, or with no match, it is another copy
+            words = [] if {POP, PUSH} & set(it.words) else it.words  # with another tag less, or with no match, it is another copy
             tried.append((f"a copy of it: {it.name}", copied(program, ["--write", *words], it.copy), (it.copy, "", 0)))
         if len(it.capture) < 500 and it.status == 0:
             for step in (1, 7, 59):

@@ -6,3 +6,4 @@ pub mod RunLemmas
 pub mod CopyLoopLemmas
 pub mod CopyingLemmas
 pub mod OptionsLemmas
+pub mod TagsLemmas

@@ -5,8 +5,10 @@ use Rattle.std.specs.Option.{option_map, is_none}
 use Rattle.std.specs.Vec.Iter.{into_iter_steps}
 use Rattle.std.specs.declared.vec.IntoIter.{IntoIter}
 use Rattle.ether_text.proofs.ArgumentsLemmas.{words_end}
-use Rattle.ether_capture.specs.Options.{AskedValue, nothing_asked, Asks, no_word, file, plain, write, cut, pop, select, IsName, IsWord, AskSame, words_left, clashes, IsRequestOf, OptionsAsk, lines, copy, RequestValue, NamesRequest, help, version, options, RefusesAsked, RefusesOptions, RefusesWords, request_view}
-use Rattle.ether_content.specs.Editing.{CutToHeaders, PopVlan}
+use Rattle.ether_capture.specs.Options.{AskedValue, nothing_asked, Asks, no_word, file, plain, write, cut, pop, push, select, IsName, IsWord, AskSame, words_left, clashes, IsRequestOf, OptionsAsk, lines, copy, RequestValue, NamesRequest, help, version, options, RefusesAsked, RefusesOptions, RefusesWords, request_view}
+use Rattle.ether_content.specs.Editing.{EditValue, CutToHeaders, PopVlan}
+use Rattle.ether_capture.specs.Tags.{IsPush}
+use Rattle.ether_capture.proofs.TagsLemmas.{push_one}
 use Rattle.ether_capture.specs.declared.options.Request.{Request}
 use Rattle.ether_capture.specs.declared.options.RequestError.{RequestError}
 use Rattle.ether_capture.specs.declared.options.RequestError.TheVariants as reasons
@@ -35,6 +37,9 @@ Follows kinds.Plain a word words c = (a.plain ≡ false) × Asks (record a { pla
 Follows kinds.Write a word words c = (a.write ≡ false) × Asks (record a { write = true }) words c
 Follows kinds.Cut a word words c = (a.edit ≡ None) × Asks (record a { edit = Some CutToHeaders }) words c
 Follows kinds.Pop a word words c = (a.edit ≡ None) × Asks (record a { edit = Some PopVlan }) words c
+Follows kinds.Push a word words c =
+    (text : List ℕ) × (e : EditValue) × (others : List (List ℕ)) × (words ≡ text ∷ others) × IsPush text e
+    × (a.edit ≡ None) × Asks (record a { edit = Some e }) others c
 Follows kinds.Select a word words c =
     (text : List ℕ) × (others : List (List ℕ)) × (words ≡ text ∷ others) × (a.text ≡ None)
     × Asks (record a { text = Some text }) others c
@@ -52,6 +57,7 @@ follows_file kinds.Plain a name named is = absurd (no_hyphen name (codes "-plain
 follows_file kinds.Write a name named is = absurd (no_hyphen name (codes "-write") named is)
 follows_file kinds.Cut a name named is = absurd (no_hyphen name (codes "-cut-to-headers") named is)
 follows_file kinds.Pop a name named is = absurd (no_hyphen name (codes "-pop-vlan") named is)
+follows_file kinds.Push a name named is = absurd (no_hyphen name (codes "-push-vlan") named is)
 follows_file kinds.Select a name named is = absurd (no_hyphen name (codes "-select") named is)
 follows_file kinds.Help a name named is = absurd (no_hyphen name (codes "-help") named is)
 follows_file kinds.Version a name named is = absurd (no_hyphen name (codes "-version") named is)
@@ -68,6 +74,7 @@ follows_plain kinds.Plain a c words is rest = rest
 follows_plain kinds.Write a c words is rest = absurd (differ third 112 119 _ _ refl refl (λ e. omega (arith, e)) is)
 follows_plain kinds.Cut a c words is rest = absurd (differ third 112 99 _ _ refl refl (λ e. omega (arith, e)) is)
 follows_plain kinds.Pop a c words is rest = absurd (differ fourth 108 111 _ _ refl refl (λ e. omega (arith, e)) is)
+follows_plain kinds.Push a c words is rest = absurd (differ fourth 108 117 _ _ refl refl (λ e. omega (arith, e)) is)
 follows_plain kinds.Select a c words is rest = absurd (differ third 112 115 _ _ refl refl (λ e. omega (arith, e)) is)
 follows_plain kinds.Help a c words is rest = absurd (differ third 112 104 _ _ refl refl (λ e. omega (arith, e)) is)
 follows_plain kinds.Version a c words is rest = absurd (differ third 112 118 _ _ refl refl (λ e. omega (arith, e)) is)
@@ -81,6 +88,7 @@ follows_write kinds.Plain a c words is rest = absurd (differ third 119 112 _ _ r
 follows_write kinds.Write a c words is rest = rest
 follows_write kinds.Cut a c words is rest = absurd (differ third 119 99 _ _ refl refl (λ e. omega (arith, e)) is)
 follows_write kinds.Pop a c words is rest = absurd (differ third 119 112 _ _ refl refl (λ e. omega (arith, e)) is)
+follows_write kinds.Push a c words is rest = absurd (differ third 119 112 _ _ refl refl (λ e. omega (arith, e)) is)
 follows_write kinds.Select a c words is rest = absurd (differ third 119 115 _ _ refl refl (λ e. omega (arith, e)) is)
 follows_write kinds.Help a c words is rest = absurd (differ third 119 104 _ _ refl refl (λ e. omega (arith, e)) is)
 follows_write kinds.Version a c words is rest = absurd (differ third 119 118 _ _ refl refl (λ e. omega (arith, e)) is)
@@ -94,6 +102,7 @@ follows_cut kinds.Plain a c words is rest = absurd (differ third 99 112 _ _ refl
 follows_cut kinds.Write a c words is rest = absurd (differ third 99 119 _ _ refl refl (λ e. omega (arith, e)) is)
 follows_cut kinds.Cut a c words is rest = rest
 follows_cut kinds.Pop a c words is rest = absurd (differ third 99 112 _ _ refl refl (λ e. omega (arith, e)) is)
+follows_cut kinds.Push a c words is rest = absurd (differ third 99 112 _ _ refl refl (λ e. omega (arith, e)) is)
 follows_cut kinds.Select a c words is rest = absurd (differ third 99 115 _ _ refl refl (λ e. omega (arith, e)) is)
 follows_cut kinds.Help a c words is rest = absurd (differ third 99 104 _ _ refl refl (λ e. omega (arith, e)) is)
 follows_cut kinds.Version a c words is rest = absurd (differ third 99 118 _ _ refl refl (λ e. omega (arith, e)) is)
@@ -107,10 +116,32 @@ follows_pop kinds.Plain a c words is rest = absurd (differ fourth 111 108 _ _ re
 follows_pop kinds.Write a c words is rest = absurd (differ third 112 119 _ _ refl refl (λ e. omega (arith, e)) is)
 follows_pop kinds.Cut a c words is rest = absurd (differ third 112 99 _ _ refl refl (λ e. omega (arith, e)) is)
 follows_pop kinds.Pop a c words is rest = rest
+follows_pop kinds.Push a c words is rest = absurd (differ fourth 111 117 _ _ refl refl (λ e. omega (arith, e)) is)
 follows_pop kinds.Select a c words is rest = absurd (differ third 112 115 _ _ refl refl (λ e. omega (arith, e)) is)
 follows_pop kinds.Help a c words is rest = absurd (differ third 112 104 _ _ refl refl (λ e. omega (arith, e)) is)
 follows_pop kinds.Version a c words is rest = absurd (differ third 112 118 _ _ refl refl (λ e. omega (arith, e)) is)
 follows_pop kinds.Unknown a c words is rest = absurd (is.4 refl)
+
+follows_push : (kind : Word) (a c : AskedValue) (text : List ℕ) (e : EditValue) (words : List (List ℕ))
+    → IsWord (codes "--push-vlan") kind
+    → IsPush text e × (a.edit ≡ None) × Asks (record a { edit = Some e }) words c
+    → Follows kind a (codes "--push-vlan") (text ∷ words) c
+follows_push kinds.Name a c text e words is rest = absurd (is refl)
+follows_push kinds.Plain a c text e words is rest =
+    absurd (differ fourth 117 108 _ _ refl refl (λ e. omega (arith, e)) is)
+follows_push kinds.Write a c text e words is rest =
+    absurd (differ third 112 119 _ _ refl refl (λ e. omega (arith, e)) is)
+follows_push kinds.Cut a c text e words is rest = absurd (differ third 112 99 _ _ refl refl (λ e. omega (arith, e)) is)
+follows_push kinds.Pop a c text e words is rest =
+    absurd (differ fourth 117 111 _ _ refl refl (λ e. omega (arith, e)) is)
+follows_push kinds.Push a c text e words is rest = (text, e, words, refl, rest.0, rest.1, rest.2)
+follows_push kinds.Select a c text e words is rest =
+    absurd (differ third 112 115 _ _ refl refl (λ e. omega (arith, e)) is)
+follows_push kinds.Help a c text e words is rest =
+    absurd (differ third 112 104 _ _ refl refl (λ e. omega (arith, e)) is)
+follows_push kinds.Version a c text e words is rest =
+    absurd (differ third 112 118 _ _ refl refl (λ e. omega (arith, e)) is)
+follows_push kinds.Unknown a c text e words is rest = absurd (is.5 refl)
 
 follows_select : (kind : Word) (a c : AskedValue) (text : List ℕ) (words : List (List ℕ))
     → IsWord (codes "--select") kind → (a.text ≡ None) × Asks (record a { text = Some text }) words c
@@ -123,12 +154,14 @@ follows_select kinds.Write a c text words is rest =
 follows_select kinds.Cut a c text words is rest = absurd (differ third 115 99 _ _ refl refl (λ e. omega (arith, e)) is)
 follows_select kinds.Pop a c text words is rest =
     absurd (differ third 115 112 _ _ refl refl (λ e. omega (arith, e)) is)
+follows_select kinds.Push a c text words is rest =
+    absurd (differ third 115 112 _ _ refl refl (λ e. omega (arith, e)) is)
 follows_select kinds.Select a c text words is rest = (text, words, refl, rest.0, rest.1)
 follows_select kinds.Help a c text words is rest =
     absurd (differ third 115 104 _ _ refl refl (λ e. omega (arith, e)) is)
 follows_select kinds.Version a c text words is rest =
     absurd (differ third 115 118 _ _ refl refl (λ e. omega (arith, e)) is)
-follows_select kinds.Unknown a c text words is rest = absurd (is.5 refl)
+follows_select kinds.Unknown a c text words is rest = absurd (is.6 refl)
 
 pub follows : (kind : Word) (a c : AskedValue) (word : List ℕ) (words : List (List ℕ)) → IsWord word kind
     → Asks a (word ∷ words) c → Follows kind a word words c
@@ -137,6 +170,8 @@ follows kind a c word words is (plain _ _ _ first asks) = follows_plain kind a c
 follows kind a c word words is (write _ _ _ first asks) = follows_write kind a c words is (first, asks)
 follows kind a c word words is (cut _ _ _ first asks) = follows_cut kind a c words is (first, asks)
 follows kind a c word words is (pop _ _ _ first asks) = follows_pop kind a c words is (first, asks)
+follows kind a c word words is (push _ _ text e others tag first asks) =
+    follows_push kind a c text e others is (tag, first, asks)
 follows kind a c word words is (select _ _ text others first asks) =
     follows_select kind a c text others is (first, asks)
 
@@ -153,6 +188,9 @@ precedes kinds.Cut a c word words is (first, asks) =
     subst (λ (w : List ℕ). Asks a (w ∷ words) c) (sym is) (cut a c words first asks)
 precedes kinds.Pop a c word words is (first, asks) =
     subst (λ (w : List ℕ). Asks a (w ∷ words) c) (sym is) (pop a c words first asks)
+precedes kinds.Push a c word words is (text, e, others, same, tag, first, asks) =
+    subst (λ (l : List (List ℕ)). Asks a (word ∷ l) c) (sym same)
+    (subst (λ (w : List ℕ). Asks a (w ∷ text ∷ others) c) (sym is) (push a c text e others tag first asks))
 precedes kinds.Select a c word words is (text, others, same, first, asks) =
     subst (λ (l : List (List ℕ)). Asks a (word ∷ l) c) (sym same)
     (subst (λ (w : List ℕ). Asks a (w ∷ text ∷ others) c) (sym is) (select a c text others first asks))
@@ -226,6 +264,19 @@ ask_select a word text words others is first same c = (
       let both = sym f.2 ∙ same in
       subst (λ (l : List (List ℕ)). Asks (record a { text = Some text }) l c) (ap tail_of both)
       (subst (λ (t : List ℕ). Asks (record a { text = Some t }) f.1 c) (ap head_of both) f.4),
+)
+
+pub ask_push : (a : AskedValue) (word text : List ℕ) (e : EditValue) (words others : List (List ℕ))
+    → IsWord word kinds.Push → IsPush text e → a.edit ≡ None → words ≡ text ∷ others
+    → AskSame a (word ∷ words) (record a { edit = Some e }) others
+ask_push a word text e words others is tag first same c = (
+  λ asks. precedes kinds.Push a c word words is (text, e, others, same, tag, first, asks),
+  λ asks.
+      let f = follows kinds.Push a c word words is asks in
+      let both = sym f.3 ∙ same in
+      let edit : f.1 ≡ e = push_one text f.1 e (subst (λ (t : List ℕ). IsPush t f.1) (ap head_of both) f.4) tag in
+      subst (λ (l : List (List ℕ)). Asks (record a { edit = Some e }) l c) (ap tail_of both)
+      (subst (λ (g : EditValue). Asks (record a { edit = Some g }) f.2 c) edit f.6),
 )
 
 -- .. also once it was tried to take another
@@ -328,12 +379,14 @@ help_word kinds.Cut word is e =
     absurd (differ third 99 104 _ _ refl refl (λ n. omega (arith, n)) (sym is ∙ e))
 help_word kinds.Pop word is e =
     absurd (differ third 112 104 _ _ refl refl (λ n. omega (arith, n)) (sym is ∙ e))
+help_word kinds.Push word is e =
+    absurd (differ third 112 104 _ _ refl refl (λ n. omega (arith, n)) (sym is ∙ e))
 help_word kinds.Select word is e =
     absurd (differ third 115 104 _ _ refl refl (λ n. omega (arith, n)) (sym is ∙ e))
 help_word kinds.Help word is e = refl
 help_word kinds.Version word is e =
     absurd (differ third 118 104 _ _ refl refl (λ n. omega (arith, n)) (sym is ∙ e))
-help_word kinds.Unknown word is e = absurd (is.6 e)
+help_word kinds.Unknown word is e = absurd (is.7 e)
 
 version_word : (kind : Word) (word : List ℕ) → IsWord word kind → word ≡ codes "--version" → kind ≡ kinds.Version
 version_word kinds.Name word is e = absurd (no_hyphen word (codes "-version") is e)
@@ -345,12 +398,14 @@ version_word kinds.Cut word is e =
     absurd (differ third 99 118 _ _ refl refl (λ n. omega (arith, n)) (sym is ∙ e))
 version_word kinds.Pop word is e =
     absurd (differ third 112 118 _ _ refl refl (λ n. omega (arith, n)) (sym is ∙ e))
+version_word kinds.Push word is e =
+    absurd (differ third 112 118 _ _ refl refl (λ n. omega (arith, n)) (sym is ∙ e))
 version_word kinds.Select word is e =
     absurd (differ third 115 118 _ _ refl refl (λ n. omega (arith, n)) (sym is ∙ e))
 version_word kinds.Help word is e =
     absurd (differ third 104 118 _ _ refl refl (λ n. omega (arith, n)) (sym is ∙ e))
 version_word kinds.Version word is e = refl
-version_word kinds.Unknown word is e = absurd (is.7 e)
+version_word kinds.Unknown word is e = absurd (is.8 e)
 
 -- words of which the first is no lone option
 pub options_named : (words left : List (List ℕ)) (word : List ℕ) (r : Result Request RequestError)

@@ -9,3 +9,4 @@ pub mod FrameLoop
 pub mod Copying
 pub mod CopyLoop
 pub mod Program
+pub mod Tags

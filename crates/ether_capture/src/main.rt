@@ -17,6 +17,7 @@ pub mod options;
 pub mod outcome;
 pub mod program;
 pub mod run;
+mod tags;
 
 use std::process::ExitCode;
 use std::{env, io};

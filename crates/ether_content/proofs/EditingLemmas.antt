@@ -6,7 +6,7 @@ use Rattle.std.proofs.lemmas.Bool.{cases_lt, lt-ltb, le-ltb}
 use Rattle.std.proofs.lemmas.List.{length-take-le, take-take, take_all, take_at, drop-drop, drop-append-le}
 use Rattle.std.proofs.Math.Seq.{take-append-add}
 use Rattle.ether_base.specs.Bytes.{IsBytes}
-use Rattle.ether_base.proofs.SubLists.{rest_of_part}
+use Rattle.ether_base.proofs.SubLists.{part_join, rest_of_part}
 use Rattle.etherparse.specs.Header.{Header}
 use Rattle.etherparse.specs.Kind as kinds
 use Rattle.etherparse.specs.Vlan.{VlanValue}
@@ -17,6 +17,7 @@ use Rattle.ether_peel.specs.Walker.Start.{start_of, next_of}
 use Rattle.ether_peel.specs.declared.start.Start.{Start as PeelStart}
 use Rattle.ether_packet.specs.TypedLink.{with_type}
 use Rattle.ether_packet.specs.Popping.{IsPopped, RefusesPop}
+use Rattle.ether_packet.specs.Pushing.{IsPushed, RefusesPush}
 use Rattle.ether_packet.specs.declared.tag_error.TagError.{TagError}
 use Rattle.ether_packet.proofs.TypedLinks.{means_whole_list, len_kept, link_least}
 use Rattle.ether_pcap.proofs.EditUnits.{part_past}
@@ -24,7 +25,7 @@ use Rattle.ether_pcap.specs.Capture.{PacketValue}
 use Rattle.ether_pcap.specs.Editing.{EditedValue, edited_packet}
 use Rattle.ether_content.specs.Content.{ContentValue, Frame, LinuxSll2, Unknown, content_of, is_cut, fcs_len, has_fcs, without_fcs}
 use Rattle.ether_content.specs.ContentViews.{content_view}
-use Rattle.ether_content.specs.Editing.{PopVlan, Edits, with_frame, frame_start, Pops, refused, not_popped}
+use Rattle.ether_content.specs.Editing.{PopVlan, PushVlan, Edits, with_frame, frame_start, Pops, Pushes, tag_with, after_free, refused, not_popped, not_pushed}
 use Rattle.ether_content.specs.declared.content.Content.{Content}
 use Rattle.ether_content.specs.declared.content.Content.TheVariants as contents
 
@@ -36,7 +37,7 @@ content_by ethernet cooked cooked2 fcs all without =
     if ethernet then (if fcs then Frame (Start kinds.Ethernet2Fcs) all else Frame (Start kinds.Ethernet2) without)
     else (if cooked then Frame (Start kinds.LinuxSll) without else (if cooked2 then LinuxSll2 without else Unknown))
 
-framed : (start next : Next) (bytes frame : List ℕ) → Frame start bytes ≡ Frame next frame
+pub framed : (start next : Next) (bytes frame : List ℕ) → Frame start bytes ≡ Frame next frame
     → (start ≡ next) × (bytes ≡ frame)
 framed start next bytes frame is = let a : start ≡ next = cc in let b : bytes ≡ frame = cc in (a, b)
 
@@ -293,3 +294,132 @@ put_len a k xs ys fits is =
     let t = length-take-le a xs (omega (arith, fits)) in
     let d : length (post_of a k xs) ≡ length (drop a xs) - k = length-drop k (drop a xs) in
     first ∙ omega (arith, fits, is, second, t, d, length-drop a xs)
+
+-- ---- a VLAN tag that is put in
+
+more_cut : (n o : ℕ) → nat_lt (n + 4) (o + 4) ≡ nat_lt n o
+more_cut n o =
+    elim (cases_lt n o) [
+      | inl lt ↦ lt-ltb (n + 4) (o + 4) (omega (arith, lt)) ∙ sym (lt-ltb n o lt)
+      | inr more ↦ le-ltb (n + 4) (o + 4) (omega (arith, more)) ∙ sym (le-ltb n o more)
+    ]
+
+more_max : (n o : ℕ) → max (o + 4) (n + 4) ≡ max o n + 4
+more_max n o = omega arith
+
+-- with four bytes more
+keeps_end_more : (p : PacketValue) (frame new : List ℕ) → length new ≡ length frame + 4 → 1 ≤ length frame
+    → length frame ≤ length p.packet → KeepsEnd p frame new (p.original_len + 4)
+keeps_end_more p frame new more least front =
+    let n = length p.packet in
+    let o = p.original_len in
+    let t = max o n - fcs_len p in
+    let len : length new + (n - length frame) ≡ n + 4 = omega (arith, more, front) in
+    let most : max (o + 4) (length new + (n - length frame)) ≡ max o n + 4 =
+    ap (max (o + 4)) len ∙ more_max n o in
+    record {
+      same_cut = ap (λ (k : ℕ). nat_lt k (o + 4)) len ∙ more_cut n o;
+      exact = λ part le. let k = sym (length-take-le t p.packet le) ∙ ap length part in
+          omega (arith, most, k, more, least);
+      at_least = λ part le. let k = ap length (sym (take_all t p.packet le) ∙ part) in
+          omega (arith, most, k, more, least, le);
+    }
+
+-- the packet in a buffer, of which another frame replaces the first bytes
+replaced_whole : (buffer new packet : List ℕ) (k : ℕ) → 4 + length packet ≤ length buffer
+    → slice_range buffer 4 (4 + length packet) ≡ packet → k ≤ length packet → length new ≡ k + 4
+    → slice_range (new ++ drop (4 + k) buffer) 0 (4 + length packet) ≡ new ++ drop k packet
+replaced_whole buffer new packet k room is within len =
+    let n = length packet in
+    let post = drop (4 + k) buffer in
+    let whole : 4 + n - 0 ≡ length new + (n - k) = omega (arith, len, within) in
+    let less : n - k ≡ 4 + n - (4 + k) = omega arith in
+    let tail : take (n - k) post ≡ drop k packet =
+    ap (λ (j : ℕ). take j (drop (4 + k) buffer)) less
+    ∙ sym (rest_of_part buffer 4 (4 + n) k (omega (arith, within))) ∙ ap (drop k) is in
+    ap (λ (j : ℕ). take j (new ++ post)) whole ∙ take-append-add new post (n - k)
+    ∙ ap (λ (l : List ℕ). new ++ l) tail
+
+-- the free bytes and the frame
+pub free_there : (buffer packet frame : List ℕ) → take 4 buffer ≡ 0 ∷ 0 ∷ 0 ∷ 0 ∷ []
+    → slice_range buffer 4 (4 + length packet) ≡ packet → length frame ≤ length packet
+    → take (length frame) packet ≡ frame → take (4 + length frame) buffer ≡ after_free frame
+free_there buffer packet frame free is le front =
+    let all : 4 + length frame - 0 ≡ 4 + length frame = omega arith in
+    ap (λ (k : ℕ). take k buffer) (sym all)
+    ∙ sym (part_join buffer 0 4 (4 + length frame) (omega arith) (omega arith))
+    ∙ ap (λ (l : List ℕ). l ++ slice_range buffer 4 (4 + length frame)) free
+    ∙ ap after_free (front_there buffer packet frame is le front)
+
+-- the header of the link is in the frame
+linked_room : (next : Next) (frame : List ℕ) (hs : List Header) (e : Ending) (tag : VlanValue) (tpid : ℕ)
+    (new : List ℕ)
+    → Walk (frame_start next) frame hs e → IsPushed (frame_start next) (after_free frame) hs e tag tpid new
+    → 14 ≤ length frame
+linked_room next frame hs e tag tpid new walk is =
+    let split = subst (λ (l : List Header). Walk (frame_start next) frame l e) is.begins.parts walk in
+    let m = means_whole_list (frame_start next) frame is.link split.0 in
+    let least = link_least is.link is.begins.is_link in
+    omega (arith, m.whole, least)
+
+pub record PushDone (tpid id : ℕ) (p : PacketValue) (after : List ℕ) : Type 0 where
+  pub pushes : Pushes tpid id p
+      (record { original_len = p.original_len + 4; packet = slice_range after 0 (4 + length p.packet) })
+
+pub push_done : (p : PacketValue) (start : PeelStart) (frame buffer new : List ℕ) (tpid id : ℕ) → IsBytes frame
+    → content_of p ≡ Frame (next_of start) frame → 4 + length p.packet ≤ length buffer
+    → take 4 buffer ≡ 0 ∷ 0 ∷ 0 ∷ 0 ∷ [] → slice_range buffer 4 (4 + length p.packet) ≡ p.packet
+    → length new ≡ length (take (4 + length frame) buffer)
+    → ((hs : List Header) (e : Ending) → Walk (start_of start) (drop 4 (take (4 + length frame) buffer)) hs e
+    → IsPushed (start_of start) (take (4 + length frame) buffer) hs e (tag_with id) tpid new)
+    → PushDone tpid id p (new ++ drop (4 + length frame) buffer)
+push_done p start frame buffer new tpid id ok is room free there len pushed =
+    let front = frame_front p (next_of start) frame is in
+    let here = free_there buffer p.packet frame free there front.0 front.1 in
+    let same : length new ≡ length frame + 4 = len ∙ ap length here ∙ omega arith in
+    let x = frame_start (next_of start) in
+    let some = some_stack frame x (whole x frame) ok in
+    let is_pushed : IsPushed x (after_free frame) some.0 some.1 (tag_with id) tpid new =
+    subst (λ (l : List ℕ). IsPushed x l some.0 some.1 (tag_with id) tpid new) here
+    (pushed some.0 some.1 (subst (λ (l : List ℕ). Walk x (drop 4 l) some.0 some.1) (sym here) some.2)) in
+    let least = linked_room (next_of start) frame some.0 some.1 (tag_with id) tpid new some.2 is_pushed in
+    let after = new ++ drop (4 + length frame) buffer in
+    let bytes : slice_range after 0 (4 + length p.packet) ≡ new ++ drop (length frame) p.packet =
+    replaced_whole buffer new p.packet (length frame) room there front.0 same in
+    let edited : EditedValue =
+    record { original_len = p.original_len + 4; packet = slice_range after 0 (4 + length p.packet) } in
+    let edited_is : edited ≡ with_frame p frame new (p.original_len + 4) =
+    λ i. record { original_len = p.original_len + 4; packet = bytes i } in
+    let keeps = keeps_end_more p frame new same (omega (arith, least)) front.0 in
+    record {
+      pushes =
+          record {
+            next = next_of start;
+            frame = frame;
+            headers = some.0;
+            ending = some.1;
+            new = new;
+            is_frame = record { content = is; walk = some.2 };
+            pushed = is_pushed;
+            is = edited_is;
+            content =
+                ap (λ (e : EditedValue). content_of (edited_packet e p)) edited_is
+                ∙ content_after p (next_of start) frame new (p.original_len + 4) is keeps;
+          };
+    }
+
+pub push_refused : (p : PacketValue) (start : PeelStart) (frame buffer : List ℕ) (tpid id : ℕ) (error : TagError)
+    → IsBytes frame → content_of p ≡ Frame (next_of start) frame → take 4 buffer ≡ 0 ∷ 0 ∷ 0 ∷ 0 ∷ []
+    → slice_range buffer 4 (4 + length p.packet) ≡ p.packet
+    → ((hs : List Header) (e : Ending) → Walk (start_of start) (drop 4 (take (4 + length frame) buffer)) hs e
+    → RefusesPush (take (4 + length frame) buffer) hs tpid error)
+    → Edits (PushVlan tpid id) p None
+push_refused p start frame buffer tpid id error ok is free there refuses =
+    let front = frame_front p (next_of start) frame is in
+    let here = free_there buffer p.packet frame free there front.0 front.1 in
+    let x = frame_start (next_of start) in
+    let some = some_stack frame x (whole x frame) ok in
+    not_pushed p tpid id
+    (refused (next_of start) frame some.0 some.1 error (record { content = is; walk = some.2 })
+    (subst (λ (l : List ℕ). RefusesPush l some.0 tpid error) here
+    (refuses some.0 some.1 (subst (λ (l : List ℕ). Walk x (drop 4 l) some.0 some.1) (sym here) some.2))))

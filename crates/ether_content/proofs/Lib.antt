@@ -2,3 +2,4 @@ pub mod SelectingLemmas
 pub mod ContentLemmas
 pub mod HeadersLemmas
 pub mod EditingLemmas
+pub mod EditsOne

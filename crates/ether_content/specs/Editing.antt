@@ -1,20 +1,23 @@
 -- What an edit makes of a captured packet.
-use Rattle.std.specs.Prelude.{◌≡◌, ◌≢◌, ℕ, ◌-◌, ◌<◌, ◌≤◌, List, ◌++◌, length, take, drop, Option, Some, None}
+use Rattle.std.specs.Prelude.{◌≡◌, ◌≢◌, ℕ, ◌+◌, ◌-◌, ◌<◌, ◌≤◌, List, ◌∷◌, ◌++◌, length, take, drop, Option, Some, None}
 use Rattle.etherparse.specs.Header.{Header}
 use Rattle.etherparse.specs.Vlan.{VlanValue}
 use Rattle.ether_peel.specs.Grammar.Expectation.{Next, Expectation}
 use Rattle.ether_peel.specs.Grammar.Stack.{Ending, Walk}
 use Rattle.ether_packet.specs.Popping.{IsPopped, RefusesPop}
+use Rattle.ether_packet.specs.Pushing.{IsPushed, RefusesPush}
 use Rattle.ether_packet.specs.declared.tag_error.TagError.{TagError}
 use Rattle.ether_pcap.specs.Capture.{PacketValue}
 use Rattle.ether_pcap.specs.Editing.{EditedValue, edited_packet}
 use Rattle.ether_content.specs.Content.{Frame, content_of}
 use Rattle.ether_content.specs.Headers.{HeadersTake}
 
--- a packet is cut where its headers end; or the VLAN tag after the header of its link is taken off
+-- a packet is cut where its headers end; the VLAN tag after the header of its link is taken off; or one is put in there, which is announced by
+-- this TPID and has this identifier
 pub data EditValue : Type 0 where
   CutToHeaders : EditValue
   PopVlan : EditValue
+  PushVlan : (tpid id : ℕ) → EditValue
 
 abbrev pub frame_start : Next → Expectation
 frame_start next = record { next = next; limit = None }
@@ -42,6 +45,27 @@ pub record Pops (p : PacketValue) (edited : EditedValue) : Type 0 where
   pub is : edited ≡ with_frame p frame (drop 4 new) (p.original_len - 4)
   pub content : content_of (edited_packet edited p) ≡ Frame next (drop 4 new)
 
+-- the tag that is put in, of priority 0; it gets the ether type of the link
+abbrev pub tag_with : (id : ℕ) → VlanValue
+tag_with id = record { pcp = 0; dei = 0; vid = id; ether_type = 0 }
+
+-- a frame after four bytes that are free
+abbrev pub after_free : List ℕ → List ℕ
+after_free frame = 0 ∷ 0 ∷ 0 ∷ 0 ∷ frame
+
+-- A VLAN tag is put in after the header of a frame's link, and the packet has four bytes more. It is still a frame, with the walk that
+-- `IsPushed` says.
+pub record Pushes (tpid id : ℕ) (p : PacketValue) (edited : EditedValue) : Type 0 where
+  pub next : Next
+  pub frame : List ℕ
+  pub headers : List Header
+  pub ending : Ending
+  pub new : List ℕ
+  pub is_frame : IsFrame p next frame headers ending
+  pub pushed : IsPushed (frame_start next) (after_free frame) headers ending (tag_with id) tpid new
+  pub is : edited ≡ with_frame p frame new (p.original_len + 4)
+  pub content : content_of (edited_packet edited p) ≡ Frame next new
+
 -- A packet stays as it is: it is no frame, or its frame is refused.
 pub data Stays (Refuses : (frame : List ℕ) → List Header → TagError → Type 0) (p : PacketValue) : Type 0 where
   no_frame : ((next : Next) (frame : List ℕ) → content_of p ≢ Frame next frame) → Stays Refuses p
@@ -55,3 +79,10 @@ pub data Edits : EditValue → PacketValue → Option EditedValue → Type 0 whe
   not_cut : (p : PacketValue) (n : ℕ) → HeadersTake (content_of p) n → length p.packet ≤ n → Edits CutToHeaders p None
   pops : (p : PacketValue) (e : EditedValue) → Pops p e → Edits PopVlan p (Some e)
   not_popped : (p : PacketValue) → Stays (λ frame hs error. RefusesPop hs error) p → Edits PopVlan p None
+  pushes : (p : PacketValue) (tpid id : ℕ) (e : EditedValue) → Pushes tpid id p e → Edits (PushVlan tpid id) p (Some e)
+  not_pushed : (p : PacketValue) (tpid id : ℕ) → Stays (λ frame hs error. RefusesPush (after_free frame) hs tpid error) p
+      → Edits (PushVlan tpid id) p None
+
+-- A packet is edited to one value.
+abbrev pub EditsAreOne : Type 0
+EditsAreOne = (edit : EditValue) (p : PacketValue) (o q : Option EditedValue) → Edits edit p o → Edits edit p q → o ≡ q

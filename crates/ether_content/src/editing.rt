@@ -1,18 +1,19 @@
 //! What a captured packet is edited to.
-ghost use Rattle.std.specs.Prelude.{◌≡◌, ◌+◌, ◌<◌, ◌≤◌, length, slice_range, IfOk, IfSome, OnOk, OnErr};
+ghost use Rattle.std.specs.Prelude.{◌≡◌, ◌+◌, ◌<◌, ◌≤◌, length, take, slice_range, IfOk, IfSome, OnOk, OnErr};
 ghost use Rattle.std.specs.Option.{option_map};
 ghost use Rattle.ether_peel.specs.Walker.Start.{next_of};
 ghost use Rattle.ether_pcap.specs.CaptureViews.{captured_packet_view};
 ghost use Rattle.ether_content.specs.Content.{content_of};
 ghost use Rattle.ether_content.specs.Content as contents;
-ghost use Rattle.ether_content.specs.Editing.{CutToHeaders, PopVlan, Edits};
+ghost use Rattle.ether_content.specs.Editing.{CutToHeaders, PopVlan, PushVlan, Edits};
 ghost use Rattle.ether_content.specs.EditingViews.{edit_view, edited_view};
 
 use crate::content::Content;
 use crate::headers::headers_len;
-use ether_packet::pop_vlan;
+use ether_packet::{pop_vlan, push_vlan};
 use ether_pcap::CapturedPacket;
 use ether_peel::Start;
+use etherparse::{EtherType, SingleVlanHeader, VlanId, VlanPcp};
 
 /// An edit of captured packets.
 #[derive(Clone, Copy, PartialEq, Eq, Debug)]
@@ -21,6 +22,14 @@ pub enum PacketEdit {
     CutToHeaders,
     /// The VLAN tag after the header of a frame's link is taken off, as [`pop_vlan`](ether_packet::pop_vlan) does it.
     PopVlan,
+    /// A VLAN tag of priority 0 is put in there, as [`push_vlan`](ether_packet::push_vlan) does it. The TPID announces it: 0x8100, 0x88A8 or
+    /// 0x9100. With another one packets stay as they are.
+    PushVlan {
+        /// The ether type that announces the tag.
+        tpid: EtherType,
+        /// The identifier of the tag.
+        vlan_id: VlanId,
+    },
 }
 
 /// A packet that was edited.
@@ -44,7 +53,7 @@ const FREE: usize = 4;
 /// Edits a packet, with a buffer for the bytes that it has then. Returns `None` if it stays as it is.
 ///
 /// A packet stays that has no more bytes than its headers take, or is no frame of Ethernet or of cooked capture v1 with a VLAN tag to be
-/// taken off. What was captured of a frame check sequence stays, and doesn't fit the new frame.
+/// taken off, or a link to put one in after. What was captured of a frame check sequence stays, and doesn't fit the new frame.
 ///
 /// # Errors
 ///
@@ -88,6 +97,7 @@ pub fn edit_packet(
     match edit {
         PacketEdit::CutToHeaders => Ok(cut_to_headers(packet, buffer)),
         PacketEdit::PopVlan => Ok(pop(packet, buffer)),
+        PacketEdit::PushVlan { tpid, vlan_id } => Ok(push(tpid, vlan_id, packet, buffer)),
     }
 }
 
@@ -149,11 +159,66 @@ fn pop_frame(
     }
 }
 
-/// Writes bytes between two places of a buffer.
+/// Puts in a VLAN tag after the header of a frame's link.
+fn push(
+    tpid: EtherType,
+    vlan_id: VlanId,
+    packet: &CapturedPacket<'_>,
+    buffer: &mut [u8],
+) -> Option<EditedPacket>
+    requires { length packet.now.packet.now + 4 ≤ length buffer.old }
+    ensures edits { Edits (PushVlan tpid.0 vlan_id) (captured_packet_view packet.now)
+        (option_map (edited_view buffer.new) result) }
+    ensures within { IfSome result (λ e. (e.start ≤ e.end) × (e.end ≤ length buffer.new)) }
+    ensures len { length buffer.new ≡ length buffer.old }
+{
+    match Content::of(packet) {
+        Content::Frame(start, frame) => push_frame(tpid, vlan_id, start, frame, packet, buffer),
+        _ => None,
+    }
+}
+
+/// Puts a VLAN tag into the frame that a packet is.
+fn push_frame(
+    tpid: EtherType,
+    vlan_id: VlanId,
+    start: Start,
+    frame: &[u8],
+    packet: &CapturedPacket<'_>,
+    buffer: &mut [u8],
+) -> Option<EditedPacket>
+    requires room { length packet.now.packet.now + 4 ≤ length buffer.old }
+    requires frame { content_of (captured_packet_view packet.now) ≡ contents.Frame (next_of start) frame.now }
+    ensures edits { Edits (PushVlan tpid.0 vlan_id) (captured_packet_view packet.now)
+        (option_map (edited_view buffer.new) result) }
+    ensures within { IfSome result (λ e. (e.start ≤ e.end) × (e.end ≤ length buffer.new)) }
+    ensures len { length buffer.new ≡ length buffer.old }
+{
+    let end = FREE + packet.packet.len();
+    put_between(buffer, 0, FREE, &[0; FREE]);
+    put_between(buffer, FREE, end, packet.packet);
+    let tag = SingleVlanHeader {
+        pcp: VlanPcp::ZERO,
+        drop_eligible_indicator: false,
+        vlan_id,
+        ether_type: EtherType(0),
+    };
+    match push_vlan(start, &mut buffer[..FREE + frame.len()], tag, tpid) {
+        Ok(()) => Some(EditedPacket {
+            start: 0,
+            end,
+            original_len: u64::from(packet.original_len) + 4,
+        }),
+        Err(_) => None,
+    }
+}
+
+/// Writes bytes between two places of a buffer. Those before them stay.
 fn put_between(buffer: &mut [u8], start: usize, end: usize, bytes: &[u8])
     requires ordered { start + length bytes.now ≡ end }
     requires room { end ≤ length buffer.old }
     ensures bytes { slice_range buffer.new start end ≡ bytes.now }
+    ensures before { take start buffer.new ≡ take start buffer.old }
     ensures len { length buffer.new ≡ length buffer.old }
 {
     buffer[start..end].copy_from_slice(bytes);

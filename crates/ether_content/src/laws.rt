@@ -1,7 +1,13 @@
-//! The law on the headers of a captured packet. It is the contract of a function that does nothing.
+//! The laws on the headers and the edits of a captured packet. Each is the contract of a function that does nothing.
+ghost use Rattle.ether_content.specs.Editing.{EditsAreOne};
 ghost use Rattle.ether_content.specs.Headers.{HeadersTakeOne};
 
 /// The headers of any packet take a number of bytes, and only one.
 pub fn headers_take_one()
     ensures { HeadersTakeOne }
+{}
+
+/// What an edit makes of a packet is one value.
+pub fn edits_are_one()
+    ensures { EditsAreOne }
 {}

@@ -17,4 +17,5 @@ mod words;
 
 pub use filter::Filter;
 pub use filter_error::{FilterError, FilterErrorKind};
+pub use numeral::number_of;
 pub use packet::Packet;

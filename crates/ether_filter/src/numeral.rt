@@ -8,7 +8,13 @@ const CAP: u64 = 1 << 48;
 
 /// The number that a word writes, in hexadecimal digits after `0x`, or in decimal digits without a leading zero. `None` if it writes
 /// none, and `Some(None)` if the number has more than 32 bits.
-pub(crate) fn number_of(word: &[u8]) -> Option<Option<u32>>
+///
+/// ```
+/// assert_eq!(rt; number_of(b"0x88A8"), Some(Some(34984)));
+/// assert_eq!(rt; number_of(b"4294967296"), Some(None));
+/// assert_eq!(rt; number_of(b"07"), None);
+/// ```
+pub fn number_of(word: &[u8]) -> Option<Option<u32>>
     ensures { result ≡ number_in word.now }
 {
     let number = if word.len() > 1 && word[0] == b'0' {

@@ -1,9 +1,9 @@
 //! What is walked of a captured packet, and the examples of `ether_content`.
-use ether_content::{Content, headers_len, is_cut, selects};
+use ether_content::{Content, NoRoom, PacketEdit, edit_packet, headers_len, is_cut, selects};
 use ether_filter::Filter;
 use ether_pcap::{CapturedPacket, LinkType};
 use ether_peel::Start;
-use etherparse::EtherType;
+use etherparse::{EtherType, VlanId};
 use std::test::Fail;
 
 /// An ARP packet that cooked capture v2 announces, without its own bytes (LINKTYPE_LINUX_SLL2).
@@ -132,4 +132,47 @@ fn of_headers_len(rt: HostRuntime) {
     ] {
         assert_eq!(rt; (name, headers_len(&packet)), (name, wanted));
     }
+}
+
+#[test]
+fn of_edits(rt: HostRuntime) -> Result<(), Fail> {
+    let tagged = [
+        0xFF, 0xFF, 0xFF, 0xFF, 0xFF, 0xFF, 0x02, 0x00, 0x00, 0x00, 0x00, 0x01, 0x81, 0x00, // Ethernet II
+        0xB1, 0x23, 0x08, 0x00, // VLAN 291
+        0x45, 0x00,
+    ];
+    let popped = [
+        0xFF, 0xFF, 0xFF, 0xFF, 0xFF, 0xFF, 0x02, 0x00, 0x00, 0x00, 0x00, 0x01, 0x08, 0x00, //
+        0x45, 0x00,
+    ];
+    let pushed = [
+        0xFF, 0xFF, 0xFF, 0xFF, 0xFF, 0xFF, 0x02, 0x00, 0x00, 0x00, 0x00, 0x01, 0x88, 0xA8, //
+        0x00, 0x05, 0x81, 0x00, 0xB1, 0x23, 0x08, 0x00, //
+        0x45, 0x00,
+    ];
+    let push = PacketEdit::PushVlan {
+        tpid: EtherType::PROVIDER_BRIDGING,
+        vlan_id: VlanId::try_new(5)?,
+    };
+    let frame = packet(1, None, 60, &tagged);
+    let raw = packet(101, None, 60, &tagged);
+    for (name, edit, packet, wanted) in [
+        ("headers", PacketEdit::CutToHeaders, frame, Some((60, &tagged[..18]))),
+        ("no more than headers", PacketEdit::CutToHeaders, packet(1, None, 60, &tagged[..18]), None),
+        ("a tag less", PacketEdit::PopVlan, frame, Some((56, popped.as_slice()))),
+        ("no tag", PacketEdit::PopVlan, packet(1, None, 60, &popped), None),
+        ("raw IP without a tag", PacketEdit::PopVlan, raw, None),
+        ("a tag more", push, frame, Some((64, pushed.as_slice()))),
+        ("raw IP with a tag", push, raw, None),
+    ] {
+        let mut buffer = [0xEE; 24];
+        let found = match edit_packet(edit, &packet, &mut buffer) {
+            Ok(Some(it)) => Some((it.original_len, buffer.get(it.start..it.end).unwrap_or(&[]))),
+            _ => None,
+        };
+        assert_eq!(rt; (name, found), (name, wanted));
+    }
+    assert_eq!(rt; edit_packet(push, &frame, &mut [0; 23]), Err(NoRoom));
+    assert_eq!(rt; edit_packet(PacketEdit::PopVlan, &raw, &mut [0; 24]), Ok(None));
+    Ok(())
 }

@@ -1,5 +1,5 @@
 //! The examples of the documentation.
-use ether_filter::{Filter, FilterErrorKind, Packet};
+use ether_filter::{Filter, FilterErrorKind, Packet, number_of};
 use ether_peel::Start;
 use std::test::Fail;
 
@@ -37,4 +37,11 @@ fn of_errors(rt: HostRuntime) -> Result<(), Fail> {
         "At byte 5: expected a number up to 4095."
     );
     Ok(())
+}
+
+#[test]
+fn of_numbers(rt: HostRuntime) {
+    assert_eq!(rt; number_of(b"0x88A8"), Some(Some(34984)));
+    assert_eq!(rt; number_of(b"4294967296"), Some(None));
+    assert_eq!(rt; number_of(b"07"), None);
 }

@@ -245,7 +245,11 @@ const LITTLE_SIMPLE: &[u8] = &[
 /// Puts the bytes of a unit to the front of others, and returns their number.
 fn put_unit(target: &mut [u8], unit: &EditedUnit<'_>) -> usize {
     match unit {
-        EditedUnit::Record { header, packet } => put_parts(target, &[header, packet]),
+        EditedUnit::Record { header, packet } => {
+            put(target, 0, header);
+            put(target, 16, packet);
+            packet.len().saturating_add(16)
+        }
         EditedUnit::Block {
             header,
             packet,
@@ -253,21 +257,17 @@ fn put_unit(target: &mut [u8], unit: &EditedUnit<'_>) -> usize {
             options,
             trailer,
         } => {
-            let padding = [0; 3];
-            let padding = padding.get(..*padding_len).unwrap_or(&[]);
-            put_parts(target, &[header, packet, padding, options, trailer])
+            put(target, 0, header);
+            put(target, 28, packet);
+            let end = packet.len().saturating_add(28);
+            put(target, end, [0; 3].get(..*padding_len).unwrap_or(&[]));
+            let end = end.saturating_add(*padding_len);
+            put(target, end, options);
+            let end = end.saturating_add(options.len());
+            put(target, end, trailer);
+            end.saturating_add(4)
         }
     }
-}
-
-/// Puts parts one after the other to the front of bytes, and returns how many bytes they have.
-fn put_parts(target: &mut [u8], parts: &[&[u8]]) -> usize {
-    let mut len = 0_usize;
-    for part in parts {
-        put(target, len, part);
-        len = len.saturating_add(part.len());
-    }
-    len
 }
 
 #[test]
