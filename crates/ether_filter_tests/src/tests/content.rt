@@ -157,10 +157,30 @@ fn of_edits(rt: HostRuntime) -> Result<(), Fail> {
     let frame = packet(1, None, 60, &tagged);
     let raw = packet(101, None, 60, &tagged);
     for (name, edit, packet, wanted) in [
-        ("headers", PacketEdit::CutToHeaders, frame, Some((60, &tagged[..18]))),
-        ("no more than headers", PacketEdit::CutToHeaders, packet(1, None, 60, &tagged[..18]), None),
-        ("a tag less", PacketEdit::PopVlan, frame, Some((56, popped.as_slice()))),
-        ("no tag", PacketEdit::PopVlan, packet(1, None, 60, &popped), None),
+        (
+            "headers",
+            PacketEdit::CutToHeaders,
+            frame,
+            Some((60, &tagged[..18])),
+        ),
+        (
+            "no more than headers",
+            PacketEdit::CutToHeaders,
+            packet(1, None, 60, &tagged[..18]),
+            None,
+        ),
+        (
+            "a tag less",
+            PacketEdit::PopVlan,
+            frame,
+            Some((56, popped.as_slice())),
+        ),
+        (
+            "no tag",
+            PacketEdit::PopVlan,
+            packet(1, None, 60, &popped),
+            None,
+        ),
         ("raw IP without a tag", PacketEdit::PopVlan, raw, None),
         ("a tag more", push, frame, Some((64, pushed.as_slice()))),
         ("raw IP with a tag", push, raw, None),
@@ -173,6 +193,9 @@ fn of_edits(rt: HostRuntime) -> Result<(), Fail> {
         assert_eq!(rt; (name, found), (name, wanted));
     }
     assert_eq!(rt; edit_packet(push, &frame, &mut [0; 23]), Err(NoRoom));
-    assert_eq!(rt; edit_packet(PacketEdit::PopVlan, &raw, &mut [0; 24]), Ok(None));
+    assert_eq!(rt;
+        edit_packet(PacketEdit::PopVlan, &raw, &mut [0; 24]),
+        Ok(None)
+    );
     Ok(())
 }
