@@ -161,7 +161,7 @@ ORDER = {
         ether_capture: Run Copying Options
         ether_pcap: Texts PcapngTexts CaptureTexts
         ether_filter: ErrorTexts
-        ether_capture: Outcome Program
+        ether_capture: Outcome Program Tags
     """,
     "C": """
         ether_c: Numbers Starts Found Units Walk
