@@ -241,7 +241,8 @@ pop_done p start frame buffer new tag ok is room there len popped =
     let least = popped_room (next_of start) frame some.0 some.1 tag new is_popped in
     let shorter = length-drop 4 new in
     let after = put_mid 4 (4 + length frame - 4) buffer new in
-    let edited : EditedValue = record { original_len = p.original_len - 4; packet = slice_range after 8 (4 + length p.packet) } in
+    let edited : EditedValue =
+    record { original_len = p.original_len - 4; packet = slice_range after 8 (4 + length p.packet) } in
     let bytes : slice_range after 8 (4 + length p.packet) ≡ drop 4 new ++ drop (length frame) p.packet =
     replaced_front buffer new p.packet (length frame) 4 room there front.0 same (omega (arith, same, shorter, least)) in
     let edited_is : edited ≡ with_frame p frame (drop 4 new) (p.original_len - 4) =

@@ -102,7 +102,8 @@ module _ (Keeps : PacketValue → Type 0) (edit : PacketValue → Option EditedV
       let q = packet_after p (edit p) in
       packets.packet x y (front ++ others) (length front) q (edited_all edit ps) [] None
       (packet_copied bytes front others x y len p (edit p) begins fits)
-      (subst (λ (l : List ℕ). HasPackets y l (edited_all edit ps) [] None) (sym (drop_at front others (length front) refl))
+      (subst (λ (l : List ℕ). HasPackets y l (edited_all edit ps) [] None)
+      (sym (drop_at front others (length front) refl))
       (copy_read y (drop len bytes) others ps rest fault copies (inl (begun bytes x y len (Some p) begins))))
   copy_read x bytes copy kept rest fault (leaves _ y _ _ len p _ _ _ begins not_kept copies) some =
       subst (λ (z : Expectation). HasPackets z copy (edited_all edit kept) [] None) (same_after bytes x y len p begins)

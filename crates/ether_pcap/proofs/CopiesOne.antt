@@ -167,6 +167,7 @@ pub one_copy : (test : PacketValue → Bool) (edit : PacketValue → Option Edit
     → IsBytes bytes → (c.copy ≡ d.copy) × (c.kept ≡ d.kept) × (c.rest ≡ d.rest) × (c.fault ≡ d.fault)
 one_copy test edit x bytes c d ok =
     let Keeps = λ (p : PacketValue). IsTrue (test p) in
-    one_step Keeps edit (length bytes) x bytes c.copy d.copy c.kept d.kept c.rest d.rest c.fault d.fault (omega arith) ok
+    one_step Keeps edit (length bytes) x bytes c.copy d.copy c.kept d.kept c.rest d.rest c.fault d.fault (omega arith)
+    ok
     (first_step Keeps edit x bytes c.copy c.kept c.rest c.fault c.copies)
     (first_step Keeps edit x bytes d.copy d.kept d.rest d.fault d.copies)

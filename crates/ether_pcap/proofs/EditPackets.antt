@@ -65,7 +65,10 @@ unit_too_long x m e unit why =
     elim (room_of e) [
       | long_packet long ↦ none (too_long e long)
       | long_original small long ↦ none (too_large e small long)
-      | fits small four ↦ elim why [ inl long ↦ absurd (omega (arith, long, small)) | inr long ↦ absurd (omega (arith, long, four)) ]
+      | fits small four ↦ elim why [
+        | inl long ↦ absurd (omega (arith, long, small))
+        | inr long ↦ absurd (omega (arith, long, four))
+      ]
     ]
   where
     none : is_too_long e ≡ true → edited_unit x m e unit ≡ None
@@ -96,7 +99,8 @@ record_begins h u new p e begins room =
     let long : length (edited_record h.order e u) ≡ record_len t =
     length-edited_front h.order 8 e u (omega (arith, whole)) in
     let unit = file_record h t (record_edited h.order e u r room.small room.four s.1) in
-    let Unit = λ (l : List ℕ) (k : ℕ) (q : PacketValue). Begins l (Records h) k (Some (edited_packet e q)) (Records h) in
+    let Unit = λ (l : List ℕ) (k : ℕ) (q : PacketValue).
+    Begins l (Records h) k (Some (edited_packet e q)) (Records h) in
     subst (λ (l : List ℕ). Unit l (length l) p) (same_bytes _ _ room.is)
     (subst (λ (k : ℕ). Unit (edited_record h.order e u) k p) (sym long)
     (subst (Unit (edited_record h.order e u) (record_len t)) (sym s.3) unit))
@@ -161,7 +165,8 @@ module _ (order : Order) (interfaces : List CaptureInterfaceValue) (u : List ℕ
       let begins = block_begins order type_bytes inner type_len sound in
       let t : field order u 0 4 ≡ b.value.block_type = b.begins.block_type in
       let other : HasSectionType all → ⊥ =
-      λ (has : HasSectionType all). b.other (ap number (sym (block_bytes-type order type_bytes inner type_len)) ∙ has) in
+      λ (has : HasSectionType all).
+      b.other (ap number (sym (block_bytes-type order type_bytes inner type_len)) ∙ has) in
       let k : EnhancedPacket number_len ≡ kind_of_block (field order u 0 4) = sym (ap kind_of_block t ∙ kind) in
       let q : PacketValue = edited_packet e (packet_on order i v options) in
       let inside : IsBody (EnhancedPacket number_len) order interfaces inner (Some q) interfaces =
