@@ -260,7 +260,8 @@ module _ {W : Type 0} (asked : SelectionValue) (contents : W → Option (List �
     copy = so_far.copy;
     kept = so_far.kept;
     parts = λ edit edits.
-        CopyGoesOn-more asked edit edits input so_far.copy so_far.kept at.reader buffered chunk (so_far.parts edit edits);
+        CopyGoesOn-more asked edit edits input so_far.copy so_far.kept at.reader buffered chunk
+        (so_far.parts edit edits);
     place = ap (λ (l : List ℕ). l ++ chunk) so_far.place ∙ append_assoc so_far.front buffered chunk;
     is_offset = so_far.is_offset;
     written = so_far.written;
@@ -366,7 +367,8 @@ module _ {W : Type 0} (asked : SelectionValue) (contents : W → Option (List �
       → CopyReached asked contents held input (drop len buffered) new to
   CopyReached-unit held input buffered old new y from to len packet own within begins unit_is takes so_far =
       let long : length own ≡ len = ap length unit_is ∙ length-take-le len buffered within in
-      written_unit held input buffered old new y y from to len packet own takes.copy (Some takes.copy) within begins refl
+      written_unit held input buffered old new y y from to len packet own takes.copy (Some takes.copy) within begins
+      refl
       unit_is refl takes.writes takes.written
       (takes.is_offset ∙ ap (λ (k : ℕ). counted (old.offset + k)) long) takes.same_reader so_far
 

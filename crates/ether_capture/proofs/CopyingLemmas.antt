@@ -45,7 +45,8 @@ module _ {W : Type 0} (asked : SelectionValue) (contents : W → Option (List �
         (fault : RunFault)
         → fault ≡ Capture (record { offset = at.offset; error = error }) → Consumes before after input
         → IsLeft after left
-        → ((edit : PacketValue → Option EditedValue) → EditsTo asked.edit edit → (copy : List ℕ) (kept : List PacketValue)
+        → ((edit : PacketValue → Option EditedValue) → EditsTo asked.edit edit → (copy : List ℕ)
+        (kept : List PacketValue)
         → CopyGoesOn asked.select edit input copy kept at.reader buffered
         → Copies (IsCopied asked.select) edit Beginning (input ++ left) copy kept (buffered ++ left)
         (Some (Refused (capture_refusal_view error))))
@@ -168,7 +169,8 @@ module _ {W : Type 0} (asked : SelectionValue) (contents : W → Option (List �
               front = s.front;
               rest = s.buffered ++ left;
               is_copy = λ edit edits.
-                  is_copy asked edit edits (input ++ left) s.copy s.kept (s.buffered ++ left) (Some (NotEdited s.packet))
+                  is_copy asked edit edits (input ++ left) s.copy s.kept (s.buffered ++ left)
+                  (Some (NotEdited s.packet))
                   (copied_to_packet asked edit edits input s.copy s.kept s.expected s.buffered left s.len s.packet
                   (unit_within s.buffered s.expected s.expected s.len (Some s.packet) s.begins) s.begins s.copied
                   (s.not_written edit edits) (s.parts edit edits));
