@@ -1,6 +1,6 @@
 //! Packets that are read, and written with their headers as they are, or as another list.
 use super::frames::{INTEGRITY, TWICE_TAGGED_ARP_REQUEST};
-use ether_packet::{PacketBuilder, PacketSlice};
+use ether_packet::{PacketBuilder, PacketContent, PacketSlice};
 use ether_peel::Start;
 use etherparse::EtherType;
 use etherparse::err::{Layer, SliceWriteSpaceError};
@@ -119,7 +119,9 @@ fn without_room(rt: HostRuntime) -> Result<(), Fail> {
         layer: Layer::EtherPayload,
         layer_start_offset: 0,
     };
-    assert_eq!(rt; parts.builder().write_unchanged(&mut target), Err(error));
+    let builder = parts.builder();
+    assert!(rt; matches!(builder.content, PacketContent::Payload(_, [0x11, 0x22])));
+    assert_eq!(rt; builder.write_unchanged(&mut target), Err(error));
     assert_eq!(rt; target, [0xAA; 17]);
     Ok(())
 }
