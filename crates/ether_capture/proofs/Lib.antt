@@ -1,9 +1,8 @@
 pub mod InputBufferLemmas
 pub mod PacketsLemmas
+pub mod CopiesLemmas
 pub mod FrameLinesLemmas
-pub mod FrameLoopLemmas
+pub mod ProgressLemmas
 pub mod RunLemmas
-pub mod CopyLoopLemmas
-pub mod CopyingLemmas
 pub mod OptionsLemmas
 pub mod TagsLemmas

@@ -5,7 +5,7 @@ use Rattle.std.specs.Option.{option_map, is_none}
 use Rattle.std.specs.Vec.Iter.{into_iter_steps}
 use Rattle.std.specs.declared.vec.IntoIter.{IntoIter}
 use Rattle.ether_text.proofs.ArgumentsLemmas.{words_end}
-use Rattle.ether_capture.specs.Options.{AskedValue, nothing_asked, Asks, no_word, file, plain, write, cut, pop, push, select, IsName, IsWord, AskSame, words_left, clashes, IsRequestOf, OptionsAsk, lines, copy, RequestValue, NamesRequest, help, version, options, RefusesAsked, RefusesOptions, RefusesWords, request_view}
+use Rattle.ether_capture.specs.Options.{AskedValue, nothing_asked, Asks, no_word, file, plain, write, cut, pop, push, select, IsName, IsWord, AskSame, words_left, clashes, IsRequestOf, OptionsAsk, RequestValue, NamesRequest, help, version, options, RefusesAsked, RefusesOptions, RefusesWords, request_view}
 use Rattle.ether_content.specs.Editing.{EditValue, CutToHeaders, PopVlan}
 use Rattle.ether_capture.specs.Tags.{IsPush}
 use Rattle.ether_capture.proofs.TagsLemmas.{push_one}
@@ -306,24 +306,19 @@ none_mapped f (Some x) none = absurd cc
 pub refused_asked : (words : List (List ℕ)) (a : AskedValue) (r : RequestError) → AskSame nothing_asked words a []
     → RefusesAsked a r → RefusesOptions words r
 refused_asked words a reasons.Usage same clash = λ c asks. ap clashes (last_asked a c ((same c).1 asks)) ∙ clash
-refused_asked words a (reasons.Filter e) same no_filter =
-    record { asked = a; asks = (same a).0 (no_word a); no_filter = no_filter }
-refused_asked words a (reasons.CopyFilter e) same no_filter =
+refused_asked words a (reasons.Filter copy e) same no_filter =
     record { asked = a; asks = (same a).0 (no_word a); no_filter = no_filter }
 
 no_clash : (a : AskedValue) → clashes a ≡ true → clashes a ≡ false → ⊥
 no_clash a clash none = let e : true ≡ false = sym clash ∙ none in absurd cc
-
-two_forms : (a : AskedValue) (request : RequestValue) → clashes a ≡ true → IsRequestOf a request → ⊥
-two_forms a request clash (lines s not_copy none is) = no_clash a clash none
-two_forms a request clash (copy s is_copy none is) = no_clash a clash none
 
 names_none : (words : List (List ℕ)) (request : RequestValue) → words ≢ codes "--help" ∷ []
     → words ≢ codes "--version" ∷ []
     → RefusesOptions words reasons.Usage → NamesRequest words request → ⊥
 names_none words request not_help not_version refused help = not_help refl
 names_none words request not_help not_version refused version = not_version refl
-names_none words request not_help not_version refused (options _ a _ asks is) = two_forms a request (refused a asks) is
+names_none words request not_help not_version refused (options _ a _ asks is) =
+    no_clash a (refused a asks) is.goes
 
 -- words that are no lone option, and are wrong as options, are wrong
 pub refused_words : (words : List (List ℕ)) (r : RequestError) → words ≢ codes "--help" ∷ []
@@ -332,8 +327,7 @@ refused_words words reasons.Usage not_help not_version refused = (
   λ request named. names_none words request not_help not_version refused named,
   λ form e none. no_clash none.asked (refused none.asked none.asks) none.no_filter.form.1,
 )
-refused_words words (reasons.Filter e) not_help not_version refused = refused
-refused_words words (reasons.CopyFilter e) not_help not_version refused = refused
+refused_words words (reasons.Filter copy e) not_help not_version refused = refused
 
 -- ---- requests
 

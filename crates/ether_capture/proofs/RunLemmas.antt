@@ -1,13 +1,18 @@
 -- What a run has read and written, one read after another.
-use Rattle.std.proofs.Common.{◌⊎◌, ◌-◌, ◌^◌, ◌≡◌, ◌≢◌, ℕ, ◌<◌, ◌≤◌, List, [], ◌∷◌, ◌++◌, length, drop, Option, Some, None, unwrap_or, Result, Ok, Err, IfOk, IfErr, IsErrAnd, OnOk, refl, sym, ap, subst, ◌∙◌, arith, append_assoc, append-nil}
+use Rattle.std.proofs.Common.{◌⊎◌, ◌-◌, ◌^◌, ◌≡◌, ◌≢◌, ℕ, ◌<◌, ◌≤◌, List, [], ◌∷◌, ◌++◌, length, drop, Bool, Option, Some, None, unwrap_or, Result, Ok, Err, IfOk, IfErr, IsErrAnd, OnOk, refl, sym, ap, subst, ◌∙◌, arith, append_assoc, append-nil}
+use Rattle.std.specs.List.{sum_by}
 use Rattle.std.specs.Io.KnownBytes.{Appends, Consumes, IsAtEnd, Keeps}
+use Rattle.ether_filter.specs.Expressions.{Expression}
 use Rattle.ether_pcap.specs.FileHeader as file
 use Rattle.ether_pcap.specs.Record as record_rows
 use Rattle.ether_pcap.specs.Block as block_rows
 use Rattle.ether_pcap.specs.Section as section_rows
 use Rattle.ether_pcap.specs.Capture.{PacketValue, Expectation, Beginning, CaptureRefusal, Refuses, file_header_refused, file_record_refused, first_section_refused, section_refused, block_refused, body_refused, required_len, IsEnd, HasPackets}
 use Rattle.ether_pcap.specs.CaptureViews.{capture_refusal_view}
-use Rattle.ether_pcap.proofs.CaptureLengths.{required_above}
+use Rattle.ether_pcap.specs.Copies.{CopyFault, Refused, NotEdited}
+use Rattle.ether_pcap.specs.Editing.{EditedValue}
+use Rattle.ether_pcap.proofs.CaptureLengths.{required_above, unit_within}
+use Rattle.ether_pcap.proofs.CaptureLocality.{refusal_local}
 use Rattle.ether_pcap.specs.declared.capture.capture_error.CaptureError.{CaptureError}
 use Rattle.ether_text.specs.OutputBuffer.{contents_of, WritesOut}
 use Rattle.ether_text.specs.declared.output_buffer.OutputBuffer.{OutputBuffer}
@@ -15,15 +20,18 @@ use Rattle.ether_text.specs.declared.verdict.Verdict.{Verdict}
 use Rattle.ether_text.proofs.KnownBytesLemmas.{Appends-then, Consumes-kept}
 use Rattle.ether_text.specs.Run.{IsLeft, BreaksOffAfter, IsEndless}
 use Rattle.ether_text.proofs.RunLemmas.{IsLeft-left_of, IsLeft-end, Consumes-nothing, answers_flushed, stops_flushed, breaks_flushed, answers_slice, stops_slice, breaks_slice, no_endless_slice}
-use Rattle.ether_capture.specs.Options.{LinesValue}
-use Rattle.ether_capture.specs.FrameLines.{totals_line_if}
-use Rattle.ether_capture.specs.Packets.{GoesOn}
-use Rattle.ether_capture.specs.Run.{AnswersCapture, StopsAtFault, EndsInUnit, AnswersSlice, NeedsMemory, HasRun, IsOutput, OnStreamFault, totals_of}
-use Rattle.ether_capture.specs.FrameLoop.{Reached, TakesUnits, LeavesRest}
+use Rattle.ether_content.specs.Editing.{EditValue}
+use Rattle.ether_capture.specs.Copying.{IsCopyTo}
+use Rattle.ether_capture.specs.FrameLines.{skip_count}
+use Rattle.ether_capture.specs.Packets.{counted, GoesOn}
+use Rattle.ether_capture.specs.Progress.{Made, Reached, TakesUnits, Unedited, UneditedIn, StopsAfter, OnNotEdited, IsTakingFault, last_lines}
+use Rattle.ether_capture.specs.Run.{Completes, StopsAtFault, StopsAtPacket, EndsInUnit, AnswersSlice, NeedsMemory, HasRun, OnStreamFault}
+use Rattle.ether_capture.specs.Task.{TaskValue, FormValue, Lines, Copy, IsChosen}
 use Rattle.ether_capture.specs.declared.outcome.RunFault.{RunFault}
-use Rattle.ether_capture.specs.declared.outcome.RunFault.TheVariants.{Capture, NotEdited, Input, Output, Memory}
-use Rattle.ether_capture.specs.declared.frame_loop.FrameLoop.{FrameLoop}
-use Rattle.ether_capture.proofs.PacketsLemmas.{refused_for_good, GoesOn-ended, refused_at_last}
+use Rattle.ether_capture.specs.declared.outcome.RunFault.TheVariants as faults
+use Rattle.ether_capture.specs.declared.progress.Progress.{Progress}
+use Rattle.ether_capture.proofs.CopiesLemmas.{is_copy, copied_to_end, copied_to_refusal, copied_to_packet, read_so_far}
+use Rattle.ether_capture.proofs.PacketsLemmas.{GoesOn-ended, GoesOn-refused}
 
 -- ---- what is left
 
@@ -49,6 +57,11 @@ has_room left x r n held space refused needs same fits =
     let short = required_above left x r n refused needs in
     let e = ap length same in
     omega (arith, short, e, fits)
+
+-- nothing is first in nothing
+nothing_first : (xs ys : List ℕ) → xs ++ ys ≡ [] → xs ≡ []
+nothing_first [] ys e = refl
+nothing_first (b ∷ xs) ys e = absurd cc
 
 -- ---- no bytes are refused for good
 
@@ -86,220 +99,351 @@ refused_nothing bytes x r e (block_refused order interfaces s other (block_rows.
 refused_nothing bytes x r e (body_refused order interfaces b s other begins refused) none =
     let n = ap length e in let w = begins.whole in omega (arith, w, n)
 
+-- ---- what is made of a capture, by how it ends
+
+module _ (select : Option Expression) (bytes front text : List ℕ) (packets kept : List PacketValue) (all : Bool)
+    (x : Expectation) (go : GoesOn front packets x) where
+  abbrev IsCopyBy : (edit : Option EditValue) → (to : PacketValue → Option EditedValue) → (bytes copy rest : List ℕ)
+      → Option CopyFault → Type 0
+  IsCopyBy edit to bytes copy rest fault = IsCopyTo to select edit bytes copy rest fault
+
+  -- it ends after a unit
+  completed : (form : FormValue) → bytes ≡ front → x ≢ Beginning → Made select form packets kept front text all x
+      → Completes select form bytes
+      (text ++ last_lines form (counted (length packets)) (counted (sum_by skip_count packets))) all
+  completed (Lines plain) is begun made = record {
+    packets = packets;
+    lines = text;
+    has =
+        subst (λ (l : List ℕ). HasPackets Beginning l packets [] None) (sym is) (GoesOn-ended front packets x begun go);
+    answered = made;
+    is_text = refl;
+  }
+  completed (Copy edit) is begun made = record {
+    is_copy = λ to edits.
+        subst (λ (l : List ℕ). IsCopyBy edit to l (text ++ []) [] None) (sym is)
+        (subst (λ (l : List ℕ). IsCopyBy edit to front l [] None) (sym (append-nil text))
+        (is_copy select edit to edits front text kept [] None
+        (copied_to_end select edit to edits front text kept x begun (made.0 to edits))));
+    accepted = made.1;
+  }
+
+  -- .. or at a refusal of all that is left
+  stopped : (form : FormValue) (rest : List ℕ) (offset : ℕ) (error : CaptureError)
+      → bytes ≡ front ++ rest → offset ≡ counted (length front)
+      → ¬ (IsEnd x rest) → Refuses rest x (capture_refusal_view error)
+      → Made select form packets kept front text all x
+      → StopsAtFault select form (record { offset = offset; error = error }) bytes text
+  stopped (Lines plain) rest offset error place at more refused made = record {
+    packets = packets;
+    front = front;
+    rest = rest;
+    all_accepted = all;
+    has =
+        subst (λ (l : List ℕ). HasPackets Beginning l packets rest (Some (capture_refusal_view error))) (sym place)
+        (GoesOn-refused front packets x rest (capture_refusal_view error) more refused go);
+    place = place;
+    is_offset = at;
+    answered = made;
+  }
+  stopped (Copy edit) rest offset error place at more refused made =
+      let reason = capture_refusal_view error in
+      record {
+        front = front;
+        rest = rest;
+        is_copy = λ to edits.
+            subst (λ (l : List ℕ). IsCopyBy edit to l text rest (Some (Refused reason))) (sym place)
+            (is_copy select edit to edits (front ++ rest) text kept rest (Some (Refused reason))
+            (copied_to_refusal select edit to edits front text kept x rest reason more refused (made.0 to edits)));
+        place = place;
+        is_offset = at;
+      }
+
+  -- .. or within a unit
+  broken : (Needs : Option ℕ → Type 0) (form : FormValue) (rest : List ℕ) (reason : CaptureRefusal)
+      → bytes ≡ front ++ rest → Refuses rest x reason → Needs (required_len reason)
+      → Made select form packets kept front text all x → EndsInUnit Needs select form bytes text
+  broken Needs (Lines plain) rest reason place refused unfinished made = record {
+    packets = packets;
+    front = front;
+    rest = rest;
+    expected = x;
+    all_accepted = all;
+    reason = reason;
+    parts = go;
+    place = place;
+    begun = refused;
+    unfinished = unfinished;
+    answered = made;
+  }
+  broken Needs (Copy edit) rest reason place refused unfinished made = record {
+    kept = kept;
+    front = front;
+    rest = rest;
+    expected = x;
+    reason = reason;
+    parts = made.0;
+    place = place;
+    begun = refused;
+    unfinished = unfinished;
+    is_read = λ some to edits.
+        read_so_far select edit to edits front text kept x rest reason refused (made.0 to edits) some;
+  }
+
 -- ---- a run
 
-module _ {W : Type 0} (asked : LinesValue) (contents : W → Option (List ℕ)) where
+module _ {W : Type 0} (task : TaskValue) (contents : W → Option (List ℕ)) where
   -- the units of what was buffered are taken
-  pub units_left : (buffered bytes left : List ℕ) (old new : FrameLoop) (from to : OutputBuffer W) (n : ℕ)
+  pub units_left : (buffered bytes left : List ℕ) (old new : Progress) (from to : OutputBuffer W) (n : ℕ)
       (error : CaptureError)
-      → bytes ≡ buffered → left ≡ drop n buffered → TakesUnits asked contents bytes old from n error new to
-      → LeavesRest asked contents buffered old from left error new to
+      → bytes ≡ buffered → left ≡ drop n buffered → TakesUnits task contents bytes old from (drop n bytes) error new to
+      → TakesUnits task contents buffered old from left error new to
   units_left buffered bytes left old new from to n error same is takes =
       let e : drop n bytes ≡ left = ap (drop n) same ∙ sym is in
       record {
         reached = λ held input so_far.
-            subst (λ (l : List ℕ). Reached asked contents held input l new to) e
+            subst (λ (l : List ℕ). Reached task contents held input l new to) e
             (takes.reached held input
-            (subst (λ (l : List ℕ). Reached asked contents held input l old from) (sym same) so_far));
+            (subst (λ (l : List ℕ). Reached task contents held input l old from) (sym same) so_far));
         refused = subst (λ (l : List ℕ). Refuses l new.reader (capture_refusal_view error)) e takes.refused;
       }
 
   module _ (before after held : Option (List ℕ)) where
-    stops : (input buffered left : List ℕ) (at : FrameLoop) (out : OutputBuffer W) (error : CaptureError)
+    stops : (input buffered left : List ℕ) (at : Progress) (out : OutputBuffer W) (error : CaptureError)
         (fault : RunFault)
-        → fault ≡ Capture (record { offset = at.offset; error = error }) → Consumes before after input
-        → IsLeft after left
-        → ((packets : List PacketValue) → GoesOn input packets at.reader buffered
-        → HasPackets Beginning (input ++ left) packets (buffered ++ left) (Some (capture_refusal_view error)))
-        → Reached asked contents held input buffered at out
-        → HasRun asked before after held (contents_of contents out) (Err fault)
-    stops input buffered left at out error fault is read is_left has so_far =
-        subst (λ (f : RunFault). HasRun asked before after held (contents_of contents out) (Err f)) (sym is) (record {
+        → fault ≡ faults.Capture (record { offset = at.offset; error = error }) → Consumes before after input
+        → IsLeft after left → ¬ (IsEnd at.reader (buffered ++ left))
+        → Refuses (buffered ++ left) at.reader (capture_refusal_view error)
+        → Reached task contents held input buffered at out
+        → HasRun task before after held (contents_of contents out) (Err fault)
+    stops input buffered left at out error fault is read is_left more refused so_far =
+        let place = ap (λ (l : List ℕ). l ++ left) so_far.place ∙ append_assoc so_far.front buffered left in
+        subst (λ (f : RunFault). HasRun task before after held (contents_of contents out) (Err f)) (sym is) (record {
           taken = input;
           left = left;
           text = so_far.text;
           read = read;
           is_left = is_left;
           stops =
-              record {
-                packets = so_far.packets;
-                front = so_far.front;
-                rest = buffered ++ left;
-                all_accepted = so_far.all_accepted;
-                has = has so_far.packets so_far.parts;
-                place = ap (λ (l : List ℕ). l ++ left) so_far.place ∙ append_assoc so_far.front buffered left;
-                is_offset = so_far.is_offset;
-                answered = so_far.answered;
-              };
+              stopped task.select (input ++ left) so_far.front so_far.text so_far.packets so_far.kept
+              so_far.all_accepted at.reader so_far.parts task.form (buffered ++ left) at.offset error place
+              so_far.is_offset more refused so_far.made;
           written = so_far.written;
         })
 
     -- a unit is refused, whatever follows
-    pub stopped_for_good : (input buffered : List ℕ) (at : FrameLoop) (out : OutputBuffer W) (error : CaptureError)
+    pub stopped_for_good : (input buffered : List ℕ) (at : Progress) (out : OutputBuffer W) (error : CaptureError)
         (fault : RunFault)
-        → fault ≡ Capture (record { offset = at.offset; error = error }) → Consumes before after input
+        → fault ≡ faults.Capture (record { offset = at.offset; error = error }) → Consumes before after input
         → Refuses buffered at.reader (capture_refusal_view error) → required_len (capture_refusal_view error) ≡ None
-        → Reached asked contents held input buffered at out
-        → HasRun asked before after held (contents_of contents out) (Err fault)
+        → Reached task contents held input buffered at out
+        → HasRun task before after held (contents_of contents out) (Err fault)
     stopped_for_good input buffered at out error fault is read refused none so_far =
         let left : List ℕ = unwrap_or after [] in
+        let r = capture_refusal_view error in
         stops input buffered left at out error fault is read (IsLeft-left_of after)
-        (λ packets go. refused_for_good input packets at.reader buffered left (capture_refusal_view error)
-        (λ e. refused_nothing buffered at.reader (capture_refusal_view error) e refused none) refused none go) so_far
+        (λ end. refused_nothing buffered at.reader r (nothing_first buffered left end.1) refused none)
+        (refusal_local buffered left at.reader r refused none) so_far
 
     -- the capture ends within a unit
-    pub stopped_at_end : (input buffered : List ℕ) (at : FrameLoop) (out : OutputBuffer W) (error : CaptureError)
+    pub stopped_at_end : (input buffered : List ℕ) (at : Progress) (out : OutputBuffer W) (error : CaptureError)
         (fault : RunFault)
-        → fault ≡ Capture (record { offset = at.offset; error = error }) → Consumes before after input → IsAtEnd after
-        → ¬ (IsEnd at.reader buffered) → Refuses buffered at.reader (capture_refusal_view error)
-        → Reached asked contents held input buffered at out
-        → HasRun asked before after held (contents_of contents out) (Err fault)
+        → fault ≡ faults.Capture (record { offset = at.offset; error = error }) → Consumes before after input
+        → IsAtEnd after → ¬ (IsEnd at.reader buffered) → Refuses buffered at.reader (capture_refusal_view error)
+        → Reached task contents held input buffered at out
+        → HasRun task before after held (contents_of contents out) (Err fault)
     stopped_at_end input buffered at out error fault is read end more refused so_far =
+        let none = sym (append-nil buffered) in
         stops input buffered [] at out error fault is read (IsLeft-end after end)
-        (λ packets go. refused_at_last input packets at.reader buffered (capture_refusal_view error) more refused go)
-        so_far
+        (subst (λ (l : List ℕ). ¬ (IsEnd at.reader l)) none more)
+        (subst (λ (l : List ℕ). Refuses l at.reader (capture_refusal_view error)) none refused) so_far
 
-    -- all packets are answered
-    pub finished : (input buffered : List ℕ) (at : FrameLoop) (from to : OutputBuffer W) (r : Result Verdict RunFault)
+    -- all units are taken
+    pub finished : (input buffered : List ℕ) (at : Progress) (from to : OutputBuffer W) (r : Result Verdict RunFault)
         → Consumes before after input → IsAtEnd after → IsEnd at.reader buffered
         → IfOk r (λ verdict. verdict ≡ at.verdict)
         → OnOk r
-        (Appends (contents_of contents from) (contents_of contents to)
-        (totals_line_if asked.plain at.count at.skipped))
-        → IfErr r IsOutput
-        → Reached asked contents held input buffered at from
-        → HasRun asked before after held (contents_of contents to) r
+        (Appends (contents_of contents from) (contents_of contents to) (last_lines task.form at.count at.skipped))
+        → IfErr r (λ fault. fault ≡ faults.Output)
+        → Reached task contents held input buffered at from
+        → HasRun task before after held (contents_of contents to) r
     finished input buffered at from to (Ok verdict) read end over is written fault so_far =
-        let totals : totals_line_if asked.plain at.count at.skipped ≡ totals_of asked so_far.packets =
-        (λ i. totals_line_if asked.plain (so_far.is_count i) (so_far.is_skipped i)) in
+        let last = last_lines task.form (counted (length so_far.packets)) (counted (sum_by skip_count so_far.packets)) in
+        let same : last_lines task.form at.count at.skipped ≡ last =
+        (λ i. last_lines task.form (so_far.is_count i) (so_far.is_skipped i)) in
+        let whole : input ≡ so_far.front =
+        so_far.place ∙ ap (λ (l : List ℕ). so_far.front ++ l) over.1 ∙ append-nil so_far.front in
         record {
           input = input;
-          text = so_far.text ++ totals_of asked so_far.packets;
+          text = so_far.text ++ last;
           all_accepted = so_far.all_accepted;
           read = read;
           at_end = end;
           answered =
-              record {
-                packets = so_far.packets;
-                lines = so_far.text;
-                has =
-                    GoesOn-ended input so_far.packets at.reader over.0
-                    (subst (λ (l : List ℕ). GoesOn input so_far.packets at.reader l) over.1 so_far.parts);
-                answered = so_far.answered;
-                is_text = refl;
-              };
+              completed task.select input so_far.front so_far.text so_far.packets so_far.kept so_far.all_accepted
+              at.reader so_far.parts task.form whole over.0 so_far.made;
           is_verdict = is ∙ so_far.is_verdict;
           written =
-              Appends-then held (contents_of contents from) (contents_of contents to) so_far.text
-              (totals_of asked so_far.packets) so_far.written
-              (subst (λ (t : List ℕ). Appends (contents_of contents from) (contents_of contents to) t) totals written);
+              Appends-then held (contents_of contents from) (contents_of contents to) so_far.text last so_far.written
+              (subst (λ (t : List ℕ). Appends (contents_of contents from) (contents_of contents to) t) same written);
         }
     finished input buffered at from to (Err fault) read end over is written failed so_far =
-        subst (λ (f : RunFault). HasRun asked before after held (contents_of contents to) (Err f)) (sym failed) tt
+        subst (λ (f : RunFault). HasRun task before after held (contents_of contents to) (Err f)) (sym failed) tt
 
     -- a unit is not whole
-    breaks_off : (Needs : Option ℕ → Type 0) (input buffered : List ℕ) (at : FrameLoop) (out : OutputBuffer W)
+    breaks_off : (Needs : Option ℕ → Type 0) (input buffered : List ℕ) (at : Progress) (out : OutputBuffer W)
         (reason : CaptureRefusal)
         → Consumes before after input → Refuses buffered at.reader reason → Needs (required_len reason)
-        → Reached asked contents held input buffered at out
-        → BreaksOffAfter (EndsInUnit Needs asked) before after held (contents_of contents out)
+        → Reached task contents held input buffered at out
+        → BreaksOffAfter (EndsInUnit Needs task.select task.form) before after held (contents_of contents out)
     breaks_off Needs input buffered at out reason read refused unfinished so_far = record {
       taken = input;
       text = so_far.text;
       read = read;
       begins =
-          record {
-            packets = so_far.packets;
-            expected = at.reader;
-            buffered = buffered;
-            all_accepted = so_far.all_accepted;
-            reason = reason;
-            parts = so_far.parts;
-            begun = refused;
-            unfinished = unfinished;
-            answered = so_far.answered;
-          };
+          broken task.select input so_far.front so_far.text so_far.packets so_far.kept so_far.all_accepted at.reader
+          so_far.parts Needs task.form buffered reason so_far.place refused unfinished so_far.made;
       written = so_far.written;
     }
 
     -- a read fails
-    pub broken_off : (mid : Option (List ℕ)) (r : Result Verdict RunFault) (input buffered : List ℕ) (at : FrameLoop)
+    pub broken_off : (mid : Option (List ℕ)) (r : Result Verdict RunFault) (input buffered : List ℕ) (at : Progress)
         (out : OutputBuffer W) (reason : CaptureRefusal)
-        → Consumes before mid input → Keeps mid after → IsErrAnd r (λ fault. fault ≡ Input)
+        → Consumes before mid input → Keeps mid after → IsErrAnd r (λ fault. fault ≡ faults.Input)
         → Refuses buffered at.reader reason → required_len reason ≢ None
-        → Reached asked contents held input buffered at out
-        → HasRun asked before after held (contents_of contents out) r
+        → Reached task contents held input buffered at out
+        → HasRun task before after held (contents_of contents out) r
     broken_off mid (Ok verdict) input buffered at out reason read kept is refused needed so_far = absurd is
     broken_off mid (Err fault) input buffered at out reason read kept is refused needed so_far =
-        subst (λ (f : RunFault). HasRun asked before after held (contents_of contents out) (Err f)) (sym is)
+        subst (λ (f : RunFault). HasRun task before after held (contents_of contents out) (Err f)) (sym is)
         (breaks_off (λ n. n ≢ None) input buffered at out reason (Consumes-kept before mid after input read kept)
         refused needed so_far)
 
     -- memory is refused
-    pub without_memory : (r : Result Verdict RunFault) (input buffered : List ℕ) (at : FrameLoop) (out : OutputBuffer W)
+    pub without_memory : (r : Result Verdict RunFault) (input buffered : List ℕ) (at : Progress) (out : OutputBuffer W)
         (reason : CaptureRefusal) (n : ℕ)
-        → IsErrAnd r (λ fault. fault ≡ Memory) → Consumes before after input → Refuses buffered at.reader reason
+        → IsErrAnd r (λ fault. fault ≡ faults.Memory) → Consumes before after input → Refuses buffered at.reader reason
         → required_len reason ≡ Some n → 65536 < n
-        → Reached asked contents held input buffered at out
-        → HasRun asked before after held (contents_of contents out) r
+        → Reached task contents held input buffered at out
+        → HasRun task before after held (contents_of contents out) r
     without_memory (Ok verdict) input buffered at out reason n is read refused needs large so_far = absurd is
     without_memory (Err fault) input buffered at out reason n is read refused needs large so_far =
-        subst (λ (f : RunFault). HasRun asked before after held (contents_of contents out) (Err f)) (sym is)
+        subst (λ (f : RunFault). HasRun task before after held (contents_of contents out) (Err f)) (sym is)
         (breaks_off NeedsMemory input buffered at out reason read refused (subst NeedsMemory (sym needs) large) so_far)
+
+    -- a packet can't be edited
+    at_packet : (form : FormValue) (input : List ℕ) (offset : ℕ) (out : OutputBuffer W)
+        → Consumes before after input → UneditedIn task.select form contents held input offset out
+        → HasRun (record task { form = form }) before after held (contents_of contents out) (Err (faults.NotEdited offset))
+    at_packet (Lines plain) input offset out read s = absurd s
+    at_packet (Copy edit) input offset out read s =
+        let left : List ℕ = unwrap_or after [] in
+        let place = ap (λ (l : List ℕ). l ++ left) s.place ∙ append_assoc s.front s.buffered left in
+        record {
+          taken = input;
+          left = left;
+          text = s.copy;
+          read = read;
+          is_left = IsLeft-left_of after;
+          stops = (
+            s.packet,
+            record {
+              front = s.front;
+              rest = s.buffered ++ left;
+              is_copy = λ to edits.
+                  subst (λ (l : List ℕ). IsCopyTo to task.select edit l s.copy (s.buffered ++ left) (Some (NotEdited s.packet)))
+                  (sym place)
+                  (is_copy task.select edit to edits (s.front ++ (s.buffered ++ left)) s.copy s.kept (s.buffered ++ left)
+                  (Some (NotEdited s.packet))
+                  (copied_to_packet task.select edit to edits s.front s.copy s.kept s.expected s.buffered left s.len
+                  s.packet
+                  (unit_within s.buffered s.expected s.expected s.len (Some s.packet) s.begins) s.begins s.copied
+                  (s.not_written to edits) (s.parts to edits)));
+              place = place;
+              is_offset = s.is_offset;
+            },
+          );
+          written = s.written;
+        }
+
+    -- .. or the writer fails
+    stopped_taking : (fault : RunFault) (input buffered : List ℕ) (old : Progress) (from to : OutputBuffer W)
+        → IsTakingFault fault → OnNotEdited fault (λ offset. StopsAfter task contents buffered old from offset to)
+        → Consumes before after input → Reached task contents held input buffered old from
+        → HasRun task before after held (contents_of contents to) (Err fault)
+    stopped_taking (faults.Capture fault) input buffered old from to is stops read so_far = absurd is
+    stopped_taking (faults.NotEdited offset) input buffered old from to is stops read so_far =
+        at_packet task.form input offset to read (stops held input so_far)
+    stopped_taking faults.Input input buffered old from to is stops read so_far = absurd is
+    stopped_taking faults.Output input buffered old from to is stops read so_far = tt
+    stopped_taking faults.Memory input buffered old from to is stops read so_far = absurd is
+
+    pub stopped_with : (r : Result Verdict RunFault) (fault : RunFault) (input buffered : List ℕ) (old : Progress)
+        (from to : OutputBuffer W)
+        → IsErrAnd r (λ other. other ≡ fault) → IsTakingFault fault
+        → OnNotEdited fault (λ offset. StopsAfter task contents buffered old from offset to)
+        → Consumes before after input → Reached task contents held input buffered old from
+        → HasRun task before after held (contents_of contents to) r
+    stopped_with (Ok verdict) fault input buffered old from to is of stops read so_far = absurd is
+    stopped_with (Err other) fault input buffered old from to is of stops read so_far =
+        subst (λ (f : RunFault). HasRun task before after held (contents_of contents to) (Err f)) (sym is)
+        (stopped_taking fault input buffered old from to of stops read so_far)
 
 -- ---- the closing flush
 
 -- all that waited is passed to the writer
-pub HasRun-flushed : {W : Type 0} (asked : LinesValue) (contents : W → Option (List ℕ))
+pub HasRun-flushed : {W : Type 0} (task : TaskValue) (contents : W → Option (List ℕ))
     (before after held : Option (List ℕ))
     (from to : OutputBuffer W) (r : Result Verdict RunFault)
-    → WritesOut contents from to → HasRun asked before after held (contents_of contents from) r
-    → HasRun asked before after held (contents to.writer.now) r
-HasRun-flushed asked contents before after held from to (Ok verdict) drains h =
+    → WritesOut contents from to → HasRun task before after held (contents_of contents from) r
+    → HasRun task before after held (contents to.writer.now) r
+HasRun-flushed task contents before after held from to (Ok verdict) drains h =
     answers_flushed contents before after held from to drains verdict h
-HasRun-flushed asked contents before after held from to (Err (Capture fault)) drains h =
+HasRun-flushed task contents before after held from to (Err (faults.Capture fault)) drains h =
     stops_flushed contents before after held from to drains h
-HasRun-flushed asked contents before after held from to (Err (NotEdited offset)) drains h = absurd h
-HasRun-flushed asked contents before after held from to (Err Input) drains h =
+HasRun-flushed task contents before after held from to (Err (faults.NotEdited offset)) drains h =
+    stops_flushed contents before after held from to drains h
+HasRun-flushed task contents before after held from to (Err faults.Input) drains h =
     breaks_flushed contents before after held from to drains h
-HasRun-flushed asked contents before after held from to (Err Output) drains h = tt
-HasRun-flushed asked contents before after held from to (Err Memory) drains h =
+HasRun-flushed task contents before after held from to (Err faults.Output) drains h = tt
+HasRun-flushed task contents before after held from to (Err faults.Memory) drains h =
     breaks_flushed contents before after held from to drains h
 
 -- what is said of known bytes is said of the same bytes
-pub HasRun-same : (asked : LinesValue) (r : Result Verdict RunFault)
+pub HasRun-same : (task : TaskValue) (r : Result Verdict RunFault)
     (before after held holds before' after' held' holds' : Option (List ℕ))
-    → before ≡ before' → after ≡ after' → held ≡ held' → holds ≡ holds' → HasRun asked before after held holds r
-    → HasRun asked before' after' held' holds' r
-HasRun-same asked r before after held holds before' after' held' holds' e f g h =
-    subst (λ (t : Type 0). t) (λ i. HasRun asked (e i) (f i) (g i) (h i) r)
+    → before ≡ before' → after ≡ after' → held ≡ held' → holds ≡ holds' → HasRun task before after held holds r
+    → HasRun task before' after' held' holds' r
+HasRun-same task r before after held holds before' after' held' holds' e f g h =
+    subst (λ (t : Type 0). t) (λ i. HasRun task (e i) (f i) (g i) (h i) r)
 
 -- ---- a run over a slice
 
-slice_answers : (asked : LinesValue) (can_fail : Type 0) (bytes : List ℕ) (after held holds : Option (List ℕ))
+slice_answers : (task : TaskValue) (can_fail : Type 0) (bytes : List ℕ) (after held holds : Option (List ℕ))
     (r : Result Verdict RunFault)
     → length bytes < 2 ^ 64 - 1
-    → HasRun asked (Some bytes) after held holds r
+    → HasRun task (Some bytes) after held holds r
     → IfErr r (λ fault. OnStreamFault fault (⊥ ⊎ IsEndless (Some bytes) after) can_fail)
-    → AnswersSlice asked can_fail bytes held holds r
-slice_answers asked can_fail bytes after held holds (Ok verdict) short h failed =
-    answers_slice (AnswersCapture asked) bytes after held holds verdict h
-slice_answers asked can_fail bytes after held holds (Err (Capture fault)) short h failed =
-    stops_slice (StopsAtFault asked fault) bytes after held holds h
-slice_answers asked can_fail bytes after held holds (Err (NotEdited offset)) short h failed = absurd h
-slice_answers asked can_fail bytes after held holds (Err Input) short h failed =
+    → AnswersSlice task can_fail bytes held holds r
+slice_answers task can_fail bytes after held holds (Ok verdict) short h failed =
+    answers_slice (Completes task.select task.form) bytes after held holds verdict h
+slice_answers task can_fail bytes after held holds (Err (faults.Capture fault)) short h failed =
+    stops_slice (StopsAtFault task.select task.form fault) bytes after held holds h
+slice_answers task can_fail bytes after held holds (Err (faults.NotEdited offset)) short h failed =
+    stops_slice (StopsAtPacket task.select task.form offset) bytes after held holds h
+slice_answers task can_fail bytes after held holds (Err faults.Input) short h failed =
     absurd (no_endless_slice bytes after short failed)
-slice_answers asked can_fail bytes after held holds (Err Output) short h failed = failed
-slice_answers asked can_fail bytes after held holds (Err Memory) short h failed =
-    breaks_slice (EndsInUnit NeedsMemory asked) bytes after held holds h
+slice_answers task can_fail bytes after held holds (Err faults.Output) short h failed = failed
+slice_answers task can_fail bytes after held holds (Err faults.Memory) short h failed =
+    breaks_slice (EndsInUnit NeedsMemory task.select task.form) bytes after held holds h
 
-pub slice_answered : (asked : LinesValue) (can_fail : Type 0) (bytes : List ℕ)
+pub slice_answered : (task : TaskValue) (can_fail : Type 0) (bytes : List ℕ)
     (before after held holds : Option (List ℕ))
     (r : Result Verdict RunFault)
-    → before ≡ Some bytes → length bytes < 2 ^ 64 - 1 → HasRun asked before after held holds r
+    → before ≡ Some bytes → length bytes < 2 ^ 64 - 1 → HasRun task before after held holds r
     → IfErr r (λ fault. OnStreamFault fault (⊥ ⊎ IsEndless before after) can_fail)
-    → AnswersSlice asked can_fail bytes held holds r
-slice_answered asked can_fail bytes before after held holds r is short h failed =
-    slice_answers asked can_fail bytes after held holds r short
-    (subst (λ (o : Option (List ℕ)). HasRun asked o after held holds r) is h)
+    → AnswersSlice task can_fail bytes held holds r
+slice_answered task can_fail bytes before after held holds r is short h failed =
+    slice_answers task can_fail bytes after held holds r short
+    (subst (λ (o : Option (List ℕ)). HasRun task o after held holds r) is h)
     (subst (λ (o : Option (List ℕ)). IfErr r (λ fault. OnStreamFault fault (⊥ ⊎ IsEndless o after) can_fail)) is failed)

@@ -2,13 +2,12 @@
 use Rattle.std.specs.Prelude.{◌≡◌, ℕ, ◌+◌, ◌/◌, ◌%◌, ◌^◌, ◌⊎◌, List, [], ◌∷◌, ◌++◌, length, codes, Bool, true, false, Option, Some, None, if◌then◌else◌}
 use Rattle.std.specs.Fmt.{decimal}
 use Rattle.ether_content.specs.Content.{ContentValue, Frame, LinuxSll2, Unknown, content_of, is_cut, is_unknown}
-use Rattle.ether_content.specs.Selecting.{Selects}
 use Rattle.ether_filter.specs.Expressions.{Expression}
 use Rattle.ether_text.specs.Lines.{spaced}
 use Rattle.ether_text.specs.WalkText.{AnswersWalk}
 use Rattle.ether_pcap.specs.Capture.{PacketValue, TimeValue}
 use Rattle.ether_capture.specs.LinuxSll2Lines.{AnswersLinuxSll2}
-use Rattle.ether_capture.specs.Options.{LinesValue}
+use Rattle.ether_capture.specs.Task.{IsChosen}
 
 -- the packet has no lines of a walk
 abbrev pub is_skipped : PacketValue → Bool
@@ -59,15 +58,10 @@ pub record HasLines (plain : Bool) (number : ℕ) (p : PacketValue) (text : List
   pub content : AnswersContent (content_of p) lines accepted
   pub whole : text ≡ packet_line_if plain number p ++ lines
 
--- .. if no filter leaves it out
-abbrev pub AnswersChosen : (select : Option Expression) → (plain : Bool) → ℕ → PacketValue → (text : List ℕ) → (accepted : Bool) → Type 0
-AnswersChosen None plain number p text accepted = HasLines plain number p text accepted
-AnswersChosen (Some x) plain number p text accepted =
-    (Selects x p × HasLines plain number p text accepted) ⊎ ((Selects x p → ⊥) × (text ≡ []) × (accepted ≡ true))
-
--- .. as it is asked for
-abbrev pub AnswersPacket : (asked : LinesValue) → ℕ → PacketValue → (text : List ℕ) → (accepted : Bool) → Type 0
-AnswersPacket asked number p text accepted = AnswersChosen asked.select asked.plain number p text accepted
+-- .. if it is chosen
+abbrev pub AnswersPacket : (select : Option Expression) → (plain : Bool) → ℕ → PacketValue → (text : List ℕ) → (accepted : Bool) → Type 0
+AnswersPacket select plain number p text accepted =
+    (IsChosen select p × HasLines plain number p text accepted) ⊎ (¬ (IsChosen select p) × (text ≡ []) × (accepted ≡ true))
 
 -- ---- the line after those of all packets
 

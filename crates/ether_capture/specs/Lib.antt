@@ -1,12 +1,13 @@
 pub mod InputBuffer
 pub mod Packets
+pub mod Task
 pub mod LinuxSll2Lines
 pub mod FrameLines
+pub mod Answering
+pub mod Copying
 pub mod Options
 pub mod Run
 pub mod Outcome
-pub mod FrameLoop
-pub mod Copying
-pub mod CopyLoop
+pub mod Progress
 pub mod Program
 pub mod Tags

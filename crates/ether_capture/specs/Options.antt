@@ -10,42 +10,23 @@ use Rattle.ether_filter.specs.declared.filter_error.FilterError.{FilterError}
 use Rattle.ether_content.specs.Editing.{EditValue, CutToHeaders, PopVlan}
 use Rattle.ether_content.specs.EditingViews.{edit_view}
 use Rattle.ether_capture.specs.Tags.{IsPush}
+use Rattle.ether_capture.specs.Task.{TaskValue, FormValue, Lines, Copy, task_view}
 use Rattle.ether_capture.specs.declared.options.Asked.{Asked}
-use Rattle.ether_capture.specs.declared.options.Lines.{Lines}
 use Rattle.ether_capture.specs.declared.options.RequestError.{RequestError}
 use Rattle.ether_capture.specs.declared.options.RequestError.TheVariants as reasons
 use Rattle.ether_capture.specs.declared.options.Request.{Request}
 use Rattle.ether_capture.specs.declared.options.Request.TheVariants as requests
-use Rattle.ether_capture.specs.declared.options.Selection.{Selection}
 use Rattle.ether_capture.specs.declared.options.Word.{Word}
 use Rattle.ether_capture.specs.declared.options.Word.TheVariants as kinds
 
--- the lines of walks alone, or those of packets and of totals, too; of all packets, or of those that an expression selects
-pub record LinesValue : Type 0 where
-  pub plain : Bool
-  pub select : Option Expression
-
-abbrev pub lines_view : Lines → LinesValue
-lines_view asked = record { plain = asked.is_plain; select = asked.filter }
-
--- the packets that an expression selects, or all; each as it is, or edited
-pub record SelectionValue : Type 0 where
-  pub select : Option Expression
-  pub edit : Option EditValue
-
-abbrev pub selection_view : Selection → SelectionValue
-selection_view asked = record { select = asked.filter; edit = option_map edit_view asked.edit }
-
--- these lines of the capture in the file of this name, or of standard input; a copy of the capture with these packets; the usage; the version
+-- this is made of the capture in the file of this name, or of standard input; the usage; the version
 pub data RequestValue : Type 0 where
-  Capture : LinesValue → (file : Option (List ℕ)) → RequestValue
-  Copy : SelectionValue → (file : Option (List ℕ)) → RequestValue
+  Run : TaskValue → (file : Option (List ℕ)) → RequestValue
   Help : RequestValue
   Version : RequestValue
 
 abbrev pub request_view : Request → RequestValue
-request_view (requests.Capture asked file) = Capture (lines_view asked) (option_map string_bytes file)
-request_view (requests.Copy asked file) = Copy (selection_view asked) (option_map string_bytes file)
+request_view (requests.Run task file) = Run (task_view task) (option_map string_bytes file)
 request_view requests.Help = Help
 request_view requests.Version = Version
 
@@ -97,12 +78,16 @@ IsSelection text other = ⊥
 abbrev pub clashes : AskedValue → Bool
 clashes a = if a.write then a.plain else is_some a.edit
 
--- what is asked for is lines, or a copy
-pub data IsRequestOf (a : AskedValue) : RequestValue → Type 0 where
-  lines : (select : Option Expression) → a.write ≡ false → clashes a ≡ false → IsSelection a.text select
-      → IsRequestOf a (Capture (record { plain = a.plain; select = select }) a.file)
-  copy : (select : Option Expression) → a.write ≡ true → clashes a ≡ false → IsSelection a.text select
-      → IsRequestOf a (Copy (record { select = select; edit = a.edit }) a.file)
+-- lines are asked for, or a copy
+abbrev pub form_of : AskedValue → FormValue
+form_of a = if a.write then Copy a.edit else Lines a.plain
+
+-- this is what is asked for
+pub record IsRequestOf (a : AskedValue) (request : RequestValue) : Type 0 where
+  pub select : Option Expression
+  pub goes : clashes a ≡ false
+  pub selects : IsSelection a.text select
+  pub is : request ≡ Run (record { select = select; form = form_of a }) a.file
 
 pub data NamesRequest : List (List ℕ) → RequestValue → Type 0 where
   help : NamesRequest (codes "--help" ∷ []) Help
@@ -128,8 +113,7 @@ pub record NamesNoFilter (words : List (List ℕ)) (copy : Bool) (e : FilterErro
 -- why words are wrong
 abbrev pub RefusesWords : List (List ℕ) → RequestError → Type 0
 RefusesWords words reasons.Usage = NamesNothing words × ((copy : Bool) (e : FilterError) → ¬ (NamesNoFilter words copy e))
-RefusesWords words (reasons.Filter e) = NamesNoFilter words false e
-RefusesWords words (reasons.CopyFilter e) = NamesNoFilter words true e
+RefusesWords words (reasons.Filter copy e) = NamesNoFilter words copy e
 
 -- ---- one word after another
 
@@ -175,8 +159,7 @@ RefusesSelection (Some text) e = RefusesText text e
 -- why what is asked for is no request
 abbrev pub RefusesAsked : AskedValue → RequestError → Type 0
 RefusesAsked a reasons.Usage = clashes a ≡ true
-RefusesAsked a (reasons.Filter e) = HasNoFilter a false e
-RefusesAsked a (reasons.CopyFilter e) = HasNoFilter a true e
+RefusesAsked a (reasons.Filter copy e) = HasNoFilter a copy e
 
 -- options ask for this
 abbrev pub OptionsAsk : (words : List (List ℕ)) → RequestValue → Type 0
@@ -185,5 +168,4 @@ OptionsAsk words request = (a : AskedValue) × Asks nothing_asked words a × IsR
 -- why they are wrong
 abbrev pub RefusesOptions : (words : List (List ℕ)) → RequestError → Type 0
 RefusesOptions words reasons.Usage = (a : AskedValue) → Asks nothing_asked words a → clashes a ≡ true
-RefusesOptions words (reasons.Filter e) = NamesNoFilter words false e
-RefusesOptions words (reasons.CopyFilter e) = NamesNoFilter words true e
+RefusesOptions words (reasons.Filter copy e) = NamesNoFilter words copy e

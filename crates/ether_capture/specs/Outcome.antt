@@ -1,5 +1,5 @@
 -- How the program ends: what it prints last, and its exit status.
-use Rattle.std.specs.Prelude.{ℕ, ◌/◌, ◌^◌, List, [], ◌++◌, codes, nat_eq, Option, Some, None, Result, Ok, Err, Bool, true, false, if◌then◌else◌, string_bytes}
+use Rattle.std.specs.Prelude.{ℕ, ◌/◌, ◌^◌, List, [], ◌++◌, codes, nat_eq, Option, Some, None, Result, Ok, Err, Bool, true, false, ◌||◌, if◌then◌else◌, string_bytes}
 use Rattle.std.specs.Fmt.{decimal}
 use Rattle.ether_pcap.specs.CaptureTexts.{capture_error_text}
 use Rattle.ether_pcap.specs.declared.capture.capture_error.CaptureError.{CaptureError}
@@ -79,36 +79,34 @@ last_text_of_run (Err Memory) = Some memory_text
 
 -- what the program prints last, without its line feed
 abbrev pub last_text : Outcome → Option (List ℕ)
-last_text (outcomes.Run outcome) = last_text_of_run outcome
-last_text (outcomes.NotOpened name) = Some (not_opened_text (string_bytes name))
+last_text (outcomes.Run copy end) = last_text_of_run end
+last_text (outcomes.NotOpened copy name) = Some (not_opened_text (string_bytes name))
+last_text (outcomes.NoFilter copy error) = Some (no_filter_text error)
 last_text outcomes.Help = Some help_text
 last_text outcomes.Version = Some version_text
 last_text outcomes.Usage = Some usage_text
-last_text (outcomes.NoFilter error) = Some (no_filter_text error)
-last_text (outcomes.Copy outcome) = last_text_of_run outcome
-last_text (outcomes.CopyNotOpened name) = Some (not_opened_text (string_bytes name))
-last_text (outcomes.CopyNoFilter error) = Some (no_filter_text error)
 
 -- what is printed last is a message: the words are wrong, or a copy was asked for
 abbrev pub is_message : Outcome → Bool
+is_message (outcomes.Run copy end) = copy
+is_message (outcomes.NotOpened copy name) = copy
+is_message (outcomes.NoFilter copy error) = copy
+is_message outcomes.Help = false
+is_message outcomes.Version = false
 is_message outcomes.Usage = true
-is_message (outcomes.Copy outcome) = true
-is_message (outcomes.CopyNotOpened name) = true
-is_message (outcomes.CopyNoFilter error) = true
-is_message outcome = false
 
--- the exit status of the program, by whether its last line was printed: if not, output failed, unless the line is a message
+-- the exit status of an outcome
+abbrev pub status_of_outcome : Outcome → ℕ
+status_of_outcome (outcomes.Run copy end) = exit_status end
+status_of_outcome (outcomes.NotOpened copy name) = exit_status (Err Input)
+status_of_outcome (outcomes.NoFilter copy error) = 2
+status_of_outcome outcomes.Help = 0
+status_of_outcome outcomes.Version = 0
+status_of_outcome outcomes.Usage = 2
+
+-- that of the program, by whether its last line was printed: if not, output failed, unless the line is a message
 abbrev pub status_of_program : Outcome → (printed : Bool) → ℕ
-status_of_program outcomes.Usage printed = 2
-status_of_program (outcomes.Copy outcome) printed = exit_status outcome
-status_of_program (outcomes.CopyNotOpened name) printed = exit_status (Err Input)
-status_of_program (outcomes.CopyNoFilter error) printed = 2
-status_of_program outcome false = exit_status (Err Output)
-status_of_program (outcomes.Run outcome) true = exit_status outcome
-status_of_program (outcomes.NotOpened name) true = exit_status (Err Input)
-status_of_program outcomes.Help true = 0
-status_of_program outcomes.Version true = 0
-status_of_program (outcomes.NoFilter error) true = 2
+status_of_program outcome printed = if printed || is_message outcome then status_of_outcome outcome else exit_status (Err Output)
 
 abbrev pub last_line_text : LastLine → List ℕ
 last_line_text (last_lines.Fault fault) = fault_line_text fault.now

@@ -6,8 +6,8 @@ use Rattle.ether_pcap.specs.Capture.{PacketValue, Expectation, Beginning, Captur
 abbrev pub counted : ℕ → ℕ
 counted n = min n (2 ^ 64 - 1)
 
--- These packets come first, whatever is still to come: where this is expected, and of the input these bytes are left.
-abbrev pub GoesOn : (input : List ℕ) → List PacketValue → Expectation → (buffered : List ℕ) → Type 0
-GoesOn input packets x buffered =
+-- A capture that begins with these bytes, whole units, has these packets first, and then those that follow where this is expected.
+abbrev pub GoesOn : (front : List ℕ) → List PacketValue → Expectation → Type 0
+GoesOn front packets x =
     (later : List ℕ) (others : List PacketValue) (rest : List ℕ) (fault : Option CaptureRefusal)
-    → HasPackets x (buffered ++ later) others rest fault → HasPackets Beginning (input ++ later) (packets ++ others) rest fault
+    → HasPackets x later others rest fault → HasPackets Beginning (front ++ later) (packets ++ others) rest fault

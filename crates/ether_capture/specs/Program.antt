@@ -3,10 +3,10 @@ use Rattle.std.specs.Prelude.{◌≡◌, ◌⊎◌, ℕ, List, [], ◌++◌, cod
 use Rattle.std.specs.Io.KnownBytes.{Appends}
 use Rattle.ether_text.specs.Run.{IsEndless}
 use Rattle.ether_text.specs.declared.verdict.Verdict.{Verdict}
-use Rattle.ether_capture.specs.Options.{LinesValue, SelectionValue, RequestValue, Capture, Copy, Help, Version, NamesRequest, RefusesWords}
+use Rattle.ether_capture.specs.Options.{RequestValue, Run, Help, Version, NamesRequest, RefusesWords}
 use Rattle.ether_capture.specs.declared.options.RequestError.TheVariants as reasons
 use Rattle.ether_capture.specs.Run.{HasRun, OnStreamFault}
-use Rattle.ether_capture.specs.Copying.{HasCopied}
+use Rattle.ether_capture.specs.Task.{TaskValue, is_copy}
 use Rattle.ether_capture.specs.Outcome.{last_text, is_message, status_of_program}
 use Rattle.ether_capture.specs.declared.outcome.Outcome.{Outcome}
 use Rattle.ether_capture.specs.declared.outcome.Outcome.TheVariants as outcomes
@@ -17,47 +17,30 @@ use Rattle.ether_capture.specs.declared.outcome.RunFault.TheVariants.{Input, Mem
 abbrev pub HasNoMemory : (before after held holds : Option (List ℕ)) → Result Verdict RunFault → Type 0
 HasNoMemory before after held holds outcome = (outcome ≡ Err Memory) × (after ≡ before) × (holds ≡ held)
 
--- A capture was read, from before to after, and its lines are written. Only a stream that can fail has failed, or one that does not end.
-pub record HasRead (can_read can_write : Type 0) (asked : LinesValue) (before after held holds : Option (List ℕ)) (outcome : Result Verdict RunFault)
+-- A capture was read, from before to after, and what is asked for was made of it. Only a stream that can fail has failed, or one that does not
+-- end.
+pub record HasRead (can_read can_write : Type 0) (task : TaskValue) (before after held holds : Option (List ℕ)) (end : Result Verdict RunFault)
     : Type 0 where
-  pub run : HasRun asked before after held holds outcome ⊎ HasNoMemory before after held holds outcome
-  pub failed : IfErr outcome (λ fault. OnStreamFault fault (can_read ⊎ IsEndless before after) can_write)
+  pub run : HasRun task before after held holds end ⊎ HasNoMemory before after held holds end
+  pub failed : IfErr end (λ fault. OnStreamFault fault (can_read ⊎ IsEndless before after) can_write)
 
 -- The capture of this name was read; or it can't be opened, and nothing is written.
-abbrev pub HasReadFile : (has : List ℕ → Option (List ℕ) → Type 0) (can_refuse can_read can_write : Type 0) → (asked : LinesValue) → (name : List ℕ)
+abbrev pub HasRunFile : (has : List ℕ → Option (List ℕ) → Type 0) (can_refuse can_read can_write : Type 0) → (task : TaskValue) → (name : List ℕ)
     → (held holds : Option (List ℕ)) → Outcome → Type 0
-HasReadFile has can_refuse can_read can_write asked name held holds (outcomes.Run outcome) =
-    (before after : Option (List ℕ)) × has name before × HasRead can_read can_write asked before after held holds outcome
-HasReadFile has can_refuse can_read can_write asked name held holds (outcomes.NotOpened named) =
-    (string_bytes named ≡ name) × can_refuse × (holds ≡ held)
-HasReadFile has can_refuse can_read can_write asked name held holds outcome = ⊥
-
--- A capture was read, from before to after, and copied. Only a stream that can fail has failed, or one that does not end.
-pub record HasReadCopy (can_read can_write : Type 0) (asked : SelectionValue) (before after held holds : Option (List ℕ))
-    (outcome : Result Verdict RunFault) : Type 0 where
-  pub run : HasCopied asked before after held holds outcome ⊎ HasNoMemory before after held holds outcome
-  pub failed : IfErr outcome (λ fault. OnStreamFault fault (can_read ⊎ IsEndless before after) can_write)
-
--- The capture of this name was copied; or it can't be opened, and nothing is written.
-abbrev pub HasCopiedFile : (has : List ℕ → Option (List ℕ) → Type 0) (can_refuse can_read can_write : Type 0) → (asked : SelectionValue)
-    → (name : List ℕ) → (held holds : Option (List ℕ)) → Outcome → Type 0
-HasCopiedFile has can_refuse can_read can_write asked name held holds (outcomes.Copy outcome) =
-    (before after : Option (List ℕ)) × has name before × HasReadCopy can_read can_write asked before after held holds outcome
-HasCopiedFile has can_refuse can_read can_write asked name held holds (outcomes.CopyNotOpened named) =
-    (string_bytes named ≡ name) × can_refuse × (holds ≡ held)
-HasCopiedFile has can_refuse can_read can_write asked name held holds outcome = ⊥
+HasRunFile has can_refuse can_read can_write task name held holds (outcomes.Run copy end) =
+    (copy ≡ is_copy task.form)
+    × ((before after : Option (List ℕ)) × has name before × HasRead can_read can_write task before after held holds end)
+HasRunFile has can_refuse can_read can_write task name held holds (outcomes.NotOpened copy named) =
+    (copy ≡ is_copy task.form) × (string_bytes named ≡ name) × can_refuse × (holds ≡ held)
+HasRunFile has can_refuse can_read can_write task name held holds outcome = ⊥
 
 -- What is asked for was done. Standard input is read only if no file is named.
 abbrev pub HasAnswered : (has : List ℕ → Option (List ℕ) → Type 0) (can_fail can_refuse can_read can_write : Type 0) → RequestValue
     → (before after held holds : Option (List ℕ)) → Outcome → Type 0
-HasAnswered has can_fail can_refuse can_read can_write (Capture asked None) before after held holds (outcomes.Run outcome) =
-    HasRead can_fail can_write asked before after held holds outcome
-HasAnswered has can_fail can_refuse can_read can_write (Capture asked (Some name)) before after held holds outcome =
-    HasReadFile has can_refuse can_read can_write asked name held holds outcome × (after ≡ before)
-HasAnswered has can_fail can_refuse can_read can_write (Copy asked None) before after held holds (outcomes.Copy outcome) =
-    HasReadCopy can_fail can_write asked before after held holds outcome
-HasAnswered has can_fail can_refuse can_read can_write (Copy asked (Some name)) before after held holds outcome =
-    HasCopiedFile has can_refuse can_read can_write asked name held holds outcome × (after ≡ before)
+HasAnswered has can_fail can_refuse can_read can_write (Run task None) before after held holds (outcomes.Run copy end) =
+    (copy ≡ is_copy task.form) × HasRead can_fail can_write task before after held holds end
+HasAnswered has can_fail can_refuse can_read can_write (Run task (Some name)) before after held holds outcome =
+    HasRunFile has can_refuse can_read can_write task name held holds outcome × (after ≡ before)
 HasAnswered has can_fail can_refuse can_read can_write Help before after held holds outcomes.Help = (after ≡ before) × (holds ≡ held)
 HasAnswered has can_fail can_refuse can_read can_write Version before after held holds outcomes.Version = (after ≡ before) × (holds ≡ held)
 HasAnswered has can_fail can_refuse can_read can_write request before after held holds outcome = ⊥
@@ -68,14 +51,12 @@ abbrev pub HasObeyed : (has : List ℕ → Option (List ℕ) → Type 0) (can_fa
     → (before after held holds : Option (List ℕ)) → Outcome → Type 0
 HasObeyed has can_fail can_refuse can_read can_write (Some words) before after held holds outcomes.Usage =
     RefusesWords words reasons.Usage × (after ≡ before) × (holds ≡ held)
-HasObeyed has can_fail can_refuse can_read can_write (Some words) before after held holds (outcomes.NoFilter error) =
-    RefusesWords words (reasons.Filter error) × (after ≡ before) × (holds ≡ held)
-HasObeyed has can_fail can_refuse can_read can_write (Some words) before after held holds (outcomes.CopyNoFilter error) =
-    RefusesWords words (reasons.CopyFilter error) × (after ≡ before) × (holds ≡ held)
+HasObeyed has can_fail can_refuse can_read can_write (Some words) before after held holds (outcomes.NoFilter copy error) =
+    RefusesWords words (reasons.Filter copy error) × (after ≡ before) × (holds ≡ held)
 HasObeyed has can_fail can_refuse can_read can_write (Some words) before after held holds outcome =
     (request : RequestValue) × NamesRequest words request × HasAnswered has can_fail can_refuse can_read can_write request before after held holds outcome
 HasObeyed has can_fail can_refuse can_read can_write None before after held holds outcome =
-    (outcome ≡ outcomes.Run (Err Input)) × (after ≡ before) × (holds ≡ held)
+    (outcome ≡ outcomes.Run false (Err Input)) × (after ≡ before) × (holds ≡ held)
 
 -- the last line with its line feed, if there is one
 abbrev pub last_bytes : Option (List ℕ) → List ℕ

@@ -1,114 +1,90 @@
-//! A run that copies: from a reader of a capture to a writer of the same capture without the packets that a filter leaves out.
-ghost use Rattle.std.specs.Prelude.{◌≡◌, ◌⊎◌, ◌↔◌, [], true, IfOk, IfErr, IsTrue};
-ghost use Rattle.ether_pcap.specs.Capture.{IsEnd};
-ghost use Rattle.ether_text.specs.InputReader.{StopsReading};
-ghost use Rattle.ether_text.specs.OutputBuffer.{contents_of, Marks};
-ghost use Rattle.ether_text.specs.Run.{IsEndless};
-ghost use Rattle.ether_capture.specs.Copying.{HasCopied};
-ghost use Rattle.ether_capture.specs.InputBuffer.{items};
-ghost use Rattle.ether_capture.specs.Options.{selection_view};
-ghost use Rattle.ether_capture.specs.Run.{IfSettled, IsOutput, OnInput, OnStreamFault};
+//! Copies the units of a capture.
+ghost use Rattle.std.specs.Prelude.{◌≡◌, ◌≤◌, IfSome, IfNone, IsTrue, IsFalse, length, Some, None, true};
+ghost use Rattle.std.specs.Option.{option_map};
+ghost use Rattle.ether_pcap.specs.CaptureViews.{captured_packet_view};
+ghost use Rattle.ether_pcap.specs.Editing.{unit_bytes, padding_of};
+ghost use Rattle.ether_content.specs.EditingViews.{edit_view, edited_view};
+ghost use Rattle.ether_text.specs.OutputBuffer.{Takes};
+ghost use Rattle.ether_capture.specs.Progress.{AppendsEdited, AppendsNone, IsUneditable, IsUnitOf, WritesPacket};
 
-use crate::copy_loop::CopyLoop;
 use crate::edit_buffer::EditBuffer;
-use crate::input_buffer::InputBuffer;
-use crate::options::Selection;
-use crate::outcome::RunFault;
-use ether_text::{InputReader, OutputBuffer, Sink, Source, Verdict};
+use ether_content::{EditedPacket, PacketEdit};
+use ether_pcap::{CaptureReader, CapturedPacket, EditedUnit};
+use ether_text::{OutputBuffer, Sink};
 
-/// Reads a capture to its end, and writes it again without the packets that the filter leaves out. Without a filter all is written.
-///
-/// Each unit is written as it was read: the file header, section headers, descriptions of interfaces and any other block, and the packets
-/// that the filter selects, each edited if that is asked for. So what is written is a capture of the same format. The verdict is
-/// [`Verdict::AllAccepted`].
-///
-/// It reads, writes and stops as [`run`](crate::run::run) does, and with [`RunFault::NotEdited`] at a packet that is to be edited and can't
-/// be.
-/// At a fault of the capture, the units before it have been written and flushed.
-pub fn copy<R: Source, W: Sink>(
-    asked: &Selection,
-    buffer: InputBuffer,
-    edits: EditBuffer,
-    reader: &mut R,
-    writer: &mut W,
-) -> Result<Verdict, RunFault>
-    ensures run { HasCopied (selection_view asked.now) (R.remaining reader.old) (R.remaining reader.new)
-        (W.contents writer.old) (W.contents writer.new) result }
-    ensures failed { IfErr result (λ fault. OnStreamFault fault
-        (R.can_fail ⊎ IsEndless (R.remaining reader.old) (R.remaining reader.new)) W.can_fail) }
-    ensures flushed { IfSettled result (W.is_flushed writer.new) }
-{
-    let mut input = InputReader::new(reader);
-    let mut out = OutputBuffer::new(writer);
-    copy_capture(asked, buffer, edits, &mut input, &mut out)
-}
-
-/// Reads the capture to its end, and writes the copy and flushes it. After a fault of the reader or the writer neither is called
-/// again.
-fn copy_capture<R: Source, W: Sink>(
-    asked: &Selection,
-    buffer: InputBuffer,
-    edits: EditBuffer,
-    input: &mut InputReader<'_, R>,
+/// Writes the unit of a packet, edited if there is an edit for it. Returns `false` and writes nothing if it can't be.
+pub fn write_packet<W: Sink>(
+    reader: &CaptureReader,
+    edit: Option<PacketEdit>,
+    edits: &mut EditBuffer,
+    unit: &[u8],
+    packet: &CapturedPacket<'_>,
     out: &mut OutputBuffer<'_, W>,
-) -> Result<Verdict, RunFault>
-    ensures same_reader { input.new.inner.ghost_name ≡ input.old.inner.ghost_name }
-    ensures same_writer { out.new.writer.ghost_name ≡ out.old.writer.ghost_name }
-    ensures run { HasCopied (selection_view asked.now) (R.remaining input.old.inner.now) (R.remaining input.new.inner.now)
-        (contents_of W.contents out.old) (W.contents out.new.writer.now) result }
-    ensures failed { IfErr result
-        (λ fault. OnStreamFault fault (input.new.has_failed ≡ true) (out.new.has_failed ≡ true)) }
-    ensures cause { IfErr result (λ fault. OnInput fault (StopsReading R.remaining R.can_fail input.old input.new)) }
-    ensures marks { Marks W.can_fail out.old out.new }
-    ensures flushed { IfSettled result (W.is_flushed out.new.writer.now) }
+) -> bool
+    requires { IsUnitOf reader.now unit.now (Some (captured_packet_view packet.now)) }
+    ensures written { IsTrue result → WritesPacket (option_map edit_view edit) reader.now unit.now
+        (captured_packet_view packet.now) W.contents W.can_fail out.old out.new }
+    ensures not_written { IsFalse result → IsUneditable (option_map edit_view edit) reader.now unit.now
+        (captured_packet_view packet.now) }
+    ensures same_out { IsFalse result → out.new ≡ out.old }
 {
-    let outcome = copy_units(asked, buffer, edits, input, out);
-    if let Ok(_) | Err(RunFault::Capture(_) | RunFault::NotEdited(_) | RunFault::Memory) = outcome {
-        out.flush()?;
-    }
-    outcome
-}
-
-/// Reads the capture to its end, and gathers the copy. What is gathered is written out before each read.
-fn copy_units<R: Source, W: Sink>(
-    asked: &Selection,
-    buffer: InputBuffer,
-    edits: EditBuffer,
-    input: &mut InputReader<'_, R>,
-    out: &mut OutputBuffer<'_, W>,
-) -> Result<Verdict, RunFault>
-    ensures same_reader { input.new.inner.ghost_name ≡ input.old.inner.ghost_name }
-    ensures same_writer { out.new.writer.ghost_name ≡ out.old.writer.ghost_name }
-    ensures run { HasCopied (selection_view asked.now) (R.remaining input.old.inner.now) (R.remaining input.new.inner.now)
-        (contents_of W.contents out.old) (contents_of W.contents out.new) result }
-    ensures none_waits { IfErr result (λ fault. OnInput fault (out.new.waiting.items ≡ [])) }
-    ensures failed { IfErr result
-        (λ fault. OnStreamFault fault (input.new.has_failed ≡ true) (out.new.has_failed ≡ true)) }
-    ensures cause { IfErr result (λ fault. OnInput fault (StopsReading R.remaining R.can_fail input.old input.new)) }
-    ensures marks { Marks W.can_fail out.old out.new }
-{
-    let mut units = CopyLoop::new(edits);
-    let mut buffer = buffer;
-    buffer.clear();
-    loop {
-        let error = buffer.copy_units(&mut units, asked, out)?;
-        let Some(required_len) = error.required_len() else {
-            return Err(units.fault(error));
-        };
-        out.write_out()?;
-        buffer.make_room(required_len)?;
-        if buffer.read(input, out)? == 0 {
-            if is_over(&units, &buffer) {
-                return Ok(Verdict::AllAccepted);
-            }
-            return Err(units.fault(error));
+    match edits.edit(edit, packet) {
+        Some(edited) => write_edited(reader, edits, unit, &edited, out),
+        None => {
+            out.append(unit);
+            true
         }
     }
 }
 
-/// Tests that the capture has begun, and that nothing of it is left.
-fn is_over(units: &CopyLoop, buffer: &InputBuffer) -> bool
-    ensures { IsTrue result ↔ IsEnd units.now.reader (items buffer.now) }
+/// Writes the unit of a packet as edited. Returns `false` and writes nothing if it can't be.
+fn write_edited<W: Sink>(
+    reader: &CaptureReader,
+    edits: &EditBuffer,
+    unit: &[u8],
+    edited: &EditedPacket,
+    out: &mut OutputBuffer<'_, W>,
+) -> bool
+    requires ordered { edited.now.start ≤ edited.now.end }
+    requires within { edited.now.end ≤ 262148 }
+    ensures written { IsTrue result → AppendsEdited reader.now unit.now
+        (edited_view edits.now.bytes.items edited.now) W.contents W.can_fail out.old out.new }
+    ensures not_written { IsFalse result → AppendsNone reader.now unit.now
+        (edited_view edits.now.bytes.items edited.now) }
+    ensures same_out { IsFalse result → out.new ≡ out.old }
 {
-    units.has_begun() && buffer.len() == 0
+    let packet = edits.packet(edited);
+    match reader.edit_unit(unit, packet, edited.original_len) {
+        Some(unit) => {
+            append_unit(&unit, out);
+            true
+        }
+        None => false,
+    }
+}
+
+/// Appends the parts of an edited unit, one after the other.
+fn append_unit<W: Sink>(unit: &EditedUnit<'_>, out: &mut OutputBuffer<'_, W>)
+    requires { padding_of unit.now ≤ 3 }
+    ensures { Takes W.contents W.can_fail out.old (unit_bytes unit.now) out.new }
+{
+    match unit {
+        EditedUnit::Record { header, packet } => {
+            out.append(header);
+            out.append(packet);
+        }
+        EditedUnit::Block {
+            header,
+            packet,
+            padding_len,
+            options,
+            trailer,
+        } => {
+            out.append(header);
+            out.append(packet);
+            out.append(&[0, 0, 0][..*padding_len]);
+            out.append(options);
+            out.append(trailer);
+        }
+    }
 }

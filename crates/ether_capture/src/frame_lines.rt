@@ -5,39 +5,17 @@ ghost use Rattle.ether_pcap.specs.CaptureViews.{captured_packet_view, timestamp_
 ghost use Rattle.ether_content.specs.Content.{content_of};
 ghost use Rattle.ether_content.specs.ContentViews.{content_view};
 ghost use Rattle.ether_text.specs.OutputBuffer.{Takes, TakesAnswer};
-ghost use Rattle.ether_capture.specs.FrameLines.{is_skipped, nine_digits, time_text, mark, packet_line_if, AnswersPacket, HasLines, totals_line_if};
-ghost use Rattle.ether_capture.specs.Options.{lines_view};
+ghost use Rattle.ether_capture.specs.FrameLines.{is_skipped, nine_digits, time_text, mark, packet_line_if, HasLines, totals_line_if};
 
 use crate::linux_sll2_lines::write_linux_sll2;
-use crate::options::Lines;
-use ether_content::{Content, is_cut, selects};
+use ether_content::{Content, is_cut};
 use ether_pcap::{CapturedPacket, Timestamp};
 use ether_text::{OutputBuffer, Sink, eight_digits, write_decimal, write_walk_after};
 
-/// Writes the line of a packet unless the lines of walks alone are asked for, and those of the walk through its headers; nothing if
-/// the filter leaves it out. Returns whether the walk ends in no fault.
+/// Writes the line of a packet unless `is_plain`, and the lines of the walk through its headers. Returns whether the walk ends in no fault.
 ///
 /// A packet of another link type than Ethernet and Linux cooked capture is skipped: it has no lines of a walk.
-#[inline(always)]
-pub fn write_packet<W: Sink>(
-    asked: &Lines,
-    number: usize,
-    packet: &CapturedPacket<'_>,
-    out: &mut OutputBuffer<'_, W>,
-) -> bool
-    ensures { TakesAnswer W.contents W.can_fail (AnswersPacket (lines_view asked.now) number (captured_packet_view packet.now))
-        out.old out.new result }
-{
-    if let Some(filter) = &asked.filter {
-        if !selects(filter, packet) {
-            return true;
-        }
-    }
-    write_lines(asked.is_plain, number, packet, out)
-}
-
-/// Writes the line of a packet unless `is_plain`, and the lines of the walk through its headers. Returns whether the walk ends in no fault.
-fn write_lines<W: Sink>(
+pub fn write_lines<W: Sink>(
     is_plain: bool,
     number: usize,
     packet: &CapturedPacket<'_>,

@@ -3,12 +3,13 @@ ghost use Rattle.std.specs.Prelude.{◌≡◌, ◌+◌, ◌≤◌, ◌<◌, List
 ghost use Rattle.std.specs.Io.KnownBytes.{Keeps, Consumes, IsAtEnd};
 ghost use Rattle.ether_text.specs.InputReader.{HasCause, ReadsOn};
 ghost use Rattle.ether_text.specs.OutputBuffer.{Marks};
-ghost use Rattle.ether_capture.specs.CopyLoop.{CopiesUnits, CopyLeavesRest, IsCopyFault, OnNotEdited, OnOutput, StopsAfter};
-ghost use Rattle.ether_capture.specs.Options.{selection_view};
+ghost use Rattle.ether_capture.specs.Progress.{IsTakingFault, OnNotEdited, OnOutput, StopsAfter, TakesUnits};
+ghost use Rattle.ether_capture.specs.Task.{task_view};
 
-use crate::copy_loop::CopyLoop;
-use crate::options::Selection;
+use crate::edit_buffer::EditBuffer;
 use crate::outcome::RunFault;
+use crate::progress::Progress;
+use crate::task::Task;
 use ether_pcap::CaptureError;
 use ether_text::{InputFault, InputReader, OutputBuffer, Sink, Source};
 use std::alloc::{AllocError, Global};
@@ -51,13 +52,6 @@ impl InputBuffer {
         self.end = 0;
     }
 
-    /// The bytes that are not taken yet.
-    pub fn as_slice(&self) -> &[u8]
-        ensures { result.now ≡ items self.now }
-    {
-        &self.bytes.as_slice()[self.start..self.end]
-    }
-
     /// The number of bytes that are not taken yet.
     pub fn len(&self) -> usize
         ensures { result ≡ length (items self.now) }
@@ -65,33 +59,26 @@ impl InputBuffer {
         self.end - self.start
     }
 
-    /// Takes bytes from the front.
-    pub fn consume(&mut self, count: usize)
-        requires { count ≤ length (items self.old) }
-        ensures { items self.new ≡ drop count (items self.old) }
-    {
-        self.start += count;
-    }
-
-    /// Copies the units at the front, and takes them. Returns why what is left does not begin with a unit.
-    pub fn copy_units<W: Sink>(
+    /// Takes the units at the front, and writes what is made of each. Returns why what is left does not begin with a unit.
+    pub fn take_units<W: Sink>(
         &mut self,
-        units: &mut CopyLoop,
-        asked: &Selection,
+        progress: &mut Progress,
+        task: &Task,
+        edits: &mut EditBuffer,
         out: &mut OutputBuffer<'_, W>,
     ) -> Result<CaptureError, RunFault>
         ensures same_writer { out.new.writer.ghost_name ≡ out.old.writer.ghost_name }
-        ensures ok { IfOk result (λ error. CopyLeavesRest (selection_view asked.now) W.contents (items self.old) units.old out.old
-            (items self.new) error units.new out.new) }
+        ensures ok { IfOk result (λ error. TakesUnits (task_view task.now) W.contents (items self.old) progress.old out.old
+            (items self.new) error progress.new out.new) }
         ensures stopped { IfErr result (λ fault. OnNotEdited fault (λ offset.
-            StopsAfter (selection_view asked.now) W.contents (items self.old) units.old out.old offset out.new)) }
-        ensures fault { IfErr result IsCopyFault }
+            StopsAfter (task_view task.now) W.contents (items self.old) progress.old out.old offset out.new)) }
+        ensures fault { IfErr result IsTakingFault }
         ensures failed { IfErr result (λ fault. OnOutput fault (out.new.has_failed ≡ true)) }
         ensures marks { Marks W.can_fail out.old out.new }
     {
         let (start, end) = (self.start, self.end);
         let bytes = &self.bytes.as_slice()[start..end];
-        let (taken, error) = units.take_units(asked, bytes, out)?;
+        let (taken, error) = progress.take_units(task, edits, bytes, out)?;
         self.start = start + taken;
         Ok(error)
     }

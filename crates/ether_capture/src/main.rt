@@ -6,18 +6,18 @@
 #![tactic(auto)]
 
 pub mod captures;
-mod copy_loop;
-pub mod copying;
+mod copying;
 pub mod edit_buffer;
 mod frame_lines;
-mod frame_loop;
 pub mod input_buffer;
 mod linux_sll2_lines;
 pub mod options;
 pub mod outcome;
 pub mod program;
+mod progress;
 pub mod run;
 mod tags;
+pub mod task;
 
 use std::process::ExitCode;
 use std::{env, io};

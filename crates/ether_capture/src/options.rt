@@ -6,9 +6,11 @@ ghost use Rattle.ether_text.specs.Arguments.{words_after};
 ghost use Rattle.ether_content.specs.Editing.{EditValue};
 ghost use Rattle.ether_content.specs.EditingViews.{edit_view};
 ghost use Rattle.ether_capture.specs.Tags.{IsPush};
-ghost use Rattle.ether_capture.specs.Options.{IsName, IsWord, words_left, asked_view, nothing_asked, clashes, AskSame, AskNothing, IsSelection, RefusesSelection, IsRequestOf, RefusesAsked, OptionsAsk, RefusesOptions, NamesRequest, RefusesWords, request_view};
+ghost use Rattle.ether_capture.specs.Task.{form_view};
+ghost use Rattle.ether_capture.specs.Options.{IsName, IsWord, words_left, asked_view, nothing_asked, clashes, form_of, AskSame, AskNothing, IsSelection, RefusesSelection, IsRequestOf, RefusesAsked, OptionsAsk, RefusesOptions, NamesRequest, RefusesWords, request_view};
 
 use crate::tags::tag_to_push;
+use crate::task::{Form, Task};
 use ether_content::PacketEdit;
 use ether_filter::{Filter, FilterError};
 use std::env;
@@ -18,37 +20,20 @@ use std::env;
 pub enum RequestError {
     /// There is a word that is none, or one too many.
     Usage,
-    /// The filter of lines is no expression.
-    Filter(FilterError),
-    /// The filter of a copy is no expression.
-    CopyFilter(FilterError),
-}
-
-/// Which lines of a capture are asked for.
-#[derive(Debug, Drop)]
-pub struct Lines {
-    /// Whether those of packets and of totals are left out.
-    pub is_plain: bool,
-    /// Which packets have lines; all of them without a filter.
-    pub filter: Option<Filter>,
-}
-
-/// What a copy of a capture has.
-#[derive(Debug, Drop)]
-pub struct Selection {
-    /// Which packets are copied; all of them without a filter.
-    pub filter: Option<Filter>,
-    /// How each packet is edited, if it is.
-    pub edit: Option<PacketEdit>,
+    /// The filter is no expression.
+    Filter {
+        /// Whether a copy was asked for.
+        is_copy: bool,
+        /// Why it is none.
+        error: FilterError,
+    },
 }
 
 /// What the words ask for.
 #[derive(Debug, Drop)]
 pub enum Request {
-    /// Lines of the capture in the file of this name, or of standard input.
-    Capture(Lines, Option<String>),
-    /// A copy of that capture.
-    Copy(Selection, Option<String>),
+    /// What is made of the capture in the file of this name, or of standard input.
+    Run(Task, Option<String>),
     /// How the program is used.
     Help,
     /// The program's name and version.
@@ -172,22 +157,27 @@ impl Asked {
             return Err(RequestError::Usage);
         }
         match filter_of(&self.text) {
-            Ok(filter) if self.is_copy => Ok(Request::Copy(
-                Selection {
-                    filter,
-                    edit: self.edit,
-                },
-                self.file,
-            )),
-            Ok(filter) => Ok(Request::Capture(
-                Lines {
-                    is_plain: self.is_plain,
-                    filter,
-                },
-                self.file,
-            )),
-            Err(error) if self.is_copy => Err(RequestError::CopyFilter(error)),
-            Err(error) => Err(RequestError::Filter(error)),
+            Ok(filter) => {
+                let form = self.form();
+                Ok(Request::Run(Task { filter, form }, self.file))
+            }
+            Err(error) => Err(RequestError::Filter {
+                is_copy: self.is_copy,
+                error,
+            }),
+        }
+    }
+
+    /// Lines are asked for, or a copy.
+    fn form(&self) -> Form
+        ensures { form_view result ≡ form_of (asked_view self.now) }
+    {
+        if self.is_copy {
+            Form::Copy { edit: self.edit }
+        } else {
+            Form::Lines {
+                is_plain: self.is_plain,
+            }
         }
     }
 }

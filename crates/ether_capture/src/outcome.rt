@@ -98,23 +98,32 @@ pub fn status_of(outcome: &Result<Verdict, RunFault>) -> u8
 #[derive(Debug, Drop)]
 pub enum Outcome {
     /// A run was begun.
-    Run(Result<Verdict, RunFault>),
-    /// The file of this name can't be opened.
-    NotOpened(String),
+    Run {
+        /// Whether a copy was asked for.
+        is_copy: bool,
+        /// How it ended.
+        end: Result<Verdict, RunFault>,
+    },
+    /// The file can't be opened.
+    NotOpened {
+        /// Whether a copy of it was asked for.
+        is_copy: bool,
+        /// Its name.
+        name: String,
+    },
+    /// The text of the filter is no expression.
+    NoFilter {
+        /// Whether a copy was asked for.
+        is_copy: bool,
+        /// Why it is none.
+        error: FilterError,
+    },
     /// The arguments ask how the program is used.
     Help,
     /// The arguments ask for the version.
     Version,
     /// The arguments are wrong.
     Usage,
-    /// The text of the filter is no expression.
-    NoFilter(FilterError),
-    /// A copy was begun.
-    Copy(Result<Verdict, RunFault>),
-    /// The file of this name, of which there was to be a copy, can't be opened.
-    CopyNotOpened(String),
-    /// The text of the filter of a copy is no expression.
-    CopyNoFilter(FilterError),
 }
 
 /// The line that is printed if the arguments are wrong, without its LF.
@@ -183,14 +192,12 @@ pub fn last_line(outcome: &Outcome) -> Option<LastLine<'_>>
     ensures { option_map last_line_text result ≡ last_text outcome.now }
 {
     match outcome {
-        Outcome::Run(outcome) | Outcome::Copy(outcome) => last_line_of_run(outcome),
-        Outcome::NotOpened(name) | Outcome::CopyNotOpened(name) => Some(LastLine::NotOpened(
-            name.as_str(),
-        )),
+        Outcome::Run { end, .. } => last_line_of_run(end),
+        Outcome::NotOpened { name, .. } => Some(LastLine::NotOpened(name.as_str())),
+        Outcome::NoFilter { error, .. } => Some(LastLine::NoFilter(error)),
         Outcome::Help => Some(LastLine::Help),
         Outcome::Version => Some(LastLine::Version),
         Outcome::Usage => Some(LastLine::Usage),
-        Outcome::NoFilter(error) | Outcome::CopyNoFilter(error) => Some(LastLine::NoFilter(error)),
     }
 }
 
@@ -211,10 +218,13 @@ fn last_line_of_run(outcome: &Result<Verdict, RunFault>) -> Option<LastLine<'_>>
 pub fn is_message(outcome: &Outcome) -> bool
     ensures { result ≡ is_message outcome.now }
 {
-    matches!(
-        outcome,
-        Outcome::Usage | Outcome::Copy(_) | Outcome::CopyNotOpened(_) | Outcome::CopyNoFilter(_)
-    )
+    match outcome {
+        Outcome::Run { is_copy, .. }
+        | Outcome::NotOpened { is_copy, .. }
+        | Outcome::NoFilter { is_copy, .. } => *is_copy,
+        Outcome::Help | Outcome::Version => false,
+        Outcome::Usage => true,
+    }
 }
 
 /// The exit status of the program, by its outcome and whether the last line was printed. It is that of failed output if
@@ -226,9 +236,9 @@ pub fn program_status(outcome: &Outcome, is_printed: bool) -> u8
         return status_of(&Err(RunFault::Output));
     }
     match outcome {
-        Outcome::Run(outcome) | Outcome::Copy(outcome) => status_of(outcome),
-        Outcome::NotOpened(_) | Outcome::CopyNotOpened(_) => status_of(&Err(RunFault::Input)),
+        Outcome::Run { end, .. } => status_of(end),
+        Outcome::NotOpened { .. } => status_of(&Err(RunFault::Input)),
         Outcome::Help | Outcome::Version => 0,
-        Outcome::Usage | Outcome::NoFilter(_) | Outcome::CopyNoFilter(_) => 2,
+        Outcome::Usage | Outcome::NoFilter { .. } => 2,
     }
 }

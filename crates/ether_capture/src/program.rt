@@ -2,19 +2,18 @@
 ghost use Rattle.std.specs.Prelude.{◌≡◌, ◌⊎◌, IfErr, string_bytes};
 ghost use Rattle.ether_text.specs.Arguments.{words_of};
 ghost use Rattle.ether_text.specs.Run.{IsEndless};
-ghost use Rattle.ether_capture.specs.Options.{lines_view, selection_view};
-ghost use Rattle.ether_capture.specs.Copying.{HasCopied};
 ghost use Rattle.ether_capture.specs.Outcome.{is_message};
-ghost use Rattle.ether_capture.specs.Program.{HasCopiedFile, HasNoMemory, HasObeyed, HasReadFile, HasServed, PrintsApart, PrintsLast};
+ghost use Rattle.ether_capture.specs.Program.{HasNoMemory, HasObeyed, HasRunFile, HasServed, PrintsApart, PrintsLast};
 ghost use Rattle.ether_capture.specs.Run.{HasRun, OnStreamFault};
+ghost use Rattle.ether_capture.specs.Task.{task_view};
 
 use crate::captures::Captures;
-use crate::copying::copy;
 use crate::edit_buffer::EditBuffer;
 use crate::input_buffer::InputBuffer;
-use crate::options::{Lines, Request, RequestError, Selection, request_of_args};
+use crate::options::{Request, RequestError, request_of_args};
 use crate::outcome::{Outcome, RunFault, is_message, last_line, program_status};
 use crate::run::run;
+use crate::task::Task;
 use ether_text::{Sink, Source, Verdict};
 use std::alloc::Global;
 use std::io::Write;
@@ -53,87 +52,55 @@ fn obey<C: Captures, R: Source, W: Sink>(
         (R.remaining reader.old) (R.remaining reader.new) (W.contents writer.old) (W.contents writer.new) result }
 {
     let Ok(args) = args else {
-        return Outcome::Run(Err(RunFault::Input));
+        return Outcome::Run {
+            is_copy: false,
+            end: Err(RunFault::Input),
+        };
     };
     match request_of_args(args) {
-        Ok(Request::Capture(asked, file)) => match file {
-            None => Outcome::Run(read_input(&asked, alloc, reader, writer)),
-            Some(name) => read_file(&asked, name, alloc, captures, writer),
-        },
-        Ok(Request::Copy(asked, file)) => match file {
-            None => Outcome::Copy(copy_input(&asked, alloc, reader, writer)),
-            Some(name) => copy_file(&asked, name, alloc, captures, writer),
+        Ok(Request::Run(task, file)) => match file {
+            None => Outcome::Run {
+                is_copy: task.is_copy(),
+                end: run_input(&task, alloc, reader, writer),
+            },
+            Some(name) => run_file(&task, name, alloc, captures, writer),
         },
         Ok(Request::Help) => Outcome::Help,
         Ok(Request::Version) => Outcome::Version,
         Err(RequestError::Usage) => Outcome::Usage,
-        Err(RequestError::Filter(error)) => Outcome::NoFilter(error),
-        Err(RequestError::CopyFilter(error)) => Outcome::CopyNoFilter(error),
+        Err(RequestError::Filter { is_copy, error }) => Outcome::NoFilter { is_copy, error },
     }
 }
 
-/// Writes the lines of the capture of a name.
-fn read_file<C: Captures, W: Sink>(
-    asked: &Lines,
+/// Writes what is made of the capture of a name.
+fn run_file<C: Captures, W: Sink>(
+    task: &Task,
     name: String,
     alloc: Global,
     captures: &C,
     writer: &mut W,
 ) -> Outcome
-    ensures { HasReadFile (C.has captures.now) C.can_refuse C.Input.Source.can_fail W.can_fail (lines_view asked.now) (string_bytes name)
+    ensures { HasRunFile (C.has captures.now) C.can_refuse C.Input.Source.can_fail W.can_fail (task_view task.now) (string_bytes name)
         (W.contents writer.old) (W.contents writer.new) result }
 {
+    let is_copy = task.is_copy();
     match captures.open_named(name.as_str()) {
-        Ok(mut input) => Outcome::Run(read_input(asked, alloc, &mut input, writer)),
-        Err(_) => Outcome::NotOpened(name),
+        Ok(mut input) => Outcome::Run {
+            is_copy,
+            end: run_input(task, alloc, &mut input, writer),
+        },
+        Err(_) => Outcome::NotOpened { is_copy, name },
     }
 }
 
-/// Writes the lines of a capture.
-fn read_input<R: Source, W: Sink>(
-    asked: &Lines,
+/// Writes what is made of a capture.
+fn run_input<R: Source, W: Sink>(
+    task: &Task,
     alloc: Global,
     reader: &mut R,
     writer: &mut W,
 ) -> Result<Verdict, RunFault>
-    ensures run { HasRun (lines_view asked.now) (R.remaining reader.old) (R.remaining reader.new)
-        (W.contents writer.old) (W.contents writer.new) result
-        ⊎ HasNoMemory (R.remaining reader.old) (R.remaining reader.new)
-        (W.contents writer.old) (W.contents writer.new) result }
-    ensures failed { IfErr result (λ fault. OnStreamFault fault
-        (R.can_fail ⊎ IsEndless (R.remaining reader.old) (R.remaining reader.new)) W.can_fail) }
-{
-    match InputBuffer::new(alloc) {
-        Ok(buffer) => run(asked, buffer, reader, writer),
-        Err(_) => Err(RunFault::Memory),
-    }
-}
-
-/// Copies the capture of a name.
-fn copy_file<C: Captures, W: Sink>(
-    asked: &Selection,
-    name: String,
-    alloc: Global,
-    captures: &C,
-    writer: &mut W,
-) -> Outcome
-    ensures { HasCopiedFile (C.has captures.now) C.can_refuse C.Input.Source.can_fail W.can_fail (selection_view asked.now) (string_bytes name)
-        (W.contents writer.old) (W.contents writer.new) result }
-{
-    match captures.open_named(name.as_str()) {
-        Ok(mut input) => Outcome::Copy(copy_input(asked, alloc, &mut input, writer)),
-        Err(_) => Outcome::CopyNotOpened(name),
-    }
-}
-
-/// Copies a capture.
-fn copy_input<R: Source, W: Sink>(
-    asked: &Selection,
-    alloc: Global,
-    reader: &mut R,
-    writer: &mut W,
-) -> Result<Verdict, RunFault>
-    ensures run { HasCopied (selection_view asked.now) (R.remaining reader.old) (R.remaining reader.new)
+    ensures run { HasRun (task_view task.now) (R.remaining reader.old) (R.remaining reader.new)
         (W.contents writer.old) (W.contents writer.new) result
         ⊎ HasNoMemory (R.remaining reader.old) (R.remaining reader.new)
         (W.contents writer.old) (W.contents writer.new) result }
@@ -141,7 +108,7 @@ fn copy_input<R: Source, W: Sink>(
         (R.can_fail ⊎ IsEndless (R.remaining reader.old) (R.remaining reader.new)) W.can_fail) }
 {
     match (InputBuffer::new(alloc), EditBuffer::new(alloc)) {
-        (Ok(buffer), Ok(edits)) => copy(asked, buffer, edits, reader, writer),
+        (Ok(buffer), Ok(edits)) => run(task, buffer, edits, reader, writer),
         _ => Err(RunFault::Memory),
     }
 }

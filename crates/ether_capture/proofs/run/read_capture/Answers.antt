@@ -5,17 +5,17 @@ use Rattle.ether_text.specs.OutputBuffer.{contents_of}
 use Rattle.ether_text.proofs.KnownBytesLemmas.{Consumes-none, Consumes-then}
 use Rattle.ether_text.proofs.InputReaderLemmas.{ReadsOn-none, ReadsOn-then, read_stops}
 use Rattle.ether_text.proofs.OutputBufferLemmas.{Marks-none, Marks-then}
-use Rattle.ether_capture.specs.Options.{lines_view}
-use Rattle.ether_capture.specs.InputBuffer.{items}
-use Rattle.ether_capture.specs.FrameLoop.{Reached}
-use Rattle.ether_capture.proofs.FrameLoopLemmas.{Reached-start, Reached-more, Reached-written_out}
-use Rattle.ether_capture.proofs.RunLemmas.{broken_off, has_room, consumed_all, finished, same_left, stopped_at_end, stopped_for_good, without_memory}
 use Rattle.ether_text.proofs.RunLemmas.{on_input}
+use Rattle.ether_capture.specs.InputBuffer.{items}
+use Rattle.ether_capture.specs.Progress.{Reached}
 use Rattle.ether_capture.specs.Run.{stream_of}
+use Rattle.ether_capture.specs.Task.{task_view}
+use Rattle.ether_capture.proofs.ProgressLemmas.{Reached-start, Reached-more, Reached-written_out}
+use Rattle.ether_capture.proofs.RunLemmas.{broken_off, has_room, consumed_all, finished, same_left, stopped_at_end, stopped_for_good, stopped_with, without_memory}
 use Rattle.ether_capture.proofs.run.read_capture.Goals as goal
 
-pub loop-buffer-init : goal.loop-buffer-init
-loop-buffer-init g c = (
+pub loop-edits-init : goal.loop-edits-init
+loop-edits-init g c = (
   [],
   record {
     same_reader = refl;
@@ -26,88 +26,89 @@ loop-buffer-init g c = (
     reached =
         subst
         (λ (l : List ℕ).
-        Reached (lines_view c.args.asked.now) g.W.Sink.contents (contents_of g.W.Sink.contents c.args.out.now) [] l
-        c.new-frames.result c.args.out.now)
+        Reached (task_view c.args.task.now) g.W.Sink.contents (contents_of g.W.Sink.contents c.args.out.now)
+        [] l
+        c.new-progress.result c.args.out.now)
         (sym c.clear.ensures)
-        (Reached-start (lines_view c.args.asked.now) g.W.Sink.contents c.new-frames.result c.args.out.now
-        c.new-frames.ensures);
+        (Reached-start (task_view c.args.task.now) g.W.Sink.contents c.new-progress.result
+        c.args.out.now c.new-progress.ensures);
   },
 )
 
 pub returns-in_default-clause-run : goal.returns-in_default-clause-run
 returns-in_default-clause-run g c =
-    let (taken, so_far) = c.loop-buffer.invariant in
-    let asked = lines_view c.args.asked.now in
+    let (taken, so_far) = c.loop-edits.invariant in
+    let task = task_view c.args.task.now in
     let contents = g.W.Sink.contents in
     let held = contents_of contents c.args.out.now in
     let before = g.R.Source.remaining c.args.input.now.inner.now in
-    let mid = g.R.Source.remaining c.loop-buffer.input.inner.now in
-    let left = items c.take_buffered.new.buffer in
-    let at = c.take_buffered.new.frames in
+    let mid = g.R.Source.remaining c.loop-edits.input.inner.now in
+    let left = items c.take_units.new.self in
+    let at = c.take_units.new.progress in
     let rest = c.in_ok-error.ensures.ok in
     let reached = rest.reached held taken so_far.reached in
-    stopped_for_good asked contents before mid held taken left at c.take_buffered.new.out c.in_ok-error.error
+    stopped_for_good task contents before mid held taken left at c.take_units.new.out c.in_ok-error.error
     c.fault.result c.fault.ensures so_far.read
     rest.refused (search rules) reached
 
 pub returns-in_err-make_room-clause-run : goal.returns-in_err-make_room-clause-run
 returns-in_err-make_room-clause-run g c =
-    let (taken, so_far) = c.loop-buffer.invariant in
-    let asked = lines_view c.args.asked.now in
+    let (taken, so_far) = c.loop-edits.invariant in
+    let task = task_view c.args.task.now in
     let contents = g.W.Sink.contents in
     let held = contents_of contents c.args.out.now in
     let before = g.R.Source.remaining c.args.input.now.inner.now in
-    let mid = g.R.Source.remaining c.loop-buffer.input.inner.now in
-    let left = items c.take_buffered.new.buffer in
-    let at = c.take_buffered.new.frames in
+    let mid = g.R.Source.remaining c.loop-edits.input.inner.now in
+    let left = items c.take_units.new.self in
+    let at = c.take_units.new.progress in
     let rest = c.in_ok-error.ensures.ok in
     let reached = rest.reached held taken so_far.reached in
     let out = c.write_out.new.self in
     let flushed =
-    Reached-written_out asked contents held taken left at c.take_buffered.new.out out
+    Reached-written_out task contents held taken left at c.take_units.new.out out
     c.in_ok-write_out.ensures.ok reached in
-    without_memory asked contents before mid held c.from_residual-in_err-make_room.result taken left at out
+    without_memory task contents before mid held c.from_residual-in_err-make_room.result taken left at out
     (capture_refusal_view c.in_ok-error.error) c.in-Some.required_len
     c.from_residual-in_err-make_room.ensures.1 so_far.read rest.refused (search rules) c.in_err-make_room.ensures.failed
     flushed
 
 pub returns-in_err-read-clause-run : goal.returns-in_err-read-clause-run
 returns-in_err-read-clause-run g c =
-    let (taken, so_far) = c.loop-buffer.invariant in
-    let asked = lines_view c.args.asked.now in
+    let (taken, so_far) = c.loop-edits.invariant in
+    let task = task_view c.args.task.now in
     let contents = g.W.Sink.contents in
     let held = contents_of contents c.args.out.now in
     let before = g.R.Source.remaining c.args.input.now.inner.now in
-    let mid = g.R.Source.remaining c.loop-buffer.input.inner.now in
-    let left = items c.take_buffered.new.buffer in
-    let at = c.take_buffered.new.frames in
+    let mid = g.R.Source.remaining c.loop-edits.input.inner.now in
+    let left = items c.take_units.new.self in
+    let at = c.take_units.new.progress in
     let rest = c.in_ok-error.ensures.ok in
     let reached = rest.reached held taken so_far.reached in
     let out = c.write_out.new.self in
     let after = g.R.Source.remaining c.read.new.input.inner.now in
     let flushed =
-    Reached-written_out asked contents held taken left at c.take_buffered.new.out out
+    Reached-written_out task contents held taken left at c.take_units.new.out out
     c.in_ok-write_out.ensures.ok reached in
-    broken_off asked contents before after held mid c.from_residual-in_err-read.result taken left at out
+    broken_off task contents before after held mid c.from_residual-in_err-read.result taken left at out
     (capture_refusal_view c.in_ok-error.error)
     so_far.read c.in_err-read.ensures.kept c.from_residual-in_err-read.ensures.1 rest.refused (search rules) flushed
 
 pub returns-then-is_over-clause-run : goal.returns-then-is_over-clause-run
 returns-then-is_over-clause-run g c =
-    let (taken, so_far) = c.loop-buffer.invariant in
-    let asked = lines_view c.args.asked.now in
+    let (taken, so_far) = c.loop-edits.invariant in
+    let task = task_view c.args.task.now in
     let contents = g.W.Sink.contents in
     let held = contents_of contents c.args.out.now in
     let before = g.R.Source.remaining c.args.input.now.inner.now in
-    let mid = g.R.Source.remaining c.loop-buffer.input.inner.now in
-    let left = items c.take_buffered.new.buffer in
-    let at = c.take_buffered.new.frames in
+    let mid = g.R.Source.remaining c.loop-edits.input.inner.now in
+    let left = items c.take_units.new.self in
+    let at = c.take_units.new.progress in
     let rest = c.in_ok-error.ensures.ok in
     let reached = rest.reached held taken so_far.reached in
     let out = c.write_out.new.self in
     let after = g.R.Source.remaining c.read.new.input.inner.now in
     let flushed =
-    Reached-written_out asked contents held taken left at c.take_buffered.new.out out
+    Reached-written_out task contents held taken left at c.take_units.new.out out
     c.in_ok-write_out.ensures.ok reached in
     let (more, is_len, added, consumed) = c.in_ok-read.ensures.ok in
     let grown : items c.read.new.self ≡ left ++ more =
@@ -120,25 +121,25 @@ returns-then-is_over-clause-run g c =
     let read = consumed_all before mid after taken more so_far.read consumed none in
     let same : items c.read.new.self ≡ left = grown ∙ same_left left more none in
     let over = subst (λ (l : List ℕ). IsEnd at.reader l) same (c.is_over.ensures.0 (search rules)) in
-    finished asked contents before after held taken left at out c.finish.new.out c.finish.result read end over
+    finished task contents before after held taken left at out c.finish.new.out c.finish.result read end over
     c.finish.ensures.ok c.finish.ensures.written c.finish.ensures.fault flushed
 
 pub returns-then-branch-eq0-clause-run : goal.returns-then-branch-eq0-clause-run
 returns-then-branch-eq0-clause-run g c =
-    let (taken, so_far) = c.loop-buffer.invariant in
-    let asked = lines_view c.args.asked.now in
+    let (taken, so_far) = c.loop-edits.invariant in
+    let task = task_view c.args.task.now in
     let contents = g.W.Sink.contents in
     let held = contents_of contents c.args.out.now in
     let before = g.R.Source.remaining c.args.input.now.inner.now in
-    let mid = g.R.Source.remaining c.loop-buffer.input.inner.now in
-    let left = items c.take_buffered.new.buffer in
-    let at = c.take_buffered.new.frames in
+    let mid = g.R.Source.remaining c.loop-edits.input.inner.now in
+    let left = items c.take_units.new.self in
+    let at = c.take_units.new.progress in
     let rest = c.in_ok-error.ensures.ok in
     let reached = rest.reached held taken so_far.reached in
     let out = c.write_out.new.self in
     let after = g.R.Source.remaining c.read.new.input.inner.now in
     let flushed =
-    Reached-written_out asked contents held taken left at c.take_buffered.new.out out
+    Reached-written_out task contents held taken left at c.take_units.new.out out
     c.in_ok-write_out.ensures.ok reached in
     let (more, is_len, added, consumed) = c.in_ok-read.ensures.ok in
     let grown : items c.read.new.self ≡ left ++ more =
@@ -154,25 +155,25 @@ returns-then-branch-eq0-clause-run g c =
     λ (over : IsEnd at.reader left). let t =
     c.is_over.ensures.1 (subst (λ (l : List ℕ). IsEnd at.reader l) (sym same) over) in
     absurd cc in
-    stopped_at_end asked contents before after held taken left at out c.in_ok-error.error c.fault-then-branch-eq0.result
-    c.fault-then-branch-eq0.ensures read end more_left rest.refused flushed
+    stopped_at_end task contents before after held taken left at out c.in_ok-error.error
+    c.fault-then-branch-eq0.result c.fault-then-branch-eq0.ensures read end more_left rest.refused flushed
 
-pub loop-buffer-preserved : goal.loop-buffer-preserved
-loop-buffer-preserved g c =
-    let (taken, so_far) = c.loop-buffer.invariant in
-    let asked = lines_view c.args.asked.now in
+pub loop-edits-preserved : goal.loop-edits-preserved
+loop-edits-preserved g c =
+    let (taken, so_far) = c.loop-edits.invariant in
+    let task = task_view c.args.task.now in
     let contents = g.W.Sink.contents in
     let held = contents_of contents c.args.out.now in
     let before = g.R.Source.remaining c.args.input.now.inner.now in
-    let mid = g.R.Source.remaining c.loop-buffer.input.inner.now in
-    let left = items c.take_buffered.new.buffer in
-    let at = c.take_buffered.new.frames in
+    let mid = g.R.Source.remaining c.loop-edits.input.inner.now in
+    let left = items c.take_units.new.self in
+    let at = c.take_units.new.progress in
     let rest = c.in_ok-error.ensures.ok in
     let reached = rest.reached held taken so_far.reached in
     let out = c.write_out.new.self in
     let after = g.R.Source.remaining c.read.new.input.inner.now in
     let flushed =
-    Reached-written_out asked contents held taken left at c.take_buffered.new.out out
+    Reached-written_out task contents held taken left at c.take_units.new.out out
     c.in_ok-write_out.ensures.ok reached in
     let (more, is_len, added, consumed) = c.in_ok-read.ensures.ok in
     let grown : items c.read.new.self ≡ left ++ more =
@@ -180,49 +181,61 @@ loop-buffer-preserved g c =
       taken ++ more,
       record {
         same_reader = c.read.ensures.same_reader ∙ so_far.same_reader;
-        same_writer = c.write_out.ensures.same_writer ∙ c.take_buffered.ensures.same_writer ∙ so_far.same_writer;
+        same_writer = c.write_out.ensures.same_writer ∙ c.take_units.ensures.same_writer ∙ so_far.same_writer;
         read = Consumes-then before mid after taken more so_far.read consumed;
         on =
             ReadsOn-then g.R.Source.remaining _ _ _ so_far.on
             (c.in_ok-read.ensures.on (omega (arith, c.if-branch-eq0.false)));
         marks =
-            Marks-then _ _ _ (Marks-then _ _ _ so_far.marks c.take_buffered.ensures.marks) c.write_out.ensures.marks;
+            Marks-then _ _ _ (Marks-then _ _ _ so_far.marks c.take_units.ensures.marks) c.write_out.ensures.marks;
         reached =
-            subst (λ (l : List ℕ). Reached asked contents held (taken ++ more) l at out) (sym grown)
-            (Reached-more asked contents held taken left more at out flushed);
+            subst (λ (l : List ℕ). Reached task contents held (taken ++ more) l at out) (sym grown)
+            (Reached-more task contents held taken left more at out flushed);
       },
     )
 
 pub returns-in_err-error-clause-marks : goal.returns-in_err-error-clause-marks
-returns-in_err-error-clause-marks g c = Marks-then _ _ _ c.loop-buffer.invariant.1.marks c.take_buffered.ensures.marks
+returns-in_err-error-clause-marks g c = Marks-then _ _ _ c.loop-edits.invariant.1.marks c.take_units.ensures.marks
 
 pub returns-in_err-write_out-clause-marks : goal.returns-in_err-write_out-clause-marks
 returns-in_err-write_out-clause-marks g c =
-    Marks-then _ _ _ (Marks-then _ _ _ c.loop-buffer.invariant.1.marks c.take_buffered.ensures.marks)
+    Marks-then _ _ _ (Marks-then _ _ _ c.loop-edits.invariant.1.marks c.take_units.ensures.marks)
     c.write_out.ensures.marks
 
 pub returns-in_err-read-clause-cause : goal.returns-in_err-read-clause-cause
 returns-in_err-read-clause-cause g c =
     let why =
-    read_stops g.R.Source.remaining g.R.Source.can_fail c.write_out.new.self c.args.input.now c.loop-buffer.input
+    read_stops g.R.Source.remaining g.R.Source.can_fail c.write_out.new.self c.args.input.now c.loop-edits.input
     c.read.new.input
-    c.loop-buffer.invariant.1.on c.in_ok-write_out.ensures.ok.none_waits c.in_err-read.ensures.cause
+    c.loop-edits.invariant.1.on c.in_ok-write_out.ensures.ok.none_waits c.in_err-read.ensures.cause
     c.in_err-read.ensures.kept in
     on_input stream_of c.from_residual-in_err-read.result _ why
 
 pub returns-in_err-read-clause-marks : goal.returns-in_err-read-clause-marks
 returns-in_err-read-clause-marks g c =
-    Marks-then _ _ _ (Marks-then _ _ _ c.loop-buffer.invariant.1.marks c.take_buffered.ensures.marks)
+    Marks-then _ _ _ (Marks-then _ _ _ c.loop-edits.invariant.1.marks c.take_units.ensures.marks)
     c.write_out.ensures.marks
 
 pub returns-then-is_over-clause-marks : goal.returns-then-is_over-clause-marks
 returns-then-is_over-clause-marks g c =
     Marks-then _ _ _
-    (Marks-then _ _ _ (Marks-then _ _ _ c.loop-buffer.invariant.1.marks c.take_buffered.ensures.marks)
+    (Marks-then _ _ _ (Marks-then _ _ _ c.loop-edits.invariant.1.marks c.take_units.ensures.marks)
     c.write_out.ensures.marks)
     c.finish.ensures.marks
 
 pub returns-then-branch-eq0-clause-marks : goal.returns-then-branch-eq0-clause-marks
 returns-then-branch-eq0-clause-marks g c =
-    Marks-then _ _ _ (Marks-then _ _ _ c.loop-buffer.invariant.1.marks c.take_buffered.ensures.marks)
+    Marks-then _ _ _ (Marks-then _ _ _ c.loop-edits.invariant.1.marks c.take_units.ensures.marks)
     c.write_out.ensures.marks
+
+pub returns-in_err-error-clause-run : goal.returns-in_err-error-clause-run
+returns-in_err-error-clause-run g c =
+    let (taken, so_far) = c.loop-edits.invariant in
+    let task = task_view c.args.task.now in
+    let contents = g.W.Sink.contents in
+    let held = contents_of contents c.args.out.now in
+    let before = g.R.Source.remaining c.args.input.now.inner.now in
+    let mid = g.R.Source.remaining c.loop-edits.input.inner.now in
+    stopped_with task contents before mid held c.from_residual.result c.in_err-error.field-0.0 taken
+    (items c.loop-edits.buffer) c.loop-edits.progress c.loop-edits.out c.take_units.new.out c.from_residual.ensures.1
+    c.in_err-error.ensures.fault c.in_err-error.ensures.stopped so_far.read so_far.reached

@@ -2,7 +2,7 @@ use Rattle.std.proofs.Common.{rules, ap, ◌∙◌, List, ℕ}
 use Rattle.std.specs.Io.KnownBytes.{append_known}
 use Rattle.ether_text.proofs.KnownBytesLemmas.{append_known_nil}
 use Rattle.ether_text.proofs.RunLemmas.{run_fails}
-use Rattle.ether_capture.specs.Options.{lines_view}
+use Rattle.ether_capture.specs.Task.{task_view}
 use Rattle.ether_capture.specs.Run.{stream_of}
 use Rattle.ether_capture.proofs.RunLemmas.{HasRun-same}
 use Rattle.ether_capture.proofs.run.run.Goals as goal
@@ -13,7 +13,7 @@ returns-clause-run g c =
     ap (λ (l : List ℕ). append_known (g.W.Sink.contents c.new-out.result.writer.now) l)
     c.new-out.ensures.none_waits
     ∙ append_known_nil _ ∙ ap g.W.Sink.contents c.new-out.ensures.contents in
-    HasRun-same (lines_view c.args.asked.now) c.answer_capture.result _ _ _ _ _ _ _ _
+    HasRun-same (task_view c.args.task.now) c.answer_capture.result _ _ _ _ _ _ _ _
     (ap g.R.Source.remaining c.new-input.ensures.remaining) (search rules) none (search rules)
     c.answer_capture.ensures.run
 

@@ -1,11 +1,18 @@
-use Rattle.std.proofs.Common.{sym, ◌∙◌}
-use Rattle.ether_capture.specs.Options.{lines, copy}
+use Rattle.std.proofs.Common.{refl, sym, ap, ◌∙◌, List, ℕ}
+use Rattle.std.specs.Option.{option_map}
+use Rattle.std.specs.Prelude.{string_bytes}
+use Rattle.ether_capture.specs.Options.{Run}
+use Rattle.ether_capture.specs.Task.{FormValue}
 use Rattle.ether_capture.proofs.options.Asked.request.Goals as goal
 
 pub returns-in-Ok-clause-ok : goal.returns-in-Ok-clause-ok
-returns-in-Ok-clause-ok c =
-    copy c.in-Ok.filter c.if-self.true (sym c.clashes.ensures ∙ c.if-clashes.false) c.in-Ok.ensures.ok
-
-pub returns-in-Ok-2-clause-ok : goal.returns-in-Ok-2-clause-ok
-returns-in-Ok-2-clause-ok c =
-    lines c.in-Ok.filter c.if-self.false (sym c.clashes.ensures ∙ c.if-clashes.false) c.in-Ok.ensures.ok
+returns-in-Ok-clause-ok c = record {
+  select = c.in-Ok.filter;
+  goes = sym c.clashes.ensures ∙ c.if-clashes.false;
+  selects = c.in-Ok.ensures.ok;
+  is =
+      ap
+      (λ (f : FormValue).
+      Run (record { select = c.in-Ok.filter; form = f }) (option_map string_bytes c.args.self.file))
+      c.form-form.ensures;
+}

@@ -1,10 +1,10 @@
 use Rattle.std.proofs.Common.{List, ℕ, ◌≤◌, ◌+◌, sym, ap, arith}
 use Rattle.std.specs.Prelude.{slice_range}
 use Rattle.ether_base.proofs.SubLists.{rest_of_part, length-part_min}
-use Rattle.ether_capture.specs.Options.{selection_view}
 use Rattle.ether_capture.specs.InputBuffer.{items}
-use Rattle.ether_capture.proofs.CopyingLemmas.{units_left}
-use Rattle.ether_capture.proofs.input_buffer.InputBuffer.copy_units.Goals as goal
+use Rattle.ether_capture.specs.Task.{task_view}
+use Rattle.ether_capture.proofs.RunLemmas.{units_left}
+use Rattle.ether_capture.proofs.input_buffer.InputBuffer.take_units.Goals as goal
 
 pub returns-clause-ok : goal.returns-clause-ok
 returns-clause-ok g c =
@@ -13,8 +13,8 @@ returns-clause-ok g c =
     let call = c.in_ok-taken.ensures in
     let few = length-part_min c.as_slice.result.now b.start b.end in
     let within : b.start + taken ≤ b.end = omega (arith, few, call.within, b.ordered) in
-    units_left (selection_view c.args.asked.now) g.W.Sink.contents (items b)
+    units_left (task_view c.args.task.now) g.W.Sink.contents (items b)
     (slice_range c.as_slice.result.now b.start b.end) (slice_range b.bytes.items (b.start + taken) b.end)
-    c.args.units.now c.take_units.new.self c.args.out.now c.take_units.new.out taken c.in_ok-taken.error
+    c.args.progress.now c.take_units.new.self c.args.out.now c.take_units.new.out taken c.in_ok-taken.error
     (ap (λ (l : List ℕ). slice_range l b.start b.end) c.as_slice.ensures.value)
     (sym (rest_of_part b.bytes.items b.start b.end taken within)) call.ok

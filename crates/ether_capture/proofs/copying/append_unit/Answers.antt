@@ -3,8 +3,8 @@ use Rattle.ether_pcap.specs.Editing.{padding_of, unit_bytes}
 use Rattle.ether_pcap.specs.declared.capture.edited_unit.EditedUnit.{EditedUnit}
 use Rattle.ether_text.specs.OutputBuffer.{Takes}
 use Rattle.ether_text.proofs.OutputBufferLemmas.{Takes-then, Takes-same}
-use Rattle.ether_capture.proofs.CopyLoopLemmas.{zeros_of_three}
-use Rattle.ether_capture.proofs.copy_loop.append_unit.Goals as goal
+use Rattle.ether_capture.proofs.CopiesLemmas.{zeros_of_three}
+use Rattle.ether_capture.proofs.copying.append_unit.Goals as goal
 
 pub returns-in-Block : goal.returns-in-Block
 returns-in-Block g c =

@@ -5,11 +5,10 @@ use Rattle.std.proofs.lemmas.List.{drop-drop, length-drop}
 use Rattle.ether_pcap.specs.Capture.{Begins}
 use Rattle.ether_pcap.specs.CaptureViews.{captured_packet_view}
 use Rattle.ether_text.proofs.OutputBufferLemmas.{Marks-none, Marks-then}
-use Rattle.ether_capture.specs.Options.{selection_view}
-use Rattle.ether_capture.specs.CopyLoop.{CopyReached, IsUnitOf, OnNotEdited, StopsAfter}
-use Rattle.ether_capture.proofs.FrameLoopLemmas.{rest_is}
-use Rattle.ether_capture.proofs.CopyLoopLemmas.{CopyReached-unit, packet_of_unit, unit_is, unit_unwritten, err_is}
-use Rattle.ether_capture.proofs.copy_loop.CopyLoop.take_units.Goals as goal
+use Rattle.ether_capture.specs.Progress.{Reached, IsUnitOf, OnNotEdited, StopsAfter}
+use Rattle.ether_capture.specs.Task.{task_view}
+use Rattle.ether_capture.proofs.ProgressLemmas.{Reached-unit, packet_of_unit, unit_is, unit_unwritten, err_is, rest_is}
+use Rattle.ether_capture.proofs.progress.Progress.take_units.Goals as goal
 
 pub loop-unit-init : goal.loop-unit-init
 loop-unit-init g c = record {
@@ -36,7 +35,7 @@ returns-in_err-take_unit-clause-stopped g c =
     let whole = c.args.bytes.now in
     let at = c.loop-unit.at in
     let len = c.in-Ok.unit.len in
-    let asked = selection_view c.args.asked.now in
+    let task = task_view c.args.task.now in
     let packet = option_map captured_packet_view c.in-Ok.unit.packet in
     let begins =
     subst (λ (l : List ℕ). Begins l c.loop-unit.self.reader len packet c.read.new.self) (rest_is whole at)
@@ -44,9 +43,9 @@ returns-in_err-take_unit-clause-stopped g c =
     err_is c.from_residual.result c.in_err-take_unit.field-0.0
     (λ fault.
     OnNotEdited fault
-    (λ offset. StopsAfter asked g.W.Sink.contents whole c.args.self.now c.args.out.now offset c.take_unit.new.out))
+    (λ offset. StopsAfter task g.W.Sink.contents whole c.args.self.now c.args.out.now offset c.take_unit.new.out))
     c.from_residual.ensures.1
-    (unit_unwritten asked g.W.Sink.contents whole (slice_range whole at (at + len)) (drop at whole) c.read.new.self len
+    (unit_unwritten task g.W.Sink.contents whole (slice_range whole at (at + len)) (drop at whole) c.read.new.self len
     packet c.args.self.now c.loop-unit.self c.args.out.now c.loop-unit.out c.take_unit.new.out
     c.in_err-take_unit.field-0.0 (unit_is whole at len) begins c.in_err-take_unit.ensures.stopped
     c.loop-unit.invariant.reached)
@@ -60,7 +59,7 @@ loop-unit-preserved g c =
     let at = c.loop-unit.at in
     let len = c.in-Ok.unit.len in
     let so_far = c.loop-unit.invariant in
-    let asked = selection_view c.args.asked.now in
+    let task = task_view c.args.task.now in
     let here = rest_is whole at in
     let packet = option_map captured_packet_view c.in-Ok.unit.packet in
     let begins =
@@ -75,9 +74,9 @@ loop-unit-preserved g c =
       reached = λ held input begun.
           subst
           (λ (l : List ℕ).
-          CopyReached asked g.W.Sink.contents held input l c.take_unit.new.self c.take_unit.new.out)
+          Reached task g.W.Sink.contents held input l c.take_unit.new.self c.take_unit.new.out)
           (drop-drop len at whole)
-          (CopyReached-unit asked g.W.Sink.contents held input (drop at whole) c.loop-unit.self c.take_unit.new.self
+          (Reached-unit task g.W.Sink.contents held input (drop at whole) c.loop-unit.self c.take_unit.new.self
           c.read.new.self c.loop-unit.out c.take_unit.new.out len packet (slice_range whole at (at + len)) within begins
           (unit_is whole at len) c.in_ok-take_unit.ensures.ok (so_far.reached held input begun));
     }

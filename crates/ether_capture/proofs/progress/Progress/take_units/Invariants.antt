@@ -1,8 +1,8 @@
 use Rattle.std.proofs.Common.{◌≡◌, ◌≤◌, ◌-◌, ℕ, List, length, drop, Option}
 use Rattle.ether_text.specs.OutputBuffer.{Marks}
-use Rattle.ether_capture.specs.Options.{selection_view}
-use Rattle.ether_capture.specs.CopyLoop.{CopyReached}
-use Rattle.ether_capture.proofs.copy_loop.CopyLoop.take_units.Given as goal
+use Rattle.ether_capture.specs.Progress.{Reached}
+use Rattle.ether_capture.specs.Task.{task_view}
+use Rattle.ether_capture.proofs.progress.Progress.take_units.Given as goal
 
 abbrev pub invariant-loop-unit : goal.invariant-loop-unit
 invariant-loop-unit g l =
@@ -11,8 +11,8 @@ invariant-loop-unit g l =
       marks : Marks g.W.Sink.can_fail l.fn.out l.out;
       within : l.at ≤ length l.fn.bytes;
       reached : (held : Option (List ℕ)) (input : List ℕ)
-          → CopyReached (selection_view l.fn.asked) g.W.Sink.contents held input l.fn.bytes l.fn.self l.fn.out
-          → CopyReached (selection_view l.fn.asked) g.W.Sink.contents held input (drop l.at l.fn.bytes) l.self l.out;
+          → Reached (task_view l.fn.task) g.W.Sink.contents held input l.fn.bytes l.fn.self l.fn.out
+          → Reached (task_view l.fn.task) g.W.Sink.contents held input (drop l.at l.fn.bytes) l.self l.out;
     }
 
 abbrev pub decreases-loop-unit : goal.decreases-loop-unit

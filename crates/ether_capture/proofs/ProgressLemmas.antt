@@ -1,0 +1,515 @@
+-- How far a run has come, one unit of the capture after another.
+use Rattle.std.proofs.Common.{◌≡◌, ℕ, ◌+◌, ◌-◌, ◌≤◌, ◌⊎◌, List, [], ◌∷◌, ◌++◌, length, take, drop, slice_range, Bool, true, false, ◌&&◌, Option, Some, None, unwrap_or, Result, Ok, Err, IsErrAnd, IfErr, refl, sym, ap, subst, ◌∙◌, arith, append_assoc, append-nil, inl, inr}
+use Rattle.std.proofs.Math.Bool.{and_assoc}
+use Rattle.std.proofs.lemmas.List.{length-append, length-drop, take-append-drop, take_all, length-take-le}
+use Rattle.std.proofs.lemmas.List.Sums.{sum_by-append}
+use Rattle.std.specs.List.{sum_by}
+use Rattle.std.specs.Io.KnownBytes.{Appends}
+use Rattle.ether_filter.specs.Expressions.{Expression}
+use Rattle.ether_pcap.specs.Capture.{PacketValue, Expectation, Beginning, Begins}
+use Rattle.ether_pcap.specs.Copies.{Selected, none, one_kept, one_left}
+use Rattle.ether_pcap.specs.Editing.{EditedValue, unit_after}
+use Rattle.ether_pcap.proofs.CaptureLocality.{unit_alone}
+use Rattle.ether_pcap.proofs.PacketUnits.{same_after}
+use Rattle.ether_content.specs.Editing.{EditValue}
+use Rattle.ether_text.specs.OutputBuffer.{contents_of, WritesOut}
+use Rattle.ether_text.specs.Verdict.{verdict_of, verdict_with}
+use Rattle.ether_text.specs.declared.output_buffer.OutputBuffer.{OutputBuffer}
+use Rattle.ether_text.specs.declared.verdict.Verdict.{Verdict}
+use Rattle.ether_text.proofs.KnownBytesLemmas.{Appends-none, Appends-then, Appends-written_out}
+use Rattle.ether_capture.specs.Answering.{AreAnswered}
+use Rattle.ether_capture.specs.Copying.{EditsTo, EditsIf, CopyGoesOn}
+use Rattle.ether_capture.specs.FrameLines.{AnswersPacket, skip_count}
+use Rattle.ether_capture.specs.Packets.{counted, GoesOn}
+use Rattle.ether_capture.specs.Progress.{Made, Reached, IsStart, IsUnitOf, Writes, writes_unit, writes_nothing, writes_packet, Makes, other_text, Counts, TakesUnit, StopsUnwritten, Unedited, UneditedIn, StopsAfter, OnNotEdited}
+use Rattle.ether_capture.specs.Task.{TaskValue, FormValue, Lines, Copy, IsChosen}
+use Rattle.ether_capture.specs.declared.outcome.RunFault.{RunFault}
+use Rattle.ether_capture.specs.declared.outcome.RunFault.TheVariants as faults
+use Rattle.ether_capture.specs.declared.progress.Progress.{Progress}
+use Rattle.ether_capture.proofs.CopiesLemmas.{CopyGoesOn-start, CopyGoesOn-unit, CopyGoesOn-kept, CopyGoesOn-left, edited_as_said}
+use Rattle.ether_capture.proofs.PacketsLemmas.{GoesOn-start, GoesOn-unit, GoesOn-packet}
+
+and_true : (b : Bool) → (true && b) ≡ (b && true)
+and_true true = refl
+and_true false = refl
+
+verdict_with-verdict_of : (all accepted : Bool) → verdict_with (verdict_of all) accepted ≡ verdict_of (all && accepted)
+verdict_with-verdict_of true accepted = refl
+verdict_with-verdict_of false accepted = refl
+
+and_is_true : (b : Bool) → (b && true) ≡ b
+and_is_true true = refl
+and_is_true false = refl
+
+-- one answered packet more
+pub AreAnswered-push : (select : Option Expression) (plain : Bool) (before : ℕ) (packets : List PacketValue) (text : List ℕ) (all : Bool)
+    (p : PacketValue) (more : List ℕ) (accepted : Bool)
+    → AreAnswered select plain before packets text all
+    → AnswersPacket select plain (counted (before + length packets + 1)) p more accepted
+    → AreAnswered select plain before (packets ++ p ∷ []) (text ++ more) (all && accepted)
+AreAnswered-push select plain before [] text all p more accepted so_far is =
+    let n : before + length {A = PacketValue} [] + 1 ≡ before + 1 = omega arith in (
+      more,
+      accepted,
+      [],
+      true,
+      subst (λ (k : ℕ). AnswersPacket select plain (counted k) p more accepted) n is,
+      (refl, refl),
+      ap (λ (t : List ℕ). t ++ more) so_far.0 ∙ sym (append-nil more),
+      ap (λ (b : Bool). b && accepted) so_far.1 ∙ and_true accepted,
+    )
+AreAnswered-push select plain before (first ∷ others) text all p more accepted so_far is =
+    let (one, one_accepted, rest, others_accepted, here, there, whole, every) = so_far in
+    let n : before + length (first ∷ others) + 1 ≡ before + 1 + length others + 1 = omega arith in (
+      one,
+      one_accepted,
+      rest ++ more,
+      others_accepted && accepted,
+      here,
+      AreAnswered-push select plain (before + 1) others rest others_accepted p more accepted there
+          (subst (λ (k : ℕ). AnswersPacket select plain (counted k) p more accepted) n is),
+      ap (λ (t : List ℕ). t ++ more) whole ∙ append_assoc one rest more,
+      ap (λ (b : Bool). b && accepted) every ∙ and_assoc one_accepted others_accepted accepted,
+    )
+
+-- what was skipped, and one packet more
+skipped-push : (packets : List PacketValue) (p : PacketValue)
+    → sum_by skip_count (packets ++ p ∷ []) ≡ sum_by skip_count packets + skip_count p
+skipped-push packets p = sum_by-append skip_count packets (p ∷ []) ∙ last
+  where
+    last : sum_by skip_count packets + sum_by skip_count (p ∷ []) ≡ sum_by skip_count packets + skip_count p
+    last = omega arith
+
+some_text : (a b : List ℕ) → Some a ≡ Some b → a ≡ b
+some_text a b e = ap (λ (o : Option (List ℕ)). unwrap_or o a) e
+
+some_none : (a : List ℕ) → Some a ≡ None → ⊥
+some_none a e = absurd cc
+
+-- the front with a unit more
+pub front_after : (input front buffered : List ℕ) (len : ℕ) → input ≡ front ++ buffered
+    → input ≡ (front ++ take len buffered) ++ drop len buffered
+front_after input front buffered len is =
+    is ∙ ap (λ (l : List ℕ). front ++ l) (sym (take-append-drop len buffered))
+    ∙ sym (append_assoc front (take len buffered) (drop len buffered))
+
+pub front_len : (front buffered : List ℕ) (len : ℕ) → len ≤ length buffered
+    → length (front ++ take len buffered) ≡ length front + len
+front_len front buffered len within =
+    length-append front (take len buffered) ∙ ap (λ (n : ℕ). length front + n) (length-take-le len buffered within)
+
+-- ---- what is chosen
+
+module _ (select : Option Expression) where
+  -- a packet more, which is chosen
+  chosen-push : (packets kept : List PacketValue) (p : PacketValue) → IsChosen select p
+      → Selected (IsChosen select) packets kept → Selected (IsChosen select) (packets ++ p ∷ []) (kept ++ p ∷ [])
+  chosen-push packets kept p is none = one_kept p [] [] is none
+  chosen-push packets kept p is (one_kept q qs ks first others) =
+      one_kept q (qs ++ p ∷ []) (ks ++ p ∷ []) first (chosen-push qs ks p is others)
+  chosen-push packets kept p is (one_left q qs ks first others) =
+      one_left q (qs ++ p ∷ []) (ks ++ p ∷ []) first (chosen-push qs ks p is others)
+
+  -- .. or is not
+  left-push : (packets kept : List PacketValue) (p : PacketValue) → ¬ (IsChosen select p)
+      → Selected (IsChosen select) packets kept → Selected (IsChosen select) (packets ++ p ∷ []) kept
+  left-push packets kept p is none = one_left p [] [] is none
+  left-push packets kept p is (one_kept q qs ks first others) =
+      one_kept q (qs ++ p ∷ []) ks first (left-push qs ks p is others)
+  left-push packets kept p is (one_left q qs ks first others) =
+      one_left q (qs ++ p ∷ []) ks first (left-push qs ks p is others)
+
+-- ---- what is made
+
+-- the packets with that of a unit, if it has one
+abbrev pub with_packet : List PacketValue → Option PacketValue → List PacketValue
+with_packet packets None = packets
+with_packet packets (Some p) = packets ++ p ∷ []
+
+-- what is made with a unit more
+record MadeMore (select : Option Expression) (form : FormValue) (packets : List PacketValue) (front text : List ℕ)
+    (all : Bool) (x : Expectation) : Type 0 where
+  kept : List PacketValue
+  selected : Selected (IsChosen select) packets kept
+  made : Made select form packets kept front text all x
+
+-- the lines of a packet that is chosen or not
+answered_more : (select : Option Expression) (plain : Bool) (packets kept : List PacketValue) (front text : List ℕ)
+    (all : Bool) (x y : Expectation) (p : PacketValue) (own more : List ℕ) (accepted : Bool)
+    → Selected (IsChosen select) packets kept → Made select (Lines plain) packets kept front text all x
+    → AnswersPacket select plain (counted (0 + length packets + 1)) p more accepted
+    → MadeMore select (Lines plain) (packets ++ p ∷ []) (front ++ own) (text ++ more) (all && accepted) y
+answered_more select plain packets kept front text all x y p own more accepted selected made (inl is) = record {
+  kept = kept ++ p ∷ [];
+  selected = chosen-push select packets kept p is.0 selected;
+  made = AreAnswered-push select plain 0 packets text all p more accepted made (inl is);
+}
+answered_more select plain packets kept front text all x y p own more accepted selected made (inr is) = record {
+  kept = kept;
+  selected = left-push select packets kept p is.0 selected;
+  made = AreAnswered-push select plain 0 packets text all p more accepted made (inr is);
+}
+
+-- the copy of a unit
+copied_more : (select : Option Expression) (edit : Option EditValue) (packets kept : List PacketValue)
+    (front copy : List ℕ) (all : Bool) (x y : Expectation) (buffered : List ℕ) (len : ℕ) (packet : Option PacketValue)
+    (own more : List ℕ) (text : Option (List ℕ))
+    → len ≤ length buffered → Begins buffered x len packet y → own ≡ take len buffered
+    → Selected (IsChosen select) packets kept → Made select (Copy edit) packets kept front copy all x
+    → text ≡ Some more → Writes select edit y own packet text
+    → MadeMore select (Copy edit) (with_packet packets packet) (front ++ take len buffered) (copy ++ more) (all && true)
+    y
+copied_more select edit packets kept front copy all x y buffered len packet own more text within begins unit_is selected
+    made is writes_unit =
+    let same : take len buffered ≡ more = sym unit_is ∙ some_text own more is in
+    record {
+      kept = kept;
+      selected = selected;
+      made = (
+        λ to edits.
+            subst (λ (l : List ℕ). CopyGoesOn select to (front ++ take len buffered) (copy ++ l) kept y) same
+            (CopyGoesOn-unit select edit to edits front copy kept x y buffered len within begins (made.0 to edits)),
+        ap (λ (b : Bool). b && true) made.1,
+      );
+    }
+copied_more select edit packets kept front copy all x y buffered len packet own more text within begins unit_is selected
+    made is (writes_nothing p not_chosen) =
+    let same : copy ≡ copy ++ more =
+    sym (append-nil copy) ∙ ap (λ (l : List ℕ). copy ++ l) (some_text [] more is) in
+    record {
+      kept = kept;
+      selected = left-push select packets kept p not_chosen selected;
+      made = (
+        λ to edits.
+            subst (λ (l : List ℕ). CopyGoesOn select to (front ++ take len buffered) l kept y) same
+            (CopyGoesOn-left select edit to edits front copy kept p x y buffered len within begins not_chosen
+            (made.0 to edits)),
+        ap (λ (b : Bool). b && true) made.1,
+      );
+    }
+copied_more select edit packets kept front copy all x y buffered len packet own more text within begins unit_is selected
+    made is (writes_packet p o _ chosen edited e) =
+    record {
+      kept = kept ++ p ∷ [];
+      selected = chosen-push select packets kept p chosen selected;
+      made = (
+        λ to edits.
+            CopyGoesOn-kept select edit to edits front copy more kept p x y buffered len within begins chosen
+            (edited_as_said edit to y x own (take len buffered) p o (Some more) edits edited
+            (same_after buffered x y len p begins) unit_is (e ∙ is))
+            (made.0 to edits),
+        ap (λ (b : Bool). b && true) made.1,
+      );
+    }
+
+-- the text of a unit that is no packet
+pub other_made : (select : Option Expression) (form : FormValue) (x : Expectation) (number : ℕ) (unit : List ℕ)
+    → Makes select form x number unit None true (Some (other_text form unit))
+other_made select (Lines plain) x number unit = (refl, refl)
+other_made select (Copy edit) x number unit = (writes_unit, refl)
+
+-- .. and of a packet that is not chosen
+pub left_made : (select : Option Expression) (form : FormValue) (x : Expectation) (number : ℕ) (unit : List ℕ)
+    (p : PacketValue) → ¬ (IsChosen select p) → Makes select form x number unit (Some p) true (Some [])
+left_made select (Lines plain) x number unit p not_chosen = ([], inr (not_chosen, refl, refl), refl)
+left_made select (Copy edit) x number unit p not_chosen = (writes_nothing p not_chosen, refl)
+
+-- what is made of a unit
+made_more : (select : Option Expression) (form : FormValue) (packets kept : List PacketValue) (front text : List ℕ)
+    (all : Bool) (x y : Expectation) (buffered : List ℕ) (len number : ℕ) (packet : Option PacketValue)
+    (own more : List ℕ) (accepted : Bool)
+    → len ≤ length buffered → Begins buffered x len packet y → own ≡ take len buffered
+    → number ≡ counted (0 + length packets + 1)
+    → Selected (IsChosen select) packets kept → Made select form packets kept front text all x
+    → Makes select form y number own packet accepted (Some more)
+    → MadeMore select form (with_packet packets packet) (front ++ take len buffered) (text ++ more) (all && accepted) y
+made_more select (Lines plain) packets kept front text all x y buffered len number None own more accepted within begins
+    unit_is is selected made makes =
+    let same : text ≡ text ++ more =
+    sym (append-nil text) ∙ ap (λ (l : List ℕ). text ++ l) (sym (some_text more [] makes.0)) in
+    let same_all : all ≡ (all && accepted) = sym (and_is_true all) ∙ ap (λ (b : Bool). all && b) (sym makes.1) in
+    record {
+      kept = kept;
+      selected = selected;
+      made =
+          subst (λ (b : Bool). AreAnswered select plain 0 packets (text ++ more) b) same_all
+          (subst (λ (l : List ℕ). AreAnswered select plain 0 packets l all) same made);
+    }
+made_more select (Lines plain) packets kept front text all x y buffered len number (Some p) own more accepted within
+    begins unit_is is selected made (lines, answers, e) =
+    let same : lines ≡ more = sym (some_text more lines e) in
+    answered_more select plain packets kept front text all x y p (take len buffered) more accepted selected made
+    (subst (λ (n : ℕ). AnswersPacket select plain n p more accepted) is
+    (subst (λ (l : List ℕ). AnswersPacket select plain number p l accepted) same answers))
+made_more select (Copy edit) packets kept front text all x y buffered len number packet own more accepted within begins
+    unit_is is selected made makes =
+    subst
+    (λ (b : Bool).
+    MadeMore select (Copy edit) (with_packet packets packet) (front ++ take len buffered) (text ++ more) (all && b) y)
+    (sym makes.1)
+    (copied_more select edit packets kept front text all x y buffered len packet own more (Some more) within begins
+    unit_is selected made refl makes.0)
+
+-- nothing is made yet
+made_start : (select : Option Expression) (form : FormValue) → Made select form [] [] [] [] true Beginning
+made_start select (Lines plain) = (refl, refl)
+made_start select (Copy edit) = (λ to edits. CopyGoesOn-start select edit to edits, refl)
+
+-- ---- how far the run has come
+
+-- what follows is what a capture has first, with a unit more
+goes_more : (front : List ℕ) (packets : List PacketValue) (packet : Option PacketValue) (x y : Expectation)
+    (buffered : List ℕ) (len : ℕ)
+    → len ≤ length buffered → Begins buffered x len packet y → GoesOn front packets x
+    → GoesOn (front ++ take len buffered) (with_packet packets packet) y
+goes_more front packets None x y buffered len within begins go = GoesOn-unit front packets x y buffered len within begins go
+goes_more front packets (Some p) x y buffered len within begins go =
+    GoesOn-packet front packets p x y buffered len within begins go
+
+-- the counts with a unit more
+counts_more : (packets : List PacketValue) (packet : Option PacketValue) (old new : Progress)
+    → Counts packet old new → old.count ≡ counted (length packets) → old.skipped ≡ counted (sum_by skip_count packets)
+    → (new.count ≡ counted (length (with_packet packets packet)))
+    × (new.skipped ≡ counted (sum_by skip_count (with_packet packets packet)))
+counts_more packets None old new counts count skipped = (counts.0 ∙ count, counts.1 ∙ skipped)
+counts_more packets (Some p) old new counts count skipped =
+    let more = length-append packets (p ∷ []) in
+    let skips = skipped-push packets p in
+    let a = counts.0 in let b = counts.1 in
+    (omega (arith, a, count, more), omega (arith, b, skipped, skips))
+
+module _ {W : Type 0} (task : TaskValue) (contents : W → Option (List ℕ)) where
+  -- nothing is read
+  pub Reached-start : (start : Progress) (out : OutputBuffer W) → IsStart start
+      → Reached task contents (contents_of contents out) [] [] start out
+  Reached-start start out is = record {
+    packets = [];
+    kept = [];
+    front = [];
+    text = [];
+    all_accepted = true;
+    place = refl;
+    parts = subst (λ (x : Expectation). GoesOn [] [] x) (sym is.is_reader) GoesOn-start;
+    selected = none;
+    made =
+        subst (λ (x : Expectation). Made task.select task.form [] [] [] [] true x) (sym is.is_reader)
+        (made_start task.select task.form);
+    is_verdict = is.is_verdict;
+    is_count = is.is_count;
+    is_skipped = is.is_skipped;
+    is_offset = is.is_offset;
+    written = Appends-none (contents_of contents out);
+  }
+
+  -- what waited is written out
+  pub Reached-written_out : (held : Option (List ℕ)) (input buffered : List ℕ) (at : Progress)
+      (old new : OutputBuffer W)
+      → WritesOut contents old new → Reached task contents held input buffered at old
+      → Reached task contents held input buffered at new
+  Reached-written_out held input buffered at old new drains so_far = record {
+    packets = so_far.packets;
+    kept = so_far.kept;
+    front = so_far.front;
+    text = so_far.text;
+    all_accepted = so_far.all_accepted;
+    place = so_far.place;
+    parts = so_far.parts;
+    selected = so_far.selected;
+    made = so_far.made;
+    is_verdict = so_far.is_verdict;
+    is_count = so_far.is_count;
+    is_skipped = so_far.is_skipped;
+    is_offset = so_far.is_offset;
+    written =
+        Appends-written_out held (contents old.writer.now) (contents new.writer.now) old.waiting.items new.waiting.items
+        so_far.text so_far.written drains.written drains.none_waits;
+  }
+
+  -- more bytes are read
+  pub Reached-more : (held : Option (List ℕ)) (input buffered chunk : List ℕ) (at : Progress) (out : OutputBuffer W)
+      → Reached task contents held input buffered at out
+      → Reached task contents held (input ++ chunk) (buffered ++ chunk) at out
+  Reached-more held input buffered chunk at out so_far = record {
+    packets = so_far.packets;
+    kept = so_far.kept;
+    front = so_far.front;
+    text = so_far.text;
+    all_accepted = so_far.all_accepted;
+    place = ap (λ (l : List ℕ). l ++ chunk) so_far.place ∙ append_assoc so_far.front buffered chunk;
+    parts = so_far.parts;
+    selected = so_far.selected;
+    made = so_far.made;
+    is_verdict = so_far.is_verdict;
+    is_count = so_far.is_count;
+    is_skipped = so_far.is_skipped;
+    is_offset = so_far.is_offset;
+    written = so_far.written;
+  }
+
+  -- a unit is taken
+  pub Reached-unit : (held : Option (List ℕ)) (input buffered : List ℕ) (old new : Progress) (y : Expectation)
+      (from to : OutputBuffer W) (len : ℕ) (packet : Option PacketValue) (own : List ℕ)
+      → len ≤ length buffered → Begins buffered old.reader len packet y → own ≡ take len buffered
+      → TakesUnit task contents own packet (record old { reader = y }) from new to
+      → Reached task contents held input buffered old from
+      → Reached task contents held input (drop len buffered) new to
+  Reached-unit held input buffered old new y from to len packet own within begins unit_is takes so_far =
+      let number : counted (old.count + 1) ≡ counted (0 + length so_far.packets + 1) = let b = so_far.is_count in
+      omega (arith, b) in
+      let more =
+      made_more task.select task.form so_far.packets so_far.kept so_far.front so_far.text so_far.all_accepted old.reader
+      y buffered len (counted (old.count + 1)) packet own takes.text takes.accepted within begins unit_is number
+      so_far.selected so_far.made takes.makes in
+      let counts =
+      counts_more so_far.packets packet (record old { reader = y }) new takes.counts so_far.is_count so_far.is_skipped in
+      let long : length own ≡ len = ap length unit_is ∙ length-take-le len buffered within in
+      let front = front_len so_far.front buffered len within in
+      record {
+        packets = with_packet so_far.packets packet;
+        kept = more.kept;
+        front = so_far.front ++ take len buffered;
+        text = so_far.text ++ takes.text;
+        all_accepted = so_far.all_accepted && takes.accepted;
+        place = front_after input so_far.front buffered len so_far.place;
+        parts =
+            subst (λ (x : Expectation). GoesOn (so_far.front ++ take len buffered) (with_packet so_far.packets packet) x)
+            (sym takes.same_reader)
+            (goes_more so_far.front so_far.packets packet old.reader y buffered len within begins so_far.parts);
+        selected = more.selected;
+        made =
+            subst
+            (λ (x : Expectation).
+            Made task.select task.form (with_packet so_far.packets packet) more.kept (so_far.front ++ take len buffered)
+            (so_far.text ++ takes.text) (so_far.all_accepted && takes.accepted) x)
+            (sym takes.same_reader) more.made;
+        is_verdict =
+            takes.is_verdict ∙ ap (λ (v : Verdict). verdict_with v takes.accepted) so_far.is_verdict
+            ∙ verdict_with-verdict_of so_far.all_accepted takes.accepted;
+        is_count = counts.0;
+        is_skipped = counts.1;
+        is_offset = let a = takes.is_offset in let b = so_far.is_offset in omega (arith, a, b, long, front);
+        written =
+            Appends-then held (contents_of contents from) (contents_of contents to) so_far.text takes.text
+            so_far.written takes.written;
+      }
+
+-- ---- a packet that can't be edited
+
+module _ {W : Type 0} (select : Option Expression) (edit : Option EditValue) (contents : W → Option (List ℕ))
+    (held : Option (List ℕ)) where
+  abbrev Copying : (input buffered : List ℕ) → (at : Progress) → (out : OutputBuffer W) → Type 0
+  Copying = Reached (record { select = select; form = Copy edit }) contents held
+
+  packet_stops : (input buffered : List ℕ) (old : Progress) (from to : OutputBuffer W)
+      (x : Expectation) (len : ℕ) (p : PacketValue) (o : Option EditedValue) (own : List ℕ) (offset : ℕ)
+      → Begins buffered old.reader len (Some p) old.reader → IsChosen select p → EditsIf edit p o
+      → x ≡ old.reader → own ≡ take len buffered → unit_after x p o own ≡ None
+      → offset ≡ old.offset → to ≡ from
+      → Copying input buffered old from → Unedited select edit contents held input offset to
+  packet_stops input buffered old from to x len p o own offset begins copied is same unit_is no_copy at same_out so_far =
+      record {
+        front = so_far.front;
+        copy = so_far.text;
+        kept = so_far.kept;
+        buffered = buffered;
+        expected = old.reader;
+        len = len;
+        packet = p;
+        parts = so_far.made.0;
+        begins = begins;
+        copied = copied;
+        not_written = λ edit_to edits.
+            edited_as_said edit edit_to x old.reader own (take len buffered) p o None edits is same unit_is no_copy;
+        place = so_far.place;
+        is_offset = at ∙ so_far.is_offset;
+        written =
+            subst (λ (out : OutputBuffer W). Appends held (contents_of contents out) so_far.text) (sym same_out)
+            so_far.written;
+      }
+
+  unwritten_unit : (input buffered : List ℕ) (old : Progress) (x y : Expectation)
+      (from to : OutputBuffer W) (len : ℕ) (packet : Option PacketValue) (own : List ℕ) (offset : ℕ)
+      (text : Option (List ℕ))
+      → Begins buffered old.reader len packet y → x ≡ y → own ≡ take len buffered → text ≡ None
+      → Writes select edit x own packet text → offset ≡ old.offset → to ≡ from
+      → Copying input buffered old from → Unedited select edit contents held input offset to
+  unwritten_unit input buffered old x y from to len packet own offset text begins at unit_is no_copy writes_unit place
+      same_out so_far = absurd (some_none own no_copy)
+  unwritten_unit input buffered old x y from to len packet own offset text begins at unit_is no_copy
+      (writes_nothing p not_copied) place same_out so_far = absurd (some_none [] no_copy)
+  unwritten_unit input buffered old x y from to len packet own offset text begins at unit_is no_copy
+      (writes_packet p o _ kept edits e) place same_out so_far =
+      let same = same_after buffered old.reader y len p begins in
+      packet_stops input buffered old from to x len p o own offset
+      (subst (λ (z : Expectation). Begins buffered old.reader len (Some p) z) same begins) kept edits (at ∙ same)
+      unit_is (e ∙ no_copy) place same_out so_far
+
+no_lines : (select : Option Expression) (plain : Bool) (x : Expectation) (number : ℕ) (own : List ℕ)
+    (packet : Option PacketValue) (accepted : Bool)
+    → Makes select (Lines plain) x number own packet accepted None → ⊥
+no_lines select plain x number own None accepted makes = some_none [] (sym makes.0)
+no_lines select plain x number own (Some p) accepted makes = some_none makes.0 (sym makes.2)
+
+module _ {W : Type 0} (select : Option Expression) (contents : W → Option (List ℕ)) where
+  pub Reached-stopped : (form : FormValue) (held : Option (List ℕ)) (input buffered : List ℕ) (old : Progress)
+      (y : Expectation) (from to : OutputBuffer W) (len : ℕ) (packet : Option PacketValue) (own : List ℕ) (offset : ℕ)
+      → Begins buffered old.reader len packet y → own ≡ take len buffered
+      → StopsUnwritten (record { select = select; form = form }) own packet (record old { reader = y }) from offset to
+      → Reached (record { select = select; form = form }) contents held input buffered old from
+      → UneditedIn select form contents held input offset to
+  Reached-stopped (Lines plain) held input buffered old y from to len packet own offset begins unit_is stops so_far =
+      no_lines select plain y (counted (old.count + 1)) own packet stops.accepted stops.not_made
+  Reached-stopped (Copy edit) held input buffered old y from to len packet own offset begins unit_is stops so_far =
+      unwritten_unit select edit contents held input buffered old y y from to len packet own offset None begins refl
+      unit_is refl stops.not_made.0 stops.is_offset stops.same_out so_far
+
+-- a packet that can't be edited stops the run
+pub unit_unwritten : {W : Type 0} (task : TaskValue) (contents : W → Option (List ℕ))
+    (whole bytes buffered : List ℕ) (y : Expectation) (len : ℕ) (packet : Option PacketValue)
+    (first old : Progress) (begin from to : OutputBuffer W) (fault : RunFault)
+    → bytes ≡ take len buffered → Begins buffered old.reader len packet y
+    → OnNotEdited fault (λ offset. StopsUnwritten task bytes packet (record old { reader = y }) from offset to)
+    → ((held : Option (List ℕ)) (input : List ℕ) → Reached task contents held input whole first begin
+    → Reached task contents held input buffered old from)
+    → OnNotEdited fault (λ offset. StopsAfter task contents whole first begin offset to)
+unit_unwritten task contents whole bytes buffered y len packet first old begin from to (faults.NotEdited offset) is
+    begins stops reached = λ held input so_far.
+    Reached-stopped task.select contents task.form held input buffered old y from to len packet bytes offset begins is
+    stops (reached held input so_far)
+unit_unwritten task contents whole bytes buffered y len packet first old begin from to (faults.Capture f) is begins
+    stops reached = tt
+unit_unwritten task contents whole bytes buffered y len packet first old begin from to faults.Input is begins stops
+    reached = tt
+unit_unwritten task contents whole bytes buffered y len packet first old begin from to faults.Output is begins stops
+    reached = tt
+unit_unwritten task contents whole bytes buffered y len packet first old begin from to faults.Memory is begins stops
+    reached = tt
+
+-- ---- the unit that is taken
+
+-- a unit that was read has this packet
+pub packet_of_unit : (buffered : List ℕ) (x y : Expectation) (len : ℕ) (packet : Option PacketValue)
+    → len ≤ length buffered → Begins buffered x len packet y → IsUnitOf y (take len buffered) packet
+packet_of_unit buffered x y len None within begins = tt
+packet_of_unit buffered x y len (Some p) within begins =
+    let front = take len buffered in
+    let long : length front ≡ len = length-take-le len buffered within in
+    let whole = subst (λ (l : List ℕ). Begins l x len (Some p) y) (sym (take-append-drop len buffered)) begins in
+    let alone = unit_alone front (drop len buffered) x y len (Some p) (omega (arith, long)) whole in
+    let same = same_after buffered x y len p begins in
+    subst (λ (z : Expectation). Begins front z (length front) (Some p) y) (sym same)
+    (subst (λ (k : ℕ). Begins front x k (Some p) y) (sym long) alone)
+
+-- it is the front of what was buffered
+pub unit_is : (bytes : List ℕ) (at len : ℕ) → slice_range bytes at (at + len) ≡ take len (drop at bytes)
+unit_is bytes at len = let n : at + len - at ≡ len = omega arith in ap (λ k. take k (drop at bytes)) n
+
+-- what is so of a fault is so of the same one
+pub err_is : {A : Type 0} (r : Result A RunFault) (fault : RunFault) (P : RunFault → Type 0)
+    → IsErrAnd r (λ other. other ≡ fault) → P fault → IfErr r P
+err_is (Ok a) fault P is p = tt
+err_is (Err other) fault P is p = subst P (sym is) p
+
+-- the rest of a list, as a range of it
+pub rest_is : (xs : List ℕ) (n : ℕ) → take (length xs - n) (drop n xs) ≡ drop n xs
+rest_is xs n = take_all (length xs - n) (drop n xs) (let l = length-drop n xs in omega (arith, l))

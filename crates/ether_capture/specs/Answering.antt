@@ -1,0 +1,55 @@
+-- The lines of a capture.
+use Rattle.std.specs.Prelude.{◌≡◌, ℕ, ◌+◌, List, [], ◌∷◌, ◌++◌, length, Bool, true, ◌&&◌, Option, Some, None}
+use Rattle.std.specs.List.{sum_by}
+use Rattle.ether_filter.specs.Expressions.{Expression}
+use Rattle.ether_pcap.specs.Capture.{PacketValue, Expectation, Beginning, CaptureRefusal, Refuses, required_len, HasPackets}
+use Rattle.ether_pcap.specs.CaptureViews.{capture_refusal_view}
+use Rattle.ether_pcap.specs.declared.capture.capture_fault.CaptureFault.{CaptureFault}
+use Rattle.ether_capture.specs.FrameLines.{AnswersPacket, skip_count, totals_line_if}
+use Rattle.ether_capture.specs.Packets.{counted, GoesOn}
+
+-- this is the text for the packets in order, after so many before them, and all says that each is accepted
+abbrev pub AreAnswered : (select : Option Expression) → (plain : Bool) → (before : ℕ) → List PacketValue → (text : List ℕ) → (all : Bool) → Type 0
+AreAnswered select plain before [] text all = (text ≡ []) × (all ≡ true)
+AreAnswered select plain before (p ∷ packets) text all =
+    (first : List ℕ) × (accepted : Bool) × (rest : List ℕ) × (others_accepted : Bool)
+    × AnswersPacket select plain (counted (before + 1)) p first accepted × AreAnswered select plain (before + 1) packets rest others_accepted
+    × (text ≡ first ++ rest) × (all ≡ (accepted && others_accepted))
+
+-- the line after those of all packets
+abbrev pub totals_of : (plain : Bool) → List PacketValue → List ℕ
+totals_of plain packets = totals_line_if plain (counted (length packets)) (counted (sum_by skip_count packets))
+
+-- this is the text for all packets of the bytes, to their end, and for the totals
+pub record AnswersCapture (select : Option Expression) (plain : Bool) (bytes text : List ℕ) (all_accepted : Bool) : Type 0 where
+  pub packets : List PacketValue
+  pub lines : List ℕ
+  pub has : HasPackets Beginning bytes packets [] None
+  pub answered : AreAnswered select plain 0 packets lines all_accepted
+  pub is_text : text ≡ lines ++ totals_of plain packets
+
+-- this is the text for the packets of the bytes up to the fault, which is at this place
+pub record AnswersToFault (select : Option Expression) (plain : Bool) (fault : CaptureFault) (bytes text : List ℕ) : Type 0 where
+  pub packets : List PacketValue
+  pub front : List ℕ
+  pub rest : List ℕ
+  pub all_accepted : Bool
+  pub has : HasPackets Beginning bytes packets rest (Some (capture_refusal_view fault.error))
+  pub place : bytes ≡ front ++ rest
+  pub is_offset : fault.offset ≡ counted (length front)
+  pub answered : AreAnswered select plain 0 packets text all_accepted
+
+-- This is the text for the packets that come first in the bytes, whatever follows; what is left is not a whole unit, and more bytes may
+-- make it one: this holds of how many it needs at least.
+pub record AnswersToUnit (Needs : Option ℕ → Type 0) (select : Option Expression) (plain : Bool) (bytes text : List ℕ) : Type 0 where
+  pub packets : List PacketValue
+  pub front : List ℕ
+  pub rest : List ℕ
+  pub expected : Expectation
+  pub all_accepted : Bool
+  pub reason : CaptureRefusal
+  pub parts : GoesOn front packets expected
+  pub place : bytes ≡ front ++ rest
+  pub begun : Refuses rest expected reason
+  pub unfinished : Needs (required_len reason)
+  pub answered : AreAnswered select plain 0 packets text all_accepted

@@ -1,0 +1,211 @@
+-- How far a run has come.
+use Rattle.std.specs.Prelude.{◌≡◌, ℕ, ◌+◌, List, [], ◌++◌, length, take, drop, Bool, true, Option, Some, None, ⊤}
+use Rattle.std.specs.List.{sum_by}
+use Rattle.std.specs.Io.KnownBytes.{Appends}
+use Rattle.ether_filter.specs.Expressions.{Expression}
+use Rattle.ether_pcap.specs.Capture.{PacketValue, Expectation, Beginning, Begins, Refuses}
+use Rattle.ether_pcap.specs.CaptureViews.{capture_refusal_view}
+use Rattle.ether_pcap.specs.Copies.{Selected}
+use Rattle.ether_pcap.specs.Editing.{EditedValue, unit_after}
+use Rattle.ether_pcap.specs.declared.capture.capture_error.CaptureError.{CaptureError}
+use Rattle.ether_content.specs.Editing.{EditValue}
+use Rattle.ether_text.specs.OutputBuffer.{contents_of, Takes}
+use Rattle.ether_text.specs.Verdict.{verdict_of, verdict_with}
+use Rattle.ether_text.specs.declared.output_buffer.OutputBuffer.{OutputBuffer}
+use Rattle.ether_text.specs.declared.verdict.Verdict.TheVariants.{AllAccepted}
+use Rattle.ether_capture.specs.Answering.{AreAnswered}
+use Rattle.ether_capture.specs.Copying.{EditsTo, EditsIf, CopiesOn}
+use Rattle.ether_capture.specs.FrameLines.{AnswersPacket, skip_count, totals_line_if}
+use Rattle.ether_capture.specs.Packets.{counted, GoesOn}
+use Rattle.ether_capture.specs.Task.{TaskValue, FormValue, Lines, Copy, IsChosen}
+use Rattle.ether_capture.specs.declared.outcome.RunFault.{RunFault}
+use Rattle.ether_capture.specs.declared.outcome.RunFault.TheVariants as faults
+use Rattle.ether_capture.specs.declared.progress.Progress.{Progress}
+
+-- ---- what is made of the front of a capture
+
+-- this is the text for its packets, or its copy, after which this is expected
+abbrev pub Made : (select : Option Expression) → FormValue → (packets kept : List PacketValue) → (front text : List ℕ) → (all : Bool)
+    → Expectation → Type 0
+Made select (Lines plain) packets kept front text all x = AreAnswered select plain 0 packets text all
+Made select (Copy edit) packets kept front text all x = CopiesOn select edit front text kept x × (all ≡ true)
+
+-- Of the input the units before the buffered bytes are taken.
+pub record Reached {W : Type 0} (task : TaskValue) (contents : W → Option (List ℕ)) (held : Option (List ℕ)) (input buffered : List ℕ)
+    (at : Progress) (out : OutputBuffer W) : Type 0 where
+  pub packets : List PacketValue
+  pub kept : List PacketValue
+  pub front : List ℕ
+  pub text : List ℕ
+  pub all_accepted : Bool
+  pub place : input ≡ front ++ buffered
+  pub parts : GoesOn front packets at.reader
+  pub selected : Selected (IsChosen task.select) packets kept
+  pub made : Made task.select task.form packets kept front text all_accepted at.reader
+  pub is_verdict : at.verdict ≡ verdict_of all_accepted
+  pub is_count : at.count ≡ counted (length packets)
+  pub is_skipped : at.skipped ≡ counted (sum_by skip_count packets)
+  pub is_offset : at.offset ≡ counted (length front)
+  pub written : Appends held (contents_of contents out) text
+
+-- nothing is read
+pub record IsStart (at : Progress) : Type 0 where
+  pub is_reader : at.reader ≡ Beginning
+  pub is_count : at.count ≡ 0
+  pub is_skipped : at.skipped ≡ 0
+  pub is_offset : at.offset ≡ 0
+  pub is_verdict : at.verdict ≡ AllAccepted
+
+-- ---- one unit
+
+-- a unit has this packet, if it has one
+abbrev pub IsUnitOf : Expectation → (unit : List ℕ) → Option PacketValue → Type 0
+IsUnitOf x unit None = ⊤
+IsUnitOf x unit (Some p) = Begins unit x (length unit) (Some p) x
+
+-- the lines of a packet of this number, if there is a packet
+abbrev pub Answers : (select : Option Expression) → (plain : Bool) → (number : ℕ) → Option PacketValue → (accepted : Bool) → Option (List ℕ)
+    → Type 0
+Answers select plain number None accepted text = (text ≡ Some []) × (accepted ≡ true)
+Answers select plain number (Some p) accepted text =
+    (lines : List ℕ) × AnswersPacket select plain number p lines accepted × (text ≡ Some lines)
+
+-- The copy of a unit, by its packet if it has one: nothing if that is not chosen, none if it is to be edited and can't be.
+pub data Writes (select : Option Expression) (edit : Option EditValue) (x : Expectation) (unit : List ℕ)
+    : Option PacketValue → Option (List ℕ) → Type 0 where
+  writes_unit : Writes select edit x unit None (Some unit)
+  writes_nothing : (p : PacketValue) → ¬ (IsChosen select p) → Writes select edit x unit (Some p) (Some [])
+  writes_packet : (p : PacketValue) (o : Option EditedValue) (text : Option (List ℕ)) → IsChosen select p → EditsIf edit p o
+      → unit_after x p o unit ≡ text → Writes select edit x unit (Some p) text
+
+-- the text that is made of a unit, or none
+abbrev pub Makes : (select : Option Expression) → FormValue → Expectation → (number : ℕ) → (unit : List ℕ) → Option PacketValue
+    → (accepted : Bool) → Option (List ℕ) → Type 0
+Makes select (Lines plain) x number unit packet accepted text = Answers select plain number packet accepted text
+Makes select (Copy edit) x number unit packet accepted text = Writes select edit x unit packet text × (accepted ≡ true)
+
+-- what is written for a unit that is no packet
+abbrev pub other_text : FormValue → (unit : List ℕ) → List ℕ
+other_text (Lines plain) unit = []
+other_text (Copy edit) unit = unit
+
+-- a unit is counted, if it has a packet
+abbrev pub Counts : Option PacketValue → (old new : Progress) → Type 0
+Counts None old new = (new.count ≡ old.count) × (new.skipped ≡ old.skipped)
+Counts (Some p) old new = (new.count ≡ counted (old.count + 1)) × (new.skipped ≡ counted (old.skipped + skip_count p))
+
+-- a unit is taken, and this is written for it
+pub record TakesUnit {W : Type 0} (task : TaskValue) (contents : W → Option (List ℕ)) (unit : List ℕ) (packet : Option PacketValue)
+    (old : Progress) (from : OutputBuffer W) (new : Progress) (to : OutputBuffer W) : Type 0 where
+  pub text : List ℕ
+  pub accepted : Bool
+  pub makes : Makes task.select task.form old.reader (counted (old.count + 1)) unit packet accepted (Some text)
+  pub written : Appends (contents_of contents from) (contents_of contents to) text
+  pub counts : Counts packet old new
+  pub is_verdict : new.verdict ≡ verdict_with old.verdict accepted
+  pub is_offset : new.offset ≡ counted (old.offset + length unit)
+  pub same_reader : new.reader ≡ old.reader
+
+-- .. or its packet can't be edited, and nothing is written
+pub record StopsUnwritten {W : Type 0} (task : TaskValue) (unit : List ℕ) (packet : Option PacketValue) (old : Progress) (from : OutputBuffer W)
+    (offset : ℕ) (to : OutputBuffer W) : Type 0 where
+  pub accepted : Bool
+  pub not_made : Makes task.select task.form old.reader (counted (old.count + 1)) unit packet accepted None
+  pub is_offset : offset ≡ old.offset
+  pub same_out : to ≡ from
+
+-- this is appended for a unit
+pub record MakesText {W : Type 0} (select : Option Expression) (form : FormValue) (x : Expectation) (number : ℕ) (unit : List ℕ)
+    (packet : Option PacketValue) (contents : W → Option (List ℕ)) (can_fail : Type 0) (from : OutputBuffer W) (accepted : Bool)
+    (to : OutputBuffer W) : Type 0 where
+  pub text : List ℕ
+  pub makes : Makes select form x number unit packet accepted (Some text)
+  pub taken : Takes contents can_fail from text to
+
+-- the unit of a packet is appended, edited if there is an edit
+pub record WritesPacket {W : Type 0} (edit : Option EditValue) (x : Expectation) (unit : List ℕ) (p : PacketValue)
+    (contents : W → Option (List ℕ)) (can_fail : Type 0) (from to : OutputBuffer W) : Type 0 where
+  pub edited : Option EditedValue
+  pub edits : EditsIf edit p edited
+  pub copy : List ℕ
+  pub is_copy : unit_after x p edited unit ≡ Some copy
+  pub taken : Takes contents can_fail from copy to
+
+-- .. or can't be edited
+abbrev pub IsUneditable : (edit : Option EditValue) → Expectation → (unit : List ℕ) → PacketValue → Type 0
+IsUneditable edit x unit p = (o : Option EditedValue) × EditsIf edit p o × (unit_after x p o unit ≡ None)
+
+-- the unit of a packet is appended as edited
+abbrev pub AppendsEdited : {W : Type 0} → Expectation → (unit : List ℕ) → EditedValue → (contents : W → Option (List ℕ)) → (can_fail : Type 0)
+    → (from to : OutputBuffer W) → Type 0
+AppendsEdited x unit e contents can_fail from to =
+    (p : PacketValue) → Begins unit x (length unit) (Some p) x
+    → (copy : List ℕ) × (unit_after x p (Some e) unit ≡ Some copy) × Takes contents can_fail from copy to
+
+-- .. or can't be
+abbrev pub AppendsNone : Expectation → (unit : List ℕ) → EditedValue → Type 0
+AppendsNone x unit e = (p : PacketValue) → Begins unit x (length unit) (Some p) x → unit_after x p (Some e) unit ≡ None
+
+-- ---- the units that are buffered
+
+-- of a packet that can't be edited, by its place
+abbrev pub OnNotEdited : RunFault → (ℕ → Type 0) → Type 0
+OnNotEdited (faults.NotEdited offset) P = P offset
+OnNotEdited _ P = ⊤
+
+-- of a fault of the writer
+abbrev pub OnOutput : RunFault → Type 0 → Type 0
+OnOutput faults.Output P = P
+OnOutput _ P = ⊤
+
+-- units are taken up to a packet that can't be edited, or to a fault of the writer
+abbrev pub IsTakingFault : RunFault → Type 0
+IsTakingFault (faults.NotEdited offset) = ⊤
+IsTakingFault faults.Output = ⊤
+IsTakingFault _ = ⊥
+
+-- Of the input the units before a packet are taken that is to be edited and can't be; it is at this place.
+pub record Unedited {W : Type 0} (select : Option Expression) (edit : Option EditValue) (contents : W → Option (List ℕ))
+    (held : Option (List ℕ)) (input : List ℕ) (offset : ℕ) (out : OutputBuffer W) : Type 0 where
+  pub front : List ℕ
+  pub copy : List ℕ
+  pub kept : List PacketValue
+  pub buffered : List ℕ
+  pub expected : Expectation
+  pub len : ℕ
+  pub packet : PacketValue
+  pub parts : CopiesOn select edit front copy kept expected
+  pub begins : Begins buffered expected len (Some packet) expected
+  pub copied : IsChosen select packet
+  pub not_written : (to : PacketValue → Option EditedValue) → EditsTo edit to
+      → unit_after expected packet (to packet) (take len buffered) ≡ None
+  pub place : input ≡ front ++ buffered
+  pub is_offset : offset ≡ counted (length front)
+  pub written : Appends held (contents_of contents out) copy
+
+-- .. if a copy is made
+abbrev pub UneditedIn : {W : Type 0} → (select : Option Expression) → FormValue → (contents : W → Option (List ℕ)) → (held : Option (List ℕ))
+    → (input : List ℕ) → (offset : ℕ) → (out : OutputBuffer W) → Type 0
+UneditedIn select (Lines plain) contents held input offset out = ⊥
+UneditedIn select (Copy edit) contents held input offset out = Unedited select edit contents held input offset out
+
+-- .. after these bytes were buffered
+abbrev pub StopsAfter : {W : Type 0} → (task : TaskValue) → (contents : W → Option (List ℕ)) → (buffered : List ℕ) → (old : Progress)
+    → (from : OutputBuffer W) → (offset : ℕ) → (to : OutputBuffer W) → Type 0
+StopsAfter task contents buffered old from offset to =
+    (held : Option (List ℕ)) (input : List ℕ) → Reached task contents held input buffered old from
+    → UneditedIn task.select task.form contents held input offset to
+
+-- The units at the front of the buffered bytes are taken, and what is left of them is refused.
+pub record TakesUnits {W : Type 0} (task : TaskValue) (contents : W → Option (List ℕ)) (buffered : List ℕ) (old : Progress)
+    (from : OutputBuffer W) (left : List ℕ) (error : CaptureError) (new : Progress) (to : OutputBuffer W) : Type 0 where
+  pub reached : (held : Option (List ℕ)) (input : List ℕ) → Reached task contents held input buffered old from
+      → Reached task contents held input left new to
+  pub refused : Refuses left new.reader (capture_refusal_view error)
+
+-- ---- the end
+
+-- what is written after all units
+abbrev pub last_lines : FormValue → (count skipped : ℕ) → List ℕ
+last_lines (Lines plain) count skipped = totals_line_if plain count skipped
+last_lines (Copy edit) count skipped = []

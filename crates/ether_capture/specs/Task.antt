@@ -1,0 +1,37 @@
+-- What is made of a capture.
+use Rattle.std.specs.Prelude.{Bool, true, false, Option, None, Some, ⊤}
+use Rattle.std.specs.Option.{option_map}
+use Rattle.ether_filter.specs.Expressions.{Expression}
+use Rattle.ether_pcap.specs.Capture.{PacketValue}
+use Rattle.ether_content.specs.Editing.{EditValue}
+use Rattle.ether_content.specs.EditingViews.{edit_view}
+use Rattle.ether_content.specs.Selecting.{Selects}
+use Rattle.ether_capture.specs.declared.task.Form.{Form}
+use Rattle.ether_capture.specs.declared.task.Form.TheVariants as forms
+use Rattle.ether_capture.specs.declared.task.Task.{Task}
+
+-- the lines of its packets, those of walks alone or those of packets and of totals, too; or a copy of it, each packet as it is, or edited
+pub data FormValue : Type 0 where
+  Lines : (plain : Bool) → FormValue
+  Copy : (edit : Option EditValue) → FormValue
+
+-- .. of the packets that an expression selects, or of all
+pub record TaskValue : Type 0 where
+  pub select : Option Expression
+  pub form : FormValue
+
+abbrev pub form_view : Form → FormValue
+form_view (forms.Lines is_plain) = Lines is_plain
+form_view (forms.Copy edit) = Copy (option_map edit_view edit)
+
+abbrev pub task_view : Task → TaskValue
+task_view task = record { select = task.filter; form = form_view task.form }
+
+abbrev pub is_copy : FormValue → Bool
+is_copy (Lines plain) = false
+is_copy (Copy edit) = true
+
+-- the packets that are chosen: those that an expression selects, or all
+abbrev pub IsChosen : (select : Option Expression) → PacketValue → Type 0
+IsChosen None p = ⊤
+IsChosen (Some x) p = Selects x p

@@ -1,0 +1,207 @@
+//! How far a run has come.
+ghost use Rattle.std.specs.Prelude.{◌≡◌, ◌≢◌, ◌≤◌, ◌↔◌, ◌+◌, IsTrue, IfSome, IfNone, drop, length, None, IfOk, IfErr, OnOk, true};
+ghost use Rattle.std.specs.Option.{option_map};
+ghost use Rattle.std.specs.Io.KnownBytes.{Appends};
+ghost use Rattle.ether_pcap.specs.Capture.{Beginning};
+ghost use Rattle.ether_pcap.specs.CaptureViews.{captured_packet_view};
+ghost use Rattle.ether_text.specs.OutputBuffer.{contents_of, Marks, Takes};
+ghost use Rattle.ether_capture.specs.Packets.{counted};
+ghost use Rattle.ether_capture.specs.Progress.{Counts, IsStart, IsTakingFault, IsUnitOf, last_lines, Makes, MakesText, OnNotEdited, OnOutput, other_text, StopsAfter, StopsUnwritten, TakesUnit, TakesUnits};
+ghost use Rattle.ether_capture.specs.Task.{form_view, task_view};
+
+use crate::copying::write_packet;
+use crate::edit_buffer::EditBuffer;
+use crate::frame_lines::{is_skipped, write_lines, write_totals};
+use crate::outcome::RunFault;
+use crate::task::{Form, Task};
+use ether_pcap::{CaptureError, CaptureFault, CaptureReader, CapturedPacket};
+use ether_text::{OutputBuffer, Sink, Verdict};
+
+/// Where the run is in the capture, and what the packets before gave.
+#[derive(Drop)]
+pub struct Progress {
+    reader: CaptureReader,
+    count: usize,
+    skipped: usize,
+    offset: usize,
+    verdict: Verdict,
+}
+
+impl Progress {
+    /// The state of a run that has read nothing.
+    pub fn new() -> Self
+        ensures { IsStart result }
+    {
+        Progress {
+            reader: CaptureReader::new(),
+            count: 0,
+            skipped: 0,
+            offset: 0,
+            verdict: Verdict::AllAccepted,
+        }
+    }
+
+    /// Takes the units at the front of `bytes`, and writes what is made of each. Returns how many bytes were taken, and why what is left does
+    /// not begin with a unit.
+    pub fn take_units<W: Sink>(
+        &mut self,
+        task: &Task,
+        edits: &mut EditBuffer,
+        bytes: &[u8],
+        out: &mut OutputBuffer<'_, W>,
+    ) -> Result<(usize, CaptureError), RunFault>
+        ensures same_writer { out.new.writer.ghost_name ≡ out.old.writer.ghost_name }
+        ensures within { IfOk result (λ found. found.0 ≤ length bytes.now) }
+        ensures ok { IfOk result (λ found. TakesUnits (task_view task.now) W.contents bytes.now
+            self.old out.old (drop found.0 bytes.now) found.1 self.new out.new) }
+        ensures stopped { IfErr result (λ fault. OnNotEdited fault (λ offset.
+            StopsAfter (task_view task.now) W.contents bytes.now self.old out.old offset out.new)) }
+        ensures fault { IfErr result IsTakingFault }
+        ensures failed { IfErr result (λ fault. OnOutput fault (out.new.has_failed ≡ true)) }
+        ensures marks { Marks W.can_fail out.old out.new }
+    {
+        let mut at = 0;
+        loop {
+            let unit = match self.reader.read(&bytes[at..]) {
+                Ok(unit) => unit,
+                Err(error) => return Ok((at, error)),
+            };
+            let end = at + unit.len;
+            self.take_unit(task, edits, &bytes[at..end], &unit.packet, out)?;
+            at = end;
+        }
+    }
+
+    /// Takes a unit that was just read, with its packet if it has one, and writes what is made of it.
+    fn take_unit<W: Sink>(
+        &mut self,
+        task: &Task,
+        edits: &mut EditBuffer,
+        unit: &[u8],
+        packet: &Option<CapturedPacket<'_>>,
+        out: &mut OutputBuffer<'_, W>,
+    ) -> Result<(), RunFault>
+        requires { IsUnitOf self.old.reader unit.now (option_map captured_packet_view packet.now) }
+        ensures same_writer { out.new.writer.ghost_name ≡ out.old.writer.ghost_name }
+        ensures ok { OnOk result (TakesUnit (task_view task.now) W.contents unit.now
+            (option_map captured_packet_view packet.now) self.old out.old self.new out.new) }
+        ensures stopped { IfErr result (λ fault. OnNotEdited fault (λ offset. StopsUnwritten (task_view task.now) unit.now
+            (option_map captured_packet_view packet.now) self.old out.old offset out.new)) }
+        ensures fault { IfErr result IsTakingFault }
+        ensures failed { IfErr result (λ fault. OnOutput fault (out.new.has_failed ≡ true)) }
+        ensures marks { Marks W.can_fail out.old out.new }
+    {
+        let Some(accepted) = self.write_unit(task, edits, unit, packet, out) else {
+            return Err(RunFault::NotEdited(self.offset));
+        };
+        out.check()?;
+        self.count_packet(packet);
+        self.verdict = self.verdict.with(accepted);
+        self.offset = self.offset.saturating_add(unit.len());
+        Ok(())
+    }
+
+    /// Writes what is made of a unit, and returns whether its packet is accepted. Returns `None` and writes nothing if the packet is to be
+    /// edited, and can't be.
+    #[inline(always)]
+    fn write_unit<W: Sink>(
+        &self,
+        task: &Task,
+        edits: &mut EditBuffer,
+        unit: &[u8],
+        packet: &Option<CapturedPacket<'_>>,
+        out: &mut OutputBuffer<'_, W>,
+    ) -> Option<bool>
+        requires { IsUnitOf self.now.reader unit.now (option_map captured_packet_view packet.now) }
+        ensures some { IfSome result (λ accepted. MakesText task.now.filter (form_view task.now.form) self.now.reader
+            (counted (self.now.count + 1)) unit.now (option_map captured_packet_view packet.now)
+            W.contents W.can_fail out.old accepted out.new) }
+        ensures none { IfNone result (Makes task.now.filter (form_view task.now.form) self.now.reader
+            (counted (self.now.count + 1)) unit.now (option_map captured_packet_view packet.now) true None) }
+        ensures same_out { IfNone result (out.new ≡ out.old) }
+    {
+        let Some(packet) = packet else {
+            write_other(task.form, unit, out);
+            return Some(true);
+        };
+        if !task.chooses(packet) {
+            return Some(true);
+        }
+        match task.form {
+            Form::Lines { is_plain } => {
+                let number = self.count.saturating_add(1);
+                Some(write_lines(is_plain, number, packet, out))
+            }
+            Form::Copy { edit } => {
+                if write_packet(&self.reader, edit, edits, unit, packet, out) {
+                    Some(true)
+                } else {
+                    None
+                }
+            }
+        }
+    }
+
+    /// Counts the packet of a unit, if it has one.
+    #[inline(always)]
+    fn count_packet(&mut self, packet: &Option<CapturedPacket<'_>>)
+        ensures counts { Counts (option_map captured_packet_view packet.now) self.old self.new }
+        ensures same_reader { self.new.reader ≡ self.old.reader }
+        ensures same_offset { self.new.offset ≡ self.old.offset }
+        ensures same_verdict { self.new.verdict ≡ self.old.verdict }
+    {
+        let Some(packet) = packet else {
+            return;
+        };
+        self.count = self.count.saturating_add(1);
+        self.skipped = self.skipped.saturating_add(usize::from(is_skipped(packet)));
+    }
+
+    /// Why the run stops if the unit at its place can't be read.
+    pub fn fault(&self, error: CaptureError) -> RunFault
+        ensures { result ≡ RunFault.Capture
+            (record { offset = self.now.offset; error = error }) }
+    {
+        RunFault::Capture(CaptureFault {
+            offset: self.offset,
+            error,
+        })
+    }
+
+    /// Tests that a unit was taken.
+    pub fn has_begun(&self) -> bool
+        ensures { IsTrue result ↔ (self.now.reader ≢ Beginning) }
+    {
+        self.reader.has_begun()
+    }
+
+    /// Ends the run at the end of the capture: writes the line after those of all packets, if there is to be one, and returns the verdict.
+    pub fn finish<W: Sink>(
+        &self,
+        form: Form,
+        out: &mut OutputBuffer<'_, W>,
+    ) -> Result<Verdict, RunFault>
+        ensures same_writer { out.new.writer.ghost_name ≡ out.old.writer.ghost_name }
+        ensures ok { IfOk result (λ verdict. verdict ≡ self.now.verdict) }
+        ensures written { OnOk result (Appends (contents_of W.contents out.old) (contents_of W.contents out.new)
+            (last_lines (form_view form) self.now.count self.now.skipped)) }
+        ensures fault { IfErr result (λ fault. fault ≡ RunFault.Output) }
+        ensures failed { IfErr result (λ fault. out.new.has_failed ≡ true) }
+        ensures marks { Marks W.can_fail out.old out.new }
+    {
+        if let Form::Lines { is_plain } = form {
+            write_totals(is_plain, self.count, self.skipped, out);
+        }
+        out.check()?;
+        Ok(self.verdict)
+    }
+}
+
+/// Writes a unit that is no packet, if a copy is made.
+fn write_other<W: Sink>(form: Form, unit: &[u8], out: &mut OutputBuffer<'_, W>)
+    ensures { Takes W.contents W.can_fail out.old (other_text (form_view form) unit.now) out.new }
+{
+    if let Form::Copy { .. } = form {
+        out.append(unit);
+    }
+}

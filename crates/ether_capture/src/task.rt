@@ -1,0 +1,51 @@
+//! What is made of a capture.
+ghost use Rattle.std.specs.Prelude.{◌≡◌, ◌↔◌, IsTrue};
+ghost use Rattle.ether_pcap.specs.CaptureViews.{captured_packet_view};
+ghost use Rattle.ether_capture.specs.Task.{is_copy, task_view, IsChosen};
+
+use ether_content::{PacketEdit, selects};
+use ether_filter::Filter;
+use ether_pcap::CapturedPacket;
+
+/// What is made of a capture, and of which of its packets.
+#[derive(Debug, Drop)]
+pub struct Task {
+    /// Which packets are chosen; all of them without a filter.
+    pub filter: Option<Filter>,
+    /// What is made of them.
+    pub form: Form,
+}
+
+/// What is made of the packets of a capture.
+#[derive(Clone, Copy, PartialEq, Eq, Debug)]
+pub enum Form {
+    /// Lines of text.
+    Lines {
+        /// Whether those of packets and of totals are left out.
+        is_plain: bool,
+    },
+    /// A copy of the capture with these packets alone.
+    Copy {
+        /// How each packet is edited, if it is.
+        edit: Option<PacketEdit>,
+    },
+}
+
+impl Task {
+    /// Tests that a packet is chosen.
+    pub fn chooses(&self, packet: &CapturedPacket<'_>) -> bool
+        ensures { IsTrue result ↔ IsChosen (task_view self.now).select (captured_packet_view packet.now) }
+    {
+        match &self.filter {
+            Some(filter) => selects(filter, packet),
+            None => true,
+        }
+    }
+
+    /// Tests that a copy is made.
+    pub fn is_copy(&self) -> bool
+        ensures { result ≡ is_copy (task_view self.now).form }
+    {
+        matches!(self.form, Form::Copy { .. })
+    }
+}
