@@ -1,5 +1,5 @@
 -- How far a run has come, one unit of the capture after another.
-use Rattle.std.proofs.Common.{◌≡◌, ℕ, ◌+◌, ◌-◌, ◌≤◌, ◌⊎◌, List, [], ◌∷◌, ◌++◌, length, take, drop, slice_range, Bool, true, false, ◌&&◌, Option, Some, None, unwrap_or, Result, Ok, Err, IsErrAnd, IfErr, refl, sym, ap, subst, ◌∙◌, arith, append_assoc, append-nil, inl, inr}
+use Rattle.std.proofs.Common.{◌≡◌, ◌≢◌, ℕ, zero, suc, ◌+◌, ◌-◌, ◌<◌, ◌≤◌, ◌⊎◌, List, [], ◌∷◌, ◌++◌, length, take, drop, slice_range, Bool, true, false, ◌&&◌, Option, Some, None, unwrap_or, Result, Ok, Err, IsErrAnd, IfErr, refl, sym, ap, subst, ◌∙◌, arith, append_assoc, append-nil, inl, inr}
 use Rattle.std.proofs.Math.Bool.{and_assoc}
 use Rattle.std.proofs.lemmas.List.{length-append, length-drop, take-append-drop, take_all, length-take-le}
 use Rattle.std.proofs.lemmas.List.Sums.{sum_by-append}
@@ -10,7 +10,7 @@ use Rattle.ether_pcap.specs.Capture.{PacketValue, Expectation, Beginning, Begins
 use Rattle.ether_pcap.specs.Copies.{Selected, none, one_kept, one_left}
 use Rattle.ether_pcap.specs.Editing.{EditedValue, unit_after}
 use Rattle.ether_pcap.proofs.CaptureLocality.{unit_alone}
-use Rattle.ether_pcap.proofs.PacketUnits.{same_after}
+use Rattle.ether_pcap.proofs.PacketUnits.{begun, same_after}
 use Rattle.ether_content.specs.Editing.{EditValue}
 use Rattle.ether_text.specs.OutputBuffer.{contents_of, WritesOut}
 use Rattle.ether_text.specs.Verdict.{verdict_of, verdict_with}
@@ -20,9 +20,9 @@ use Rattle.ether_text.proofs.KnownBytesLemmas.{Appends-none, Appends-then, Appen
 use Rattle.ether_capture.specs.Answering.{AreAnswered}
 use Rattle.ether_capture.specs.Copying.{EditsTo, EditsIf, CopyGoesOn}
 use Rattle.ether_capture.specs.FrameLines.{AnswersPacket, skip_count}
-use Rattle.ether_capture.specs.Packets.{counted, GoesOn}
-use Rattle.ether_capture.specs.Progress.{Made, Reached, IsStart, IsUnitOf, Writes, writes_unit, writes_nothing, writes_packet, Makes, other_text, Counts, TakesUnit, StopsUnwritten, Unedited, UneditedIn, StopsAfter, OnNotEdited}
-use Rattle.ether_capture.specs.Task.{TaskValue, FormValue, Lines, Copy, IsChosen}
+use Rattle.ether_capture.specs.Packets.{counted, GoesOn, HasFewer, EndsAtCount}
+use Rattle.ether_capture.specs.Progress.{Made, IsLeftOf, LeavesLess, Reached, IsStart, IsUnitOf, Writes, writes_unit, writes_nothing, writes_packet, Makes, other_text, Counts, TakesUnit, StopsUnwritten, Unedited, UneditedIn, StopsAfter, OnNotEdited}
+use Rattle.ether_capture.specs.Task.{TaskValue, FormValue, Lines, Copy, IsChosen, IsBelow}
 use Rattle.ether_capture.specs.declared.outcome.RunFault.{RunFault}
 use Rattle.ether_capture.specs.declared.outcome.RunFault.TheVariants as faults
 use Rattle.ether_capture.specs.declared.progress.Progress.{Progress}
@@ -126,26 +126,36 @@ abbrev pub with_packet : List PacketValue → Option PacketValue → List Packet
 with_packet packets None = packets
 with_packet packets (Some p) = packets ++ p ∷ []
 
+-- .. if it is chosen
+abbrev pub KeptMore : (select : Option Expression) → (old : List PacketValue) → Option PacketValue
+    → (new : List PacketValue) → Type 0
+KeptMore select old None new = new ≡ old
+KeptMore select old (Some p) new =
+    (IsChosen select p × (new ≡ old ++ p ∷ [])) ⊎ (¬ (IsChosen select p) × (new ≡ old))
+
 -- what is made with a unit more
-record MadeMore (select : Option Expression) (form : FormValue) (packets : List PacketValue) (front text : List ℕ)
-    (all : Bool) (x : Expectation) : Type 0 where
+record MadeMore (select : Option Expression) (form : FormValue) (packets old : List PacketValue)
+    (packet : Option PacketValue) (front text : List ℕ) (all : Bool) (x : Expectation) : Type 0 where
   kept : List PacketValue
-  selected : Selected (IsChosen select) packets kept
-  made : Made select form packets kept front text all x
+  more : KeptMore select old packet kept
+  selected : Selected (IsChosen select) (with_packet packets packet) kept
+  made : Made select form (with_packet packets packet) kept front text all x
 
 -- the lines of a packet that is chosen or not
 answered_more : (select : Option Expression) (plain : Bool) (packets kept : List PacketValue) (front text : List ℕ)
     (all : Bool) (x y : Expectation) (p : PacketValue) (own more : List ℕ) (accepted : Bool)
     → Selected (IsChosen select) packets kept → Made select (Lines plain) packets kept front text all x
     → AnswersPacket select plain (counted (0 + length packets + 1)) p more accepted
-    → MadeMore select (Lines plain) (packets ++ p ∷ []) (front ++ own) (text ++ more) (all && accepted) y
+    → MadeMore select (Lines plain) packets kept (Some p) (front ++ own) (text ++ more) (all && accepted) y
 answered_more select plain packets kept front text all x y p own more accepted selected made (inl is) = record {
   kept = kept ++ p ∷ [];
+  more = inl (is.0, refl);
   selected = chosen-push select packets kept p is.0 selected;
   made = AreAnswered-push select plain 0 packets text all p more accepted made (inl is);
 }
 answered_more select plain packets kept front text all x y p own more accepted selected made (inr is) = record {
   kept = kept;
+  more = inr (is.0, refl);
   selected = left-push select packets kept p is.0 selected;
   made = AreAnswered-push select plain 0 packets text all p more accepted made (inr is);
 }
@@ -157,13 +167,13 @@ copied_more : (select : Option Expression) (edit : Option EditValue) (packets ke
     → len ≤ length buffered → Begins buffered x len packet y → own ≡ take len buffered
     → Selected (IsChosen select) packets kept → Made select (Copy edit) packets kept front copy all x
     → text ≡ Some more → Writes select edit y own packet text
-    → MadeMore select (Copy edit) (with_packet packets packet) (front ++ take len buffered) (copy ++ more) (all && true)
-    y
+    → MadeMore select (Copy edit) packets kept packet (front ++ take len buffered) (copy ++ more) (all && true) y
 copied_more select edit packets kept front copy all x y buffered len packet own more text within begins unit_is selected
     made is writes_unit =
     let same : take len buffered ≡ more = sym unit_is ∙ some_text own more is in
     record {
       kept = kept;
+      more = refl;
       selected = selected;
       made = (
         λ to edits.
@@ -178,6 +188,7 @@ copied_more select edit packets kept front copy all x y buffered len packet own 
     sym (append-nil copy) ∙ ap (λ (l : List ℕ). copy ++ l) (some_text [] more is) in
     record {
       kept = kept;
+      more = inr (not_chosen, refl);
       selected = left-push select packets kept p not_chosen selected;
       made = (
         λ to edits.
@@ -191,6 +202,7 @@ copied_more select edit packets kept front copy all x y buffered len packet own 
     made is (writes_packet p o _ chosen edited e) =
     record {
       kept = kept ++ p ∷ [];
+      more = inl (chosen, refl);
       selected = chosen-push select packets kept p chosen selected;
       made = (
         λ to edits.
@@ -222,7 +234,7 @@ made_more : (select : Option Expression) (form : FormValue) (packets kept : List
     → number ≡ counted (0 + length packets + 1)
     → Selected (IsChosen select) packets kept → Made select form packets kept front text all x
     → Makes select form y number own packet accepted (Some more)
-    → MadeMore select form (with_packet packets packet) (front ++ take len buffered) (text ++ more) (all && accepted) y
+    → MadeMore select form packets kept packet (front ++ take len buffered) (text ++ more) (all && accepted) y
 made_more select (Lines plain) packets kept front text all x y buffered len number None own more accepted within begins
     unit_is is selected made makes =
     let same : text ≡ text ++ more =
@@ -230,6 +242,7 @@ made_more select (Lines plain) packets kept front text all x y buffered len numb
     let same_all : all ≡ (all && accepted) = sym (and_is_true all) ∙ ap (λ (b : Bool). all && b) (sym makes.1) in
     record {
       kept = kept;
+      more = refl;
       selected = selected;
       made =
           subst (λ (b : Bool). AreAnswered select plain 0 packets (text ++ more) b) same_all
@@ -245,7 +258,7 @@ made_more select (Copy edit) packets kept front text all x y buffered len number
     unit_is is selected made makes =
     subst
     (λ (b : Bool).
-    MadeMore select (Copy edit) (with_packet packets packet) (front ++ take len buffered) (text ++ more) (all && b) y)
+    MadeMore select (Copy edit) packets kept packet (front ++ take len buffered) (text ++ more) (all && b) y)
     (sym makes.1)
     (copied_more select edit packets kept front text all x y buffered len packet own more (Some more) within begins
     unit_is selected made refl makes.0)
@@ -254,6 +267,19 @@ made_more select (Copy edit) packets kept front text all x y buffered len number
 made_start : (select : Option Expression) (form : FormValue) → Made select form [] [] [] [] true Beginning
 made_start select (Lines plain) = (refl, refl)
 made_start select (Copy edit) = (λ to edits. CopyGoesOn-start select edit to edits, refl)
+
+-- a unit that was read has this packet
+pub packet_of_unit : (buffered : List ℕ) (x y : Expectation) (len : ℕ) (packet : Option PacketValue)
+    → len ≤ length buffered → Begins buffered x len packet y → IsUnitOf y (take len buffered) packet
+packet_of_unit buffered x y len None within begins = tt
+packet_of_unit buffered x y len (Some p) within begins =
+    let front = take len buffered in
+    let long : length front ≡ len = length-take-le len buffered within in
+    let whole = subst (λ (l : List ℕ). Begins l x len (Some p) y) (sym (take-append-drop len buffered)) begins in
+    let alone = unit_alone front (drop len buffered) x y len (Some p) (omega (arith, long)) whole in
+    let same = same_after buffered x y len p begins in
+    subst (λ (z : Expectation). Begins front z (length front) (Some p) y) (sym same)
+    (subst (λ (k : ℕ). Begins front x k (Some p) y) (sym long) alone)
 
 -- ---- how far the run has come
 
@@ -267,20 +293,137 @@ goes_more front packets (Some p) x y buffered len within begins go =
     GoesOn-packet front packets p x y buffered len within begins go
 
 -- the counts with a unit more
-counts_more : (packets : List PacketValue) (packet : Option PacketValue) (old new : Progress)
-    → Counts packet old new → old.count ≡ counted (length packets) → old.skipped ≡ counted (sum_by skip_count packets)
+counts_more : (select : Option Expression) (packets : List PacketValue) (packet : Option PacketValue) (old new : Progress)
+    → Counts select packet old new → old.count ≡ counted (length packets) → old.skipped ≡ counted (sum_by skip_count packets)
     → (new.count ≡ counted (length (with_packet packets packet)))
     × (new.skipped ≡ counted (sum_by skip_count (with_packet packets packet)))
-counts_more packets None old new counts count skipped = (counts.0 ∙ count, counts.1 ∙ skipped)
-counts_more packets (Some p) old new counts count skipped =
+counts_more select packets None old new counts count skipped = (counts.0 ∙ count, counts.1 ∙ skipped)
+counts_more select packets (Some p) old new counts count skipped =
     let more = length-append packets (p ∷ []) in
     let skips = skipped-push packets p in
     let a = counts.0 in let b = counts.1 in
     (omega (arith, a, count, more), omega (arith, b, skipped, skips))
 
+-- ---- how many packets are left that are asked for
+
+some_number : (a b : ℕ) → Some a ≡ Some b → a ≡ b
+some_number a b e = ap (λ (o : Option ℕ). unwrap_or o a) e
+
+-- what is counted of those that are left
+abbrev LeftMore : (select : Option Expression) → Option PacketValue → (old new : Option ℕ) → Type 0
+LeftMore select None old new = new ≡ old
+LeftMore select (Some p) old new = LeavesLess select p old new
+
+left_counted : (select : Option Expression) (packet : Option PacketValue) (old new : Progress)
+    → Counts select packet old new → LeftMore select packet old.left new.left
+left_counted select None old new counts = counts.2
+left_counted select (Some p) old new counts = counts.2
+
+-- with a packet that is chosen
+chosen_left : (count : Option ℕ) (kept : List PacketValue) (p : PacketValue) (m : ℕ) (new : Option ℕ) → m ≢ 0
+    → IsLeftOf count (length kept) (Some m) → new ≡ Some (m - 1)
+    → IsLeftOf count (length (kept ++ p ∷ [])) new
+chosen_left None kept p m new some is e = absurd cc
+chosen_left (Some n) kept p m new some (l, left, sum) e =
+    let long = length-append kept (p ∷ []) in
+    let same = some_number m l left in
+    let positive : 0 < m = elim_zero m some in
+    (m - 1, e, omega (arith, long, same, sum, positive))
+  where
+    elim_zero : (m : ℕ) → m ≢ 0 → 0 < m
+    elim_zero zero some = absurd (some refl)
+    elim_zero (suc m) some = omega arith
+
+-- with a unit more
+left_more : (select : Option Expression) (count : Option ℕ) (kept kept' : List PacketValue)
+    (packet : Option PacketValue) (old new : Option ℕ)
+    → IsLeftOf count (length kept) old → old ≢ Some 0 → KeptMore select kept packet kept'
+    → LeftMore select packet old new → IsLeftOf count (length kept') new
+left_more select count kept kept' None old new is some more less =
+    subst (λ (l : List PacketValue). IsLeftOf count (length l) new) (sym more)
+    (subst (λ (o : Option ℕ). IsLeftOf count (length kept) o) (sym less) is)
+left_more select None kept kept' (Some p) None new is some more less = less
+left_more select (Some n) kept kept' (Some p) None new (l, left, sum) some more less = absurd cc
+left_more select count kept kept' (Some p) (Some m) new is some (inl more) (inl less) =
+    subst (λ (l : List PacketValue). IsLeftOf count (length l) new) (sym more.1)
+    (chosen_left count kept p m new (λ e. some (ap (λ (k : ℕ). Some k) e)) is less.1)
+left_more select count kept kept' (Some p) (Some m) new is some (inr more) (inr less) =
+    subst (λ (l : List PacketValue). IsLeftOf count (length l) new) (sym more.1)
+    (subst (λ (o : Option ℕ). IsLeftOf count (length kept) o) (sym less.1) is)
+left_more select count kept kept' (Some p) (Some m) new is some (inl more) (inr less) = absurd (less.0 more.0)
+left_more select count kept kept' (Some p) (Some m) new is some (inr more) (inl less) = absurd (more.0 less.0)
+
+-- the last packet that is asked for
+last_left : (count : Option ℕ) (k m : ℕ) (new : Option ℕ) → m ≢ 0 → IsLeftOf count k (Some m) → new ≡ Some (m - 1)
+    → new ≡ Some 0 → count ≡ Some (suc k)
+last_left None k zero new some is e done = absurd cc
+last_left None k (suc m) new some is e done = absurd cc
+last_left (Some n) k zero new some is e done = absurd (some refl)
+last_left (Some n) k (suc m) new some (l, left, sum) e done =
+    let same = some_number (suc m) l left in
+    let last = some_number (suc m - 1) 0 (sym e ∙ done) in
+    ap (λ (j : ℕ). Some j) (omega (arith, same, last, sum))
+
+-- the front ends with it
+ends_more : (select : Option Expression) (count : Option ℕ) (packets kept : List PacketValue) (front : List ℕ)
+    (x y : Expectation) (buffered : List ℕ) (len : ℕ) (packet : Option PacketValue) (old new : Option ℕ)
+    → len ≤ length buffered → Begins buffered x len packet y → GoesOn front packets x
+    → Selected (IsChosen select) packets kept
+    → IsLeftOf count (length kept) old → old ≢ Some 0 → LeftMore select packet old new → new ≡ Some 0
+    → (y ≢ Beginning) × EndsAtCount select count (front ++ take len buffered)
+ends_more select count packets kept front x y buffered len None old new within begins go selected is some less done =
+    absurd (some (sym less ∙ done))
+ends_more select count packets kept front x y buffered len (Some p) None new within begins go selected is some less
+    done = absurd cc
+ends_more select count packets kept front x y buffered len (Some p) (Some m) new within begins go selected is some
+    (inr less) done = absurd (some (sym less.1 ∙ done))
+ends_more select count packets kept front x y buffered len (Some p) (Some m) new within begins go selected is some
+    (inl less) done = (
+      begun buffered x y len (Some p) begins,
+      record {
+        before = front;
+        unit = take len buffered;
+        packets = packets;
+        kept = kept;
+        expected = y;
+        last = p;
+        place = refl;
+        parts = subst (λ (z : Expectation). GoesOn front packets z) (sym (same_after buffered x y len p begins)) go;
+        begins = packet_of_unit buffered x y len (Some p) within begins;
+        chosen = less.0;
+        selected = selected;
+        is_count =
+            last_left count (length kept) m new (λ e. some (ap (λ (k : ℕ). Some k) e)) is less.1 done;
+      },
+    )
+
+-- none are chosen at first
+all_left : (count : Option ℕ) → IsLeftOf count 0 count
+all_left None = refl
+all_left (Some n) = (n, refl, omega arith)
+
+-- fewer are chosen than are asked for
+is_below : (count : Option ℕ) (k : ℕ) (left : Option ℕ) → IsLeftOf count k left → left ≢ Some 0 → IsBelow count k
+is_below None k left is some = tt
+is_below (Some n) k left (zero, e, sum) some = absurd (some e)
+is_below (Some n) k left (suc m, e, sum) some = omega (arith, sum)
+
 module _ {W : Type 0} (task : TaskValue) (contents : W → Option (List ℕ)) where
+  -- fewer packets are chosen than are asked for
+  pub Reached-fewer : (held : Option (List ℕ)) (input buffered : List ℕ) (at : Progress) (out : OutputBuffer W)
+      → at.left ≢ Some 0 → (so_far : Reached task contents held input buffered at out)
+      → HasFewer task.select task.count so_far.front
+  Reached-fewer held input buffered at out some so_far = record {
+    packets = so_far.packets;
+    kept = so_far.kept;
+    expected = at.reader;
+    parts = so_far.parts;
+    selected = so_far.selected;
+    below = is_below task.count (length so_far.kept) at.left so_far.is_left some;
+  }
+
   -- nothing is read
-  pub Reached-start : (start : Progress) (out : OutputBuffer W) → IsStart start
+  pub Reached-start : (start : Progress) (out : OutputBuffer W) → IsStart task.count start
       → Reached task contents (contents_of contents out) [] [] start out
   Reached-start start out is = record {
     packets = [];
@@ -298,6 +441,9 @@ module _ {W : Type 0} (task : TaskValue) (contents : W → Option (List ℕ)) wh
     is_count = is.is_count;
     is_skipped = is.is_skipped;
     is_offset = is.is_offset;
+    is_left =
+        subst (λ (o : Option ℕ). IsLeftOf task.count 0 o) (sym is.is_left) (all_left task.count);
+    at_count = λ none. absurd (is.is_more none);
     written = Appends-none (contents_of contents out);
   }
 
@@ -320,6 +466,8 @@ module _ {W : Type 0} (task : TaskValue) (contents : W → Option (List ℕ)) wh
     is_count = so_far.is_count;
     is_skipped = so_far.is_skipped;
     is_offset = so_far.is_offset;
+    is_left = so_far.is_left;
+    at_count = so_far.at_count;
     written =
         Appends-written_out held (contents old.writer.now) (contents new.writer.now) old.waiting.items new.waiting.items
         so_far.text so_far.written drains.written drains.none_waits;
@@ -343,17 +491,20 @@ module _ {W : Type 0} (task : TaskValue) (contents : W → Option (List ℕ)) wh
     is_count = so_far.is_count;
     is_skipped = so_far.is_skipped;
     is_offset = so_far.is_offset;
+    is_left = so_far.is_left;
+    at_count = so_far.at_count;
     written = so_far.written;
   }
 
   -- a unit is taken
   pub Reached-unit : (held : Option (List ℕ)) (input buffered : List ℕ) (old new : Progress) (y : Expectation)
       (from to : OutputBuffer W) (len : ℕ) (packet : Option PacketValue) (own : List ℕ)
+      → old.left ≢ Some 0
       → len ≤ length buffered → Begins buffered old.reader len packet y → own ≡ take len buffered
       → TakesUnit task contents own packet (record old { reader = y }) from new to
       → Reached task contents held input buffered old from
       → Reached task contents held input (drop len buffered) new to
-  Reached-unit held input buffered old new y from to len packet own within begins unit_is takes so_far =
+  Reached-unit held input buffered old new y from to len packet own some within begins unit_is takes so_far =
       let number : counted (old.count + 1) ≡ counted (0 + length so_far.packets + 1) = let b = so_far.is_count in
       omega (arith, b) in
       let more =
@@ -361,7 +512,8 @@ module _ {W : Type 0} (task : TaskValue) (contents : W → Option (List ℕ)) wh
       y buffered len (counted (old.count + 1)) packet own takes.text takes.accepted within begins unit_is number
       so_far.selected so_far.made takes.makes in
       let counts =
-      counts_more so_far.packets packet (record old { reader = y }) new takes.counts so_far.is_count so_far.is_skipped in
+      counts_more task.select so_far.packets packet (record old { reader = y }) new takes.counts so_far.is_count so_far.is_skipped in
+      let less = left_counted task.select packet (record old { reader = y }) new takes.counts in
       let long : length own ≡ len = ap length unit_is ∙ length-take-le len buffered within in
       let front = front_len so_far.front buffered len within in
       record {
@@ -388,6 +540,16 @@ module _ {W : Type 0} (task : TaskValue) (contents : W → Option (List ℕ)) wh
         is_count = counts.0;
         is_skipped = counts.1;
         is_offset = let a = takes.is_offset in let b = so_far.is_offset in omega (arith, a, b, long, front);
+        is_left =
+            left_more task.select task.count so_far.kept more.kept packet old.left new.left so_far.is_left some
+            more.more less;
+        at_count = λ none.
+            subst
+            (λ (x : Expectation).
+            (x ≢ Beginning) × EndsAtCount task.select task.count (so_far.front ++ take len buffered))
+            (sym takes.same_reader)
+            (ends_more task.select task.count so_far.packets so_far.kept so_far.front old.reader y buffered len packet
+            old.left new.left within begins so_far.parts so_far.selected so_far.is_left some less none);
         written =
             Appends-then held (contents_of contents from) (contents_of contents to) so_far.text takes.text
             so_far.written takes.written;
@@ -395,18 +557,19 @@ module _ {W : Type 0} (task : TaskValue) (contents : W → Option (List ℕ)) wh
 
 -- ---- a packet that can't be edited
 
-module _ {W : Type 0} (select : Option Expression) (edit : Option EditValue) (contents : W → Option (List ℕ))
-    (held : Option (List ℕ)) where
+module _ {W : Type 0} (select : Option Expression) (count : Option ℕ) (edit : Option EditValue)
+    (contents : W → Option (List ℕ)) (held : Option (List ℕ)) where
   abbrev Copying : (input buffered : List ℕ) → (at : Progress) → (out : OutputBuffer W) → Type 0
-  Copying = Reached (record { select = select; form = Copy edit }) contents held
+  Copying = Reached (record { select = select; count = count; form = Copy edit }) contents held
 
   packet_stops : (input buffered : List ℕ) (old : Progress) (from to : OutputBuffer W)
       (x : Expectation) (len : ℕ) (p : PacketValue) (o : Option EditedValue) (own : List ℕ) (offset : ℕ)
       → Begins buffered old.reader len (Some p) old.reader → IsChosen select p → EditsIf edit p o
       → x ≡ old.reader → own ≡ take len buffered → unit_after x p o own ≡ None
       → offset ≡ old.offset → to ≡ from
-      → Copying input buffered old from → Unedited select edit contents held input offset to
-  packet_stops input buffered old from to x len p o own offset begins copied is same unit_is no_copy at same_out so_far =
+      → old.left ≢ Some 0
+      → Copying input buffered old from → Unedited select count edit contents held input offset to
+  packet_stops input buffered old from to x len p o own offset begins copied is same unit_is no_copy at same_out some so_far =
       record {
         front = so_far.front;
         copy = so_far.text;
@@ -422,6 +585,9 @@ module _ {W : Type 0} (select : Option Expression) (edit : Option EditValue) (co
             edited_as_said edit edit_to x old.reader own (take len buffered) p o None edits is same unit_is no_copy;
         place = so_far.place;
         is_offset = at ∙ so_far.is_offset;
+        fewer =
+            Reached-fewer (record { select = select; count = count; form = Copy edit }) contents held input buffered old
+            from some so_far;
         written =
             subst (λ (out : OutputBuffer W). Appends held (contents_of contents out) so_far.text) (sym same_out)
             so_far.written;
@@ -432,17 +598,18 @@ module _ {W : Type 0} (select : Option Expression) (edit : Option EditValue) (co
       (text : Option (List ℕ))
       → Begins buffered old.reader len packet y → x ≡ y → own ≡ take len buffered → text ≡ None
       → Writes select edit x own packet text → offset ≡ old.offset → to ≡ from
-      → Copying input buffered old from → Unedited select edit contents held input offset to
+      → old.left ≢ Some 0
+      → Copying input buffered old from → Unedited select count edit contents held input offset to
   unwritten_unit input buffered old x y from to len packet own offset text begins at unit_is no_copy writes_unit place
-      same_out so_far = absurd (some_none own no_copy)
+      same_out some so_far = absurd (some_none own no_copy)
   unwritten_unit input buffered old x y from to len packet own offset text begins at unit_is no_copy
-      (writes_nothing p not_copied) place same_out so_far = absurd (some_none [] no_copy)
+      (writes_nothing p not_copied) place same_out some so_far = absurd (some_none [] no_copy)
   unwritten_unit input buffered old x y from to len packet own offset text begins at unit_is no_copy
-      (writes_packet p o _ kept edits e) place same_out so_far =
+      (writes_packet p o _ kept edits e) place same_out some so_far =
       let same = same_after buffered old.reader y len p begins in
       packet_stops input buffered old from to x len p o own offset
       (subst (λ (z : Expectation). Begins buffered old.reader len (Some p) z) same begins) kept edits (at ∙ same)
-      unit_is (e ∙ no_copy) place same_out so_far
+      unit_is (e ∙ no_copy) place same_out some so_far
 
 no_lines : (select : Option Expression) (plain : Bool) (x : Expectation) (number : ℕ) (own : List ℕ)
     (packet : Option PacketValue) (accepted : Bool)
@@ -450,55 +617,46 @@ no_lines : (select : Option Expression) (plain : Bool) (x : Expectation) (number
 no_lines select plain x number own None accepted makes = some_none [] (sym makes.0)
 no_lines select plain x number own (Some p) accepted makes = some_none makes.0 (sym makes.2)
 
-module _ {W : Type 0} (select : Option Expression) (contents : W → Option (List ℕ)) where
+module _ {W : Type 0} (select : Option Expression) (count : Option ℕ) (contents : W → Option (List ℕ)) where
   pub Reached-stopped : (form : FormValue) (held : Option (List ℕ)) (input buffered : List ℕ) (old : Progress)
       (y : Expectation) (from to : OutputBuffer W) (len : ℕ) (packet : Option PacketValue) (own : List ℕ) (offset : ℕ)
+      → old.left ≢ Some 0
       → Begins buffered old.reader len packet y → own ≡ take len buffered
-      → StopsUnwritten (record { select = select; form = form }) own packet (record old { reader = y }) from offset to
-      → Reached (record { select = select; form = form }) contents held input buffered old from
-      → UneditedIn select form contents held input offset to
-  Reached-stopped (Lines plain) held input buffered old y from to len packet own offset begins unit_is stops so_far =
+      → StopsUnwritten (record { select = select; count = count; form = form }) own packet (record old { reader = y }) from offset to
+      → Reached (record { select = select; count = count; form = form }) contents held input buffered old from
+      → UneditedIn select count form contents held input offset to
+  Reached-stopped (Lines plain) held input buffered old y from to len packet own offset some begins unit_is stops
+      so_far =
       no_lines select plain y (counted (old.count + 1)) own packet stops.accepted stops.not_made
-  Reached-stopped (Copy edit) held input buffered old y from to len packet own offset begins unit_is stops so_far =
-      unwritten_unit select edit contents held input buffered old y y from to len packet own offset None begins refl
-      unit_is refl stops.not_made.0 stops.is_offset stops.same_out so_far
+  Reached-stopped (Copy edit) held input buffered old y from to len packet own offset some begins unit_is stops
+      so_far =
+      unwritten_unit select count edit contents held input buffered old y y from to len packet own offset None begins refl
+      unit_is refl stops.not_made.0 stops.is_offset stops.same_out some so_far
 
 -- a packet that can't be edited stops the run
 pub unit_unwritten : {W : Type 0} (task : TaskValue) (contents : W → Option (List ℕ))
     (whole bytes buffered : List ℕ) (y : Expectation) (len : ℕ) (packet : Option PacketValue)
     (first old : Progress) (begin from to : OutputBuffer W) (fault : RunFault)
+    → old.left ≢ Some 0
     → bytes ≡ take len buffered → Begins buffered old.reader len packet y
     → OnNotEdited fault (λ offset. StopsUnwritten task bytes packet (record old { reader = y }) from offset to)
     → ((held : Option (List ℕ)) (input : List ℕ) → Reached task contents held input whole first begin
     → Reached task contents held input buffered old from)
     → OnNotEdited fault (λ offset. StopsAfter task contents whole first begin offset to)
-unit_unwritten task contents whole bytes buffered y len packet first old begin from to (faults.NotEdited offset) is
-    begins stops reached = λ held input so_far.
-    Reached-stopped task.select contents task.form held input buffered old y from to len packet bytes offset begins is
-    stops (reached held input so_far)
-unit_unwritten task contents whole bytes buffered y len packet first old begin from to (faults.Capture f) is begins
+unit_unwritten task contents whole bytes buffered y len packet first old begin from to (faults.NotEdited offset)
+    some is begins stops reached = λ held input so_far.
+    Reached-stopped task.select task.count contents task.form held input buffered old y from to len packet bytes offset
+    some begins is stops (reached held input so_far)
+unit_unwritten task contents whole bytes buffered y len packet first old begin from to (faults.Capture f) some is begins
     stops reached = tt
-unit_unwritten task contents whole bytes buffered y len packet first old begin from to faults.Input is begins stops
+unit_unwritten task contents whole bytes buffered y len packet first old begin from to faults.Input some is begins stops
     reached = tt
-unit_unwritten task contents whole bytes buffered y len packet first old begin from to faults.Output is begins stops
+unit_unwritten task contents whole bytes buffered y len packet first old begin from to faults.Output some is begins stops
     reached = tt
-unit_unwritten task contents whole bytes buffered y len packet first old begin from to faults.Memory is begins stops
+unit_unwritten task contents whole bytes buffered y len packet first old begin from to faults.Memory some is begins stops
     reached = tt
 
 -- ---- the unit that is taken
-
--- a unit that was read has this packet
-pub packet_of_unit : (buffered : List ℕ) (x y : Expectation) (len : ℕ) (packet : Option PacketValue)
-    → len ≤ length buffered → Begins buffered x len packet y → IsUnitOf y (take len buffered) packet
-packet_of_unit buffered x y len None within begins = tt
-packet_of_unit buffered x y len (Some p) within begins =
-    let front = take len buffered in
-    let long : length front ≡ len = length-take-le len buffered within in
-    let whole = subst (λ (l : List ℕ). Begins l x len (Some p) y) (sym (take-append-drop len buffered)) begins in
-    let alone = unit_alone front (drop len buffered) x y len (Some p) (omega (arith, long)) whole in
-    let same = same_after buffered x y len p begins in
-    subst (λ (z : Expectation). Begins front z (length front) (Some p) y) (sym same)
-    (subst (λ (k : ℕ). Begins front x k (Some p) y) (sym long) alone)
 
 -- it is the front of what was buffered
 pub unit_is : (bytes : List ℕ) (at len : ℕ) → slice_range bytes at (at + len) ≡ take len (drop at bytes)

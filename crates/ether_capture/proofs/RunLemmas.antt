@@ -1,5 +1,5 @@
 -- What a run has read and written, one read after another.
-use Rattle.std.proofs.Common.{◌⊎◌, ◌-◌, ◌^◌, ◌≡◌, ◌≢◌, ℕ, ◌<◌, ◌≤◌, List, [], ◌∷◌, ◌++◌, length, drop, Bool, Option, Some, None, unwrap_or, Result, Ok, Err, IfOk, IfErr, IsErrAnd, OnOk, refl, sym, ap, subst, ◌∙◌, arith, append_assoc, append-nil}
+use Rattle.std.proofs.Common.{◌⊎◌, ◌-◌, ◌^◌, ◌≡◌, ◌≢◌, ℕ, ◌<◌, ◌≤◌, List, [], ◌∷◌, ◌++◌, length, drop, Bool, Option, Some, None, unwrap_or, Result, Ok, Err, IfOk, IfErr, IsErrAnd, OnOk, refl, sym, ap, subst, ◌∙◌, arith, append_assoc, append-nil, inl, inr, IfSome}
 use Rattle.std.specs.List.{sum_by}
 use Rattle.std.specs.Io.KnownBytes.{Appends, Consumes, IsAtEnd, Keeps}
 use Rattle.ether_filter.specs.Expressions.{Expression}
@@ -23,15 +23,16 @@ use Rattle.ether_text.proofs.RunLemmas.{IsLeft-left_of, IsLeft-end, Consumes-not
 use Rattle.ether_content.specs.Editing.{EditValue}
 use Rattle.ether_capture.specs.Copying.{IsCopyTo}
 use Rattle.ether_capture.specs.FrameLines.{skip_count}
-use Rattle.ether_capture.specs.Packets.{counted, GoesOn}
+use Rattle.ether_capture.specs.Packets.{counted, GoesOn, HasFewer}
 use Rattle.ether_capture.specs.Progress.{Made, Reached, TakesUnits, Unedited, UneditedIn, StopsAfter, OnNotEdited, IsTakingFault, last_lines}
-use Rattle.ether_capture.specs.Run.{Completes, StopsAtFault, StopsAtPacket, EndsInUnit, AnswersSlice, NeedsMemory, HasRun, OnStreamFault}
+use Rattle.ether_capture.specs.Run.{Completes, CompletesAll, ReachesCount, StopsAtFault, StopsAtPacket, EndsInUnit, AnswersSlice, NeedsMemory, HasRun, OnStreamFault}
 use Rattle.ether_capture.specs.Task.{TaskValue, FormValue, Lines, Copy, IsChosen}
 use Rattle.ether_capture.specs.declared.outcome.RunFault.{RunFault}
 use Rattle.ether_capture.specs.declared.outcome.RunFault.TheVariants as faults
 use Rattle.ether_capture.specs.declared.progress.Progress.{Progress}
 use Rattle.ether_capture.proofs.CopiesLemmas.{is_copy, copied_to_end, copied_to_refusal, copied_to_packet, read_so_far}
 use Rattle.ether_capture.proofs.PacketsLemmas.{GoesOn-ended, GoesOn-refused}
+use Rattle.ether_capture.proofs.ProgressLemmas.{Reached-fewer}
 
 -- ---- what is left
 
@@ -102,7 +103,7 @@ refused_nothing bytes x r e (body_refused order interfaces b s other begins refu
 -- ---- what is made of a capture, by how it ends
 
 module _ (select : Option Expression) (bytes front text : List ℕ) (packets kept : List PacketValue) (all : Bool)
-    (x : Expectation) (go : GoesOn front packets x) where
+    (x : Expectation) (count : Option ℕ) (go : GoesOn front packets x) where
   abbrev IsCopyBy : (edit : Option EditValue) → (to : PacketValue → Option EditedValue) → (bytes copy rest : List ℕ)
       → Option CopyFault → Type 0
   IsCopyBy edit to bytes copy rest fault = IsCopyTo to select edit bytes copy rest fault
@@ -132,9 +133,9 @@ module _ (select : Option Expression) (bytes front text : List ℕ) (packets kep
   stopped : (form : FormValue) (rest : List ℕ) (offset : ℕ) (error : CaptureError)
       → bytes ≡ front ++ rest → offset ≡ counted (length front)
       → ¬ (IsEnd x rest) → Refuses rest x (capture_refusal_view error)
-      → Made select form packets kept front text all x
-      → StopsAtFault select form (record { offset = offset; error = error }) bytes text
-  stopped (Lines plain) rest offset error place at more refused made = record {
+      → HasFewer select count front → Made select form packets kept front text all x
+      → StopsAtFault select count form (record { offset = offset; error = error }) bytes text
+  stopped (Lines plain) rest offset error place at more refused fewer made = record {
     packets = packets;
     front = front;
     rest = rest;
@@ -144,9 +145,10 @@ module _ (select : Option Expression) (bytes front text : List ℕ) (packets kep
         (GoesOn-refused front packets x rest (capture_refusal_view error) more refused go);
     place = place;
     is_offset = at;
+    fewer = fewer;
     answered = made;
   }
-  stopped (Copy edit) rest offset error place at more refused made =
+  stopped (Copy edit) rest offset error place at more refused fewer made =
       let reason = capture_refusal_view error in
       record {
         front = front;
@@ -157,13 +159,14 @@ module _ (select : Option Expression) (bytes front text : List ℕ) (packets kep
             (copied_to_refusal select edit to edits front text kept x rest reason more refused (made.0 to edits)));
         place = place;
         is_offset = at;
+        fewer = fewer;
       }
 
   -- .. or within a unit
   broken : (Needs : Option ℕ → Type 0) (form : FormValue) (rest : List ℕ) (reason : CaptureRefusal)
-      → bytes ≡ front ++ rest → Refuses rest x reason → Needs (required_len reason)
-      → Made select form packets kept front text all x → EndsInUnit Needs select form bytes text
-  broken Needs (Lines plain) rest reason place refused unfinished made = record {
+      → bytes ≡ front ++ rest → Refuses rest x reason → Needs (required_len reason) → HasFewer select count front
+      → Made select form packets kept front text all x → EndsInUnit Needs select count form bytes text
+  broken Needs (Lines plain) rest reason place refused unfinished fewer made = record {
     packets = packets;
     front = front;
     rest = rest;
@@ -174,9 +177,10 @@ module _ (select : Option Expression) (bytes front text : List ℕ) (packets kep
     place = place;
     begun = refused;
     unfinished = unfinished;
+    fewer = fewer;
     answered = made;
   }
-  broken Needs (Copy edit) rest reason place refused unfinished made = record {
+  broken Needs (Copy edit) rest reason place refused unfinished fewer made = record {
     kept = kept;
     front = front;
     rest = rest;
@@ -186,6 +190,7 @@ module _ (select : Option Expression) (bytes front text : List ℕ) (packets kep
     place = place;
     begun = refused;
     unfinished = unfinished;
+    fewer = fewer;
     is_read = λ some to edits.
         read_so_far select edit to edits front text kept x rest reason refused (made.0 to edits) some;
   }
@@ -195,7 +200,7 @@ module _ (select : Option Expression) (bytes front text : List ℕ) (packets kep
 module _ {W : Type 0} (task : TaskValue) (contents : W → Option (List ℕ)) where
   -- the units of what was buffered are taken
   pub units_left : (buffered bytes left : List ℕ) (old new : Progress) (from to : OutputBuffer W) (n : ℕ)
-      (error : CaptureError)
+      (error : Option CaptureError)
       → bytes ≡ buffered → left ≡ drop n buffered → TakesUnits task contents bytes old from (drop n bytes) error new to
       → TakesUnits task contents buffered old from left error new to
   units_left buffered bytes left old new from to n error same is takes =
@@ -205,18 +210,23 @@ module _ {W : Type 0} (task : TaskValue) (contents : W → Option (List ℕ)) wh
             subst (λ (l : List ℕ). Reached task contents held input l new to) e
             (takes.reached held input
             (subst (λ (l : List ℕ). Reached task contents held input l old from) (sym same) so_far));
-        refused = subst (λ (l : List ℕ). Refuses l new.reader (capture_refusal_view error)) e takes.refused;
+        refused =
+            subst
+            (λ (l : List ℕ).
+            IfSome error (λ it. Refuses l new.reader (capture_refusal_view it) × (new.left ≢ Some 0)))
+            e takes.refused;
+        done = takes.done;
       }
 
   module _ (before after held : Option (List ℕ)) where
     stops : (input buffered left : List ℕ) (at : Progress) (out : OutputBuffer W) (error : CaptureError)
         (fault : RunFault)
         → fault ≡ faults.Capture (record { offset = at.offset; error = error }) → Consumes before after input
-        → IsLeft after left → ¬ (IsEnd at.reader (buffered ++ left))
+        → IsLeft after left → at.left ≢ Some 0 → ¬ (IsEnd at.reader (buffered ++ left))
         → Refuses (buffered ++ left) at.reader (capture_refusal_view error)
         → Reached task contents held input buffered at out
         → HasRun task before after held (contents_of contents out) (Err fault)
-    stops input buffered left at out error fault is read is_left more refused so_far =
+    stops input buffered left at out error fault is read is_left some more refused so_far =
         let place = ap (λ (l : List ℕ). l ++ left) so_far.place ∙ append_assoc so_far.front buffered left in
         subst (λ (f : RunFault). HasRun task before after held (contents_of contents out) (Err f)) (sym is) (record {
           taken = input;
@@ -226,8 +236,9 @@ module _ {W : Type 0} (task : TaskValue) (contents : W → Option (List ℕ)) wh
           is_left = is_left;
           stops =
               stopped task.select (input ++ left) so_far.front so_far.text so_far.packets so_far.kept
-              so_far.all_accepted at.reader so_far.parts task.form (buffered ++ left) at.offset error place
-              so_far.is_offset more refused so_far.made;
+              so_far.all_accepted at.reader task.count so_far.parts task.form (buffered ++ left) at.offset error place
+              so_far.is_offset more refused (Reached-fewer task contents held input buffered at out some so_far)
+              so_far.made;
           written = so_far.written;
         })
 
@@ -235,13 +246,13 @@ module _ {W : Type 0} (task : TaskValue) (contents : W → Option (List ℕ)) wh
     pub stopped_for_good : (input buffered : List ℕ) (at : Progress) (out : OutputBuffer W) (error : CaptureError)
         (fault : RunFault)
         → fault ≡ faults.Capture (record { offset = at.offset; error = error }) → Consumes before after input
-        → Refuses buffered at.reader (capture_refusal_view error) → required_len (capture_refusal_view error) ≡ None
+        → at.left ≢ Some 0 → Refuses buffered at.reader (capture_refusal_view error) → required_len (capture_refusal_view error) ≡ None
         → Reached task contents held input buffered at out
         → HasRun task before after held (contents_of contents out) (Err fault)
-    stopped_for_good input buffered at out error fault is read refused none so_far =
+    stopped_for_good input buffered at out error fault is read some refused none so_far =
         let left : List ℕ = unwrap_or after [] in
         let r = capture_refusal_view error in
-        stops input buffered left at out error fault is read (IsLeft-left_of after)
+        stops input buffered left at out error fault is read (IsLeft-left_of after) some
         (λ end. refused_nothing buffered at.reader r (nothing_first buffered left end.1) refused none)
         (refusal_local buffered left at.reader r refused none) so_far
 
@@ -249,60 +260,106 @@ module _ {W : Type 0} (task : TaskValue) (contents : W → Option (List ℕ)) wh
     pub stopped_at_end : (input buffered : List ℕ) (at : Progress) (out : OutputBuffer W) (error : CaptureError)
         (fault : RunFault)
         → fault ≡ faults.Capture (record { offset = at.offset; error = error }) → Consumes before after input
-        → IsAtEnd after → ¬ (IsEnd at.reader buffered) → Refuses buffered at.reader (capture_refusal_view error)
+        → IsAtEnd after → at.left ≢ Some 0 → ¬ (IsEnd at.reader buffered)
+        → Refuses buffered at.reader (capture_refusal_view error)
         → Reached task contents held input buffered at out
         → HasRun task before after held (contents_of contents out) (Err fault)
-    stopped_at_end input buffered at out error fault is read end more refused so_far =
+    stopped_at_end input buffered at out error fault is read end some more refused so_far =
         let none = sym (append-nil buffered) in
-        stops input buffered [] at out error fault is read (IsLeft-end after end)
+        stops input buffered [] at out error fault is read (IsLeft-end after end) some
         (subst (λ (l : List ℕ). ¬ (IsEnd at.reader l)) none more)
         (subst (λ (l : List ℕ). Refuses l at.reader (capture_refusal_view error)) none refused) so_far
 
     -- all units are taken
     pub finished : (input buffered : List ℕ) (at : Progress) (from to : OutputBuffer W) (r : Result Verdict RunFault)
-        → Consumes before after input → IsAtEnd after → IsEnd at.reader buffered
+        → Consumes before after input → IsAtEnd after → at.left ≢ Some 0 → IsEnd at.reader buffered
         → IfOk r (λ verdict. verdict ≡ at.verdict)
         → OnOk r
         (Appends (contents_of contents from) (contents_of contents to) (last_lines task.form at.count at.skipped))
         → IfErr r (λ fault. fault ≡ faults.Output)
         → Reached task contents held input buffered at from
         → HasRun task before after held (contents_of contents to) r
-    finished input buffered at from to (Ok verdict) read end over is written fault so_far =
+    finished input buffered at from to (Ok verdict) read end some over is written fault so_far =
         let last = last_lines task.form (counted (length so_far.packets)) (counted (sum_by skip_count so_far.packets)) in
         let same : last_lines task.form at.count at.skipped ≡ last =
         (λ i. last_lines task.form (so_far.is_count i) (so_far.is_skipped i)) in
         let whole : input ≡ so_far.front =
         so_far.place ∙ ap (λ (l : List ℕ). so_far.front ++ l) over.1 ∙ append-nil so_far.front in
-        record {
+        inl (record {
           input = input;
           text = so_far.text ++ last;
           all_accepted = so_far.all_accepted;
           read = read;
           at_end = end;
-          answered =
-              completed task.select input so_far.front so_far.text so_far.packets so_far.kept so_far.all_accepted
-              at.reader so_far.parts task.form whole over.0 so_far.made;
+          answered = (
+            subst (HasFewer task.select task.count) (sym whole)
+                (Reached-fewer task contents held input buffered at from some so_far),
+            completed task.select input so_far.front so_far.text so_far.packets so_far.kept so_far.all_accepted
+                at.reader task.count so_far.parts task.form whole over.0 so_far.made,
+          );
           is_verdict = is ∙ so_far.is_verdict;
           written =
               Appends-then held (contents_of contents from) (contents_of contents to) so_far.text last so_far.written
               (subst (λ (t : List ℕ). Appends (contents_of contents from) (contents_of contents to) t) same written);
-        }
-    finished input buffered at from to (Err fault) read end over is written failed so_far =
+        })
+    finished input buffered at from to (Err fault) read end some over is written failed so_far =
+        subst (λ (f : RunFault). HasRun task before after held (contents_of contents to) (Err f)) (sym failed) tt
+
+    -- all packets that are asked for are taken
+    pub counted_out : (input buffered : List ℕ) (at : Progress) (from to : OutputBuffer W) (r : Result Verdict RunFault)
+        → Consumes before after input → at.left ≡ Some 0
+        → IfOk r (λ verdict. verdict ≡ at.verdict)
+        → OnOk r
+        (Appends (contents_of contents from) (contents_of contents to) (last_lines task.form at.count at.skipped))
+        → IfErr r (λ fault. fault ≡ faults.Output)
+        → Reached task contents held input buffered at from
+        → HasRun task before after held (contents_of contents to) r
+    counted_out input buffered at from to (Ok verdict) read none is written fault so_far =
+        let left : List ℕ = unwrap_or after [] in
+        let last = last_lines task.form (counted (length so_far.packets)) (counted (sum_by skip_count so_far.packets)) in
+        let same : last_lines task.form at.count at.skipped ≡ last =
+        (λ i. last_lines task.form (so_far.is_count i) (so_far.is_skipped i)) in
+        let ends = so_far.at_count none in
+        inr (record {
+          taken = input;
+          left = left;
+          text = so_far.text ++ last;
+          read = read;
+          is_left = IsLeft-left_of after;
+          stops =
+              record {
+                front = so_far.front;
+                rest = buffered ++ left;
+                all_accepted = so_far.all_accepted;
+                place = ap (λ (l : List ℕ). l ++ left) so_far.place ∙ append_assoc so_far.front buffered left;
+                ends = ends.1;
+                completes =
+                    completed task.select so_far.front so_far.front so_far.text so_far.packets so_far.kept
+                    so_far.all_accepted at.reader task.count so_far.parts task.form refl ends.0 so_far.made;
+                is_verdict = is ∙ so_far.is_verdict;
+              };
+          written =
+              Appends-then held (contents_of contents from) (contents_of contents to) so_far.text last so_far.written
+              (subst (λ (t : List ℕ). Appends (contents_of contents from) (contents_of contents to) t) same written);
+        })
+    counted_out input buffered at from to (Err fault) read none is written failed so_far =
         subst (λ (f : RunFault). HasRun task before after held (contents_of contents to) (Err f)) (sym failed) tt
 
     -- a unit is not whole
     breaks_off : (Needs : Option ℕ → Type 0) (input buffered : List ℕ) (at : Progress) (out : OutputBuffer W)
         (reason : CaptureRefusal)
-        → Consumes before after input → Refuses buffered at.reader reason → Needs (required_len reason)
+        → Consumes before after input → at.left ≢ Some 0 → Refuses buffered at.reader reason
+        → Needs (required_len reason)
         → Reached task contents held input buffered at out
-        → BreaksOffAfter (EndsInUnit Needs task.select task.form) before after held (contents_of contents out)
-    breaks_off Needs input buffered at out reason read refused unfinished so_far = record {
+        → BreaksOffAfter (EndsInUnit Needs task.select task.count task.form) before after held (contents_of contents out)
+    breaks_off Needs input buffered at out reason read some refused unfinished so_far = record {
       taken = input;
       text = so_far.text;
       read = read;
       begins =
           broken task.select input so_far.front so_far.text so_far.packets so_far.kept so_far.all_accepted at.reader
-          so_far.parts Needs task.form buffered reason so_far.place refused unfinished so_far.made;
+          task.count so_far.parts Needs task.form buffered reason so_far.place refused unfinished
+          (Reached-fewer task contents held input buffered at out some so_far) so_far.made;
       written = so_far.written;
     }
 
@@ -310,30 +367,32 @@ module _ {W : Type 0} (task : TaskValue) (contents : W → Option (List ℕ)) wh
     pub broken_off : (mid : Option (List ℕ)) (r : Result Verdict RunFault) (input buffered : List ℕ) (at : Progress)
         (out : OutputBuffer W) (reason : CaptureRefusal)
         → Consumes before mid input → Keeps mid after → IsErrAnd r (λ fault. fault ≡ faults.Input)
-        → Refuses buffered at.reader reason → required_len reason ≢ None
+        → at.left ≢ Some 0 → Refuses buffered at.reader reason → required_len reason ≢ None
         → Reached task contents held input buffered at out
         → HasRun task before after held (contents_of contents out) r
-    broken_off mid (Ok verdict) input buffered at out reason read kept is refused needed so_far = absurd is
-    broken_off mid (Err fault) input buffered at out reason read kept is refused needed so_far =
+    broken_off mid (Ok verdict) input buffered at out reason read kept is some refused needed so_far =
+        absurd is
+    broken_off mid (Err fault) input buffered at out reason read kept is some refused needed so_far =
         subst (λ (f : RunFault). HasRun task before after held (contents_of contents out) (Err f)) (sym is)
         (breaks_off (λ n. n ≢ None) input buffered at out reason (Consumes-kept before mid after input read kept)
-        refused needed so_far)
+        some refused needed so_far)
 
     -- memory is refused
     pub without_memory : (r : Result Verdict RunFault) (input buffered : List ℕ) (at : Progress) (out : OutputBuffer W)
         (reason : CaptureRefusal) (n : ℕ)
-        → IsErrAnd r (λ fault. fault ≡ faults.Memory) → Consumes before after input → Refuses buffered at.reader reason
+        → IsErrAnd r (λ fault. fault ≡ faults.Memory) → Consumes before after input → at.left ≢ Some 0
+        → Refuses buffered at.reader reason
         → required_len reason ≡ Some n → 65536 < n
         → Reached task contents held input buffered at out
         → HasRun task before after held (contents_of contents out) r
-    without_memory (Ok verdict) input buffered at out reason n is read refused needs large so_far = absurd is
-    without_memory (Err fault) input buffered at out reason n is read refused needs large so_far =
+    without_memory (Ok verdict) input buffered at out reason n is read some refused needs large so_far = absurd is
+    without_memory (Err fault) input buffered at out reason n is read some refused needs large so_far =
         subst (λ (f : RunFault). HasRun task before after held (contents_of contents out) (Err f)) (sym is)
-        (breaks_off NeedsMemory input buffered at out reason read refused (subst NeedsMemory (sym needs) large) so_far)
+        (breaks_off NeedsMemory input buffered at out reason read some refused (subst NeedsMemory (sym needs) large) so_far)
 
     -- a packet can't be edited
     at_packet : (form : FormValue) (input : List ℕ) (offset : ℕ) (out : OutputBuffer W)
-        → Consumes before after input → UneditedIn task.select form contents held input offset out
+        → Consumes before after input → UneditedIn task.select task.count form contents held input offset out
         → HasRun (record task { form = form }) before after held (contents_of contents out) (Err (faults.NotEdited offset))
     at_packet (Lines plain) input offset out read s = absurd s
     at_packet (Copy edit) input offset out read s =
@@ -361,6 +420,7 @@ module _ {W : Type 0} (task : TaskValue) (contents : W → Option (List ℕ)) wh
                   (s.not_written to edits) (s.parts to edits)));
               place = place;
               is_offset = s.is_offset;
+              fewer = s.fewer;
             },
           );
           written = s.written;
@@ -397,8 +457,10 @@ pub HasRun-flushed : {W : Type 0} (task : TaskValue) (contents : W → Option (L
     (from to : OutputBuffer W) (r : Result Verdict RunFault)
     → WritesOut contents from to → HasRun task before after held (contents_of contents from) r
     → HasRun task before after held (contents to.writer.now) r
-HasRun-flushed task contents before after held from to (Ok verdict) drains h =
-    answers_flushed contents before after held from to drains verdict h
+HasRun-flushed task contents before after held from to (Ok verdict) drains (inl h) =
+    inl (answers_flushed contents before after held from to drains verdict h)
+HasRun-flushed task contents before after held from to (Ok verdict) drains (inr h) =
+    inr (stops_flushed contents before after held from to drains h)
 HasRun-flushed task contents before after held from to (Err (faults.Capture fault)) drains h =
     stops_flushed contents before after held from to drains h
 HasRun-flushed task contents before after held from to (Err (faults.NotEdited offset)) drains h =
@@ -425,17 +487,19 @@ slice_answers : (task : TaskValue) (can_fail : Type 0) (bytes : List ℕ) (after
     → HasRun task (Some bytes) after held holds r
     → IfErr r (λ fault. OnStreamFault fault (⊥ ⊎ IsEndless (Some bytes) after) can_fail)
     → AnswersSlice task can_fail bytes held holds r
-slice_answers task can_fail bytes after held holds (Ok verdict) short h failed =
-    answers_slice (Completes task.select task.form) bytes after held holds verdict h
+slice_answers task can_fail bytes after held holds (Ok verdict) short (inl h) failed =
+    inl (answers_slice (CompletesAll task) bytes after held holds verdict h)
+slice_answers task can_fail bytes after held holds (Ok verdict) short (inr h) failed =
+    inr (stops_slice (ReachesCount task verdict) bytes after held holds h)
 slice_answers task can_fail bytes after held holds (Err (faults.Capture fault)) short h failed =
-    stops_slice (StopsAtFault task.select task.form fault) bytes after held holds h
+    stops_slice (StopsAtFault task.select task.count task.form fault) bytes after held holds h
 slice_answers task can_fail bytes after held holds (Err (faults.NotEdited offset)) short h failed =
-    stops_slice (StopsAtPacket task.select task.form offset) bytes after held holds h
+    stops_slice (StopsAtPacket task.select task.count task.form offset) bytes after held holds h
 slice_answers task can_fail bytes after held holds (Err faults.Input) short h failed =
     absurd (no_endless_slice bytes after short failed)
 slice_answers task can_fail bytes after held holds (Err faults.Output) short h failed = failed
 slice_answers task can_fail bytes after held holds (Err faults.Memory) short h failed =
-    breaks_slice (EndsInUnit NeedsMemory task.select task.form) bytes after held holds h
+    breaks_slice (EndsInUnit NeedsMemory task.select task.count task.form) bytes after held holds h
 
 pub slice_answered : (task : TaskValue) (can_fail : Type 0) (bytes : List ℕ)
     (before after held holds : Option (List ℕ))

@@ -6,7 +6,7 @@ use Rattle.ether_pcap.specs.Capture.{PacketValue, Expectation, Beginning, Captur
 use Rattle.ether_pcap.specs.CaptureViews.{capture_refusal_view}
 use Rattle.ether_pcap.specs.declared.capture.capture_fault.CaptureFault.{CaptureFault}
 use Rattle.ether_capture.specs.FrameLines.{AnswersPacket, skip_count, totals_line_if}
-use Rattle.ether_capture.specs.Packets.{counted, GoesOn}
+use Rattle.ether_capture.specs.Packets.{counted, GoesOn, HasFewer}
 
 -- this is the text for the packets in order, after so many before them, and all says that each is accepted
 abbrev pub AreAnswered : (select : Option Expression) → (plain : Bool) → (before : ℕ) → List PacketValue → (text : List ℕ) → (all : Bool) → Type 0
@@ -29,7 +29,7 @@ pub record AnswersCapture (select : Option Expression) (plain : Bool) (bytes tex
   pub is_text : text ≡ lines ++ totals_of plain packets
 
 -- this is the text for the packets of the bytes up to the fault, which is at this place
-pub record AnswersToFault (select : Option Expression) (plain : Bool) (fault : CaptureFault) (bytes text : List ℕ) : Type 0 where
+pub record AnswersToFault (select : Option Expression) (count : Option ℕ) (plain : Bool) (fault : CaptureFault) (bytes text : List ℕ) : Type 0 where
   pub packets : List PacketValue
   pub front : List ℕ
   pub rest : List ℕ
@@ -37,11 +37,12 @@ pub record AnswersToFault (select : Option Expression) (plain : Bool) (fault : C
   pub has : HasPackets Beginning bytes packets rest (Some (capture_refusal_view fault.error))
   pub place : bytes ≡ front ++ rest
   pub is_offset : fault.offset ≡ counted (length front)
+  pub fewer : HasFewer select count front
   pub answered : AreAnswered select plain 0 packets text all_accepted
 
 -- This is the text for the packets that come first in the bytes, whatever follows; what is left is not a whole unit, and more bytes may
 -- make it one: this holds of how many it needs at least.
-pub record AnswersToUnit (Needs : Option ℕ → Type 0) (select : Option Expression) (plain : Bool) (bytes text : List ℕ) : Type 0 where
+pub record AnswersToUnit (Needs : Option ℕ → Type 0) (select : Option Expression) (count : Option ℕ) (plain : Bool) (bytes text : List ℕ) : Type 0 where
   pub packets : List PacketValue
   pub front : List ℕ
   pub rest : List ℕ
@@ -52,4 +53,5 @@ pub record AnswersToUnit (Needs : Option ℕ → Type 0) (select : Option Expres
   pub place : bytes ≡ front ++ rest
   pub begun : Refuses rest expected reason
   pub unfinished : Needs (required_len reason)
+  pub fewer : HasFewer select count front
   pub answered : AreAnswered select plain 0 packets text all_accepted

@@ -5,7 +5,7 @@ use Rattle.ether_pcap.specs.Capture.{PacketValue, Expectation, Beginning, Captur
 use Rattle.ether_pcap.specs.Copies.{CopyFault, NotEdited, Copies, Selected, HasPacketsTo, edited_all}
 use Rattle.ether_pcap.specs.Editing.{EditedValue}
 use Rattle.ether_content.specs.Editing.{EditValue, Edits}
-use Rattle.ether_capture.specs.Packets.{counted}
+use Rattle.ether_capture.specs.Packets.{counted, HasFewer}
 use Rattle.ether_capture.specs.Task.{IsChosen}
 
 -- what a packet is edited to, if it is
@@ -41,16 +41,18 @@ pub record CopiesCapture (select : Option Expression) (asked : Option EditValue)
   pub accepted : all_accepted ≡ true
 
 -- this is the copy of the bytes up to a fault, which is at this place
-pub record CopiesToFault (select : Option Expression) (asked : Option EditValue) (reason : CopyFault) (offset : ℕ) (bytes copy : List ℕ) : Type 0 where
+pub record CopiesToFault (select : Option Expression) (count : Option ℕ) (asked : Option EditValue) (reason : CopyFault)
+    (offset : ℕ) (bytes copy : List ℕ) : Type 0 where
   pub front : List ℕ
   pub rest : List ℕ
   pub is_copy : IsCopy select asked bytes copy rest (Some reason)
   pub place : bytes ≡ front ++ rest
   pub is_offset : offset ≡ counted (length front)
+  pub fewer : HasFewer select count front
 
 -- .. up to a packet that is to be edited, and can't be
-abbrev pub CopiesToPacket : (select : Option Expression) → (asked : Option EditValue) → (offset : ℕ) → (bytes copy : List ℕ) → Type 0
-CopiesToPacket select asked offset bytes copy = (p : PacketValue) × CopiesToFault select asked (NotEdited p) offset bytes copy
+abbrev pub CopiesToPacket : (select : Option Expression) → (count : Option ℕ) → (asked : Option EditValue) → (offset : ℕ) → (bytes copy : List ℕ) → Type 0
+CopiesToPacket select count asked offset bytes copy = (p : PacketValue) × CopiesToFault select count asked (NotEdited p) offset bytes copy
 
 -- A copy of a capture that begins with these bytes, whole units, begins with these, and has these packets first; then follows the copy of what
 -- is left, where this is expected.
@@ -69,7 +71,8 @@ CopiesOn select asked front copy kept x =
 
 -- This is the copy of what comes first in the bytes, whatever follows, and a capture of its own; what is left is not a whole unit, and more
 -- bytes may make it one: this holds of how many it needs at least.
-pub record CopiesToUnit (Needs : Option ℕ → Type 0) (select : Option Expression) (asked : Option EditValue) (bytes copy : List ℕ) : Type 0 where
+pub record CopiesToUnit (Needs : Option ℕ → Type 0) (select : Option Expression) (count : Option ℕ) (asked : Option EditValue)
+    (bytes copy : List ℕ) : Type 0 where
   pub kept : List PacketValue
   pub front : List ℕ
   pub rest : List ℕ
@@ -79,5 +82,6 @@ pub record CopiesToUnit (Needs : Option ℕ → Type 0) (select : Option Express
   pub place : bytes ≡ front ++ rest
   pub begun : Refuses rest expected reason
   pub unfinished : Needs (required_len reason)
+  pub fewer : HasFewer select count front
   pub is_read : copy ≢ [] → (edit : PacketValue → Option EditedValue) → EditsTo asked edit
       → HasPackets Beginning copy (edited_all edit kept) [] None

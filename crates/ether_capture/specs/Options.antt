@@ -87,7 +87,7 @@ pub record IsRequestOf (a : AskedValue) (request : RequestValue) : Type 0 where
   pub select : Option Expression
   pub goes : clashes a ≡ false
   pub selects : IsSelection a.text select
-  pub is : request ≡ Run (record { select = select; form = form_of a }) a.file
+  pub is : request ≡ Run (record { select = select; count = None; form = form_of a }) a.file
 
 pub data NamesRequest : List (List ℕ) → RequestValue → Type 0 where
   help : NamesRequest (codes "--help" ∷ []) Help

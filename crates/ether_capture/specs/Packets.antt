@@ -1,6 +1,9 @@
 -- The packets of a capture as far as it was read.
-use Rattle.std.specs.Prelude.{ℕ, ◌-◌, ◌^◌, min, List, ◌++◌, Option}
-use Rattle.ether_pcap.specs.Capture.{PacketValue, Expectation, Beginning, CaptureRefusal, HasPackets}
+use Rattle.std.specs.Prelude.{◌≡◌, ℕ, suc, ◌-◌, ◌^◌, min, List, ◌++◌, length, Option, Some}
+use Rattle.ether_filter.specs.Expressions.{Expression}
+use Rattle.ether_pcap.specs.Capture.{PacketValue, Expectation, Beginning, CaptureRefusal, Begins, HasPackets}
+use Rattle.ether_pcap.specs.Copies.{Selected}
+use Rattle.ether_capture.specs.Task.{IsChosen, IsBelow}
 
 -- a count stays at its greatest value
 abbrev pub counted : ℕ → ℕ
@@ -11,3 +14,27 @@ abbrev pub GoesOn : (front : List ℕ) → List PacketValue → Expectation → 
 GoesOn front packets x =
     (later : List ℕ) (others : List PacketValue) (rest : List ℕ) (fault : Option CaptureRefusal)
     → HasPackets x later others rest fault → HasPackets Beginning (front ++ later) (packets ++ others) rest fault
+
+-- Of the packets of these units fewer are chosen than are asked for at most.
+pub record HasFewer (select : Option Expression) (count : Option ℕ) (front : List ℕ) : Type 0 where
+  pub packets : List PacketValue
+  pub kept : List PacketValue
+  pub expected : Expectation
+  pub parts : GoesOn front packets expected
+  pub selected : Selected (IsChosen select) packets kept
+  pub below : IsBelow count (length kept)
+
+-- The last of these units is the packet with which so many are chosen as are asked for.
+pub record EndsAtCount (select : Option Expression) (count : Option ℕ) (front : List ℕ) : Type 0 where
+  pub before : List ℕ
+  pub unit : List ℕ
+  pub packets : List PacketValue
+  pub kept : List PacketValue
+  pub expected : Expectation
+  pub last : PacketValue
+  pub place : front ≡ before ++ unit
+  pub parts : GoesOn before packets expected
+  pub begins : Begins unit expected (length unit) (Some last) expected
+  pub chosen : IsChosen select last
+  pub selected : Selected (IsChosen select) packets kept
+  pub is_count : count ≡ Some (suc (length kept))

@@ -1,5 +1,5 @@
 -- How far a run has come.
-use Rattle.std.specs.Prelude.{◌≡◌, ℕ, ◌+◌, List, [], ◌++◌, length, take, drop, Bool, true, Option, Some, None, ⊤}
+use Rattle.std.specs.Prelude.{◌≡◌, ◌≢◌, ◌⊎◌, ℕ, ◌+◌, ◌-◌, List, [], ◌++◌, length, take, drop, Bool, true, Option, Some, None, IfSome, IfNone, ⊤}
 use Rattle.std.specs.List.{sum_by}
 use Rattle.std.specs.Io.KnownBytes.{Appends}
 use Rattle.ether_filter.specs.Expressions.{Expression}
@@ -16,7 +16,7 @@ use Rattle.ether_text.specs.declared.verdict.Verdict.TheVariants.{AllAccepted}
 use Rattle.ether_capture.specs.Answering.{AreAnswered}
 use Rattle.ether_capture.specs.Copying.{EditsTo, EditsIf, CopiesOn}
 use Rattle.ether_capture.specs.FrameLines.{AnswersPacket, skip_count, totals_line_if}
-use Rattle.ether_capture.specs.Packets.{counted, GoesOn}
+use Rattle.ether_capture.specs.Packets.{counted, GoesOn, HasFewer, EndsAtCount}
 use Rattle.ether_capture.specs.Task.{TaskValue, FormValue, Lines, Copy, IsChosen}
 use Rattle.ether_capture.specs.declared.outcome.RunFault.{RunFault}
 use Rattle.ether_capture.specs.declared.outcome.RunFault.TheVariants as faults
@@ -29,6 +29,11 @@ abbrev pub Made : (select : Option Expression) → FormValue → (packets kept :
     → Expectation → Type 0
 Made select (Lines plain) packets kept front text all x = AreAnswered select plain 0 packets text all
 Made select (Copy edit) packets kept front text all x = CopiesOn select edit front text kept x × (all ≡ true)
+
+-- so many of the packets that are asked for at most are left, after so many
+abbrev pub IsLeftOf : (count : Option ℕ) → ℕ → (left : Option ℕ) → Type 0
+IsLeftOf None k left = left ≡ None
+IsLeftOf (Some n) k left = (m : ℕ) × (left ≡ Some m) × (m + k ≡ n)
 
 -- Of the input the units before the buffered bytes are taken.
 pub record Reached {W : Type 0} (task : TaskValue) (contents : W → Option (List ℕ)) (held : Option (List ℕ)) (input buffered : List ℕ)
@@ -46,15 +51,19 @@ pub record Reached {W : Type 0} (task : TaskValue) (contents : W → Option (Lis
   pub is_count : at.count ≡ counted (length packets)
   pub is_skipped : at.skipped ≡ counted (sum_by skip_count packets)
   pub is_offset : at.offset ≡ counted (length front)
+  pub is_left : IsLeftOf task.count (length kept) at.left
+  pub at_count : at.left ≡ Some 0 → (at.reader ≢ Beginning) × EndsAtCount task.select task.count front
   pub written : Appends held (contents_of contents out) text
 
 -- nothing is read
-pub record IsStart (at : Progress) : Type 0 where
+pub record IsStart (count : Option ℕ) (at : Progress) : Type 0 where
   pub is_reader : at.reader ≡ Beginning
   pub is_count : at.count ≡ 0
   pub is_skipped : at.skipped ≡ 0
   pub is_offset : at.offset ≡ 0
   pub is_verdict : at.verdict ≡ AllAccepted
+  pub is_left : at.left ≡ count
+  pub is_more : at.left ≢ Some 0
 
 -- ---- one unit
 
@@ -89,10 +98,16 @@ abbrev pub other_text : FormValue → (unit : List ℕ) → List ℕ
 other_text (Lines plain) unit = []
 other_text (Copy edit) unit = unit
 
+-- one packet less is left if this one is chosen
+abbrev pub LeavesLess : (select : Option Expression) → PacketValue → (old new : Option ℕ) → Type 0
+LeavesLess select p None new = new ≡ None
+LeavesLess select p (Some m) new = (IsChosen select p × (new ≡ Some (m - 1))) ⊎ (¬ (IsChosen select p) × (new ≡ Some m))
+
 -- a unit is counted, if it has a packet
-abbrev pub Counts : Option PacketValue → (old new : Progress) → Type 0
-Counts None old new = (new.count ≡ old.count) × (new.skipped ≡ old.skipped)
-Counts (Some p) old new = (new.count ≡ counted (old.count + 1)) × (new.skipped ≡ counted (old.skipped + skip_count p))
+abbrev pub Counts : (select : Option Expression) → Option PacketValue → (old new : Progress) → Type 0
+Counts select None old new = (new.count ≡ old.count) × (new.skipped ≡ old.skipped) × (new.left ≡ old.left)
+Counts select (Some p) old new =
+    (new.count ≡ counted (old.count + 1)) × (new.skipped ≡ counted (old.skipped + skip_count p)) × LeavesLess select p old.left new.left
 
 -- a unit is taken, and this is written for it
 pub record TakesUnit {W : Type 0} (task : TaskValue) (contents : W → Option (List ℕ)) (unit : List ℕ) (packet : Option PacketValue)
@@ -101,7 +116,7 @@ pub record TakesUnit {W : Type 0} (task : TaskValue) (contents : W → Option (L
   pub accepted : Bool
   pub makes : Makes task.select task.form old.reader (counted (old.count + 1)) unit packet accepted (Some text)
   pub written : Appends (contents_of contents from) (contents_of contents to) text
-  pub counts : Counts packet old new
+  pub counts : Counts task.select packet old new
   pub is_verdict : new.verdict ≡ verdict_with old.verdict accepted
   pub is_offset : new.offset ≡ counted (old.offset + length unit)
   pub same_reader : new.reader ≡ old.reader
@@ -165,7 +180,7 @@ IsTakingFault faults.Output = ⊤
 IsTakingFault _ = ⊥
 
 -- Of the input the units before a packet are taken that is to be edited and can't be; it is at this place.
-pub record Unedited {W : Type 0} (select : Option Expression) (edit : Option EditValue) (contents : W → Option (List ℕ))
+pub record Unedited {W : Type 0} (select : Option Expression) (count : Option ℕ) (edit : Option EditValue) (contents : W → Option (List ℕ))
     (held : Option (List ℕ)) (input : List ℕ) (offset : ℕ) (out : OutputBuffer W) : Type 0 where
   pub front : List ℕ
   pub copy : List ℕ
@@ -181,27 +196,29 @@ pub record Unedited {W : Type 0} (select : Option Expression) (edit : Option Edi
       → unit_after expected packet (to packet) (take len buffered) ≡ None
   pub place : input ≡ front ++ buffered
   pub is_offset : offset ≡ counted (length front)
+  pub fewer : HasFewer select count front
   pub written : Appends held (contents_of contents out) copy
 
 -- .. if a copy is made
-abbrev pub UneditedIn : {W : Type 0} → (select : Option Expression) → FormValue → (contents : W → Option (List ℕ)) → (held : Option (List ℕ))
+abbrev pub UneditedIn : {W : Type 0} → (select : Option Expression) → (count : Option ℕ) → FormValue → (contents : W → Option (List ℕ)) → (held : Option (List ℕ))
     → (input : List ℕ) → (offset : ℕ) → (out : OutputBuffer W) → Type 0
-UneditedIn select (Lines plain) contents held input offset out = ⊥
-UneditedIn select (Copy edit) contents held input offset out = Unedited select edit contents held input offset out
+UneditedIn select count (Lines plain) contents held input offset out = ⊥
+UneditedIn select count (Copy edit) contents held input offset out = Unedited select count edit contents held input offset out
 
 -- .. after these bytes were buffered
 abbrev pub StopsAfter : {W : Type 0} → (task : TaskValue) → (contents : W → Option (List ℕ)) → (buffered : List ℕ) → (old : Progress)
     → (from : OutputBuffer W) → (offset : ℕ) → (to : OutputBuffer W) → Type 0
 StopsAfter task contents buffered old from offset to =
     (held : Option (List ℕ)) (input : List ℕ) → Reached task contents held input buffered old from
-    → UneditedIn task.select task.form contents held input offset to
+    → UneditedIn task.select task.count task.form contents held input offset to
 
--- The units at the front of the buffered bytes are taken, and what is left of them is refused.
+-- The units at the front of the buffered bytes are taken, and what is left of them is refused; or no packet more is asked for.
 pub record TakesUnits {W : Type 0} (task : TaskValue) (contents : W → Option (List ℕ)) (buffered : List ℕ) (old : Progress)
-    (from : OutputBuffer W) (left : List ℕ) (error : CaptureError) (new : Progress) (to : OutputBuffer W) : Type 0 where
+    (from : OutputBuffer W) (left : List ℕ) (error : Option CaptureError) (new : Progress) (to : OutputBuffer W) : Type 0 where
   pub reached : (held : Option (List ℕ)) (input : List ℕ) → Reached task contents held input buffered old from
       → Reached task contents held input left new to
-  pub refused : Refuses left new.reader (capture_refusal_view error)
+  pub refused : IfSome error (λ e. Refuses left new.reader (capture_refusal_view e) × (new.left ≢ Some 0))
+  pub done : IfNone error (new.left ≡ Some 0)
 
 -- ---- the end
 

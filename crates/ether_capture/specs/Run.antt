@@ -1,5 +1,5 @@
 -- What a run has read and written.
-use Rattle.std.specs.Prelude.{◌≡◌, ◌≢◌, ℕ, ◌<◌, List, ◌++◌, Bool, Option, Some, None, Result, Ok, Err, ⊤}
+use Rattle.std.specs.Prelude.{◌≡◌, ◌≢◌, ◌⊎◌, ℕ, ◌<◌, List, ◌++◌, Bool, Option, Some, None, Result, Ok, Err, ⊤}
 use Rattle.std.specs.Io.KnownBytes.{Appends}
 use Rattle.ether_filter.specs.Expressions.{Expression}
 use Rattle.ether_pcap.specs.CaptureViews.{capture_refusal_view}
@@ -11,6 +11,7 @@ use Rattle.ether_text.specs.Run as streams
 use Rattle.ether_text.specs.declared.verdict.Verdict.{Verdict}
 use Rattle.ether_capture.specs.Answering.{AnswersCapture, AnswersToFault, AnswersToUnit}
 use Rattle.ether_capture.specs.Copying.{CopiesCapture, CopiesToFault, CopiesToPacket, CopiesToUnit}
+use Rattle.ether_capture.specs.Packets.{HasFewer, EndsAtCount}
 use Rattle.ether_capture.specs.Task.{TaskValue, FormValue, Lines, Copy}
 use Rattle.ether_capture.specs.declared.outcome.RunFault.{RunFault}
 use Rattle.ether_capture.specs.declared.outcome.RunFault.TheVariants.{Capture, NotEdited, Input, Output, Memory}
@@ -20,21 +21,36 @@ abbrev pub Completes : (select : Option Expression) → FormValue → (bytes tex
 Completes select (Lines plain) bytes text all = AnswersCapture select plain bytes text all
 Completes select (Copy edit) bytes text all = CopiesCapture select edit bytes text all
 
+-- .. and it has fewer packets that are chosen than are asked for at most
+abbrev pub CompletesAll : (task : TaskValue) → (bytes text : List ℕ) → (all : Bool) → Type 0
+CompletesAll task bytes text all = HasFewer task.select task.count bytes × Completes task.select task.form bytes text all
+
+-- Of a capture this is made of the units up to the packet with which so many are chosen as are asked for, as if it were all.
+pub record ReachesCount (task : TaskValue) (verdict : Verdict) (bytes text : List ℕ) : Type 0 where
+  pub front : List ℕ
+  pub rest : List ℕ
+  pub all_accepted : Bool
+  pub place : bytes ≡ front ++ rest
+  pub ends : EndsAtCount task.select task.count front
+  pub completes : Completes task.select task.form front text all_accepted
+  pub is_verdict : verdict ≡ verdict_of all_accepted
+
 -- this is made of a capture up to a fault
-abbrev pub StopsAtFault : (select : Option Expression) → FormValue → CaptureFault → (bytes text : List ℕ) → Type 0
-StopsAtFault select (Lines plain) fault bytes text = AnswersToFault select plain fault bytes text
-StopsAtFault select (Copy edit) fault bytes text =
-    CopiesToFault select edit (Refused (capture_refusal_view fault.error)) fault.offset bytes text
+abbrev pub StopsAtFault : (select : Option Expression) → (count : Option ℕ) → FormValue → CaptureFault → (bytes text : List ℕ) → Type 0
+StopsAtFault select count (Lines plain) fault bytes text = AnswersToFault select count plain fault bytes text
+StopsAtFault select count (Copy edit) fault bytes text =
+    CopiesToFault select count edit (Refused (capture_refusal_view fault.error)) fault.offset bytes text
 
 -- .. up to a packet at this place that is to be edited, and can't be
-abbrev pub StopsAtPacket : (select : Option Expression) → FormValue → (offset : ℕ) → (bytes text : List ℕ) → Type 0
-StopsAtPacket select (Lines plain) offset bytes text = ⊥
-StopsAtPacket select (Copy edit) offset bytes text = CopiesToPacket select edit offset bytes text
+abbrev pub StopsAtPacket : (select : Option Expression) → (count : Option ℕ) → FormValue → (offset : ℕ) → (bytes text : List ℕ) → Type 0
+StopsAtPacket select count (Lines plain) offset bytes text = ⊥
+StopsAtPacket select count (Copy edit) offset bytes text = CopiesToPacket select count edit offset bytes text
 
 -- .. up to bytes that are not a whole unit; this holds of how many it needs at least
-abbrev pub EndsInUnit : (Needs : Option ℕ → Type 0) → (select : Option Expression) → FormValue → (bytes text : List ℕ) → Type 0
-EndsInUnit Needs select (Lines plain) bytes text = AnswersToUnit Needs select plain bytes text
-EndsInUnit Needs select (Copy edit) bytes text = CopiesToUnit Needs select edit bytes text
+abbrev pub EndsInUnit : (Needs : Option ℕ → Type 0) → (select : Option Expression) → (count : Option ℕ) → FormValue → (bytes text : List ℕ)
+    → Type 0
+EndsInUnit Needs select count (Lines plain) bytes text = AnswersToUnit Needs select count plain bytes text
+EndsInUnit Needs select count (Copy edit) bytes text = CopiesToUnit Needs select count edit bytes text
 
 -- this many bytes are needed, and more than there was memory for at first
 abbrev pub NeedsMemory : Option ℕ → Type 0
@@ -43,29 +59,31 @@ NeedsMemory (Some n) = 65536 < n
 
 -- What a run has read and written, by its outcome. Of a fault of the writer nothing is said.
 abbrev pub HasRun : (task : TaskValue) → (before after held holds : Option (List ℕ)) → Result Verdict RunFault → Type 0
-HasRun task before after held holds (Ok verdict) = AnswersAll (Completes task.select task.form) before after held holds verdict
+HasRun task before after held holds (Ok verdict) =
+    AnswersAll (CompletesAll task) before after held holds verdict ⊎ StopsIn (ReachesCount task verdict) before after held holds
 HasRun task before after held holds (Err (Capture fault)) =
-    StopsIn (StopsAtFault task.select task.form fault) before after held holds
+    StopsIn (StopsAtFault task.select task.count task.form fault) before after held holds
 HasRun task before after held holds (Err (NotEdited offset)) =
-    StopsIn (StopsAtPacket task.select task.form offset) before after held holds
+    StopsIn (StopsAtPacket task.select task.count task.form offset) before after held holds
 HasRun task before after held holds (Err Input) =
-    BreaksOffAfter (EndsInUnit (λ n. n ≢ None) task.select task.form) before after held holds
+    BreaksOffAfter (EndsInUnit (λ n. n ≢ None) task.select task.count task.form) before after held holds
 HasRun task before after held holds (Err Output) = ⊤
 HasRun task before after held holds (Err Memory) =
-    BreaksOffAfter (EndsInUnit NeedsMemory task.select task.form) before after held holds
+    BreaksOffAfter (EndsInUnit NeedsMemory task.select task.count task.form) before after held holds
 
 -- What a run over a slice of these bytes has written, by its outcome. There is no fault of the reader, and one of the writer only if that can fail.
 abbrev pub AnswersSlice : (task : TaskValue) → (can_fail : Type 0) → (bytes : List ℕ) → (held holds : Option (List ℕ)) → Result Verdict RunFault → Type 0
 AnswersSlice task can_fail bytes held holds (Ok verdict) =
-    (text : List ℕ) × (all : Bool) × Completes task.select task.form bytes text all × (verdict ≡ verdict_of all) × Appends held holds text
+    ((text : List ℕ) × (all : Bool) × CompletesAll task bytes text all × (verdict ≡ verdict_of all) × Appends held holds text)
+    ⊎ ((text : List ℕ) × ReachesCount task verdict bytes text × Appends held holds text)
 AnswersSlice task can_fail bytes held holds (Err (Capture fault)) =
-    (text : List ℕ) × StopsAtFault task.select task.form fault bytes text × Appends held holds text
+    (text : List ℕ) × StopsAtFault task.select task.count task.form fault bytes text × Appends held holds text
 AnswersSlice task can_fail bytes held holds (Err (NotEdited offset)) =
-    (text : List ℕ) × StopsAtPacket task.select task.form offset bytes text × Appends held holds text
+    (text : List ℕ) × StopsAtPacket task.select task.count task.form offset bytes text × Appends held holds text
 AnswersSlice task can_fail bytes held holds (Err Input) = ⊥
 AnswersSlice task can_fail bytes held holds (Err Output) = can_fail
 AnswersSlice task can_fail bytes held holds (Err Memory) =
-    (taken left text : List ℕ) × (bytes ≡ taken ++ left) × EndsInUnit NeedsMemory task.select task.form taken text × Appends held holds text
+    (taken left text : List ℕ) × (bytes ≡ taken ++ left) × EndsInUnit NeedsMemory task.select task.count task.form taken text × Appends held holds text
 
 -- ---- what is said of each outcome
 

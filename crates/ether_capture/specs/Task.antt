@@ -1,5 +1,6 @@
 -- What is made of a capture.
-use Rattle.std.specs.Prelude.{Bool, true, false, Option, None, Some, ⊤}
+use Rattle.std.specs.Prelude.{◌<◌, ℕ, Bool, true, false, Option, None, Some, ⊤}
+use Rattle.std.specs.Int.NonZero.{non_zero_usize_get}
 use Rattle.std.specs.Option.{option_map}
 use Rattle.ether_filter.specs.Expressions.{Expression}
 use Rattle.ether_pcap.specs.Capture.{PacketValue}
@@ -15,9 +16,10 @@ pub data FormValue : Type 0 where
   Lines : (plain : Bool) → FormValue
   Copy : (edit : Option EditValue) → FormValue
 
--- .. of the packets that an expression selects, or of all
+-- .. of the packets that an expression selects, or of all, and of so many of them at most
 pub record TaskValue : Type 0 where
   pub select : Option Expression
+  pub count : Option ℕ
   pub form : FormValue
 
 abbrev pub form_view : Form → FormValue
@@ -25,7 +27,7 @@ form_view (forms.Lines is_plain) = Lines is_plain
 form_view (forms.Copy edit) = Copy (option_map edit_view edit)
 
 abbrev pub task_view : Task → TaskValue
-task_view task = record { select = task.filter; form = form_view task.form }
+task_view task = record { select = task.filter; count = option_map non_zero_usize_get task.count; form = form_view task.form }
 
 abbrev pub is_copy : FormValue → Bool
 is_copy (Lines plain) = false
@@ -35,3 +37,8 @@ is_copy (Copy edit) = true
 abbrev pub IsChosen : (select : Option Expression) → PacketValue → Type 0
 IsChosen None p = ⊤
 IsChosen (Some x) p = Selects x p
+
+-- this is less than the number of packets that is asked for at most
+abbrev pub IsBelow : (count : Option ℕ) → ℕ → Type 0
+IsBelow None k = ⊤
+IsBelow (Some n) k = k < n

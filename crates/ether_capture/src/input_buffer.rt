@@ -59,14 +59,15 @@ impl InputBuffer {
         self.end - self.start
     }
 
-    /// Takes the units at the front, and writes what is made of each. Returns why what is left does not begin with a unit.
+    /// Takes the units at the front, and writes what is made of each. Returns why what is left does not begin with a unit, or
+    /// `None` if no packet more is asked for.
     pub fn take_units<W: Sink>(
         &mut self,
         progress: &mut Progress,
         task: &Task,
         edits: &mut EditBuffer,
         out: &mut OutputBuffer<'_, W>,
-    ) -> Result<CaptureError, RunFault>
+    ) -> Result<Option<CaptureError>, RunFault>
         ensures same_writer { out.new.writer.ghost_name ≡ out.old.writer.ghost_name }
         ensures ok { IfOk result (λ error. TakesUnits (task_view task.now) W.contents (items self.old) progress.old out.old
             (items self.new) error progress.new out.new) }

@@ -159,7 +159,12 @@ impl Asked {
         match filter_of(&self.text) {
             Ok(filter) => {
                 let form = self.form();
-                Ok(Request::Run(Task { filter, form }, self.file))
+                let task = Task {
+                    filter,
+                    count: None,
+                    form,
+                };
+                Ok(Request::Run(task, self.file))
             }
             Err(error) => Err(RequestError::Filter {
                 is_copy: self.is_copy,

@@ -1,5 +1,6 @@
 //! How far a run has come.
-ghost use Rattle.std.specs.Prelude.{◌≡◌, ◌≢◌, ◌≤◌, ◌↔◌, ◌+◌, IsTrue, IfSome, IfNone, drop, length, None, IfOk, IfErr, OnOk, true};
+ghost use Rattle.std.specs.Prelude.{◌≡◌, ◌≢◌, ◌≤◌, ◌↔◌, ◌+◌, IsTrue, IfSome, IfNone, drop, length, Some, None, IfOk, IfErr, OnOk, true};
+ghost use Rattle.std.specs.Int.NonZero.{non_zero_usize_get};
 ghost use Rattle.std.specs.Option.{option_map};
 ghost use Rattle.std.specs.Io.KnownBytes.{Appends};
 ghost use Rattle.ether_pcap.specs.Capture.{Beginning};
@@ -16,6 +17,7 @@ use crate::outcome::RunFault;
 use crate::task::{Form, Task};
 use ether_pcap::{CaptureError, CaptureFault, CaptureReader, CapturedPacket};
 use ether_text::{OutputBuffer, Sink, Verdict};
+use std::num::NonZeroUsize;
 
 /// Where the run is in the capture, and what the packets before gave.
 #[derive(Drop)]
@@ -24,32 +26,38 @@ pub struct Progress {
     count: usize,
     skipped: usize,
     offset: usize,
+    left: Option<usize>,
     verdict: Verdict,
 }
 
 impl Progress {
-    /// The state of a run that has read nothing.
-    pub fn new() -> Self
-        ensures { IsStart result }
+    /// The state of a run that has read nothing, and ends after so many packets at most.
+    pub fn new(count: Option<NonZeroUsize>) -> Self
+        ensures { IsStart (option_map non_zero_usize_get count) result }
     {
+        let left = match count {
+            Some(count) => Some(count.get()),
+            None => None,
+        };
         Progress {
             reader: CaptureReader::new(),
             count: 0,
             skipped: 0,
             offset: 0,
+            left,
             verdict: Verdict::AllAccepted,
         }
     }
 
     /// Takes the units at the front of `bytes`, and writes what is made of each. Returns how many bytes were taken, and why what is left does
-    /// not begin with a unit.
+    /// not begin with a unit, or `None` if no packet more is asked for.
     pub fn take_units<W: Sink>(
         &mut self,
         task: &Task,
         edits: &mut EditBuffer,
         bytes: &[u8],
         out: &mut OutputBuffer<'_, W>,
-    ) -> Result<(usize, CaptureError), RunFault>
+    ) -> Result<(usize, Option<CaptureError>), RunFault>
         ensures same_writer { out.new.writer.ghost_name ≡ out.old.writer.ghost_name }
         ensures within { IfOk result (λ found. found.0 ≤ length bytes.now) }
         ensures ok { IfOk result (λ found. TakesUnits (task_view task.now) W.contents bytes.now
@@ -61,15 +69,23 @@ impl Progress {
         ensures marks { Marks W.can_fail out.old out.new }
     {
         let mut at = 0;
-        loop {
+        while !self.is_done() {
             let unit = match self.reader.read(&bytes[at..]) {
                 Ok(unit) => unit,
-                Err(error) => return Ok((at, error)),
+                Err(error) => return Ok((at, Some(error))),
             };
             let end = at + unit.len;
             self.take_unit(task, edits, &bytes[at..end], &unit.packet, out)?;
             at = end;
         }
+        Ok((at, None))
+    }
+
+    /// Tests that no packet more is asked for.
+    fn is_done(&self) -> bool
+        ensures { IsTrue result ↔ (self.now.left ≡ Some 0) }
+    {
+        matches!(self.left, Some(0))
     }
 
     /// Takes a unit that was just read, with its packet if it has one, and writes what is made of it.
@@ -95,7 +111,7 @@ impl Progress {
             return Err(RunFault::NotEdited(self.offset));
         };
         out.check()?;
-        self.count_packet(packet);
+        self.count_packet(task, packet);
         self.verdict = self.verdict.with(accepted);
         self.offset = self.offset.saturating_add(unit.len());
         Ok(())
@@ -144,8 +160,8 @@ impl Progress {
 
     /// Counts the packet of a unit, if it has one.
     #[inline(always)]
-    fn count_packet(&mut self, packet: &Option<CapturedPacket<'_>>)
-        ensures counts { Counts (option_map captured_packet_view packet.now) self.old self.new }
+    fn count_packet(&mut self, task: &Task, packet: &Option<CapturedPacket<'_>>)
+        ensures counts { Counts task.now.filter (option_map captured_packet_view packet.now) self.old self.new }
         ensures same_reader { self.new.reader ≡ self.old.reader }
         ensures same_offset { self.new.offset ≡ self.old.offset }
         ensures same_verdict { self.new.verdict ≡ self.old.verdict }
@@ -155,6 +171,11 @@ impl Progress {
         };
         self.count = self.count.saturating_add(1);
         self.skipped = self.skipped.saturating_add(usize::from(is_skipped(packet)));
+        if let Some(left) = self.left {
+            if task.chooses(packet) {
+                self.left = Some(left.saturating_sub(1));
+            }
+        }
     }
 
     /// Why the run stops if the unit at its place can't be read.

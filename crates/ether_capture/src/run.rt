@@ -26,6 +26,8 @@ use ether_text::{InputReader, OutputBuffer, Sink, SliceSource, Source, Verdict};
 /// In a copy each unit is as it was read: the file header, section headers, descriptions of interfaces and any other block, and the packets
 /// that are chosen, each edited if that is asked for. So it is a capture of the same format. Its verdict is [`Verdict::AllAccepted`].
 ///
+/// If a number of packets is asked for, the run ends after the last of these, as if the capture ended there.
+///
 /// The memory of `buffer` grows to what the longest record or block needs, 16 MiB at most. If that is refused, the run stops with
 /// [`RunFault::Memory`].
 pub fn run<R: Source, W: Sink>(
@@ -105,11 +107,13 @@ fn read_capture<R: Source, W: Sink>(
     ensures cause { IfErr result (λ fault. OnInput fault (StopsReading R.remaining R.can_fail input.old input.new)) }
     ensures marks { Marks W.can_fail out.old out.new }
 {
-    let mut progress = Progress::new();
+    let mut progress = Progress::new(task.count);
     let (mut buffer, mut edits) = (buffer, edits);
     buffer.clear();
     loop {
-        let error = buffer.take_units(&mut progress, task, &mut edits, out)?;
+        let Some(error) = buffer.take_units(&mut progress, task, &mut edits, out)? else {
+            return progress.finish(task.form, out);
+        };
         let Some(required_len) = error.required_len() else {
             return Err(progress.fault(error));
         };

@@ -6,12 +6,15 @@ ghost use Rattle.ether_capture.specs.Task.{is_copy, task_view, IsChosen};
 use ether_content::{PacketEdit, selects};
 use ether_filter::Filter;
 use ether_pcap::CapturedPacket;
+use std::num::NonZeroUsize;
 
 /// What is made of a capture, and of which of its packets.
 #[derive(Debug, Drop)]
 pub struct Task {
     /// Which packets are chosen; all of them without a filter.
     pub filter: Option<Filter>,
+    /// After how many of these the run ends; at the end of the capture without a number.
+    pub count: Option<NonZeroUsize>,
     /// What is made of them.
     pub form: Form,
 }

@@ -1,6 +1,7 @@
-use Rattle.std.proofs.Common.{rules, ◌≡◌, ℕ, List, [], ◌++◌, length, refl, sym, ap, subst, ◌∙◌, arith}
-use Rattle.ether_pcap.specs.Capture.{IsEnd}
+use Rattle.std.proofs.Common.{rules, ◌≡◌, ◌≢◌, ℕ, Option, Some, IfSome, IfNone, List, [], ◌++◌, length, refl, sym, ap, subst, ◌∙◌, arith}
+use Rattle.ether_pcap.specs.Capture.{IsEnd, Refuses}
 use Rattle.ether_pcap.specs.CaptureViews.{capture_refusal_view}
+use Rattle.ether_pcap.specs.declared.capture.capture_error.CaptureError.{CaptureError}
 use Rattle.ether_text.specs.OutputBuffer.{contents_of}
 use Rattle.ether_text.proofs.KnownBytesLemmas.{Consumes-none, Consumes-then}
 use Rattle.ether_text.proofs.InputReaderLemmas.{ReadsOn-none, ReadsOn-then, read_stops}
@@ -11,7 +12,7 @@ use Rattle.ether_capture.specs.Progress.{Reached}
 use Rattle.ether_capture.specs.Run.{stream_of}
 use Rattle.ether_capture.specs.Task.{task_view}
 use Rattle.ether_capture.proofs.ProgressLemmas.{Reached-start, Reached-more, Reached-written_out}
-use Rattle.ether_capture.proofs.RunLemmas.{broken_off, has_room, consumed_all, finished, same_left, stopped_at_end, stopped_for_good, stopped_with, without_memory}
+use Rattle.ether_capture.proofs.RunLemmas.{broken_off, counted_out, has_room, consumed_all, finished, same_left, stopped_at_end, stopped_for_good, stopped_with, without_memory}
 use Rattle.ether_capture.proofs.run.read_capture.Goals as goal
 
 pub loop-edits-init : goal.loop-edits-init
@@ -46,10 +47,33 @@ returns-in_default-clause-run g c =
     let left = items c.take_units.new.self in
     let at = c.take_units.new.progress in
     let rest = c.in_ok-error.ensures.ok in
+    let done = subst (λ (o : Option CaptureError). IfNone o (at.left ≡ Some 0)) c.in_default.is rest.done in
+    counted_out task contents before mid held taken left at c.take_units.new.out c.finish.new.out c.finish.result
+    so_far.read done c.finish.ensures.ok c.finish.ensures.written c.finish.ensures.fault
+    (rest.reached held taken so_far.reached)
+
+pub returns-in_default-clause-marks : goal.returns-in_default-clause-marks
+returns-in_default-clause-marks g c =
+    Marks-then _ _ _ (Marks-then _ _ _ c.loop-edits.invariant.1.marks c.take_units.ensures.marks) c.finish.ensures.marks
+
+pub returns-in_default-required_len-clause-run : goal.returns-in_default-required_len-clause-run
+returns-in_default-required_len-clause-run g c =
+    let (taken, so_far) = c.loop-edits.invariant in
+    let task = task_view c.args.task.now in
+    let contents = g.W.Sink.contents in
+    let held = contents_of contents c.args.out.now in
+    let before = g.R.Source.remaining c.args.input.now.inner.now in
+    let mid = g.R.Source.remaining c.loop-edits.input.inner.now in
+    let left = items c.take_units.new.self in
+    let at = c.take_units.new.progress in
+    let rest = c.in_ok-error.ensures.ok in
+    let refused =
+    subst (λ (o : Option CaptureError). IfSome o (λ e. Refuses left at.reader (capture_refusal_view e) × (at.left ≢ Some 0)))
+    c.in-Some.is rest.refused in
     let reached = rest.reached held taken so_far.reached in
-    stopped_for_good task contents before mid held taken left at c.take_units.new.out c.in_ok-error.error
-    c.fault.result c.fault.ensures so_far.read
-    rest.refused (search rules) reached
+    stopped_for_good task contents before mid held taken left at c.take_units.new.out c.in-Some.error
+    c.fault.result c.fault.ensures so_far.read refused.1
+    refused.0 (search rules) reached
 
 pub returns-in_err-make_room-clause-run : goal.returns-in_err-make_room-clause-run
 returns-in_err-make_room-clause-run g c =
@@ -62,14 +86,17 @@ returns-in_err-make_room-clause-run g c =
     let left = items c.take_units.new.self in
     let at = c.take_units.new.progress in
     let rest = c.in_ok-error.ensures.ok in
+    let refused =
+    subst (λ (o : Option CaptureError). IfSome o (λ e. Refuses left at.reader (capture_refusal_view e) × (at.left ≢ Some 0)))
+    c.in-Some.is rest.refused in
     let reached = rest.reached held taken so_far.reached in
     let out = c.write_out.new.self in
     let flushed =
     Reached-written_out task contents held taken left at c.take_units.new.out out
     c.in_ok-write_out.ensures.ok reached in
     without_memory task contents before mid held c.from_residual-in_err-make_room.result taken left at out
-    (capture_refusal_view c.in_ok-error.error) c.in-Some.required_len
-    c.from_residual-in_err-make_room.ensures.1 so_far.read rest.refused (search rules) c.in_err-make_room.ensures.failed
+    (capture_refusal_view c.in-Some.error) c.in-Some-required_len.required_len
+    c.from_residual-in_err-make_room.ensures.1 so_far.read refused.1 refused.0 (search rules) c.in_err-make_room.ensures.failed
     flushed
 
 pub returns-in_err-read-clause-run : goal.returns-in_err-read-clause-run
@@ -83,6 +110,9 @@ returns-in_err-read-clause-run g c =
     let left = items c.take_units.new.self in
     let at = c.take_units.new.progress in
     let rest = c.in_ok-error.ensures.ok in
+    let refused =
+    subst (λ (o : Option CaptureError). IfSome o (λ e. Refuses left at.reader (capture_refusal_view e) × (at.left ≢ Some 0)))
+    c.in-Some.is rest.refused in
     let reached = rest.reached held taken so_far.reached in
     let out = c.write_out.new.self in
     let after = g.R.Source.remaining c.read.new.input.inner.now in
@@ -90,8 +120,8 @@ returns-in_err-read-clause-run g c =
     Reached-written_out task contents held taken left at c.take_units.new.out out
     c.in_ok-write_out.ensures.ok reached in
     broken_off task contents before after held mid c.from_residual-in_err-read.result taken left at out
-    (capture_refusal_view c.in_ok-error.error)
-    so_far.read c.in_err-read.ensures.kept c.from_residual-in_err-read.ensures.1 rest.refused (search rules) flushed
+    (capture_refusal_view c.in-Some.error)
+    so_far.read c.in_err-read.ensures.kept c.from_residual-in_err-read.ensures.1 refused.1 refused.0 (search rules) flushed
 
 pub returns-then-is_over-clause-run : goal.returns-then-is_over-clause-run
 returns-then-is_over-clause-run g c =
@@ -104,6 +134,9 @@ returns-then-is_over-clause-run g c =
     let left = items c.take_units.new.self in
     let at = c.take_units.new.progress in
     let rest = c.in_ok-error.ensures.ok in
+    let refused =
+    subst (λ (o : Option CaptureError). IfSome o (λ e. Refuses left at.reader (capture_refusal_view e) × (at.left ≢ Some 0)))
+    c.in-Some.is rest.refused in
     let reached = rest.reached held taken so_far.reached in
     let out = c.write_out.new.self in
     let after = g.R.Source.remaining c.read.new.input.inner.now in
@@ -116,13 +149,14 @@ returns-then-is_over-clause-run g c =
     let none : length more ≡ 0 = is_len ∙ c.if-branch-eq0.true in
     let end =
     c.in_ok-read.ensures.end c.if-branch-eq0.true
-    (has_room left at.reader (capture_refusal_view c.in_ok-error.error) c.in-Some.required_len _ _
-    rest.refused (search rules) c.make_room.ensures.items c.in_ok-make_room.ensures.room) in
+    (has_room left at.reader (capture_refusal_view c.in-Some.error) c.in-Some-required_len.required_len _ _
+    refused.0 (search rules) c.make_room.ensures.items c.in_ok-make_room.ensures.room) in
     let read = consumed_all before mid after taken more so_far.read consumed none in
     let same : items c.read.new.self ≡ left = grown ∙ same_left left more none in
     let over = subst (λ (l : List ℕ). IsEnd at.reader l) same (c.is_over.ensures.0 (search rules)) in
-    finished task contents before after held taken left at out c.finish.new.out c.finish.result read end over
-    c.finish.ensures.ok c.finish.ensures.written c.finish.ensures.fault flushed
+    finished task contents before after held taken left at out c.finish-then-is_over.new.out c.finish-then-is_over.result read end refused.1
+    over
+    c.finish-then-is_over.ensures.ok c.finish-then-is_over.ensures.written c.finish-then-is_over.ensures.fault flushed
 
 pub returns-then-branch-eq0-clause-run : goal.returns-then-branch-eq0-clause-run
 returns-then-branch-eq0-clause-run g c =
@@ -135,6 +169,9 @@ returns-then-branch-eq0-clause-run g c =
     let left = items c.take_units.new.self in
     let at = c.take_units.new.progress in
     let rest = c.in_ok-error.ensures.ok in
+    let refused =
+    subst (λ (o : Option CaptureError). IfSome o (λ e. Refuses left at.reader (capture_refusal_view e) × (at.left ≢ Some 0)))
+    c.in-Some.is rest.refused in
     let reached = rest.reached held taken so_far.reached in
     let out = c.write_out.new.self in
     let after = g.R.Source.remaining c.read.new.input.inner.now in
@@ -147,16 +184,16 @@ returns-then-branch-eq0-clause-run g c =
     let none : length more ≡ 0 = is_len ∙ c.if-branch-eq0.true in
     let end =
     c.in_ok-read.ensures.end c.if-branch-eq0.true
-    (has_room left at.reader (capture_refusal_view c.in_ok-error.error) c.in-Some.required_len _ _
-    rest.refused (search rules) c.make_room.ensures.items c.in_ok-make_room.ensures.room) in
+    (has_room left at.reader (capture_refusal_view c.in-Some.error) c.in-Some-required_len.required_len _ _
+    refused.0 (search rules) c.make_room.ensures.items c.in_ok-make_room.ensures.room) in
     let read = consumed_all before mid after taken more so_far.read consumed none in
     let same : items c.read.new.self ≡ left = grown ∙ same_left left more none in
     let more_left =
     λ (over : IsEnd at.reader left). let t =
     c.is_over.ensures.1 (subst (λ (l : List ℕ). IsEnd at.reader l) (sym same) over) in
     absurd cc in
-    stopped_at_end task contents before after held taken left at out c.in_ok-error.error
-    c.fault-then-branch-eq0.result c.fault-then-branch-eq0.ensures read end more_left rest.refused flushed
+    stopped_at_end task contents before after held taken left at out c.in-Some.error
+    c.fault-then-branch-eq0.result c.fault-then-branch-eq0.ensures read end refused.1 more_left refused.0 flushed
 
 pub loop-edits-preserved : goal.loop-edits-preserved
 loop-edits-preserved g c =
@@ -221,7 +258,7 @@ returns-then-is_over-clause-marks g c =
     Marks-then _ _ _
     (Marks-then _ _ _ (Marks-then _ _ _ c.loop-edits.invariant.1.marks c.take_units.ensures.marks)
     c.write_out.ensures.marks)
-    c.finish.ensures.marks
+    c.finish-then-is_over.ensures.marks
 
 pub returns-then-branch-eq0-clause-marks : goal.returns-then-branch-eq0-clause-marks
 returns-then-branch-eq0-clause-marks g c =

@@ -4,8 +4,8 @@ use Rattle.ether_capture.specs.Progress.{Reached}
 use Rattle.ether_capture.specs.Task.{task_view}
 use Rattle.ether_capture.proofs.progress.Progress.take_units.Given as goal
 
-abbrev pub invariant-loop-unit : goal.invariant-loop-unit
-invariant-loop-unit g l =
+abbrev pub invariant-loop-self : goal.invariant-loop-self
+invariant-loop-self g l =
     record {
       same_writer : l.out.writer.ghost_name ≡ l.fn.out.writer.ghost_name;
       marks : Marks g.W.Sink.can_fail l.fn.out l.out;
@@ -15,5 +15,5 @@ invariant-loop-unit g l =
           → Reached (task_view l.fn.task) g.W.Sink.contents held input (drop l.at l.fn.bytes) l.self l.out;
     }
 
-abbrev pub decreases-loop-unit : goal.decreases-loop-unit
-decreases-loop-unit g l = length l.fn.bytes - l.at
+abbrev pub decreases-loop-self : goal.decreases-loop-self
+decreases-loop-self g l = length l.fn.bytes - l.at
