@@ -284,8 +284,8 @@ pop_refused p start frame buffer error ok is there refuses =
     let x = frame_start (next_of start) in
     let some = some_stack frame x (whole x frame) ok in
     not_popped p
-    (refused (next_of start) frame some.0 some.1 error (record { content = is; walk = some.2 })
-    (refuses some.0 some.1 (subst (λ (l : List ℕ). Walk x l some.0 some.1) (sym here) some.2)))
+    (refused (next_of start) frame some.0 some.1 (record { content = is; walk = some.2 })
+    (error, refuses some.0 some.1 (subst (λ (l : List ℕ). Walk x l some.0 some.1) (sym here) some.2)))
 
 -- a list is as long as it was once a part of it was written
 pub put_len : (a k : ℕ) (xs ys : List ℕ) → a + k ≤ length xs → length ys ≡ k → length (put_mid a k xs ys) ≡ length xs
@@ -421,6 +421,8 @@ push_refused p start frame buffer tpid id error ok is free there refuses =
     let x = frame_start (next_of start) in
     let some = some_stack frame x (whole x frame) ok in
     not_pushed p tpid id
-    (refused (next_of start) frame some.0 some.1 error (record { content = is; walk = some.2 })
-    (subst (λ (l : List ℕ). RefusesPush l some.0 tpid error) here
-    (refuses some.0 some.1 (subst (λ (l : List ℕ). Walk x (drop 4 l) some.0 some.1) (sym here) some.2))))
+    (refused (next_of start) frame some.0 some.1 (record { content = is; walk = some.2 }) (
+      error,
+      subst (λ (l : List ℕ). RefusesPush l some.0 tpid error) here
+          (refuses some.0 some.1 (subst (λ (l : List ℕ). Walk x (drop 4 l) some.0 some.1) (sym here) some.2)),
+    ))
