@@ -32,7 +32,7 @@ use Rattle.ether_content.specs.declared.content.Content.TheVariants as contents
 -- ---- the frame of a packet
 
 -- what is walked, by the link type, whether a whole check sequence is there, all bytes, and those without it
-abbrev content_by : (ethernet cooked cooked2 fcs : Bool) → (all without : List ℕ) → ContentValue
+abbrev pub content_by : (ethernet cooked cooked2 fcs : Bool) → (all without : List ℕ) → ContentValue
 content_by ethernet cooked cooked2 fcs all without =
     if ethernet then (if fcs then Frame (Start kinds.Ethernet2Fcs) all else Frame (Start kinds.Ethernet2) without)
     else (if cooked then Frame (Start kinds.LinuxSll) without else (if cooked2 then LinuxSll2 without else Unknown))
@@ -209,7 +209,7 @@ front_there buffer packet frame is le front =
 -- ---- a VLAN tag that is taken off
 
 -- the header of the link is in the new frame
-popped_room : (next : Next) (frame : List ℕ) (hs : List Header) (e : Ending) (tag : VlanValue) (new : List ℕ)
+pub popped_room : (next : Next) (frame : List ℕ) (hs : List Header) (e : Ending) (tag : VlanValue) (new : List ℕ)
     → IsPopped (frame_start next) frame hs e tag new → 14 ≤ length (drop 4 new)
 popped_room next frame hs e tag new is =
     let h = with_type is.link tag.ether_type in
@@ -309,7 +309,7 @@ more_max : (n o : ℕ) → max (o + 4) (n + 4) ≡ max o n + 4
 more_max n o = omega arith
 
 -- with four bytes more
-keeps_end_more : (p : PacketValue) (frame new : List ℕ) → length new ≡ length frame + 4 → 1 ≤ length frame
+pub keeps_end_more : (p : PacketValue) (frame new : List ℕ) → length new ≡ length frame + 4 → 1 ≤ length frame
     → length frame ≤ length p.packet → KeepsEnd p frame new (p.original_len + 4)
 keeps_end_more p frame new more least front =
     let n = length p.packet in

@@ -4,3 +4,4 @@ pub mod HeadersLemmas
 pub mod EditingLemmas
 pub mod SettingLemmas
 pub mod EditsOne
+pub mod EditsSome

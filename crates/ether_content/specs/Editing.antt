@@ -1,5 +1,6 @@
 -- What an edit makes of a captured packet.
-use Rattle.std.specs.Prelude.{◌≡◌, ◌≢◌, ℕ, ◌+◌, ◌-◌, ◌<◌, ◌≤◌, List, ◌∷◌, ◌++◌, length, take, drop, Option, Some, None}
+use Rattle.std.specs.Prelude.{◌≡◌, ◌≢◌, ℕ, ◌+◌, ◌-◌, ◌<◌, ◌≤◌, List, ◌∷◌, ◌++◌, length, take, drop, Option, Some, None, ⊤}
+use Rattle.ether_base.specs.Bytes.{IsBytes}
 use Rattle.etherparse.specs.Header.{Header}
 use Rattle.etherparse.specs.Vlan.{VlanValue}
 use Rattle.ether_peel.specs.Grammar.Expectation.{Next, Expectation}
@@ -100,6 +101,16 @@ pub data Edits : EditValue → PacketValue → Option EditedValue → Type 0 whe
       → Stays (λ frame hs. (error : TagError) × RefusesPush (after_free frame) hs tpid error) p → Edits (PushVlan tpid id) p None
   sets : (p : PacketValue) (old new : ℕ) (e : EditedValue) → Sets old new p e → Edits (SetVlan old new) p (Some e)
   not_set : (p : PacketValue) (old new : ℕ) → Stays (λ frame hs. LacksVlan hs old) p → Edits (SetVlan old new) p None
+
+-- identifiers that a tag gets have 12 bits
+abbrev pub FitsEdit : EditValue → Type 0
+FitsEdit (PushVlan tpid id) = id < 4096
+FitsEdit (SetVlan old new) = new < 4096
+FitsEdit edit = ⊤
+
+-- Each packet is edited to some value, or stays.
+abbrev pub EditsAreSome : Type 0
+EditsAreSome = (edit : EditValue) (p : PacketValue) → FitsEdit edit → IsBytes p.packet → (o : Option EditedValue) × Edits edit p o
 
 -- A packet is edited to one value.
 abbrev pub EditsAreOne : Type 0

@@ -24,3 +24,4 @@ pub mod Retyped
 pub mod SetTags
 pub mod ReachLemmas
 pub mod FindVlan
+pub mod TagChanges
