@@ -13,7 +13,8 @@ PROGRAM is the built program. Of each capture of `make.py`:
 Of captures with frames that are cut within a tag only the copy of all is compared: tshark has the identifier of a tag whose ether type is cut off.
 
 - the copy that is cut to headers has each packet up to where the second walk (`c/tests/walker.py`) has the end of its headers, with the same
-  fields in tshark.
+  fields in tshark;
+- the copy with another identifier has it in the first VLAN tag of the second walk that has the old one, and nowhere else.
 
 Of random classic captures, as `filters.py` makes them, the copy is the file that `tcpdump -r FILE -w - EXPRESSION` writes. The last line is
 'N passed, M failed'.
@@ -30,7 +31,7 @@ import filters
 import make
 
 sys.path.insert(0, os.path.join(os.path.dirname(os.path.abspath(__file__)), "..", "c", "tests"))
-from walker import ETHERNET2, LINUX_SLL, Walker  # noqa: E402
+from walker import ETHERNET2, LINUX_SLL, Walker, number  # noqa: E402
 
 FIELDS = ["frame.time_epoch", "frame.cap_len", "frame.len", "frame.encap_type", "frame.protocols", "eth.dst", "eth.src", "vlan.id"]
 # tshark has fields of their own for tags with a service identifier.
@@ -101,50 +102,88 @@ def reach(walk):
     return max(ends)
 
 
+def without_fcs(packet):
+    return packet.data[:max(max(packet.original, len(packet.data)) - packet.fcs_len, 0)]
+
+
+def frame_walk(packet):
+    """The second walk of a frame of Ethernet or of cooked capture v1; None of another packet."""
+    if packet.link == make.ETHERNET and packet.fcs_len == 4 and len(packet.data) >= packet.original:
+        return Walker(packet.data, ETHERNET2, has_fcs=True)
+    if packet.link in (make.ETHERNET, make.LINUX_SLL):
+        return Walker(without_fcs(packet), ETHERNET2 if packet.link == make.ETHERNET else LINUX_SLL)
+    return None
+
+
 def headers_len(packet):
     """How many captured bytes the headers of a packet take."""
-    whole = max(packet.original, len(packet.data))
-    frame = packet.data[:max(whole - packet.fcs_len, 0)]
-    if packet.link == make.ETHERNET and packet.fcs_len == 4 and len(packet.data) >= packet.original:
-        return reach(Walker(packet.data, ETHERNET2, has_fcs=True))
-    if packet.link in (make.ETHERNET, make.LINUX_SLL):
-        return reach(Walker(frame, ETHERNET2 if packet.link == make.ETHERNET else LINUX_SLL))
+    walk, frame = frame_walk(packet), without_fcs(packet)
+    if walk:
+        return reach(walk)
     if packet.link != make.LINUX_SLL2 or len(frame) < 20 or frame[10] > 7:
         return 0
     protocol, hardware = int.from_bytes(frame[:2], "big"), int.from_bytes(frame[8:10], "big")
     return 20 if hardware in NO_ETHER_TYPE else 20 + reach(Walker(frame[20:], ether_type=protocol))
 
 
-def cut(unit, packet, end, order):
-    """The unit of a packet with fewer captured bytes; None of a simple packet block. `order` is that of a pcapng section, or None."""
+def is_simple(unit, order):
+    return order is not None and unit[:4] in (b"\3\0\0\0", b"\0\0\0\3")
+
+
+def cut(unit, packet, order):
+    """The unit of a packet that is cut to its headers; None of a simple packet block. `order` is that of a pcapng section, or None."""
+    end = headers_len(packet)
     if len(packet.data) <= end:
         return unit
     if order is None:
         length = end.to_bytes(4, "little" if unit[8:12] == len(packet.data).to_bytes(4, "little") else "big")
         return unit[:8] + length + unit[12:16 + end]
-    if unit[:4] in (b"\3\0\0\0", b"\0\0\0\3"):
+    if is_simple(unit, order):
         return None
     body = unit[8:20] + end.to_bytes(4, order) + unit[24:28] + make.padded(packet.data[:end]) + unit[28 + len(make.padded(packet.data)):-4]
     total = (12 + len(body)).to_bytes(4, order)
     return unit[:4] + total + body + total
 
 
-def of_headers(program, folder):
-    """The captures of `make.py`, cut to headers."""
+def renumbered(old, new):
+    """An edit: another identifier in the outermost VLAN tag that has the old one."""
+    def edit(unit, packet, order):
+        walk = frame_walk(packet)
+        tags = [at for kind, at, *_ in (walk.units if walk else []) if kind == 3 and number(packet.data, at, 2) % 4096 == old]
+        if not tags:
+            return unit
+        if is_simple(unit, order):
+            return None
+        at = tags[0] + (16 if order is None else 28)
+        return unit[:at] + (number(unit, at, 2) // 4096 * 4096 + new).to_bytes(2, "big") + unit[at + 2:]
+    return edit
+
+
+def edited(capture, edit):
+    """A capture whose packets are edited, up to a simple packet that can't be, and whether that is all of it."""
+    units, order = [], None
+    for unit, packet in capture.units:
+        if unit[:4] == b"\n\r\r\n":
+            order = "little" if unit[8:12] == b"M<+\x1a" else "big"
+        units.append(unit if packet is None else edit(unit, packet, order))
+        if units[-1] is None:
+            return b"".join(units[:-1]), False
+    return b"".join(units), True
+
+
+def of_edits(program, folder):
+    """The captures of `make.py`, cut to headers, and with other identifiers."""
     name, made = os.path.join(folder, "capture"), os.path.join(folder, "copy")
     for capture in make.captures():
         with open(name, "wb") as file:
             file.write(capture.data())
-        units, order = [], None
-        for unit, packet in capture.units:
-            if unit[:4] == b"\n\r\r\n":
-                order = "little" if unit[8:12] == b"M<+\x1a" else "big"
-            units.append(unit if packet is None else cut(unit, packet, headers_len(packet), order))
-            if units[-1] is None:
-                break
-        is_whole = None not in units
+        for old, new in ((1, 4095), (7, 8), (8, 0), (291, 291)):
+            wanted, is_whole = edited(capture, renumbered(old, new))
+            done = subprocess.run([program, "--write", "--set-vlan", f"{old}:{new}", name], capture_output=True, check=False)
+            yield f"{capture.name}, {new} for {old}", (done.stdout, done.returncode), (wanted, 0 if is_whole else 3)
+        wanted, is_whole = edited(capture, cut)
         done = subprocess.run([program, "--write", "--cut-to-headers", name], capture_output=True, check=False)
-        yield f"{capture.name}, headers", (done.stdout, done.returncode), (b"".join(filter(None, units)), 0 if is_whole else 3)
+        yield f"{capture.name}, headers", (done.stdout, done.returncode), (wanted, 0 if is_whole else 3)
         # cooked captures of the loopback device are refused, so that their headers are cut off
         if is_whole and not capture.name.startswith("classic_cut_") and not capture.name.endswith(("_cooked", "ng_padding")):
             with open(made, "wb") as file:
@@ -175,7 +214,7 @@ def main():
         return 0
     passed = failed = 0
     with tempfile.TemporaryDirectory() as folder:
-        for tried in (of_made(program, folder), of_headers(program, folder), of_tcpdump(program, folder, expressions, packets)):
+        for tried in (of_made(program, folder), of_edits(program, folder), of_tcpdump(program, folder, expressions, packets)):
             for what, found, wanted in tried:
                 passed += found == wanted
                 if found != wanted:

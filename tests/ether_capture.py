@@ -16,7 +16,7 @@ from dataclasses import dataclass
 from programs import count, run, run_in_pieces, run_until_a_fault, on_a_full_disk
 
 FAILED = ("ether_capture: input or output failed\n", 4)
-USAGE = "usage: ether_capture [--plain | --write [--cut-to-headers | --pop-vlan | --push-vlan TPID:ID]] [--select EXPR] [FILE]\n"
+USAGE = "usage: ether_capture [--plain | --write [--cut-to-headers | --pop-vlan | --push-vlan TPID:ID | --set-vlan A:B]] [--select EXPR] [FILE]\n"
 
 
 def joined(*parts):
@@ -334,6 +334,18 @@ WRONG = [
     ("an octal identifier", ["--write", "--push-vlan", "0x8100:05"]),
     ("a number of more than 32 bits", ["--write", "--push-vlan", "0x100008100:5"]),
     ("two edits", ["--write", "--pop-vlan", "--cut-to-headers"]),
+    ("another identifier without a copy", ["--set-vlan", "5:6"]),
+    ("no identifiers", ["--write", "--set-vlan"]),
+    ("one identifier", ["--write", "--set-vlan", "5"]),
+    ("no second identifier", ["--write", "--set-vlan", "5:"]),
+    ("no first identifier", ["--write", "--set-vlan", ":5"]),
+    ("a new identifier of 13 bits", ["--write", "--set-vlan", "5:4096"]),
+    ("an old identifier of 13 bits", ["--write", "--set-vlan", "0x1000:5"]),
+    ("an identifier that is no number", ["--write", "--set-vlan", "x:1"]),
+    ("three identifiers", ["--write", "--set-vlan", "5:6:7"]),
+    ("other identifiers twice", ["--write", "--set-vlan", "5:6", "--set-vlan", "6:7"]),
+    ("another identifier and a tag less", ["--write", "--set-vlan", "5:6", "--pop-vlan"]),
+    ("a tag more and another identifier", ["--write", "--push-vlan", "0x8100:5", "--set-vlan", "5:6"]),
     ("help and a copy", ["--write", "--help"]),
     ("the version and a file", ["--version", "one"]),
     ("five words", ["--plain", "--select", "arp", "one", "two"]),
@@ -474,6 +486,48 @@ COPIES += [
          CLASSIC[:24], f"byte 24: {NOT_EDITED}", 3),
 ]
 
+# The same captures, and frames with several tags, with another identifier in the outermost tag that has the old one.
+SET = "--set-vlan"
+SET_CLASSIC = CLASSIC[:59] + joined(
+    "6553f101 00000005 0000002e 0000002e", "ffffffffffff 3aeeb62ff6d7 8100 b005 0800", "4500001c00010000400100000a0900020a0900010800f7fd00010001")
+SET_WITH_FCS = WITH_FCS[:24] + joined(
+    "01000000 02000000 18000000 18000000", "020000000001 020000000002 8100 0fff 88b5 0102 aabbccdd",
+    "01000000 ffc99a3b 16000000 18000000", "020000000001 020000000002 8100 0fff 88b5 0102 aabb")
+SET_LONG_PACKET = SECTION_HEADER + ETHERNET + joined(
+    "06000000 4c000000 00000000 240a0600 40222018 13000000 2e000000 ffffffffffff 3aeeb62ff6d7 8100 b005 0800 45 00", OPTIONS, "4c000000")
+SET_COOKED = NO_PACKETS + joined(
+    "06000000 38000000 01000000 fe9c9717 15cd853d 15000000 15000000", "0004 0001 0006 0200000000010000 8100 b005 0800 45 000000 38000000")
+SET_OBSOLETE = SECTION_HEADER + ETHERNET + joined(
+    "02000000 34000000 0000 0007 240a0600 40222018 12000000 12000000 ffffffffffff 3aeeb62ff6d7 88a8 b005 0800 0000 34000000")
+# Two equal tags, an inner one, one in the payload of a SecTag, a fourth one, another identifier, and a SecTag whose payload is encrypted.
+SEVERAL = [joined("ffffffffffff 3aeeb62ff6d7", it) for it in (
+    "8100 2005 8100 4005 0800 45", "88a8 0064 8100 b005 0800 45", "88e5 00 06 00000001 8100 a005 0800 eeee",
+    "8100 0001 88a8 0002 9100 0003 8100 0005 0800 45", "8100 0006 0800 45", "88e5 0c 06 00000001 8100 a005 0800 eeee")]
+SET_SEVERAL = [joined("ffffffffffff 3aeeb62ff6d7", it) for it in (
+    "8100 2abc 8100 4005 0800 45", "88a8 0064 8100 babc 0800 45", "88e5 00 06 00000001 8100 aabc 0800 eeee",
+    "8100 0001 88a8 0002 9100 0003 8100 0abc 0800 45", "8100 0006 0800 45", "88e5 0c 06 00000001 8100 a005 0800 eeee")]
+# The identifier of a tag whose ether type is cut off, and a whole tag before it.
+CUT_TAGS = CLASSIC[:24] + joined(
+    "6553f100 0001e240 00000010 0000003c", "ffffffffffff 3aeeb62ff6d7 8100 0005",
+    "6553f100 0001e240 00000014 0000003c", "ffffffffffff 3aeeb62ff6d7 88a8 0007 8100 0005")
+COPIES += [
+    Copy("another identifier in a classic file", [SET, "291:5"], CLASSIC, SET_CLASSIC),
+    Copy("another identifier, in hexadecimal", [SET, "0x123:0x5"], CLASSIC, SET_CLASSIC),
+    Copy("the same identifier again", [SET, "291:291"], CLASSIC, CLASSIC),
+    Copy("another identifier in the packets that match", [SET, "291:5", "--select", "not refused"], CLASSIC, CLASSIC[:24] + SET_CLASSIC[59:]),
+    Copy("another identifier in frames with a check sequence", [SET, "5:4095"], TAGGED_WITH_FCS, SET_WITH_FCS),
+    Copy("another identifier in a packet with options", [SET, "291:5"], LONG_PACKET, SET_LONG_PACKET),
+    Copy("another identifier in a cooked capture", [SET, "291:5"], TAGGED_COOKED, SET_COOKED),
+    Copy("another identifier in an obsolete packet block", [SET, "291:5"], TAGGED_OBSOLETE, SET_OBSOLETE),
+    Copy("another identifier among several tags", [SET, "5:0xabc"], classic(*SEVERAL), classic(*SET_SEVERAL)),
+    Copy("a cut tag keeps its identifier", [SET, "5:6"], CUT_TAGS, CUT_TAGS),
+    Copy("a whole tag before a cut one", [SET, "7:0"], CUT_TAGS, CUT_TAGS[:-6] + joined("0000 8100 0005")),
+    Copy("an identifier that no tag has", [SET, "7:5"], SECTIONS, SECTIONS),
+    Copy("an identifier in cooked capture v2 stays", [SET, "291:5"], cooked("8100 0000 00000003 0001 04 06 0200000000010000 b123 0800 45"),
+         cooked("8100 0000 00000003 0001 04 06 0200000000010000 b123 0800 45")),
+    Copy("another identifier in a simple packet", [SET, "291:5"], SECTIONS, BEFORE_SIMPLE, f"byte {len(BEFORE_SIMPLE)}: {NOT_EDITED}", 3),
+]
+
 
 def copied(program, words, capture, **how):
     """What the program writes, what it says on standard error, and its status."""
@@ -502,7 +556,7 @@ def copies(program):
         if it.words[:1] == ["--select"]:
             tried.append((f"a copy after its filter: {it.name}", copied(program, [*it.words, "--write"], it.capture), wanted))
         if it.copy:
-            words = [] if {POP, PUSH} & set(it.words) else it.words  # with another tag less, or with no match, it is another copy
+            words = [] if {POP, PUSH, SET} & set(it.words) else it.words  # with another tag less, or with no match, it is another copy
             tried.append((f"a copy of it: {it.name}", copied(program, ["--write", *words], it.copy), (it.copy, "", 0)))
         if len(it.capture) < 500 and it.status == 0:
             for step in (1, 7, 59):

@@ -1,14 +1,17 @@
 -- What words ask for, one after the other.
-use Rattle.std.proofs.Common.{◌≡◌, ◌≢◌, ℕ, List, [], ◌∷◌, codes, true, false, Option, Some, None, Result, Ok, Err, IfOk, IfErr, OnOk, refl, sym, ap, subst, ◌∙◌, arith}
-use Rattle.std.specs.Prelude.{◌↔◌, map, String, string_bytes}
+use Rattle.std.proofs.Common.{◌≡◌, ◌≢◌, ℕ, List, [], ◌∷◌, codes, Bool, true, false, Option, Some, None, Result, Ok, Err, IfOk, IfErr, OnOk, OnErr, refl, sym, ap, subst, ◌∙◌}
+use Rattle.std.specs.Prelude.{◌↔◌, ◌==◌, map, nat_eq, if◌then◌else◌, String, string_bytes}
+use Rattle.std.proofs.lemmas.Bool.{eqb-true}
 use Rattle.std.specs.Option.{option_map, is_none}
 use Rattle.std.specs.Vec.Iter.{into_iter_steps}
 use Rattle.std.specs.declared.vec.IntoIter.{IntoIter}
 use Rattle.ether_text.proofs.ArgumentsLemmas.{words_end}
-use Rattle.ether_capture.specs.Options.{AskedValue, nothing_asked, Asks, no_word, file, plain, write, cut, pop, push, select, IsName, IsWord, AskSame, words_left, clashes, IsRequestOf, OptionsAsk, RequestValue, NamesRequest, help, version, options, RefusesAsked, RefusesOptions, RefusesWords, request_view}
+use Rattle.ether_capture.specs.Options.{AskedValue, nothing_asked, Asks, no_word, file, plain, write, cut, pop, tag, select, IsName, IsKnown, IsWord, AskSame, words_left, clashes, IsRequestOf, OptionsAsk, RequestValue, NamesRequest, help, version, options, RefusesAsked, RefusesOptions, RefusesWords, request_view}
 use Rattle.ether_content.specs.Editing.{EditValue, CutToHeaders, PopVlan}
-use Rattle.ether_capture.specs.Tags.{IsPush}
-use Rattle.ether_capture.proofs.TagsLemmas.{push_one}
+use Rattle.ether_capture.specs.Tags.{IsTagEdit, tag_word}
+use Rattle.ether_capture.specs.declared.tags.TagEdit.{TagEdit}
+use Rattle.ether_capture.specs.declared.tags.TagEdit.TheVariants as tag_edits
+use Rattle.ether_capture.proofs.TagsLemmas.{tag_edit_one, word_of_edit}
 use Rattle.ether_capture.specs.declared.options.Request.{Request}
 use Rattle.ether_capture.specs.declared.options.RequestError.{RequestError}
 use Rattle.ether_capture.specs.declared.options.RequestError.TheVariants as reasons
@@ -18,6 +21,10 @@ use Rattle.ether_capture.specs.declared.options.Word.TheVariants as kinds
 -- ---- one word
 
 -- letters after two hyphens tell options apart
+abbrev initial : List ℕ → ℕ
+initial (a ∷ bytes) = a
+initial _ = 0
+
 abbrev third : List ℕ → ℕ
 third (a ∷ b ∷ c ∷ bytes) = c
 third _ = 0
@@ -30,6 +37,56 @@ abbrev fifth : List ℕ → ℕ
 fifth (a ∷ b ∷ c ∷ d ∷ e ∷ bytes) = e
 fifth _ = 0
 
+abbrev option_at : (third fourth fifth : ℕ) → Word
+option_at c d e =
+    if nat_eq c 112 then (if nat_eq d 108 then kinds.Plain
+    else (if nat_eq d 111 then kinds.Pop else kinds.Tag tag_edits.Push))
+    else (if nat_eq c 115 then (if nat_eq e 108 then kinds.Select else kinds.Tag tag_edits.Set)
+    else (if nat_eq c 119 then kinds.Write
+    else (if nat_eq c 99 then kinds.Cut else (if nat_eq c 104 then kinds.Help else kinds.Version))))
+
+abbrev kind_at : List ℕ → Word
+kind_at word = if initial word == 45 then option_at (third word) (fourth word) (fifth word) else kinds.Name
+
+name_at : (word : List ℕ) → IsName word → kind_at word ≡ kinds.Name
+name_at [] named = refl
+name_at (byte ∷ bytes) named = no_option (byte == 45) refl
+  where
+    no_option : (b : Bool) → (byte == 45) ≡ b → kind_at (byte ∷ bytes) ≡ kinds.Name
+    no_option true is = absurd (named (eqb-true byte 45 is))
+    no_option false is =
+        ap (λ (b : Bool).
+        if b then option_at (third (byte ∷ bytes)) (fourth (byte ∷ bytes)) (fifth (byte ∷ bytes)) else kinds.Name) is
+
+known_at : (word : List ℕ) (kind : Word) → IsKnown word kind → kind_at word ≡ kind
+known_at word kinds.Name is = name_at word is
+known_at word kinds.Plain is = ap kind_at is
+known_at word kinds.Write is = ap kind_at is
+known_at word kinds.Cut is = ap kind_at is
+known_at word kinds.Pop is = ap kind_at is
+known_at word (kinds.Tag tag_edits.Push) is = ap kind_at is
+known_at word (kinds.Tag tag_edits.Set) is = ap kind_at is
+known_at word kinds.Select is = ap kind_at is
+known_at word kinds.Help is = ap kind_at is
+known_at word kinds.Version is = ap kind_at is
+known_at word kinds.Unknown is = absurd is
+
+known_once : (word : List ℕ) (known kind : Word) → IsKnown word known → IsKnown word kind → kind ≡ known
+known_once word known kind is other = sym (known_at word kind other) ∙ known_at word known is
+
+-- a word that is known is of one kind
+one_kind : (word : List ℕ) (known kind : Word) → IsKnown word known → IsWord word kind → kind ≡ known
+one_kind word known kinds.Name is other = known_once word known kinds.Name is other
+one_kind word known kinds.Plain is other = known_once word known kinds.Plain is other
+one_kind word known kinds.Write is other = known_once word known kinds.Write is other
+one_kind word known kinds.Cut is other = known_once word known kinds.Cut is other
+one_kind word known kinds.Pop is other = known_once word known kinds.Pop is other
+one_kind word known (kinds.Tag kind) is other = known_once word known (kinds.Tag kind) is other
+one_kind word known kinds.Select is other = known_once word known kinds.Select is other
+one_kind word known kinds.Help is other = known_once word known kinds.Help is other
+one_kind word known kinds.Version is other = known_once word known kinds.Version is other
+one_kind word known kinds.Unknown is other = absurd (other known is)
+
 -- what follows a word, by its kind
 abbrev pub Follows : Word → AskedValue → (word : List ℕ) → (words : List (List ℕ)) → AskedValue → Type 0
 Follows kinds.Name a word words c = (words ≡ []) × (c ≡ record a { file = Some word })
@@ -37,8 +94,8 @@ Follows kinds.Plain a word words c = (a.plain ≡ false) × Asks (record a { pla
 Follows kinds.Write a word words c = (a.write ≡ false) × Asks (record a { write = true }) words c
 Follows kinds.Cut a word words c = (a.edit ≡ None) × Asks (record a { edit = Some CutToHeaders }) words c
 Follows kinds.Pop a word words c = (a.edit ≡ None) × Asks (record a { edit = Some PopVlan }) words c
-Follows kinds.Push a word words c =
-    (text : List ℕ) × (e : EditValue) × (others : List (List ℕ)) × (words ≡ text ∷ others) × IsPush text e
+Follows (kinds.Tag kind) a word words c =
+    (text : List ℕ) × (e : EditValue) × (others : List (List ℕ)) × (words ≡ text ∷ others) × IsTagEdit word text e
     × (a.edit ≡ None) × Asks (record a { edit = Some e }) others c
 Follows kinds.Select a word words c =
     (text : List ℕ) × (others : List (List ℕ)) × (words ≡ text ∷ others) × (a.text ≡ None)
@@ -47,133 +104,26 @@ Follows kinds.Help a word words c = ⊥
 Follows kinds.Version a word words c = ⊥
 Follows kinds.Unknown a word words c = ⊥
 
-no_hyphen : (name rest : List ℕ) → IsName name → name ≡ 45 ∷ rest → ⊥
-no_hyphen name rest named is = subst IsName is named refl
-
-follows_file : (kind : Word) (a : AskedValue) (name : List ℕ) → IsName name → IsWord name kind
-    → Follows kind a name [] (record a { file = Some name })
-follows_file kinds.Name a name named is = (refl, refl)
-follows_file kinds.Plain a name named is = absurd (no_hyphen name (codes "-plain") named is)
-follows_file kinds.Write a name named is = absurd (no_hyphen name (codes "-write") named is)
-follows_file kinds.Cut a name named is = absurd (no_hyphen name (codes "-cut-to-headers") named is)
-follows_file kinds.Pop a name named is = absurd (no_hyphen name (codes "-pop-vlan") named is)
-follows_file kinds.Push a name named is = absurd (no_hyphen name (codes "-push-vlan") named is)
-follows_file kinds.Select a name named is = absurd (no_hyphen name (codes "-select") named is)
-follows_file kinds.Help a name named is = absurd (no_hyphen name (codes "-help") named is)
-follows_file kinds.Version a name named is = absurd (no_hyphen name (codes "-version") named is)
-follows_file kinds.Unknown a name named is = absurd (is.0 named)
-
-differ : (letter : List ℕ → ℕ) (m n : ℕ) (v w : List ℕ) → letter v ≡ m → letter w ≡ n → (m ≡ n → ⊥) → v ≡ w → ⊥
-differ letter m n v w e f other same = other (sym e ∙ ap letter same ∙ f)
-
-follows_plain : (kind : Word) (a c : AskedValue) (words : List (List ℕ)) → IsWord (codes "--plain") kind
-    → (a.plain ≡ false) × Asks (record a { plain = true }) words c
-    → Follows kind a (codes "--plain") words c
-follows_plain kinds.Name a c words is rest = absurd (is refl)
-follows_plain kinds.Plain a c words is rest = rest
-follows_plain kinds.Write a c words is rest = absurd (differ third 112 119 _ _ refl refl (λ e. omega (arith, e)) is)
-follows_plain kinds.Cut a c words is rest = absurd (differ third 112 99 _ _ refl refl (λ e. omega (arith, e)) is)
-follows_plain kinds.Pop a c words is rest = absurd (differ fourth 108 111 _ _ refl refl (λ e. omega (arith, e)) is)
-follows_plain kinds.Push a c words is rest = absurd (differ fourth 108 117 _ _ refl refl (λ e. omega (arith, e)) is)
-follows_plain kinds.Select a c words is rest = absurd (differ third 112 115 _ _ refl refl (λ e. omega (arith, e)) is)
-follows_plain kinds.Help a c words is rest = absurd (differ third 112 104 _ _ refl refl (λ e. omega (arith, e)) is)
-follows_plain kinds.Version a c words is rest = absurd (differ third 112 118 _ _ refl refl (λ e. omega (arith, e)) is)
-follows_plain kinds.Unknown a c words is rest = absurd (is.1 refl)
-
-follows_write : (kind : Word) (a c : AskedValue) (words : List (List ℕ)) → IsWord (codes "--write") kind
-    → (a.write ≡ false) × Asks (record a { write = true }) words c
-    → Follows kind a (codes "--write") words c
-follows_write kinds.Name a c words is rest = absurd (is refl)
-follows_write kinds.Plain a c words is rest = absurd (differ third 119 112 _ _ refl refl (λ e. omega (arith, e)) is)
-follows_write kinds.Write a c words is rest = rest
-follows_write kinds.Cut a c words is rest = absurd (differ third 119 99 _ _ refl refl (λ e. omega (arith, e)) is)
-follows_write kinds.Pop a c words is rest = absurd (differ third 119 112 _ _ refl refl (λ e. omega (arith, e)) is)
-follows_write kinds.Push a c words is rest = absurd (differ third 119 112 _ _ refl refl (λ e. omega (arith, e)) is)
-follows_write kinds.Select a c words is rest = absurd (differ third 119 115 _ _ refl refl (λ e. omega (arith, e)) is)
-follows_write kinds.Help a c words is rest = absurd (differ third 119 104 _ _ refl refl (λ e. omega (arith, e)) is)
-follows_write kinds.Version a c words is rest = absurd (differ third 119 118 _ _ refl refl (λ e. omega (arith, e)) is)
-follows_write kinds.Unknown a c words is rest = absurd (is.2 refl)
-
-follows_cut : (kind : Word) (a c : AskedValue) (words : List (List ℕ)) → IsWord (codes "--cut-to-headers") kind
-    → (a.edit ≡ None) × Asks (record a { edit = Some CutToHeaders }) words c
-    → Follows kind a (codes "--cut-to-headers") words c
-follows_cut kinds.Name a c words is rest = absurd (is refl)
-follows_cut kinds.Plain a c words is rest = absurd (differ third 99 112 _ _ refl refl (λ e. omega (arith, e)) is)
-follows_cut kinds.Write a c words is rest = absurd (differ third 99 119 _ _ refl refl (λ e. omega (arith, e)) is)
-follows_cut kinds.Cut a c words is rest = rest
-follows_cut kinds.Pop a c words is rest = absurd (differ third 99 112 _ _ refl refl (λ e. omega (arith, e)) is)
-follows_cut kinds.Push a c words is rest = absurd (differ third 99 112 _ _ refl refl (λ e. omega (arith, e)) is)
-follows_cut kinds.Select a c words is rest = absurd (differ third 99 115 _ _ refl refl (λ e. omega (arith, e)) is)
-follows_cut kinds.Help a c words is rest = absurd (differ third 99 104 _ _ refl refl (λ e. omega (arith, e)) is)
-follows_cut kinds.Version a c words is rest = absurd (differ third 99 118 _ _ refl refl (λ e. omega (arith, e)) is)
-follows_cut kinds.Unknown a c words is rest = absurd (is.3 refl)
-
-follows_pop : (kind : Word) (a c : AskedValue) (words : List (List ℕ)) → IsWord (codes "--pop-vlan") kind
-    → (a.edit ≡ None) × Asks (record a { edit = Some PopVlan }) words c
-    → Follows kind a (codes "--pop-vlan") words c
-follows_pop kinds.Name a c words is rest = absurd (is refl)
-follows_pop kinds.Plain a c words is rest = absurd (differ fourth 111 108 _ _ refl refl (λ e. omega (arith, e)) is)
-follows_pop kinds.Write a c words is rest = absurd (differ third 112 119 _ _ refl refl (λ e. omega (arith, e)) is)
-follows_pop kinds.Cut a c words is rest = absurd (differ third 112 99 _ _ refl refl (λ e. omega (arith, e)) is)
-follows_pop kinds.Pop a c words is rest = rest
-follows_pop kinds.Push a c words is rest = absurd (differ fourth 111 117 _ _ refl refl (λ e. omega (arith, e)) is)
-follows_pop kinds.Select a c words is rest = absurd (differ third 112 115 _ _ refl refl (λ e. omega (arith, e)) is)
-follows_pop kinds.Help a c words is rest = absurd (differ third 112 104 _ _ refl refl (λ e. omega (arith, e)) is)
-follows_pop kinds.Version a c words is rest = absurd (differ third 112 118 _ _ refl refl (λ e. omega (arith, e)) is)
-follows_pop kinds.Unknown a c words is rest = absurd (is.4 refl)
-
-follows_push : (kind : Word) (a c : AskedValue) (text : List ℕ) (e : EditValue) (words : List (List ℕ))
-    → IsWord (codes "--push-vlan") kind
-    → IsPush text e × (a.edit ≡ None) × Asks (record a { edit = Some e }) words c
-    → Follows kind a (codes "--push-vlan") (text ∷ words) c
-follows_push kinds.Name a c text e words is rest = absurd (is refl)
-follows_push kinds.Plain a c text e words is rest =
-    absurd (differ fourth 117 108 _ _ refl refl (λ e. omega (arith, e)) is)
-follows_push kinds.Write a c text e words is rest =
-    absurd (differ third 112 119 _ _ refl refl (λ e. omega (arith, e)) is)
-follows_push kinds.Cut a c text e words is rest = absurd (differ third 112 99 _ _ refl refl (λ e. omega (arith, e)) is)
-follows_push kinds.Pop a c text e words is rest =
-    absurd (differ fourth 117 111 _ _ refl refl (λ e. omega (arith, e)) is)
-follows_push kinds.Push a c text e words is rest = (text, e, words, refl, rest.0, rest.1, rest.2)
-follows_push kinds.Select a c text e words is rest =
-    absurd (differ third 112 115 _ _ refl refl (λ e. omega (arith, e)) is)
-follows_push kinds.Help a c text e words is rest =
-    absurd (differ third 112 104 _ _ refl refl (λ e. omega (arith, e)) is)
-follows_push kinds.Version a c text e words is rest =
-    absurd (differ third 112 118 _ _ refl refl (λ e. omega (arith, e)) is)
-follows_push kinds.Unknown a c text e words is rest = absurd (is.5 refl)
-
-follows_select : (kind : Word) (a c : AskedValue) (text : List ℕ) (words : List (List ℕ))
-    → IsWord (codes "--select") kind → (a.text ≡ None) × Asks (record a { text = Some text }) words c
-    → Follows kind a (codes "--select") (text ∷ words) c
-follows_select kinds.Name a c text words is rest = absurd (is refl)
-follows_select kinds.Plain a c text words is rest =
-    absurd (differ third 115 112 _ _ refl refl (λ e. omega (arith, e)) is)
-follows_select kinds.Write a c text words is rest =
-    absurd (differ third 115 119 _ _ refl refl (λ e. omega (arith, e)) is)
-follows_select kinds.Cut a c text words is rest = absurd (differ third 115 99 _ _ refl refl (λ e. omega (arith, e)) is)
-follows_select kinds.Pop a c text words is rest =
-    absurd (differ third 115 112 _ _ refl refl (λ e. omega (arith, e)) is)
-follows_select kinds.Push a c text words is rest =
-    absurd (differ third 115 112 _ _ refl refl (λ e. omega (arith, e)) is)
-follows_select kinds.Select a c text words is rest = (text, words, refl, rest.0, rest.1)
-follows_select kinds.Help a c text words is rest =
-    absurd (differ third 115 104 _ _ refl refl (λ e. omega (arith, e)) is)
-follows_select kinds.Version a c text words is rest =
-    absurd (differ third 115 118 _ _ refl refl (λ e. omega (arith, e)) is)
-follows_select kinds.Unknown a c text words is rest = absurd (is.6 refl)
+-- .. also by another name of the kind
+follows_as : (known kind : Word) (a c : AskedValue) (word : List ℕ) (words : List (List ℕ)) → IsKnown word known
+    → IsWord word kind → Follows known a word words c → Follows kind a word words c
+follows_as known kind a c word words known_is is rest =
+    subst (λ (k : Word). Follows k a word words c) (sym (one_kind word known kind known_is is)) rest
 
 pub follows : (kind : Word) (a c : AskedValue) (word : List ℕ) (words : List (List ℕ)) → IsWord word kind
     → Asks a (word ∷ words) c → Follows kind a word words c
-follows kind a c word words is (file _ _ named) = follows_file kind a word named is
-follows kind a c word words is (plain _ _ _ first asks) = follows_plain kind a c words is (first, asks)
-follows kind a c word words is (write _ _ _ first asks) = follows_write kind a c words is (first, asks)
-follows kind a c word words is (cut _ _ _ first asks) = follows_cut kind a c words is (first, asks)
-follows kind a c word words is (pop _ _ _ first asks) = follows_pop kind a c words is (first, asks)
-follows kind a c word words is (push _ _ text e others tag first asks) =
-    follows_push kind a c text e others is (tag, first, asks)
-follows kind a c word words is (select _ _ text others first asks) =
-    follows_select kind a c text others is (first, asks)
+follows kind a c word words is (file _ _ named) = follows_as kinds.Name kind a c word words named is (refl, refl)
+follows kind a c word words is (plain _ _ _ none asks) =
+    follows_as kinds.Plain kind a c word words refl is (none, asks)
+follows kind a c word words is (write _ _ _ none asks) =
+    follows_as kinds.Write kind a c word words refl is (none, asks)
+follows kind a c word words is (cut _ _ _ none asks) = follows_as kinds.Cut kind a c word words refl is (none, asks)
+follows kind a c word words is (pop _ _ _ none asks) = follows_as kinds.Pop kind a c word words refl is (none, asks)
+follows kind a c word words is (tag _ _ _ text e others edit none asks) =
+    let known = word_of_edit word text e edit in
+    follows_as (kinds.Tag known.0) kind a c word words known.1 is (text, e, others, refl, edit, none, asks)
+follows kind a c word words is (select _ _ text others none asks) =
+    follows_as kinds.Select kind a c word words refl is (text, others, refl, none, asks)
 
 pub precedes : (kind : Word) (a c : AskedValue) (word : List ℕ) (words : List (List ℕ)) → IsWord word kind
     → Follows kind a word words c → Asks a (word ∷ words) c
@@ -188,9 +138,8 @@ precedes kinds.Cut a c word words is (first, asks) =
     subst (λ (w : List ℕ). Asks a (w ∷ words) c) (sym is) (cut a c words first asks)
 precedes kinds.Pop a c word words is (first, asks) =
     subst (λ (w : List ℕ). Asks a (w ∷ words) c) (sym is) (pop a c words first asks)
-precedes kinds.Push a c word words is (text, e, others, same, tag, first, asks) =
-    subst (λ (l : List (List ℕ)). Asks a (word ∷ l) c) (sym same)
-    (subst (λ (w : List ℕ). Asks a (w ∷ text ∷ others) c) (sym is) (push a c text e others tag first asks))
+precedes (kinds.Tag kind) a c word words is (text, e, others, same, edit, none, asks) =
+    subst (λ (l : List (List ℕ)). Asks a (word ∷ l) c) (sym same) (tag a c word text e others edit none asks)
 precedes kinds.Select a c word words is (text, others, same, first, asks) =
     subst (λ (l : List (List ℕ)). Asks a (word ∷ l) c) (sym same)
     (subst (λ (w : List ℕ). Asks a (w ∷ text ∷ others) c) (sym is) (select a c text others first asks))
@@ -266,18 +215,20 @@ ask_select a word text words others is first same c = (
       (subst (λ (t : List ℕ). Asks (record a { text = Some t }) f.1 c) (ap head_of both) f.4),
 )
 
-pub ask_push : (a : AskedValue) (word text : List ℕ) (e : EditValue) (words others : List (List ℕ))
-    → IsWord word kinds.Push → IsPush text e → a.edit ≡ None → words ≡ text ∷ others
+pub ask_tag : (a : AskedValue) (kind : TagEdit) (word text : List ℕ) (e : EditValue) (words others : List (List ℕ))
+    → IsWord word (kinds.Tag kind) → IsTagEdit (tag_word kind) text e → a.edit ≡ None → words ≡ text ∷ others
     → AskSame a (word ∷ words) (record a { edit = Some e }) others
-ask_push a word text e words others is tag first same c = (
-  λ asks. precedes kinds.Push a c word words is (text, e, others, same, tag, first, asks),
-  λ asks.
-      let f = follows kinds.Push a c word words is asks in
-      let both = sym f.3 ∙ same in
-      let edit : f.1 ≡ e = push_one text f.1 e (subst (λ (t : List ℕ). IsPush t f.1) (ap head_of both) f.4) tag in
-      subst (λ (l : List (List ℕ)). Asks (record a { edit = Some e }) l c) (ap tail_of both)
-      (subst (λ (g : EditValue). Asks (record a { edit = Some g }) f.2 c) edit f.6),
-)
+ask_tag a kind word text e words others is edit none same c =
+    let here : IsTagEdit word text e = subst (λ (w : List ℕ). IsTagEdit w text e) (sym is) edit in (
+      λ asks. precedes (kinds.Tag kind) a c word words is (text, e, others, same, here, none, asks),
+      λ asks.
+          let f = follows (kinds.Tag kind) a c word words is asks in
+          let both = sym f.3 ∙ same in
+          let one : f.1 ≡ e =
+          tag_edit_one word text f.1 e (subst (λ (t : List ℕ). IsTagEdit word t f.1) (ap head_of both) f.4) here in
+          subst (λ (l : List (List ℕ)). Asks (record a { edit = Some e }) l c) (ap tail_of both)
+          (subst (λ (g : EditValue). Asks (record a { edit = Some g }) f.2 c) one f.6),
+    )
 
 -- .. also once it was tried to take another
 pub ask_name_last : (a : AskedValue) (word : List ℕ) (words left : List (List ℕ)) → IsWord word kinds.Name → words ≡ []
@@ -299,6 +250,36 @@ none_taken args others (Some word) next none = absurd cc
 pub none_mapped : {X Y : Type 0} (f : X → Y) (o : Option X) → is_none o ≡ true → option_map f o ≡ None
 none_mapped f None none = refl
 none_mapped f (Some x) none = absurd cc
+
+-- a word was left to take
+pub some_taken : {A : Type 0} (args others : IntoIter (String A) A) (word : Option (String A))
+    → into_iter_steps args word others → is_none word ≡ false → words_left args ≡ [] → ⊥
+some_taken args others None ended some none = absurd cc
+some_taken args others (Some word) next some none =
+    let both : string_bytes word ∷ words_left others ≡ [] = sym (ap (map string_bytes) next.0) ∙ none in absurd cc
+
+pub some_mapped : {X Y : Type 0} (f : X → Y) (o : Option X) → is_none o ≡ false → option_map f o ≡ None → ⊥
+some_mapped f None some none = absurd cc
+some_mapped f (Some x) some none = absurd cc
+
+-- a word of no other kind asks for nothing
+pub asks_nothing : (kind : Word) (a c : AskedValue) (word : List ℕ) (words : List (List ℕ)) → IsWord word kind
+    → (kind ≡ kinds.Name → ⊥) → (kind ≡ kinds.Plain → ⊥) → (kind ≡ kinds.Write → ⊥) → (kind ≡ kinds.Cut → ⊥)
+    → (kind ≡ kinds.Pop → ⊥) → ((t : TagEdit) → kind ≡ kinds.Tag t → ⊥) → (kind ≡ kinds.Select → ⊥)
+    → Asks a (word ∷ words) c → ⊥
+asks_nothing kinds.Name a c word words is n p w k o t s asks = n refl
+asks_nothing kinds.Plain a c word words is n p w k o t s asks = p refl
+asks_nothing kinds.Write a c word words is n p w k o t s asks = w refl
+asks_nothing kinds.Cut a c word words is n p w k o t s asks = k refl
+asks_nothing kinds.Pop a c word words is n p w k o t s asks = o refl
+asks_nothing (kinds.Tag kind) a c word words is n p w k o t s asks = t kind refl
+asks_nothing kinds.Select a c word words is n p w k o t s asks = s refl
+asks_nothing kinds.Help a c word words is n p w k o t s asks =
+    follows kinds.Help a c word words is asks
+asks_nothing kinds.Version a c word words is n p w k o t s asks =
+    follows kinds.Version a c word words is asks
+asks_nothing kinds.Unknown a c word words is n p w k o t s asks =
+    follows kinds.Unknown a c word words is asks
 
 -- ---- all words
 
@@ -363,43 +344,16 @@ lone_named words left word request (Ok it) same named is last =
     (subst (λ (q : Request). NamesRequest (word ∷ []) (request_view q)) (sym is) named)
 lone_named words left word request (Err error) same named is last = tt
 
-help_word : (kind : Word) (word : List ℕ) → IsWord word kind → word ≡ codes "--help" → kind ≡ kinds.Help
-help_word kinds.Name word is e = absurd (no_hyphen word (codes "-help") is e)
-help_word kinds.Plain word is e =
-    absurd (differ third 112 104 _ _ refl refl (λ n. omega (arith, n)) (sym is ∙ e))
-help_word kinds.Write word is e =
-    absurd (differ third 119 104 _ _ refl refl (λ n. omega (arith, n)) (sym is ∙ e))
-help_word kinds.Cut word is e =
-    absurd (differ third 99 104 _ _ refl refl (λ n. omega (arith, n)) (sym is ∙ e))
-help_word kinds.Pop word is e =
-    absurd (differ third 112 104 _ _ refl refl (λ n. omega (arith, n)) (sym is ∙ e))
-help_word kinds.Push word is e =
-    absurd (differ third 112 104 _ _ refl refl (λ n. omega (arith, n)) (sym is ∙ e))
-help_word kinds.Select word is e =
-    absurd (differ third 115 104 _ _ refl refl (λ n. omega (arith, n)) (sym is ∙ e))
-help_word kinds.Help word is e = refl
-help_word kinds.Version word is e =
-    absurd (differ third 118 104 _ _ refl refl (λ n. omega (arith, n)) (sym is ∙ e))
-help_word kinds.Unknown word is e = absurd (is.7 e)
-
-version_word : (kind : Word) (word : List ℕ) → IsWord word kind → word ≡ codes "--version" → kind ≡ kinds.Version
-version_word kinds.Name word is e = absurd (no_hyphen word (codes "-version") is e)
-version_word kinds.Plain word is e =
-    absurd (differ third 112 118 _ _ refl refl (λ n. omega (arith, n)) (sym is ∙ e))
-version_word kinds.Write word is e =
-    absurd (differ third 119 118 _ _ refl refl (λ n. omega (arith, n)) (sym is ∙ e))
-version_word kinds.Cut word is e =
-    absurd (differ third 99 118 _ _ refl refl (λ n. omega (arith, n)) (sym is ∙ e))
-version_word kinds.Pop word is e =
-    absurd (differ third 112 118 _ _ refl refl (λ n. omega (arith, n)) (sym is ∙ e))
-version_word kinds.Push word is e =
-    absurd (differ third 112 118 _ _ refl refl (λ n. omega (arith, n)) (sym is ∙ e))
-version_word kinds.Select word is e =
-    absurd (differ third 115 118 _ _ refl refl (λ n. omega (arith, n)) (sym is ∙ e))
-version_word kinds.Help word is e =
-    absurd (differ third 104 118 _ _ refl refl (λ n. omega (arith, n)) (sym is ∙ e))
-version_word kinds.Version word is e = refl
-version_word kinds.Unknown word is e = absurd (is.8 e)
+-- .. and does not
+pub lone_refused : (words left : List (List ℕ)) (word : List ℕ) (kind : Word) (r : Result Request RequestError)
+    → words ≡ word ∷ left → IfErr r (λ e. e ≡ reasons.Usage) → OnErr r (left ≢ []) → IsWord word kind
+    → ((a : AskedValue) → Follows kind nothing_asked word left a → ⊥) → IfErr r (RefusesWords words)
+lone_refused words left word kind (Ok request) same usage more is never = tt
+lone_refused words left word kind (Err error) same usage more is never =
+    subst (λ (l : List (List ℕ)). RefusesWords l error) (sym same)
+    (subst (RefusesWords (word ∷ left)) (sym usage)
+    (refused_words (word ∷ left) reasons.Usage (λ e. more (ap tail_of e)) (λ e. more (ap tail_of e))
+    (λ a asks. absurd (never a (follows kind nothing_asked a word left is asks)))))
 
 -- words of which the first is no lone option
 pub options_named : (words left : List (List ℕ)) (word : List ℕ) (r : Result Request RequestError)
@@ -417,6 +371,6 @@ options_wrong words left word kind (Ok request) same is not_help not_version ref
 options_wrong words left word kind (Err error) same is not_help not_version refused =
     subst (λ (l : List (List ℕ)). RefusesWords l error) (sym same)
     (refused_words (word ∷ left) error
-    (λ e. not_help (help_word kind word is (ap head_of e)))
-    (λ e. not_version (version_word kind word is (ap head_of e)))
+    (λ e. not_help (one_kind word kinds.Help kind (ap head_of e) is))
+    (λ e. not_version (one_kind word kinds.Version kind (ap head_of e) is))
     refused)

@@ -9,7 +9,7 @@ use Rattle.ether_filter.specs.Refusals.{RefusesText}
 use Rattle.ether_filter.specs.declared.filter_error.FilterError.{FilterError}
 use Rattle.ether_content.specs.Editing.{EditValue, CutToHeaders, PopVlan}
 use Rattle.ether_content.specs.EditingViews.{edit_view}
-use Rattle.ether_capture.specs.Tags.{IsPush}
+use Rattle.ether_capture.specs.Tags.{IsTagEdit, tag_word}
 use Rattle.ether_capture.specs.Task.{TaskValue, FormValue, Lines, Copy, task_view}
 use Rattle.ether_capture.specs.declared.options.Asked.{Asked}
 use Rattle.ether_capture.specs.declared.options.RequestError.{RequestError}
@@ -61,8 +61,8 @@ pub data Asks : AskedValue → List (List ℕ) → AskedValue → Type 0 where
       → Asks a (codes "--cut-to-headers" ∷ words) b
   pop : (a b : AskedValue) (words : List (List ℕ)) → a.edit ≡ None → Asks (record a { edit = Some PopVlan }) words b
       → Asks a (codes "--pop-vlan" ∷ words) b
-  push : (a b : AskedValue) (text : List ℕ) (e : EditValue) (words : List (List ℕ)) → IsPush text e → a.edit ≡ None
-      → Asks (record a { edit = Some e }) words b → Asks a (codes "--push-vlan" ∷ text ∷ words) b
+  tag : (a b : AskedValue) (word text : List ℕ) (e : EditValue) (words : List (List ℕ)) → IsTagEdit word text e → a.edit ≡ None
+      → Asks (record a { edit = Some e }) words b → Asks a (word ∷ text ∷ words) b
   select : (a b : AskedValue) (text : List ℕ) (words : List (List ℕ)) → a.text ≡ None → Asks (record a { text = Some text }) words b
       → Asks a (codes "--select" ∷ text ∷ words) b
 
@@ -129,20 +129,23 @@ asked_view asked = record {
   file = option_map string_bytes asked.file;
 }
 
--- what a word is
+-- what a word is, if it is known
+abbrev pub IsKnown : (word : List ℕ) → Word → Type 0
+IsKnown word kinds.Name = IsName word
+IsKnown word kinds.Plain = word ≡ codes "--plain"
+IsKnown word kinds.Write = word ≡ codes "--write"
+IsKnown word kinds.Cut = word ≡ codes "--cut-to-headers"
+IsKnown word kinds.Pop = word ≡ codes "--pop-vlan"
+IsKnown word (kinds.Tag kind) = word ≡ tag_word kind
+IsKnown word kinds.Select = word ≡ codes "--select"
+IsKnown word kinds.Help = word ≡ codes "--help"
+IsKnown word kinds.Version = word ≡ codes "--version"
+IsKnown word kinds.Unknown = ⊥
+
+-- .. or that it is none of these
 abbrev pub IsWord : (word : List ℕ) → Word → Type 0
-IsWord word kinds.Name = IsName word
-IsWord word kinds.Plain = word ≡ codes "--plain"
-IsWord word kinds.Write = word ≡ codes "--write"
-IsWord word kinds.Cut = word ≡ codes "--cut-to-headers"
-IsWord word kinds.Pop = word ≡ codes "--pop-vlan"
-IsWord word kinds.Push = word ≡ codes "--push-vlan"
-IsWord word kinds.Select = word ≡ codes "--select"
-IsWord word kinds.Help = word ≡ codes "--help"
-IsWord word kinds.Version = word ≡ codes "--version"
-IsWord word kinds.Unknown =
-    ¬ (IsName word) × (word ≢ codes "--plain") × (word ≢ codes "--write") × (word ≢ codes "--cut-to-headers") × (word ≢ codes "--pop-vlan")
-    × (word ≢ codes "--push-vlan") × (word ≢ codes "--select") × (word ≢ codes "--help") × (word ≢ codes "--version")
+IsWord word kinds.Unknown = (kind : Word) → ¬ (IsKnown word kind)
+IsWord word kind = IsKnown word kind
 
 -- the same is asked for with these words after those before them
 abbrev pub AskSame : (a : AskedValue) → (words : List (List ℕ)) → (b : AskedValue) → (left : List (List ℕ)) → Type 0

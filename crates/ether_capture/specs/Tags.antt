@@ -1,9 +1,11 @@
--- The word that gives a VLAN tag.
-use Rattle.std.specs.Prelude.{◌≡◌, ◌<◌, ◌==◌, ℕ, List, ◌∷◌, ◌++◌, Some, true, false}
+-- The words that ask for an edit of VLAN tags.
+use Rattle.std.specs.Prelude.{◌≡◌, ◌<◌, ◌==◌, ℕ, List, ◌∷◌, ◌++◌, codes, Some, true, false}
 use Rattle.std.specs.List.{All}
 use Rattle.ether_base.specs.Formats.Vlan.{is_vlan_ether_type}
 use Rattle.ether_filter.specs.Numerals.{number_in}
-use Rattle.ether_content.specs.Editing.{EditValue, PushVlan}
+use Rattle.ether_content.specs.Editing.{EditValue, PushVlan, SetVlan}
+use Rattle.ether_capture.specs.declared.tags.TagEdit.{TagEdit}
+use Rattle.ether_capture.specs.declared.tags.TagEdit.TheVariants as tag_edits
 
 -- a text has no colon (58)
 abbrev pub HasNoColon : List ℕ → Type 0
@@ -22,7 +24,15 @@ pub record IsPair (text : List ℕ) (m n : ℕ) : Type 0 where
   pub first : number_in before ≡ Some (Some m)
   pub second : number_in after ≡ Some (Some n)
 
--- the TPID of a VLAN tag that is put in, which announces one, and its identifier, which has 12 bits
-abbrev pub IsPush : List ℕ → EditValue → Type 0
-IsPush text (PushVlan tpid id) = IsPair text tpid id × (is_vlan_ether_type tpid ≡ true) × (id < 4096)
-IsPush text other = ⊥
+-- What a word asks for, with two numbers in the text after it: a VLAN tag is put in, with a TPID that announces one, or one gets another
+-- identifier. Identifiers have 12 bits.
+pub data IsTagEdit : (word text : List ℕ) → EditValue → Type 0 where
+  push : (text : List ℕ) (tpid id : ℕ) → IsPair text tpid id → is_vlan_ether_type tpid ≡ true → id < 4096
+      → IsTagEdit (codes "--push-vlan") text (PushVlan tpid id)
+  set : (text : List ℕ) (old new : ℕ) → IsPair text old new → old < 4096 → new < 4096
+      → IsTagEdit (codes "--set-vlan") text (SetVlan old new)
+
+-- the word of each
+abbrev pub tag_word : TagEdit → List ℕ
+tag_word tag_edits.Push = codes "--push-vlan"
+tag_word tag_edits.Set = codes "--set-vlan"

@@ -5,11 +5,11 @@ ghost use Rattle.std.specs.Vec.Iter.{into_iter_items};
 ghost use Rattle.ether_text.specs.Arguments.{words_after};
 ghost use Rattle.ether_content.specs.Editing.{EditValue};
 ghost use Rattle.ether_content.specs.EditingViews.{edit_view};
-ghost use Rattle.ether_capture.specs.Tags.{IsPush};
+ghost use Rattle.ether_capture.specs.Tags.{IsTagEdit, tag_word};
 ghost use Rattle.ether_capture.specs.Task.{form_view};
 ghost use Rattle.ether_capture.specs.Options.{IsName, IsWord, words_left, asked_view, nothing_asked, clashes, form_of, AskSame, AskNothing, IsSelection, RefusesSelection, IsRequestOf, RefusesAsked, OptionsAsk, RefusesOptions, NamesRequest, RefusesWords, request_view};
 
-use crate::tags::tag_to_push;
+use crate::tags::{TagEdit, tag_edit_of};
 use crate::task::{Form, Task};
 use ether_content::PacketEdit;
 use ether_filter::{Filter, FilterError};
@@ -42,9 +42,9 @@ pub enum Request {
 
 /// What the program's arguments ask for. The first of them is its own name.
 ///
-/// In any order there may be `--plain` or `--write`, with the latter `--cut-to-headers`, `--pop-vlan` or `--push-vlan` with a
-/// tag, and `--select` with the text of a filter; after them a word that does not begin with a hyphen, which names a file. `--help` and
-/// `--version` come alone.
+/// In any order there may be `--plain` or `--write`, with the latter `--cut-to-headers`, `--pop-vlan`, `--push-vlan` with a tag or
+/// `--set-vlan` with two identifiers, and `--select` with the text of a filter; after them a word that does not begin with a hyphen,
+/// which names a file. `--help` and `--version` come alone.
 pub fn request_of_args(mut args: env::Args) -> Result<Request, RequestError>
     ensures ok { IfOk result (λ request. NamesRequest (words_after (into_iter_items args)) (request_view request)) }
     ensures err { IfErr result (RefusesWords (words_after (into_iter_items args))) }
@@ -124,8 +124,8 @@ impl Asked {
             Word::Write if !self.is_copy => self.is_copy = true,
             Word::Cut if self.edit.is_none() => self.edit = Some(PacketEdit::CutToHeaders),
             Word::Pop if self.edit.is_none() => self.edit = Some(PacketEdit::PopVlan),
-            Word::Push if self.edit.is_none() => match args.next() {
-                Some(text) => self.edit = Some(pushed(&text)?),
+            Word::Tag(kind) if self.edit.is_none() => match args.next() {
+                Some(text) => self.edit = Some(tag_edit(kind, &text)?),
                 None => return Err(RequestError::Usage),
             },
             Word::Select if self.text.is_none() => match args.next() {
@@ -187,13 +187,13 @@ impl Asked {
     }
 }
 
-/// The edit that puts in the VLAN tag of a text.
-fn pushed(text: &String) -> Result<PacketEdit, RequestError>
-    ensures ok { IfOk result (λ edit. IsPush (string_bytes text.now) (edit_view edit)) }
-    ensures err { OnErr result ((e : EditValue) → ¬ (IsPush (string_bytes text.now) e)) }
+/// The edit of VLAN tags that a text says.
+fn tag_edit(kind: TagEdit, text: &String) -> Result<PacketEdit, RequestError>
+    ensures ok { IfOk result (λ edit. IsTagEdit (tag_word kind) (string_bytes text.now) (edit_view edit)) }
+    ensures err { OnErr result ((e : EditValue) → ¬ (IsTagEdit (tag_word kind) (string_bytes text.now) e)) }
     ensures usage { IfErr result (λ e. e ≡ RequestError.Usage) }
 {
-    match tag_to_push(text.as_bytes()) {
+    match tag_edit_of(kind, text.as_bytes()) {
         Some(edit) => Ok(edit),
         None => Err(RequestError::Usage),
     }
@@ -226,8 +226,8 @@ enum Word {
     Cut,
     /// `--pop-vlan`.
     Pop,
-    /// `--push-vlan`.
-    Push,
+    /// `--push-vlan` or `--set-vlan`.
+    Tag(TagEdit),
     /// `--select`.
     Select,
     /// `--help`.
@@ -250,7 +250,8 @@ fn word_of(word: &str) -> Word
         "--write" => Word::Write,
         "--cut-to-headers" => Word::Cut,
         "--pop-vlan" => Word::Pop,
-        "--push-vlan" => Word::Push,
+        "--push-vlan" => Word::Tag(TagEdit::Push),
+        "--set-vlan" => Word::Tag(TagEdit::Set),
         "--select" => Word::Select,
         "--help" => Word::Help,
         "--version" => Word::Version,

@@ -1,22 +1,34 @@
-//! The word that gives a VLAN tag.
-ghost use Rattle.std.specs.Prelude.{◌≡◌, ◌<◌, ℕ, Some, IfSome, IfNone, true};
+//! The words that ask for an edit of VLAN tags.
+ghost use Rattle.std.specs.Prelude.{◌≡◌, ◌<◌, ◌≤◌, ℕ, Some, IfSome, IfNone, true};
 ghost use Rattle.ether_filter.specs.Numerals.{number_in};
 ghost use Rattle.ether_base.specs.Formats.Vlan.{is_vlan_ether_type};
-ghost use Rattle.ether_content.specs.Editing.{EditValue, PushVlan};
+ghost use Rattle.ether_content.specs.Editing.{EditValue, PushVlan, SetVlan};
 ghost use Rattle.ether_content.specs.EditingViews.{edit_view};
-ghost use Rattle.ether_capture.specs.Tags.{HasNoColon, IsPair, IsPush, SplitsAtColon};
+ghost use Rattle.ether_capture.specs.Tags.{HasNoColon, IsPair, IsTagEdit, SplitsAtColon, tag_word};
 
 use ether_content::PacketEdit;
 use ether_filter::number_of;
 use etherparse::{EtherType, VlanId};
 
-/// The edit that puts in the VLAN tag of a word: its TPID and its identifier, with a colon between them.
-pub(crate) fn tag_to_push(text: &[u8]) -> Option<PacketEdit>
-    ensures some { IfSome result (λ edit. IsPush text.now (edit_view edit)) }
-    ensures none { IfNone result ((e : EditValue) → ¬ (IsPush text.now e)) }
+/// An edit that two numbers say, with a colon between them.
+#[derive(Clone, Copy)]
+pub(crate) enum TagEdit {
+    /// A VLAN tag is put in: its TPID and its identifier.
+    Push,
+    /// A VLAN tag gets another identifier: the one that it has, and the one that it gets.
+    Set,
+}
+
+/// The edit of a text.
+pub(crate) fn tag_edit_of(kind: TagEdit, text: &[u8]) -> Option<PacketEdit>
+    ensures some { IfSome result (λ edit. IsTagEdit (tag_word kind) text.now (edit_view edit)) }
+    ensures none { IfNone result ((e : EditValue) → ¬ (IsTagEdit (tag_word kind) text.now e)) }
 {
-    let (tpid, id) = pair_of(text)?;
-    push_of(tpid, id)
+    let (first, second) = pair_of(text)?;
+    match kind {
+        TagEdit::Push => push_of(first, second),
+        TagEdit::Set => set_of(first, second),
+    }
 }
 
 /// The edit that puts in a VLAN tag, if the TPID announces one and the identifier has no more than 12 bits.
@@ -24,14 +36,36 @@ fn push_of(tpid: u32, id: u32) -> Option<PacketEdit>
     ensures some { IfSome result (λ edit. (edit_view edit ≡ PushVlan tpid id) × (is_vlan_ether_type tpid ≡ true) × (id < 4096)) }
     ensures none { IfNone result (is_vlan_ether_type tpid ≡ true → id < 4096 → ⊥) }
 {
-    if !(tpid == 0x8100 || tpid == 0x88A8 || tpid == 0x9100) || id > 4095 {
+    if !(tpid == 0x8100 || tpid == 0x88A8 || tpid == 0x9100) {
         return None;
     }
-    match VlanId::try_new(id as u16) {
-        Ok(vlan_id) => Some(PacketEdit::PushVlan {
-            tpid: EtherType(tpid as u16),
-            vlan_id,
-        }),
+    let vlan_id = vlan_id_of(id)?;
+    Some(PacketEdit::PushVlan {
+        tpid: EtherType(tpid as u16),
+        vlan_id,
+    })
+}
+
+/// The edit that gives a VLAN tag another identifier, if both have no more than 12 bits.
+fn set_of(old: u32, new: u32) -> Option<PacketEdit>
+    ensures some { IfSome result (λ edit. (edit_view edit ≡ SetVlan old new) × (old < 4096) × (new < 4096)) }
+    ensures none { IfNone result (old < 4096 → new < 4096 → ⊥) }
+{
+    let from = vlan_id_of(old)?;
+    let to = vlan_id_of(new)?;
+    Some(PacketEdit::SetVlan { from, to })
+}
+
+/// The VLAN identifier of a number, if it has no more than 12 bits.
+fn vlan_id_of(number: u32) -> Option<VlanId>
+    ensures some { IfSome result (λ id. (id ≡ number) × (number < 4096)) }
+    ensures none { IfNone result (4096 ≤ number) }
+{
+    if number > 4095 {
+        return None;
+    }
+    match VlanId::try_new(number as u16) {
+        Ok(id) => Some(id),
         Err(_) => None,
     }
 }

@@ -32,7 +32,7 @@ use Rattle.ether_content.specs.declared.content.Content.TheVariants as contents
 -- ---- the frame of a packet
 
 -- what is walked, by the link type, whether a whole check sequence is there, all bytes, and those without it
-abbrev content_by : (ethernet cooked cooked2 fcs : Bool) → (all without : List ℕ) → ContentValue
+abbrev pub content_by : (ethernet cooked cooked2 fcs : Bool) → (all without : List ℕ) → ContentValue
 content_by ethernet cooked cooked2 fcs all without =
     if ethernet then (if fcs then Frame (Start kinds.Ethernet2Fcs) all else Frame (Start kinds.Ethernet2) without)
     else (if cooked then Frame (Start kinds.LinuxSll) without else (if cooked2 then LinuxSll2 without else Unknown))
@@ -209,7 +209,7 @@ front_there buffer packet frame is le front =
 -- ---- a VLAN tag that is taken off
 
 -- the header of the link is in the new frame
-popped_room : (next : Next) (frame : List ℕ) (hs : List Header) (e : Ending) (tag : VlanValue) (new : List ℕ)
+pub popped_room : (next : Next) (frame : List ℕ) (hs : List Header) (e : Ending) (tag : VlanValue) (new : List ℕ)
     → IsPopped (frame_start next) frame hs e tag new → 14 ≤ length (drop 4 new)
 popped_room next frame hs e tag new is =
     let h = with_type is.link tag.ether_type in
@@ -284,8 +284,8 @@ pop_refused p start frame buffer error ok is there refuses =
     let x = frame_start (next_of start) in
     let some = some_stack frame x (whole x frame) ok in
     not_popped p
-    (refused (next_of start) frame some.0 some.1 error (record { content = is; walk = some.2 })
-    (refuses some.0 some.1 (subst (λ (l : List ℕ). Walk x l some.0 some.1) (sym here) some.2)))
+    (refused (next_of start) frame some.0 some.1 (record { content = is; walk = some.2 })
+    (error, refuses some.0 some.1 (subst (λ (l : List ℕ). Walk x l some.0 some.1) (sym here) some.2)))
 
 -- a list is as long as it was once a part of it was written
 pub put_len : (a k : ℕ) (xs ys : List ℕ) → a + k ≤ length xs → length ys ≡ k → length (put_mid a k xs ys) ≡ length xs
@@ -309,7 +309,7 @@ more_max : (n o : ℕ) → max (o + 4) (n + 4) ≡ max o n + 4
 more_max n o = omega arith
 
 -- with four bytes more
-keeps_end_more : (p : PacketValue) (frame new : List ℕ) → length new ≡ length frame + 4 → 1 ≤ length frame
+pub keeps_end_more : (p : PacketValue) (frame new : List ℕ) → length new ≡ length frame + 4 → 1 ≤ length frame
     → length frame ≤ length p.packet → KeepsEnd p frame new (p.original_len + 4)
 keeps_end_more p frame new more least front =
     let n = length p.packet in
@@ -421,6 +421,8 @@ push_refused p start frame buffer tpid id error ok is free there refuses =
     let x = frame_start (next_of start) in
     let some = some_stack frame x (whole x frame) ok in
     not_pushed p tpid id
-    (refused (next_of start) frame some.0 some.1 error (record { content = is; walk = some.2 })
-    (subst (λ (l : List ℕ). RefusesPush l some.0 tpid error) here
-    (refuses some.0 some.1 (subst (λ (l : List ℕ). Walk x (drop 4 l) some.0 some.1) (sym here) some.2))))
+    (refused (next_of start) frame some.0 some.1 (record { content = is; walk = some.2 }) (
+      error,
+      subst (λ (l : List ℕ). RefusesPush l some.0 tpid error) here
+          (refuses some.0 some.1 (subst (λ (l : List ℕ). Walk x (drop 4 l) some.0 some.1) (sym here) some.2)),
+    ))

@@ -7,8 +7,9 @@ use Rattle.etherparse.specs.Header.{Header, kind_of, header_len}
 use Rattle.etherparse.specs.Header as headers
 use Rattle.etherparse.specs.LinuxSll.{LinuxSllValue}
 use Rattle.etherparse.specs.LinuxSllProtocolType.{link_protocol_of}
-use Rattle.etherparse.specs.Vlan.{VlanValue, is_vlan_ether_type}
+use Rattle.etherparse.specs.Vlan.{VlanValue, is_vlan_ether_type, vlan_bytes}
 use Rattle.ether_peel.specs.Grammar.Expectation.{Next, Expectation, EtherType, Sll, announced, after, after_capture, next_after}
+use Rattle.ether_peel.specs.Grammar.Places.{place}
 use Rattle.ether_peel.specs.Grammar.Stack.{Ending, Walk, whole}
 use Rattle.ether_peel.proofs.Grammar.Stacks.{one_stack}
 use Rattle.ether_packet.specs.declared.tag_error.TagError.{TagError}
@@ -18,11 +19,14 @@ use Rattle.ether_packet.specs.Popping.{IsPopped, RefusesPop, no_vlan, cut_vlan}
 use Rattle.ether_packet.specs.Popping as popping
 use Rattle.ether_packet.specs.Pushing.{IsPushed, RefusesPush, pushed_bytes, other_tpid, no_room}
 use Rattle.ether_packet.specs.Pushing as pushing
+use Rattle.ether_packet.specs.Replacing.{IsExtAt}
+use Rattle.ether_packet.specs.Setting.{LacksVlan, FindsVlan}
+use Rattle.ether_packet.proofs.FindVlan.{found_once, found_or_lacking, tag_once}
 use Rattle.ether_packet.proofs.TypedLinks.{announced_other}
 use Rattle.ether_pcap.specs.Capture.{PacketValue}
 use Rattle.ether_pcap.specs.Editing.{EditedValue}
 use Rattle.ether_content.specs.Content.{content_of}
-use Rattle.ether_content.specs.Editing.{EditValue, Edits, EditsAreOne, IsFrame, with_frame, frame_start, Pops, Pushes, Stays, tag_with, after_free, no_frame, refused, cuts, not_cut, pops, not_popped, pushes, not_pushed}
+use Rattle.ether_content.specs.Editing.{EditValue, Edits, EditsAreOne, IsFrame, with_frame, frame_start, Pops, Pushes, Stays, tag_with, after_free, no_frame, refused, cuts, not_cut, pops, not_popped, pushes, not_pushed, Sets, sets, not_set}
 use Rattle.ether_content.proofs.HeadersLemmas.{takes_one}
 use Rattle.ether_content.proofs.EditingLemmas.{framed}
 
@@ -110,9 +114,9 @@ pop_refused next frame hs e tag new error walk is (cut_vlan h begins announces) 
     let both : h ∷ [] ≡ is.link ∷ headers.Vlan tag ∷ is.later = sym begins.parts ∙ is.begins.parts in absurd cc
 
 pop_apart : (p : PacketValue) (edited : EditedValue) → Pops p edited
-    → Stays (λ frame hs error. RefusesPop hs error) p → ⊥
+    → Stays (λ frame hs. (error : TagError) × RefusesPop hs error) p → ⊥
 pop_apart p edited a (no_frame none) = none a.next a.frame a.is_frame.content
-pop_apart p edited a (refused next frame hs e error is why) =
+pop_apart p edited a (refused next frame hs e is (error, why)) =
     let same =
     same_frame p a.next next a.frame frame a.headers hs a.ending e a.is_frame is in
     pop_refused a.next a.frame a.headers a.ending a.tag a.new error a.is_frame.walk a.popped
@@ -143,9 +147,9 @@ push_refused start frame hs e tag tpid new error is (pushing.link _ announces ro
     typed_apart hs is.link is.later error is.begins why
 
 push_apart : (p : PacketValue) (tpid id : ℕ) (edited : EditedValue) → Pushes tpid id p edited
-    → Stays (λ frame hs error. RefusesPush (after_free frame) hs tpid error) p → ⊥
+    → Stays (λ frame hs. (error : TagError) × RefusesPush (after_free frame) hs tpid error) p → ⊥
 push_apart p tpid id edited a (no_frame none) = none a.next a.frame a.is_frame.content
-push_apart p tpid id edited a (refused next frame hs e error is why) =
+push_apart p tpid id edited a (refused next frame hs e is (error, why)) =
     let same =
     same_frame p a.next next a.frame frame a.headers hs a.ending e a.is_frame is in
     push_refused (frame_start a.next) a.frame a.headers a.ending (tag_with id) tpid a.new error a.pushed
@@ -167,6 +171,33 @@ pushes_one p tpid id e f a b =
     a.is ∙ ap (λ (l : List ℕ). with_frame p a.frame l (p.original_len + 4)) new
     ∙ ap (λ (l : List ℕ). with_frame p l b.new (p.original_len + 4)) same.frame_is ∙ sym b.is
 
+-- ---- a VLAN tag that gets another identifier
+
+set_apart : (p : PacketValue) (old new : ℕ) (edited : EditedValue) → Sets old new p edited
+    → Stays (λ frame hs. LacksVlan hs old) p → ⊥
+set_apart p old new edited a (no_frame none) = none a.next a.frame a.is_frame.content
+set_apart p old new edited a (refused next frame hs e is lacks) =
+    let same = same_frame p a.next next a.frame frame a.headers hs a.ending e a.is_frame is in
+    found_or_lacking hs old a.index (subst (λ (l : List Header). FindsVlan l old a.index) same.headers_are a.finds) lacks
+
+sets_one : (p : PacketValue) (old new : ℕ) (e f : EditedValue) → Sets old new p e → Sets old new p f → e ≡ f
+sets_one p old new e f a b =
+    let same = same_frame p a.next b.next a.frame b.frame a.headers b.headers a.ending b.ending a.is_frame b.is_frame in
+    let tag =
+    found_once b.headers old a.index b.index
+    (subst (λ (l : List Header). FindsVlan l old a.index) same.headers_are a.finds) b.finds in
+    let place_is =
+    tag_once b.headers b.index a.set.front b.set.front a.set.tag b.set.tag a.set.later b.set.later
+    (subst (λ (i : ℕ). IsExtAt b.headers i a.set.front (headers.Vlan a.set.tag) a.set.later) tag
+    (subst (λ (l : List Header). IsExtAt l a.index a.set.front (headers.Vlan a.set.tag) a.set.later) same.headers_are
+    a.set.found))
+    b.set.found in
+    let written = λ (l : List ℕ) (front : List Header) (v : VlanValue).
+    overwritten l (place 0 front) (vlan_bytes (record v { vid = new })) in
+    let changed : a.changed ≡ b.changed =
+    a.set.bytes ∙ (λ i. written (same.frame_is i) (place_is.0 i) (place_is.1 i)) ∙ sym b.set.bytes in
+    a.is ∙ (λ i. with_frame p (same.frame_is i) (changed i) p.original_len) ∙ sym b.is
+
 -- ---- the law
 
 edited_once : (edit : EditValue) (p : PacketValue) (o q : Option EditedValue) → Edits edit p o → Edits edit p q → o ≡ q
@@ -186,6 +217,10 @@ edited_once edit p o q (pushes _ tpid id e a) (pushes _ _ _ f b) = ap Some (push
 edited_once edit p o q (pushes _ tpid id e a) (not_pushed _ _ _ stays) = absurd (push_apart p tpid id e a stays)
 edited_once edit p o q (not_pushed _ tpid id stays) (pushes _ _ _ e a) = absurd (push_apart p tpid id e a stays)
 edited_once edit p o q (not_pushed _ tpid id stays) (not_pushed _ _ _ again) = refl
+edited_once edit p o q (sets _ old new e a) (sets _ _ _ f b) = ap Some (sets_one p old new e f a b)
+edited_once edit p o q (sets _ old new e a) (not_set _ _ _ stays) = absurd (set_apart p old new e a stays)
+edited_once edit p o q (not_set _ old new stays) (sets _ _ _ e a) = absurd (set_apart p old new e a stays)
+edited_once edit p o q (not_set _ old new stays) (not_set _ _ _ again) = refl
 
 pub edits_one : EditsAreOne
 edits_one edit p o q a b = edited_once edit p o q a b

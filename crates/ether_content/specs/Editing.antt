@@ -1,23 +1,26 @@
 -- What an edit makes of a captured packet.
-use Rattle.std.specs.Prelude.{◌≡◌, ◌≢◌, ℕ, ◌+◌, ◌-◌, ◌<◌, ◌≤◌, List, ◌∷◌, ◌++◌, length, take, drop, Option, Some, None}
+use Rattle.std.specs.Prelude.{◌≡◌, ◌≢◌, ℕ, ◌+◌, ◌-◌, ◌<◌, ◌≤◌, List, ◌∷◌, ◌++◌, length, take, drop, Option, Some, None, ⊤}
+use Rattle.ether_base.specs.Bytes.{IsBytes}
 use Rattle.etherparse.specs.Header.{Header}
 use Rattle.etherparse.specs.Vlan.{VlanValue}
 use Rattle.ether_peel.specs.Grammar.Expectation.{Next, Expectation}
 use Rattle.ether_peel.specs.Grammar.Stack.{Ending, Walk}
 use Rattle.ether_packet.specs.Popping.{IsPopped, RefusesPop}
 use Rattle.ether_packet.specs.Pushing.{IsPushed, RefusesPush}
+use Rattle.ether_packet.specs.Setting.{LacksVlan, FindsVlan, SetsTag}
 use Rattle.ether_packet.specs.declared.tag_error.TagError.{TagError}
 use Rattle.ether_pcap.specs.Capture.{PacketValue}
 use Rattle.ether_pcap.specs.Editing.{EditedValue, edited_packet}
 use Rattle.ether_content.specs.Content.{Frame, content_of}
 use Rattle.ether_content.specs.Headers.{HeadersTake}
 
--- a packet is cut where its headers end; the VLAN tag after the header of its link is taken off; or one is put in there, which is announced by
--- this TPID and has this identifier
+-- a packet is cut where its headers end; the VLAN tag after the header of its link is taken off; one is put in there, which is announced by
+-- this TPID and has this identifier; or the outermost VLAN tag with the old identifier gets the new one
 pub data EditValue : Type 0 where
   CutToHeaders : EditValue
   PopVlan : EditValue
   PushVlan : (tpid id : ℕ) → EditValue
+  SetVlan : (old new : ℕ) → EditValue
 
 abbrev pub frame_start : Next → Expectation
 frame_start next = record { next = next; limit = None }
@@ -66,11 +69,25 @@ pub record Pushes (tpid id : ℕ) (p : PacketValue) (edited : EditedValue) : Typ
   pub is : edited ≡ with_frame p frame new (p.original_len + 4)
   pub content : content_of (edited_packet edited p) ≡ Frame next new
 
+-- The outermost VLAN tag of a frame with one identifier gets another one, and the packet is as long as before. It is still a frame, with the
+-- walk that `SetsTag` says.
+pub record Sets (old new : ℕ) (p : PacketValue) (edited : EditedValue) : Type 0 where
+  pub next : Next
+  pub frame : List ℕ
+  pub headers : List Header
+  pub ending : Ending
+  pub index : ℕ
+  pub changed : List ℕ
+  pub is_frame : IsFrame p next frame headers ending
+  pub finds : FindsVlan headers old index
+  pub set : SetsTag (frame_start next) frame headers ending index (λ tag. record tag { vid = new }) changed
+  pub is : edited ≡ with_frame p frame changed p.original_len
+  pub content : content_of (edited_packet edited p) ≡ Frame next changed
+
 -- A packet stays as it is: it is no frame, or its frame is refused.
-pub data Stays (Refuses : (frame : List ℕ) → List Header → TagError → Type 0) (p : PacketValue) : Type 0 where
+pub data Stays (Refuses : (frame : List ℕ) → List Header → Type 0) (p : PacketValue) : Type 0 where
   no_frame : ((next : Next) (frame : List ℕ) → content_of p ≢ Frame next frame) → Stays Refuses p
-  refused : (next : Next) (frame : List ℕ) (hs : List Header) (e : Ending) (error : TagError) → IsFrame p next frame hs e → Refuses frame hs error
-      → Stays Refuses p
+  refused : (next : Next) (frame : List ℕ) (hs : List Header) (e : Ending) → IsFrame p next frame hs e → Refuses frame hs → Stays Refuses p
 
 -- what an edit makes of a packet, if it does not stay
 pub data Edits : EditValue → PacketValue → Option EditedValue → Type 0 where
@@ -78,10 +95,22 @@ pub data Edits : EditValue → PacketValue → Option EditedValue → Type 0 whe
       → Edits CutToHeaders p (Some (record { original_len = p.original_len; packet = take n p.packet }))
   not_cut : (p : PacketValue) (n : ℕ) → HeadersTake (content_of p) n → length p.packet ≤ n → Edits CutToHeaders p None
   pops : (p : PacketValue) (e : EditedValue) → Pops p e → Edits PopVlan p (Some e)
-  not_popped : (p : PacketValue) → Stays (λ frame hs error. RefusesPop hs error) p → Edits PopVlan p None
+  not_popped : (p : PacketValue) → Stays (λ frame hs. (error : TagError) × RefusesPop hs error) p → Edits PopVlan p None
   pushes : (p : PacketValue) (tpid id : ℕ) (e : EditedValue) → Pushes tpid id p e → Edits (PushVlan tpid id) p (Some e)
-  not_pushed : (p : PacketValue) (tpid id : ℕ) → Stays (λ frame hs error. RefusesPush (after_free frame) hs tpid error) p
-      → Edits (PushVlan tpid id) p None
+  not_pushed : (p : PacketValue) (tpid id : ℕ)
+      → Stays (λ frame hs. (error : TagError) × RefusesPush (after_free frame) hs tpid error) p → Edits (PushVlan tpid id) p None
+  sets : (p : PacketValue) (old new : ℕ) (e : EditedValue) → Sets old new p e → Edits (SetVlan old new) p (Some e)
+  not_set : (p : PacketValue) (old new : ℕ) → Stays (λ frame hs. LacksVlan hs old) p → Edits (SetVlan old new) p None
+
+-- identifiers that a tag gets have 12 bits
+abbrev pub FitsEdit : EditValue → Type 0
+FitsEdit (PushVlan tpid id) = id < 4096
+FitsEdit (SetVlan old new) = new < 4096
+FitsEdit edit = ⊤
+
+-- Each packet is edited to some value, or stays.
+abbrev pub EditsAreSome : Type 0
+EditsAreSome = (edit : EditValue) (p : PacketValue) → FitsEdit edit → IsBytes p.packet → (o : Option EditedValue) × Edits edit p o
 
 -- A packet is edited to one value.
 abbrev pub EditsAreOne : Type 0

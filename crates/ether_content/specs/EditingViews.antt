@@ -1,7 +1,7 @@
 -- An edit, and a packet that was edited, as values.
 use Rattle.std.specs.Prelude.{ℕ, List, slice_range}
 use Rattle.ether_pcap.specs.Editing.{EditedValue}
-use Rattle.ether_content.specs.Editing.{EditValue, CutToHeaders, PopVlan, PushVlan}
+use Rattle.ether_content.specs.Editing.{EditValue, CutToHeaders, PopVlan, PushVlan, SetVlan}
 use Rattle.ether_content.specs.declared.editing.PacketEdit.{PacketEdit}
 use Rattle.ether_content.specs.declared.editing.PacketEdit.TheVariants as edits
 use Rattle.ether_content.specs.declared.editing.EditedPacket.{EditedPacket}
@@ -10,6 +10,7 @@ abbrev pub edit_view : PacketEdit → EditValue
 edit_view edits.CutToHeaders = CutToHeaders
 edit_view edits.PopVlan = PopVlan
 edit_view (edits.PushVlan tpid vlan_id) = PushVlan tpid.0 vlan_id
+edit_view (edits.SetVlan from to) = SetVlan from to
 
 -- the captured bytes are a part of a buffer
 abbrev pub edited_view : (buffer : List ℕ) → EditedPacket → EditedValue

@@ -5,12 +5,12 @@ ghost use Rattle.ether_peel.specs.Walker.Start.{next_of};
 ghost use Rattle.ether_pcap.specs.CaptureViews.{captured_packet_view};
 ghost use Rattle.ether_content.specs.Content.{content_of};
 ghost use Rattle.ether_content.specs.Content as contents;
-ghost use Rattle.ether_content.specs.Editing.{CutToHeaders, PopVlan, PushVlan, Edits};
+ghost use Rattle.ether_content.specs.Editing.{CutToHeaders, PopVlan, PushVlan, SetVlan, Edits};
 ghost use Rattle.ether_content.specs.EditingViews.{edit_view, edited_view};
 
 use crate::content::Content;
 use crate::headers::headers_len;
-use ether_packet::{pop_vlan, push_vlan};
+use ether_packet::{pop_vlan, push_vlan, replace_vlan_id};
 use ether_pcap::CapturedPacket;
 use ether_peel::Start;
 use etherparse::{EtherType, SingleVlanHeader, VlanId, VlanPcp};
@@ -29,6 +29,14 @@ pub enum PacketEdit {
         tpid: EtherType,
         /// The identifier of the tag.
         vlan_id: VlanId,
+    },
+    /// The outermost VLAN tag of a frame with one identifier gets another one, as
+    /// [`replace_vlan_id`](ether_packet::replace_vlan_id) does it.
+    SetVlan {
+        /// The identifier that the tag has.
+        from: VlanId,
+        /// The identifier that it gets.
+        to: VlanId,
     },
 }
 
@@ -53,7 +61,7 @@ const FREE: usize = 4;
 /// Edits a packet, with a buffer for the bytes that it has then. Returns `None` if it stays as it is.
 ///
 /// A packet stays that has no more bytes than its headers take, or is no frame of Ethernet or of cooked capture v1 with a VLAN tag to be
-/// taken off, or a link to put one in after. What was captured of a frame check sequence stays, and doesn't fit the new frame.
+/// taken off or changed, or a link to put one in after. What was captured of a frame check sequence stays, and doesn't fit the new frame.
 ///
 /// # Errors
 ///
@@ -98,6 +106,7 @@ pub fn edit_packet(
         PacketEdit::CutToHeaders => Ok(cut_to_headers(packet, buffer)),
         PacketEdit::PopVlan => Ok(pop(packet, buffer)),
         PacketEdit::PushVlan { tpid, vlan_id } => Ok(push(tpid, vlan_id, packet, buffer)),
+        PacketEdit::SetVlan { from, to } => Ok(set(from, to, packet, buffer)),
     }
 }
 
@@ -210,6 +219,53 @@ fn push_frame(
             original_len: u64::from(packet.original_len) + 4,
         }),
         Err(_) => None,
+    }
+}
+
+/// Gives the outermost VLAN tag of a frame with an identifier another one.
+fn set(
+    from: VlanId,
+    to: VlanId,
+    packet: &CapturedPacket<'_>,
+    buffer: &mut [u8],
+) -> Option<EditedPacket>
+    requires { length packet.now.packet.now + 4 ≤ length buffer.old }
+    ensures edits { Edits (SetVlan from to) (captured_packet_view packet.now)
+        (option_map (edited_view buffer.new) result) }
+    ensures within { IfSome result (λ e. (e.start ≤ e.end) × (e.end ≤ length buffer.new)) }
+    ensures len { length buffer.new ≡ length buffer.old }
+{
+    match Content::of(packet) {
+        Content::Frame(start, frame) => set_in_frame(from, to, start, frame, packet, buffer),
+        _ => None,
+    }
+}
+
+/// Gives a VLAN tag of the frame that a packet is another identifier.
+fn set_in_frame(
+    from: VlanId,
+    to: VlanId,
+    start: Start,
+    frame: &[u8],
+    packet: &CapturedPacket<'_>,
+    buffer: &mut [u8],
+) -> Option<EditedPacket>
+    requires room { length packet.now.packet.now + 4 ≤ length buffer.old }
+    requires frame { content_of (captured_packet_view packet.now) ≡ contents.Frame (next_of start) frame.now }
+    ensures edits { Edits (SetVlan from to) (captured_packet_view packet.now)
+        (option_map (edited_view buffer.new) result) }
+    ensures within { IfSome result (λ e. (e.start ≤ e.end) × (e.end ≤ length buffer.new)) }
+    ensures len { length buffer.new ≡ length buffer.old }
+{
+    let end = FREE + packet.packet.len();
+    put_between(buffer, FREE, end, packet.packet);
+    match replace_vlan_id(start, &mut buffer[FREE..FREE + frame.len()], from, to) {
+        Some(_) => Some(EditedPacket {
+            start: FREE,
+            end,
+            original_len: u64::from(packet.original_len),
+        }),
+        None => None,
     }
 }
 

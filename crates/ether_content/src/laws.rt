@@ -1,5 +1,5 @@
 //! The laws on the headers and the edits of a captured packet. Each is the contract of a function that does nothing.
-ghost use Rattle.ether_content.specs.Editing.{EditsAreOne};
+ghost use Rattle.ether_content.specs.Editing.{EditsAreOne, EditsAreSome};
 ghost use Rattle.ether_content.specs.Headers.{HeadersTakeOne};
 
 /// The headers of any packet take a number of bytes, and only one.
@@ -10,4 +10,9 @@ pub fn headers_take_one()
 /// What an edit makes of a packet is one value.
 pub fn edits_are_one()
     ensures { EditsAreOne }
+{}
+
+/// Each packet is edited to a value, or stays: an edit never leaves open what it makes of one.
+pub fn edits_are_some()
+    ensures { EditsAreSome }
 {}

@@ -23,3 +23,5 @@ pub mod PushedPopped
 pub mod Retyped
 pub mod SetTags
 pub mod ReachLemmas
+pub mod FindVlan
+pub mod TagChanges

@@ -1,5 +1,6 @@
 -- A VLAN tag that is changed in place, and the ether type that announces it.
-use Rattle.std.specs.Prelude.{◌≡◌, ℕ, ◌-◌, ◌≤◌, List, [], ◌∷◌, ◌++◌, true, false}
+use Rattle.std.specs.Prelude.{◌≡◌, ◌≢◌, ℕ, ◌-◌, ◌≤◌, List, [], ◌∷◌, ◌++◌, true, false}
+use Rattle.std.specs.List.{All}
 use Rattle.etherparse.specs.Bytes.{spelled, overwritten}
 use Rattle.etherparse.specs.Macsec.{SecTagValue}
 use Rattle.etherparse.specs.Vlan.{VlanValue, is_vlan_ether_type, vlan_bytes, vlan_view}
@@ -11,6 +12,7 @@ use Rattle.ether_peel.specs.Grammar.Stack.{Ending, Walk}
 use Rattle.ether_packet.specs.declared.setting.PlacedVlan.{PlacedVlan}
 use Rattle.ether_packet.specs.declared.tag_error.TagError.{TagError}
 use Rattle.ether_packet.specs.declared.tag_error.TagError.TheVariants as errors
+use Rattle.ether_packet.specs.Getters.{vlan_ids_of}
 use Rattle.ether_packet.specs.Replacing.{ext_count, IsExtAt}
 use Rattle.ether_packet.specs.TypedLink.{with_type}
 
@@ -50,6 +52,21 @@ pub data RefusesTpid (hs : List Header) (i tpid : ℕ) : TagError → Type 0 whe
   tag : (error : TagError) → is_vlan_ether_type tpid ≡ true → RefusesTag hs i error → RefusesTpid hs i tpid error
   unannounced : (v : VlanValue) (later : List Header)
       → is_vlan_ether_type tpid ≡ true → IsExtAt hs i [] (headers.Vlan v) later → RefusesTpid hs i tpid errors.Unannounced
+
+-- ---- the outermost one with an identifier
+
+-- no VLAN tag of these headers has this identifier
+abbrev pub LacksVlan : List Header → (vid : ℕ) → Type 0
+LacksVlan hs vid = All (λ id. id ≢ vid) (vlan_ids_of hs)
+
+-- The extension at an index of these headers is a VLAN tag with this identifier, and no VLAN tag before it has it.
+pub record FindsVlan (hs : List Header) (vid i : ℕ) : Type 0 where
+  pub front : List Header
+  pub tag : VlanValue
+  pub later : List Header
+  pub found : IsExtAt hs i front (headers.Vlan tag) later
+  pub has : tag.vid ≡ vid
+  pub outermost : LacksVlan front vid
 
 -- ---- how it is found
 

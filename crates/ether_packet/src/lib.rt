@@ -33,6 +33,6 @@ pub use pushing::push_vlan;
 pub use replace_error::ReplaceError;
 pub use replacing::{replace_link, replace_link_ext};
 pub use replacing_arp::replace_arp;
-pub use setting::{set_tpid, set_vlan_id, set_vlan_tag};
+pub use setting::{find_vlan, replace_vlan_id, set_tpid, set_vlan_id, set_vlan_tag};
 pub use snap_len::min_snap_len;
 pub use tag_error::TagError;

@@ -1,15 +1,20 @@
 //! VLAN tags that are changed in place.
-ghost use Rattle.std.specs.Prelude.{◌≡◌, ◌+◌, ◌≤◌, List, length, IfOk, IfErr, OnErr};
+ghost use Rattle.std.specs.Prelude.{◌≡◌, ◌+◌, ◌≤◌, List, length, [], ◌∷◌, IfOk, IfErr, IfSome, IfNone, MatchOption, OnErr};
 ghost use Rattle.etherparse.specs.Bytes.{IsBytes, bit};
 ghost use Rattle.etherparse.specs.Header.{Header};
+ghost use Rattle.etherparse.specs.Header as headers;
+ghost use Rattle.etherparse.specs.Vlan.{vlan_view};
 ghost use Rattle.ether_peel.specs.Grammar.Stack.{Ending, Walk};
+ghost use Rattle.ether_peel.specs.Walker.Start.{start_of};
+ghost use Rattle.ether_peel.specs.Walker.UnitHeader.{unit_header};
 ghost use Rattle.ether_packet.specs.Packet.{packet_start};
-ghost use Rattle.ether_packet.specs.Setting.{IsPlacedVlan, SetsTag, RefusesTag, SetsTpid, RefusesTpid};
+ghost use Rattle.ether_packet.specs.Replacing.{ext_count as ext_count_of};
+ghost use Rattle.ether_packet.specs.Setting.{IsPlacedVlan, LacksVlan, FindsVlan, SetsTag, RefusesTag, SetsTpid, RefusesTpid};
 
 use crate::packet_builder::put_at;
 use crate::typed_link::announces_vlan;
 use crate::{PacketSlice, TagError};
-use ether_peel::Start;
+use ether_peel::{Peel, PeelUnit, Start};
 use etherparse::{EtherType, LinkExtHeader, SingleVlanHeader, VlanId, VlanPcp};
 
 /// A VLAN tag of a frame, and where it starts.
@@ -17,6 +22,78 @@ use etherparse::{EtherType, LinkExtHeader, SingleVlanHeader, VlanId, VlanPcp};
 struct PlacedVlan {
     at: usize,
     tag: SingleVlanHeader,
+}
+
+/// A VLAN tag of a frame, and its index among VLAN tags and SecTags.
+#[derive(Clone, Copy)]
+struct IndexedVlan {
+    index: usize,
+    placed: PlacedVlan,
+}
+
+/// The index of the outermost VLAN tag with an identifier; `None` if no VLAN tag of the frame has it.
+///
+/// The index counts VLAN tags and SecTags, the outermost first. There may be any number of them; [`PacketSlice::link_exts`] and
+/// [`set_vlan_id`] know the first three.
+///
+/// # Examples
+///
+/// ```
+/// let frame = [
+///     0xFF, 0xFF, 0xFF, 0xFF, 0xFF, 0xFF, 0x02, 0x00, 0x00, 0x00, 0x00, 0x01, 0x88, 0xA8, // Ethernet II
+///     0x00, 0x64, 0x81, 0x00, // VLAN 100
+///     0x00, 0x05, 0x08, 0x00, // VLAN 5
+///     0x45,
+/// ];
+/// assert_eq!(rt; find_vlan(Start::Ethernet2, &frame, VlanId::try_new(5)?), Some(1));
+/// assert_eq!(rt; find_vlan(Start::Ethernet2, &frame, VlanId::try_new(6)?), None);
+/// ```
+pub fn find_vlan(start: Start, frame: &[u8], vlan_id: VlanId) -> Option<usize>
+    ensures some { IfSome result (λ index. (hs : List Header) (e : Ending)
+        → Walk (start_of start) frame.now hs e → FindsVlan hs vlan_id index) }
+    ensures none { IfNone result ((hs : List Header) (e : Ending)
+        → Walk (start_of start) frame.now hs e → LacksVlan hs vlan_id) }
+{
+    let found = outermost_with(start, frame, vlan_id)?;
+    Some(found.index)
+}
+
+/// Gives the outermost VLAN tag with an identifier another identifier, in place, and returns its index; `None` if no VLAN tag of
+/// the frame has it, and the frame then stays as it was.
+///
+/// The index is that of [`find_vlan`]. Priority code point and drop eligible indicator of the tag, all other headers and the
+/// payload stay as they were. A frame check sequence and an integrity check value stay as they were, and don't fit the new
+/// bytes.
+///
+/// # Examples
+///
+/// ```
+/// let mut frame = [
+///     0xFF, 0xFF, 0xFF, 0xFF, 0xFF, 0xFF, 0x02, 0x00, 0x00, 0x00, 0x00, 0x01, 0x88, 0xA8, // Ethernet II
+///     0x00, 0x64, 0x81, 0x00, // VLAN 100
+///     0xB0, 0x05, 0x08, 0x00, // VLAN 5
+///     0x45,
+/// ];
+/// let index = replace_vlan_id(Start::Ethernet2, &mut frame, VlanId::try_new(5)?, VlanId::try_new(0x456)?);
+/// assert_eq!(rt; index, Some(1));
+/// assert_eq!(rt; frame[14..], [0x00, 0x64, 0x81, 0x00, 0xB4, 0x56, 0x08, 0x00, 0x45]);
+/// ```
+pub fn replace_vlan_id(start: Start, frame: &mut [u8], from: VlanId, to: VlanId) -> Option<usize>
+    ensures some { IfSome result (λ index. (hs : List Header) (e : Ending)
+        → Walk (start_of start) frame.old hs e
+        → FindsVlan hs from index
+        × SetsTag (start_of start) frame.old hs e index (λ tag. record tag { vid = to }) frame.new) }
+    ensures none { IfNone result ((hs : List Header) (e : Ending)
+        → Walk (start_of start) frame.old hs e → LacksVlan hs from) }
+    ensures kept { IfNone result (frame.new ≡ frame.old) }
+{
+    let IndexedVlan { index, placed } = outermost_with(start, frame, from)?;
+    let tag = SingleVlanHeader {
+        vlan_id: to,
+        ..placed.tag
+    };
+    put_at(frame, placed.at, tag.to_bytes());
+    Some(index)
 }
 
 /// Sets the identifier of a VLAN tag of a frame in place.
@@ -184,5 +261,55 @@ fn vlan_at(start: Start, frame: &[u8], index: usize) -> Result<PlacedVlan, TagEr
             }),
             LinkExtHeader::Macsec(_) => Err(TagError::NoVlan),
         },
+    }
+}
+
+/// The outermost VLAN tag with an identifier.
+fn outermost_with(start: Start, frame: &[u8], vlan_id: VlanId) -> Option<IndexedVlan>
+    ensures found { IfSome result (λ found. (hs : List Header) (e : Ending)
+        → Walk (start_of start) frame.now hs e
+        → FindsVlan hs vlan_id found.index × IsPlacedVlan hs found.index found.placed) }
+    ensures room { IfSome result (λ found. found.placed.at + 4 ≤ length frame.now) }
+    ensures none { IfNone result ((hs : List Header) (e : Ending)
+        → Walk (start_of start) frame.now hs e → LacksVlan hs vlan_id) }
+{
+    let mut peel = Peel::new(start, frame);
+    let mut index = 0;
+    loop {
+        let at = peel.offset();
+        match peel.next() {
+            Some(Ok(unit)) => match tag_with(&unit, vlan_id) {
+                Some(tag) => {
+                    let placed = PlacedVlan { at, tag };
+                    return Some(IndexedVlan { index, placed });
+                }
+                None => index += ext_count(&unit),
+            },
+            Some(Err(_)) => return None,
+            None => return None,
+        }
+    }
+}
+
+/// The VLAN tag that a unit is, if it has an identifier.
+#[inline(always)]
+fn tag_with(unit: &PeelUnit<'_>, vlan_id: VlanId) -> Option<SingleVlanHeader>
+    ensures { MatchOption result (LacksVlan (unit_header unit.now ∷ []) vlan_id)
+        (λ tag. (unit_header unit.now ≡ headers.Vlan (vlan_view tag)) × (tag.vlan_id ≡ vlan_id)) }
+{
+    match unit {
+        PeelUnit::Vlan(tag) if tag.vlan_identifier() == vlan_id => Some(tag.to_header()),
+        _ => None,
+    }
+}
+
+/// How many VLAN tags and SecTags a unit is.
+#[inline(always)]
+fn ext_count(unit: &PeelUnit<'_>) -> usize
+    ensures { result ≡ ext_count_of (unit_header unit.now ∷ []) }
+{
+    match unit {
+        PeelUnit::Vlan(_) | PeelUnit::Macsec(_) => 1,
+        _ => 0,
     }
 }

@@ -167,20 +167,31 @@ fn of_edits(rt: HostRuntime) -> Result<(), Fail> {
         0x00, 0x05, 0x81, 0x00, 0xB1, 0x23, 0x08, 0x00, //
         0x45, 0x00,
     ];
+    let other = [
+        0xFF, 0xFF, 0xFF, 0xFF, 0xFF, 0xFF, 0x02, 0x00, 0x00, 0x00, 0x00, 0x01, 0x81, 0x00, //
+        0xB0, 0x05, 0x08, 0x00, // VLAN 5
+        0x45, 0x00,
+    ];
     let push = PacketEdit::PushVlan {
         tpid: EtherType::PROVIDER_BRIDGING,
         vlan_id: VlanId::try_new(5)?,
+    };
+    let set = PacketEdit::SetVlan {
+        from: VlanId::try_new(291)?,
+        to: VlanId::try_new(5)?,
     };
     let frame = packet(1, None, 60, &tagged);
     let raw = packet(101, None, 60, &tagged);
     assert!(rt; is_edited(PacketEdit::CutToHeaders, &frame, 60, &tagged[..18]));
     assert!(rt; is_edited(PacketEdit::PopVlan, &frame, 56, &popped));
     assert!(rt; is_edited(push, &frame, 64, &pushed));
+    assert!(rt; is_edited(set, &frame, 60, &other));
     assert_eq!(rt;
         edit_packet(PacketEdit::PopVlan, &raw, &mut [0; 24]),
         Ok(None)
     );
     assert_eq!(rt; edit_packet(push, &raw, &mut [0; 24]), Ok(None));
+    assert_eq!(rt; edit_packet(set, &raw, &mut [0; 24]), Ok(None));
     assert_eq!(rt; edit_packet(push, &frame, &mut [0; 23]), Err(NoRoom));
     Ok(())
 }

@@ -1,6 +1,8 @@
 //! VLAN tags that are taken off, put in and changed in place. The frames with a tag and without it are those of scapy 2.5.0.
 use super::frames::{CONFIDENTIALITY, FOUR_TAGS, INTEGRITY, SECOND_TAG_CUT, TAG_IN_SEC_TAG};
-use ether_packet::{TagError, pop_vlan, push_vlan, set_tpid, set_vlan_id, set_vlan_tag};
+use ether_packet::{
+    TagError, find_vlan, pop_vlan, push_vlan, replace_vlan_id, set_tpid, set_vlan_id, set_vlan_tag,
+};
 use ether_peel::Start;
 use etherparse::{ArpHardwareId, EtherType, SingleVlanHeader, VlanId, VlanPcp};
 use std::alloc::AllocError;
@@ -313,6 +315,97 @@ fn fields_at_an_index(rt: HostRuntime) -> Result<(), Fail> {
         Err(TagError::Unannounced),
     );
     Ok(())
+}
+
+/// The outermost tag with an identifier gets 0xABC: the index of the tag, and two bytes that change from a place on; nothing if no
+/// tag has it.
+fn replaces(
+    rt: &impl Abort,
+    name: &str,
+    start: Start,
+    frame: &[u8],
+    from: VlanId,
+    wanted: Option<(usize, usize, &[u8])>,
+) -> Result<(), Fail> {
+    let mut changed = [0; 96];
+    let mut after = [0; 96];
+    copy(frame, &mut changed, 0);
+    copy(frame, &mut after, 0);
+    let len = frame.len().min(96);
+    let wanted = match wanted {
+        Some((index, place, bytes)) => {
+            copy(bytes, &mut after, place);
+            Some(index)
+        }
+        None => None,
+    };
+    let found = find_vlan(start, &changed[..len], from);
+    assert_eq!(rt; found, wanted, "{name}");
+    let to = VlanId::try_new(0xABC)?;
+    let result = replace_vlan_id(start, &mut changed[..len], from, to);
+    assert_eq!(rt; result, wanted, "{name}");
+    assert_eq!(rt; changed.as_slice(), after.as_slice(), "{name}");
+    Ok(())
+}
+
+#[test]
+fn tags_with_an_identifier(rt: HostRuntime) -> Result<(), Fail> {
+    let (eth, sealed) = (Start::Ethernet2, Start::EtherType(EtherType::MACSEC));
+    let inner = Start::EtherType(EtherType::VLAN_TAGGED_FRAME);
+    let two = [
+        0xFF, 0xFF, 0xFF, 0xFF, 0xFF, 0xFF, 0x02, 0x00, 0x00, 0x00, 0x00, 0x01, 0x88, 0xA8, 0x00,
+        0x64, 0x81, 0x00, 0xB0, 0x05, 0x08, 0x00, 0x45,
+    ];
+    let equal = [0x20, 0x05, 0x81, 0x00, 0x40, 0x05, 0x08, 0x00];
+    let (five, hundred) = (VlanId::try_new(5)?, VlanId::try_new(100)?);
+    let (second, fourth, in_sec) = (
+        VlanId::try_new(2)?,
+        VlanId::try_new(4)?,
+        VlanId::try_new(0xABB)?,
+    );
+    replaces(
+        &rt,
+        "customer",
+        eth,
+        &two,
+        five,
+        Some((1, 18, &[0xBA, 0xBC])),
+    )?;
+    replaces(
+        &rt,
+        "service",
+        eth,
+        &two,
+        hundred,
+        Some((0, 14, &[0x0A, 0xBC])),
+    )?;
+    replaces(
+        &rt,
+        "equal",
+        inner,
+        &equal,
+        five,
+        Some((0, 0, &[0x2A, 0xBC])),
+    )?;
+    replaces(
+        &rt,
+        "fourth",
+        inner,
+        &FOUR_TAGS,
+        fourth,
+        Some((3, 12, &[0x0A, 0xBC])),
+    )?;
+    replaces(
+        &rt,
+        "in a SecTag",
+        sealed,
+        &TAG_IN_SEC_TAG,
+        in_sec,
+        Some((1, 8, &[0xAA, 0xBC])),
+    )?;
+    replaces(&rt, "absent", eth, &two, second, None)?;
+    replaces(&rt, "cut", eth, &SECOND_TAG_CUT, second, None)?;
+    replaces(&rt, "a SecTag", eth, &INTEGRITY, second, None)
 }
 
 #[test]

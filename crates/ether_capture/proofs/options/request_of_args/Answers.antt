@@ -6,7 +6,8 @@ use Rattle.ether_text.specs.Arguments.{words_after}
 use Rattle.ether_text.proofs.ArgumentsLemmas.{words_after-name, words_end}
 use Rattle.ether_capture.specs.Options.{Help, Version, IsWord, NamesRequest, help, version, asked_view, words_left}
 use Rattle.ether_capture.specs.declared.options.Request.TheVariants as requests
-use Rattle.ether_capture.proofs.OptionsLemmas.{no_word_named, lone_named, options_named, options_wrong}
+use Rattle.ether_capture.specs.declared.options.Word.TheVariants as kinds
+use Rattle.ether_capture.proofs.OptionsLemmas.{no_word_named, lone_named, lone_refused, options_named, options_wrong}
 use Rattle.ether_capture.proofs.options.request_of_args.Goals as goal
 
 pub returns-in_default-clause-ok : goal.returns-in_default-clause-ok
@@ -40,6 +41,24 @@ returns-in-Version-clause-ok c =
     requests.Version c.alone-in-Version.result is
     (subst (λ (w : List ℕ). NamesRequest (w ∷ []) Version) (sym word) version)
     c.alone-in-Version.ensures.ok c.alone-in-Version.ensures.last
+
+pub returns-in-Help-clause-err : goal.returns-in-Help-clause-err
+returns-in-Help-clause-err c =
+    let is =
+    words_after-name c.args.args c.next-program.new.self c.next-program.result c.next-program.ensures.cases
+    ∙ ap (map string_bytes) c.in-Some.ensures.items in
+    lone_refused (words_after (into_iter_items c.args.args)) (words_left c.next.new.self) (string_bytes c.in-Some.first)
+    kinds.Help c.alone.result is c.alone.ensures.err c.alone.ensures.more
+    (subst (λ (w : List ℕ). IsWord w kinds.Help) c.as_str.ensures.value c.in-Help.ensures) (λ a never. never)
+
+pub returns-in-Version-clause-err : goal.returns-in-Version-clause-err
+returns-in-Version-clause-err c =
+    let is =
+    words_after-name c.args.args c.next-program.new.self c.next-program.result c.next-program.ensures.cases
+    ∙ ap (map string_bytes) c.in-Some.ensures.items in
+    lone_refused (words_after (into_iter_items c.args.args)) (words_left c.next.new.self) (string_bytes c.in-Some.first)
+    kinds.Version c.alone-in-Version.result is c.alone-in-Version.ensures.err c.alone-in-Version.ensures.more
+    (subst (λ (w : List ℕ). IsWord w kinds.Version) c.as_str.ensures.value c.in-Version.ensures) (λ a never. never)
 
 pub returns : goal.returns
 returns c =

@@ -3,8 +3,9 @@ use Rattle.std.specs.Prelude.{string_bytes}
 use Rattle.ether_content.specs.EditingViews.{edit_view}
 use Rattle.ether_capture.specs.Options.{IsWord, asked_view, words_left}
 use Rattle.ether_capture.specs.declared.options.Word.TheVariants as kinds
-use Rattle.ether_capture.proofs.OptionsLemmas.{ask_plain, ask_write, ask_cut, ask_pop, ask_push, ask_select, none_taken, none_mapped, ask_name_last}
+use Rattle.ether_capture.proofs.OptionsLemmas.{ask_plain, ask_write, ask_cut, ask_pop, ask_tag, ask_select, none_taken, some_taken, none_mapped, some_mapped, ask_name_last, follows, asks_nothing}
 use Rattle.ether_capture.proofs.options.Asked.take.Goals as goal
+use Rattle.ether_capture.proofs.options.Asked.take.Goals.{in_default-via-in-Name+else-is_none, in_default-via-in-Plain+else-not-self, in_default-via-in-Write+else-not-self-2, in_default-via-in-Cut+else-is_none-2, in_default-via-in-Pop+else-is_none-3, in_default-via-in-Tag+else-is_none-4, in_default-via-in-Select+else-is_none-5, in_default-via-in_default}
 
 pub returns-in-Name-clause-ok : goal.returns-in-Name-clause-ok
 returns-in-Name-clause-ok c =
@@ -43,10 +44,50 @@ returns-in-Some-next-clause-ok c =
     (words_left c.args.args.now) (words_left c.next-in-Select.new.self) is
     (none_mapped string_bytes c.args.self.now.text (search rules)) (ap (map string_bytes) c.in-Some-next.ensures.items)
 
-pub returns-in_ok-pushed-in-Some-clause-ok : goal.returns-in_ok-pushed-in-Some-clause-ok
-returns-in_ok-pushed-in-Some-clause-ok c =
-    let is = subst (λ (w : List ℕ). IsWord w kinds.Push) c.as_str.ensures.value c.in-Push.ensures in
-    ask_push (asked_view c.args.self.now) (string_bytes c.args.word) (string_bytes c.in-Some.text)
-    (edit_view c.in_ok-pushed-in-Some.field-0) (words_left c.args.args.now) (words_left c.next-in-Push.new.self) is
-    c.in_ok-pushed-in-Some.ensures.ok (none_mapped edit_view c.args.self.now.edit (search rules))
+pub returns-in_ok-tag_edit-in-Some-clause-ok : goal.returns-in_ok-tag_edit-in-Some-clause-ok
+returns-in_ok-tag_edit-in-Some-clause-ok c =
+    let kind = c.in-Tag.kind in
+    let is = subst (λ (w : List ℕ). IsWord w (kinds.Tag kind)) c.as_str.ensures.value c.in-Tag.ensures in
+    ask_tag (asked_view c.args.self.now) kind (string_bytes c.args.word) (string_bytes c.in-Some.text)
+    (edit_view c.in_ok-tag_edit-in-Some.field-0) (words_left c.args.args.now) (words_left c.next-in-Tag.new.self) is
+    c.in_ok-tag_edit-in-Some.ensures.ok (none_mapped edit_view c.args.self.now.edit (search rules))
     (ap (map string_bytes) c.in-Some.ensures.items)
+
+pub returns-in_default-clause-err : goal.returns-in_default-clause-err
+returns-in_default-clause-err c asked asks =
+    let self = c.args.self.now in
+    let a = asked_view self in
+    let word = string_bytes c.args.word in
+    let words = words_left c.args.args.now in
+    elim c.in_default.branch [
+      | in_default-via-in-Name+else-is_none w ↦
+          let is = subst (λ (v : List ℕ). IsWord v kinds.Name) c.as_str.ensures.value w.in-Name.ensures in
+          some_taken c.args.args.now w.next.new.self w.next.result w.next.ensures.cases (search rules)
+          (follows kinds.Name a asked word words is asks).0
+      | in_default-via-in-Plain+else-not-self w ↦
+          let is = subst (λ (v : List ℕ). IsWord v kinds.Plain) c.as_str.ensures.value w.in-Plain.ensures in
+          let off = (follows kinds.Plain a asked word words is asks).0 in
+          absurd (search (rules, off))
+      | in_default-via-in-Write+else-not-self-2 w ↦
+          let is = subst (λ (v : List ℕ). IsWord v kinds.Write) c.as_str.ensures.value w.in-Write.ensures in
+          let off = (follows kinds.Write a asked word words is asks).0 in
+          absurd (search (rules, off))
+      | in_default-via-in-Cut+else-is_none-2 w ↦
+          let is = subst (λ (v : List ℕ). IsWord v kinds.Cut) c.as_str.ensures.value w.in-Cut.ensures in
+          some_mapped edit_view self.edit (search rules) (follows kinds.Cut a asked word words is asks).0
+      | in_default-via-in-Pop+else-is_none-3 w ↦
+          let is = subst (λ (v : List ℕ). IsWord v kinds.Pop) c.as_str.ensures.value w.in-Pop.ensures in
+          some_mapped edit_view self.edit (search rules) (follows kinds.Pop a asked word words is asks).0
+      | in_default-via-in-Tag+else-is_none-4 w ↦
+          let kind = w.in-Tag.kind in
+          let is = subst (λ (v : List ℕ). IsWord v (kinds.Tag kind)) c.as_str.ensures.value w.in-Tag.ensures in
+          some_mapped edit_view self.edit (search rules) (follows (kinds.Tag kind) a asked word words is asks).5
+      | in_default-via-in-Select+else-is_none-5 w ↦
+          let is = subst (λ (v : List ℕ). IsWord v kinds.Select) c.as_str.ensures.value w.in-Select.ensures in
+          some_mapped string_bytes self.text (search rules) (follows kinds.Select a asked word words is asks).3
+      | in_default-via-in_default w ↦
+          let is = subst (λ (v : List ℕ). IsWord v c.word_of.result) c.as_str.ensures.value c.word_of.ensures in
+          let not = w.in_default in
+          asks_nothing c.word_of.result a asked word words is not.not-Name not.not-Plain not.not-Write not.not-Cut
+          not.not-Pop not.not-Tag not.not-Select asks
+    ]

@@ -1,0 +1,34 @@
+use Rattle.std.proofs.Common.{ap, arith}
+use Rattle.ether_peel.specs.Walker.Start.{start_of}
+use Rattle.ether_peel.specs.Walker.State.{State}
+use Rattle.ether_packet.proofs.FindVlan.{passed_first, passed_unit, passed_tag, index_inside}
+use Rattle.ether_packet.proofs.setting.outermost_with.Goals as goal
+
+pub loop-unit-init : goal.loop-unit-init
+loop-unit-init c hs e walk =
+    passed_first (start_of c.args.start) c.args.frame.now c.new-peel.result hs e c.args.vlan_id c.new-peel.ensures.walk
+    (ap (λ (s : State). s.over) c.new-peel.ensures.state) walk
+
+pub returns-in-Some-clause-found : goal.returns-in-Some-clause-found
+returns-in-Some-clause-found c hs e walk =
+    let gives = rw c.in-Some-Ok.field-0-is at c.in-Some-Ok.ensures.steps in
+    passed_tag c.args.frame.now c.loop-unit.peel c.next.new.self hs e c.args.vlan_id c.loop-unit.index c.in-Some-Ok.unit
+    (record { at = c.offset-at.result; tag = c.in-Some.tag }) (λ i. omega (arith, c.type_inv.frame i))
+    (c.loop-unit.invariant hs e walk) gives c.in-Some.ensures.0 c.in-Some.ensures.1 c.offset-at.ensures.value
+
+pub overflow_add-index : goal.overflow_add-index
+overflow_add-index c =
+    let gives = rw c.in-Some-Ok.field-0-is at c.in-Some-Ok.ensures.steps in
+    let inside =
+    index_inside (start_of c.args.start) c.args.frame.now c.loop-unit.peel c.next.new.self c.new-peel.result
+    c.args.vlan_id c.loop-unit.index c.in-Some-Ok.unit (λ i. omega (arith, c.type_inv.frame i)) c.new-peel.ensures.walk
+    c.loop-unit.invariant gives in
+    omega (arith, inside, c.ext_count-index.ensures, c.offset-at.ensures.fits)
+
+pub loop-unit-preserved : goal.loop-unit-preserved
+loop-unit-preserved c hs e walk =
+    let gives = rw c.in-Some-Ok.field-0-is at c.in-Some-Ok.ensures.steps in
+    rw c.ext_count-index.ensures
+    (passed_unit c.args.frame.now c.loop-unit.peel c.next.new.self hs e c.args.vlan_id c.loop-unit.index
+    c.in-Some-Ok.unit (λ i. omega (arith, c.type_inv.frame i)) (c.loop-unit.invariant hs e walk) gives
+    c.in-None-tag_with.ensures)
