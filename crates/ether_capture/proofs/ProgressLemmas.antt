@@ -18,7 +18,7 @@ use Rattle.ether_text.specs.declared.output_buffer.OutputBuffer.{OutputBuffer}
 use Rattle.ether_text.specs.declared.verdict.Verdict.{Verdict}
 use Rattle.ether_text.proofs.KnownBytesLemmas.{Appends-none, Appends-then, Appends-written_out}
 use Rattle.ether_capture.specs.Answering.{AreAnswered}
-use Rattle.ether_capture.specs.Copying.{EditsTo, EditsIf, CopyGoesOn}
+use Rattle.ether_capture.specs.Copying.{EditsIf, CopyGoesOn}
 use Rattle.ether_capture.specs.FrameLines.{AnswersPacket, skip_count}
 use Rattle.ether_capture.specs.Packets.{counted, GoesOn, HasFewer, EndsAtCount}
 use Rattle.ether_capture.specs.Progress.{Made, IsLeftOf, LeavesLess, Reached, IsStart, IsUnitOf, Writes, writes_unit, writes_nothing, writes_packet, Makes, other_text, Counts, TakesUnit, StopsUnwritten, Unedited, UneditedIn, StopsAfter, OnNotEdited}

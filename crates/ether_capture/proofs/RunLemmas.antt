@@ -24,9 +24,9 @@ use Rattle.ether_content.specs.Editing.{EditValue}
 use Rattle.ether_capture.specs.Copying.{IsCopyTo}
 use Rattle.ether_capture.specs.FrameLines.{skip_count}
 use Rattle.ether_capture.specs.Packets.{counted, GoesOn, HasFewer}
-use Rattle.ether_capture.specs.Progress.{Made, Reached, TakesUnits, Unedited, UneditedIn, StopsAfter, OnNotEdited, IsTakingFault, last_lines}
+use Rattle.ether_capture.specs.Progress.{Made, Reached, TakesUnits, UneditedIn, StopsAfter, OnNotEdited, IsTakingFault, last_lines}
 use Rattle.ether_capture.specs.Run.{Completes, CompletesAll, ReachesCount, StopsAtFault, StopsAtPacket, EndsInUnit, AnswersSlice, NeedsMemory, HasRun, OnStreamFault}
-use Rattle.ether_capture.specs.Task.{TaskValue, FormValue, Lines, Copy, IsChosen}
+use Rattle.ether_capture.specs.Task.{TaskValue, FormValue, Lines, Copy}
 use Rattle.ether_capture.specs.declared.outcome.RunFault.{RunFault}
 use Rattle.ether_capture.specs.declared.outcome.RunFault.TheVariants as faults
 use Rattle.ether_capture.specs.declared.progress.Progress.{Progress}

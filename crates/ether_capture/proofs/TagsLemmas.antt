@@ -43,7 +43,7 @@ no_split text before after none is =
     let some = length-slice_split (λ b. b == 58) after in
     omega (arith, len, some)
 
-same_number : (m n : ℕ) (o : Option (Option ℕ)) → o ≡ Some (Some m) → o ≡ Some (Some n) → m ≡ n
+pub same_number : (m n : ℕ) (o : Option (Option ℕ)) → o ≡ Some (Some m) → o ≡ Some (Some n) → m ≡ n
 same_number m n o e f =
     ap (λ (z : Option (Option ℕ)). unwrap_or (unwrap_or z (Some m)) m) (sym e ∙ f)
 

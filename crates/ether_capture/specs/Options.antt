@@ -1,10 +1,12 @@
 -- What the words after the program's name ask for.
-use Rattle.std.specs.Prelude.{◌≡◌, ◌≢◌, ◌↔◌, ℕ, List, [], ◌∷◌, map, codes, Bool, true, false, if◌then◌else◌, Option, Some, None, String, string_bytes, ⊤}
+use Rattle.std.specs.Prelude.{◌≡◌, ◌≢◌, ◌<◌, ◌↔◌, ℕ, List, [], ◌∷◌, map, codes, Bool, true, false, if◌then◌else◌, Option, Some, None, String, string_bytes, ⊤}
+use Rattle.std.specs.Int.NonZero.{non_zero_usize_get}
 use Rattle.std.specs.Option.{option_map, is_some}
 use Rattle.std.specs.Vec.Iter.{into_iter_items}
 use Rattle.std.specs.declared.vec.IntoIter.{IntoIter}
 use Rattle.ether_filter.specs.Expressions.{Expression}
 use Rattle.ether_filter.specs.Texts.{IsExpressionOf}
+use Rattle.ether_filter.specs.Numerals.{number_in}
 use Rattle.ether_filter.specs.Refusals.{RefusesText}
 use Rattle.ether_filter.specs.declared.filter_error.FilterError.{FilterError}
 use Rattle.ether_content.specs.Editing.{EditValue, CutToHeaders, PopVlan}
@@ -43,10 +45,15 @@ pub record AskedValue : Type 0 where
   pub write : Bool
   pub edit : Option EditValue
   pub text : Option (List ℕ)
+  pub count : Option ℕ
   pub file : Option (List ℕ)
 
 abbrev pub nothing_asked : AskedValue
-nothing_asked = record { plain = false; write = false; edit = None; text = None; file = None }
+nothing_asked = record { plain = false; write = false; edit = None; text = None; count = None; file = None }
+
+-- a number of packets, written as in a filter, and not 0
+abbrev pub IsCount : (text : List ℕ) → ℕ → Type 0
+IsCount text n = (number_in text ≡ Some (Some n)) × (0 < n)
 
 -- What is asked for with these words, after the words before them. Options come in any order, each once at most, with one edit
 -- at most, and the name of a file comes last.
@@ -65,6 +72,8 @@ pub data Asks : AskedValue → List (List ℕ) → AskedValue → Type 0 where
       → Asks (record a { edit = Some e }) words b → Asks a (word ∷ text ∷ words) b
   select : (a b : AskedValue) (text : List ℕ) (words : List (List ℕ)) → a.text ≡ None → Asks (record a { text = Some text }) words b
       → Asks a (codes "--select" ∷ text ∷ words) b
+  count : (a b : AskedValue) (text : List ℕ) (n : ℕ) (words : List (List ℕ)) → IsCount text n → a.count ≡ None
+      → Asks (record a { count = Some n }) words b → Asks a (codes "-c" ∷ text ∷ words) b
 
 -- ---- requests
 
@@ -87,7 +96,7 @@ pub record IsRequestOf (a : AskedValue) (request : RequestValue) : Type 0 where
   pub select : Option Expression
   pub goes : clashes a ≡ false
   pub selects : IsSelection a.text select
-  pub is : request ≡ Run (record { select = select; count = None; form = form_of a }) a.file
+  pub is : request ≡ Run (record { select = select; count = a.count; form = form_of a }) a.file
 
 pub data NamesRequest : List (List ℕ) → RequestValue → Type 0 where
   help : NamesRequest (codes "--help" ∷ []) Help
@@ -126,6 +135,7 @@ asked_view asked = record {
   write = asked.is_copy;
   edit = option_map edit_view asked.edit;
   text = option_map string_bytes asked.text;
+  count = option_map non_zero_usize_get asked.count;
   file = option_map string_bytes asked.file;
 }
 
@@ -138,6 +148,7 @@ IsKnown word kinds.Cut = word ≡ codes "--cut-to-headers"
 IsKnown word kinds.Pop = word ≡ codes "--pop-vlan"
 IsKnown word (kinds.Tag kind) = word ≡ tag_word kind
 IsKnown word kinds.Select = word ≡ codes "--select"
+IsKnown word kinds.Count = word ≡ codes "-c"
 IsKnown word kinds.Help = word ≡ codes "--help"
 IsKnown word kinds.Version = word ≡ codes "--version"
 IsKnown word kinds.Unknown = ⊥

@@ -1,5 +1,6 @@
 //! What the words after the program's name ask for.
-ghost use Rattle.std.specs.Prelude.{◌≡◌, ◌≢◌, ◌≤◌, ◌↔◌, IsTrue, [], ◌∷◌, length, string_bytes, IfOk, IfErr, OnOk, OnErr};
+ghost use Rattle.std.specs.Prelude.{◌≡◌, ◌≢◌, ◌≤◌, ◌↔◌, ℕ, IsTrue, [], ◌∷◌, length, string_bytes, IfOk, IfErr, OnOk, OnErr};
+ghost use Rattle.std.specs.Int.NonZero.{non_zero_usize_get};
 ghost use Rattle.std.specs.Option.{option_map};
 ghost use Rattle.std.specs.Vec.Iter.{into_iter_items};
 ghost use Rattle.ether_text.specs.Arguments.{words_after};
@@ -7,13 +8,14 @@ ghost use Rattle.ether_content.specs.Editing.{EditValue};
 ghost use Rattle.ether_content.specs.EditingViews.{edit_view};
 ghost use Rattle.ether_capture.specs.Tags.{IsTagEdit, tag_word};
 ghost use Rattle.ether_capture.specs.Task.{form_view};
-ghost use Rattle.ether_capture.specs.Options.{IsName, IsWord, words_left, asked_view, nothing_asked, clashes, form_of, AskSame, AskNothing, IsSelection, RefusesSelection, IsRequestOf, RefusesAsked, OptionsAsk, RefusesOptions, NamesRequest, RefusesWords, request_view};
+ghost use Rattle.ether_capture.specs.Options.{IsCount, IsName, IsWord, words_left, asked_view, nothing_asked, clashes, form_of, AskSame, AskNothing, IsSelection, RefusesSelection, IsRequestOf, RefusesAsked, OptionsAsk, RefusesOptions, NamesRequest, RefusesWords, request_view};
 
-use crate::tags::{TagEdit, tag_edit_of};
+use crate::tags::{TagEdit, small_number, tag_edit_of};
 use crate::task::{Form, Task};
 use ether_content::PacketEdit;
 use ether_filter::{Filter, FilterError};
 use std::env;
+use std::num::NonZeroUsize;
 
 /// Why the arguments are wrong.
 #[derive(Clone, Copy, Debug)]
@@ -93,6 +95,7 @@ struct Asked {
     is_copy: bool,
     edit: Option<PacketEdit>,
     text: Option<String>,
+    count: Option<NonZeroUsize>,
     file: Option<String>,
 }
 
@@ -106,6 +109,7 @@ impl Asked {
             is_copy: false,
             edit: None,
             text: None,
+            count: None,
             file: None,
         }
     }
@@ -130,6 +134,10 @@ impl Asked {
             },
             Word::Select if self.text.is_none() => match args.next() {
                 Some(text) => self.text = Some(text),
+                None => return Err(RequestError::Usage),
+            },
+            Word::Count if self.count.is_none() => match args.next() {
+                Some(text) => self.count = Some(count_of(&text)?),
                 None => return Err(RequestError::Usage),
             },
             _ => return Err(RequestError::Usage),
@@ -161,7 +169,7 @@ impl Asked {
                 let form = self.form();
                 let task = Task {
                     filter,
-                    count: None,
+                    count: self.count,
                     form,
                 };
                 Ok(Request::Run(task, self.file))
@@ -199,6 +207,21 @@ fn tag_edit(kind: TagEdit, text: &String) -> Result<PacketEdit, RequestError>
     }
 }
 
+/// The number of packets that a text says.
+fn count_of(text: &String) -> Result<NonZeroUsize, RequestError>
+    ensures ok { IfOk result (λ count. IsCount (string_bytes text.now) (non_zero_usize_get count)) }
+    ensures err { OnErr result ((n : ℕ) → ¬ (IsCount (string_bytes text.now) n)) }
+    ensures usage { IfErr result (λ e. e ≡ RequestError.Usage) }
+{
+    let Some(number) = small_number(text.as_bytes()) else {
+        return Err(RequestError::Usage);
+    };
+    match NonZeroUsize::new(number as usize) {
+        Some(count) => Ok(count),
+        None => Err(RequestError::Usage),
+    }
+}
+
 /// The filter of a text, if there is one.
 fn filter_of(text: &Option<String>) -> Result<Option<Filter>, FilterError>
     ensures ok { IfOk result (IsSelection (option_map string_bytes text.now)) }
@@ -230,6 +253,8 @@ enum Word {
     Tag(TagEdit),
     /// `--select`.
     Select,
+    /// `-c`.
+    Count,
     /// `--help`.
     Help,
     /// `--version`.
@@ -253,6 +278,7 @@ fn word_of(word: &str) -> Word
         "--push-vlan" => Word::Tag(TagEdit::Push),
         "--set-vlan" => Word::Tag(TagEdit::Set),
         "--select" => Word::Select,
+        "-c" => Word::Count,
         "--help" => Word::Help,
         "--version" => Word::Version,
         _ => Word::Unknown,

@@ -82,7 +82,7 @@ fn pair_of(text: &[u8]) -> Option<(u32, u32)>
 }
 
 /// The number of a word, if it has no more than 32 bits.
-fn small_number(word: &[u8]) -> Option<u32>
+pub(crate) fn small_number(word: &[u8]) -> Option<u32>
     ensures some { IfSome result (λ number. number_in word.now ≡ Some (Some number)) }
     ensures none { IfNone result ((number : ℕ) → number_in word.now ≡ Some (Some number) → ⊥) }
 {

@@ -1,4 +1,5 @@
-use Rattle.std.proofs.Common.{None, refl, sym, ap, ◌∙◌, List, ℕ}
+use Rattle.std.proofs.Common.{sym, ap, ◌∙◌}
+use Rattle.std.specs.Int.NonZero.{non_zero_usize_get}
 use Rattle.std.specs.Option.{option_map}
 use Rattle.std.specs.Prelude.{string_bytes}
 use Rattle.ether_capture.specs.Options.{Run}
@@ -13,6 +14,6 @@ returns-in-Ok-clause-ok c = record {
   is =
       ap
       (λ (f : FormValue).
-      Run (record { select = c.in-Ok.filter; count = None; form = f }) (option_map string_bytes c.args.self.file))
+      Run (record { select = c.in-Ok.filter; count = option_map non_zero_usize_get c.args.self.count; form = f }) (option_map string_bytes c.args.self.file))
       c.form-form.ensures;
 }

@@ -1,11 +1,12 @@
-use Rattle.std.proofs.Common.{rules, ℕ, List, map, ap, subst}
+use Rattle.std.proofs.Common.{rules, ℕ, List, ◌∷◌, map, ap, subst}
 use Rattle.std.specs.Prelude.{string_bytes}
+use Rattle.std.specs.Int.NonZero.{non_zero_usize_get}
 use Rattle.ether_content.specs.EditingViews.{edit_view}
-use Rattle.ether_capture.specs.Options.{IsWord, asked_view, words_left}
+use Rattle.ether_capture.specs.Options.{AskNothing, IsWord, asked_view, words_left}
 use Rattle.ether_capture.specs.declared.options.Word.TheVariants as kinds
-use Rattle.ether_capture.proofs.OptionsLemmas.{ask_plain, ask_write, ask_cut, ask_pop, ask_tag, ask_select, none_taken, some_taken, none_mapped, some_mapped, ask_name_last, follows, asks_nothing}
+use Rattle.ether_capture.proofs.OptionsLemmas.{ask_plain, ask_write, ask_cut, ask_pop, ask_tag, ask_select, ask_count, no_count, on_err, none_taken, some_taken, none_mapped, some_mapped, ask_name_last, follows, asks_nothing}
 use Rattle.ether_capture.proofs.options.Asked.take.Goals as goal
-use Rattle.ether_capture.proofs.options.Asked.take.Goals.{in_default-via-in-Name+else-is_none, in_default-via-in-Plain+else-not-self, in_default-via-in-Write+else-not-self-2, in_default-via-in-Cut+else-is_none-2, in_default-via-in-Pop+else-is_none-3, in_default-via-in-Tag+else-is_none-4, in_default-via-in-Select+else-is_none-5, in_default-via-in_default}
+use Rattle.ether_capture.proofs.options.Asked.take.Goals.{in_default-via-in-Name+else-is_none, in_default-via-in-Plain+else-not-self, in_default-via-in-Write+else-not-self-2, in_default-via-in-Cut+else-is_none-2, in_default-via-in-Pop+else-is_none-3, in_default-via-in-Tag+else-is_none-4, in_default-via-in-Select+else-is_none-5, in_default-via-in-Count+else-is_none-6, in_default-via-in_default}
 
 pub returns-in-Name-clause-ok : goal.returns-in-Name-clause-ok
 returns-in-Name-clause-ok c =
@@ -53,6 +54,25 @@ returns-in_ok-tag_edit-in-Some-clause-ok c =
     c.in_ok-tag_edit-in-Some.ensures.ok (none_mapped edit_view c.args.self.now.edit (search rules))
     (ap (map string_bytes) c.in-Some.ensures.items)
 
+pub returns-in_ok-count_of-in-Some-next-2-clause-ok : goal.returns-in_ok-count_of-in-Some-next-2-clause-ok
+returns-in_ok-count_of-in-Some-next-2-clause-ok c =
+    let is = subst (λ (w : List ℕ). IsWord w kinds.Count) c.as_str.ensures.value c.in-Count.ensures in
+    ask_count (asked_view c.args.self.now) (string_bytes c.args.word) (string_bytes c.in-Some-next-2.text)
+    (non_zero_usize_get c.in_ok-count_of-in-Some-next-2.field-0) (words_left c.args.args.now) (words_left c.next-in-Count.new.self) is
+    c.in_ok-count_of-in-Some-next-2.ensures.ok (none_mapped non_zero_usize_get c.args.self.now.count (search rules))
+    (ap (map string_bytes) c.in-Some-next-2.ensures.items)
+
+pub returns-in_err-count_of-in-Some-next-2-clause-err : goal.returns-in_err-count_of-in-Some-next-2-clause-err
+returns-in_err-count_of-in-Some-next-2-clause-err c =
+    let is = subst (λ (w : List ℕ). IsWord w kinds.Count) c.as_str.ensures.value c.in-Count.ensures in
+    let a = asked_view c.args.self.now in
+    let word = string_bytes c.args.word in
+    let words = words_left c.args.args.now in
+    let nothing : AskNothing a (word ∷ words) = λ asked asks.
+    no_count a asked word (string_bytes c.in-Some-next-2.text) words (words_left c.next-in-Count.new.self) is
+    (ap (map string_bytes) c.in-Some-next-2.ensures.items) c.in_err-count_of-in-Some-next-2.ensures.err asks in
+    on_err c.from_residual-in_err-count_of-in-Some-next-2.result (AskNothing a (word ∷ words)) nothing
+
 pub returns-in_default-clause-err : goal.returns-in_default-clause-err
 returns-in_default-clause-err c asked asks =
     let self = c.args.self.now in
@@ -85,9 +105,12 @@ returns-in_default-clause-err c asked asks =
       | in_default-via-in-Select+else-is_none-5 w ↦
           let is = subst (λ (v : List ℕ). IsWord v kinds.Select) c.as_str.ensures.value w.in-Select.ensures in
           some_mapped string_bytes self.text (search rules) (follows kinds.Select a asked word words is asks).3
+      | in_default-via-in-Count+else-is_none-6 w ↦
+          let is = subst (λ (v : List ℕ). IsWord v kinds.Count) c.as_str.ensures.value w.in-Count.ensures in
+          some_mapped non_zero_usize_get self.count (search rules) (follows kinds.Count a asked word words is asks).5
       | in_default-via-in_default w ↦
           let is = subst (λ (v : List ℕ). IsWord v c.word_of.result) c.as_str.ensures.value c.word_of.ensures in
           let not = w.in_default in
           asks_nothing c.word_of.result a asked word words is not.not-Name not.not-Plain not.not-Write not.not-Cut
-          not.not-Pop not.not-Tag not.not-Select asks
+          not.not-Pop not.not-Tag not.not-Select not.not-Count asks
     ]
