@@ -16,7 +16,7 @@ from dataclasses import dataclass
 from programs import count, run, run_in_pieces, run_until_a_fault, on_a_full_disk
 
 FAILED = ("ether_capture: input or output failed\n", 4)
-USAGE = "usage: ether_capture [--plain | --write [--cut-to-headers | --pop-vlan | --push-vlan TPID:ID | --set-vlan A:B]] [--select EXPR] [FILE]\n"
+USAGE = "usage: ether_capture [--plain | --write [--cut-to-headers | --pop-vlan | --push-vlan TPID:ID | --set-vlan A:B]] [--select EXPR] [-c N] [FILE]\n"
 
 
 def joined(*parts):
@@ -308,9 +308,29 @@ CASES += [
     Case("a filter that looks like an option", ["--select", "--plain"], CLASSIC, "--select: At byte 0: expected a primitive, `not` or `(`.\n", 2),
 ]
 
+# A number of packets: the run ends with the last of them, as if the capture ended there.
+CASES += [
+    Case("one packet", ["-c", "1"], CLASSIC, FIRST_LINES + "total frames 1 skipped 0\n", 1),
+    Case("all packets there are", ["-c", "2"], CLASSIC, CLASSIC_LINES, 1),
+    Case("more packets than there are", ["-c", "3"], CLASSIC, CLASSIC_LINES, 1),
+    Case("the walk of one packet", ["--plain", "-c", "1"], CLASSIC, plain(FIRST_LINES), 1),
+    Case("one packet, and a record that is cut", ["-c", "1"], CLASSIC[:60], FIRST_LINES + "total frames 1 skipped 0\n", 1),
+    Case("two packets, and a record that is cut", ["-c", "2"], CLASSIC[:60], FIRST_LINES + record_is_cut(59, 16, 1), 3),
+    Case("the second packet, by a filter", ["-c", "0x1", "--plain", "--select", "not refused"], CLASSIC,
+         plain(CLASSIC_LINES).replace(plain(FIRST_LINES), ""), 0),
+    Case("three packets of two sections", ["-c", "3"], SECTIONS, SECTION_LINES[:SECTION_LINES.index("frame 4")] + "total frames 3 skipped 0\n", 1),
+    Case("no packet that is asked for", ["-c", "1", "--select", "macsec"], CLASSIC, "total frames 2 skipped 0\n", 0),
+]
+
 
 # Words that are wrong: the usage goes to standard error.
 WRONG = [
+    ("no number of packets", ["-c"]),
+    ("no packets", ["-c", "0"]),
+    ("a number that is none", ["-c", "x"]),
+    ("a number of packets of more than 32 bits", ["-c", "4294967296"]),
+    ("two numbers of packets", ["-c", "1", "-c", "2"]),
+    ("a number after a file", ["one", "-c", "1"]),
     ("an option that is none", ["--plane"]),
     ("a word twice", ["--plain", "--plain"]),
     ("an option after a file", ["plain", "--plain"]),
@@ -393,7 +413,18 @@ COPIES += [
     Copy("no expression", ["--select", "vlan 4096"], CLASSIC, b"", "--select: At byte 5: expected a number up to 4095.\n", 2),
 ]
 
-# The same captures, of which each packet ends where its headers do: a cooked capture takes 16 bytes, raw IP has no header.
+COPIES += [
+    Copy("one packet", ["-c", "1"], CLASSIC, CLASSIC[:59]),
+    Copy("all packets there are", ["-c", "2"], CLASSIC, CLASSIC),
+    Copy("more packets than there are", ["-c", "5"], CLASSIC, CLASSIC),
+    Copy("one packet that matches", ["-c", "1", "--select", "not refused"], CLASSIC, CLASSIC[:24] + CLASSIC[59:]),
+    Copy("one packet, and a record that is cut", ["-c", "1"], CLASSIC[:120], CLASSIC[:59]),
+    Copy("two packets, and a record that is cut", ["-c", "2"], CLASSIC[:120], CLASSIC[:59], record_is_cut(59, 62, 61), 3),
+    Copy("one packet and all blocks before it", ["-c", "1", "--select", "vlan 291"], SECTIONS, NO_PACKETS + SIMPLE),
+    Copy("no packet that is asked for", ["-c", "1", "--select", "macsec"], SECTIONS, NO_PACKETS + SECOND_SECTION),
+]
+
+# The same captures; each packet ends where its headers do: a cooked capture takes 16 bytes, raw IP has no header.
 CUT = "--cut-to-headers"
 CUT_CLASSIC = CLASSIC[:24] + joined(
     "6553f100 0001e240 00000012 0000003c", "ffffffffffff 3aeeb62ff6d7 88a8 0001 8100",
@@ -418,6 +449,7 @@ COPIES += [
     Copy("a simple packet that can't be cut", [CUT], NO_PACKETS + CUT_PACKET + LONG_SIMPLE + CUT_PACKET, NO_PACKETS + CUT_PACKET,
          f"byte {len(NO_PACKETS) + 48}: This packet can't be edited: its block has no number of captured bytes, or it would be too long.\n", 3),
     Copy("one that is left out", [CUT, "--select", "refused"], NO_PACKETS + LONG_SIMPLE + CUT_PACKET, NO_PACKETS + CUT_PACKET),
+    Copy("one that is not reached", [CUT, "-c", "1"], NO_PACKETS + CUT_PACKET + LONG_SIMPLE, NO_PACKETS + CUT_PACKET),
 ]
 
 # The same captures without the VLAN tag after the header of a link. The second tag of a frame that breaks off within it then is cut short.
@@ -594,6 +626,17 @@ def copies_that_fail(program):
     ]
 
 
+def before_the_end(program, words, given):
+    """What the program prints, and its status, while more may still come."""
+    with subprocess.Popen([program, *words], stdin=subprocess.PIPE, stdout=subprocess.PIPE) as child:
+        child.stdin.write(given)
+        child.stdin.flush()
+        text = child.stdout.read().decode()
+        status = child.wait()
+        child.stdin.close()
+    return text, status
+
+
 def without_memory(program, capture):
     """What the program prints, and its status, if it may have 4 MiB."""
     limit = lambda: resource.setrlimit(resource.RLIMIT_AS, (4 << 20, 4 << 20))  # noqa: E731
@@ -609,6 +652,8 @@ def main():
             for step in steps:
                 found = run_in_pieces(program, case.words, case.capture, step)
                 tried.append((f"{case.name} in pieces of {step}", found, (case.text, case.status)))
+    one = FIRST_LINES + "total frames 1 skipped 0\n", 1
+    tried.append(("one packet of a capture that goes on", before_the_end(program, ["-c", "1"], CLASSIC[:59]), one))
     tried.append(("a reader that fails", run_until_a_fault(program, [], CLASSIC[:59]), (FIRST_LINES, 4)))
     with tempfile.TemporaryDirectory() as folder:
         for case in CASES[:6]:
