@@ -75,7 +75,8 @@ module _ (select : Option Expression) (asked : Option EditValue) (edit : PacketV
   CopyGoesOn-start later more others rest fault copies = copies
 
   -- a unit that is no packet is copied
-  pub CopyGoesOn-unit : (front copy : List ℕ) (kept : List PacketValue) (x y : Expectation) (buffered : List ℕ) (len : ℕ)
+  pub CopyGoesOn-unit : (front copy : List ℕ) (kept : List PacketValue) (x y : Expectation) (buffered : List ℕ)
+      (len : ℕ)
       → len ≤ length buffered → Begins buffered x len None y → Goes front copy kept x
       → Goes (front ++ take len buffered) (copy ++ take len buffered) kept y
   CopyGoesOn-unit front copy kept x y buffered len within is go later more others rest fault copies =
@@ -83,7 +84,8 @@ module _ (select : Option Expression) (asked : Option EditValue) (edit : PacketV
       subst (λ (l : List ℕ). Copied Beginning l ((copy ++ own) ++ more) (kept ++ others) rest fault)
       (sym (append_assoc front own later))
       (subst (λ (l : List ℕ). Copied Beginning (front ++ (own ++ later)) l (kept ++ others) rest fault)
-      (ap (λ (l : List ℕ). copy ++ (l ++ more)) (own_front buffered later len within) ∙ sym (append_assoc copy own more))
+      (ap (λ (l : List ℕ). copy ++ (l ++ more)) (own_front buffered later len within) ∙ sym
+      (append_assoc copy own more))
       (go (own ++ later) (take len (own ++ later) ++ more) others rest fault
       (unit x y (own ++ later) more len others rest fault (unit_front buffered later x y len None within is)
       (left_copied y buffered later more len others rest fault within copies))))

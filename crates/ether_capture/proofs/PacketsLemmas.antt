@@ -6,7 +6,8 @@ use Rattle.ether_pcap.proofs.CaptureLocality.{unit_local, unit_alone}
 use Rattle.ether_capture.specs.Packets.{GoesOn}
 
 -- a unit that was read is a unit whatever follows it
-pub unit_front : (buffered later : List ℕ) (x y : Expectation) (len : ℕ) (p : Option PacketValue) → len ≤ length buffered
+pub unit_front : (buffered later : List ℕ) (x y : Expectation) (len : ℕ) (p : Option PacketValue)
+    → len ≤ length buffered
     → Begins buffered x len p y → Begins (take len buffered ++ later) x len p y
 unit_front buffered later x y len p within begins =
     let front = take len buffered in
@@ -62,7 +63,8 @@ GoesOn-ended front packets x begun go =
     (go [] [] [] None (ended x [] (begun, refl))))
 
 -- a refusal of all that is left
-pub GoesOn-refused : (front : List ℕ) (packets : List PacketValue) (x : Expectation) (left : List ℕ) (r : CaptureRefusal)
+pub GoesOn-refused : (front : List ℕ) (packets : List PacketValue) (x : Expectation) (left : List ℕ)
+    (r : CaptureRefusal)
     → ¬ (IsEnd x left) → Refuses left x r → GoesOn front packets x
     → HasPackets Beginning (front ++ left) packets left (Some r)
 GoesOn-refused front packets x left r more is go =

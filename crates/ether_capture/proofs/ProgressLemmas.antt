@@ -42,7 +42,8 @@ and_is_true true = refl
 and_is_true false = refl
 
 -- one answered packet more
-pub AreAnswered-push : (select : Option Expression) (plain : Bool) (before : ℕ) (packets : List PacketValue) (text : List ℕ) (all : Bool)
+pub AreAnswered-push : (select : Option Expression) (plain : Bool) (before : ℕ) (packets : List PacketValue)
+    (text : List ℕ) (all : Bool)
     (p : PacketValue) (more : List ℕ) (accepted : Bool)
     → AreAnswered select plain before packets text all
     → AnswersPacket select plain (counted (before + length packets + 1)) p more accepted
@@ -288,13 +289,16 @@ goes_more : (front : List ℕ) (packets : List PacketValue) (packet : Option Pac
     (buffered : List ℕ) (len : ℕ)
     → len ≤ length buffered → Begins buffered x len packet y → GoesOn front packets x
     → GoesOn (front ++ take len buffered) (with_packet packets packet) y
-goes_more front packets None x y buffered len within begins go = GoesOn-unit front packets x y buffered len within begins go
+goes_more front packets None x y buffered len within begins go = GoesOn-unit front packets x y buffered len within
+    begins go
 goes_more front packets (Some p) x y buffered len within begins go =
     GoesOn-packet front packets p x y buffered len within begins go
 
 -- the counts with a unit more
-counts_more : (select : Option Expression) (packets : List PacketValue) (packet : Option PacketValue) (old new : Progress)
-    → Counts select packet old new → old.count ≡ counted (length packets) → old.skipped ≡ counted (sum_by skip_count packets)
+counts_more : (select : Option Expression) (packets : List PacketValue) (packet : Option PacketValue)
+    (old new : Progress)
+    → Counts select packet old new → old.count ≡ counted (length packets)
+    → old.skipped ≡ counted (sum_by skip_count packets)
     → (new.count ≡ counted (length (with_packet packets packet)))
     × (new.skipped ≡ counted (sum_by skip_count (with_packet packets packet)))
 counts_more select packets None old new counts count skipped = (counts.0 ∙ count, counts.1 ∙ skipped)
@@ -512,7 +516,8 @@ module _ {W : Type 0} (task : TaskValue) (contents : W → Option (List ℕ)) wh
       y buffered len (counted (old.count + 1)) packet own takes.text takes.accepted within begins unit_is number
       so_far.selected so_far.made takes.makes in
       let counts =
-      counts_more task.select so_far.packets packet (record old { reader = y }) new takes.counts so_far.is_count so_far.is_skipped in
+      counts_more task.select so_far.packets packet
+      (record old { reader = y }) new takes.counts so_far.is_count so_far.is_skipped in
       let less = left_counted task.select packet (record old { reader = y }) new takes.counts in
       let long : length own ≡ len = ap length unit_is ∙ length-take-le len buffered within in
       let front = front_len so_far.front buffered len within in
@@ -524,7 +529,8 @@ module _ {W : Type 0} (task : TaskValue) (contents : W → Option (List ℕ)) wh
         all_accepted = so_far.all_accepted && takes.accepted;
         place = front_after input so_far.front buffered len so_far.place;
         parts =
-            subst (λ (x : Expectation). GoesOn (so_far.front ++ take len buffered) (with_packet so_far.packets packet) x)
+            subst (λ (x : Expectation). GoesOn (so_far.front ++ take len buffered)
+            (with_packet so_far.packets packet) x)
             (sym takes.same_reader)
             (goes_more so_far.front so_far.packets packet old.reader y buffered len within begins so_far.parts);
         selected = more.selected;
@@ -569,7 +575,8 @@ module _ {W : Type 0} (select : Option Expression) (count : Option ℕ) (edit : 
       → offset ≡ old.offset → to ≡ from
       → old.left ≢ Some 0
       → Copying input buffered old from → Unedited select count edit contents held input offset to
-  packet_stops input buffered old from to x len p o own offset begins copied is same unit_is no_copy at same_out some so_far =
+  packet_stops input buffered old from to x len p o own offset begins copied is same unit_is no_copy at same_out some
+      so_far =
       record {
         front = so_far.front;
         copy = so_far.text;
@@ -622,7 +629,8 @@ module _ {W : Type 0} (select : Option Expression) (count : Option ℕ) (content
       (y : Expectation) (from to : OutputBuffer W) (len : ℕ) (packet : Option PacketValue) (own : List ℕ) (offset : ℕ)
       → old.left ≢ Some 0
       → Begins buffered old.reader len packet y → own ≡ take len buffered
-      → StopsUnwritten (record { select = select; count = count; form = form }) own packet (record old { reader = y }) from offset to
+      → StopsUnwritten (record { select = select; count = count; form = form }) own packet
+      (record old { reader = y }) from offset to
       → Reached (record { select = select; count = count; form = form }) contents held input buffered old from
       → UneditedIn select count form contents held input offset to
   Reached-stopped (Lines plain) held input buffered old y from to len packet own offset some begins unit_is stops
@@ -630,7 +638,8 @@ module _ {W : Type 0} (select : Option Expression) (count : Option ℕ) (content
       no_lines select plain y (counted (old.count + 1)) own packet stops.accepted stops.not_made
   Reached-stopped (Copy edit) held input buffered old y from to len packet own offset some begins unit_is stops
       so_far =
-      unwritten_unit select count edit contents held input buffered old y y from to len packet own offset None begins refl
+      unwritten_unit select count edit contents held input buffered old y y from to len packet own offset None begins
+      refl
       unit_is refl stops.not_made.0 stops.is_offset stops.same_out some so_far
 
 -- a packet that can't be edited stops the run
@@ -651,9 +660,11 @@ unit_unwritten task contents whole bytes buffered y len packet first old begin f
     stops reached = tt
 unit_unwritten task contents whole bytes buffered y len packet first old begin from to faults.Input some is begins stops
     reached = tt
-unit_unwritten task contents whole bytes buffered y len packet first old begin from to faults.Output some is begins stops
+unit_unwritten task contents whole bytes buffered y len packet first old begin from to faults.Output some is begins
+    stops
     reached = tt
-unit_unwritten task contents whole bytes buffered y len packet first old begin from to faults.Memory some is begins stops
+unit_unwritten task contents whole bytes buffered y len packet first old begin from to faults.Memory some is begins
+    stops
     reached = tt
 
 -- ---- the unit that is taken

@@ -246,7 +246,8 @@ module _ {W : Type 0} (task : TaskValue) (contents : W → Option (List ℕ)) wh
     pub stopped_for_good : (input buffered : List ℕ) (at : Progress) (out : OutputBuffer W) (error : CaptureError)
         (fault : RunFault)
         → fault ≡ faults.Capture (record { offset = at.offset; error = error }) → Consumes before after input
-        → at.left ≢ Some 0 → Refuses buffered at.reader (capture_refusal_view error) → required_len (capture_refusal_view error) ≡ None
+        → at.left ≢ Some 0 → Refuses buffered at.reader (capture_refusal_view error)
+        → required_len (capture_refusal_view error) ≡ None
         → Reached task contents held input buffered at out
         → HasRun task before after held (contents_of contents out) (Err fault)
     stopped_for_good input buffered at out error fault is read some refused none so_far =
@@ -280,7 +281,8 @@ module _ {W : Type 0} (task : TaskValue) (contents : W → Option (List ℕ)) wh
         → Reached task contents held input buffered at from
         → HasRun task before after held (contents_of contents to) r
     finished input buffered at from to (Ok verdict) read end some over is written fault so_far =
-        let last = last_lines task.form (counted (length so_far.packets)) (counted (sum_by skip_count so_far.packets)) in
+        let last = last_lines task.form (counted (length so_far.packets)) (counted
+        (sum_by skip_count so_far.packets)) in
         let same : last_lines task.form at.count at.skipped ≡ last =
         (λ i. last_lines task.form (so_far.is_count i) (so_far.is_skipped i)) in
         let whole : input ≡ so_far.front =
@@ -316,7 +318,8 @@ module _ {W : Type 0} (task : TaskValue) (contents : W → Option (List ℕ)) wh
         → HasRun task before after held (contents_of contents to) r
     counted_out input buffered at from to (Ok verdict) read none is written fault so_far =
         let left : List ℕ = unwrap_or after [] in
-        let last = last_lines task.form (counted (length so_far.packets)) (counted (sum_by skip_count so_far.packets)) in
+        let last = last_lines task.form (counted (length so_far.packets)) (counted
+        (sum_by skip_count so_far.packets)) in
         let same : last_lines task.form at.count at.skipped ≡ last =
         (λ i. last_lines task.form (so_far.is_count i) (so_far.is_skipped i)) in
         let ends = so_far.at_count none in
@@ -351,7 +354,8 @@ module _ {W : Type 0} (task : TaskValue) (contents : W → Option (List ℕ)) wh
         → Consumes before after input → at.left ≢ Some 0 → Refuses buffered at.reader reason
         → Needs (required_len reason)
         → Reached task contents held input buffered at out
-        → BreaksOffAfter (EndsInUnit Needs task.select task.count task.form) before after held (contents_of contents out)
+        → BreaksOffAfter (EndsInUnit Needs task.select task.count task.form) before after held
+        (contents_of contents out)
     breaks_off Needs input buffered at out reason read some refused unfinished so_far = record {
       taken = input;
       text = so_far.text;
@@ -388,12 +392,14 @@ module _ {W : Type 0} (task : TaskValue) (contents : W → Option (List ℕ)) wh
     without_memory (Ok verdict) input buffered at out reason n is read some refused needs large so_far = absurd is
     without_memory (Err fault) input buffered at out reason n is read some refused needs large so_far =
         subst (λ (f : RunFault). HasRun task before after held (contents_of contents out) (Err f)) (sym is)
-        (breaks_off NeedsMemory input buffered at out reason read some refused (subst NeedsMemory (sym needs) large) so_far)
+        (breaks_off NeedsMemory input buffered at out reason read some refused (subst NeedsMemory
+        (sym needs) large) so_far)
 
     -- a packet can't be edited
     at_packet : (form : FormValue) (input : List ℕ) (offset : ℕ) (out : OutputBuffer W)
         → Consumes before after input → UneditedIn task.select task.count form contents held input offset out
-        → HasRun (record task { form = form }) before after held (contents_of contents out) (Err (faults.NotEdited offset))
+        → HasRun (record task { form = form }) before after held (contents_of contents out) (Err
+        (faults.NotEdited offset))
     at_packet (Lines plain) input offset out read s = absurd s
     at_packet (Copy edit) input offset out read s =
         let left : List ℕ = unwrap_or after [] in
@@ -410,9 +416,11 @@ module _ {W : Type 0} (task : TaskValue) (contents : W → Option (List ℕ)) wh
               front = s.front;
               rest = s.buffered ++ left;
               is_copy = λ to edits.
-                  subst (λ (l : List ℕ). IsCopyTo to task.select edit l s.copy (s.buffered ++ left) (Some (NotEdited s.packet)))
+                  subst (λ (l : List ℕ). IsCopyTo to task.select edit l s.copy (s.buffered ++ left) (Some
+                  (NotEdited s.packet)))
                   (sym place)
-                  (is_copy task.select edit to edits (s.front ++ (s.buffered ++ left)) s.copy s.kept (s.buffered ++ left)
+                  (is_copy task.select edit to edits (s.front ++ (s.buffered ++ left)) s.copy s.kept
+                  (s.buffered ++ left)
                   (Some (NotEdited s.packet))
                   (copied_to_packet task.select edit to edits s.front s.copy s.kept s.expected s.buffered left s.len
                   s.packet

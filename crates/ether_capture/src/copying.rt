@@ -13,6 +13,7 @@ use ether_pcap::{CaptureReader, CapturedPacket, EditedUnit};
 use ether_text::{OutputBuffer, Sink};
 
 /// Writes the unit of a packet, edited if there is an edit for it. Returns `false` and writes nothing if it can't be.
+#[inline(never)]
 pub fn write_packet<W: Sink>(
     reader: &CaptureReader,
     edit: Option<PacketEdit>,

@@ -89,6 +89,7 @@ impl Progress {
     }
 
     /// Takes a unit that was just read, with its packet if it has one, and writes what is made of it.
+    #[inline(always)]
     fn take_unit<W: Sink>(
         &mut self,
         task: &Task,

@@ -36,6 +36,7 @@ pub enum Form {
 
 impl Task {
     /// Tests that a packet is chosen.
+    #[inline(always)]
     pub fn chooses(&self, packet: &CapturedPacket<'_>) -> bool
         ensures { IsTrue result ↔ IsChosen (task_view self.now).select (captured_packet_view packet.now) }
     {

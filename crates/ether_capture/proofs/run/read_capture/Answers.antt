@@ -68,7 +68,8 @@ returns-in_default-required_len-clause-run g c =
     let at = c.take_units.new.progress in
     let rest = c.in_ok-error.ensures.ok in
     let refused =
-    subst (λ (o : Option CaptureError). IfSome o (λ e. Refuses left at.reader (capture_refusal_view e) × (at.left ≢ Some 0)))
+    subst (λ (o : Option CaptureError). IfSome o (λ e. Refuses left at.reader (capture_refusal_view e) ×
+    (at.left ≢ Some 0)))
     c.in-Some.is rest.refused in
     let reached = rest.reached held taken so_far.reached in
     stopped_for_good task contents before mid held taken left at c.take_units.new.out c.in-Some.error
@@ -87,7 +88,8 @@ returns-in_err-make_room-clause-run g c =
     let at = c.take_units.new.progress in
     let rest = c.in_ok-error.ensures.ok in
     let refused =
-    subst (λ (o : Option CaptureError). IfSome o (λ e. Refuses left at.reader (capture_refusal_view e) × (at.left ≢ Some 0)))
+    subst (λ (o : Option CaptureError). IfSome o (λ e. Refuses left at.reader (capture_refusal_view e) ×
+    (at.left ≢ Some 0)))
     c.in-Some.is rest.refused in
     let reached = rest.reached held taken so_far.reached in
     let out = c.write_out.new.self in
@@ -96,7 +98,8 @@ returns-in_err-make_room-clause-run g c =
     c.in_ok-write_out.ensures.ok reached in
     without_memory task contents before mid held c.from_residual-in_err-make_room.result taken left at out
     (capture_refusal_view c.in-Some.error) c.in-Some-required_len.required_len
-    c.from_residual-in_err-make_room.ensures.1 so_far.read refused.1 refused.0 (search rules) c.in_err-make_room.ensures.failed
+    c.from_residual-in_err-make_room.ensures.1 so_far.read refused.1 refused.0
+    (search rules) c.in_err-make_room.ensures.failed
     flushed
 
 pub returns-in_err-read-clause-run : goal.returns-in_err-read-clause-run
@@ -111,7 +114,8 @@ returns-in_err-read-clause-run g c =
     let at = c.take_units.new.progress in
     let rest = c.in_ok-error.ensures.ok in
     let refused =
-    subst (λ (o : Option CaptureError). IfSome o (λ e. Refuses left at.reader (capture_refusal_view e) × (at.left ≢ Some 0)))
+    subst (λ (o : Option CaptureError). IfSome o (λ e. Refuses left at.reader (capture_refusal_view e) ×
+    (at.left ≢ Some 0)))
     c.in-Some.is rest.refused in
     let reached = rest.reached held taken so_far.reached in
     let out = c.write_out.new.self in
@@ -121,7 +125,8 @@ returns-in_err-read-clause-run g c =
     c.in_ok-write_out.ensures.ok reached in
     broken_off task contents before after held mid c.from_residual-in_err-read.result taken left at out
     (capture_refusal_view c.in-Some.error)
-    so_far.read c.in_err-read.ensures.kept c.from_residual-in_err-read.ensures.1 refused.1 refused.0 (search rules) flushed
+    so_far.read c.in_err-read.ensures.kept c.from_residual-in_err-read.ensures.1 refused.1 refused.0
+    (search rules) flushed
 
 pub returns-then-is_over-clause-run : goal.returns-then-is_over-clause-run
 returns-then-is_over-clause-run g c =
@@ -135,7 +140,8 @@ returns-then-is_over-clause-run g c =
     let at = c.take_units.new.progress in
     let rest = c.in_ok-error.ensures.ok in
     let refused =
-    subst (λ (o : Option CaptureError). IfSome o (λ e. Refuses left at.reader (capture_refusal_view e) × (at.left ≢ Some 0)))
+    subst (λ (o : Option CaptureError). IfSome o (λ e. Refuses left at.reader (capture_refusal_view e) ×
+    (at.left ≢ Some 0)))
     c.in-Some.is rest.refused in
     let reached = rest.reached held taken so_far.reached in
     let out = c.write_out.new.self in
@@ -154,7 +160,8 @@ returns-then-is_over-clause-run g c =
     let read = consumed_all before mid after taken more so_far.read consumed none in
     let same : items c.read.new.self ≡ left = grown ∙ same_left left more none in
     let over = subst (λ (l : List ℕ). IsEnd at.reader l) same (c.is_over.ensures.0 (search rules)) in
-    finished task contents before after held taken left at out c.finish-then-is_over.new.out c.finish-then-is_over.result read end refused.1
+    finished task contents before after held taken left at out c.finish-then-is_over.new.out
+    c.finish-then-is_over.result read end refused.1
     over
     c.finish-then-is_over.ensures.ok c.finish-then-is_over.ensures.written c.finish-then-is_over.ensures.fault flushed
 
@@ -170,7 +177,8 @@ returns-then-branch-eq0-clause-run g c =
     let at = c.take_units.new.progress in
     let rest = c.in_ok-error.ensures.ok in
     let refused =
-    subst (λ (o : Option CaptureError). IfSome o (λ e. Refuses left at.reader (capture_refusal_view e) × (at.left ≢ Some 0)))
+    subst (λ (o : Option CaptureError). IfSome o (λ e. Refuses left at.reader (capture_refusal_view e) ×
+    (at.left ≢ Some 0)))
     c.in-Some.is rest.refused in
     let reached = rest.reached held taken so_far.reached in
     let out = c.write_out.new.self in

@@ -14,6 +14,7 @@ returns-in-Ok-clause-ok c = record {
   is =
       ap
       (λ (f : FormValue).
-      Run (record { select = c.in-Ok.filter; count = option_map non_zero_usize_get c.args.self.count; form = f }) (option_map string_bytes c.args.self.file))
+      Run (record { select = c.in-Ok.filter; count = option_map non_zero_usize_get c.args.self.count; form = f })
+      (option_map string_bytes c.args.self.file))
       c.form-form.ensures;
 }

@@ -58,7 +58,8 @@ pub returns-in_ok-count_of-in-Some-next-2-clause-ok : goal.returns-in_ok-count_o
 returns-in_ok-count_of-in-Some-next-2-clause-ok c =
     let is = subst (λ (w : List ℕ). IsWord w kinds.Count) c.as_str.ensures.value c.in-Count.ensures in
     ask_count (asked_view c.args.self.now) (string_bytes c.args.word) (string_bytes c.in-Some-next-2.text)
-    (non_zero_usize_get c.in_ok-count_of-in-Some-next-2.field-0) (words_left c.args.args.now) (words_left c.next-in-Count.new.self) is
+    (non_zero_usize_get c.in_ok-count_of-in-Some-next-2.field-0) (words_left c.args.args.now)
+    (words_left c.next-in-Count.new.self) is
     c.in_ok-count_of-in-Some-next-2.ensures.ok (none_mapped non_zero_usize_get c.args.self.now.count (search rules))
     (ap (map string_bytes) c.in-Some-next-2.ensures.items)
 

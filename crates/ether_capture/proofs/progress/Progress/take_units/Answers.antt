@@ -79,6 +79,7 @@ loop-self-preserved g c =
           Reached task g.W.Sink.contents held input l c.take_unit.new.self c.take_unit.new.out)
           (drop-drop len at whole)
           (Reached-unit task g.W.Sink.contents held input (drop at whole) c.loop-self.self c.take_unit.new.self
-          c.read.new.self c.loop-self.out c.take_unit.new.out len packet (slice_range whole at (at + len)) going within begins
+          c.read.new.self c.loop-self.out c.take_unit.new.out len packet (slice_range whole at
+          (at + len)) going within begins
           (unit_is whole at len) c.in_ok-take_unit.ensures.ok (so_far.reached held input begun));
     }

@@ -34,7 +34,8 @@ returns-then-not-chooses-clause-some g c =
     let task = c.args.task.now in
     let unit = c.args.unit.now in
     let form = form_view task.form in
-    let left : ¬ (IsChosen task.filter (captured_packet_view c.in-Some.packet)) = λ is. let e : true ≡ false = sym (c.chooses.ensures.1 is) ∙ c.if-not-chooses.true in absurd cc in
+    let left : ¬ (IsChosen task.filter (captured_packet_view c.in-Some.packet)) = λ is. let e : true ≡ false = sym
+    (c.chooses.ensures.1 is) ∙ c.if-not-chooses.true in absurd cc in
     subst
     (λ (o : Option CapturedPacket).
     MakesText task.filter form self.reader (counted (self.count + 1)) unit (option_map captured_packet_view o)
