@@ -73,7 +73,6 @@ ARTEFACTS = {
     },
     "Captures": {
         "ether_capture/src/run.rt": ["run"],
-        "ether_capture/src/copying.rt": ["copy"],
         "ether_capture/src/program.rt": ["program"],
     },
     "C": {
@@ -152,13 +151,14 @@ ORDER = {
     """,
     "Captured packets": """
         ether_sll2: LinuxSll2
+        ether_packet: Setting
         ether_content: Content ContentViews Selecting Headers Editing EditingViews
     """,
     "Captures": """
         ether_pcap: Capture
-        ether_capture: LinuxSll2Lines FrameLines Packets
+        ether_capture: Task Packets LinuxSll2Lines FrameLines Answering Copying
         ether_text: Run
-        ether_capture: Run Copying Options
+        ether_capture: Run Options
         ether_pcap: Texts PcapngTexts CaptureTexts
         ether_filter: ErrorTexts
         ether_capture: Outcome Program Tags
