@@ -23,3 +23,4 @@ pub mod PushedPopped
 pub mod Retyped
 pub mod SetTags
 pub mod ReachLemmas
+pub mod Fronts
