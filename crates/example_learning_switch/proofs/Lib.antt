@@ -1,4 +1,1 @@
-pub mod Histories
-pub mod Reading
-pub mod Sending
-pub mod Tables
+mod Learning

@@ -1,11 +1,11 @@
 -- Ports, and how frames come and leave by them.
-use Rattle.std.specs.Prelude.{◌≡◌, ℕ, List, ◌∷◌, drop, Option, Some, None, Bool, true, false, nat_eq, if◌then◌else◌}
+use Rattle.std.specs.Prelude.{◌≡◌, ℕ, List, drop, Option, Some, None, option_map, option_and_then, Bool, true, false, nat_eq, if◌then◌else◌}
 use Rattle.etherparse.specs.Vlan.{VlanValue, is_vlan_ether_type}
 use Rattle.etherparse.specs.Header.{Header}
-use Rattle.etherparse.specs.Header as headers
 use Rattle.ether_peel.specs.Grammar.Stack.{Ending}
 use Rattle.ether_peel.specs.Walker.Start.{start_of}
 use Rattle.ether_peel.specs.declared.start.Start.TheVariants as starts
+use Rattle.ether_packet.specs.Front.{link_type, outer_tag}
 use Rattle.ether_packet.specs.Popping.{IsPopped}
 use Rattle.ether_packet.specs.Pushing.{IsPushed}
 use Rattle.example_learning_switch.specs.declared.decision.Decision.{Decision}
@@ -16,9 +16,8 @@ use Rattle.example_learning_switch.specs.declared.port.PortKind.TheVariants.{Acc
 -- The VLAN of a frame with these headers, by the port that it came from (IEEE 802.1Q, 6.9): an access port takes no VLAN tag, a trunk
 -- only a frame with one.
 abbrev pub vlan_of : PortKind → List Header → Option ℕ
-vlan_of (Access vid) (headers.Ethernet2 e ∷ hs) = if is_vlan_ether_type e.ether_type then None else Some vid
-vlan_of Trunk (headers.Ethernet2 e ∷ headers.Vlan v ∷ hs) = Some v.vid
-vlan_of _ _ = None
+vlan_of (Access vid) hs = option_and_then (λ t. if is_vlan_ether_type t then None else Some vid) (link_type hs)
+vlan_of Trunk hs = option_map (λ v. v.vid) (outer_tag hs)
 
 -- whether a port is a member of a VLAN: a trunk is one of each
 abbrev pub is_member : PortKind → ℕ → Bool
@@ -35,19 +34,11 @@ includes decisions.Flood from to = if nat_eq to from then false else true
 abbrev pub plain_tag : ℕ → VlanValue
 plain_tag vid = record { pcp = 0; dei = 0; vid = vid; ether_type = 0 }
 
--- the frame with its VLAN tag taken off
-abbrev pub IsUntagged : (frame : List ℕ) (hs : List Header) (e : Ending) (sent : List ℕ) → Type 0
-IsUntagged frame hs e sent =
-    (tag : VlanValue) × (moved : List ℕ) × IsPopped (start_of starts.Ethernet2) frame hs e tag moved × (sent ≡ drop 4 moved)
-
--- the frame with a VLAN tag put in, announced as a customer tag
-abbrev pub IsTagged : (vid : ℕ) (frame : List ℕ) (hs : List Header) (e : Ending) (sent : List ℕ) → Type 0
-IsTagged vid frame hs e sent =
-    (buffer : List ℕ) × (drop 4 buffer ≡ frame) × IsPushed (start_of starts.Ethernet2) buffer hs e (plain_tag vid) 0x8100 sent
-
--- How a frame leaves that came from one port, by another one: with the tag of its VLAN if only the other is a trunk, without its tag
--- if only the first one is, and else as it came.
-abbrev pub Leaves : (from to : PortKind) (frame : List ℕ) (hs : List Header) (e : Ending) (sent : List ℕ) → Type 0
-Leaves (Access vid) Trunk frame hs e sent = IsTagged vid frame hs e sent
-Leaves Trunk (Access vid) frame hs e sent = IsUntagged frame hs e sent
-Leaves from to frame hs e sent = sent ≡ frame
+-- How a frame leaves that came from one port, after four bytes of a buffer, by another one: with the tag of its VLAN, announced as a
+-- customer tag, if only the other is a trunk; without its tag if only the first one is; and else as it came. It begins at a place then.
+abbrev pub Leaves : (from to : PortKind) (old : List ℕ) (hs : List Header) (e : Ending) (at : ℕ) (new : List ℕ) → Type 0
+Leaves (Access vid) Trunk old hs e at new =
+    (at ≡ 0) × IsPushed (start_of starts.Ethernet2) old hs e (plain_tag vid) 0x8100 new
+Leaves Trunk (Access vid) old hs e at new =
+    (at ≡ 8) × (tag : VlanValue) × IsPopped (start_of starts.Ethernet2) (drop 4 old) hs e tag (drop 4 new)
+Leaves from to old hs e at new = (at ≡ 4) × (new ≡ old)

@@ -101,13 +101,9 @@ impl Switch {
         ensures { (earlier : List Taken) → Knows self.old earlier → (destination : ℕ)
             → Knows self.new (record { port = port; source = source; destination = destination } ∷ earlier) }
     {
-        if is_group(source) {
-            return;
-        }
-        if entry::set_port(self.entries.as_mut_slice(), source, port) {
-            return;
-        }
-        if !self.entries.is_full() {
+        let is_new = entry::is_new(self.entries.as_slice(), source);
+        entry::set_port(&mut self.entries, source, port);
+        if is_new {
             self.entries.push(Entry {
                 station: source,
                 port,

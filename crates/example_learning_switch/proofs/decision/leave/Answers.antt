@@ -1,13 +1,12 @@
+use Rattle.std.proofs.Common.{refl}
 use Rattle.example_learning_switch.proofs.decision.leave.Goals as goal
 
-pub returns-in-Access-clause-sent : goal.returns-in-Access-clause-sent
-returns-in-Access-clause-sent c = rw c.in-Access.is c.leave_access.ensures.sent
+pub returns-in-Err-clause-none : goal.returns-in-Err-clause-none
+returns-in-Err-clause-none c hs e walk = rw (c.in-Access.is, c.in-Err.ensures.untyped hs e walk) refl
 
-pub returns-in-Access-clause-done : goal.returns-in-Access-clause-done
-returns-in-Access-clause-done c = rw c.in-Access.is c.leave_access.ensures.done
+pub returns-in-Ok-untag-clause-sent : goal.returns-in-Ok-untag-clause-sent
+returns-in-Ok-untag-clause-sent c hs e walk =
+    rw (c.in-Trunk.is, c.in-Access-to-2.is) (refl, _, c.in-Ok-untag.ensures.ok hs e walk)
 
-pub returns-in-Trunk-clause-sent : goal.returns-in-Trunk-clause-sent
-returns-in-Trunk-clause-sent c = rw c.in-Trunk.is c.leave_trunk.ensures.sent
-
-pub returns-in-Trunk-clause-done : goal.returns-in-Trunk-clause-done
-returns-in-Trunk-clause-done c = rw c.in-Trunk.is c.leave_trunk.ensures.done
+pub returns-in-Err-untag-clause-none : goal.returns-in-Err-untag-clause-none
+returns-in-Err-untag-clause-none c hs e walk = rw (c.in-Trunk.is, c.in-Err-untag.ensures.untagged hs e walk) refl
