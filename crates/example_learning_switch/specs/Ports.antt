@@ -13,8 +13,8 @@ use Rattle.example_learning_switch.specs.declared.decision.Decision.TheVariants 
 use Rattle.example_learning_switch.specs.declared.port.PortKind.{PortKind}
 use Rattle.example_learning_switch.specs.declared.port.PortKind.TheVariants.{Access, Trunk}
 
--- The VLAN of a frame with these headers, by the port that it came from (IEEE 802.1Q, 6.9): an access port takes no VLAN tag, a trunk
--- only a frame with one.
+-- The VLAN of a frame with these headers, by the port that it came from (IEEE 802.1Q, 6.9): an access port takes no
+-- VLAN tag, a trunk only a frame with one.
 abbrev pub vlan_of : PortKind → List Header → Option ℕ
 vlan_of (Access vid) hs = option_and_then (λ t. if is_vlan_ether_type t then None else Some vid) (link_type hs)
 vlan_of Trunk hs = option_map (λ v. v.vid) (outer_tag hs)
@@ -34,9 +34,11 @@ includes decisions.Flood from to = if nat_eq to from then false else true
 abbrev pub plain_tag : ℕ → VlanValue
 plain_tag vid = record { pcp = 0; dei = 0; vid = vid; ether_type = 0 }
 
--- How a frame leaves that came from one port, after four bytes of a buffer, by another one: with the tag of its VLAN, announced as a
--- customer tag, if only the other is a trunk; without its tag if only the first one is; and else as it came. It begins at a place then.
-abbrev pub Leaves : (from to : PortKind) (old : List ℕ) (hs : List Header) (e : Ending) (at : ℕ) (new : List ℕ) → Type 0
+-- How a frame leaves that came from one port, after four bytes of a buffer, by another one: with the tag of its VLAN,
+-- announced as a customer tag, if only the other is a trunk; without its tag if only the first one is; and else as it
+-- came. It begins at a place of the buffer then.
+abbrev pub Leaves : (from to : PortKind) (old : List ℕ) (hs : List Header) (e : Ending) (at : ℕ) (new : List ℕ)
+    → Type 0
 Leaves (Access vid) Trunk old hs e at new =
     (at ≡ 0) × IsPushed (start_of starts.Ethernet2) old hs e (plain_tag vid) 0x8100 new
 Leaves Trunk (Access vid) old hs e at new =

@@ -30,6 +30,8 @@ abbrev pub is_member_for : PortKind → Option Stations → Bool
 is_member_for kind None = false
 is_member_for kind (Some s) = is_member kind s.vlan_id
 
--- whether a frame with these headers that came from one port goes to another: to members of its VLAN alone, and by the decision
+-- whether a frame with these headers that came from one port goes to another: to members of its VLAN alone, and by the
+-- decision
 abbrev pub goes_out : Decision → (from to : Port) → List Header → Bool
-goes_out decision from to hs = is_member_for to.kind (stations_of from.kind hs) && includes decision from.number to.number
+goes_out decision from to hs =
+    is_member_for to.kind (stations_of from.kind hs) && includes decision from.number to.number

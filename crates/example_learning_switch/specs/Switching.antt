@@ -33,17 +33,17 @@ is_new s stations = not (is_group s) && not (is_among s stations) && nat_lt (len
 -- the stations learned: of the sources that are no group, the first 64 different ones
 abbrev pub learned : List Taken → List ℕ
 learned [] = []
-learned (f ∷ earlier) = if is_new f.source (learned earlier) then learned earlier ++ f.source ∷ [] else learned earlier
+learned (f ∷ earlier) = learned earlier ++ (if is_new f.source (learned earlier) then f.source ∷ [] else [])
 
--- the port of the last frame from a station, of which there is one if it's learned
+-- the port of the last frame from a station; 0 before the first one
 abbrev pub last_port : List Taken → ℕ → ℕ
 last_port [] s = 0
 last_port (f ∷ earlier) s = if nat_eq s f.source then f.port else last_port earlier s
 
--- what is known: each station learned, with that port
 abbrev pub entry_in : List Taken → ℕ → Entry
 entry_in history s = record { station = s; port = last_port history s }
 
+-- what is known: the stations learned, each with the port of the last frame from it
 abbrev pub known : List Taken → List Entry
 known history = map (entry_in history) (learned history)
 
@@ -58,17 +58,24 @@ toward port (Some n) = if nat_eq n port then Drop else Port n
 
 -- where the newest frame goes, by what is known from all frames with it
 abbrev pub decision : Taken → List Taken → Decision
-decision f earlier = if is_group f.destination then Flood else toward f.port (port_in (known (f ∷ earlier)) f.destination)
-
--- ---- the table
+decision f earlier =
+    if is_group f.destination then Flood else toward f.port (port_in (known (f ∷ earlier)) f.destination)
 
 -- a table holds what is known from these frames
 abbrev pub Knows : (entries : List Entry) (history : List Taken) → Type 0
 Knows entries history = entries ≡ known history
 
-abbrev pub stations_in : List Entry → List ℕ
-stations_in entries = map (λ e. e.station) entries
+-- ---- how it is learned
+
+abbrev pub stations_among : List Entry → List ℕ
+stations_among entries = map (λ e. e.station) entries
 
 -- an entry after a frame from a station came from a port
 abbrev pub updated : (station port : ℕ) → Entry → Entry
 updated s p e = record { station = e.station; port = if nat_eq e.station s then p else e.port }
+
+-- entries after that frame: all are updated, and a new station has one more
+abbrev pub with_frame : (station port : ℕ) → List Entry → List Entry
+with_frame s p entries =
+    map (updated s p) entries
+    ++ (if is_new s (stations_among entries) then record { station = s; port = p } ∷ [] else [])

@@ -1,9 +1,9 @@
 //! Where a frame goes.
-ghost use Rattle.std.specs.Prelude.{◌≡◌, ◌≤◌, List, length, drop, None, is_some, IfSome, IfNone, IsTrue};
+ghost use Rattle.std.specs.Prelude.{◌≡◌, ◌≤◌, List, length, drop, is_some, IfSome, IfNone, IsTrue};
 ghost use Rattle.etherparse.specs.Header.{Header};
 ghost use Rattle.ether_peel.specs.Grammar.Stack.{Ending, Walk};
 ghost use Rattle.ether_peel.specs.Walker.Start.{start_of};
-ghost use Rattle.example_learning_switch.specs.Ports.{includes as includes_of, vlan_of, Leaves};
+ghost use Rattle.example_learning_switch.specs.Ports.{includes as includes_of, Leaves};
 ghost use Rattle.example_learning_switch.specs.Stations.{goes_out};
 
 use crate::port::{Port, PortKind, is_member};
@@ -61,7 +61,22 @@ impl Decision {
         if !self.allows(from, to, buffer) {
             return None;
         }
-        leave(from.kind, to.kind, buffer)
+        match from.kind {
+            PortKind::Access(vlan_id) => match to.kind {
+                PortKind::Access(_) => Some(4),
+                PortKind::Trunk => match retagging::tag(vlan_id, buffer) {
+                    Ok(()) => Some(0),
+                    Err(_) => None,
+                },
+            },
+            PortKind::Trunk => match to.kind {
+                PortKind::Access(_) => match retagging::untag(buffer) {
+                    Ok(_) => Some(8),
+                    Err(_) => None,
+                },
+                PortKind::Trunk => Some(4),
+            },
+        }
     }
 
     /// Whether the frame after four bytes of a buffer goes from one port to another.
@@ -92,33 +107,5 @@ impl Decision {
             Decision::Drop => false,
             Decision::Flood => to != from,
         }
-    }
-}
-
-/// Makes a frame ready that came from a port of one kind, and goes to one of another.
-fn leave(from: PortKind, to: PortKind, buffer: &mut [u8]) -> Option<usize>
-    requires { 4 ≤ length buffer.old }
-    ensures sent { IfSome result (λ at. (hs : List Header) (e : Ending)
-        → Walk (start_of Start.Ethernet2) (drop 4 buffer.old) hs e
-        → Leaves from to buffer.old hs e at buffer.new) }
-    ensures none { IfNone result ((hs : List Header) (e : Ending)
-        → Walk (start_of Start.Ethernet2) (drop 4 buffer.old) hs e → vlan_of from hs ≡ None) }
-    ensures kept { IfNone result (buffer.new ≡ buffer.old) }
-{
-    match from {
-        PortKind::Access(vlan_id) => match to {
-            PortKind::Access(_) => Some(4),
-            PortKind::Trunk => match retagging::tag(vlan_id, buffer) {
-                Ok(()) => Some(0),
-                Err(_) => None,
-            },
-        },
-        PortKind::Trunk => match to {
-            PortKind::Access(_) => match retagging::untag(buffer) {
-                Ok(_) => Some(8),
-                Err(_) => None,
-            },
-            PortKind::Trunk => Some(4),
-        },
     }
 }

@@ -1,6 +1,6 @@
 //! The entries of a table: stations and their ports.
 ghost use Rattle.std.specs.Prelude.{◌≡◌, map};
-ghost use Rattle.example_learning_switch.specs.Switching.{is_among, is_new as is_new_among, port_in, stations_in, updated as updated_by};
+ghost use Rattle.example_learning_switch.specs.Switching.{is_among, is_new as is_new_among, port_in, stations_among, updated as updated_by, with_frame};
 
 use crate::CAPACITY;
 use crate::stations::is_group;
@@ -39,16 +39,27 @@ pub(crate) fn port_of(entries: &[Entry], station: u64) -> Option<u16>
         .map(|entry| entry.port)
 }
 
+/// Learns that frames from a station come from a port.
+pub(crate) fn learn(entries: &mut ArrayVec<Entry, CAPACITY>, station: u64, port: u16)
+    ensures { entries.new.items ≡ with_frame station port entries.old.items }
+{
+    let is_new = is_new(entries.as_slice(), station);
+    set_port(entries, station, port);
+    if is_new {
+        entries.push(Entry { station, port });
+    }
+}
+
 /// Whether a station is to get an entry.
-pub(crate) fn is_new(entries: &[Entry], station: u64) -> bool
-    ensures { result ≡ is_new_among station (stations_in entries.now) }
+fn is_new(entries: &[Entry], station: u64) -> bool
+    ensures { result ≡ is_new_among station (stations_among entries.now) }
 {
     !is_group(station) && !is_known(entries, station) && entries.len() < CAPACITY
 }
 
 /// Whether a station has an entry.
 fn is_known(entries: &[Entry], station: u64) -> bool
-    ensures { result ≡ is_among station (stations_in entries.now) }
+    ensures { result ≡ is_among station (stations_among entries.now) }
 {
     entries
         .iter()
@@ -57,7 +68,7 @@ fn is_known(entries: &[Entry], station: u64) -> bool
 }
 
 /// Sets the port of a station, if it has an entry.
-pub(crate) fn set_port(entries: &mut ArrayVec<Entry, CAPACITY>, station: u64, port: u16)
+fn set_port(entries: &mut ArrayVec<Entry, CAPACITY>, station: u64, port: u16)
     ensures { entries.new.items ≡ map (updated_by station port) entries.old.items }
 {
     for entry in entries.iter_mut() {

@@ -101,14 +101,7 @@ impl Switch {
         ensures { (earlier : List Taken) → Knows self.old earlier → (destination : ℕ)
             → Knows self.new (record { port = port; source = source; destination = destination } ∷ earlier) }
     {
-        let is_new = entry::is_new(self.entries.as_slice(), source);
-        entry::set_port(&mut self.entries, source, port);
-        if is_new {
-            self.entries.push(Entry {
-                station: source,
-                port,
-            });
-        }
+        entry::learn(&mut self.entries, source, port);
     }
 
     /// Where a frame from a port to a station goes.

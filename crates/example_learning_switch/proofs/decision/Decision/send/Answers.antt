@@ -1,11 +1,12 @@
-use Rattle.std.proofs.Common.{◌≡◌, ℕ, refl, sym, ◌∙◌, Option, Some, None, is_some, IfNone, Bool, true, false}
+use Rattle.std.proofs.Common.{refl}
 use Rattle.example_learning_switch.proofs.decision.Decision.send.Goals as goal
 
-as_true : (o : Option ℕ) (b : Bool) (P : Type 0) → IfNone o P → (P → b ≡ false) → b ≡ true → is_some o ≡ b
-as_true None b P none never is = sym (never none)
-as_true (Some n) b P none never is = sym is
+pub returns-in-Err-clause-goes : goal.returns-in-Err-clause-goes
+returns-in-Err-clause-goes c hs e walk = rw (c.in-Access.is, c.in-Err.ensures.untyped hs e walk) refl
 
-pub returns-clause-goes : goal.returns-clause-goes
-returns-clause-goes c hs e walk =
-    as_true c.leave.result _ _ c.leave.ensures.none (λ none. rw (none hs e walk) refl)
-    (sym (c.allows.ensures.goes hs e walk) ∙ c.if-not-allows.false)
+pub returns-in-Ok-untag-clause-sent : goal.returns-in-Ok-untag-clause-sent
+returns-in-Ok-untag-clause-sent c hs e walk =
+    rw (c.in-Trunk.is, c.in-Access-kind-2.is) (refl, _, c.in-Ok-untag.ensures.ok hs e walk)
+
+pub returns-in-Err-untag-clause-goes : goal.returns-in-Err-untag-clause-goes
+returns-in-Err-untag-clause-goes c hs e walk = rw (c.in-Trunk.is, c.in-Err-untag.ensures.untagged hs e walk) refl
