@@ -2,6 +2,7 @@
 use ether_packet::{ethernet_front, outer_vlan};
 use ether_peel::Start;
 use etherparse::{EtherType, Ethernet2Header, SingleVlanHeader};
+use std::process::Abort;
 use std::test::Fail;
 
 /// A frame with a customer tag, which has a frame check sequence if its last four bytes are one.
@@ -17,23 +18,28 @@ const CAPTURED: [u8; 20] = [
     0x00, 0x0A, 0x08, 0x06, // VLAN
 ];
 
-#[test]
-fn of_ethernet_2(rt: HostRuntime) -> Result<(), Fail> {
+/// The frame, cut to a length, begins with its header and this tag.
+fn begins_with(rt: &impl Abort, len: usize, tag: Option<[u8; 4]>) {
     let link = Ethernet2Header {
         source: [2, 0, 0, 0, 0, 1],
         destination: [0xFF; 6],
         ether_type: EtherType(0x8100),
     };
-    let tag = SingleVlanHeader::from_bytes([0xB1, 0x23, 0x08, 0x00]);
-    for (len, expected) in [(22, Some(tag)), (18, Some(tag)), (17, None), (14, None)] {
-        match ethernet_front(&TAGGED[..len]) {
-            Some(front) => {
-                assert_eq!(rt; front.link, link, "{len}");
-                assert_eq!(rt; front.vlan, expected, "{len}");
-            }
-            None => panic!(rt; "{len}: no header"),
+    match ethernet_front(&TAGGED[..len.min(22)]) {
+        Some(front) => {
+            assert_eq!(rt; front.link, link, "{len}");
+            assert_eq!(rt; front.vlan.map(|tag| tag.to_bytes()), tag, "{len}");
         }
+        None => panic!(rt; "{len}: no header"),
     }
+}
+
+#[test]
+fn of_ethernet_2(rt: HostRuntime) -> Result<(), Fail> {
+    begins_with(&rt, 22, Some([0xB1, 0x23, 0x08, 0x00]));
+    begins_with(&rt, 18, Some([0xB1, 0x23, 0x08, 0x00]));
+    begins_with(&rt, 17, None);
+    begins_with(&rt, 14, None);
     assert!(rt; ethernet_front(&TAGGED[..13]).is_none());
     Ok(())
 }
