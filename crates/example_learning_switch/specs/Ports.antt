@@ -34,13 +34,19 @@ includes decisions.Flood from to = if nat_eq to from then false else true
 abbrev pub plain_tag : ℕ → VlanValue
 plain_tag vid = record { pcp = 0; dei = 0; vid = vid; ether_type = 0 }
 
--- How a frame leaves that came from one port, after four bytes of a buffer, by another one: with the tag of its VLAN,
--- announced as a customer tag, if only the other is a trunk; without its tag if only the first one is; and else as it
--- came. It begins at a place of the buffer then.
-abbrev pub Leaves : (from to : PortKind) (old : List ℕ) (hs : List Header) (e : Ending) (at : ℕ) (new : List ℕ)
-    → Type 0
-Leaves (Access vid) Trunk old hs e at new =
-    (at ≡ 0) × IsPushed (start_of starts.Ethernet2) old hs e (plain_tag vid) 0x8100 new
-Leaves Trunk (Access vid) old hs e at new =
-    (at ≡ 8) × (tag : VlanValue) × IsPopped (start_of starts.Ethernet2) (drop 4 old) hs e tag (drop 4 new)
-Leaves from to old hs e at new = (at ≡ 4) × (new ≡ old)
+-- the frame with its VLAN tag taken off
+abbrev pub IsUntagged : (frame : List ℕ) (hs : List Header) (e : Ending) (sent : List ℕ) → Type 0
+IsUntagged frame hs e sent =
+    (tag : VlanValue) × (moved : List ℕ) × IsPopped (start_of starts.Ethernet2) frame hs e tag moved × (sent ≡ drop 4 moved)
+
+-- the frame with a VLAN tag put in, announced as a customer tag
+abbrev pub IsTagged : (vid : ℕ) (frame : List ℕ) (hs : List Header) (e : Ending) (sent : List ℕ) → Type 0
+IsTagged vid frame hs e sent =
+    (buffer : List ℕ) × (drop 4 buffer ≡ frame) × IsPushed (start_of starts.Ethernet2) buffer hs e (plain_tag vid) 0x8100 sent
+
+-- How a frame leaves that came from one port, by another one: with the tag of its VLAN if only the other is a trunk,
+-- without its tag if only the first one is, and else as it came.
+abbrev pub Leaves : (from to : PortKind) (frame : List ℕ) (hs : List Header) (e : Ending) (sent : List ℕ) → Type 0
+Leaves (Access vid) Trunk frame hs e sent = IsTagged vid frame hs e sent
+Leaves Trunk (Access vid) frame hs e sent = IsUntagged frame hs e sent
+Leaves from to frame hs e sent = sent ≡ frame

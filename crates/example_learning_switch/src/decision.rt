@@ -52,7 +52,7 @@ impl Decision {
     pub fn send(self, from: &Port, to: &Port, buffer: &mut [u8]) -> Option<usize>
         ensures sent { IfSome result (λ at. (hs : List Header) (e : Ending)
             → Walk (start_of Start.Ethernet2) (drop 4 buffer.old) hs e
-            → Leaves from.now.kind to.now.kind buffer.old hs e at buffer.new) }
+            → Leaves from.now.kind to.now.kind (drop 4 buffer.old) hs e (drop at buffer.new)) }
         ensures goes { (hs : List Header) (e : Ending)
             → Walk (start_of Start.Ethernet2) (drop 4 buffer.old) hs e
             → is_some result ≡ goes_out self from.now to.now hs }
