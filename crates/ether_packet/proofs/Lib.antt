@@ -25,3 +25,4 @@ pub mod SetTags
 pub mod ReachLemmas
 pub mod FindVlan
 pub mod TagChanges
+pub mod Fronts

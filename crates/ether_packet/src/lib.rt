@@ -5,6 +5,7 @@
 mod build_error;
 mod difference;
 mod ext_places;
+mod front;
 pub mod laws;
 mod packet_builder;
 mod packet_ext;
@@ -24,6 +25,7 @@ mod writing_unchanged;
 
 pub use build_error::BuildError;
 pub use difference::Difference;
+pub use front::{EthernetFront, ethernet_front, outer_vlan};
 pub use packet_builder::{PacketBuilder, PacketContent};
 pub use packet_ext::PacketExt;
 pub use packet_parts::PacketParts;

@@ -1,11 +1,12 @@
 //! VLAN tags that are taken off in place.
-ghost use Rattle.std.specs.Prelude.{◌≡◌, ◌+◌, ◌≤◌, List, length, take, slice_range, IfOk, IfErr, OnOk, OnErr};
+ghost use Rattle.std.specs.Prelude.{◌≡◌, ◌+◌, ◌≤◌, List, length, take, slice_range, Some, None, IfOk, IfErr, OnOk, OnErr};
 ghost use Rattle.etherparse.specs.Bytes.{IsBytes, overwritten};
 ghost use Rattle.etherparse.specs.Header.{Header};
 ghost use Rattle.etherparse.specs.Vlan.{IsVlan, vlan_view};
 ghost use Rattle.ether_peel.specs.Grammar.Stack.{Ending, Walk};
 ghost use Rattle.ether_peel.specs.Walker.Start.{start_of};
 ghost use Rattle.ether_packet.specs.TypedLink.{link_len};
+ghost use Rattle.ether_packet.specs.Front.{outer_tag};
 ghost use Rattle.ether_packet.specs.Popping.{IsPopped, IsTagged, RefusesPop};
 
 use crate::TagError;
@@ -49,6 +50,10 @@ pub fn pop_vlan(start: Start, frame: &mut [u8]) -> Result<SingleVlanHeader, TagE
     ensures ok { IfOk result (λ tag. (hs : List Header) (e : Ending)
         → Walk (start_of start) frame.old hs e
         → IsPopped (start_of start) frame.old hs e (vlan_view tag) frame.new) }
+    ensures tag { IfOk result (λ tag. (hs : List Header) (e : Ending)
+        → Walk (start_of start) frame.old hs e → outer_tag hs ≡ Some (vlan_view tag)) }
+    ensures none { OnErr result ((hs : List Header) (e : Ending)
+        → Walk (start_of start) frame.old hs e → outer_tag hs ≡ None) }
     ensures refused { IfErr result (λ error. (hs : List Header) (e : Ending)
         → Walk (start_of start) frame.old hs e → RefusesPop hs error) }
     ensures kept { OnErr result (frame.new ≡ frame.old) }
@@ -67,7 +72,7 @@ pub fn pop_vlan(start: Start, frame: &mut [u8]) -> Result<SingleVlanHeader, TagE
 
 /// Requires that a VLAN tag follows the header of a link.
 #[inline(always)]
-fn require_tag(start: Start, frame: &[u8]) -> Result<(), TagError>
+pub(crate) fn require_tag(start: Start, frame: &[u8]) -> Result<(), TagError>
     ensures ok { IfOk result (λ _. (hs : List Header) (e : Ending)
         → Walk (start_of start) frame.now hs e → IsTagged hs (link_len start)) }
     ensures room { OnOk result (link_len start + 4 ≤ length frame.now) }

@@ -1,11 +1,12 @@
 //! VLAN tags that are put in in place.
-ghost use Rattle.std.specs.Prelude.{◌≡◌, ◌+◌, ◌≤◌, ◌++◌, List, length, drop, slice_range, true, IfOk, IfErr, OnOk, OnErr};
+ghost use Rattle.std.specs.Prelude.{◌≡◌, ◌+◌, ◌≤◌, ◌++◌, List, length, drop, slice_range, true, None, IfOk, IfErr, OnOk, OnErr};
 ghost use Rattle.etherparse.specs.Bytes.{IsBytes, overwritten};
 ghost use Rattle.etherparse.specs.Header.{Header};
 ghost use Rattle.etherparse.specs.Vlan.{FitsVlan, is_vlan_ether_type, vlan_view};
 ghost use Rattle.ether_peel.specs.Grammar.Stack.{Ending, Walk};
 ghost use Rattle.ether_peel.specs.Walker.Start.{start_of};
 ghost use Rattle.ether_packet.specs.TypedLink.{link_len};
+ghost use Rattle.ether_packet.specs.Front.{link_type};
 ghost use Rattle.ether_packet.specs.Pushing.{pushed_bytes, IsLinked, IsPushed, RefusesPush};
 
 use crate::TagError;
@@ -62,6 +63,9 @@ pub fn push_vlan(
     ensures ok { IfOk result (λ _. (hs : List Header) (e : Ending)
         → Walk (start_of start) (drop 4 buffer.old) hs e
         → IsPushed (start_of start) buffer.old hs e (vlan_view tag) tpid.0 buffer.new) }
+    ensures untyped { is_vlan_ether_type tpid.0 ≡ true → 4 ≤ length buffer.old
+        → OnErr result ((hs : List Header) (e : Ending)
+        → Walk (start_of start) (drop 4 buffer.old) hs e → link_type hs ≡ None) }
     ensures refused { IfErr result (λ error. (hs : List Header) (e : Ending)
         → Walk (start_of start) (drop 4 buffer.old) hs e
         → RefusesPush buffer.old hs tpid.0 error) }
