@@ -140,7 +140,7 @@ ORDER = {
         ether_sll: LinuxSll Link
         ether_packet: PacketUnit Views Packet Getters VlanIds Building Builder Replacing ReplacingLink ReplacingArp
         ether_peel: Grammar/Places
-        ether_packet: Unchanged Parts TypedLink Popping Pushing Setting Laws
+        ether_packet: Unchanged Parts TypedLink Popping Pushing Setting Front Laws
         ether_base: Enumerations/LinuxNonstandardEtherType Texts/NumberText
     """,
     "Capture files": """
