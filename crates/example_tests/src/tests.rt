@@ -3,7 +3,6 @@ mod arp_generator;
 mod learning_switch;
 mod snap_checker;
 mod vlan_filter;
-mod vlan_rewriter;
 
 /// An Ethernet II header and a VLAN tag with VID 0x123, before IPv4.
 const TAGGED: [u8; 19] = [

@@ -1,0 +1,22 @@
+-- The lines that a rewriter of VLAN identifiers reads and writes.
+use Rattle.std.specs.Prelude.{◌≡◌, ℕ, List, ◌++◌, codes, Ok}
+use Rattle.hex.specs.Hex.{decode_of, encode_lower}
+use Rattle.etherparse.specs.Header.{Header}
+use Rattle.ether_peel.specs.Grammar.Stack.{Ending, Walk}
+use Rattle.ether_peel.specs.Walker.Start.{start_of}
+use Rattle.ether_peel.specs.declared.start.Start.TheVariants as starts
+use Rattle.ether_packet.specs.Setting.{FindsVlan, LacksVlan, SetsTag}
+
+-- The outermost VLAN tag of a frame with one identifier gets another one; without such a tag the frame stays.
+pub data Rewrites (frame : List ℕ) (hs : List Header) (e : Ending) (from to : ℕ) : (new : List ℕ) → Type 0 where
+  sets : (i : ℕ) (new : List ℕ) → FindsVlan hs from i
+      → SetsTag (start_of starts.Ethernet2) frame hs e i (λ tag. record tag { vid = to }) new → Rewrites frame hs e from to new
+  stays : LacksVlan hs from → Rewrites frame hs e from to frame
+
+-- the text for a line: its frame, rewritten by its walk, in hexadecimal digits
+pub record HasLine (line : List ℕ) (from to : ℕ) (text : List ℕ) : Type 0 where
+  pub frame : List ℕ
+  pub new : List ℕ
+  pub read : decode_of line ≡ Ok frame
+  pub rewritten : (hs : List Header) (e : Ending) → Walk (start_of starts.Ethernet2) frame hs e → Rewrites frame hs e from to new
+  pub written : text ≡ encode_lower new ++ codes "\n"
