@@ -68,8 +68,8 @@ pub data Asks : AskedValue → List (List ℕ) → AskedValue → Type 0 where
       → Asks a (codes "--cut-to-headers" ∷ words) b
   pop : (a b : AskedValue) (words : List (List ℕ)) → a.edit ≡ None → Asks (record a { edit = Some PopVlan }) words b
       → Asks a (codes "--pop-vlan" ∷ words) b
-  tag : (a b : AskedValue) (word text : List ℕ) (e : EditValue) (words : List (List ℕ)) → IsTagEdit word text e → a.edit ≡ None
-      → Asks (record a { edit = Some e }) words b → Asks a (word ∷ text ∷ words) b
+  tag : (a b : AskedValue) (word text : List ℕ) (e : EditValue) (words : List (List ℕ)) → IsTagEdit word text e
+      → a.edit ≡ None → Asks (record a { edit = Some e }) words b → Asks a (word ∷ text ∷ words) b
   select : (a b : AskedValue) (text : List ℕ) (words : List (List ℕ)) → a.text ≡ None → Asks (record a { text = Some text }) words b
       → Asks a (codes "--select" ∷ text ∷ words) b
   count : (a b : AskedValue) (text : List ℕ) (n : ℕ) (words : List (List ℕ)) → IsCount text n → a.count ≡ None

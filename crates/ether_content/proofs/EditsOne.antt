@@ -178,7 +178,8 @@ set_apart : (p : PacketValue) (old new : ℕ) (edited : EditedValue) → Sets ol
 set_apart p old new edited a (no_frame none) = none a.next a.frame a.is_frame.content
 set_apart p old new edited a (refused next frame hs e is lacks) =
     let same = same_frame p a.next next a.frame frame a.headers hs a.ending e a.is_frame is in
-    found_or_lacking hs old a.index (subst (λ (l : List Header). FindsVlan l old a.index) same.headers_are a.finds) lacks
+    found_or_lacking hs old a.index (subst (λ (l : List Header). FindsVlan l old a.index) same.headers_are a.finds)
+    lacks
 
 sets_one : (p : PacketValue) (old new : ℕ) (e f : EditedValue) → Sets old new p e → Sets old new p f → e ≡ f
 sets_one p old new e f a b =

@@ -14,8 +14,8 @@ use Rattle.ether_pcap.specs.Editing.{EditedValue, edited_packet}
 use Rattle.ether_content.specs.Content.{Frame, content_of}
 use Rattle.ether_content.specs.Headers.{HeadersTake}
 
--- a packet is cut where its headers end; the VLAN tag after the header of its link is taken off; one is put in there, which is announced by
--- this TPID and has this identifier; or the outermost VLAN tag with the old identifier gets the new one
+-- a packet is cut where its headers end; the VLAN tag after the header of its link is taken off; one is put in there, which is
+-- announced by this TPID and has this identifier; or the outermost VLAN tag with the old identifier gets the new one
 pub data EditValue : Type 0 where
   CutToHeaders : EditValue
   PopVlan : EditValue
@@ -69,8 +69,8 @@ pub record Pushes (tpid id : ℕ) (p : PacketValue) (edited : EditedValue) : Typ
   pub is : edited ≡ with_frame p frame new (p.original_len + 4)
   pub content : content_of (edited_packet edited p) ≡ Frame next new
 
--- The outermost VLAN tag of a frame with one identifier gets another one, and the packet is as long as before. It is still a frame, with the
--- walk that `SetsTag` says.
+-- The outermost VLAN tag of a frame with one identifier gets another one, and the packet is as long as before. It is still a
+-- frame, with the walk that `SetsTag` says.
 pub record Sets (old new : ℕ) (p : PacketValue) (edited : EditedValue) : Type 0 where
   pub next : Next
   pub frame : List ℕ
@@ -87,7 +87,8 @@ pub record Sets (old new : ℕ) (p : PacketValue) (edited : EditedValue) : Type 
 -- A packet stays as it is: it is no frame, or its frame is refused.
 pub data Stays (Refuses : (frame : List ℕ) → List Header → Type 0) (p : PacketValue) : Type 0 where
   no_frame : ((next : Next) (frame : List ℕ) → content_of p ≢ Frame next frame) → Stays Refuses p
-  refused : (next : Next) (frame : List ℕ) (hs : List Header) (e : Ending) → IsFrame p next frame hs e → Refuses frame hs → Stays Refuses p
+  refused : (next : Next) (frame : List ℕ) (hs : List Header) (e : Ending) → IsFrame p next frame hs e → Refuses frame hs
+      → Stays Refuses p
 
 -- what an edit makes of a packet, if it does not stay
 pub data Edits : EditValue → PacketValue → Option EditedValue → Type 0 where
@@ -98,7 +99,8 @@ pub data Edits : EditValue → PacketValue → Option EditedValue → Type 0 whe
   not_popped : (p : PacketValue) → Stays (λ frame hs. (error : TagError) × RefusesPop hs error) p → Edits PopVlan p None
   pushes : (p : PacketValue) (tpid id : ℕ) (e : EditedValue) → Pushes tpid id p e → Edits (PushVlan tpid id) p (Some e)
   not_pushed : (p : PacketValue) (tpid id : ℕ)
-      → Stays (λ frame hs. (error : TagError) × RefusesPush (after_free frame) hs tpid error) p → Edits (PushVlan tpid id) p None
+      → Stays (λ frame hs. (error : TagError) × RefusesPush (after_free frame) hs tpid error) p
+      → Edits (PushVlan tpid id) p None
   sets : (p : PacketValue) (old new : ℕ) (e : EditedValue) → Sets old new p e → Edits (SetVlan old new) p (Some e)
   not_set : (p : PacketValue) (old new : ℕ) → Stays (λ frame hs. LacksVlan hs old) p → Edits (SetVlan old new) p None
 
@@ -110,7 +112,8 @@ FitsEdit edit = ⊤
 
 -- Each packet is edited to some value, or stays.
 abbrev pub EditsAreSome : Type 0
-EditsAreSome = (edit : EditValue) (p : PacketValue) → FitsEdit edit → IsBytes p.packet → (o : Option EditedValue) × Edits edit p o
+EditsAreSome =
+    (edit : EditValue) (p : PacketValue) → FitsEdit edit → IsBytes p.packet → (o : Option EditedValue) × Edits edit p o
 
 -- A packet is edited to one value.
 abbrev pub EditsAreOne : Type 0

@@ -12,7 +12,7 @@ pub fn edits_are_one()
     ensures { EditsAreOne }
 {}
 
-/// Each packet is edited to a value, or stays: an edit never leaves open what it makes of one.
+/// Each packet is edited to some value, or stays.
 pub fn edits_are_some()
     ensures { EditsAreSome }
 {}

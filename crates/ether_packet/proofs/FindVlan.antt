@@ -1,16 +1,16 @@
 -- The outermost VLAN tag with an identifier, header by header.
 use Rattle.std.proofs.Common.{◌≡◌, ◌≢◌, ℕ, ◌+◌, ◌≤◌, List, [], ◌∷◌, ◌++◌, length, arith, append_assoc, append-nil, false, refl, sym, ap, subst, ◌∙◌}
-use Rattle.std.specs.Prelude.{Some, None, Ok, Err, if◌then◌else◌}
+use Rattle.std.specs.Prelude.{Some, None, Ok, Err}
 use Rattle.std.specs.List.{All}
 use Rattle.std.proofs.lemmas.List.Elements.{All-nil, All-cons, All-head, All-tail, All-append, filter_map-append}
 use Rattle.etherparse.specs.Bytes.{IsBytes}
-use Rattle.etherparse.specs.Header.{Header, kind_of, header_len}
+use Rattle.etherparse.specs.Header.{Header, header_len}
 use Rattle.etherparse.specs.Header as headers
 use Rattle.etherparse.specs.Vlan.{VlanValue, vlan_view}
 use Rattle.ether_peel.specs.Grammar.Window.{Window, payload}
-use Rattle.ether_peel.specs.Grammar.Expectation.{Expectation, is_extension}
+use Rattle.ether_peel.specs.Grammar.Expectation.{Expectation}
 use Rattle.ether_peel.specs.Grammar.Places.{place}
-use Rattle.ether_peel.specs.Grammar.Stack.{Ending, Fault, Accepted, whole, Walk}
+use Rattle.ether_peel.specs.Grammar.Stack.{Ending, whole, Walk}
 use Rattle.ether_peel.specs.Walker.State.{State}
 use Rattle.ether_peel.specs.Walker.Next.{Faces, FacesWalk, Gives}
 use Rattle.ether_peel.specs.Walker.UnitHeader.{unit_header}
@@ -19,25 +19,24 @@ use Rattle.ether_peel.specs.declared.peel_fault.PeelFault.{PeelFault}
 use Rattle.ether_peel.proofs.Grammar.Places.{place-append}
 use Rattle.ether_peel.proofs.Grammar.Stacks.{one_stack}
 use Rattle.ether_peel.proofs.Grammar.Windows.{header_least}
-use Rattle.ether_peel.proofs.Walker.UnitHeaders.{units_mean_headers}
 use Rattle.ether_packet.specs.declared.setting.PlacedVlan.{PlacedVlan}
 use Rattle.ether_packet.specs.Getters.{vid_of, vlan_ids_of}
 use Rattle.ether_packet.specs.Replacing.{ext_count, IsExtAt}
 use Rattle.ether_packet.specs.Setting.{IsPlacedVlan, LacksVlan, FindsVlan}
+use Rattle.ether_packet.proofs.Gathering.{is_next}
 use Rattle.ether_packet.proofs.PacketExts.{ext_count-append}
 use Rattle.ether_packet.proofs.Replaced.{header_inside}
-use Rattle.ether_packet.proofs.VlanIds.{one_ext, same_vlan}
+use Rattle.ether_packet.proofs.VlanIds.{counted, one_ext, same_vlan}
 
 -- ---- headers without the tag
 
 abbrev ids_other : (vid : ℕ) → List ℕ → Type 0
 ids_other vid ids = All (λ (id : ℕ). id ≢ vid) ids
 
-pub lacks_more : (hs : List Header) (h : Header) (vid : ℕ) → LacksVlan hs vid → LacksVlan (h ∷ []) vid
-    → LacksVlan (hs ++ h ∷ []) vid
-lacks_more hs h vid none other =
-    subst (ids_other vid) (sym (filter_map-append vid_of hs (h ∷ [])))
-    (All-append (λ (id : ℕ). id ≢ vid) (vlan_ids_of hs) (vlan_ids_of (h ∷ [])) none other)
+pub lacks_append : (hs ks : List Header) (vid : ℕ) → LacksVlan hs vid → LacksVlan ks vid → LacksVlan (hs ++ ks) vid
+lacks_append hs ks vid none other =
+    subst (ids_other vid) (sym (filter_map-append vid_of hs ks))
+    (All-append (λ (id : ℕ). id ≢ vid) (vlan_ids_of hs) (vlan_ids_of ks) none other)
 
 -- another identifier
 pub lacks_tag : (v : VlanValue) (vid : ℕ) → v.vid ≢ vid → LacksVlan (headers.Vlan v ∷ []) vid
@@ -85,23 +84,20 @@ pub record IsGiven (list : List ℕ) (w : Window) (left : List Header) (e : Endi
   pub going : t.over ≡ false
   pub room : header_len (unit_header u) ≤ length s.rest
 
-is_given : (list : List ℕ) (w : Window) (left : List Header) (e : Ending) (s t : State) (u : PeelUnit) → IsBytes list
-    → Faces list w s left e → s.over ≡ false → Gives s (Some (Ok u)) t → IsGiven list w left e s t u
-is_given list w [] (Accepted v y) s t u ok faces going gives = let none =
-    (gives.next going list w [] (Accepted v y) faces).0 in absurd cc
-is_given list w [] (Fault v y r) s t u ok faces going gives = let fault =
-    (gives.next going list w [] (Fault v y r) faces).0 in absurd cc
-is_given list w (h ∷ hs) e s t u ok faces going gives =
-    let n = gives.next going list w (h ∷ hs) e faces in
-    let same = units_mean_headers list w h hs e s t u ok faces going gives in
+is_given : (list : List ℕ) (w : Window) (left : List Header) (e : Ending) (s t : State) (u : PeelUnit)
+    → IsBytes list → Faces list w s left e → s.over ≡ false → Gives s (Some (Ok u)) t → IsGiven list w left e s t u
+is_given list w left e s t u ok faces going gives =
+    let n = is_next list w left e s t u ok faces (gives.next going list w left e faces) in
+    let h = n.given.header in
+    let same : h ≡ unit_header u = sym n.value in
     record {
-      later = hs;
-      parts = ap (λ (k : Header). k ∷ hs) (sym same);
-      faces = subst (λ (k : Header). Faces list (payload w k) t hs e) (sym same) n.5;
-      going = n.3;
+      later = n.given.later;
+      parts = n.given.parts ∙ ap (λ (k : Header). k ∷ n.given.later) same;
+      faces = subst (λ (k : Header). Faces list (payload w k) t n.given.later e) same n.given.faces;
+      going = n.given.going;
       room =
-          subst (λ (k : Header). header_len k ≤ length s.rest) (sym same)
-          (subst (λ (l : List ℕ). header_len h ≤ length l) (sym faces.rest) faces.stack.0.means.whole);
+          subst (λ (k : Header). header_len k ≤ length s.rest) same
+          (subst (λ (l : List ℕ). header_len h ≤ length l) (sym faces.rest) n.unit.means.whole);
     }
 
 -- a header without the identifier
@@ -122,7 +118,7 @@ passed_unit list s t hs e vid i u ok p gives other =
       going = n.going;
       begins = ap (λ (k : ℕ). k + header_len h) p.begins ∙ sym (place-append 0 p.done (h ∷ []));
       count = omega (arith, count, before);
-      lacks = lacks_more p.done h vid p.lacks other;
+      lacks = lacks_append p.done (h ∷ []) vid p.lacks other;
     }
 
 -- the tag
@@ -188,10 +184,6 @@ passed_fault list s t hs e vid i fault p gives =
     all_lack hs p.done p.left vid p.parts (left_fault list p.window p.left s t e fault p.faces p.going gives) p.lacks
 
 -- ---- the index
-
--- how many extensions a header is
-abbrev counted : Header → ℕ
-counted h = if is_extension (kind_of h) then 1 else 0
 
 ext_least : (at : ℕ) (hs : List Header) → at + ext_count hs ≤ place at hs
 ext_least at [] = omega arith
@@ -271,7 +263,8 @@ found_once hs vid i j f g =
 
 -- the VLAN tag at an index is one
 pub tag_once : (hs : List Header) (i : ℕ) (front other : List Header) (v w : VlanValue) (later more : List Header)
-    → IsExtAt hs i front (headers.Vlan v) later → IsExtAt hs i other (headers.Vlan w) more → (front ≡ other) × (v ≡ w)
+    → IsExtAt hs i front (headers.Vlan v) later → IsExtAt hs i other (headers.Vlan w) more
+    → (front ≡ other) × (v ≡ w)
 tag_once hs i front other v w later more f g =
     let same = one_ext hs i front other (headers.Vlan v) (headers.Vlan w) later more f g in
     (same.0, same_vlan v w same.1)

@@ -271,7 +271,7 @@ pub record IsNext (list : List ℕ) (w : Window) (left : List Header) (e : Endin
   pub shows : ShowsUnit (within list w) (within list (payload w given.header)) given.header u
   pub value : unit_header u ≡ given.header
 
-is_next : (list : List ℕ) (w : Window) (left : List Header) (e : Ending) (s t : State) (u : PeelUnit) → IsBytes list
+pub is_next : (list : List ℕ) (w : Window) (left : List Header) (e : Ending) (s t : State) (u : PeelUnit) → IsBytes list
     → Faces list w s left e → GivesNext list w left e s (Some (Ok u)) t → IsNext list w left e s t u
 is_next list w left e s t u ok faces g =
     let n = given list w left e s t u g in

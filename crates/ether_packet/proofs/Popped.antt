@@ -172,7 +172,7 @@ popped_walk start old new (headers.Arp v) tag later e ok link typed front rest s
 
 -- ---- how the tag is found
 
-vlan_header : (h : Header) → kind_of h ≡ kinds.Vlan → (v : VlanValue) × (h ≡ headers.Vlan v)
+pub vlan_header : (h : Header) → kind_of h ≡ kinds.Vlan → (v : VlanValue) × (h ≡ headers.Vlan v)
 vlan_header (headers.Ethernet2 e) is = absurd cc
 vlan_header (headers.Ethernet2Fcs e) is = absurd cc
 vlan_header (headers.LinuxSll s) is = absurd cc

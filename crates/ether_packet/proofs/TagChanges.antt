@@ -1,10 +1,9 @@
 -- A VLAN tag is taken off, put in or changed, or that is refused.
 use Rattle.std.proofs.Common.{◌≡◌, ◌≢◌, ℕ, zero, suc, ◌+◌, ◌-◌, ◌<◌, ◌≤◌, List, [], ◌∷◌, ◌++◌, length, take, drop, refl, sym, ap, subst, ◌∙◌, arith, inl, inr, Bool, true, false, ◌⊎◌}
 use Rattle.std.specs.Prelude.{Some, None, slice_range, ◌==◌, if◌then◌else◌}
-use Rattle.std.specs.List.{All}
 use Rattle.std.proofs.lemmas.Bool.{eqb-true, eqb-false}
 use Rattle.std.proofs.lemmas.List.{length-append, length-take-le}
-use Rattle.std.proofs.lemmas.List.Elements.{All-nil, All-cons, All-append, filter_map-append}
+use Rattle.std.proofs.lemmas.List.Elements.{All-nil}
 use Rattle.etherparse.specs.Bytes.{IsBytes, spelled, overwritten}
 use Rattle.etherparse.specs.Vlan.{VlanValue, FitsVlan, IsVlan, is_vlan_ether_type, vlan_bytes, vlan_number}
 use Rattle.etherparse.specs.Kind as kinds
@@ -22,7 +21,6 @@ use Rattle.ether_peel.specs.declared.start.Start.{Start}
 use Rattle.ether_peel.proofs.Grammar.Cleared.{whole_in}
 use Rattle.ether_packet.specs.declared.tag_error.TagError.{TagError}
 use Rattle.ether_packet.specs.declared.tag_error.TagError.TheVariants as errors
-use Rattle.ether_packet.specs.Getters.{vid_of, vlan_ids_of}
 use Rattle.ether_packet.specs.ReplacingLink.{is_link}
 use Rattle.ether_packet.specs.Replacing.{ext_count}
 use Rattle.ether_packet.specs.Setting.{LacksVlan, FindsVlan, SetsTag}
@@ -31,7 +29,8 @@ use Rattle.ether_packet.specs.Popping.{IsPopped, RefusesPop, no_vlan, cut_vlan}
 use Rattle.ether_packet.specs.Popping as popping
 use Rattle.ether_packet.specs.Pushing.{IsPushed, RefusesPush, pushed_bytes, other_tpid}
 use Rattle.ether_packet.specs.Pushing as pushing
-use Rattle.ether_packet.proofs.Popped.{is_popped}
+use Rattle.ether_packet.proofs.FindVlan.{lacks_append, lacks_tag}
+use Rattle.ether_packet.proofs.Popped.{is_popped, vlan_header}
 use Rattle.ether_packet.proofs.Pushed.{is_pushed}
 use Rattle.ether_packet.proofs.Replaced.{header_inside, length-overwritten, replaced_walk}
 use Rattle.ether_packet.proofs.TypedLinks.{announced_vlan, link_after, link_least, means_whole_list}
@@ -91,14 +90,6 @@ pub record Popped (start : Start) (old : List ℕ) (hs : List Header) (e : Endin
   pub is : IsPopped (start_of start) old hs e tag new
   pub len : length new ≡ length old
 
-other_kind : (h : Header) → Some (kind_of h) ≡ Some kinds.Vlan → (v : VlanValue) × (h ≡ headers.Vlan v)
-other_kind (headers.Ethernet2 e) is = absurd cc
-other_kind (headers.Ethernet2Fcs e) is = absurd cc
-other_kind (headers.LinuxSll s) is = absurd cc
-other_kind (headers.Vlan v) is = (v, refl)
-other_kind (headers.Macsec m) is = absurd cc
-other_kind (headers.Arp a) is = absurd cc
-
 -- what follows a type that announces a tag is one
 follows_type : (start : Start) (old : List ℕ) (link g : Header) (later : List Header) (e : Ending)
     → is_link (kind_of link) ≡ true → next_after link ≡ EtherType (type_of_link link)
@@ -107,7 +98,9 @@ follows_type : (start : Start) (old : List ℕ) (link g : Header) (later : List 
 follows_type start old link g later e linked typed is walk =
     let expected : after (start_of start) link ≡ record { next = EtherType (type_of_link link); limit = None } =
     link_after start link linked ∙ ap (λ n. record { next = n; limit = None }) typed in
-    other_kind g (sym walk.1.0.announced ∙ ap announced expected ∙ announced_vlan (type_of_link link) is)
+    let both : Some (kind_of g) ≡ Some kinds.Vlan =
+    sym walk.1.0.announced ∙ ap announced expected ∙ announced_vlan (type_of_link link) is in
+    vlan_header g cc
 
 popped_tag : (start : Start) (old : List ℕ) (hs : List Header) (e : Ending) (link : Header) (v : VlanValue)
     (later : List Header) (m : ℕ)
@@ -199,7 +192,8 @@ free_bytes old ok (suc (suc zero)) = omega arith
 free_bytes old ok (suc (suc (suc zero))) = omega arith
 free_bytes old ok (suc (suc (suc (suc i)))) = ok i
 
-pushed_announced : (start : Start) (old : List ℕ) (hs : List Header) (e : Ending) (tag : VlanValue) (tpid : ℕ) (b : Bool)
+pushed_announced : (start : Start) (old : List ℕ) (hs : List Header) (e : Ending) (tag : VlanValue) (tpid : ℕ)
+    (b : Bool)
     → IsBytes old → FitsVlan tag → is_vlan_ether_type tpid ≡ b → Walk (start_of start) old hs e
     → Pushed start (0 ∷ 0 ∷ 0 ∷ 0 ∷ old) hs e tag tpid
     ⊎ ((error : TagError) × RefusesPush (0 ∷ 0 ∷ 0 ∷ 0 ∷ old) hs tpid error)
@@ -223,19 +217,12 @@ pushed_or_not start old hs e tag tpid ok fits walk =
 
 -- ---- a tag that gets another identifier
 
-lacks_cons : (h : Header) (hs : List Header) (vid : ℕ) → LacksVlan (h ∷ []) vid → LacksVlan hs vid
-    → LacksVlan (h ∷ hs) vid
-lacks_cons h hs vid one none =
-    subst (λ (ids : List ℕ). All (λ (id : ℕ). id ≢ vid) ids)
-    (sym (filter_map-append vid_of (h ∷ []) hs))
-    (All-append (λ (id : ℕ). id ≢ vid) (vlan_ids_of (h ∷ [])) (vlan_ids_of hs) one none)
-
 abbrev Found : List Header → (vid : ℕ) → Type 0
 Found hs vid = (i : ℕ) × FindsVlan hs vid i
 
 found_later : (h : Header) (hs : List Header) (vid : ℕ) → LacksVlan (h ∷ []) vid → Found hs vid ⊎ LacksVlan hs vid
     → Found (h ∷ hs) vid ⊎ LacksVlan (h ∷ hs) vid
-found_later h hs vid one (inr none) = inr (lacks_cons h hs vid one none)
+found_later h hs vid one (inr none) = inr (lacks_append (h ∷ []) hs vid one none)
 found_later h hs vid one (inl (i, f)) =
     inl (
       ext_count (h ∷ f.front),
@@ -249,7 +236,7 @@ found_later h hs vid one (inl (i, f)) =
           before = refl;
         };
         has = f.has;
-        outermost = lacks_cons h f.front vid one f.outermost;
+        outermost = lacks_append (h ∷ []) f.front vid one f.outermost;
       },
     )
 
@@ -268,11 +255,7 @@ found_tag v hs vid true is others =
       },
     )
 found_tag v hs vid false is others =
-    found_later (headers.Vlan v) hs vid
-    (All-cons (λ (id : ℕ). id ≢ vid) v.vid []
-    (eqb-false v.vid vid is)
-    (All-nil (λ (id : ℕ). id ≢ vid)))
-    others
+    found_later (headers.Vlan v) hs vid (lacks_tag v vid (eqb-false v.vid vid is)) others
 
 pub found_or_not : (hs : List Header) (vid : ℕ) → Found hs vid ⊎ LacksVlan hs vid
 found_or_not [] vid = inr (All-nil (λ (id : ℕ). id ≢ vid))
@@ -294,8 +277,8 @@ pub record Set (start : Expectation) (old : List ℕ) (hs : List Header) (e : En
   pub len : length new ≡ length old
 
 -- the tag that was found can be set
-pub set_found : (start : Expectation) (old : List ℕ) (hs : List Header) (e : Ending) (vid i new_vid : ℕ) → new_vid < 4096
-    → FindsVlan hs vid i → Walk start old hs e → Set start old hs e i new_vid
+pub set_found : (start : Expectation) (old : List ℕ) (hs : List Header) (e : Ending) (vid i new_vid : ℕ)
+    → new_vid < 4096 → FindsVlan hs vid i → Walk start old hs e → Set start old hs e i new_vid
 set_found start old hs e vid i new_vid lt f walk =
     let v = f.tag in
     let w : VlanValue = record v { vid = new_vid } in

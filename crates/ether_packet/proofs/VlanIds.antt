@@ -34,7 +34,7 @@ use Rattle.ether_packet.proofs.Replaced.{front_is, header_inside}
 -- ---- the extension at an index is one
 
 -- what a header adds to their number
-abbrev counted : Header → ℕ
+abbrev pub counted : Header → ℕ
 counted h = if is_extension (kind_of h) then 1 else 0
 
 same_count : (h k : Header) (n m : ℕ) → h ≡ k → counted h + n ≡ counted k + m → n ≡ m

@@ -42,11 +42,11 @@ struct IndexedVlan {
 /// let frame = [
 ///     0xFF, 0xFF, 0xFF, 0xFF, 0xFF, 0xFF, 0x02, 0x00, 0x00, 0x00, 0x00, 0x01, 0x88, 0xA8, // Ethernet II
 ///     0x00, 0x64, 0x81, 0x00, // VLAN 100
-///     0x00, 0x05, 0x08, 0x00, // VLAN 5
+///     0xB0, 0x05, 0x08, 0x00, // VLAN 5
 ///     0x45,
 /// ];
 /// assert_eq!(rt; find_vlan(Start::Ethernet2, &frame, VlanId::try_new(5)?), Some(1));
-/// assert_eq!(rt; find_vlan(Start::Ethernet2, &frame, VlanId::try_new(6)?), None);
+/// assert_eq!(rt; find_vlan(Start::Ethernet2, &frame, VlanId::try_new(2)?), None);
 /// ```
 pub fn find_vlan(start: Start, frame: &[u8], vlan_id: VlanId) -> Option<usize>
     ensures some { IfSome result (λ index. (hs : List Header) (e : Ending)
@@ -74,9 +74,9 @@ pub fn find_vlan(start: Start, frame: &[u8], vlan_id: VlanId) -> Option<usize>
 ///     0xB0, 0x05, 0x08, 0x00, // VLAN 5
 ///     0x45,
 /// ];
-/// let index = replace_vlan_id(Start::Ethernet2, &mut frame, VlanId::try_new(5)?, VlanId::try_new(0x456)?);
+/// let index = replace_vlan_id(Start::Ethernet2, &mut frame, VlanId::try_new(5)?, VlanId::try_new(0xABC)?);
 /// assert_eq!(rt; index, Some(1));
-/// assert_eq!(rt; frame[14..], [0x00, 0x64, 0x81, 0x00, 0xB4, 0x56, 0x08, 0x00, 0x45]);
+/// assert_eq!(rt; frame[14..], [0x00, 0x64, 0x81, 0x00, 0xBA, 0xBC, 0x08, 0x00, 0x45]);
 /// ```
 pub fn replace_vlan_id(start: Start, frame: &mut [u8], from: VlanId, to: VlanId) -> Option<usize>
     ensures some { IfSome result (λ index. (hs : List Header) (e : Ending)

@@ -7,11 +7,12 @@ use Rattle.ether_packet.proofs.setting.replace_vlan_id.Goals as goal
 
 pub returns-clause-some : goal.returns-clause-some
 returns-clause-some c hs e walk =
-    let found = c.in_ok-index.ensures.found hs e walk in (
+    let found = c.in_ok-index.ensures.found hs e walk in
+    let placed = c.in_ok-index.field-0.placed in (
       found.0,
       is_set (start_of c.args.start) c.args.frame.now c.put_at.new.target hs e c.in_ok-index.field-0.index
-          c.in_ok-index.field-0.placed (λ (tag : VlanValue). record tag { vid = c.args.to }) found.1
+          placed (λ (tag : VlanValue). record tag { vid = c.args.to }) found.1
           c.to_bytes.ensures.fits refl
-          (c.put_at.ensures ∙ ap (overwritten c.args.frame.now c.in_ok-index.field-0.placed.at) c.to_bytes.ensures.value)
+          (c.put_at.ensures ∙ ap (overwritten c.args.frame.now placed.at) c.to_bytes.ensures.value)
           walk,
     )
