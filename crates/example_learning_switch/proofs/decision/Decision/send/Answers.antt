@@ -11,7 +11,8 @@ returns-in-Err-clause-goes c hs e walk = rw (c.in-Access.is, c.in-Err.ensures.un
 
 pub returns-in-Ok-untag-clause-sent : goal.returns-in-Ok-untag-clause-sent
 returns-in-Ok-untag-clause-sent c hs e walk =
-    rw (c.in-Trunk.is, c.in-Access-kind-2.is) (_, _, c.in-Ok-untag.ensures.ok hs e walk, sym (drop-drop 4 4 c.untag.new.buffer))
+    let ok = c.in-Ok-untag.ensures.ok hs e walk in
+    rw (c.in-Trunk.is, c.in-Access-kind-2.is) (_, _, ok, sym (drop-drop 4 4 c.untag.new.buffer))
 
 pub returns-in-Err-untag-clause-goes : goal.returns-in-Err-untag-clause-goes
 returns-in-Err-untag-clause-goes c hs e walk = rw (c.in-Trunk.is, c.in-Err-untag.ensures.untagged hs e walk) refl
