@@ -1,6 +1,6 @@
 -- The lines that a rewriter of VLAN identifiers reads and writes.
-use Rattle.std.specs.Prelude.{◌≡◌, ℕ, List, ◌++◌, codes, Ok}
-use Rattle.hex.specs.Hex.{decode_of, encode_lower}
+use Rattle.std.specs.Prelude.{◌≡◌, ℕ, List, ◌++◌, codes}
+use Rattle.hex.specs.Hex.{encode_lower}
 use Rattle.etherparse.specs.Header.{Header}
 use Rattle.ether_peel.specs.Grammar.Stack.{Ending, Walk}
 use Rattle.ether_peel.specs.Walker.Start.{start_of}
@@ -13,10 +13,12 @@ pub data Rewrites (frame : List ℕ) (hs : List Header) (e : Ending) (from to : 
       → SetsTag (start_of starts.Ethernet2) frame hs e i (λ tag. record tag { vid = to }) new → Rewrites frame hs e from to new
   stays : LacksVlan hs from → Rewrites frame hs e from to frame
 
--- the text for a line: its frame, rewritten by its walk, in hexadecimal digits
-pub record HasLine (line : List ℕ) (from to : ℕ) (text : List ℕ) : Type 0 where
-  pub frame : List ℕ
+-- a frame in hexadecimal digits
+abbrev pub line_of : (frame : List ℕ) → List ℕ
+line_of frame = encode_lower frame ++ codes "\n"
+
+-- the line for a frame, rewritten by its walk
+pub record HasLine (frame : List ℕ) (from to : ℕ) (text : List ℕ) : Type 0 where
   pub new : List ℕ
-  pub read : decode_of line ≡ Ok frame
   pub rewritten : (hs : List Header) (e : Ending) → Walk (start_of starts.Ethernet2) frame hs e → Rewrites frame hs e from to new
-  pub written : text ≡ encode_lower new ++ codes "\n"
+  pub written : text ≡ line_of new

@@ -6,7 +6,7 @@
 
 ghost use Rattle.std.specs.Prelude.{◌≡◌, ◌≢◌, ℕ, List, Ok, Err, IfOk, string_bytes};
 ghost use Rattle.hex.specs.Hex.{decode_of};
-ghost use Rattle.example_vlan_rewriter.specs.Lines.{HasLine};
+ghost use Rattle.example_vlan_rewriter.specs.Lines.{line_of, HasLine};
 
 use ether_packet::replace_vlan_id;
 use ether_peel::Start;
@@ -26,7 +26,7 @@ enum RewriteError {
     NoFrame,
     /// Memory is short.
     #[error("out of memory")]
-    OutOfMemory(#[from] AllocError),
+    OutOfMemory,
 }
 
 /// The VLAN identifier that an argument names.
@@ -40,24 +40,37 @@ fn vlan_id_of(argument: Option<String>) -> Result<VlanId, RewriteError> {
     }
 }
 
-/// The line for the frame of a line.
-fn rewritten(
-    alloc: Global,
-    line: &str,
-    from: VlanId,
-    to: VlanId,
-) -> Result<String, RewriteError>
-    ensures ok { IfOk result (λ text. HasLine line.now from to (string_bytes text)) }
+/// Reads a frame in hexadecimal digits.
+fn read_frame(alloc: Global, line: &str) -> Result<Vec<u8>, RewriteError>
+    ensures read { IfOk result (λ frame. decode_of line.now ≡ Ok frame.items) }
     ensures no_frame { result ≡ Err RewriteError.NoFrame → (frame : List ℕ) → decode_of line.now ≢ Ok frame }
 {
-    let mut frame = match hex::decode(alloc, line) {
-        Ok(frame) => frame,
-        Err(FromHexError::OutOfMemory) => return Err(RewriteError::OutOfMemory(AllocError)),
-        Err(_) => return Err(RewriteError::NoFrame),
-    };
-    let _index = replace_vlan_id(Start::Ethernet2, frame.as_mut_slice(), from, to);
-    let digits = hex::encode(alloc, frame.as_slice())?;
-    Ok(format!(in alloc; "{digits}\n")?)
+    match hex::decode(alloc, line) {
+        Ok(frame) => Ok(frame),
+        Err(FromHexError::OutOfMemory) => Err(RewriteError::OutOfMemory),
+        Err(_) => Err(RewriteError::NoFrame),
+    }
+}
+
+/// The line for a frame, in which the outermost VLAN tag with an identifier gets another one.
+fn rewritten_line(
+    alloc: Global,
+    frame: &mut [u8],
+    from: VlanId,
+    to: VlanId,
+) -> Result<String, AllocError>
+    ensures { IfOk result (λ text. HasLine frame.old from to (string_bytes text)) }
+{
+    let _index = replace_vlan_id(Start::Ethernet2, frame, from, to);
+    line(alloc, frame)
+}
+
+/// A frame in hexadecimal digits, as a line.
+fn line(alloc: Global, frame: &[u8]) -> Result<String, AllocError>
+    ensures { IfOk result (λ text. string_bytes text ≡ line_of frame.now) }
+{
+    let digits = hex::encode(alloc, frame)?;
+    format!(in alloc; "{digits}\n")
 }
 
 fn main(rt: HostRuntime) -> anyhow::Result<()> {
@@ -67,7 +80,8 @@ fn main(rt: HostRuntime) -> anyhow::Result<()> {
     let to = vlan_id_of(arguments.next())?;
     for line in rt.lines(alloc) {
         let line = line?;
-        let text = rewritten(alloc, line.as_str(), from, to)?;
+        let mut frame = read_frame(alloc, line.as_str())?;
+        let text = rewritten_line(alloc, frame.as_mut_slice(), from, to)?;
         print!(rt; "{text}")?;
     }
     Ok(())
