@@ -41,19 +41,19 @@ pub ethernet2_first : (list : List ℕ) (hs : List Header) (e : Ending) → IsBy
 ethernet2_first list hs e ok accepted walk =
     first_header (start_of starts.Ethernet2) kinds.Ethernet2 list hs e ok refl accepted walk
 
-pub nothing_first : (list : List ℕ) (hs : List Header) (e : Ending) (r : _) → Refuses sources.Slice list kinds.Ethernet2 r
-    → Walk (start_of starts.Ethernet2) list hs e → hs ≡ []
+pub nothing_first : (list : List ℕ) (hs : List Header) (e : Ending) (r : _)
+    → Refuses sources.Slice list kinds.Ethernet2 r → Walk (start_of starts.Ethernet2) list hs e → hs ≡ []
 nothing_first list hs e r row walk =
     no_unit_there list (start_of starts.Ethernet2) (whole (start_of starts.Ethernet2) list) kinds.Ethernet2 r hs e refl
     (subst (λ (l : List ℕ). Refuses sources.Slice l kinds.Ethernet2 r) (sym (whole_part list)) row) walk
 
 -- ---- the VLAN tag after a link
 
-pub tag_of_tagged : (hs : List Header) (at : ℕ) (t : IsTagged hs at) → outer_tag hs ≡ Some t.tag
+tag_of_tagged : (hs : List Header) (at : ℕ) (t : IsTagged hs at) → outer_tag hs ≡ Some t.tag
 tag_of_tagged hs at t = rw (t.begins.parts, t.begins.is_link) refl
 
-pub tag_of_popped : (start : Expectation) (old : List ℕ) (hs : List Header) (e : Ending) (tag : VlanValue) (new : List ℕ)
-    → IsPopped start old hs e tag new → outer_tag hs ≡ Some tag
+pub tag_of_popped : (start : Expectation) (old : List ℕ) (hs : List Header) (e : Ending) (tag : VlanValue)
+    (new : List ℕ) → IsPopped start old hs e tag new → outer_tag hs ≡ Some tag
 tag_of_popped start old hs e tag new p = rw (p.begins.parts, p.begins.is_link) refl
 
 -- the bytes where it begins mean it

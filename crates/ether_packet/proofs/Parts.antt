@@ -1,10 +1,10 @@
 -- The headers of a packet as values.
-use Rattle.std.proofs.Common.{◌≡◌, false, ℕ, ◌+◌, ◌≤◌, List, [], ◌∷◌, ◌++◌, length, take, drop, refl, sym, ap, subst, ◌∙◌, arith, append_assoc}
-use Rattle.std.specs.Prelude.{map, slice_get, flat_map, Option, Some, None}
-use Rattle.std.proofs.lemmas.List.{map-append, take-take, take_at, append-nil, length-append}
+use Rattle.std.proofs.Common.{◌≡◌, false, ℕ, ◌≤◌, List, [], ◌∷◌, ◌++◌, length, take, refl, sym, ap, ◌∙◌, arith}
+use Rattle.std.specs.Prelude.{map, slice_get, Option, Some, None}
+use Rattle.std.proofs.lemmas.List.{map-append}
 use Rattle.etherparse.specs.Types.LinkExtHeader.{LinkExtHeader}
 use Rattle.etherparse.specs.LinkExt.{ext_header_view}
-use Rattle.etherparse.specs.Header.{Header, kind_of}
+use Rattle.etherparse.specs.Header.{kind_of}
 use Rattle.ether_packet.specs.PacketUnit.{PacketUnit}
 use Rattle.ether_packet.specs.Views.{header_in, header_of, exts_of}
 use Rattle.ether_packet.specs.Places.{ext_kind, ext_unit, link_units, arp_units, units_at}

@@ -24,7 +24,7 @@ pub struct EthernetFront {
 
 /// The header of an Ethernet II frame without a frame check sequence, and the VLAN tag directly after it.
 ///
-/// What a switch or a distributor of load looks at. What follows isn't read. `None` if the frame has fewer than 14 bytes. A
+/// What a switch or a load balancer looks at. What follows isn't read. `None` if the frame has fewer than 14 bytes. A
 /// tag that is cut short is none.
 ///
 /// # Examples

@@ -63,9 +63,9 @@ pub fn push_vlan(
     ensures ok { IfOk result (λ _. (hs : List Header) (e : Ending)
         → Walk (start_of start) (drop 4 buffer.old) hs e
         → IsPushed (start_of start) buffer.old hs e (vlan_view tag) tpid.0 buffer.new) }
-    ensures untyped { OnErr result ((hs : List Header) (e : Ending)
-        → Walk (start_of start) (drop 4 buffer.old) hs e → is_vlan_ether_type tpid.0 ≡ true
-        → 4 ≤ length buffer.old → link_type hs ≡ None) }
+    ensures untyped { is_vlan_ether_type tpid.0 ≡ true → 4 ≤ length buffer.old
+        → OnErr result ((hs : List Header) (e : Ending)
+        → Walk (start_of start) (drop 4 buffer.old) hs e → link_type hs ≡ None) }
     ensures refused { IfErr result (λ error. (hs : List Header) (e : Ending)
         → Walk (start_of start) (drop 4 buffer.old) hs e
         → RefusesPush buffer.old hs tpid.0 error) }

@@ -1,6 +1,7 @@
 //! Packets of worked frames, read, built and changed.
 mod building;
 mod frames;
+mod fronts;
 mod packets;
 mod parts;
 mod replacing;

@@ -1,6 +1,6 @@
-use Rattle.std.proofs.Common.{◌≡◌, ◌≤◌, List, length, drop, ap, rules, true, None}
+use Rattle.std.proofs.Common.{◌≡◌, List, drop, ap, rules, None}
 use Rattle.etherparse.specs.Header.{Header}
-use Rattle.etherparse.specs.Vlan.{is_vlan_ether_type, vlan_view}
+use Rattle.etherparse.specs.Vlan.{vlan_view}
 use Rattle.ether_peel.specs.Grammar.Stack.{Ending, Walk}
 use Rattle.ether_peel.specs.Walker.Start.{start_of}
 use Rattle.ether_packet.specs.TypedLink.{link_len}
@@ -30,20 +30,20 @@ returns-in_ok-require_link-in_default-clause-ok c hs e walk =
 
 pub returns-in_err-require_link-in-LinuxSll-clause-untyped :
     goal.returns-in_err-require_link-in-LinuxSll-clause-untyped
-returns-in_err-require_link-in-LinuxSll-clause-untyped c =
+returns-in_err-require_link-in-LinuxSll-clause-untyped c is room =
     let at = c.in_err-require_link-in-LinuxSll in
     let h : (hs : List Header) (e : Ending) → Walk (start_of c.args.start) (drop 4 c.args.buffer.now) hs e
-    → is_vlan_ether_type c.args.tpid.0 ≡ true → 4 ≤ length c.args.buffer.now → link_type hs ≡ None =
-    λ hs e walk is room.
+    → link_type hs ≡ None =
+    λ hs e walk.
     none_pushed c.args.buffer.now hs c.args.tpid.0 at.field-0.0 is room (at.ensures.refused hs e walk) in
     search (rules, h)
 
 pub returns-in_err-require_link-in_default-clause-untyped :
     goal.returns-in_err-require_link-in_default-clause-untyped
-returns-in_err-require_link-in_default-clause-untyped c =
+returns-in_err-require_link-in_default-clause-untyped c is room =
     let at = c.in_err-require_link-in_default in
     let h : (hs : List Header) (e : Ending) → Walk (start_of c.args.start) (drop 4 c.args.buffer.now) hs e
-    → is_vlan_ether_type c.args.tpid.0 ≡ true → 4 ≤ length c.args.buffer.now → link_type hs ≡ None =
-    λ hs e walk is room.
+    → link_type hs ≡ None =
+    λ hs e walk.
     none_pushed c.args.buffer.now hs c.args.tpid.0 at.field-0.0 is room (at.ensures.refused hs e walk) in
     search (rules, h)

@@ -1,5 +1,4 @@
 use Rattle.std.proofs.Common.{◌+◌, length, ◌∙◌, arith}
-use Rattle.etherparse.specs.LinkExt.{ext_header_view}
 use Rattle.ether_packet.proofs.Chains.{link_len}
 use Rattle.ether_packet.proofs.Filling.{room_for_link}
 use Rattle.ether_packet.proofs.Unchanged.{laid_link, room_next, laid_next, room_content, laid_all}
