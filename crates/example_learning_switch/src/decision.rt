@@ -1,17 +1,14 @@
 //! Where a frame goes.
-ghost use Rattle.std.specs.Prelude.{◌≡◌, ◌≤◌, List, length, drop, Some, is_some, IsSome, IfSome, IfNone, IsTrue};
+ghost use Rattle.std.specs.Prelude.{◌≡◌, ◌≤◌, List, length, drop, is_some, IfSome, IfNone, IsTrue};
 ghost use Rattle.etherparse.specs.Header.{Header};
 ghost use Rattle.ether_peel.specs.Grammar.Stack.{Ending, Walk};
 ghost use Rattle.ether_peel.specs.Walker.Start.{start_of};
 ghost use Rattle.example_learning_switch.specs.Ports.{includes as includes_of, Leaves};
-ghost use Rattle.example_learning_switch.specs.declared.port.PortKind.TheVariants as kinds;
-ghost use Rattle.example_learning_switch.specs.Stations.{stations_of, goes_out};
+ghost use Rattle.example_learning_switch.specs.Stations.{goes_out};
 
 use crate::port::{Port, PortKind, is_member};
-use crate::stations::Stations;
 use crate::{retagging, stations};
 use ether_peel::Start;
-use etherparse::VlanId;
 
 /// Where a switch sends a frame.
 #[derive(Clone, Copy, PartialEq, Eq, Debug)]
@@ -64,7 +61,22 @@ impl Decision {
         if !self.allows(from, to, buffer) {
             return None;
         }
-        leave(from.kind, to.kind, buffer)
+        match from.kind {
+            PortKind::Access(vlan_id) => match to.kind {
+                PortKind::Access(_) => Some(4),
+                PortKind::Trunk => match retagging::tag(vlan_id, buffer) {
+                    Ok(()) => Some(0),
+                    Err(_) => None,
+                },
+            },
+            PortKind::Trunk => match to.kind {
+                PortKind::Access(_) => match retagging::untag(buffer) {
+                    Ok(_) => Some(8),
+                    Err(_) => None,
+                },
+                PortKind::Trunk => Some(4),
+            },
+        }
     }
 
     /// Whether the frame after four bytes of a buffer goes from one port to another.
@@ -95,56 +107,5 @@ impl Decision {
             Decision::Drop => false,
             Decision::Flood => to != from,
         }
-    }
-}
-
-/// Makes a frame ready that came from a port of one kind, and goes to one of another.
-fn leave(from: PortKind, to: PortKind, buffer: &mut [u8]) -> Option<usize>
-    requires { 4 ≤ length buffer.old }
-    ensures sent { IfSome result (λ at. (hs : List Header) (e : Ending)
-        → Walk (start_of Start.Ethernet2) (drop 4 buffer.old) hs e
-        → Leaves from to (drop 4 buffer.old) hs e (drop at buffer.new)) }
-    ensures done { (hs : List Header) (e : Ending)
-        → Walk (start_of Start.Ethernet2) (drop 4 buffer.old) hs e
-        → (s : Stations) → stations_of from hs ≡ Some s → IsSome result }
-    ensures kept { IfNone result (buffer.new ≡ buffer.old) }
-{
-    match from {
-        PortKind::Access(vlan_id) => leave_access(vlan_id, to, buffer),
-        PortKind::Trunk => leave_trunk(to, buffer),
-    }
-}
-
-/// Makes a frame ready that came from an access port.
-fn leave_access(vlan_id: VlanId, to: PortKind, buffer: &mut [u8]) -> Option<usize>
-    requires { 4 ≤ length buffer.old }
-    ensures sent { IfSome result (λ at. (hs : List Header) (e : Ending)
-        → Walk (start_of Start.Ethernet2) (drop 4 buffer.old) hs e
-        → Leaves (kinds.Access vlan_id) to (drop 4 buffer.old) hs e (drop at buffer.new)) }
-    ensures done { (hs : List Header) (e : Ending)
-        → Walk (start_of Start.Ethernet2) (drop 4 buffer.old) hs e
-        → (s : Stations) → stations_of (kinds.Access vlan_id) hs ≡ Some s → IsSome result }
-    ensures kept { IfNone result (buffer.new ≡ buffer.old) }
-{
-    match to {
-        PortKind::Access(_) => Some(4),
-        PortKind::Trunk => retagging::tag(vlan_id, buffer),
-    }
-}
-
-/// Makes a frame ready that came from a trunk.
-fn leave_trunk(to: PortKind, buffer: &mut [u8]) -> Option<usize>
-    requires { 4 ≤ length buffer.old }
-    ensures sent { IfSome result (λ at. (hs : List Header) (e : Ending)
-        → Walk (start_of Start.Ethernet2) (drop 4 buffer.old) hs e
-        → Leaves kinds.Trunk to (drop 4 buffer.old) hs e (drop at buffer.new)) }
-    ensures done { (hs : List Header) (e : Ending)
-        → Walk (start_of Start.Ethernet2) (drop 4 buffer.old) hs e
-        → (s : Stations) → stations_of kinds.Trunk hs ≡ Some s → IsSome result }
-    ensures kept { IfNone result (buffer.new ≡ buffer.old) }
-{
-    match to {
-        PortKind::Access(_) => retagging::untag(buffer),
-        PortKind::Trunk => Some(4),
     }
 }

@@ -1,6 +1,10 @@
 //! The entries of a table: stations and their ports.
-ghost use Rattle.std.specs.Prelude.{◌≡◌, ℕ, Some, None, IsTrue, IsFalse, IsSome, length, nat_eq, if◌then◌else◌};
-ghost use Rattle.example_learning_switch.specs.Switching.{port_in};
+ghost use Rattle.std.specs.Prelude.{◌≡◌, map};
+ghost use Rattle.example_learning_switch.specs.Switching.{is_among, is_new as is_new_among, port_in, stations_among, updated as updated_by, with_frame};
+
+use crate::CAPACITY;
+use crate::stations::is_group;
+use arrayvec::ArrayVec;
 
 /// A station, and the port of the last frame that came from it.
 #[derive(Clone, Copy, Debug, Default)]
@@ -9,32 +13,65 @@ pub(crate) struct Entry {
     pub port: u16,
 }
 
+impl Entry {
+    /// The entry after a frame from a station came from a port.
+    fn updated(self, station: u64, port: u16) -> Entry
+        ensures { result ≡ updated_by station port self }
+    {
+        Entry {
+            port: if self.station == station {
+                port
+            } else {
+                self.port
+            },
+            ..self
+        }
+    }
+}
+
 /// The port of a station.
 pub(crate) fn port_of(entries: &[Entry], station: u64) -> Option<u16>
     ensures { result ≡ port_in entries.now station }
 {
-    for entry in entries {
-        if entry.station == station {
-            return Some(entry.port);
-        }
-    }
-    None
+    entries
+        .iter()
+        .find(|entry| entry.station == station)
+        .map(|entry| entry.port)
 }
 
-/// Sets the port of a station, and returns `true` if it is known.
-pub(crate) fn set_port(entries: &mut [Entry], station: u64, port: u16) -> bool
-    ensures len { length entries.new ≡ length entries.old }
-    ensures there { IsTrue result → IsSome (port_in entries.old station) }
-    ensures set { IsTrue result → (s : ℕ)
-        → port_in entries.new s ≡ (if nat_eq s station then Some port else port_in entries.old s) }
-    ensures absent { IsFalse result → port_in entries.old station ≡ None }
-    ensures kept { IsFalse result → entries.new ≡ entries.old }
+/// Learns that frames from a station come from a port.
+pub(crate) fn learn(entries: &mut ArrayVec<Entry, CAPACITY>, station: u64, port: u16)
+    ensures { entries.new.items ≡ with_frame station port entries.old.items }
+{
+    let is_new = is_new(entries.as_slice(), station);
+    set_port(entries, station, port);
+    if is_new {
+        entries.push(Entry { station, port });
+    }
+}
+
+/// Whether a station is to get an entry.
+fn is_new(entries: &[Entry], station: u64) -> bool
+    ensures { result ≡ is_new_among station (stations_among entries.now) }
+{
+    !is_group(station) && !is_known(entries, station) && entries.len() < CAPACITY
+}
+
+/// Whether a station has an entry.
+fn is_known(entries: &[Entry], station: u64) -> bool
+    ensures { result ≡ is_among station (stations_among entries.now) }
+{
+    entries
+        .iter()
+        .map(|entry| entry.station)
+        .any(|known| station == known)
+}
+
+/// Sets the port of a station, if it has an entry.
+fn set_port(entries: &mut ArrayVec<Entry, CAPACITY>, station: u64, port: u16)
+    ensures { entries.new.items ≡ map (updated_by station port) entries.old.items }
 {
     for entry in entries.iter_mut() {
-        if entry.station == station {
-            entry.port = port;
-            return true;
-        }
+        *entry = entry.updated(station, port);
     }
-    false
 }

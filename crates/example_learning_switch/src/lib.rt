@@ -101,18 +101,7 @@ impl Switch {
         ensures { (earlier : List Taken) → Knows self.old earlier → (destination : ℕ)
             → Knows self.new (record { port = port; source = source; destination = destination } ∷ earlier) }
     {
-        if is_group(source) {
-            return;
-        }
-        if entry::set_port(self.entries.as_mut_slice(), source, port) {
-            return;
-        }
-        if !self.entries.is_full() {
-            self.entries.push(Entry {
-                station: source,
-                port,
-            });
-        }
+        entry::learn(&mut self.entries, source, port);
     }
 
     /// Where a frame from a port to a station goes.

@@ -1,27 +1,27 @@
 //! Frames that get a VLAN tag or lose it.
-ghost use Rattle.std.specs.Prelude.{◌≡◌, ◌≤◌, List, length, drop, Some, IsSome, IfSome, IfNone};
+ghost use Rattle.std.specs.Prelude.{◌≡◌, ◌≤◌, List, length, drop, None, IfOk, OnErr};
 ghost use Rattle.etherparse.specs.Header.{Header};
+ghost use Rattle.etherparse.specs.Vlan.{vlan_view};
 ghost use Rattle.ether_peel.specs.Grammar.Stack.{Ending, Walk};
 ghost use Rattle.ether_peel.specs.Walker.Start.{start_of};
-ghost use Rattle.example_learning_switch.specs.declared.port.PortKind.TheVariants as kinds;
-ghost use Rattle.example_learning_switch.specs.Ports.{IsTagged, IsUntagged};
-ghost use Rattle.example_learning_switch.specs.Stations.{stations_of};
+ghost use Rattle.ether_packet.specs.Front.{link_type, outer_tag};
+ghost use Rattle.ether_packet.specs.Popping.{IsPopped};
+ghost use Rattle.ether_packet.specs.Pushing.{IsPushed};
+ghost use Rattle.example_learning_switch.specs.Ports.{plain_tag};
 
-use crate::stations::Stations;
-use ether_packet::{pop_vlan, push_vlan};
+use ether_packet::{TagError, pop_vlan, push_vlan};
 use ether_peel::Start;
 use etherparse::{EtherType, SingleVlanHeader, VlanId, VlanPcp};
 
-/// Puts a VLAN tag into a frame without one, after four free bytes of a buffer, and returns where it begins then.
-pub(crate) fn tag(vlan_id: VlanId, buffer: &mut [u8]) -> Option<usize>
+/// Puts a VLAN tag into a frame without one, after four free bytes of a buffer. It begins at 0 then.
+pub(crate) fn tag(vlan_id: VlanId, buffer: &mut [u8]) -> Result<(), TagError>
     requires { 4 ≤ length buffer.old }
-    ensures sent { IfSome result (λ at. (hs : List Header) (e : Ending)
+    ensures ok { IfOk result (λ _. (hs : List Header) (e : Ending)
         → Walk (start_of Start.Ethernet2) (drop 4 buffer.old) hs e
-        → IsTagged vlan_id (drop 4 buffer.old) hs e (drop at buffer.new)) }
-    ensures done { (hs : List Header) (e : Ending)
-        → Walk (start_of Start.Ethernet2) (drop 4 buffer.old) hs e
-        → (s : Stations) → stations_of (kinds.Access vlan_id) hs ≡ Some s → IsSome result }
-    ensures kept { IfNone result (buffer.new ≡ buffer.old) }
+        → IsPushed (start_of Start.Ethernet2) buffer.old hs e (plain_tag vlan_id) 0x8100 buffer.new) }
+    ensures untyped { OnErr result ((hs : List Header) (e : Ending)
+        → Walk (start_of Start.Ethernet2) (drop 4 buffer.old) hs e → link_type hs ≡ None) }
+    ensures kept { OnErr result (buffer.new ≡ buffer.old) }
 {
     let tag = SingleVlanHeader {
         pcp: VlanPcp::ZERO,
@@ -29,25 +29,19 @@ pub(crate) fn tag(vlan_id: VlanId, buffer: &mut [u8]) -> Option<usize>
         vlan_id,
         ether_type: EtherType(0),
     };
-    match push_vlan(Start::Ethernet2, buffer, tag, EtherType::VLAN_TAGGED_FRAME) {
-        Ok(()) => Some(0),
-        Err(_) => None,
-    }
+    push_vlan(Start::Ethernet2, buffer, tag, EtherType::VLAN_TAGGED_FRAME)
 }
 
-/// Takes the VLAN tag off a frame, after four bytes of a buffer, and returns where it begins then.
-pub(crate) fn untag(buffer: &mut [u8]) -> Option<usize>
+/// Takes the VLAN tag off a frame, after four bytes of a buffer. It begins at 8 then.
+pub(crate) fn untag(buffer: &mut [u8]) -> Result<SingleVlanHeader, TagError>
     requires { 4 ≤ length buffer.old }
-    ensures sent { IfSome result (λ at. (hs : List Header) (e : Ending)
+    ensures ok { IfOk result (λ tag. (hs : List Header) (e : Ending)
         → Walk (start_of Start.Ethernet2) (drop 4 buffer.old) hs e
-        → IsUntagged (drop 4 buffer.old) hs e (drop at buffer.new)) }
-    ensures done { (hs : List Header) (e : Ending)
-        → Walk (start_of Start.Ethernet2) (drop 4 buffer.old) hs e
-        → (s : Stations) → stations_of kinds.Trunk hs ≡ Some s → IsSome result }
-    ensures kept { IfNone result (buffer.new ≡ buffer.old) }
+        → IsPopped (start_of Start.Ethernet2) (drop 4 buffer.old) hs e (vlan_view tag) (drop 4 buffer.new)) }
+    ensures untagged { OnErr result ((hs : List Header) (e : Ending)
+        → Walk (start_of Start.Ethernet2) (drop 4 buffer.old) hs e → outer_tag hs ≡ None) }
+    ensures kept { OnErr result (buffer.new ≡ buffer.old) }
 {
-    match pop_vlan(Start::Ethernet2, &mut buffer[4..]) {
-        Ok(_) => Some(8),
-        Err(_) => None,
-    }
+    let (_, frame) = buffer.split_at_mut(4);
+    pop_vlan(Start::Ethernet2, frame)
 }

@@ -1,18 +1,20 @@
 //! The stations of a frame.
-ghost use Rattle.std.specs.Prelude.{◌≡◌, ◌+◌, ◌*◌, ◌^◌, ◌<◌, List};
-ghost use Rattle.etherparse.specs.Bytes.{number, spelled};
-ghost use Rattle.etherparse.specs.Ethernet2.{ethernet2_of};
+ghost use Rattle.std.specs.Prelude.{◌≡◌, ◌+◌, ◌*◌, ◌^◌, List, Some, option_map};
+ghost use Rattle.etherparse.specs.Bytes.{number};
+ghost use Rattle.etherparse.specs.Ethernet2.{ethernet2_view};
 ghost use Rattle.etherparse.specs.Header.{Header};
-ghost use Rattle.etherparse.specs.Vlan.{is_vlan_ether_type};
+ghost use Rattle.etherparse.specs.Vlan.{is_vlan_ether_type, vlan_view};
 ghost use Rattle.ether_peel.specs.Grammar.Stack.{Ending, Walk};
 ghost use Rattle.ether_peel.specs.Walker.Start.{start_of};
-ghost use Rattle.example_learning_switch.specs.declared.port.PortKind.TheVariants as kinds;
-ghost use Rattle.example_learning_switch.specs.Stations.{station as station_of, stations_of, is_group as is_group_of};
+ghost use Rattle.ether_packet.specs.Front.{link_type, outer_tag};
+ghost use Rattle.example_learning_switch.specs.Ports.{vlan_of};
+ghost use Rattle.example_learning_switch.specs.Stations.{stations_of, stations_in as stations_in_vlan, is_group as is_group_of};
 
 use crate::port::PortKind;
 use ether_base::big_endian::u64_of;
-use ether_peel::{Peel, PeelUnit, Start};
-use etherparse::{EtherType, Ethernet2Slice, VlanId};
+use ether_packet::{EthernetFront, ethernet_front};
+use ether_peel::Start;
+use etherparse::{EtherType, Ethernet2Header, VlanId};
 
 /// The station that a frame comes from, and the one that it goes to: each is an address in the VLAN of the frame.
 #[derive(Clone, Copy)]
@@ -27,54 +29,38 @@ pub(crate) fn read(kind: PortKind, frame: &[u8]) -> Option<Stations>
     ensures { (hs : List Header) (e : Ending) → Walk (start_of Start.Ethernet2) frame.now hs e
         → result ≡ stations_of kind hs }
 {
+    let front = ethernet_front(frame)?;
+    let vlan_id = vlan_id(kind, &front)?;
+    Some(stations_in(vlan_id, &front.link))
+}
+
+/// The VLAN of a frame that begins like this, if the port that it came from gives it one.
+fn vlan_id(kind: PortKind, front: &EthernetFront) -> Option<VlanId>
+    ensures { (hs : List Header) → link_type hs ≡ Some front.now.link.ether_type.0
+        → outer_tag hs ≡ option_map vlan_view front.now.vlan → result ≡ vlan_of kind hs }
+{
     match kind {
-        PortKind::Access(vlan_id) => read_untagged(vlan_id, frame),
-        PortKind::Trunk => read_tagged(frame),
+        PortKind::Access(vlan_id) => {
+            if announces_vlan(front.link.ether_type) {
+                return None;
+            }
+            Some(vlan_id)
+        }
+        PortKind::Trunk => match front.vlan {
+            Some(tag) => Some(tag.vlan_id),
+            None => None,
+        },
     }
-}
-
-/// The stations of a frame in a VLAN, if no VLAN tag is directly after its Ethernet II header.
-fn read_untagged(vlan_id: VlanId, frame: &[u8]) -> Option<Stations>
-    ensures { (hs : List Header) (e : Ending) → Walk (start_of Start.Ethernet2) frame.now hs e
-        → result ≡ stations_of (kinds.Access vlan_id) hs }
-{
-    let mut peel = Peel::new(Start::Ethernet2, frame);
-    let Some(Ok(PeelUnit::Ethernet2(link))) = peel.next() else {
-        return None;
-    };
-    if announces_vlan(link.ether_type()) {
-        return None;
-    }
-    Some(stations_in(&link, vlan_id))
-}
-
-/// The stations of a frame, if a VLAN tag is directly after its Ethernet II header.
-fn read_tagged(frame: &[u8]) -> Option<Stations>
-    ensures { (hs : List Header) (e : Ending) → Walk (start_of Start.Ethernet2) frame.now hs e
-        → result ≡ stations_of kinds.Trunk hs }
-{
-    let mut peel = Peel::new(Start::Ethernet2, frame);
-    let Some(Ok(PeelUnit::Ethernet2(link))) = peel.next() else {
-        return None;
-    };
-    let Some(Ok(PeelUnit::Vlan(tag))) = peel.next() else {
-        return None;
-    };
-    Some(stations_in(&link, tag.vlan_identifier()))
 }
 
 /// The stations of a frame with this header, in a VLAN.
-fn stations_in(link: &Ethernet2Slice<'_>, vlan_id: VlanId) -> Stations
-    ensures { result ≡ record {
-      vlan_id = vlan_id;
-      source = station_of vlan_id (number (spelled 6 (ethernet2_of link.now.bytes).source));
-      destination = station_of vlan_id (number (spelled 6 (ethernet2_of link.now.bytes).destination));
-    } }
+fn stations_in(vlan_id: VlanId, link: &Ethernet2Header) -> Stations
+    ensures { result ≡ stations_in_vlan vlan_id (ethernet2_view link.now) }
 {
     Stations {
         vlan_id,
-        source: station(vlan_id, link.source()),
-        destination: station(vlan_id, link.destination()),
+        source: station(vlan_id, link.source),
+        destination: station(vlan_id, link.destination),
     }
 }
 

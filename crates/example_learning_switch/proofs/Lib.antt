@@ -1,4 +1,0 @@
-pub mod Histories
-pub mod Reading
-pub mod Sending
-pub mod Tables
