@@ -50,7 +50,8 @@ ARTEFACTS = {
         "ether_packet/src/replacing_arp.rt": ["replace_arp"],
         "ether_packet/src/popping.rt": ["pop_vlan"],
         "ether_packet/src/pushing.rt": ["push_vlan"],
-        "ether_packet/src/setting.rt": ["set_vlan_id", "set_vlan_tag", "set_tpid"],
+        "ether_packet/src/front.rt": ["ethernet_front", "outer_vlan"],
+        "ether_packet/src/setting.rt": ["find_vlan", "replace_vlan_id", "set_vlan_id", "set_vlan_tag", "set_tpid"],
         "ether_packet/src/laws.rt": ["parts_go_back", "popped_after_pushed", "pushed_after_popped"],
     },
     "Capture files": {
@@ -70,6 +71,7 @@ ARTEFACTS = {
         "ether_content/src/selecting.rt": ["selects"],
         "ether_content/src/headers.rt": ["headers_len"],
         "ether_content/src/editing.rt": ["edit_packet"],
+        "ether_content/src/laws.rt": ["edits_are_one", "edits_are_some"],
     },
     "Captures": {
         "ether_capture/src/run.rt": ["run"],
@@ -151,7 +153,6 @@ ORDER = {
     """,
     "Captured packets": """
         ether_sll2: LinuxSll2
-        ether_packet: Setting
         ether_content: Content ContentViews Selecting Headers Editing EditingViews
     """,
     "Captures": """
