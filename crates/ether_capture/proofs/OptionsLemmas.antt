@@ -396,7 +396,7 @@ lone_refused words left word kind (Err error) same usage more is never =
     (refused_words (word ∷ left) reasons.Usage (λ e. more (ap tail_of e)) (λ e. more (ap tail_of e))
     (λ a asks. absurd (never a (follows kind nothing_asked a word left is asks)))))
 
--- words of which the first is no lone option
+-- words whose first is no lone option
 pub options_named : (words left : List (List ℕ)) (word : List ℕ) (r : Result Request RequestError)
     → words ≡ word ∷ left → IfOk r (λ request. OptionsAsk (word ∷ left) (request_view request))
     → IfOk r (λ request. NamesRequest words (request_view request))

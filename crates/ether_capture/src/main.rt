@@ -2,7 +2,7 @@
 //! packet, or copies the capture without some of its packets.
 //!
 //! `main` calls [`program::program`] on the arguments, the files and the standard streams. Lines and copies go to standard output;
-//! the usage, the last line beside a copy, and that a stream failed, to standard error.
+//! the usage, the last line of a copy, and that a stream failed, to standard error.
 #![tactic(auto)]
 
 pub mod captures;

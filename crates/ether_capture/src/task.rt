@@ -8,7 +8,7 @@ use ether_filter::Filter;
 use ether_pcap::CapturedPacket;
 use std::num::NonZeroUsize;
 
-/// What is made of a capture, and of which of its packets.
+/// What is made of a capture, and for which packets.
 #[derive(Debug, Drop)]
 pub struct Task {
     /// Which packets are chosen; all of them without a filter.
