@@ -26,7 +26,7 @@ taken port hs = option_map (taken_with port.number) (stations_of port.kind hs)
 abbrev pub is_among : ℕ → List ℕ → Bool
 is_among s stations = list_any (nat_eq s) stations
 
--- whether a station is learned beside these: it is no group, it is another one, and they are fewer than 64
+-- whether a station is learned after these: it is no group, none of them, and they are fewer than 64
 abbrev pub is_new : ℕ → List ℕ → Bool
 is_new s stations = not (is_group s) && not (is_among s stations) && nat_lt (length stations) 64
 
