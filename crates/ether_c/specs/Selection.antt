@@ -17,6 +17,7 @@ captured_time c = record { seconds = c.seconds; nanoseconds = c.nanoseconds }
 abbrev pub packet_value : EtherCaptured → PacketValue
 packet_value c = record {
   time = marked c.has_time (captured_time c);
+  interface = None;
   original_len = c.original_len;
   link_type = c.link_type;
   fcs_len = marked c.has_fcs_len c.fcs_len;

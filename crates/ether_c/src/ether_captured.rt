@@ -70,6 +70,7 @@ impl<'a> EtherCaptured<'a> {
         };
         CapturedPacket {
             time,
+            interface: None,
             original_len: self.original_len,
             link_type: LinkType(self.link_type),
             fcs_len: (self.has_fcs_len != 0).then_some(self.fcs_len),

@@ -21,6 +21,7 @@ const FCS_LEN: usize = 4;
 /// ```
 /// let packet = CapturedPacket {
 ///     time: None,
+///     interface: None,
 ///     original_len: 60,
 ///     link_type: LinkType::ETHERNET,
 ///     fcs_len: None,
@@ -121,8 +122,20 @@ fn has_fcs(packet: &CapturedPacket<'_>) -> bool
     !is_cut(packet) && fcs_len(packet) == FCS_LEN
 }
 
-/// The captured bytes without those of the frame check sequence.
-fn without_fcs<'a>(packet: &CapturedPacket<'a>) -> &'a [u8]
+/// The captured bytes without those of the frame check sequence, whose length the capture gives.
+///
+/// ```
+/// let packet = CapturedPacket {
+///     time: None,
+///     interface: None,
+///     original_len: 18,
+///     link_type: LinkType::ETHERNET,
+///     fcs_len: Some(4),
+///     packet: &[0xFF; 16],
+/// };
+/// assert_eq!(rt; without_fcs(&packet), [0xFF; 14].as_slice());
+/// ```
+pub fn without_fcs<'a>(packet: &CapturedPacket<'a>) -> &'a [u8]
     ensures { result.now ≡ without_fcs (captured_packet_view packet.now) }
 {
     let captured_len = packet.packet.len();

@@ -70,6 +70,7 @@ const FREE: usize = 4;
 /// ```
 /// let packet = CapturedPacket {
 ///     time: None,
+///     interface: None,
 ///     original_len: 60,
 ///     link_type: LinkType::ETHERNET,
 ///     fcs_len: None,

@@ -20,6 +20,7 @@ use ether_sll2::{LinuxSll2Header, LinuxSll2Slice};
 /// ```
 /// let packet = CapturedPacket {
 ///     time: None,
+///     interface: None,
 ///     original_len: 60,
 ///     link_type: LinkType::ETHERNET,
 ///     fcs_len: None,

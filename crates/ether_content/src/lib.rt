@@ -8,7 +8,7 @@ mod headers;
 pub mod laws;
 mod selecting;
 
-pub use content::{Content, is_cut};
+pub use content::{Content, is_cut, without_fcs};
 pub use editing::{EditedPacket, NoRoom, PacketEdit, edit_packet};
 pub use headers::headers_len;
 pub use selecting::selects;

@@ -17,6 +17,7 @@ use ether_peel::Start;
 /// ```
 /// let packet = CapturedPacket {
 ///     time: None,
+///     interface: None,
 ///     original_len: 60,
 ///     link_type: LinkType::ETHERNET,
 ///     fcs_len: None,

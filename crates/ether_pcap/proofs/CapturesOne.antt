@@ -7,7 +7,7 @@ use Rattle.ether_pcap.specs.Record.{RecordValue, record_len}
 use Rattle.ether_pcap.specs.Block.{BlockValue}
 use Rattle.ether_pcap.specs.Options.{OptionValue, HasOptions}
 use Rattle.ether_pcap.specs.Bodies.{InterfaceValue, EnhancedPacketValue, SimplePacketValue, IsSimplePacket, RefusesSimplePacket}
-use Rattle.ether_pcap.specs.Capture.{PacketValue, packet_of_record, CaptureInterfaceValue, described_by, Describes, IsAt, packet_on, Expectation, Records, Blocks, BlockKind, InterfaceDescription, SimplePacket, EnhancedPacket, Other, kind_of_block, IsBody, CaptureRefusal, File, Record, Section, Block, Body, NoInterface, RefusesBody, interface, too_many, simple_alone, simple, enhanced, enhanced_alone, Begins, file_header, file_record, first_section, section, block, Refuses, file_header_refused, file_record_refused, first_section_refused, section_refused, block_refused, body_refused}
+use Rattle.ether_pcap.specs.Capture.{PacketValue, packet_of_record, CaptureInterfaceValue, described_by, Describes, IsAt, packet_on, simple_packet_on, Expectation, Records, Blocks, BlockKind, InterfaceDescription, SimplePacket, EnhancedPacket, Other, kind_of_block, IsBody, CaptureRefusal, File, Record, Section, Block, Body, NoInterface, RefusesBody, interface, too_many, simple_alone, simple, enhanced, enhanced_alone, Begins, file_header, file_record, first_section, section, block, Refuses, file_header_refused, file_record_refused, first_section_refused, section_refused, block_refused, body_refused}
 use Rattle.ether_pcap.proofs.FileHeaders.{one_header, apart, refused_once}
 use Rattle.ether_pcap.proofs.Records.{record_one, record_apart, refusal_one}
 use Rattle.ether_pcap.proofs.Blocks.{block_one, block_apart, block_refusal_one}
@@ -51,15 +51,7 @@ described_one order body v w d e =
 -- ---- bodies
 
 simple_packet_of : CaptureInterfaceValue → SimplePacketValue → Option PacketValue
-simple_packet_of i p =
-    Some
-    (record {
-      time = None;
-      original_len = p.original_len;
-      link_type = i.link_type;
-      fcs_len = i.fcs_len;
-      packet = p.packet;
-    })
+simple_packet_of i p = Some (simple_packet_on i p)
 
 enhanced_packet_of : Order → CaptureInterfaceValue → EnhancedPacketValue → List OptionValue → Option PacketValue
 enhanced_packet_of order i p options = Some (packet_on order i p options)

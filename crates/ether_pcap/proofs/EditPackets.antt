@@ -11,7 +11,7 @@ use Rattle.ether_pcap.specs.Block.{IsTotalLen}
 use Rattle.ether_pcap.specs.Section.{HasSectionType}
 use Rattle.ether_pcap.specs.FileHeader.{FileHeaderValue}
 use Rattle.ether_pcap.specs.Bodies.{EnhancedPacketValue}
-use Rattle.ether_pcap.specs.Capture.{PacketValue, packet_on, CaptureInterfaceValue, Expectation, Beginning, Records, Blocks, BlockKind, EnhancedPacket, SimplePacket, InterfaceDescription, Other, kind_of_block, IsBody, Begins, file_record, block}
+use Rattle.ether_pcap.specs.Capture.{PacketValue, packet_on, simple_packet_on, CaptureInterfaceValue, Expectation, Beginning, Records, Blocks, BlockKind, EnhancedPacket, SimplePacket, InterfaceDescription, Other, kind_of_block, IsBody, Begins, file_record, block}
 use Rattle.ether_pcap.specs.Editing.{EditedValue, edited_record, edited_body, block_bytes, edited_block, unit_with, is_too_long, edited_unit, edited_packet, unit_after, packet_after, unit_bytes, EditsUnit, HasEditedPacket}
 use Rattle.ether_pcap.specs.declared.capture.edited_unit.EditedUnit.{EditedUnit}
 use Rattle.ether_pcap.proofs.CaptureLocality.{unit_local}
@@ -263,15 +263,7 @@ why_block : (kind : BlockKind) (order : Order) (interfaces : List CaptureInterfa
     → Why p e
 why_block InterfaceDescription order interfaces u body p e is_body sound (i, d, lt, f, g) is = absurd cc
 why_block SimplePacket order interfaces u body p e is_body sound (i, q, at, v, f, g) is =
-    let a : PacketValue =
-    record {
-      time = None;
-      original_len = q.original_len;
-      link_type = i.link_type;
-      fcs_len = i.fcs_len;
-      packet = q.packet;
-    } in
-    inl (ap (λ (r : PacketValue). r.time) (same_packet p a f))
+    inl (ap (λ (r : PacketValue). r.time) (same_packet p (simple_packet_on i q) f))
 why_block (EnhancedPacket k) order interfaces u body p e is_body sound (i, v, options, is_v, at, has, f, g) is =
     let same : p ≡ packet_on order i v options = same_packet p (packet_on order i v options) f in
     let m : length p.packet ≡ length v.packet = ap (λ (q : PacketValue). length q.packet) same in

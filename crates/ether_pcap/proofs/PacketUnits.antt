@@ -9,7 +9,7 @@ use Rattle.ether_pcap.specs.Section.{HasSectionType}
 use Rattle.ether_pcap.specs.FileHeader.{FileHeaderValue}
 use Rattle.ether_pcap.specs.Bodies.{EnhancedPacketValue, IsEnhancedPacket}
 use Rattle.ether_pcap.specs.Editing.{EditedValue, edited_block, unit_with}
-use Rattle.ether_pcap.specs.Capture.{PacketValue, packet_of_record, packet_on, CaptureInterfaceValue, Expectation, Beginning, Records, Blocks, BlockKind, InterfaceDescription, SimplePacket, EnhancedPacket, Other, kind_of_block, IsBody, Begins, file_header, file_record, first_section, section, block}
+use Rattle.ether_pcap.specs.Capture.{PacketValue, packet_of_record, packet_on, simple_packet_on, CaptureInterfaceValue, Expectation, Beginning, Records, Blocks, BlockKind, InterfaceDescription, SimplePacket, EnhancedPacket, Other, kind_of_block, IsBody, Begins, file_header, file_record, first_section, section, block}
 
 pub same_packet : (p q : PacketValue) → Some p ≡ Some q → p ≡ q
 same_packet p q e = ap (λ (o : Option PacketValue). unwrap_or o p) e
@@ -158,15 +158,7 @@ few_in_body : (kind : BlockKind) (order : Order) (interfaces : List CaptureInter
     (p : PacketValue) → IsBody kind order interfaces body (Some p) interfaces → length p.packet ≤ 262144
 few_in_body InterfaceDescription order interfaces body p (i, d, lt, e, f) = absurd cc
 few_in_body SimplePacket order interfaces body p (i, v, at, is, e, f) =
-    let q : PacketValue =
-    record {
-      time = None;
-      original_len = v.original_len;
-      link_type = i.link_type;
-      fcs_len = i.fcs_len;
-      packet = v.packet;
-    } in
-    let m : length p.packet ≡ length v.packet = ap (λ (r : PacketValue). length r.packet) (same_packet p q e) in
+    let m : length p.packet ≡ length v.packet = ap (λ (r : PacketValue). length r.packet) (same_packet p (simple_packet_on i v) e) in
     omega (arith, m, is.room)
 few_in_body (EnhancedPacket n) order interfaces body p (i, v, o, is, at, has, e, f) =
     let m : length p.packet ≡ length v.packet =

@@ -24,10 +24,11 @@ pub record TimeValue : Type 0 where
 abbrev pub time_of : (nanoseconds : ℕ) → TimeValue
 time_of n = record { seconds = n / 10 ^ 9; nanoseconds = n % 10 ^ 9 }
 
--- a captured packet: its time if the file gives it, its length before it was cut, the link type and the length of the frame check
--- sequence that the file gives for it, and its captured bytes
+-- a captured packet: its time and the number of its interface if the file gives them, its length before it was cut, the link type and
+-- the length of the frame check sequence that the file gives for it, and its captured bytes
 pub record PacketValue : Type 0 where
   pub time : Option TimeValue
+  pub interface : Option ℕ
   pub original_len : ℕ
   pub link_type : ℕ
   pub fcs_len : Option ℕ
@@ -36,6 +37,7 @@ pub record PacketValue : Type 0 where
 abbrev pub packet_of_record : FileHeaderValue → RecordValue → PacketValue
 packet_of_record h r = record {
   time = Some (time_of (nanoseconds_of h.resolution r.seconds r.fraction));
+  interface = None;
   original_len = r.original_len;
   link_type = h.link_type;
   fcs_len = h.fcs_len;
@@ -128,9 +130,21 @@ fcs_of (Some n) m = Some n
 abbrev pub packet_on : Order → CaptureInterfaceValue → EnhancedPacketValue → List OptionValue → PacketValue
 packet_on order i p options = record {
   time = time_on i p.time;
+  interface = Some p.interface;
   original_len = p.original_len;
   link_type = i.link_type;
   fcs_len = fcs_of (fcs_in_flags (number_of order 4 (value_of 2 options))) i.fcs_len;
+  packet = p.packet;
+}
+
+-- what is said of a packet by its simple block, which has no time, and the first interface (4.4)
+abbrev pub simple_packet_on : CaptureInterfaceValue → SimplePacketValue → PacketValue
+simple_packet_on i p = record {
+  time = None;
+  interface = Some 0;
+  original_len = p.original_len;
+  link_type = i.link_type;
+  fcs_len = i.fcs_len;
   packet = p.packet;
 }
 
@@ -152,7 +166,7 @@ IsBody InterfaceDescription order before body packet after =
     (i : CaptureInterfaceValue) × Describes order body i × (length before < max_interfaces) × (packet ≡ None) × (after ≡ before ++ i ∷ [])
 IsBody SimplePacket order before body packet after =
     (i : CaptureInterfaceValue) × (p : SimplePacketValue) × IsAt before 0 i × IsSimplePacket order i.snap_len body p
-    × (packet ≡ Some (record { time = None; original_len = p.original_len; link_type = i.link_type; fcs_len = i.fcs_len; packet = p.packet })) × (after ≡ before)
+    × (packet ≡ Some (simple_packet_on i p)) × (after ≡ before)
 IsBody (EnhancedPacket number_len) order before body packet after =
     (i : CaptureInterfaceValue) × (p : EnhancedPacketValue) × (options : List OptionValue)
     × IsEnhancedPacket number_len order body p × IsAt before p.interface i × HasOptions order p.options options

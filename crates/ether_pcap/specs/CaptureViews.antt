@@ -18,6 +18,7 @@ timestamp_view t = record { seconds = t.seconds; nanoseconds = t.nanoseconds }
 abbrev pub captured_packet_view : CapturedPacket → PacketValue
 captured_packet_view p = record {
   time = option_map timestamp_view p.time;
+  interface = p.interface;
   original_len = p.original_len;
   link_type = p.link_type.0;
   fcs_len = p.fcs_len;

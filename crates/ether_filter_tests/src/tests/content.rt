@@ -20,6 +20,7 @@ fn packet(
 ) -> CapturedPacket<'_> {
     CapturedPacket {
         time: None,
+        interface: None,
         original_len,
         link_type: LinkType(link_type),
         fcs_len,

@@ -131,6 +131,7 @@ fn simple_packet<'a>(
     };
     Ok(CapturedPacket {
         time: None,
+        interface: Some(0),
         original_len: packet.original_len,
         link_type: interface.link_type,
         fcs_len: interface.fcs_len,
@@ -160,6 +161,7 @@ fn enhanced_packet<'a>(
     };
     Ok(CapturedPacket {
         time: interface.time(packet.time),
+        interface: Some(packet.interface),
         original_len: packet.original_len,
         link_type: interface.link_type,
         fcs_len: first_of(packet.fcs_len(byte_order), interface.fcs_len),

@@ -232,6 +232,7 @@ fn read_record<'a>(header: &FileHeader, bytes: &'a [u8]) -> Result<CaptureUnit<'
         len: record.record_len(),
         packet: Some(CapturedPacket {
             time: Some(time),
+            interface: None,
             original_len: record.original_len,
             link_type: header.link_type,
             fcs_len: header.fcs_len,

@@ -7,6 +7,8 @@ pub struct CapturedPacket<'a> {
     /// The time of the capture, rounded down to a nanosecond. `None` for a simple packet of a pcapng file, which has none, and for one
     /// that the option `if_tsoffset` of its interface moves before 1970.
     pub time: Option<Timestamp>,
+    /// The number of the interface that captured the packet, counted from 0 in its section of a pcapng file. `None` in a classic file.
+    pub interface: Option<u32>,
     /// How many bytes the packet had before it was cut.
     pub original_len: u32,
     /// What the packet begins with.

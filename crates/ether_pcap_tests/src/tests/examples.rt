@@ -201,6 +201,7 @@ fn of_a_reader(rt: HostRuntime) -> Result<(), Fail> {
             seconds: 1,
             nanoseconds: 2_000,
         }),
+        interface: None,
         original_len: 1,
         link_type: LinkType::ETHERNET,
         fcs_len: None,

@@ -65,10 +65,11 @@ fn reader_at(file: &[u8; 508], number: usize) -> Result<CaptureReader, Fail> {
 #[test]
 fn packets_of_both_sections(rt: HostRuntime) -> Result<(), Fail> {
     let (ethernet, sll) = (LinkType::ETHERNET, LinkType::LINUX_SLL);
-    for (name, number, time, original_len, link_type, fcs_len, start, end) in [
+    for (name, number, interface, time, original_len, link_type, fcs_len, start, end) in [
         (
             "the second interface",
             3,
+            1,
             Some(123_456_789),
             60,
             sll,
@@ -79,6 +80,7 @@ fn packets_of_both_sections(rt: HostRuntime) -> Result<(), Fail> {
         (
             "the first interface",
             4,
+            0,
             Some(123_456_000),
             16,
             ethernet,
@@ -89,6 +91,7 @@ fn packets_of_both_sections(rt: HostRuntime) -> Result<(), Fail> {
         (
             "powers of two",
             9,
+            0,
             Some(333_007_812),
             16,
             ethernet,
@@ -96,8 +99,18 @@ fn packets_of_both_sections(rt: HostRuntime) -> Result<(), Fail> {
             356,
             372,
         ),
-        ("whole seconds", 10, Some(0), 16, ethernet, None, 404, 420),
-        ("a simple packet", 12, None, 16, ethernet, None, 488, 504),
+        (
+            "whole seconds",
+            10,
+            1,
+            Some(0),
+            16,
+            ethernet,
+            None,
+            404,
+            420,
+        ),
+        ("a simple packet", 12, 0, None, 16, ethernet, None, 488, 504),
     ] {
         let mut reader = reader_at(&SECTIONS, number)?;
         let unit = reader.read(&SECTIONS[PLACES[number]..])?;
@@ -106,6 +119,7 @@ fn packets_of_both_sections(rt: HostRuntime) -> Result<(), Fail> {
                 seconds: 1_700_000_000,
                 nanoseconds,
             }),
+            interface: Some(interface),
             original_len,
             link_type,
             fcs_len,

@@ -8,11 +8,12 @@ use std::test::Fail;
 /// The length of a unit, and the seconds, nanoseconds, original length and place of its packet.
 type Shown = (usize, Option<(Option<(u64, u32)>, u32, usize, usize)>);
 
-/// The unit as it is shown, in a file of this link type.
+/// The unit as it is shown, in a file with one interface of this link type.
 fn unit<'a>(
     shown: &Shown,
     link_type: LinkType,
     fcs_len: Option<u8>,
+    interface: Option<u32>,
     file: &'a [u8],
 ) -> CaptureUnit<'a> {
     let (len, packet) = *shown;
@@ -23,6 +24,7 @@ fn unit<'a>(
                 seconds,
                 nanoseconds,
             }),
+            interface,
             original_len,
             link_type,
             fcs_len,
@@ -43,11 +45,12 @@ const BLOCKS: &[Shown] = &[
 #[test]
 fn of_whole_files(rt: HostRuntime) -> Result<(), Fail> {
     let (ethernet, sll) = (LinkType::ETHERNET, LinkType::LINUX_SLL);
-    for (name, file, link_type, fcs_len, units) in [
+    for (name, file, link_type, fcs_len, interface, units) in [
         (
             "microseconds",
             BIG_MICROSECONDS.as_slice(),
             ethernet,
+            None,
             None,
             [
                 (24, None),
@@ -61,6 +64,7 @@ fn of_whole_files(rt: HostRuntime) -> Result<(), Fail> {
             &LITTLE_NANOSECONDS,
             ethernet,
             None,
+            None,
             &[
                 (24, None),
                 (58, Some((Some((1_700_000_000, 123_456_789)), 60, 40, 82))),
@@ -72,6 +76,7 @@ fn of_whole_files(rt: HostRuntime) -> Result<(), Fail> {
             &LITTLE_FCS,
             ethernet,
             Some(4),
+            None,
             &[(24, None), (36, Some((Some((1, 2_000)), 20, 40, 60)))],
         ),
         (
@@ -79,16 +84,18 @@ fn of_whole_files(rt: HostRuntime) -> Result<(), Fail> {
             &BIG_SLL,
             sll,
             None,
+            None,
             &[
                 (24, None),
                 (33, Some((Some((4_294_967_295, 999_999_999)), 17, 40, 57))),
             ],
         ),
-        ("blocks", &BIG, ethernet, Some(0), BLOCKS),
+        ("blocks", &BIG, ethernet, Some(0), Some(0), BLOCKS),
         (
             "blocks, least significant byte first",
             &LITTLE,
             ethernet,
+            Some(0),
             Some(0),
             BLOCKS,
         ),
@@ -97,7 +104,7 @@ fn of_whole_files(rt: HostRuntime) -> Result<(), Fail> {
         let mut place = 0;
         let mut has_begun = false;
         for shown in units {
-            let wanted = unit(shown, link_type, fcs_len, file);
+            let wanted = unit(shown, link_type, fcs_len, interface, file);
             let before = reader.has_begun();
             let found = reader.read(file.get(place..).unwrap_or(&[]))?;
             equal(&rt, name, &(before, found), &(has_begun, wanted));

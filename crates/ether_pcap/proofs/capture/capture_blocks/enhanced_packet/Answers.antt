@@ -27,6 +27,7 @@ returns-clause-packet c =
           Some
           (record {
             time = time k;
+            interface = Some p.interface;
             original_len = p.original_len;
             link_type = i.link_type;
             fcs_len = fcs k;

@@ -1,4 +1,4 @@
-use Rattle.std.proofs.Common.{◌≡◌, ap, ◌∙◌, Some}
+use Rattle.std.proofs.Common.{◌≡◌, ap, ◌∙◌, Some, None}
 use Rattle.ether_pcap.specs.Capture.{packet_of_record, time_of}
 use Rattle.ether_pcap.specs.Views.{file_header_view, record_view}
 use Rattle.ether_pcap.specs.CaptureViews.{timestamp_view}
@@ -12,6 +12,7 @@ returns-clause-unit c =
     let t = c.from_nanoseconds-time.ensures ∙ ap time_of c.nanoseconds.ensures in
     let e : record {
       time = Some (timestamp_view c.from_nanoseconds-time.result);
+      interface = None;
       original_len = r.original_len;
       link_type = h.link_type;
       fcs_len = h.fcs_len;
@@ -20,6 +21,7 @@ returns-clause-unit c =
     ≡ packet_of_record h r
     = λ i. record {
       time = Some (t i);
+      interface = None;
       original_len = r.original_len;
       link_type = h.link_type;
       fcs_len = h.fcs_len;
