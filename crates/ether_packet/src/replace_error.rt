@@ -19,7 +19,7 @@ pub enum ReplaceError {
     /// The frame does not begin with the header of a link.
     NoLink,
     /// There is no VLAN tag or SecTag at the index. The frame has this many.
-    NoLinkExt(usize),
+    NoLinkExt(u8),
     /// The frame has no ARP packet.
     NoArp,
     /// The header differs from the one in the frame in this: it is of another kind, says something else about what follows

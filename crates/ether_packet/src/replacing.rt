@@ -82,7 +82,7 @@ fn find_ext(
 {
     let packet = PacketSlice::from_slice(start, frame);
     let Some(ext) = packet.link_ext(index) else {
-        return Err(ReplaceError::NoLinkExt(packet.link_ext_count()));
+        return Err(ReplaceError::NoLinkExt(packet.link_ext_count() as u8));
     };
     match ext_difference(header, &ext.slice.to_header()) {
         None => Ok(ext.offset),

@@ -253,7 +253,7 @@ fn vlan_at(start: Start, frame: &[u8], index: usize) -> Result<PlacedVlan, TagEr
 {
     let packet = PacketSlice::from_slice(start, frame);
     match packet.link_ext(index) {
-        None => Err(TagError::NoLinkExt(packet.link_ext_count())),
+        None => Err(TagError::NoLinkExt(packet.link_ext_count() as u8)),
         Some(ext) => match ext.slice.to_header() {
             LinkExtHeader::Vlan(tag) => Ok(PlacedVlan {
                 at: ext.offset,

@@ -67,7 +67,7 @@ fn is_ethernet_capture(frame: &[u8]) -> bool
 }
 
 /// The hardware type of any other cooked capture, if its header is not refused.
-#[inline(never)]
+#[inline(always)]
 fn other_hardware(frame: &[u8]) -> Option<ArpHardwareId>
     ensures { IsOtherCapture frame.now result }
 {
