@@ -1,20 +1,14 @@
--- The lines that a switch reads.
-use Rattle.std.specs.Prelude.{◌≡◌, ℕ, ◌-◌, ◌≤◌, ◌<◌, List, length, Some, Ok, ◌==◌, slice_get}
-use Rattle.std.specs.List.{position_or_len, before_first, after_first}
-use Rattle.std.specs.Str.Parse.{IsNumeral, without_leading_plus, digits_value}
-use Rattle.hex.specs.Hex.{decode_of}
+-- The packets that a switch reads.
+use Rattle.std.specs.Prelude.{◌≡◌, ℕ, ◌+◌, List, Some, unwrap_or, slice_get}
+use Rattle.ether_pcap.specs.Capture.{PacketValue}
+use Rattle.ether_content.specs.Content.{without_fcs}
 use Rattle.example_learning_switch.specs.declared.port.Port.{Port}
 use Rattle.example_learning_switch.specs.declared.port.PortKind.{PortKind}
 
--- a number in decimal digits, maybe after a sign +, and the port that has it: they are numbered from 1 on
-pub record IsPort (ports : List PortKind) (text : List ℕ) (port : Port) : Type 0 where
-  pub numeral : IsNumeral 10 (without_leading_plus text)
-  pub number : port.number ≡ digits_value 10 (without_leading_plus text)
-  pub first : 1 ≤ port.number
-  pub kind : slice_get ports (port.number - 1) ≡ Some port.kind
-
--- before its first space a line has the number of a port, and after it a frame in hexadecimal digits
-pub record IsLine (ports : List PortKind) (line : List ℕ) (from : Port) (bytes : List ℕ) : Type 0 where
-  pub space : position_or_len (λ b. b == 32) line < length line
-  pub port : IsPort ports (before_first (λ b. b == 32) line) from
-  pub frame : decode_of (after_first (λ b. b == 32) line) ≡ Ok bytes
+-- An Ethernet frame comes from the port that its interface is: ports are numbered from 1 on, and interfaces from 0 on. A classic file has
+-- the first interface alone.
+pub record IsReceived (ports : List PortKind) (p : PacketValue) (from : Port) (frame : List ℕ) : Type 0 where
+  pub link : p.link_type ≡ 1
+  pub number : from.number ≡ unwrap_or p.interface 0 + 1
+  pub kind : slice_get ports (unwrap_or p.interface 0) ≡ Some from.kind
+  pub frame : frame ≡ without_fcs p

@@ -1,41 +1,46 @@
-//! A learning switch over lines of text, as an example of a program over `example_learning_switch`.
+//! A learning switch over a capture, as an example of a program over `example_learning_switch`.
 //!
-//! Each argument is a port, and the ports are numbered from 1 on: `trunk`, or the VLAN identifier of an access port. Each
-//! line that is read is the number of the port that a frame comes from, a space, and the frame in hexadecimal digits. For
-//! each port that the frame goes to such a line is written, with the frame as it leaves.
+//! Each argument is a port, and the ports are numbered from 1 on: `trunk`, or the VLAN identifier of an access port. Standard
+//! input is a capture, pcap or pcapng: a frame of its first interface comes from port 1, and so on. For each port that a
+//! frame goes to a line is written: the number of the port, a space, and the frame as it leaves, in hexadecimal digits.
 #![tactic(auto)]
 
 mod lines;
 mod reading;
 
+use ether_pcap::CapturePackets;
 use etherparse::VlanId;
 use example_learning_switch::{PortKind, Switch};
 use lines::frame_lines;
-use reading::read_line;
+use reading::read_packet;
 use std::env;
+use std::io::Read;
 
-/// Why the program does not begin.
+/// Why the program ends before its input does.
 #[derive(Debug, Drop, thiserror::Error)]
-enum PortError {
+enum SwitchError {
     /// An argument is no port.
     #[error("a port is `trunk` or a VLAN identifier")]
     Argument,
     /// There are more than 65,535.
     #[error("there are at most 65,535 ports")]
     Count,
+    /// A packet is not switched.
+    #[error("a packet is an Ethernet frame of an interface that is a port")]
+    Packet,
 }
 
 /// The port that an argument names.
-fn kind_of(argument: &str) -> Result<PortKind, PortError> {
+fn kind_of(argument: &str) -> Result<PortKind, SwitchError> {
     if argument == "trunk" {
         return Ok(PortKind::Trunk);
     }
     match argument.parse::<u16>() {
         Ok(number) => match VlanId::try_new(number) {
             Ok(vlan_id) => Ok(PortKind::Access(vlan_id)),
-            Err(_) => Err(PortError::Argument),
+            Err(_) => Err(SwitchError::Argument),
         },
-        Err(_) => Err(PortError::Argument),
+        Err(_) => Err(SwitchError::Argument),
     }
 }
 
@@ -46,14 +51,17 @@ fn main(rt: HostRuntime) -> anyhow::Result<()> {
         ports.push(kind_of(argument.as_str())?)?;
     }
     if ports.len() >= 1 << 16 {
-        return Err(PortError::Count.into());
+        return Err(SwitchError::Count.into());
     }
+    let ports = ports.as_slice();
+    let mut capture = Vec::new(alloc);
+    rt.reader().read_to_end(&mut capture)?;
     let mut switch = Switch::new();
-    for line in rt.lines(alloc) {
-        let line = line?;
-        let received = read_line(alloc, ports.as_slice(), line.as_str())?;
-        let frame = received.frame.as_slice();
-        let text = frame_lines(alloc, &mut switch, ports.as_slice(), &received.port, frame)?;
+    for packet in CapturePackets::from_slice(capture.as_slice()) {
+        let Some(received) = read_packet(ports, &packet?) else {
+            return Err(SwitchError::Packet.into());
+        };
+        let text = frame_lines(alloc, &mut switch, ports, &received.port, received.frame)?;
         print!(rt; "{text}")?;
     }
     Ok(())

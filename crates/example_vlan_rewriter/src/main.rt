@@ -1,67 +1,49 @@
-//! A rewriter of VLAN identifiers over lines of text, as an example of a program over `ether_packet`.
+//! A rewriter of VLAN identifiers over a capture, as an example of a program over `ether_packet`.
 //!
-//! The arguments are two VLAN identifiers. Each line that is read is a frame in hexadecimal digits, which begins with an
-//! Ethernet II header. It is written again; the outermost VLAN tag with the first identifier gets the second one.
+//! The arguments are two VLAN identifiers. Standard input is a capture, pcap or pcapng. Each of its frames is written as a line
+//! of hexadecimal digits, in which the outermost VLAN tag with the first identifier has the second one. A packet that the
+//! walk does not know is passed over.
 #![tactic(auto)]
 
-ghost use Rattle.std.specs.Prelude.{◌≡◌, ◌≢◌, ℕ, List, Ok, Err, IfOk, string_bytes};
-ghost use Rattle.hex.specs.Hex.{decode_of};
+ghost use Rattle.std.specs.Prelude.{◌≡◌, IfOk, string_bytes};
 ghost use Rattle.example_vlan_rewriter.specs.Lines.{line_of, HasLine};
 
+use ether_content::Content;
 use ether_packet::replace_vlan_id;
+use ether_pcap::CapturePackets;
 use ether_peel::Start;
 use etherparse::VlanId;
-use hex::FromHexError;
 use std::alloc::{AllocError, Global};
 use std::env;
+use std::io::Read;
 
-/// Why the program ends before its input does.
+/// Why the program does not begin: the arguments are others.
 #[derive(Debug, Drop, thiserror::Error)]
-enum RewriteError {
-    /// The arguments are others.
-    #[error("the arguments are two VLAN identifiers")]
-    Arguments,
-    /// A line is no frame.
-    #[error("a line is a frame in hexadecimal digits")]
-    NoFrame,
-    /// Memory is short.
-    #[error("out of memory")]
-    OutOfMemory,
-}
+#[error("the arguments are two VLAN identifiers")]
+struct ArgumentsError;
 
 /// The VLAN identifier that an argument names.
-fn vlan_id_of(argument: Option<String>) -> Result<VlanId, RewriteError> {
+fn vlan_id_of(argument: Option<String>) -> Result<VlanId, ArgumentsError> {
     let Some(argument) = argument else {
-        return Err(RewriteError::Arguments);
+        return Err(ArgumentsError);
     };
     match argument.parse::<u16>() {
-        Ok(number) => VlanId::try_new(number).map_err(|_| RewriteError::Arguments),
-        Err(_) => Err(RewriteError::Arguments),
-    }
-}
-
-/// Reads a frame in hexadecimal digits.
-fn read_frame(alloc: Global, line: &str) -> Result<Vec<u8>, RewriteError>
-    ensures read { IfOk result (λ frame. decode_of line.now ≡ Ok frame.items) }
-    ensures no_frame { result ≡ Err RewriteError.NoFrame → (frame : List ℕ) → decode_of line.now ≢ Ok frame }
-{
-    match hex::decode(alloc, line) {
-        Ok(frame) => Ok(frame),
-        Err(FromHexError::OutOfMemory) => Err(RewriteError::OutOfMemory),
-        Err(_) => Err(RewriteError::NoFrame),
+        Ok(number) => VlanId::try_new(number).map_err(|_| ArgumentsError),
+        Err(_) => Err(ArgumentsError),
     }
 }
 
 /// The line for a frame, in which the outermost VLAN tag with an identifier gets another one.
 fn rewritten_line(
     alloc: Global,
+    start: Start,
     frame: &mut [u8],
     from: VlanId,
     to: VlanId,
 ) -> Result<String, AllocError>
-    ensures { IfOk result (λ text. HasLine frame.old from to (string_bytes text)) }
+    ensures { IfOk result (λ text. HasLine start frame.old from to (string_bytes text)) }
 {
-    let _index = replace_vlan_id(Start::Ethernet2, frame, from, to);
+    let _index = replace_vlan_id(start, frame, from, to);
     line(alloc, frame)
 }
 
@@ -78,11 +60,14 @@ fn main(rt: HostRuntime) -> anyhow::Result<()> {
     let mut arguments = env::args(&rt)?.skip(1);
     let from = vlan_id_of(arguments.next())?;
     let to = vlan_id_of(arguments.next())?;
-    for line in rt.lines(alloc) {
-        let line = line?;
-        let mut frame = read_frame(alloc, line.as_str())?;
-        let text = rewritten_line(alloc, frame.as_mut_slice(), from, to)?;
-        print!(rt; "{text}")?;
+    let mut capture = Vec::new(alloc);
+    rt.reader().read_to_end(&mut capture)?;
+    for packet in CapturePackets::from_slice(capture.as_slice()) {
+        if let Some((start, frame)) = Content::of(&packet?).frame() {
+            let mut frame = frame.to_vec(alloc)?;
+            let text = rewritten_line(alloc, start, frame.as_mut_slice(), from, to)?;
+            print!(rt; "{text}")?;
+        }
     }
     Ok(())
 }
