@@ -139,14 +139,7 @@ packet_on order i p options = record {
 
 -- what is said of a packet by its simple block, which has no time, and the first interface (4.4)
 abbrev pub simple_packet_on : CaptureInterfaceValue → SimplePacketValue → PacketValue
-simple_packet_on i p = record {
-  time = None;
-  interface = Some 0;
-  original_len = p.original_len;
-  link_type = i.link_type;
-  fcs_len = i.fcs_len;
-  packet = p.packet;
-}
+simple_packet_on i p = record { time = None; interface = Some 0; original_len = p.original_len; link_type = i.link_type; fcs_len = i.fcs_len; packet = p.packet }
 
 -- what is read of a block, by its type; a packet, whose interface has so many bytes, is an enhanced packet or an obsolete packet block
 pub data BlockKind : Type 0 where
