@@ -16,7 +16,7 @@ from dataclasses import dataclass
 from programs import count, run, run_in_pieces, run_until_a_fault, on_a_full_disk
 
 FAILED = ("ether_capture: input or output failed\n", 4)
-USAGE = "usage: ether_capture [--plain | --write [--cut-to-headers | --pop-vlan | --push-vlan TPID:ID | --set-vlan A:B]] [--select EXPR] [-c N] [FILE]\n"
+USAGE = "usage: ether_capture [[--plain] [--limit N] | --write [--cut-to-headers | --pop-vlan | --push-vlan TPID:ID | --set-vlan A:B]] [--select EXPR] [-c N] [FILE]\n"
 
 
 def joined(*parts):
@@ -322,6 +322,31 @@ CASES += [
     Case("no packet that is asked for", ["-c", "1", "--select", "macsec"], CLASSIC, "total frames 2 skipped 0\n", 0),
 ]
 
+# A limit on VLAN tags and SecTags: what is not read begins the rest. The header of the link and an ARP packet don't count.
+DOUBLE = "frame 1 time 1700000000.000000000 link 1 captured 23 original 23\nethernet2 0 ffffffffffff 020000000001 0x88A8\n"
+OUTER, INNER = "vlan 14 pcp 0 dei 0 vid 100 0x8100\n", "vlan 18 pcp 0 dei 0 vid 5 0x0800\n"
+ALL_TAGS = DOUBLE + OUTER + INNER + "rest 22 23 type 0x0800\ntotal frames 1 skipped 0\n"
+TAGGED_V2 = cooked("8100 0000 00000003 0001 04 06 0200000000010000 b123 0800 45")
+V2_LINE = "linux_sll2 0 packet 4 hw 1 if 3 alen 6 addr 0200000000010000 0x8100\n"
+CASES += [
+    Case("no tag", ["--limit", "0"], classic(SIX[5]), DOUBLE + "rest 14 23 type 0x88A8\ntotal frames 1 skipped 0\n", 0),
+    Case("one tag", ["--limit", "1"], classic(SIX[5]), DOUBLE + OUTER + "rest 18 23 type 0x8100\ntotal frames 1 skipped 0\n", 0),
+    Case("both tags", ["--limit", "2"], classic(SIX[5]), ALL_TAGS, 0),
+    Case("more tags than there are", ["--limit", "0xffffffff"], classic(SIX[5]), ALL_TAGS, 0),
+    Case("one tag, the walk alone", ["--limit", "1", "--plain"], classic(SIX[5]), plain(DOUBLE) + OUTER + "rest 18 23 type 0x8100\n", 0),
+    Case("a limit before a tag that is cut", ["--plain", "--limit", "1"], CLASSIC,
+         plain(CLASSIC_LINES).replace("fault 18 open length 4 1 slice", "rest 18 19 type 0x8100"), 0),
+    Case("no SecTag", ["--plain", "--limit", "0"], classic(joined(MACS, "88e5 00 06 00000001 8100 a005 0800 eeee")),
+         "ethernet2 0 ffffffffffff 020000000001 0x88E5\nrest 14 28 type 0x88E5\n", 0),
+    Case("no tag, but ARP", ["--plain", "--limit", "0"], classic(SIX[0]),
+         "ethernet2 0 ffffffffffff 020000000001 0x0806\narp 14 hw 0 proto 0x0000 hlen 0 plen 0 op 0\nrest 22 42 after_arp\n", 0),
+    Case("no tag after a header of cooked capture v2", ["--limit", "0"], TAGGED_V2, cooked_lines(25, V2_LINE + "rest 20 25 type 0x8100\n"), 0),
+    Case("one tag after it", ["--limit", "1"], TAGGED_V2,
+         cooked_lines(25, V2_LINE + "vlan 20 pcp 5 dei 1 vid 291 0x0800\nrest 24 25 type 0x0800\n"), 0),
+    Case("a limit, and a filter that looks further", ["--plain", "--limit", "0", "--select", "inner vlan 5", "-c", "1"], classic(*SIX),
+         plain(DOUBLE) + "rest 14 23 type 0x88A8\n", 0),
+]
+
 
 # Words that are wrong: the usage goes to standard error.
 WRONG = [
@@ -330,6 +355,14 @@ WRONG = [
     ("a number that is none", ["-c", "x"]),
     ("a number of packets of more than 32 bits", ["-c", "4294967296"]),
     ("two numbers of packets", ["-c", "1", "-c", "2"]),
+    ("no limit", ["--limit"]),
+    ("a limit that is none", ["--limit", "x"]),
+    ("a limit below zero", ["--limit", "-1"]),
+    ("a limit with a zero before it", ["--limit", "01"]),
+    ("a limit of more than 32 bits", ["--limit", "4294967296"]),
+    ("two limits", ["--limit", "1", "--limit", "1"]),
+    ("a limit of a copy", ["--write", "--limit", "1"]),
+    ("a limit of an edited copy", ["--limit", "0", "--cut-to-headers", "--write"]),
     ("a number after a file", ["one", "-c", "1"]),
     ("an option that is none", ["--plane"]),
     ("a word twice", ["--plain", "--plain"]),

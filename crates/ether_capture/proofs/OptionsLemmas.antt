@@ -7,7 +7,7 @@ use Rattle.std.specs.Vec.Iter.{into_iter_steps}
 use Rattle.std.specs.declared.vec.IntoIter.{IntoIter}
 use Rattle.ether_text.proofs.ArgumentsLemmas.{words_end}
 use Rattle.ether_filter.specs.Numerals.{number_in}
-use Rattle.ether_capture.specs.Options.{AskedValue, nothing_asked, Asks, no_word, file, plain, write, cut, pop, tag, select, count, IsCount, IsName, IsKnown, IsWord, AskSame, words_left, clashes, IsRequestOf, OptionsAsk, RequestValue, NamesRequest, help, version, options, RefusesAsked, RefusesOptions, RefusesWords, request_view}
+use Rattle.ether_capture.specs.Options.{AskedValue, nothing_asked, Asks, no_word, file, plain, write, cut, pop, tag, select, count, limit, IsCount, IsLimit, IsName, IsKnown, IsWord, AskSame, words_left, clashes, IsRequestOf, OptionsAsk, RequestValue, NamesRequest, help, version, options, RefusesAsked, RefusesOptions, RefusesWords, request_view}
 use Rattle.ether_content.specs.Editing.{EditValue, CutToHeaders, PopVlan}
 use Rattle.ether_capture.specs.Tags.{IsTagEdit, tag_word}
 use Rattle.ether_capture.specs.declared.tags.TagEdit.{TagEdit}
@@ -43,9 +43,9 @@ option_at c d e =
     if nat_eq c 112 then (if nat_eq d 108 then kinds.Plain
     else (if nat_eq d 111 then kinds.Pop else kinds.Tag tag_edits.Push))
     else (if nat_eq c 115 then (if nat_eq e 108 then kinds.Select else kinds.Tag tag_edits.Set)
-    else (if nat_eq c 0 then kinds.Count
+    else (if nat_eq c 0 then kinds.Count else (if nat_eq c 108 then kinds.Limit
     else (if nat_eq c 119 then kinds.Write
-    else (if nat_eq c 99 then kinds.Cut else (if nat_eq c 104 then kinds.Help else kinds.Version)))))
+    else (if nat_eq c 99 then kinds.Cut else (if nat_eq c 104 then kinds.Help else kinds.Version))))))
 
 abbrev kind_at : List ℕ → Word
 kind_at word = if initial word == 45 then option_at (third word) (fourth word) (fifth word) else kinds.Name
@@ -70,6 +70,7 @@ known_at word (kinds.Tag tag_edits.Push) is = ap kind_at is
 known_at word (kinds.Tag tag_edits.Set) is = ap kind_at is
 known_at word kinds.Select is = ap kind_at is
 known_at word kinds.Count is = ap kind_at is
+known_at word kinds.Limit is = ap kind_at is
 known_at word kinds.Help is = ap kind_at is
 known_at word kinds.Version is = ap kind_at is
 known_at word kinds.Unknown is = absurd is
@@ -87,6 +88,7 @@ one_kind word known kinds.Pop is other = known_once word known kinds.Pop is othe
 one_kind word known (kinds.Tag kind) is other = known_once word known (kinds.Tag kind) is other
 one_kind word known kinds.Select is other = known_once word known kinds.Select is other
 one_kind word known kinds.Count is other = known_once word known kinds.Count is other
+one_kind word known kinds.Limit is other = known_once word known kinds.Limit is other
 one_kind word known kinds.Help is other = known_once word known kinds.Help is other
 one_kind word known kinds.Version is other = known_once word known kinds.Version is other
 one_kind word known kinds.Unknown is other = absurd (other known is)
@@ -107,6 +109,9 @@ Follows kinds.Select a word words c =
 Follows kinds.Count a word words c =
     (text : List ℕ) × (n : ℕ) × (others : List (List ℕ)) × (words ≡ text ∷ others) × IsCount text n
     × (a.count ≡ None) × Asks (record a { count = Some n }) others c
+Follows kinds.Limit a word words c =
+    (text : List ℕ) × (n : ℕ) × (others : List (List ℕ)) × (words ≡ text ∷ others) × IsLimit text n
+    × (a.limit ≡ None) × Asks (record a { limit = Some n }) others c
 Follows kinds.Help a word words c = ⊥
 Follows kinds.Version a word words c = ⊥
 Follows kinds.Unknown a word words c = ⊥
@@ -133,6 +138,8 @@ follows kind a c word words is (select _ _ text others none asks) =
     follows_as kinds.Select kind a c word words refl is (text, others, refl, none, asks)
 follows kind a c word words is (count _ _ text n others counts none asks) =
     follows_as kinds.Count kind a c word words refl is (text, n, others, refl, counts, none, asks)
+follows kind a c word words is (limit _ _ text n others counts none asks) =
+    follows_as kinds.Limit kind a c word words refl is (text, n, others, refl, counts, none, asks)
 
 pub precedes : (kind : Word) (a c : AskedValue) (word : List ℕ) (words : List (List ℕ)) → IsWord word kind
     → Follows kind a word words c → Asks a (word ∷ words) c
@@ -155,6 +162,9 @@ precedes kinds.Select a c word words is (text, others, same, first, asks) =
 precedes kinds.Count a c word words is (text, n, others, same, counts, first, asks) =
     subst (λ (l : List (List ℕ)). Asks a (word ∷ l) c) (sym same)
     (subst (λ (w : List ℕ). Asks a (w ∷ text ∷ others) c) (sym is) (count a c text n others counts first asks))
+precedes kinds.Limit a c word words is (text, n, others, same, counts, first, asks) =
+    subst (λ (l : List (List ℕ)). Asks a (word ∷ l) c) (sym same)
+    (subst (λ (w : List ℕ). Asks a (w ∷ text ∷ others) c) (sym is) (limit a c text n others counts first asks))
 precedes kinds.Help a c word words is rest = absurd rest
 precedes kinds.Version a c word words is rest = absurd rest
 precedes kinds.Unknown a c word words is rest = absurd rest
@@ -259,6 +269,20 @@ ask_count a word text n words others is counts none same c = (
       (subst (λ (m : ℕ). Asks (record a { count = Some m }) f.2 c) one f.6),
 )
 
+pub ask_limit : (a : AskedValue) (word text : List ℕ) (n : ℕ) (words others : List (List ℕ)) → IsWord word kinds.Limit
+    → IsLimit text n → a.limit ≡ None → words ≡ text ∷ others
+    → AskSame a (word ∷ words) (record a { limit = Some n }) others
+ask_limit a word text n words others is counts none same c = (
+  λ asks. precedes kinds.Limit a c word words is (text, n, others, same, counts, none, asks),
+  λ asks.
+      let f = follows kinds.Limit a c word words is asks in
+      let both = sym f.3 ∙ same in
+      let here : IsLimit text f.1 = subst (λ (t : List ℕ). IsLimit t f.1) (ap head_of both) f.4 in
+      let one : f.1 ≡ n = same_number f.1 n (number_in text) here counts in
+      subst (λ (l : List (List ℕ)). Asks (record a { limit = Some n }) l c) (ap tail_of both)
+      (subst (λ (m : ℕ). Asks (record a { limit = Some m }) f.2 c) one f.6),
+)
+
 pub on_err : {A B : Type 0} (r : Result A B) (P : Type 0) → P → OnErr r P
 on_err (Ok a) P is = tt
 on_err (Err e) P is = is
@@ -269,6 +293,12 @@ pub no_count : (a c : AskedValue) (word text : List ℕ) (words others : List (L
 no_count a c word text words others is same none asks =
     let f = follows kinds.Count a c word words is asks in
     none f.1 (subst (λ (t : List ℕ). IsCount t f.1) (ap head_of (sym f.3 ∙ same)) f.4)
+
+pub no_limit : (a c : AskedValue) (word text : List ℕ) (words others : List (List ℕ)) → IsWord word kinds.Limit
+    → words ≡ text ∷ others → ((n : ℕ) → ¬ (IsLimit text n)) → Asks a (word ∷ words) c → ⊥
+no_limit a c word text words others is same none asks =
+    let f = follows kinds.Limit a c word words is asks in
+    none f.1 (subst (λ (t : List ℕ). IsLimit t f.1) (ap head_of (sym f.3 ∙ same)) f.4)
 
 -- .. also once it was tried to take another
 pub ask_name_last : (a : AskedValue) (word : List ℕ) (words left : List (List ℕ)) → IsWord word kinds.Name → words ≡ []
@@ -286,6 +316,14 @@ none_taken args others None ended none = (
   ap (map string_bytes) (words_end others others None (ended.1, ended.1) refl),
 )
 none_taken args others (Some word) next none = absurd cc
+
+pub none_is : {X : Type 0} (o : Option X) → is_none o ≡ true → o ≡ None
+none_is None none = refl
+none_is (Some x) none = absurd cc
+
+pub some_is : {X : Type 0} (o : Option X) → is_none o ≡ false → o ≡ None → ⊥
+some_is None some none = absurd cc
+some_is (Some x) some none = absurd cc
 
 pub none_mapped : {X Y : Type 0} (f : X → Y) (o : Option X) → is_none o ≡ true → option_map f o ≡ None
 none_mapped f None none = refl
@@ -306,20 +344,21 @@ some_mapped f (Some x) some none = absurd cc
 pub asks_nothing : (kind : Word) (a c : AskedValue) (word : List ℕ) (words : List (List ℕ)) → IsWord word kind
     → (kind ≡ kinds.Name → ⊥) → (kind ≡ kinds.Plain → ⊥) → (kind ≡ kinds.Write → ⊥) → (kind ≡ kinds.Cut → ⊥)
     → (kind ≡ kinds.Pop → ⊥) → ((t : TagEdit) → kind ≡ kinds.Tag t → ⊥) → (kind ≡ kinds.Select → ⊥)
-    → (kind ≡ kinds.Count → ⊥) → Asks a (word ∷ words) c → ⊥
-asks_nothing kinds.Name a c word words is n p w k o t s m asks = n refl
-asks_nothing kinds.Plain a c word words is n p w k o t s m asks = p refl
-asks_nothing kinds.Write a c word words is n p w k o t s m asks = w refl
-asks_nothing kinds.Cut a c word words is n p w k o t s m asks = k refl
-asks_nothing kinds.Pop a c word words is n p w k o t s m asks = o refl
-asks_nothing (kinds.Tag kind) a c word words is n p w k o t s m asks = t kind refl
-asks_nothing kinds.Select a c word words is n p w k o t s m asks = s refl
-asks_nothing kinds.Count a c word words is n p w k o t s m asks = m refl
-asks_nothing kinds.Help a c word words is n p w k o t s m asks =
+    → (kind ≡ kinds.Count → ⊥) → (kind ≡ kinds.Limit → ⊥) → Asks a (word ∷ words) c → ⊥
+asks_nothing kinds.Name a c word words is n p w k o t s m l asks = n refl
+asks_nothing kinds.Plain a c word words is n p w k o t s m l asks = p refl
+asks_nothing kinds.Write a c word words is n p w k o t s m l asks = w refl
+asks_nothing kinds.Cut a c word words is n p w k o t s m l asks = k refl
+asks_nothing kinds.Pop a c word words is n p w k o t s m l asks = o refl
+asks_nothing (kinds.Tag kind) a c word words is n p w k o t s m l asks = t kind refl
+asks_nothing kinds.Select a c word words is n p w k o t s m l asks = s refl
+asks_nothing kinds.Count a c word words is n p w k o t s m l asks = m refl
+asks_nothing kinds.Limit a c word words is n p w k o t s m l asks = l refl
+asks_nothing kinds.Help a c word words is n p w k o t s m l asks =
     follows kinds.Help a c word words is asks
-asks_nothing kinds.Version a c word words is n p w k o t s m asks =
+asks_nothing kinds.Version a c word words is n p w k o t s m l asks =
     follows kinds.Version a c word words is asks
-asks_nothing kinds.Unknown a c word words is n p w k o t s m asks =
+asks_nothing kinds.Unknown a c word words is n p w k o t s m l asks =
     follows kinds.Unknown a c word words is asks
 
 -- ---- all words

@@ -26,6 +26,7 @@ use Rattle.ether_capture.specs.Task.{TaskValue, FormValue, Lines, Copy, IsChosen
 use Rattle.ether_capture.specs.declared.outcome.RunFault.{RunFault}
 use Rattle.ether_capture.specs.declared.outcome.RunFault.TheVariants as faults
 use Rattle.ether_capture.specs.declared.progress.Progress.{Progress}
+use Rattle.ether_capture.specs.declared.task.LineOptions.{LineOptions}
 use Rattle.ether_capture.proofs.CopiesLemmas.{CopyGoesOn-start, CopyGoesOn-unit, CopyGoesOn-kept, CopyGoesOn-left, edited_as_said}
 use Rattle.ether_capture.proofs.PacketsLemmas.{GoesOn-start, GoesOn-unit, GoesOn-packet}
 
@@ -42,24 +43,24 @@ and_is_true true = refl
 and_is_true false = refl
 
 -- one answered packet more
-pub AreAnswered-push : (select : Option Expression) (plain : Bool) (before : ℕ) (packets : List PacketValue)
+pub AreAnswered-push : (select : Option Expression) (options : LineOptions) (before : ℕ) (packets : List PacketValue)
     (text : List ℕ) (all : Bool)
     (p : PacketValue) (more : List ℕ) (accepted : Bool)
-    → AreAnswered select plain before packets text all
-    → AnswersPacket select plain (counted (before + length packets + 1)) p more accepted
-    → AreAnswered select plain before (packets ++ p ∷ []) (text ++ more) (all && accepted)
-AreAnswered-push select plain before [] text all p more accepted so_far is =
+    → AreAnswered select options before packets text all
+    → AnswersPacket select options (counted (before + length packets + 1)) p more accepted
+    → AreAnswered select options before (packets ++ p ∷ []) (text ++ more) (all && accepted)
+AreAnswered-push select options before [] text all p more accepted so_far is =
     let n : before + length {A = PacketValue} [] + 1 ≡ before + 1 = omega arith in (
       more,
       accepted,
       [],
       true,
-      subst (λ (k : ℕ). AnswersPacket select plain (counted k) p more accepted) n is,
+      subst (λ (k : ℕ). AnswersPacket select options (counted k) p more accepted) n is,
       (refl, refl),
       ap (λ (t : List ℕ). t ++ more) so_far.0 ∙ sym (append-nil more),
       ap (λ (b : Bool). b && accepted) so_far.1 ∙ and_true accepted,
     )
-AreAnswered-push select plain before (first ∷ others) text all p more accepted so_far is =
+AreAnswered-push select options before (first ∷ others) text all p more accepted so_far is =
     let (one, one_accepted, rest, others_accepted, here, there, whole, every) = so_far in
     let n : before + length (first ∷ others) + 1 ≡ before + 1 + length others + 1 = omega arith in (
       one,
@@ -67,8 +68,8 @@ AreAnswered-push select plain before (first ∷ others) text all p more accepted
       rest ++ more,
       others_accepted && accepted,
       here,
-      AreAnswered-push select plain (before + 1) others rest others_accepted p more accepted there
-          (subst (λ (k : ℕ). AnswersPacket select plain (counted k) p more accepted) n is),
+      AreAnswered-push select options (before + 1) others rest others_accepted p more accepted there
+          (subst (λ (k : ℕ). AnswersPacket select options (counted k) p more accepted) n is),
       ap (λ (t : List ℕ). t ++ more) whole ∙ append_assoc one rest more,
       ap (λ (b : Bool). b && accepted) every ∙ and_assoc one_accepted others_accepted accepted,
     )
@@ -143,22 +144,22 @@ record MadeMore (select : Option Expression) (form : FormValue) (packets old : L
   made : Made select form (with_packet packets packet) kept front text all x
 
 -- the lines of a packet that is chosen or not
-answered_more : (select : Option Expression) (plain : Bool) (packets kept : List PacketValue) (front text : List ℕ)
+answered_more : (select : Option Expression) (options : LineOptions) (packets kept : List PacketValue) (front text : List ℕ)
     (all : Bool) (x y : Expectation) (p : PacketValue) (own more : List ℕ) (accepted : Bool)
-    → Selected (IsChosen select) packets kept → Made select (Lines plain) packets kept front text all x
-    → AnswersPacket select plain (counted (0 + length packets + 1)) p more accepted
-    → MadeMore select (Lines plain) packets kept (Some p) (front ++ own) (text ++ more) (all && accepted) y
-answered_more select plain packets kept front text all x y p own more accepted selected made (inl is) = record {
+    → Selected (IsChosen select) packets kept → Made select (Lines options) packets kept front text all x
+    → AnswersPacket select options (counted (0 + length packets + 1)) p more accepted
+    → MadeMore select (Lines options) packets kept (Some p) (front ++ own) (text ++ more) (all && accepted) y
+answered_more select options packets kept front text all x y p own more accepted selected made (inl is) = record {
   kept = kept ++ p ∷ [];
   more = inl (is.0, refl);
   selected = chosen-push select packets kept p is.0 selected;
-  made = AreAnswered-push select plain 0 packets text all p more accepted made (inl is);
+  made = AreAnswered-push select options 0 packets text all p more accepted made (inl is);
 }
-answered_more select plain packets kept front text all x y p own more accepted selected made (inr is) = record {
+answered_more select options packets kept front text all x y p own more accepted selected made (inr is) = record {
   kept = kept;
   more = inr (is.0, refl);
   selected = left-push select packets kept p is.0 selected;
-  made = AreAnswered-push select plain 0 packets text all p more accepted made (inr is);
+  made = AreAnswered-push select options 0 packets text all p more accepted made (inr is);
 }
 
 -- the copy of a unit
@@ -218,13 +219,13 @@ copied_more select edit packets kept front copy all x y buffered len packet own 
 -- the text of a unit that is no packet
 pub other_made : (select : Option Expression) (form : FormValue) (x : Expectation) (number : ℕ) (unit : List ℕ)
     → Makes select form x number unit None true (Some (other_text form unit))
-other_made select (Lines plain) x number unit = (refl, refl)
+other_made select (Lines options) x number unit = (refl, refl)
 other_made select (Copy edit) x number unit = (writes_unit, refl)
 
 -- .. and of a packet that is not chosen
 pub left_made : (select : Option Expression) (form : FormValue) (x : Expectation) (number : ℕ) (unit : List ℕ)
     (p : PacketValue) → ¬ (IsChosen select p) → Makes select form x number unit (Some p) true (Some [])
-left_made select (Lines plain) x number unit p not_chosen = ([], inr (not_chosen, refl, refl), refl)
+left_made select (Lines options) x number unit p not_chosen = ([], inr (not_chosen, refl, refl), refl)
 left_made select (Copy edit) x number unit p not_chosen = (writes_nothing p not_chosen, refl)
 
 -- what is made of a unit
@@ -236,7 +237,7 @@ made_more : (select : Option Expression) (form : FormValue) (packets kept : List
     → Selected (IsChosen select) packets kept → Made select form packets kept front text all x
     → Makes select form y number own packet accepted (Some more)
     → MadeMore select form packets kept packet (front ++ take len buffered) (text ++ more) (all && accepted) y
-made_more select (Lines plain) packets kept front text all x y buffered len number None own more accepted within begins
+made_more select (Lines options) packets kept front text all x y buffered len number None own more accepted within begins
     unit_is is selected made makes =
     let same : text ≡ text ++ more =
     sym (append-nil text) ∙ ap (λ (l : List ℕ). text ++ l) (sym (some_text more [] makes.0)) in
@@ -246,15 +247,15 @@ made_more select (Lines plain) packets kept front text all x y buffered len numb
       more = refl;
       selected = selected;
       made =
-          subst (λ (b : Bool). AreAnswered select plain 0 packets (text ++ more) b) same_all
-          (subst (λ (l : List ℕ). AreAnswered select plain 0 packets l all) same made);
+          subst (λ (b : Bool). AreAnswered select options 0 packets (text ++ more) b) same_all
+          (subst (λ (l : List ℕ). AreAnswered select options 0 packets l all) same made);
     }
-made_more select (Lines plain) packets kept front text all x y buffered len number (Some p) own more accepted within
+made_more select (Lines options) packets kept front text all x y buffered len number (Some p) own more accepted within
     begins unit_is is selected made (lines, answers, e) =
     let same : lines ≡ more = sym (some_text more lines e) in
-    answered_more select plain packets kept front text all x y p (take len buffered) more accepted selected made
-    (subst (λ (n : ℕ). AnswersPacket select plain n p more accepted) is
-    (subst (λ (l : List ℕ). AnswersPacket select plain number p l accepted) same answers))
+    answered_more select options packets kept front text all x y p (take len buffered) more accepted selected made
+    (subst (λ (n : ℕ). AnswersPacket select options n p more accepted) is
+    (subst (λ (l : List ℕ). AnswersPacket select options number p l accepted) same answers))
 made_more select (Copy edit) packets kept front text all x y buffered len number packet own more accepted within begins
     unit_is is selected made makes =
     subst
@@ -266,7 +267,7 @@ made_more select (Copy edit) packets kept front text all x y buffered len number
 
 -- nothing is made yet
 made_start : (select : Option Expression) (form : FormValue) → Made select form [] [] [] [] true Beginning
-made_start select (Lines plain) = (refl, refl)
+made_start select (Lines options) = (refl, refl)
 made_start select (Copy edit) = (λ to edits. CopyGoesOn-start select edit to edits, refl)
 
 -- a unit that was read has this packet
@@ -618,11 +619,11 @@ module _ {W : Type 0} (select : Option Expression) (count : Option ℕ) (edit : 
       (subst (λ (z : Expectation). Begins buffered old.reader len (Some p) z) same begins) kept edits (at ∙ same)
       unit_is (e ∙ no_copy) place same_out some so_far
 
-no_lines : (select : Option Expression) (plain : Bool) (x : Expectation) (number : ℕ) (own : List ℕ)
+no_lines : (select : Option Expression) (options : LineOptions) (x : Expectation) (number : ℕ) (own : List ℕ)
     (packet : Option PacketValue) (accepted : Bool)
-    → Makes select (Lines plain) x number own packet accepted None → ⊥
-no_lines select plain x number own None accepted makes = some_none [] (sym makes.0)
-no_lines select plain x number own (Some p) accepted makes = some_none makes.0 (sym makes.2)
+    → Makes select (Lines options) x number own packet accepted None → ⊥
+no_lines select options x number own None accepted makes = some_none [] (sym makes.0)
+no_lines select options x number own (Some p) accepted makes = some_none makes.0 (sym makes.2)
 
 module _ {W : Type 0} (select : Option Expression) (count : Option ℕ) (contents : W → Option (List ℕ)) where
   pub Reached-stopped : (form : FormValue) (held : Option (List ℕ)) (input buffered : List ℕ) (old : Progress)
@@ -633,9 +634,9 @@ module _ {W : Type 0} (select : Option Expression) (count : Option ℕ) (content
       (record old { reader = y }) from offset to
       → Reached (record { select = select; count = count; form = form }) contents held input buffered old from
       → UneditedIn select count form contents held input offset to
-  Reached-stopped (Lines plain) held input buffered old y from to len packet own offset some begins unit_is stops
+  Reached-stopped (Lines options) held input buffered old y from to len packet own offset some begins unit_is stops
       so_far =
-      no_lines select plain y (counted (old.count + 1)) own packet stops.accepted stops.not_made
+      no_lines select options y (counted (old.count + 1)) own packet stops.accepted stops.not_made
   Reached-stopped (Copy edit) held input buffered old y from to len packet own offset some begins unit_is stops
       so_far =
       unwritten_unit select count edit contents held input buffered old y y from to len packet own offset None begins

@@ -112,7 +112,7 @@ module _ (select : Option Expression) (bytes front text : List ℕ) (packets kep
   completed : (form : FormValue) → bytes ≡ front → x ≢ Beginning → Made select form packets kept front text all x
       → Completes select form bytes
       (text ++ last_lines form (counted (length packets)) (counted (sum_by skip_count packets))) all
-  completed (Lines plain) is begun made = record {
+  completed (Lines options) is begun made = record {
     packets = packets;
     lines = text;
     has =
@@ -135,7 +135,7 @@ module _ (select : Option Expression) (bytes front text : List ℕ) (packets kep
       → ¬ (IsEnd x rest) → Refuses rest x (capture_refusal_view error)
       → HasFewer select count front → Made select form packets kept front text all x
       → StopsAtFault select count form (record { offset = offset; error = error }) bytes text
-  stopped (Lines plain) rest offset error place at more refused fewer made = record {
+  stopped (Lines options) rest offset error place at more refused fewer made = record {
     packets = packets;
     front = front;
     rest = rest;
@@ -166,7 +166,7 @@ module _ (select : Option Expression) (bytes front text : List ℕ) (packets kep
   broken : (Needs : Option ℕ → Type 0) (form : FormValue) (rest : List ℕ) (reason : CaptureRefusal)
       → bytes ≡ front ++ rest → Refuses rest x reason → Needs (required_len reason) → HasFewer select count front
       → Made select form packets kept front text all x → EndsInUnit Needs select count form bytes text
-  broken Needs (Lines plain) rest reason place refused unfinished fewer made = record {
+  broken Needs (Lines options) rest reason place refused unfinished fewer made = record {
     packets = packets;
     front = front;
     rest = rest;
@@ -400,7 +400,7 @@ module _ {W : Type 0} (task : TaskValue) (contents : W → Option (List ℕ)) wh
         → Consumes before after input → UneditedIn task.select task.count form contents held input offset out
         → HasRun (record task { form = form }) before after held (contents_of contents out) (Err
         (faults.NotEdited offset))
-    at_packet (Lines plain) input offset out read s = absurd s
+    at_packet (Lines options) input offset out read s = absurd s
     at_packet (Copy edit) input offset out read s =
         let left : List ℕ = unwrap_or after [] in
         let place = ap (λ (l : List ℕ). l ++ left) s.place ∙ append_assoc s.front s.buffered left in

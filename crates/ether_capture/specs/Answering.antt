@@ -7,29 +7,30 @@ use Rattle.ether_pcap.specs.CaptureViews.{capture_refusal_view}
 use Rattle.ether_pcap.specs.declared.capture.capture_fault.CaptureFault.{CaptureFault}
 use Rattle.ether_capture.specs.FrameLines.{AnswersPacket, skip_count, totals_line_if}
 use Rattle.ether_capture.specs.Packets.{counted, GoesOn, HasFewer}
+use Rattle.ether_capture.specs.declared.task.LineOptions.{LineOptions}
 
 -- this is the text for the packets in order, after so many before them, and all says that each is accepted
-abbrev pub AreAnswered : (select : Option Expression) → (plain : Bool) → (before : ℕ) → List PacketValue → (text : List ℕ) → (all : Bool) → Type 0
-AreAnswered select plain before [] text all = (text ≡ []) × (all ≡ true)
-AreAnswered select plain before (p ∷ packets) text all =
+abbrev pub AreAnswered : (select : Option Expression) → (options : LineOptions) → (before : ℕ) → List PacketValue → (text : List ℕ) → (all : Bool) → Type 0
+AreAnswered select options before [] text all = (text ≡ []) × (all ≡ true)
+AreAnswered select options before (p ∷ packets) text all =
     (first : List ℕ) × (accepted : Bool) × (rest : List ℕ) × (others_accepted : Bool)
-    × AnswersPacket select plain (counted (before + 1)) p first accepted × AreAnswered select plain (before + 1) packets rest others_accepted
+    × AnswersPacket select options (counted (before + 1)) p first accepted × AreAnswered select options (before + 1) packets rest others_accepted
     × (text ≡ first ++ rest) × (all ≡ (accepted && others_accepted))
 
 -- the line after those of all packets
-abbrev pub totals_of : (plain : Bool) → List PacketValue → List ℕ
-totals_of plain packets = totals_line_if plain (counted (length packets)) (counted (sum_by skip_count packets))
+abbrev pub totals_of : (options : LineOptions) → List PacketValue → List ℕ
+totals_of options packets = totals_line_if options.is_plain (counted (length packets)) (counted (sum_by skip_count packets))
 
 -- this is the text for all packets of the bytes, to their end, and for the totals
-pub record AnswersCapture (select : Option Expression) (plain : Bool) (bytes text : List ℕ) (all_accepted : Bool) : Type 0 where
+pub record AnswersCapture (select : Option Expression) (options : LineOptions) (bytes text : List ℕ) (all_accepted : Bool) : Type 0 where
   pub packets : List PacketValue
   pub lines : List ℕ
   pub has : HasPackets Beginning bytes packets [] None
-  pub answered : AreAnswered select plain 0 packets lines all_accepted
-  pub is_text : text ≡ lines ++ totals_of plain packets
+  pub answered : AreAnswered select options 0 packets lines all_accepted
+  pub is_text : text ≡ lines ++ totals_of options packets
 
 -- this is the text for the packets of the bytes up to the fault, which is at this place
-pub record AnswersToFault (select : Option Expression) (count : Option ℕ) (plain : Bool) (fault : CaptureFault) (bytes text : List ℕ) : Type 0 where
+pub record AnswersToFault (select : Option Expression) (count : Option ℕ) (options : LineOptions) (fault : CaptureFault) (bytes text : List ℕ) : Type 0 where
   pub packets : List PacketValue
   pub front : List ℕ
   pub rest : List ℕ
@@ -38,11 +39,11 @@ pub record AnswersToFault (select : Option Expression) (count : Option ℕ) (pla
   pub place : bytes ≡ front ++ rest
   pub is_offset : fault.offset ≡ counted (length front)
   pub fewer : HasFewer select count front
-  pub answered : AreAnswered select plain 0 packets text all_accepted
+  pub answered : AreAnswered select options 0 packets text all_accepted
 
 -- This is the text for the packets that come first in the bytes, whatever follows; what is left is not a whole unit, and more bytes may
 -- make it one: this holds of how many it needs at least.
-pub record AnswersToUnit (Needs : Option ℕ → Type 0) (select : Option Expression) (count : Option ℕ) (plain : Bool) (bytes text : List ℕ) : Type 0 where
+pub record AnswersToUnit (Needs : Option ℕ → Type 0) (select : Option Expression) (count : Option ℕ) (options : LineOptions) (bytes text : List ℕ) : Type 0 where
   pub packets : List PacketValue
   pub front : List ℕ
   pub rest : List ℕ
@@ -54,4 +55,4 @@ pub record AnswersToUnit (Needs : Option ℕ → Type 0) (select : Option Expres
   pub begun : Refuses rest expected reason
   pub unfinished : Needs (required_len reason)
   pub fewer : HasFewer select count front
-  pub answered : AreAnswered select plain 0 packets text all_accepted
+  pub answered : AreAnswered select options 0 packets text all_accepted

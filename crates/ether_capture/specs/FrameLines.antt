@@ -8,6 +8,7 @@ use Rattle.ether_text.specs.WalkText.{AnswersWalk}
 use Rattle.ether_pcap.specs.Capture.{PacketValue, TimeValue}
 use Rattle.ether_capture.specs.LinuxSll2Lines.{AnswersLinuxSll2}
 use Rattle.ether_capture.specs.Task.{IsChosen}
+use Rattle.ether_capture.specs.declared.task.LineOptions.{LineOptions}
 
 -- the packet has no lines of a walk
 abbrev pub is_skipped : PacketValue → Bool
@@ -46,22 +47,22 @@ packet_line_if false number p = packet_line number p
 
 -- ---- all lines of a packet
 
--- the lines of the walk; a packet that is skipped has none
-abbrev pub AnswersContent : ContentValue → (text : List ℕ) → (accepted : Bool) → Type 0
-AnswersContent (Frame next bytes) text accepted = AnswersWalk (record { next = next; limit = None }) bytes text accepted
-AnswersContent (LinuxSll2 bytes) text accepted = AnswersLinuxSll2 bytes text accepted
-AnswersContent Unknown text accepted = (text ≡ []) × (accepted ≡ true)
+-- the lines of the walk, with a limit or without; a packet that is skipped has none
+abbrev pub AnswersContent : (limit : Option ℕ) → ContentValue → (text : List ℕ) → (accepted : Bool) → Type 0
+AnswersContent limit (Frame next bytes) text accepted = AnswersWalk (record { next = next; limit = limit }) bytes text accepted
+AnswersContent limit (LinuxSll2 bytes) text accepted = AnswersLinuxSll2 limit bytes text accepted
+AnswersContent limit Unknown text accepted = (text ≡ []) × (accepted ≡ true)
 
 -- the text for a packet of this number
-pub record HasLines (plain : Bool) (number : ℕ) (p : PacketValue) (text : List ℕ) (accepted : Bool) : Type 0 where
+pub record HasLines (options : LineOptions) (number : ℕ) (p : PacketValue) (text : List ℕ) (accepted : Bool) : Type 0 where
   pub lines : List ℕ
-  pub content : AnswersContent (content_of p) lines accepted
-  pub whole : text ≡ packet_line_if plain number p ++ lines
+  pub content : AnswersContent options.limit (content_of p) lines accepted
+  pub whole : text ≡ packet_line_if options.is_plain number p ++ lines
 
 -- .. if it is chosen
-abbrev pub AnswersPacket : (select : Option Expression) → (plain : Bool) → ℕ → PacketValue → (text : List ℕ) → (accepted : Bool) → Type 0
-AnswersPacket select plain number p text accepted =
-    (IsChosen select p × HasLines plain number p text accepted) ⊎ (¬ (IsChosen select p) × (text ≡ []) × (accepted ≡ true))
+abbrev pub AnswersPacket : (select : Option Expression) → (options : LineOptions) → ℕ → PacketValue → (text : List ℕ) → (accepted : Bool) → Type 0
+AnswersPacket select options number p text accepted =
+    (IsChosen select p × HasLines options number p text accepted) ⊎ (¬ (IsChosen select p) × (text ≡ []) × (accepted ≡ true))
 
 -- ---- the line after those of all packets
 

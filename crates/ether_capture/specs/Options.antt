@@ -1,5 +1,5 @@
 -- What the words after the program's name ask for.
-use Rattle.std.specs.Prelude.{◌≡◌, ◌≢◌, ◌<◌, ◌↔◌, ℕ, List, [], ◌∷◌, map, codes, Bool, true, false, if◌then◌else◌, Option, Some, None, String, string_bytes, ⊤}
+use Rattle.std.specs.Prelude.{◌≡◌, ◌≢◌, ◌<◌, ◌↔◌, ℕ, List, [], ◌∷◌, map, codes, Bool, true, false, if◌then◌else◌, ◌||◌, Option, Some, None, String, string_bytes, ⊤}
 use Rattle.std.specs.Int.NonZero.{non_zero_usize_get}
 use Rattle.std.specs.Option.{option_map, is_some}
 use Rattle.std.specs.Vec.Iter.{into_iter_items}
@@ -46,14 +46,19 @@ pub record AskedValue : Type 0 where
   pub edit : Option EditValue
   pub text : Option (List ℕ)
   pub count : Option ℕ
+  pub limit : Option ℕ
   pub file : Option (List ℕ)
 
 abbrev pub nothing_asked : AskedValue
-nothing_asked = record { plain = false; write = false; edit = None; text = None; count = None; file = None }
+nothing_asked = record { plain = false; write = false; edit = None; text = None; count = None; limit = None; file = None }
 
 -- a number of packets, written as in a filter, and not 0
 abbrev pub IsCount : (text : List ℕ) → ℕ → Type 0
 IsCount text n = (number_in text ≡ Some (Some n)) × (0 < n)
+
+-- a number of headers, written alike, which may be 0
+abbrev pub IsLimit : (text : List ℕ) → ℕ → Type 0
+IsLimit text n = number_in text ≡ Some (Some n)
 
 -- What is asked for with these words, after the words before them. Options come in any order, each once at most, with one edit
 -- at most, and the name of a file comes last.
@@ -74,6 +79,8 @@ pub data Asks : AskedValue → List (List ℕ) → AskedValue → Type 0 where
       → Asks a (codes "--select" ∷ text ∷ words) b
   count : (a b : AskedValue) (text : List ℕ) (n : ℕ) (words : List (List ℕ)) → IsCount text n → a.count ≡ None
       → Asks (record a { count = Some n }) words b → Asks a (codes "-c" ∷ text ∷ words) b
+  limit : (a b : AskedValue) (text : List ℕ) (n : ℕ) (words : List (List ℕ)) → IsLimit text n → a.limit ≡ None
+      → Asks (record a { limit = Some n }) words b → Asks a (codes "--limit" ∷ text ∷ words) b
 
 -- ---- requests
 
@@ -83,13 +90,13 @@ IsSelection None None = ⊤
 IsSelection (Some text) (Some x) = IsExpressionOf text x
 IsSelection text other = ⊥
 
--- an option is asked for that does not go with the others: no copy is plain, and no packet is edited without a copy
+-- an option is asked for that does not go with the others: no copy is plain or has a limit, and no packet is edited without a copy
 abbrev pub clashes : AskedValue → Bool
-clashes a = if a.write then a.plain else is_some a.edit
+clashes a = if a.write then a.plain || is_some a.limit else is_some a.edit
 
 -- lines are asked for, or a copy
 abbrev pub form_of : AskedValue → FormValue
-form_of a = if a.write then Copy a.edit else Lines a.plain
+form_of a = if a.write then Copy a.edit else Lines (record { is_plain = a.plain; limit = a.limit })
 
 -- this is what is asked for
 pub record IsRequestOf (a : AskedValue) (request : RequestValue) : Type 0 where
@@ -136,6 +143,7 @@ asked_view asked = record {
   edit = option_map edit_view asked.edit;
   text = option_map string_bytes asked.text;
   count = option_map non_zero_usize_get asked.count;
+  limit = asked.limit;
   file = option_map string_bytes asked.file;
 }
 
@@ -149,6 +157,7 @@ IsKnown word kinds.Pop = word ≡ codes "--pop-vlan"
 IsKnown word (kinds.Tag kind) = word ≡ tag_word kind
 IsKnown word kinds.Select = word ≡ codes "--select"
 IsKnown word kinds.Count = word ≡ codes "-c"
+IsKnown word kinds.Limit = word ≡ codes "--limit"
 IsKnown word kinds.Help = word ≡ codes "--help"
 IsKnown word kinds.Version = word ≡ codes "--version"
 IsKnown word kinds.Unknown = ⊥

@@ -21,13 +21,14 @@ use Rattle.ether_capture.specs.Task.{TaskValue, FormValue, Lines, Copy, IsChosen
 use Rattle.ether_capture.specs.declared.outcome.RunFault.{RunFault}
 use Rattle.ether_capture.specs.declared.outcome.RunFault.TheVariants as faults
 use Rattle.ether_capture.specs.declared.progress.Progress.{Progress}
+use Rattle.ether_capture.specs.declared.task.LineOptions.{LineOptions}
 
 -- ---- what is made of the front of a capture
 
 -- this is the text for its packets, or its copy, after which this is expected
 abbrev pub Made : (select : Option Expression) → FormValue → (packets kept : List PacketValue) → (front text : List ℕ) → (all : Bool)
     → Expectation → Type 0
-Made select (Lines plain) packets kept front text all x = AreAnswered select plain 0 packets text all
+Made select (Lines options) packets kept front text all x = AreAnswered select options 0 packets text all
 Made select (Copy edit) packets kept front text all x = CopiesOn select edit front text kept x × (all ≡ true)
 
 -- so many of the packets that are asked for at most are left, after so many
@@ -73,11 +74,11 @@ IsUnitOf x unit None = ⊤
 IsUnitOf x unit (Some p) = Begins unit x (length unit) (Some p) x
 
 -- the lines of a packet of this number, if there is a packet
-abbrev pub Answers : (select : Option Expression) → (plain : Bool) → (number : ℕ) → Option PacketValue → (accepted : Bool) → Option (List ℕ)
+abbrev pub Answers : (select : Option Expression) → (options : LineOptions) → (number : ℕ) → Option PacketValue → (accepted : Bool) → Option (List ℕ)
     → Type 0
-Answers select plain number None accepted text = (text ≡ Some []) × (accepted ≡ true)
-Answers select plain number (Some p) accepted text =
-    (lines : List ℕ) × AnswersPacket select plain number p lines accepted × (text ≡ Some lines)
+Answers select options number None accepted text = (text ≡ Some []) × (accepted ≡ true)
+Answers select options number (Some p) accepted text =
+    (lines : List ℕ) × AnswersPacket select options number p lines accepted × (text ≡ Some lines)
 
 -- The copy of a unit, by its packet if it has one: nothing if that is not chosen, none if it is to be edited and can't be.
 pub data Writes (select : Option Expression) (edit : Option EditValue) (x : Expectation) (unit : List ℕ)
@@ -90,12 +91,12 @@ pub data Writes (select : Option Expression) (edit : Option EditValue) (x : Expe
 -- the text that is made of a unit, or none
 abbrev pub Makes : (select : Option Expression) → FormValue → Expectation → (number : ℕ) → (unit : List ℕ) → Option PacketValue
     → (accepted : Bool) → Option (List ℕ) → Type 0
-Makes select (Lines plain) x number unit packet accepted text = Answers select plain number packet accepted text
+Makes select (Lines options) x number unit packet accepted text = Answers select options number packet accepted text
 Makes select (Copy edit) x number unit packet accepted text = Writes select edit x unit packet text × (accepted ≡ true)
 
 -- what is written for a unit that is no packet
 abbrev pub other_text : FormValue → (unit : List ℕ) → List ℕ
-other_text (Lines plain) unit = []
+other_text (Lines options) unit = []
 other_text (Copy edit) unit = unit
 
 -- one packet less is left if this one is chosen
@@ -202,7 +203,7 @@ pub record Unedited {W : Type 0} (select : Option Expression) (count : Option �
 -- .. if a copy is made
 abbrev pub UneditedIn : {W : Type 0} → (select : Option Expression) → (count : Option ℕ) → FormValue → (contents : W → Option (List ℕ)) → (held : Option (List ℕ))
     → (input : List ℕ) → (offset : ℕ) → (out : OutputBuffer W) → Type 0
-UneditedIn select count (Lines plain) contents held input offset out = ⊥
+UneditedIn select count (Lines options) contents held input offset out = ⊥
 UneditedIn select count (Copy edit) contents held input offset out = Unedited select count edit contents held input offset out
 
 -- .. after these bytes were buffered
@@ -224,5 +225,5 @@ pub record TakesUnits {W : Type 0} (task : TaskValue) (contents : W → Option (
 
 -- what is written after all units
 abbrev pub last_lines : FormValue → (count skipped : ℕ) → List ℕ
-last_lines (Lines plain) count skipped = totals_line_if plain count skipped
+last_lines (Lines options) count skipped = totals_line_if options.is_plain count skipped
 last_lines (Copy edit) count skipped = []

@@ -18,7 +18,7 @@ use Rattle.ether_capture.specs.declared.outcome.RunFault.TheVariants.{Capture, N
 
 -- this is made of a whole capture, and all says that each packet is accepted
 abbrev pub Completes : (select : Option Expression) → FormValue → (bytes text : List ℕ) → (all : Bool) → Type 0
-Completes select (Lines plain) bytes text all = AnswersCapture select plain bytes text all
+Completes select (Lines options) bytes text all = AnswersCapture select options bytes text all
 Completes select (Copy edit) bytes text all = CopiesCapture select edit bytes text all
 
 -- .. and it has fewer packets that are chosen than are asked for at most
@@ -37,19 +37,19 @@ pub record ReachesCount (task : TaskValue) (verdict : Verdict) (bytes text : Lis
 
 -- this is made of a capture up to a fault
 abbrev pub StopsAtFault : (select : Option Expression) → (count : Option ℕ) → FormValue → CaptureFault → (bytes text : List ℕ) → Type 0
-StopsAtFault select count (Lines plain) fault bytes text = AnswersToFault select count plain fault bytes text
+StopsAtFault select count (Lines options) fault bytes text = AnswersToFault select count options fault bytes text
 StopsAtFault select count (Copy edit) fault bytes text =
     CopiesToFault select count edit (Refused (capture_refusal_view fault.error)) fault.offset bytes text
 
 -- .. up to a packet at this place that is to be edited, and can't be
 abbrev pub StopsAtPacket : (select : Option Expression) → (count : Option ℕ) → FormValue → (offset : ℕ) → (bytes text : List ℕ) → Type 0
-StopsAtPacket select count (Lines plain) offset bytes text = ⊥
+StopsAtPacket select count (Lines options) offset bytes text = ⊥
 StopsAtPacket select count (Copy edit) offset bytes text = CopiesToPacket select count edit offset bytes text
 
 -- .. up to bytes that are not a whole unit; this holds of how many it needs at least
 abbrev pub EndsInUnit : (Needs : Option ℕ → Type 0) → (select : Option Expression) → (count : Option ℕ) → FormValue → (bytes text : List ℕ)
     → Type 0
-EndsInUnit Needs select count (Lines plain) bytes text = AnswersToUnit Needs select count plain bytes text
+EndsInUnit Needs select count (Lines options) bytes text = AnswersToUnit Needs select count options bytes text
 EndsInUnit Needs select count (Copy edit) bytes text = CopiesToUnit Needs select count edit bytes text
 
 -- this many bytes are needed, and more than there was memory for at first

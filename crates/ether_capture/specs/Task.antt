@@ -9,11 +9,12 @@ use Rattle.ether_content.specs.EditingViews.{edit_view}
 use Rattle.ether_content.specs.Selecting.{Selects}
 use Rattle.ether_capture.specs.declared.task.Form.{Form}
 use Rattle.ether_capture.specs.declared.task.Form.TheVariants as forms
+use Rattle.ether_capture.specs.declared.task.LineOptions.{LineOptions}
 use Rattle.ether_capture.specs.declared.task.Task.{Task}
 
--- the lines of its packets, those of walks alone or those of packets and of totals, too; or a copy of it, each packet as it is, or edited
+-- the lines of its packets; or a copy of it, each packet as it is, or edited
 pub data FormValue : Type 0 where
-  Lines : (plain : Bool) → FormValue
+  Lines : (options : LineOptions) → FormValue
   Copy : (edit : Option EditValue) → FormValue
 
 -- .. of the packets that an expression selects, or of all, and of so many of them at most
@@ -23,14 +24,14 @@ pub record TaskValue : Type 0 where
   pub form : FormValue
 
 abbrev pub form_view : Form → FormValue
-form_view (forms.Lines is_plain) = Lines is_plain
+form_view (forms.Lines options) = Lines options
 form_view (forms.Copy edit) = Copy (option_map edit_view edit)
 
 abbrev pub task_view : Task → TaskValue
 task_view task = record { select = task.filter; count = option_map non_zero_usize_get task.count; form = form_view task.form }
 
 abbrev pub is_copy : FormValue → Bool
-is_copy (Lines plain) = false
+is_copy (Lines options) = false
 is_copy (Copy edit) = true
 
 -- the packets that are chosen: those that an expression selects, or all

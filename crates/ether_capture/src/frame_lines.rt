@@ -4,28 +4,33 @@ ghost use Rattle.std.specs.Option.{option_map};
 ghost use Rattle.ether_pcap.specs.CaptureViews.{captured_packet_view, timestamp_view};
 ghost use Rattle.ether_content.specs.Content.{content_of};
 ghost use Rattle.ether_content.specs.ContentViews.{content_view};
+ghost use Rattle.ether_peel.specs.Walker.Start.{limited_start, start_with};
 ghost use Rattle.ether_text.specs.OutputBuffer.{Takes, TakesAnswer};
+ghost use Rattle.ether_text.specs.WalkText.{AnswersWalkAfter};
 ghost use Rattle.ether_capture.specs.FrameLines.{is_skipped, nine_digits, time_text, mark, packet_line_if, HasLines, totals_line_if};
 
 use crate::linux_sll2_lines::write_linux_sll2;
+use crate::task::LineOptions;
 use ether_content::{Content, is_cut};
 use ether_pcap::{CapturedPacket, Timestamp};
+use ether_peel::Start;
 use ether_text::{OutputBuffer, Sink, eight_digits, write_decimal, write_walk_after};
 
-/// Writes the line of a packet unless `is_plain`, and the lines of the walk through its headers. Returns whether the walk ends in no fault.
+/// Writes the line of a packet unless only those of walks are asked for, and the lines of the walk through its headers. Returns whether the
+/// walk ends in no fault.
 ///
 /// A packet of another link type than Ethernet and Linux cooked capture is skipped: it has no lines of a walk.
 pub fn write_lines<W: Sink>(
-    is_plain: bool,
+    options: LineOptions,
     number: usize,
     packet: &CapturedPacket<'_>,
     out: &mut OutputBuffer<'_, W>,
 ) -> bool
-    ensures { TakesAnswer W.contents W.can_fail (HasLines is_plain number (captured_packet_view packet.now))
+    ensures { TakesAnswer W.contents W.can_fail (HasLines options number (captured_packet_view packet.now))
         out.old out.new result }
 {
     let content = Content::of(packet);
-    write_packet_line(is_plain, number, packet, content, out);
+    write_packet_line(options.is_plain, number, packet, content, out);
     let (header_len, start, bytes) = match content {
         Content::Frame(start, bytes) => (0, start, bytes),
         Content::LinuxSll2(bytes) => match write_linux_sll2(bytes, out) {
@@ -34,7 +39,40 @@ pub fn write_lines<W: Sink>(
         },
         Content::Unknown => return true,
     };
-    write_walk_after(header_len, start, None, bytes, out)
+    write_walk_within(header_len, start, options.limit, bytes, out)
+}
+
+/// Does as [`write_walk_after`], whose loop tests no limit if there is none.
+#[inline(always)]
+fn write_walk_within<W: Sink>(
+    header_len: u8,
+    start: Start,
+    limit: Option<usize>,
+    bytes: &[u8],
+    out: &mut OutputBuffer<'_, W>,
+) -> bool
+    ensures { TakesAnswer W.contents W.can_fail
+        (AnswersWalkAfter header_len (start_with start limit) bytes.now) out.old out.new result }
+{
+    match limit {
+        None => write_walk_after(header_len, start, None, bytes, out),
+        Some(limit) => write_limited_walk(header_len, start, limit, bytes, out),
+    }
+}
+
+/// Writes the lines of a walk with a limit.
+#[inline(never)]
+fn write_limited_walk<W: Sink>(
+    header_len: u8,
+    start: Start,
+    limit: usize,
+    bytes: &[u8],
+    out: &mut OutputBuffer<'_, W>,
+) -> bool
+    ensures { TakesAnswer W.contents W.can_fail
+        (AnswersWalkAfter header_len (limited_start start limit) bytes.now) out.old out.new result }
+{
+    write_walk_after(header_len, start, Some(limit), bytes, out)
 }
 
 /// Writes the line after those of all packets, unless `is_plain`: how many packets there are, and how many of them were skipped.

@@ -1,5 +1,5 @@
 //! Writes the lines of a packet of Linux cooked capture v2.
-ghost use Rattle.std.specs.Prelude.{◌≡◌, ◌≤◌, ◌++◌, length, codes, IfOk, IfErr};
+ghost use Rattle.std.specs.Prelude.{◌≡◌, ◌≤◌, ◌++◌, ℕ, Option, length, codes, IfOk, IfErr};
 ghost use Rattle.ether_sll2.specs.LinuxSll2.{linux_sll2_of};
 ghost use Rattle.ether_sll2.specs.Views.{refusal_view};
 ghost use Rattle.ether_text.specs.OutputBuffer.{Takes, TakesAnswer};
@@ -19,8 +19,8 @@ pub fn write_linux_sll2<'a, W: Sink>(
 ) -> Result<(Start, &'a [u8]), bool>
     ensures walked { IfOk result (λ payload. BeginsWalk bytes.now payload.0 payload.1.now
         × Takes W.contents W.can_fail out.old (linux_sll2_text (linux_sll2_of bytes.now) ++ codes "\n") out.new) }
-    ensures ended { IfErr result (λ accepted.
-        TakesAnswer W.contents W.can_fail (AnswersLinuxSll2 bytes.now) out.old out.new accepted) }
+    ensures ended { IfErr result (λ accepted. (limit : Option ℕ)
+        → TakesAnswer W.contents W.can_fail (AnswersLinuxSll2 limit bytes.now) out.old out.new accepted) }
 {
     let packet = match LinuxSll2Slice::from_slice(bytes) {
         Ok(packet) => packet,

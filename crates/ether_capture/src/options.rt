@@ -8,10 +8,10 @@ ghost use Rattle.ether_content.specs.Editing.{EditValue};
 ghost use Rattle.ether_content.specs.EditingViews.{edit_view};
 ghost use Rattle.ether_capture.specs.Tags.{IsTagEdit, tag_word};
 ghost use Rattle.ether_capture.specs.Task.{form_view};
-ghost use Rattle.ether_capture.specs.Options.{IsCount, IsName, IsWord, words_left, asked_view, nothing_asked, clashes, form_of, AskSame, AskNothing, IsSelection, RefusesSelection, IsRequestOf, RefusesAsked, OptionsAsk, RefusesOptions, NamesRequest, RefusesWords, request_view};
+ghost use Rattle.ether_capture.specs.Options.{IsCount, IsLimit, IsName, IsWord, words_left, asked_view, nothing_asked, clashes, form_of, AskSame, AskNothing, IsSelection, RefusesSelection, IsRequestOf, RefusesAsked, OptionsAsk, RefusesOptions, NamesRequest, RefusesWords, request_view};
 
 use crate::tags::{TagEdit, small_number, tag_edit_of};
-use crate::task::{Form, Task};
+use crate::task::{Form, LineOptions, Task};
 use ether_content::PacketEdit;
 use ether_filter::{Filter, FilterError};
 use std::env;
@@ -44,9 +44,9 @@ pub enum Request {
 
 /// What the program's arguments ask for. The first of them is its own name.
 ///
-/// In any order there may be `--plain` or `--write`, with the latter `--cut-to-headers`, `--pop-vlan`, `--push-vlan` with a tag or
-/// `--set-vlan` with two identifiers, and `--select` with the text of a filter; after them a word that does not begin with a hyphen,
-/// which names a file. `--help` and `--version` come alone.
+/// In any order there may be `--plain` and `--limit` with a number of headers, or `--write` and `--cut-to-headers`, `--pop-vlan`, `--push-vlan`
+/// with a tag or `--set-vlan` with two identifiers; `--select` with the text of a filter, and `-c` with a number of packets; after them a word
+/// that does not begin with a hyphen, which names a file. `--help` and `--version` come alone.
 pub fn request_of_args(mut args: env::Args) -> Result<Request, RequestError>
     ensures ok { IfOk result (λ request. NamesRequest (words_after (into_iter_items args)) (request_view request)) }
     ensures err { IfErr result (RefusesWords (words_after (into_iter_items args))) }
@@ -96,6 +96,7 @@ struct Asked {
     edit: Option<PacketEdit>,
     text: Option<String>,
     count: Option<NonZeroUsize>,
+    limit: Option<usize>,
     file: Option<String>,
 }
 
@@ -110,6 +111,7 @@ impl Asked {
             edit: None,
             text: None,
             count: None,
+            limit: None,
             file: None,
         }
     }
@@ -140,6 +142,10 @@ impl Asked {
                 Some(text) => self.count = Some(count_of(&text)?),
                 None => return Err(RequestError::Usage),
             },
+            Word::Limit if self.limit.is_none() => match args.next() {
+                Some(text) => self.limit = Some(limit_of(&text)?),
+                None => return Err(RequestError::Usage),
+            },
             _ => return Err(RequestError::Usage),
         }
         Ok(())
@@ -150,7 +156,7 @@ impl Asked {
         ensures { result ≡ clashes (asked_view self.now) }
     {
         if self.is_copy {
-            self.is_plain
+            self.is_plain || self.limit.is_some()
         } else {
             self.edit.is_some()
         }
@@ -188,9 +194,10 @@ impl Asked {
         if self.is_copy {
             Form::Copy { edit: self.edit }
         } else {
-            Form::Lines {
+            Form::Lines(LineOptions {
                 is_plain: self.is_plain,
-            }
+                limit: self.limit,
+            })
         }
     }
 }
@@ -218,6 +225,18 @@ fn count_of(text: &String) -> Result<NonZeroUsize, RequestError>
     };
     match NonZeroUsize::new(number as usize) {
         Some(count) => Ok(count),
+        None => Err(RequestError::Usage),
+    }
+}
+
+/// The number of headers that a text says.
+fn limit_of(text: &String) -> Result<usize, RequestError>
+    ensures ok { IfOk result (λ limit. IsLimit (string_bytes text.now) limit) }
+    ensures err { OnErr result ((n : ℕ) → ¬ (IsLimit (string_bytes text.now) n)) }
+    ensures usage { IfErr result (λ e. e ≡ RequestError.Usage) }
+{
+    match small_number(text.as_bytes()) {
+        Some(number) => Ok(number as usize),
         None => Err(RequestError::Usage),
     }
 }
@@ -255,6 +274,8 @@ enum Word {
     Select,
     /// `-c`.
     Count,
+    /// `--limit`.
+    Limit,
     /// `--help`.
     Help,
     /// `--version`.
@@ -279,6 +300,7 @@ fn word_of(word: &str) -> Word
         "--set-vlan" => Word::Tag(TagEdit::Set),
         "--select" => Word::Select,
         "-c" => Word::Count,
+        "--limit" => Word::Limit,
         "--help" => Word::Help,
         "--version" => Word::Version,
         _ => Word::Unknown,

@@ -145,9 +145,9 @@ impl Progress {
             return Some(true);
         }
         match task.form {
-            Form::Lines { is_plain } => {
+            Form::Lines(options) => {
                 let number = self.count.saturating_add(1);
-                Some(write_lines(is_plain, number, packet, out))
+                Some(write_lines(options, number, packet, out))
             }
             Form::Copy { edit } => {
                 if write_packet(&self.reader, edit, edits, unit, packet, out) {
@@ -211,8 +211,8 @@ impl Progress {
         ensures failed { IfErr result (λ fault. out.new.has_failed ≡ true) }
         ensures marks { Marks W.can_fail out.old out.new }
     {
-        if let Form::Lines { is_plain } = form {
-            write_totals(is_plain, self.count, self.skipped, out);
+        if let Form::Lines(options) = form {
+            write_totals(options.is_plain, self.count, self.skipped, out);
         }
         out.check()?;
         Ok(self.verdict)

@@ -23,15 +23,21 @@ pub struct Task {
 #[derive(Clone, Copy, PartialEq, Eq, Debug)]
 pub enum Form {
     /// Lines of text.
-    Lines {
-        /// Whether those of packets and of totals are left out.
-        is_plain: bool,
-    },
+    Lines(LineOptions),
     /// A copy of the capture with these packets alone.
     Copy {
         /// How each packet is edited, if it is.
         edit: Option<PacketEdit>,
     },
+}
+
+/// Which lines a packet has.
+#[derive(Clone, Copy, PartialEq, Eq, Debug)]
+pub struct LineOptions {
+    /// Whether those of packets and of totals are left out.
+    pub is_plain: bool,
+    /// How many VLAN tags and SecTags are read of a packet at most; `None` for all.
+    pub limit: Option<usize>,
 }
 
 impl Task {

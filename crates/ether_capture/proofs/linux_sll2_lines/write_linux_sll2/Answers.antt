@@ -15,7 +15,7 @@ use Rattle.ether_content.proofs.ContentLemmas.{none_of, started}
 use Rattle.ether_capture.proofs.linux_sll2_lines.write_linux_sll2.Goals as goal
 
 pub returns-in-Err-clause-ended : goal.returns-in-Err-clause-ended
-returns-in-Err-clause-ended g c =
+returns-in-Err-clause-ended g c limit =
     let r = refusal_view c.in-Err.error in
     record {
       text = linux_sll2_fault_text r ++ codes "\n";
@@ -44,7 +44,7 @@ returns-in-Some-clause-walked g c =
 
 pub returns-in-None-clause-ended : goal.returns-in-None-clause-ended
 unfolding rest_view_text
-returns-in-None-clause-ended g c =
+returns-in-None-clause-ended g c limit =
     let packet = c.in-Ok.packet in
     let same = c.in-Ok.ensures.bytes in
     let none : told_ether_type (protocol_of_header packet) ≡ None = none_of _ _ (sym c.start.ensures ∙ c.in-None.is) in
@@ -55,12 +55,12 @@ returns-in-None-clause-ended g c =
     ∙ ap (λ (l : List ℕ). line (protocol_of_header packet) (length l)) (sym same) in
     subst
     (λ (bytes : List ℕ).
-    TakesAnswer g.W.Sink.contents g.W.Sink.can_fail (AnswersLinuxSll2 bytes) c.args.out.now c.write_rest.new.out
+    TakesAnswer g.W.Sink.contents g.W.Sink.can_fail (AnswersLinuxSll2 limit bytes) c.args.out.now c.write_rest.new.out
     true)
     same
     (record {
       text = (linux_sll2_text (linux_sll2_of packet) ++ codes "\n") ++ rest;
       answers = read rest true (subst AcceptsLinuxSll2 (sym same) c.in-Ok.ensures.accepted)
-          (subst (λ (o : Option ℕ). AnswersPayload o packet rest true) (sym none) (refl, refl));
+          (subst (λ (o : Option ℕ). AnswersPayload limit o packet rest true) (sym none) (refl, refl));
       taken = Takes-then c.write_header.ensures (Takes-same written c.write_rest.ensures);
     })

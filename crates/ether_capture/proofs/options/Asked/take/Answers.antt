@@ -4,9 +4,9 @@ use Rattle.std.specs.Int.NonZero.{non_zero_usize_get}
 use Rattle.ether_content.specs.EditingViews.{edit_view}
 use Rattle.ether_capture.specs.Options.{AskNothing, IsWord, asked_view, words_left}
 use Rattle.ether_capture.specs.declared.options.Word.TheVariants as kinds
-use Rattle.ether_capture.proofs.OptionsLemmas.{ask_plain, ask_write, ask_cut, ask_pop, ask_tag, ask_select, ask_count, no_count, on_err, none_taken, some_taken, none_mapped, some_mapped, ask_name_last, follows, asks_nothing}
+use Rattle.ether_capture.proofs.OptionsLemmas.{ask_plain, ask_write, ask_cut, ask_pop, ask_tag, ask_select, ask_count, no_count, ask_limit, no_limit, on_err, none_taken, some_taken, none_is, none_mapped, some_is, some_mapped, ask_name_last, follows, asks_nothing}
 use Rattle.ether_capture.proofs.options.Asked.take.Goals as goal
-use Rattle.ether_capture.proofs.options.Asked.take.Goals.{in_default-via-in-Name+else-is_none, in_default-via-in-Plain+else-not-self, in_default-via-in-Write+else-not-self-2, in_default-via-in-Cut+else-is_none-2, in_default-via-in-Pop+else-is_none-3, in_default-via-in-Tag+else-is_none-4, in_default-via-in-Select+else-is_none-5, in_default-via-in-Count+else-is_none-6, in_default-via-in_default}
+use Rattle.ether_capture.proofs.options.Asked.take.Goals.{in_default-via-in-Name+else-is_none, in_default-via-in-Plain+else-not-self, in_default-via-in-Write+else-not-self-2, in_default-via-in-Cut+else-is_none-2, in_default-via-in-Pop+else-is_none-3, in_default-via-in-Tag+else-is_none-4, in_default-via-in-Select+else-is_none-5, in_default-via-in-Count+else-is_none-6, in_default-via-in-Limit+else-is_none-7, in_default-via-in_default}
 
 pub returns-in-Name-clause-ok : goal.returns-in-Name-clause-ok
 returns-in-Name-clause-ok c =
@@ -74,6 +74,25 @@ returns-in_err-count_of-in-Some-next-2-clause-err c =
     (ap (map string_bytes) c.in-Some-next-2.ensures.items) c.in_err-count_of-in-Some-next-2.ensures.err asks in
     on_err c.from_residual-in_err-count_of-in-Some-next-2.result (AskNothing a (word ∷ words)) nothing
 
+pub returns-in_ok-limit_of-in-Some-next-3-clause-ok : goal.returns-in_ok-limit_of-in-Some-next-3-clause-ok
+returns-in_ok-limit_of-in-Some-next-3-clause-ok c =
+    let is = subst (λ (w : List ℕ). IsWord w kinds.Limit) c.as_str.ensures.value c.in-Limit.ensures in
+    ask_limit (asked_view c.args.self.now) (string_bytes c.args.word) (string_bytes c.in-Some-next-3.text)
+    c.in_ok-limit_of-in-Some-next-3.field-0 (words_left c.args.args.now) (words_left c.next-in-Limit.new.self) is
+    c.in_ok-limit_of-in-Some-next-3.ensures.ok (none_is c.args.self.now.limit (search rules))
+    (ap (map string_bytes) c.in-Some-next-3.ensures.items)
+
+pub returns-in_err-limit_of-in-Some-next-3-clause-err : goal.returns-in_err-limit_of-in-Some-next-3-clause-err
+returns-in_err-limit_of-in-Some-next-3-clause-err c =
+    let is = subst (λ (w : List ℕ). IsWord w kinds.Limit) c.as_str.ensures.value c.in-Limit.ensures in
+    let a = asked_view c.args.self.now in
+    let word = string_bytes c.args.word in
+    let words = words_left c.args.args.now in
+    let nothing : AskNothing a (word ∷ words) = λ asked asks.
+    no_limit a asked word (string_bytes c.in-Some-next-3.text) words (words_left c.next-in-Limit.new.self) is
+    (ap (map string_bytes) c.in-Some-next-3.ensures.items) c.in_err-limit_of-in-Some-next-3.ensures.err asks in
+    on_err c.from_residual-in_err-limit_of-in-Some-next-3.result (AskNothing a (word ∷ words)) nothing
+
 pub returns-in_default-clause-err : goal.returns-in_default-clause-err
 returns-in_default-clause-err c asked asks =
     let self = c.args.self.now in
@@ -109,9 +128,12 @@ returns-in_default-clause-err c asked asks =
       | in_default-via-in-Count+else-is_none-6 w ↦
           let is = subst (λ (v : List ℕ). IsWord v kinds.Count) c.as_str.ensures.value w.in-Count.ensures in
           some_mapped non_zero_usize_get self.count (search rules) (follows kinds.Count a asked word words is asks).5
+      | in_default-via-in-Limit+else-is_none-7 w ↦
+          let is = subst (λ (v : List ℕ). IsWord v kinds.Limit) c.as_str.ensures.value w.in-Limit.ensures in
+          some_is self.limit (search rules) (follows kinds.Limit a asked word words is asks).5
       | in_default-via-in_default w ↦
           let is = subst (λ (v : List ℕ). IsWord v c.word_of.result) c.as_str.ensures.value c.word_of.ensures in
           let not = w.in_default in
           asks_nothing c.word_of.result a asked word words is not.not-Name not.not-Plain not.not-Write not.not-Cut
-          not.not-Pop not.not-Tag not.not-Select not.not-Count asks
+          not.not-Pop not.not-Tag not.not-Select not.not-Count not.not-Limit asks
     ]
