@@ -1,4 +1,4 @@
-"""What the tests of both programs share: runs of a built program, and the count of those that end as they should."""
+"""What the tests of the programs share: runs of a built program, and the count of those that end as they should."""
 
 import socket
 import subprocess

@@ -1,4 +1,4 @@
-"""Runs the gate: the check of the documents, `rt ci`, the tests of both programs, those of the calls from C, and those of the page. Stops
+"""Runs the gate: the check of the documents, `rt ci`, the tests of the programs, those of the calls from C, and those of the page. Stops
 at the first that fails.
 
 Each line of these is passed on. After each proof a line says how many minutes have passed and how many minutes of processor time
@@ -22,6 +22,7 @@ COMMANDS = {
     "crates": ["rt", "ci"],
     "tool": [sys.executable, "tests/ether_tool.py", "crates/ether_tool/out/ether_tool"],
     "captures": [sys.executable, "tests/ether_capture.py", "crates/ether_capture/out/ether_capture"],
+    "examples": [sys.executable, "tests/examples.py", *(f"crates/{name}/out/{name}" for name in ("example_switch", "example_vlan_rewriter"))],
     "C": ["sh", "c/test.sh", "proved"],
     "page": [sys.executable, "page/test.py", "--proved"],
 }
