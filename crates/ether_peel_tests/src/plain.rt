@@ -4,7 +4,7 @@ use etherparse::err::Layer;
 
 /// A header as numbers. An Ethernet address is its six bytes as one number, the first byte the highest, and so are the
 /// address field of a cooked capture and an SCI. The addresses of an ARP packet are parts of the frame.
-#[derive(Clone, Copy, PartialEq, Eq, Debug)]
+#[derive(Clone, Copy, PartialEq)]
 pub enum PlainHeader<'a> {
     Ethernet2 {
         destination: u64,
@@ -52,8 +52,20 @@ pub enum PlainHeader<'a> {
     },
 }
 
+/// What announces the bytes that are left.
+#[derive(Clone, Copy)]
+pub enum PlainKind {
+    Start,
+    EtherType(u16),
+    Gre(u16),
+    Netlink(u16),
+    Ignored(u16),
+    Sealed,
+    AfterArp,
+}
+
 /// Why a unit is refused.
-#[derive(Clone, Copy, PartialEq, Eq, Debug)]
+#[derive(Clone, Copy)]
 pub enum PlainRefusal {
     Length {
         required: usize,

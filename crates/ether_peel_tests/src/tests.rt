@@ -1,8 +1,9 @@
-//! Worked examples of walks, by the calls of `Peel` and by the summary.
+//! Worked examples of walks, by the calls of `Peel` and by the summary. The rows are in statics: to prove a function takes longer
+//! with each row that it makes.
 /// What an ether type announces.
 macro_rules! ether_type {
     ($number:expr $(,)?) => {
-        ether_peel::RestKind::EtherType(etherparse::EtherType($number))
+        crate::plain::PlainKind::EtherType($number)
     };
 }
 
@@ -110,24 +111,18 @@ mod texts;
 mod units;
 mod writing_back;
 
-use crate::plain::{PlainHeader, PlainRefusal};
-use ether_peel::{Peel, PeelError, PeelFault, PeelUnit, RestKind, Start, Summary};
+use crate::plain::{PlainHeader, PlainKind, PlainRefusal};
+use ether_peel::{Peel, PeelError, PeelFault, PeelUnit, RestKind, Start, Summary, summary};
 use etherparse::err::{Layer, LenError, linux_sll, macsec};
 use etherparse::{
-    ArpHardwareId, EtherType, LenSource, LinuxSllPacketType, LinuxSllProtocolType, LinuxSllSlice,
-    MacsecPayloadSlice,
+    ArpHardwareId, EtherType, LenSource, LinuxSllProtocolType, LinuxSllSlice, MacsecPayloadSlice,
 };
 use limited::{summed, walker};
-use std::alloc::{AllocError, Global};
 use std::process::Abort;
 
-/// Parts one after the other.
-fn joined(alloc: Global, parts: &[&[u8]]) -> Result<Vec<u8>, AllocError> {
-    let mut bytes = Vec::new(alloc);
-    for part in parts {
-        bytes.extend_from_slice(part)?;
-    }
-    Ok(bytes)
+/// Fails if `found` isn't what is wanted of the row `name`.
+fn equal<R: Abort, T: PartialEq>(rt: &R, name: &str, found: &T, wanted: &T) {
+    assert!(rt; found == wanted, "{name}");
 }
 
 /// Puts bytes in the place of others, as many as have room.
@@ -168,20 +163,11 @@ fn content(offset: usize, closed: bool, error: PeelError) -> PeelFault {
     }
 }
 
-/// What is left to read, by the calls of the walker.
-fn is_left(
-    rt: &impl Abort,
-    name: &str,
-    peel: &Peel<'_>,
-    offset: usize,
-    rest: &[u8],
-    kind: &RestKind,
-    closed: bool,
-) {
-    assert_eq!(rt; peel.offset(), offset, "{name}");
-    assert_eq!(rt; peel.rest(), rest, "{name}");
-    assert_eq!(rt; peel.kind(), *kind, "{name}");
-    assert_eq!(rt; peel.closed(), closed, "{name}");
+/// What is left to read: its place, its bytes, what announces it, and whether its window is closed.
+type Left<'a> = (usize, &'a [u8], RestKind, bool);
+
+fn left<'a>(peel: &Peel<'a>) -> Left<'a> {
+    (peel.offset(), peel.rest(), peel.kind(), peel.closed())
 }
 
 /// The next item is a unit with this header. Its payload is left to read.
@@ -189,27 +175,18 @@ fn gives(rt: &impl Abort, name: &str, peel: &mut Peel<'_>, header: &PlainHeader<
     let Some(Ok(unit)) = peel.next() else {
         panic!(rt; "{name}: a unit is missing");
     };
-    assert_eq!(rt; shown(&unit), *header, "{name}");
-    if let Some(payload) = payload_of(&unit) {
-        assert_eq!(rt; payload, peel.rest(), "{name}");
-    }
+    let rest = peel.rest();
+    let payload = payload_of(&unit).unwrap_or(rest);
+    equal(rt, name, &(shown(&unit), payload), &(*header, rest));
 }
 
 /// The walk is at its end, and stays there.
-fn ends(
-    rt: &impl Abort,
-    name: &str,
-    peel: &mut Peel<'_>,
-    offset: usize,
-    rest: &[u8],
-    kind: &RestKind,
-    closed: bool,
-) {
+fn ends(rt: &impl Abort, name: &str, peel: &mut Peel<'_>, wanted: &Left<'_>) {
     for _ in 0..3 {
-        is_left(rt, name, peel, offset, rest, kind, closed);
-        assert_eq!(rt; peel.next(), None, "{name}");
+        equal(rt, name, &left(peel), &*wanted);
+        equal(rt, name, &peel.next().is_none(), &true);
     }
-    is_left(rt, name, peel, offset, rest, kind, closed);
+    equal(rt, name, &left(peel), &*wanted);
 }
 
 /// The next item is this fault. It ends the walk, and leaves the window as it was.
@@ -217,18 +194,55 @@ fn refuses(
     rt: &impl Abort,
     name: &str,
     peel: &mut Peel<'_>,
-    wanted: PeelFault,
+    fault: PeelFault,
     rest: &[u8],
-    kind: &RestKind,
+    kind: PlainKind,
 ) {
-    let (offset, closed) = (wanted.offset, wanted.closed);
-    is_left(rt, name, peel, offset, rest, kind, closed);
-    assert_eq!(rt; peel.next(), Some(Err(wanted)), "{name}");
-    ends(rt, name, peel, offset, rest, kind, closed);
+    let wanted = (fault.offset, rest, kind_of(kind), fault.closed);
+    equal(rt, name, &left(peel), &wanted);
+    equal(rt, name, &peel.next(), &Some(Err(fault)));
+    ends(rt, name, peel, &wanted);
+}
+
+/// After `units` units comes this fault, in a window of `rest` that is announced as `kind`, by the walker and by `summary`.
+fn is_refused(
+    rt: &impl Abort,
+    name: &str,
+    start: Start,
+    bytes: &[u8],
+    units: usize,
+    fault: PeelFault,
+    rest: &[u8],
+    kind: PlainKind,
+) {
+    let mut peel = Peel::new(start, bytes);
+    let mut count = 0;
+    for _ in 0..units {
+        if let Some(Ok(_)) = peel.next() {
+            count = usize::saturating_add(count, 1);
+        }
+    }
+    let found = summary(start, bytes);
+    equal(
+        rt,
+        name,
+        &(
+            bytes.get(found.rest_start..found.rest_end),
+            [count, found.units, found.rest_start],
+            found.kind,
+            found.fault.as_ref(),
+        ),
+        &(
+            Some(rest),
+            [units, units, fault.offset],
+            kind_of(kind),
+            Some(&fault),
+        ),
+    );
+    refuses(rt, name, &mut peel, fault, rest, kind);
 }
 
 /// A walk: its headers, where the rest starts and ends, what announces it, whether its window is closed, and why it was refused.
-#[derive(Clone, Copy)]
 struct Walk {
     name: &'static str,
     start: Start,
@@ -236,9 +250,26 @@ struct Walk {
     frame: &'static [u8],
     headers: &'static [PlainHeader<'static>],
     rest: (usize, usize),
-    kind: RestKind,
+    kind: PlainKind,
     closed: bool,
     refusal: Option<PlainRefusal>,
+}
+
+/// What announces the bytes that are left.
+fn kind_of(kind: PlainKind) -> RestKind {
+    match kind {
+        PlainKind::Start => RestKind::Start,
+        PlainKind::EtherType(number) => RestKind::EtherType(EtherType(number)),
+        PlainKind::Gre(number) => RestKind::Sll(
+            LinuxSllProtocolType::GenericRoutingEncapsulationProtocolType(number),
+        ),
+        PlainKind::Netlink(number) => {
+            RestKind::Sll(LinuxSllProtocolType::NetlinkProtocolType(number))
+        }
+        PlainKind::Ignored(number) => RestKind::Sll(LinuxSllProtocolType::Ignored(number)),
+        PlainKind::Sealed => RestKind::Sealed,
+        PlainKind::AfterArp => RestKind::AfterArp,
+    }
 }
 
 /// The fault of a unit at `offset` that is refused.
@@ -277,30 +308,21 @@ fn check(rt: &impl Abort, walk: &Walk) {
     let fault = walk
         .refusal
         .map(|refusal| fault_at(start, walk.closed, refusal));
-    let summary = Summary {
+    let wanted = Summary {
         units: walk.headers.len(),
         rest_start: start,
         rest_end: end,
-        kind: walk.kind,
+        kind: kind_of(walk.kind),
         fault,
     };
-    assert_eq!(rt;
-        summed(walk.start, walk.frame, walk.limit),
-        summary,
-        "{}",
-        walk.name
-    );
-    match summary.fault {
-        Some(fault) => refuses(rt, walk.name, &mut peel, fault, rest, &walk.kind),
-        None => ends(
-            rt,
-            walk.name,
-            &mut peel,
-            start,
-            rest,
-            &walk.kind,
-            walk.closed,
-        ),
+    let found = summed(walk.start, walk.frame, walk.limit);
+    equal(rt, walk.name, &found, &wanted);
+    match wanted.fault {
+        Some(fault) => refuses(rt, walk.name, &mut peel, fault, rest, walk.kind),
+        None => {
+            let wanted = (start, rest, kind_of(walk.kind), walk.closed);
+            ends(rt, walk.name, &mut peel, &wanted);
+        }
     }
 }
 
@@ -339,7 +361,7 @@ fn shown<'a>(unit: &'a PeelUnit<'_>) -> PlainHeader<'a> {
             }
         }
         PeelUnit::LinuxSll(packet) => PlainHeader::LinuxSll {
-            packet_type: packet_type_number(packet.packet_type()),
+            packet_type: u16::from(packet.packet_type()),
             hardware_type: packet.arp_hardware_type().0,
             address_len: packet.sender_address_valid_length(),
             address: u64::from_be_bytes(packet.sender_address_full()),
@@ -375,26 +397,6 @@ fn shown<'a>(unit: &'a PeelUnit<'_>) -> PlainHeader<'a> {
             target_protocol: packet.target_protocol_addr(),
         },
     }
-}
-
-/// The number of a packet type.
-fn packet_type_number(packet_type: LinuxSllPacketType) -> u16 {
-    let numbers = [
-        (LinuxSllPacketType::HOST, 0),
-        (LinuxSllPacketType::BROADCAST, 1),
-        (LinuxSllPacketType::MULTICAST, 2),
-        (LinuxSllPacketType::OTHERHOST, 3),
-        (LinuxSllPacketType::OUTGOING, 4),
-        (LinuxSllPacketType::LOOPBACK, 5),
-        (LinuxSllPacketType::USER, 6),
-        (LinuxSllPacketType::KERNEL, 7),
-    ];
-    for (known, number) in numbers {
-        if known == packet_type {
-            return number;
-        }
-    }
-    8
 }
 
 /// The number of a protocol type. That of a nonstandard ether type is read from the header's bytes.

@@ -1,13 +1,13 @@
 //! Captured frames and worked examples of a standard. The fields that the tests expect are those that tshark prints of each
 //! frame.
 use super::{Walk, check};
-use crate::plain::{PlainHeader, PlainRefusal};
+use crate::plain::{PlainHeader, PlainKind, PlainRefusal};
 use crate::test_frames::{
     ARP_REPLY_FRAME, ARP_REQUEST_FRAME, CONFIDENTIALITY, COOKED_ARP_REQUEST, COOKED_LOOPBACK,
     COOKED_SPANNING_TREE, IN_A_VLAN, IN_A_VLAN_CHECKED, INTEGRITY, SPANNING_TREE,
     TAGGED_ARP_REQUEST, TWICE_TAGGED_ARP_REQUEST,
 };
-use ether_peel::{RestKind, Start};
+use ether_peel::Start;
 
 macro_rules! ethernet {
     ($destination:expr, $source:expr, $ether_type:expr $(,)?) => {
@@ -93,7 +93,7 @@ const ETH: Start = Start::Ethernet2;
 
 const SLL: Start = Start::LinuxSll;
 
-const ARP: RestKind = RestKind::AfterArp;
+const ARP: PlainKind = PlainKind::AfterArp;
 
 macro_rules! to_all {
     ($ether_type:expr $(,)?) => {
@@ -102,7 +102,7 @@ macro_rules! to_all {
 }
 
 #[rattlefmt::skip]
-const WALKS: [Walk; 12] = [
+static WALKS: [Walk; 12] = [
     accepted!("an ARP request", ETH, &ARP_REQUEST_FRAME, &[to_all!(0x0806), QUESTION], (42, 42), ARP, false),
     accepted!("one with a tag", ETH, &TAGGED_ARP_REQUEST, &[to_all!(0x8100), vlan!(5, 1, 291, 0x0806), QUESTION], (46, 46), ARP, false),
     accepted!("one with two tags", ETH, &TWICE_TAGGED_ARP_REQUEST, &[to_all!(0x88A8), vlan!(0, 0, 10, 0x8100), vlan!(0, 0, 100, 0x0806), QUESTION], (50, 50), ARP, false),
@@ -110,12 +110,12 @@ const WALKS: [Walk; 12] = [
     accepted!("a length in the place of the type", ETH, &SPANNING_TREE, &[ethernet!(0x0180_C200_0000, KERNEL, 0x0026)], (14, 60), ether_type!(0x0026), false),
     // the ICV is the last 16 bytes, after the payload
     accepted!("integrity protection", ETH, &INTEGRITY, &[ethernet!(0xD609_B1F0_5663, 0x7A0D_46DF_998D, 0x88E5), READABLE], (30, 70), ether_type!(0x0800), true),
-    accepted!("confidentiality protection", ETH, &CONFIDENTIALITY, &[ethernet!(0xE201_06D7_CD0D, 0xF076_1E8D_CD3D, 0x88E5), ENCRYPTED], (20, 62), RestKind::Sealed, true),
+    accepted!("confidentiality protection", ETH, &CONFIDENTIALITY, &[ethernet!(0xE201_06D7_CD0D, 0xF076_1E8D_CD3D, 0x88E5), ENCRYPTED], (20, 62), PlainKind::Sealed, true),
     accepted!("a segment in a VLAN", ETH, &IN_A_VLAN, &[ethernet!(0x0010_DBFF_1000, 0x0015_2C9D_CC00, 0x8100), vlan!(0, 0, 503, 0x0800)], (18, 64), ether_type!(0x0800), false),
     accepted!("with its check sequence", Start::Ethernet2Fcs, &IN_A_VLAN_CHECKED, &[CHECKED, vlan!(0, 0, 503, 0x0800)], (18, 64), ether_type!(0x0800), true),
     accepted!("an ARP request in a cooked capture", SLL, &COOKED_ARP_REQUEST, &[cooked!(1, 0x0806), QUESTION], (44, 44), ARP, false),
     accepted!("an 802.2 frame in a cooked capture", SLL, &COOKED_SPANNING_TREE, &[cooked!(2, 4)], (16, 62), ether_type!(0x0004), false),
-    refused!("the loopback device", SLL, &COOKED_LOOPBACK, &[], (0, 20), RestKind::Start, false, PlainRefusal::HardwareType(772)),
+    refused!("the loopback device", SLL, &COOKED_LOOPBACK, &[], (0, 20), PlainKind::Start, false, PlainRefusal::HardwareType(772)),
 ];
 
 #[test]

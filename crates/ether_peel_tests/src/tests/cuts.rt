@@ -1,7 +1,8 @@
 //! Cuts and extensions of worked examples, by `summary`, `snap` and `missing`.
+use super::{equal, fault_at, is_refused, put};
+use crate::plain::PlainRefusal;
 use crate::test_frames::{NAMED, NESTED, PADDED_ARP, SECOND_TAG_CUT};
 use ether_peel::{Peel, PeelError, PeelFault, PeelUnit, RestKind, Start, Summary, snap, summary};
-use etherparse::err::macsec::HeaderError;
 use etherparse::err::{Layer, LenError};
 use etherparse::{EtherType, LenSource};
 use std::process::Abort;
@@ -11,7 +12,7 @@ type Worked = (Start, &'static [u8]);
 
 /// Lists that are accepted, and lists that are refused in each way.
 #[rattlefmt::skip]
-const WORKED: [Worked; 24] = [
+static WORKED: [Worked; 24] = [
     // An Ethernet II header and one byte of IPv4.
     (Start::Ethernet2, &[0xFF, 0xFF, 0xFF, 0xFF, 0xFF, 0xFF, 0x02, 0x00, 0x00, 0x00, 0x00, 0x01, 0x08, 0x00, 0x45]),
     // Nothing.
@@ -87,11 +88,11 @@ fn open(error: LenError) -> Option<PeelFault> {
 
 #[test]
 fn a_cut_is_the_summary_of_the_first_bytes(rt: HostRuntime) {
-    for (start, list) in WORKED {
-        for n in 0..list.len() {
-            assert_eq!(rt; snap(start, list, n), summary(start, &list[..n]));
+    for &(start, list) in &WORKED {
+        for n in 0..=list.len() {
+            let (cut, first) = (snap(start, list, n), summary(start, &list[..n]));
+            assert!(rt; cut == first, "{n} bytes of {list:?}");
         }
-        assert_eq!(rt; snap(start, list, list.len()), summary(start, list));
     }
 }
 
@@ -106,9 +107,9 @@ fn cut_arp(required_len: usize, len: usize, at: usize) -> Option<PeelFault> {
     })
 }
 
-/// Every cut of a VLAN tag in a closed MACsec window, of an ARP request with padding, and of the greatest ARP packet.
+/// Every cut of a VLAN tag in a closed MACsec window.
 #[test]
-fn every_cut_of_worked_examples(rt: HostRuntime) {
+fn every_cut_of_a_closed_window(rt: HostRuntime) {
     for n in 0..=14 {
         let named = LenError {
             len_source: LenSource::MacsecShortLength,
@@ -121,47 +122,58 @@ fn every_cut_of_worked_examples(rt: HostRuntime) {
             _ => (2, None),
         };
         let found = snap(MACSEC, &NAMED, n);
-        assert_eq!(rt; (found.units, found.fault), (units, fault), "{n}");
+        assert!(rt; found.units == units && found.fault == fault, "{n} bytes");
     }
-    for n in 14..=60 {
-        let found = snap(Start::Ethernet2, &PADDED_ARP, n);
-        let (units, fault) = if n < 42 {
-            (1, cut_arp(28, n - 14, 14))
+}
+
+/// Every cut of a frame behind the place at which an ARP packet of `required_len` bytes begins.
+fn cuts_of_arp(
+    rt: &impl Abort,
+    start: Start,
+    frame: &[u8],
+    at: usize,
+    before: usize,
+    required_len: usize,
+) {
+    for n in at..=frame.len() {
+        let found = snap(start, frame, n);
+        let len = n.saturating_sub(at);
+        let (units, fault) = if len < required_len {
+            (before, cut_arp(required_len, len, at))
         } else {
-            (2, None)
+            (before.saturating_add(1), None)
         };
-        assert_eq!(rt;
-            (found.units, found.fault, found.rest_end),
-            (units, fault, n),
-            "{n}"
-        );
-    }
-    let mut greatest = [0; 1030];
-    greatest[..8].copy_from_slice(&[0x00, 0x01, 0x08, 0x00, 0xFF, 0xFF, 0x00, 0x01]);
-    for n in 0..=1030 {
-        let found = snap(ARP, &greatest, n);
-        let (units, fault) = if n < 1028 {
-            (0, cut_arp(1028, n, 0))
-        } else {
-            (1, None)
-        };
-        assert_eq!(rt;
-            (found.units, found.fault, found.rest_end),
-            (units, fault, n),
-            "{n}"
+        let wanted = (units, fault, n);
+        assert!(rt;
+            (found.units, found.fault, found.rest_end) == wanted,
+            "{n} bytes"
         );
     }
 }
 
+/// Every cut of an ARP request with padding, and of the greatest ARP packet.
+#[test]
+fn every_cut_of_arp_packets(rt: HostRuntime) {
+    cuts_of_arp(&rt, Start::Ethernet2, &PADDED_ARP, 14, 1, 28);
+    let mut greatest = [0; 1030];
+    put(
+        &mut greatest,
+        0,
+        &[0x00, 0x01, 0x08, 0x00, 0xFF, 0xFF, 0x00, 0x01],
+    );
+    cuts_of_arp(&rt, ARP, &greatest, 0, 0, 1028);
+}
+
+/// Where the payload of each of four SecTags begins, and its length.
+static WINDOWS: [(usize, usize); 4] = [(8, 24), (16, 16), (24, 8), (32, 0)];
+
 #[test]
 fn closed_windows_in_one_another(rt: HostRuntime) {
     let mut peel = Peel::new(MACSEC, &NESTED);
-    for (start, left) in [(8, 24), (16, 16), (24, 8), (32, 0)] {
+    for &(start, len) in &WINDOWS {
         let is_tag = matches!(peel.next(), Some(Ok(PeelUnit::Macsec(_))));
-        assert_eq!(rt;
-            (is_tag, peel.offset(), peel.rest().len(), peel.closed()),
-            (true, start, left, true)
-        );
+        let found = (is_tag, peel.offset(), peel.rest().len(), peel.closed());
+        assert!(rt; found == (true, start, len, true), "at byte {start}");
     }
     let whole = Summary {
         units: 4,
@@ -170,125 +182,121 @@ fn closed_windows_in_one_another(rt: HostRuntime) {
         kind: RestKind::EtherType(EtherType(0x0800)),
         fault: None,
     };
-    assert_eq!(rt; (peel.next(), summary(MACSEC, &NESTED)), (None, whole));
+    equal(
+        &rt,
+        "no more",
+        &(peel.next().is_none(), summary(MACSEC, &NESTED)),
+        &(true, whole),
+    );
 }
 
-/// The walk gives so many units, and then this fault.
-fn gives_fault(rt: &impl Abort, bytes: &[u8], units: usize, fault: &PeelFault) {
-    let mut peel = Peel::new(MACSEC, bytes);
-    for _ in 0..units {
-        assert!(rt; matches!(peel.next(), Some(Ok(_))), "{bytes:?}");
-    }
-    let Some(Err(found)) = peel.next() else {
-        panic!(rt; "{bytes:?} is not refused");
-    };
-    assert_eq!(rt; &found, fault);
-}
+/// A byte of the nested tags, what is put in its place, the units before the fault, the window of that, and the bytes that it requires and
+/// that are there, or none if the ether type has no room.
+type Changed = (
+    &'static str,
+    usize,
+    u8,
+    usize,
+    (usize, usize),
+    Option<(usize, usize)>,
+);
+
+static CHANGED: [Changed; 3] = [
+    (
+        "a payload longer than the window",
+        25,
+        0x03,
+        3,
+        (24, 32),
+        Some((9, 8)),
+    ),
+    ("no room for the ether type", 25, 0x01, 3, (24, 32), None),
+    (
+        "a payload longer than a window in a window",
+        9,
+        0x11,
+        2,
+        (16, 31),
+        Some((16, 15)),
+    ),
+];
 
 /// The nested tags with another byte at a place are refused, alone and with bytes after them, by the same fault.
-fn refuses_nested(rt: &impl Abort, place: usize, byte: u8, units: usize, fault: &PeelFault) {
-    let mut bytes = [0xFF; 1032];
-    bytes[..32].copy_from_slice(&NESTED);
-    if place < bytes.len() {
-        bytes[place] = byte;
-    }
-    for len in [32, 33, 64, 1032] {
-        let found = summary(MACSEC, &bytes[..len]);
-        assert_eq!(rt;
-            (found.units, found.fault.as_ref()),
-            (units, Some(fault)),
-            "{len} bytes"
-        );
-        gives_fault(rt, &bytes[..len], units, fault);
-    }
-    assert_eq!(rt; fault.missing(), None);
-}
-
 #[test]
 fn bytes_after_a_closed_window_change_nothing(rt: HostRuntime) {
-    let too_long = |required_len: usize, len: usize, at: usize| PeelFault {
-        offset: at,
-        error: PeelError::Len(LenError {
-            len_source: LenSource::MacsecShortLength,
-            ..len_error(required_len, len, Layer::MacsecPacket, at)
-        }),
-        closed: true,
-    };
-    let no_room = PeelFault {
-        offset: 24,
-        error: PeelError::Macsec(HeaderError::InvalidUnmodifiedShortLen),
-        closed: true,
-    };
-    refuses_nested(&rt, 25, 0x03, 3, &too_long(9, 8, 24));
-    refuses_nested(&rt, 25, 0x01, 3, &no_room);
-    refuses_nested(&rt, 9, 0x11, 2, &too_long(16, 15, 16));
+    for &(name, place, byte, units, (start, end), lens) in &CHANGED {
+        let mut bytes = [0xFF; 1032];
+        put(&mut bytes, 0, &NESTED);
+        put(&mut bytes, place, &[byte]);
+        for len in [32, 33, 64, 1032] {
+            let refusal = match lens {
+                Some((required_len, len)) => {
+                    too_short!(
+                        required_len,
+                        len,
+                        LenSource::MacsecShortLength,
+                        Layer::MacsecPacket
+                    )
+                }
+                None => PlainRefusal::ShortLen,
+            };
+            let fault = fault_at(start, true, refusal);
+            equal(&rt, name, &fault.missing(), &None);
+            let kind = ether_type!(0x88E5);
+            let rest = bytes.get(start..end).unwrap_or(&[]);
+            is_refused(&rt, name, MACSEC, &bytes[..len], units, fault, rest, kind);
+        }
+    }
 }
 
-/// What is missing of frames, or of the first so many bytes of them.
+/// Two tags, and three bytes of the second one.
+const WITH_08: [u8; 21] = [
+    0xFF, 0xFF, 0xFF, 0xFF, 0xFF, 0xFF, 2, 0, 0, 0, 0, 1, 0x88, 0xA8, 0x00, 0x01, 0x81, 0x00, 0x00,
+    0x02, 0x08,
+];
+
+/// The first bytes of a frame, so many, and how many more are missing.
+#[rattlefmt::skip]
+static MISSING: [(&str, Start, &[u8], usize, Option<usize>); 11] = [
+    ("an Ethernet header", Start::Ethernet2, &[], 0, Some(14)),
+    ("a named payload", MACSEC, &NAMED, 10, Some(2)),
+    ("its last byte", MACSEC, &NAMED, 11, Some(1)),
+    ("nothing in a closed window", MACSEC, &[0x00, 0x04, 0, 0, 0, 1, 0x81, 0x00, 0xAA, 0xBB, 0xCC, 0xDD], 12, None),
+    ("a SecTag of version 1", MACSEC, &[0x80, 0, 0, 0, 0], 5, Some(1)),
+    ("nothing of a content", MACSEC, &[0x80, 0, 0, 0, 0, 0], 6, None),
+    ("the addresses of an ARP packet", ARP, &[0, 1, 8, 0, 6, 4, 0, 1], 8, Some(20)),
+    ("nothing before a check sequence", Start::Ethernet2Fcs, &PADDED_ARP, 17, None),
+    ("nothing of an accepted frame", Start::Ethernet2, &PADDED_ARP, 60, None),
+    ("the second of two tags", Start::Ethernet2, &SECOND_TAG_CUT, 20, Some(2)),
+    ("its last byte", Start::Ethernet2, &WITH_08, 21, Some(1)),
+];
+
 #[test]
 fn what_is_missing(rt: HostRuntime) {
-    let longer_inside = [0x00, 0x04, 0, 0, 0, 1, 0x81, 0x00, 0xAA, 0xBB, 0xCC, 0xDD];
-    let mut with_08 = [0x08; 21];
-    with_08[..20].copy_from_slice(&SECOND_TAG_CUT);
-    for (name, start, list, wanted) in [
-        (
-            "an Ethernet header",
-            Start::Ethernet2,
-            [].as_slice(),
-            Some(14),
-        ),
-        ("a named payload", MACSEC, &NAMED[..10], Some(2)),
-        ("its last byte", MACSEC, &NAMED[..11], Some(1)),
-        ("nothing in a closed window", MACSEC, &longer_inside, None),
-        (
-            "a SecTag of version 1",
-            MACSEC,
-            &[0x80, 0, 0, 0, 0],
-            Some(1),
-        ),
-        ("nothing of a content", MACSEC, &[0x80, 0, 0, 0, 0, 0], None),
-        (
-            "the addresses of an ARP packet",
-            ARP,
-            &[0, 1, 8, 0, 6, 4, 0, 1],
-            Some(20),
-        ),
-        (
-            "nothing before a check sequence",
-            Start::Ethernet2Fcs,
-            &PADDED_ARP[..17],
-            None,
-        ),
-        (
-            "nothing of an accepted frame",
-            Start::Ethernet2,
-            &PADDED_ARP,
-            None,
-        ),
-        (
-            "the second of two tags",
-            Start::Ethernet2,
-            &SECOND_TAG_CUT,
-            Some(2),
-        ),
-        ("its last byte", Start::Ethernet2, &with_08, Some(1)),
-    ] {
-        let found = summary(start, list);
+    for &(name, start, list, len, wanted) in &MISSING {
+        let found = summary(start, list.get(..len).unwrap_or(&[]));
         let missing = found.fault.as_ref().and_then(|fault| fault.missing());
-        assert_eq!(rt; missing, wanted, "{name}");
+        equal(&rt, name, &missing, &wanted);
     }
-    for (required_len, len, closed, wanted) in [
-        (3, 5, false, None),
-        (5, 5, false, None),
-        (5, 3, true, None),
-        (5, 3, false, Some(2)),
-    ] {
+}
+
+/// A required length, a length, whether the window is closed, and what is missing.
+static LENS: [(&str, usize, usize, bool, Option<usize>); 4] = [
+    ("too many bytes", 3, 5, false, None),
+    ("just enough", 5, 5, false, None),
+    ("too few in a closed window", 5, 3, true, None),
+    ("too few", 5, 3, false, Some(2)),
+];
+
+#[test]
+fn what_is_missing_by_a_fault(rt: HostRuntime) {
+    for &(name, required_len, len, closed, wanted) in &LENS {
         let fault = PeelFault {
             offset: 0,
             error: PeelError::Len(len_error(required_len, len, Layer::Arp, 0)),
             closed,
         };
-        assert_eq!(rt; fault.missing(), wanted, "{len} of {required_len}");
+        equal(&rt, name, &fault.missing(), &wanted);
     }
 }
 
@@ -299,40 +307,49 @@ fn an_open_refusal_waits_for_its_length(rt: HostRuntime) {
         0x00, 0x02, 0x08, 0x00,
     ];
     let waiting = open(len_error(4, 3, Layer::VlanHeader, 18));
-    assert_eq!(rt; summary(Start::Ethernet2, &frame[..21]).fault, waiting);
-    for (high, number) in [(0x08, 0x0800), (0x86, 0x8600)] {
-        frame[20] = high;
-        let whole = Summary {
-            units: 3,
-            rest_start: 22,
-            rest_end: 22,
-            kind: RestKind::EtherType(EtherType(number)),
-            fault: None,
-        };
-        assert_eq!(rt; summary(Start::Ethernet2, &frame), whole);
+    let found = summary(Start::Ethernet2, &frame[..21]).fault;
+    let first = summary(Start::Ethernet2, &frame);
+    frame[20] = 0x86;
+    let second = summary(Start::Ethernet2, &frame);
+    let whole = |number| Summary {
+        units: 3,
+        rest_start: 22,
+        rest_end: 22,
+        kind: RestKind::EtherType(EtherType(number)),
+        fault: None,
+    };
+    equal(
+        &rt,
+        "a tag",
+        &(found, first, second),
+        &(waiting, whole(0x0800), whole(0x8600)),
+    );
+}
+
+/// The fault after an extension by so many bytes: an open refusal counts the bytes.
+fn extended(fault: &PeelFault, added: usize) -> Option<PeelFault> {
+    match &fault.error {
+        PeelError::Len(error) if !fault.closed => open(LenError {
+            required_len: error.required_len,
+            len: error.len.saturating_add(added),
+            len_source: error.len_source,
+            layer: error.layer,
+            layer_start_offset: error.layer_start_offset,
+        }),
+        _ => None,
     }
 }
 
 /// An extension by so many bytes keeps all that was found, but that an open refusal counts the bytes.
-fn keeps(rt: &impl Abort, before: &Summary, added: usize, after: &Summary) {
-    assert_eq!(rt; after.units, before.units);
-    let Some(fault) = &before.fault else {
-        assert_eq!(rt; (&after.fault, after.kind), (&None, before.kind));
-        return;
+fn keeps(before: &Summary, added: usize, after: &Summary) -> bool {
+    let is_kept = match &before.fault {
+        None => after.fault.is_none() && after.kind == before.kind,
+        Some(fault) => match extended(fault, added) {
+            None => after.fault == before.fault,
+            counted => after.fault == counted,
+        },
     };
-    match &fault.error {
-        PeelError::Len(error) if !fault.closed => {
-            let counted = LenError {
-                required_len: error.required_len,
-                len: error.len.saturating_add(added),
-                len_source: error.len_source,
-                layer: error.layer,
-                layer_start_offset: error.layer_start_offset,
-            };
-            assert_eq!(rt; after.fault, open(counted));
-        }
-        _ => assert_eq!(rt; after.fault, before.fault),
-    }
+    is_kept && after.units == before.units
 }
 
 /// Whether the length that a summary's fault names is there, so that nothing is said of longer lists.
@@ -351,7 +368,7 @@ fn names_at_most(before: &Summary, len: usize) -> bool {
 
 #[test]
 fn extensions_keep_what_was_found(rt: HostRuntime) {
-    for (start, list) in WORKED {
+    for &(start, list) in &WORKED {
         if start == Start::Ethernet2Fcs || list.len() > 100 {
             continue;
         }
@@ -361,9 +378,9 @@ fn extensions_keep_what_was_found(rt: HostRuntime) {
             let before = summary(start, list);
             for added in [1, 32, 1000] {
                 let len = list.len() + added;
-                if !names_at_most(&before, len) {
-                    keeps(&rt, &before, added, &summary(start, &bytes[..len]));
-                }
+                let after = summary(start, &bytes[..len]);
+                let is_kept = names_at_most(&before, len) || keeps(&before, added, &after);
+                assert!(rt; is_kept, "{added} bytes after {list:?}");
             }
         }
     }

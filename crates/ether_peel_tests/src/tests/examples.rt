@@ -1,11 +1,10 @@
 //! The examples of walks and summaries, units that outlive the walker, and long frames.
-use super::{cut_short, shown};
+use super::{equal, fault_at, kind_of, put, shown};
+use crate::plain::PlainKind;
 use crate::test_frames::{NAMED, TAGGED};
-use ether_peel::{Peel, PeelUnit, RestKind, Start, Summary, snap, summary};
+use ether_peel::{Peel, PeelFault, PeelUnit, RestKind, Start, Summary, snap, summary};
 use etherparse::err::Layer;
 use etherparse::{EtherType, LenSource};
-use std::alloc::{AllocError, Global};
-use std::test::Fail;
 
 const IPV4: RestKind = RestKind::EtherType(EtherType::IPV4);
 
@@ -24,8 +23,6 @@ fn of_a_walk_and_its_summary(rt: HostRuntime) {
             vlan_id = tag.vlan_identifier().value();
         }
     }
-    assert_eq!(rt; peel.rest(), [0x45].as_slice());
-    assert_eq!(rt; (vlan_id, peel.offset(), peel.kind()), (0x123, 18, IPV4));
     let whole = Summary {
         units: 2,
         rest_start: 18,
@@ -33,120 +30,157 @@ fn of_a_walk_and_its_summary(rt: HostRuntime) {
         kind: IPV4,
         fault: None,
     };
-    assert_eq!(rt; summary(Start::Ethernet2, &EXAMPLE), whole);
-    let found = snap(Start::Ethernet2, &EXAMPLE[..18], 16);
-    assert_eq!(rt;
-        (
-            found.units,
-            found.fault.as_ref().and_then(|fault| fault.missing())
+    let cut = snap(Start::Ethernet2, &EXAMPLE[..18], 16);
+    let missing = cut.fault.as_ref().and_then(|fault| fault.missing());
+    equal(
+        &rt,
+        "a frame with a tag",
+        &(
+            (vlan_id, peel.offset(), peel.kind(), peel.rest()),
+            summary(Start::Ethernet2, &EXAMPLE),
+            (cut.units, missing),
         ),
-        (1, Some(2))
+        &((0x123, 18, IPV4, [0x45].as_slice()), whole, (1, Some(2))),
     );
 }
 
 #[test]
-fn units_outlive_the_walker(rt: HostRuntime) -> Result<(), Fail> {
+fn units_outlive_the_walker(rt: HostRuntime) {
     let mut peel = Peel::new(Start::Ethernet2, &TAGGED);
-    let frame = peel.next().ok_or("a unit")?.ok().ok_or("a unit")?;
-    let tag = peel.next().ok_or("a unit")?.ok().ok_or("a unit")?;
+    let (Some(Ok(frame)), Some(Ok(tag))) = (peel.next(), peel.next()) else {
+        panic!(rt; "two units");
+    };
     let rest = peel.rest();
     drop(peel);
-    assert_eq!(rt;
-        (shown(&frame), shown(&tag), rest),
-        (
+    equal(
+        &rt,
+        "a frame with a tag",
+        &(shown(&frame), shown(&tag), rest),
+        &(
             broadcast!(0x8100),
             vlan!(5, 1, 0x123, 0x0800),
-            [].as_slice()
-        )
+            [].as_slice(),
+        ),
     );
-    Ok(())
 }
+
+/// SecTags with a payload of known and of unknown length, and the source of the length of what is left then.
+static BOUNDS: [(&str, &[u8], LenSource); 2] = [
+    ("a named payload", &NAMED, LenSource::MacsecShortLength),
+    (
+        "an unnamed payload",
+        &[0x00, 0x00, 0x00, 0x00, 0x00, 0x01, 0x81, 0x00, 0xAA],
+        LenSource::Slice,
+    ),
+];
 
 /// What bounds the window that is left, after each unit.
 #[test]
 fn the_bound_of_what_is_left(rt: HostRuntime) {
-    let (slice, short_length) = (LenSource::Slice, LenSource::MacsecShortLength);
-    let open = [0x00, 0x00, 0x00, 0x00, 0x00, 0x01, 0x81, 0x00, 0xAA];
-    for (frame, wanted) in [
-        (NAMED.as_slice(), [slice, short_length, short_length]),
-        (&open, [slice, slice, slice]),
-    ] {
+    for &(name, frame, source) in &BOUNDS {
         let mut peel = Peel::new(with_type!(0x88E5), frame);
-        for bound in wanted {
-            assert_eq!(rt; peel.bound(), bound, "{frame:?}");
-            peel.next();
-        }
+        let first = peel.bound();
+        peel.next();
+        let second = peel.bound();
+        peel.next();
+        equal(
+            &rt,
+            name,
+            &[first, second, peel.bound()],
+            &[LenSource::Slice, source, source],
+        );
     }
 }
 
-/// So many VLAN tags one after the other, each with its place as VID, the last of them in front of IPv4.
-fn tags(alloc: Global, count: u16) -> Result<Vec<u8>, AllocError> {
-    let mut bytes = Vec::new(alloc);
+/// VLAN tags one after the other, each with its place as VID, the last of so many in front of IPv4.
+fn tags(count: u16) -> [u8; 2048] {
+    let mut bytes = [0; 2048];
     for i in 0..count {
-        let ether_type: [u8; 2] = if i.wrapping_add(1) == count {
-            [0x08, 0x00]
+        let [high, low] = i.to_be_bytes();
+        let first = if i.wrapping_add(1) == count {
+            0x08
         } else {
-            [0x81, 0x00]
+            0x81
         };
-        bytes.extend_from_slice(&i.to_be_bytes())?;
-        bytes.extend_from_slice(&ether_type)?;
+        put(
+            &mut bytes,
+            usize::from(i).saturating_mul(4),
+            &[high, low, first, 0x00],
+        );
     }
-    Ok(bytes)
+    bytes
 }
+
+/// How many tags of a walk have their place as VID, the fault after all whole ones, and where the walk ends.
+fn numbered(frame: &[u8]) -> (usize, Option<PeelFault>, usize, RestKind) {
+    let mut peel = Peel::new(with_type!(0x88A8), frame);
+    let mut count = 0;
+    for i in 0..frame.len() / 4 {
+        if let Some(Ok(PeelUnit::Vlan(tag))) = peel.next()
+            && usize::from(tag.vlan_identifier().value()) == i
+        {
+            count = usize::saturating_add(count, 1);
+        }
+    }
+    let fault = match peel.next() {
+        Some(Err(fault)) => Some(fault),
+        _ => None,
+    };
+    (count, fault, peel.offset(), peel.kind())
+}
+
+/// Tags and bytes, so many, and what announces the rest.
+static LENS: [(&str, u16, usize, PlainKind); 3] = [
+    ("whole tags", 300, 1200, ether_type!(0x0800)),
+    ("more of them", 512, 2048, ether_type!(0x0800)),
+    ("a cut tag", 512, 2047, ether_type!(0x8100)),
+];
 
 /// The units are VLAN tags with the VIDs 0, 1, 2, .., and the last one is cut short, or in front of IPv4.
 #[test]
-fn hundreds_of_vlan_tags(rt: HostRuntime) -> Result<(), Fail> {
-    for (count, len) in [(300, 1200), (512, 2048), (512, 2047)] {
-        let list = tags(rt.alloc(), count)?;
-        let frame = list.get(..len).ok_or("a front")?;
-        let mut peel = Peel::new(with_type!(0x88A8), frame);
-        let whole = u16::try_from(len / 4)?;
-        let mut read = 0u16;
-        for i in 0..whole {
-            if let Some(Ok(PeelUnit::Vlan(tag))) = peel.next() {
-                read = read.saturating_add(u16::from(tag.vlan_identifier().value() == i));
-            }
-        }
-        let cut = cut_short(2044, false, 4, 3, LenSource::Slice, Layer::VlanHeader);
-        let (fault, kind) = if len % 4 == 0 {
-            (None, ether_type!(0x0800))
+fn hundreds_of_vlan_tags(rt: HostRuntime) {
+    for &(name, count, len, kind) in &LENS {
+        let list = tags(count);
+        let whole = len / 4;
+        let fault = if len % 4 == 0 {
+            None
         } else {
-            (Some(Err(cut)), ether_type!(0x8100))
+            let refusal = too_short!(4, 3, LenSource::Slice, Layer::VlanHeader);
+            Some(fault_at(2044, false, refusal))
         };
-        assert_eq!(rt;
-            (read, peel.next(), peel.next(), peel.offset(), peel.kind()),
-            (whole, fault, None, 4 * usize::from(whole), kind),
-            "{count} tags in {len} bytes"
-        );
+        let wanted = (whole, fault, whole.saturating_mul(4), kind_of(kind));
+        equal(&rt, name, &numbered(&list[..len.min(2048)]), &wanted);
     }
-    Ok(())
 }
 
+/// A walk of tags that are cut short takes all the calls that are allowed.
 #[test]
-fn no_more_calls_than_a_quarter_of_the_bytes_and_two(rt: HostRuntime) -> Result<(), Fail> {
-    // a walk of tags that are cut short takes all the calls that are allowed
+fn a_quarter_of_the_bytes_and_two_calls(rt: HostRuntime) {
     let cut = [0, 0, 0x81, 0, 0, 0, 0x81, 0, 0, 0, 0x81, 0, 0];
     for len in 0..=cut.len() {
-        let mut peel = Peel::new(with_type!(0x8100), &cut[..len]);
-        assert_eq!(rt; peel.by_ref().count() + 1, len / 4 + 2, "{len} bytes");
+        let peel = Peel::new(with_type!(0x8100), &cut[..len]);
+        let count = peel.count();
+        assert!(rt; count == len / 4 + 1, "{len} bytes");
     }
-    let list = tags(rt.alloc(), 6)?;
-    for start in [
-        Start::Ethernet2,
-        Start::Ethernet2Fcs,
-        Start::LinuxSll,
-        with_type!(0x88E5),
-        with_type!(0x0806),
-        with_type!(0x0800),
-    ] {
-        for len in 0..=list.len() {
-            let mut peel = Peel::new(start, &list[..len]);
-            assert!(rt;
-                peel.by_ref().count() + 1 <= len / 4 + 2,
-                "{start:?}, {len} bytes"
-            );
+}
+
+static STARTS: [Start; 6] = [
+    Start::Ethernet2,
+    Start::Ethernet2Fcs,
+    Start::LinuxSll,
+    with_type!(0x88E5),
+    with_type!(0x0806),
+    with_type!(0x0800),
+];
+
+#[test]
+fn no_more_calls_than_a_quarter_of_the_bytes_and_two(rt: HostRuntime) {
+    let list = tags(6);
+    for &start in &STARTS {
+        for len in 0..=24 {
+            let peel = Peel::new(start, &list[..len]);
+            let count = peel.count();
+            assert!(rt; count <= len / 4 + 1, "{start:?}, {len} bytes");
         }
     }
-    Ok(())
 }

@@ -1,11 +1,11 @@
 //! Walks that read no more VLAN tags and SecTags than a limit.
 use super::limited::{completed, fed, snapped, walker, written};
-use super::{Walk, check};
-use crate::plain::PlainHeader;
+use super::{Walk, check, equal};
+use crate::plain::{PlainHeader, PlainKind};
 use crate::test_frames::{
-    ADDRESSES, NAMED, NESTED, PADDED_ARP, SEALED, SECOND_TAG_CUT, TAGGED, TWICE_TAGGED_ARP_REQUEST,
+    NAMED, NESTED, PADDED_ARP, SEALED, SECOND_TAG_CUT, TAGGED, TWICE_TAGGED_ARP_REQUEST,
 };
-use ether_peel::{Feed, PeelFault, PeelUnit, RestKind, Start};
+use ether_peel::{Feed, PeelUnit, RestKind, Start};
 use etherparse::err::Layer;
 use etherparse::{EtherType, LenSource};
 
@@ -30,7 +30,7 @@ const ETH: Start = Start::Ethernet2;
 
 const MACSEC: Start = with_type!(0x88E5);
 
-const VLAN: RestKind = ether_type!(0x8100);
+const VLAN: PlainKind = ether_type!(0x8100);
 
 /// The second of the nested tags.
 const SECOND: PlainHeader<'static> = PlainHeader::Macsec {
@@ -89,7 +89,7 @@ const KERNEL: PlainHeader<'static> = PlainHeader::Ethernet2 {
 };
 
 #[rattlefmt::skip]
-const WALKS: [Walk; 11] = [
+static WALKS: [Walk; 11] = [
     // the Ethernet header doesn't count, nor does an ARP packet
     limited!(ETH, &TAGGED, 0, &[broadcast!(0x8100)], (14, 18), VLAN, false),
     limited!(ETH, &EXAMPLE, 0, &[broadcast!(0x8100)], (14, 19), VLAN, false),
@@ -99,9 +99,9 @@ const WALKS: [Walk; 11] = [
     limited!(MACSEC, &NAMED, 0, &[], (0, 14), ether_type!(0x88E5), false),
     limited!(MACSEC, &NAMED, 1, &[readable!(6, 0x8100)], (8, 12), VLAN, true),
     limited!(MACSEC, &NESTED, 2, &[readable!(26, 0x88E5), SECOND], (16, 32), ether_type!(0x88E5), true),
-    limited!(ETH, &PADDED_ARP, 0, &[broadcast!(0x0806), ASKED], (42, 60), RestKind::AfterArp, false),
+    limited!(ETH, &PADDED_ARP, 0, &[broadcast!(0x0806), ASKED], (42, 60), PlainKind::AfterArp, false),
     limited!(ETH, &TWICE_TAGGED_ARP_REQUEST, 1, &[KERNEL, vlan!(0, 0, 10, 0x8100)], (18, 50), VLAN, false),
-    limited!(ETH, &TWICE_TAGGED_ARP_REQUEST, 2, &[KERNEL, vlan!(0, 0, 10, 0x8100), vlan!(0, 0, 100, 0x0806), QUESTION], (50, 50), RestKind::AfterArp, false),
+    limited!(ETH, &TWICE_TAGGED_ARP_REQUEST, 2, &[KERNEL, vlan!(0, 0, 10, 0x8100), vlan!(0, 0, 100, 0x0806), QUESTION], (50, 50), PlainKind::AfterArp, false),
 ];
 
 #[test]
@@ -127,44 +127,49 @@ fn of_the_examples(rt: HostRuntime) {
     );
     let is_tag = matches!(peel.next(), Some(Ok(PeelUnit::Vlan(_))));
     let is_over = peel.next().is_none();
-    assert_eq!(rt;
-        (is_tag, is_over, peel.offset(), peel.kind()),
-        (
+    equal(
+        &rt,
+        "a tag after a tag",
+        &(is_tag, is_over, peel.offset(), peel.kind()),
+        &(
             true,
             true,
             4,
-            RestKind::EtherType(EtherType::VLAN_TAGGED_FRAME)
-        )
+            RestKind::EtherType(EtherType::VLAN_TAGGED_FRAME),
+        ),
     );
-    for (limit, wanted) in [(0, None), (1, Some(2))] {
-        let found = snapped(Start::Ethernet2, &EXAMPLE, 16, Some(limit)).fault;
-        let missing = found.as_ref().and_then(|fault| fault.missing());
-        assert_eq!(rt; missing, wanted, "{limit}");
-    }
+    let missing = [0, 1].map(|limit| {
+        let found = snapped(Start::Ethernet2, &EXAMPLE, 16, Some(limit));
+        found.fault.as_ref().and_then(|fault| fault.missing())
+    });
+    equal(&rt, "a cut", &missing, &[None, Some(2)]);
 }
+
+/// An Ethernet II header and a SecTag with its payload, and two bytes after it.
+const IN_SEC_TAG: [u8; 28] = [
+    0xFF, 0xFF, 0xFF, 0xFF, 0xFF, 0xFF, 2, 0, 0, 0, 0, 1, 0x88, 0xE5, // Ethernet II
+    0x00, 0x06, 0x00, 0x00, 0x00, 0x01, 0x81, 0x00, // SecTag
+    0xAA, 0xBB, 0xCC, 0xDD, 0xEE, 0xEE,
+];
+
+/// A frame, the limit, and how often and how many bytes are asked for.
+static FEEDS: [(&str, &[u8], usize, usize, usize); 3] = [
+    ("a SecTag beyond the limit", &IN_SEC_TAG, 0, 1, 14),
+    ("a SecTag within the limit", &IN_SEC_TAG, 1, 4, 26),
+    ("a VLAN tag beyond the limit", &EXAMPLE, 0, 1, 14),
+];
 
 /// No byte of a tag beyond the limit is asked for.
 #[test]
 fn of_feeding(rt: HostRuntime) {
-    let mut frame = [0; 28];
-    frame[..12].copy_from_slice(&ADDRESSES);
-    frame[12..14].copy_from_slice(&[0x88, 0xE5]);
-    frame[14..].copy_from_slice(&NAMED);
-    for (frame, limit, refusals, taken) in [
-        (frame.as_slice(), 0, 1, 14),
-        (&frame, 1, 4, 26),
-        (&EXAMPLE, 0, 1, 14),
-    ] {
+    for &(name, frame, limit, refusals, taken) in &FEEDS {
         let expected = Feed {
             refusals,
             taken,
             fault: None,
         };
-        assert_eq!(rt;
-            fed(Start::Ethernet2, frame, Some(limit)),
-            expected,
-            "{limit}"
-        );
+        let found = fed(Start::Ethernet2, frame, Some(limit));
+        equal(&rt, name, &found, &expected);
     }
 }
 
@@ -173,40 +178,60 @@ fn of_feeding(rt: HostRuntime) {
 fn of_writing_back(rt: HostRuntime) {
     let mut cleared = SEALED;
     cleared[1] = 0;
-    for (limit, wanted) in [(0, SEALED), (1, cleared)] {
+    let found = [0, 1].map(|limit| {
         let mut target = [0; 15];
         let end = written(with_type!(0x88E5), &SEALED, &mut target, Some(limit)).ok();
-        assert_eq!(rt; (end, target), (Some(15), wanted), "{limit}");
+        (end, target)
+    });
+    equal(
+        &rt,
+        "a SecTag",
+        &found,
+        &[(Some(15), SEALED), (Some(15), cleared)],
+    );
+}
+
+/// The first bytes of a frame, so many, a limit, and the bytes that complete them.
+static COMPLETIONS: [(&str, &[u8], usize, Option<usize>, Option<&[u8]>); 5] = [
+    (
+        "a tag within the limit",
+        &EXAMPLE,
+        16,
+        Some(1),
+        Some(&[0, 0]),
+    ),
+    ("a tag beyond it", &EXAMPLE, 16, Some(0), None),
+    ("no limit", &SECOND_TAG_CUT, 17, None, Some(&[0x01])),
+    (
+        "a first tag within the limit",
+        &SECOND_TAG_CUT,
+        17,
+        Some(1),
+        Some(&[0x01]),
+    ),
+    ("a first tag beyond it", &SECOND_TAG_CUT, 17, Some(0), None),
+];
+
+#[test]
+fn of_completions(rt: HostRuntime) {
+    for &(name, frame, len, limit, wanted) in &COMPLETIONS {
+        let fill = completed(Start::Ethernet2, frame.get(..len).unwrap_or(&[]), limit);
+        let found = fill.as_ref().map(|fill| fill.as_slice());
+        equal(&rt, name, &found, &wanted);
     }
 }
 
 #[test]
-fn of_cuts_and_completions(rt: HostRuntime) {
+fn of_cuts(rt: HostRuntime) {
     let eth = Start::Ethernet2;
     for n in 14..=18 {
         let found = snapped(eth, &TAGGED, n, Some(0));
-        assert_eq!(rt;
-            (found.units, found.rest_end, found.fault),
-            (1, n, None::<PeelFault>),
-            "{n}"
-        );
+        let found = (found.units, found.rest_end, found.fault.is_none());
+        assert!(rt; found == (1, n, true), "{n} bytes");
     }
-    assert_eq!(rt;
+    let (limited, plain) = (
         snapped(eth, &TAGGED, 16, Some(1)),
-        snapped(eth, &TAGGED, 16, None)
+        snapped(eth, &TAGGED, 16, None),
     );
-    for (frame, limit, wanted) in [
-        (&EXAMPLE[..16], Some(1), Some([0; 2].as_slice())),
-        (&EXAMPLE[..16], Some(0), None),
-        (&SECOND_TAG_CUT[..17], None, Some(&[0x01])),
-        (&SECOND_TAG_CUT[..17], Some(1), Some(&[0x01])),
-        (&SECOND_TAG_CUT[..17], Some(0), None),
-    ] {
-        let fill = completed(eth, frame, limit);
-        assert_eq!(rt;
-            fill.as_ref().map(|fill| fill.as_slice()),
-            wanted,
-            "{limit:?}"
-        );
-    }
+    equal(&rt, "within the limit", &limited, &plain);
 }

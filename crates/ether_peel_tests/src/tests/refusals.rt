@@ -1,12 +1,10 @@
 //! Faults with all their fields, and what is left then.
-use super::{Walk, check, content, cut_short, joined, refuses};
-use crate::plain::{PlainHeader, PlainRefusal};
+use super::{Walk, check, equal, fault_at, is_refused, put};
+use crate::plain::{PlainHeader, PlainKind, PlainRefusal};
 use crate::test_frames::{ADDRESSES, CHECKED, COOKED, COOKED_GRE, NAMED, SECOND_TAG_CUT, TAGGED};
-use ether_peel::{Peel, PeelError, PeelFault, RestKind, Start, summary};
+use ether_peel::{Peel, Start};
 use etherparse::LenSource;
-use etherparse::err::{self, Layer};
-use std::process::Abort;
-use std::test::Fail;
+use etherparse::err::Layer;
 
 const SLICE: LenSource = LenSource::Slice;
 
@@ -24,53 +22,24 @@ const MACSEC: Start = with_type!(0x88E5);
 
 const ARP: Start = with_type!(0x0806);
 
-/// After `units` units comes this fault, in a window of `rest` that is announced as `kind`, by the walker and by `summary`.
-fn is_refused(
-    rt: &impl Abort,
-    start: Start,
-    bytes: &[u8],
-    units: usize,
-    fault: PeelFault,
-    rest: &[u8],
-    kind: &RestKind,
-) {
-    let found = summary(start, bytes);
-    assert_eq!(rt; found.fault.as_ref(), Some(&fault), "{bytes:?}");
-    assert_eq!(rt;
-        (
-            found.units,
-            found.rest_start,
-            bytes.get(found.rest_start..found.rest_end),
-            found.kind
-        ),
-        (units, fault.offset, Some(rest), *kind),
-        "{bytes:?}"
-    );
-    let mut peel = Peel::new(start, bytes);
-    for _ in 0..units {
-        assert!(rt; matches!(peel.next(), Some(Ok(_))), "{bytes:?}");
-    }
-    refuses(rt, "a refusal", &mut peel, fault, rest, kind);
-}
-
 /// A header with too few bytes, from one length up to another: how many it needs then.
 struct Front {
+    name: &'static str,
     start: Start,
     bytes: &'static [u8],
-    from: usize,
-    to: usize,
+    lens: (usize, usize),
     required_len: usize,
     source: LenSource,
     layer: Layer,
 }
 
 macro_rules! front {
-    ($start:expr, $bytes:expr, $from:expr, $to:expr, $required_len:expr, $source:expr, $layer:expr $(,)?) => {
+    ($name:expr, $start:expr, $bytes:expr, $lens:expr, $required_len:expr, $source:expr, $layer:expr $(,)?) => {
         Front {
+            name: $name,
             start: $start,
             bytes: $bytes,
-            from: $from,
-            to: $to,
+            lens: $lens,
             required_len: $required_len,
             source: $source,
             layer: $layer,
@@ -84,63 +53,49 @@ const VERSION: [u8; 6] = [0x80, 0x00, 0x00, 0x00, 0x00, 0x00];
 /// An ARP packet without its addresses.
 const SIZES: [u8; 8] = [0x00, 0x01, 0x08, 0x00, 0x06, 0x04, 0x00, 0x01];
 
-const FRONTS: &[Front] = &[
-    front!(ETH, &TAGGED, 0, 13, 14, SLICE, Layer::Ethernet2Header),
-    front!(FCS, &TAGGED, 0, 17, 18, SLICE, Layer::Ethernet2Header),
-    front!(SLL, &COOKED, 0, 15, 16, SLICE, Layer::LinuxSllHeader),
-    front!(MACSEC, &VERSION, 0, 5, 6, SLICE, Layer::MacsecHeader),
-    // without its ether type
-    front!(MACSEC, &NAMED, 6, 7, 8, SLICE, Layer::MacsecHeader),
-    // without its SCI: with an ether type the header has 16 bytes, without one 14
-    front!(
-        MACSEC,
-        &[0x20, 0, 0, 0, 0, 1, 2, 3, 4, 5, 6, 7, 8],
-        13,
-        13,
-        16,
-        SLICE,
-        Layer::MacsecHeader,
-    ),
-    front!(
-        MACSEC,
-        &[0x2C, 0, 0, 0, 0, 1, 2, 3, 4, 5, 6, 7, 8],
-        13,
-        13,
-        14,
-        SLICE,
-        Layer::MacsecHeader,
-    ),
-    front!(MACSEC, &NAMED, 8, 11, 12, SHORT_LEN, Layer::MacsecPacket),
-    front!(ARP, &SIZES, 0, 7, 8, SLICE, Layer::Arp),
-    front!(ARP, &SIZES, 8, 8, 28, ADDRS, Layer::Arp),
+#[rattlefmt::skip]
+static FRONTS: [Front; 10] = [
+    front!("Ethernet II", ETH, &TAGGED, (0, 13), 14, SLICE, Layer::Ethernet2Header),
+    front!("with a check sequence", FCS, &TAGGED, (0, 17), 18, SLICE, Layer::Ethernet2Header),
+    front!("a cooked capture", SLL, &COOKED, (0, 15), 16, SLICE, Layer::LinuxSllHeader),
+    front!("a SecTag", MACSEC, &VERSION, (0, 5), 6, SLICE, Layer::MacsecHeader),
+    front!("without its ether type", MACSEC, &NAMED, (6, 7), 8, SLICE, Layer::MacsecHeader),
+    // with an ether type the header has 16 bytes, without one 14
+    front!("without its SCI", MACSEC, &[0x20, 0, 0, 0, 0, 1, 2, 3, 4, 5, 6, 7, 8], (13, 13), 16, SLICE, Layer::MacsecHeader),
+    front!("encrypted, without its SCI", MACSEC, &[0x2C, 0, 0, 0, 0, 1, 2, 3, 4, 5, 6, 7, 8], (13, 13), 14, SLICE, Layer::MacsecHeader),
+    front!("a named payload", MACSEC, &NAMED, (8, 11), 12, SHORT_LEN, Layer::MacsecPacket),
+    front!("an ARP packet", ARP, &SIZES, (0, 7), 8, SLICE, Layer::Arp),
+    front!("without its addresses", ARP, &SIZES, (8, 8), 28, ADDRS, Layer::Arp),
 ];
 
 #[test]
-fn of_every_front_of_a_header(rt: HostRuntime) -> Result<(), Fail> {
-    for front in FRONTS {
+fn of_every_front_of_a_header(rt: HostRuntime) {
+    for front in &FRONTS {
         let closed = front.start == FCS;
         let kind = match front.start {
-            Start::EtherType(announced) => RestKind::EtherType(announced),
-            _ => RestKind::Start,
+            Start::EtherType(announced) => ether_type!(announced.0),
+            _ => PlainKind::Start,
         };
-        for len in front.from..=front.to {
-            let bytes = front.bytes.get(..len).ok_or("a front")?;
-            let fault = cut_short(
-                0,
-                closed,
-                front.required_len,
-                len,
-                front.source,
-                front.layer,
-            );
-            is_refused(&rt, front.start, bytes, 0, fault, bytes, &kind);
+        for len in front.lens.0..=front.lens.1 {
+            let bytes = front.bytes.get(..len).unwrap_or(&[]);
+            let refusal = too_short!(front.required_len, len, front.source, front.layer);
+            let fault = fault_at(0, closed, refusal);
+            is_refused(&rt, front.name, front.start, bytes, 0, fault, bytes, kind);
         }
     }
-    let start = [0x00, 0x01, 0x08, 0x00, 0xFF, 0xFF, 0x00, 0x01];
-    let list = joined(rt.alloc(), &[&start, &[0; 1019]])?;
-    let fault = cut_short(0, false, 1028, 1027, ADDRS, Layer::Arp);
-    is_refused(&rt, ARP, &list, 0, fault, &list, &ether_type!(0x0806));
-    Ok(())
+}
+
+#[test]
+fn of_the_greatest_arp_packet(rt: HostRuntime) {
+    let mut list = [0; 1027];
+    put(
+        &mut list,
+        0,
+        &[0x00, 0x01, 0x08, 0x00, 0xFF, 0xFF, 0x00, 0x01],
+    );
+    let fault = fault_at(0, false, too_short!(1028, 1027, ADDRS, Layer::Arp));
+    let kind = ether_type!(0x0806);
+    is_refused(&rt, "a byte less", ARP, &list, 0, fault, &list, kind);
 }
 
 /// The second tag, and one byte more of it.
@@ -185,13 +140,13 @@ macro_rules! with_sequence {
 
 const TWO: &[PlainHeader<'static>] = &[broadcast!(0x88A8), vlan!(0, 0, 1, 0x8100)];
 
-const TAG: RestKind = ether_type!(0x8100);
+const TAG: PlainKind = ether_type!(0x8100);
 
 #[rattlefmt::skip]
-const WALKS: [Walk; 14] = [
-    refused!("the packet type", SLL, &PACKET_TYPE, &[], (0, 16), RestKind::Start, false, PlainRefusal::PacketType(8)),
-    refused!("the hardware type", SLL, &HARDWARE_TYPE, &[], (0, 16), RestKind::Start, false, PlainRefusal::HardwareType(257)),
-    refused!("the packet type before the hardware type", SLL, &BOTH_TYPES, &[], (0, 16), RestKind::Start, false, PlainRefusal::PacketType(256)),
+static WALKS: [Walk; 14] = [
+    refused!("the packet type", SLL, &PACKET_TYPE, &[], (0, 16), PlainKind::Start, false, PlainRefusal::PacketType(8)),
+    refused!("the hardware type", SLL, &HARDWARE_TYPE, &[], (0, 16), PlainKind::Start, false, PlainRefusal::HardwareType(257)),
+    refused!("the packet type before the hardware type", SLL, &BOTH_TYPES, &[], (0, 16), PlainKind::Start, false, PlainRefusal::PacketType(256)),
     refused!("no room for the ether type", MACSEC, &[0, 1, 0, 0, 0, 0], &[], (0, 6), ether_type!(0x88E5), false, PlainRefusal::ShortLen),
     refused!("a version", MACSEC, &VERSION, &[], (0, 6), ether_type!(0x88E5), false, PlainRefusal::Version),
     refused!("the second of two tags", ETH, &SECOND_TAG_CUT, TWO, (18, 20), TAG, false, too_short!(4, 2, SLICE, Layer::VlanHeader)),
@@ -214,103 +169,57 @@ fn of_worked_examples(rt: HostRuntime) {
     }
 }
 
-/// After two units, from byte 22 on in a closed window, these bytes begin a third one, and 2 bytes follow them. It is
-/// refused with this fault.
-fn is_refused_in_a_payload<R: Abort + AllocGlobal>(
-    rt: &R,
-    announced: [u8; 2],
-    unit: &[u8],
-    fault: PeelFault,
-) -> Result<(), Fail> {
-    let short_len = (unit.len() % 62) as u8 + 2;
-    let tag = [0x00, short_len, 0x00, 0x00, 0x00, 0x01];
-    let parts: [&[u8]; 6] = [
-        &ADDRESSES,
-        &[0x88, 0xE5],
-        &tag,
-        &announced,
-        unit,
-        &[0xEE, 0xEE],
-    ];
-    let frame = joined(rt.alloc(), &parts)?;
-    let kind = ether_type!(u16::from_be_bytes(announced));
-    is_refused(rt, Start::Ethernet2, &frame, 2, fault, unit, &kind);
-    Ok(())
-}
+/// The ether type of a unit, its bytes, and why it is refused.
+type Refused = (&'static str, [u8; 2], &'static [u8], PlainRefusal);
 
+#[rattlefmt::skip]
+static IN_PAYLOADS: [Refused; 11] = [
+    ("three bytes of a tag", [0x81, 0x00], &[0; 3], too_short!(4, 3, SHORT_LEN, Layer::VlanHeader)),
+    ("one byte of a tag", [0x88, 0xA8], &[0], too_short!(4, 1, SHORT_LEN, Layer::VlanHeader)),
+    ("no byte of a tag", [0x91, 0x00], &[], too_short!(4, 0, SHORT_LEN, Layer::VlanHeader)),
+    ("five bytes of a SecTag", [0x88, 0xE5], &[0; 5], too_short!(6, 5, SHORT_LEN, Layer::MacsecHeader)),
+    ("a byte of its ether type", [0x88, 0xE5], &[0; 7], too_short!(8, 7, SHORT_LEN, Layer::MacsecHeader)),
+    ("its payload", [0x88, 0xE5], &[0x0C, 3, 0, 0, 0, 1, 0xAA, 0xBB], too_short!(9, 8, SHORT_LEN, Layer::MacsecPacket)),
+    ("seven bytes of an ARP packet", [0x08, 0x06], &[0; 7], too_short!(8, 7, SHORT_LEN, Layer::Arp)),
+    ("its addresses", [0x08, 0x06], &[0, 1, 8, 0, 1, 2, 0, 1, 0xAA], too_short!(14, 9, ADDRS, Layer::Arp)),
+    ("an SCI", [0x88, 0xE5], &[0x2C, 0, 0, 0, 0, 1, 0, 1, 2, 3, 4, 5, 6], too_short!(14, 13, SHORT_LEN, Layer::MacsecHeader)),
+    ("a version", [0x88, 0xE5], &[0x80, 1, 0, 0, 0, 1], PlainRefusal::Version),
+    ("a short length", [0x88, 0xE5], &[0x00, 1, 0, 0, 0, 1], PlainRefusal::ShortLen),
+];
+
+/// After two units, from byte 22 on in a closed window, come the bytes of each row, and 2 bytes follow them.
 #[test]
-fn each_refusal_of_a_tag_in_a_named_payload(rt: HostRuntime) -> Result<(), Fail> {
-    let short_length = LenSource::MacsecShortLength;
-    let cut = |required_len, len, source, layer| cut_short(
-        22,
-        true,
-        required_len,
-        len,
-        source,
-        layer,
-    );
-    let rows: [([u8; 2], &[u8], PeelFault); 9] = [
-        (
-            [0x81, 0x00],
-            &[0; 3],
-            cut(4, 3, short_length, Layer::VlanHeader),
-        ),
-        (
-            [0x88, 0xA8],
-            &[0; 1],
-            cut(4, 1, short_length, Layer::VlanHeader),
-        ),
-        (
-            [0x91, 0x00],
-            &[],
-            cut(4, 0, short_length, Layer::VlanHeader),
-        ),
-        (
-            [0x88, 0xE5],
-            &[0; 5],
-            cut(6, 5, short_length, Layer::MacsecHeader),
-        ),
-        (
-            [0x88, 0xE5],
-            &[0; 7],
-            cut(8, 7, short_length, Layer::MacsecHeader),
-        ),
-        (
-            [0x88, 0xE5],
-            &[0x0C, 3, 0, 0, 0, 1, 0xAA, 0xBB],
-            cut(9, 8, short_length, Layer::MacsecPacket),
-        ),
-        ([0x08, 0x06], &[0; 7], cut(8, 7, short_length, Layer::Arp)),
-        (
-            [0x08, 0x06],
-            &[0, 1, 8, 0, 1, 2, 0, 1, 0xAA],
-            cut(14, 9, LenSource::ArpAddrLengths, Layer::Arp),
-        ),
-        (
-            [0x88, 0xE5],
-            &[0x2C, 0, 0, 0, 0, 1, 0, 1, 2, 3, 4, 5, 6],
-            cut(14, 13, short_length, Layer::MacsecHeader),
-        ),
-    ];
-    for (announced, unit, fault) in rows {
-        is_refused_in_a_payload(&rt, announced, unit, fault)?;
+fn each_refusal_of_a_tag_in_a_named_payload(rt: HostRuntime) {
+    for &(name, announced, unit, refusal) in &IN_PAYLOADS {
+        let short_len = (unit.len() % 62) as u8 + 2;
+        let mut frame = [0xEE; 64];
+        put(&mut frame, 0, &ADDRESSES);
+        put(
+            &mut frame,
+            12,
+            &[0x88, 0xE5, 0x00, short_len, 0x00, 0x00, 0x00, 0x01],
+        );
+        put(&mut frame, 20, &announced);
+        put(&mut frame, 22, unit);
+        let bytes = &frame[..unit.len().saturating_add(24).min(64)];
+        let fault = fault_at(22, true, refusal);
+        let kind = ether_type!(u16::from_be_bytes(announced));
+        is_refused(&rt, name, Start::Ethernet2, bytes, 2, fault, unit, kind);
     }
-    let errors = [
-        (0x80, err::macsec::HeaderError::UnexpectedVersion),
-        (0x00, err::macsec::HeaderError::InvalidUnmodifiedShortLen),
-    ];
-    for (front, error) in errors {
-        let fault = content(22, true, PeelError::Macsec(error));
-        is_refused_in_a_payload(&rt, [0x88, 0xE5], &[front, 1, 0, 0, 0, 1], fault)?;
-    }
-    Ok(())
 }
 
 #[test]
 fn and_nothing_follows_them(rt: HostRuntime) {
     let mut peel = Peel::new(Start::Ethernet2, &[]);
-    assert!(rt; matches!(peel.next(), Some(Err(_))));
+    let is_refused = matches!(peel.next(), Some(Err(_)));
+    let mut is_over = true;
     for _ in 0..1000 {
-        assert!(rt; peel.next().is_none());
+        is_over = peel.next().is_none() && is_over;
     }
+    equal(
+        &rt,
+        "no byte of Ethernet",
+        &[is_refused, is_over],
+        &[true; 2],
+    );
 }
