@@ -1,9 +1,8 @@
 //! How frames begin. The bytes are worked by hand.
+use super::equal;
 use ether_packet::{ethernet_front, outer_vlan};
 use ether_peel::Start;
 use etherparse::{EtherType, Ethernet2Header, SingleVlanHeader};
-use std::process::Abort;
-use std::test::Fail;
 
 /// A frame with a customer tag, which has a frame check sequence if its last four bytes are one.
 const TAGGED: [u8; 22] = [
@@ -18,47 +17,96 @@ const CAPTURED: [u8; 20] = [
     0x00, 0x0A, 0x08, 0x06, // VLAN
 ];
 
-/// The frame, cut to a length, begins with its header and this tag.
-fn begins_with(rt: &impl Abort, len: usize, tag: Option<[u8; 4]>) {
-    let link = Ethernet2Header {
-        source: [2, 0, 0, 0, 0, 1],
-        destination: [0xFF; 6],
-        ether_type: EtherType(0x8100),
-    };
-    match ethernet_front(&TAGGED[..len.min(22)]) {
-        Some(front) => {
-            assert_eq!(rt; front.link, link, "{len}");
-            assert_eq!(rt; front.vlan.map(|tag| tag.to_bytes()), tag, "{len}");
+/// Lengths to which the frame is cut, whether it has a whole header then, and its tag.
+static CUTS: [(&str, usize, bool, Option<[u8; 4]>); 5] = [
+    ("all bytes", 22, true, Some([0xB1, 0x23, 0x08, 0x00])),
+    ("18 bytes", 18, true, Some([0xB1, 0x23, 0x08, 0x00])),
+    ("17 bytes", 17, true, None),
+    ("14 bytes", 14, true, None),
+    ("13 bytes", 13, false, None),
+];
+
+const HEADER: Ethernet2Header = Ethernet2Header {
+    source: [2, 0, 0, 0, 0, 1],
+    destination: [0xFF; 6],
+    ether_type: EtherType(0x8100),
+};
+
+#[test]
+fn of_ethernet_2(rt: HostRuntime) {
+    for &(name, len, has_header, wanted) in &CUTS {
+        match ethernet_front(&TAGGED[..len.min(22)]) {
+            Some(front) => {
+                let tag = front.vlan.map(|tag| tag.to_bytes());
+                equal(
+                    &rt,
+                    name,
+                    &(true, front.link, tag),
+                    &(has_header, HEADER, wanted),
+                );
+            }
+            None => equal(&rt, name, &false, &has_header),
         }
-        None => panic!(rt; "{len}: no header"),
     }
 }
 
-#[test]
-fn of_ethernet_2(rt: HostRuntime) -> Result<(), Fail> {
-    begins_with(&rt, 22, Some([0xB1, 0x23, 0x08, 0x00]));
-    begins_with(&rt, 18, Some([0xB1, 0x23, 0x08, 0x00]));
-    begins_with(&rt, 17, None);
-    begins_with(&rt, 14, None);
-    assert!(rt; ethernet_front(&TAGGED[..13]).is_none());
-    Ok(())
-}
+/// The captured frame as one of netlink.
+const NETLINK: [u8; 20] = [
+    0x00, 0x00, 0x03, 0x38, 0x00, 0x06, 0x02, 0x00, 0x00, 0x00, 0x00, 0x01, 0x00, 0x00, 0x88, 0xA8, // cooked capture
+    0x00, 0x0A, 0x08, 0x06, // VLAN
+];
+
+/// A start, a frame from a place to another, and its outer tag.
+type Outer = (
+    &'static str,
+    Start,
+    &'static [u8],
+    usize,
+    usize,
+    Option<[u8; 4]>,
+);
+
+static OUTER: [Outer; 6] = [
+    (
+        "a frame with a check sequence",
+        Start::Ethernet2Fcs,
+        &TAGGED,
+        0,
+        22,
+        Some([0xB1, 0x23, 0x08, 0x00]),
+    ),
+    (
+        "a tag cut by the check sequence",
+        Start::Ethernet2Fcs,
+        &TAGGED,
+        0,
+        21,
+        None,
+    ),
+    (
+        "a cooked capture",
+        Start::LinuxSll,
+        &CAPTURED,
+        0,
+        20,
+        Some([0x00, 0x0A, 0x08, 0x06]),
+    ),
+    ("a cut tag", Start::LinuxSll, &CAPTURED, 0, 19, None),
+    (
+        "no link",
+        Start::EtherType(EtherType(0x8100)),
+        &TAGGED,
+        14,
+        22,
+        None,
+    ),
+    ("netlink", Start::LinuxSll, &NETLINK, 0, 20, None),
+];
 
 #[test]
-fn of_any_start(rt: HostRuntime) -> Result<(), Fail> {
-    let tag = SingleVlanHeader::from_bytes([0xB1, 0x23, 0x08, 0x00]);
-    let captured = SingleVlanHeader::from_bytes([0x00, 0x0A, 0x08, 0x06]);
-    assert_eq!(rt; outer_vlan(Start::Ethernet2Fcs, &TAGGED), Some(tag));
-    assert_eq!(rt; outer_vlan(Start::Ethernet2Fcs, &TAGGED[..21]), None);
-    assert_eq!(rt; outer_vlan(Start::LinuxSll, &CAPTURED), Some(captured));
-    assert_eq!(rt; outer_vlan(Start::LinuxSll, &CAPTURED[..19]), None);
-    assert_eq!(rt;
-        outer_vlan(Start::EtherType(EtherType(0x8100)), &TAGGED[14..]),
-        None
-    );
-    let mut netlink = CAPTURED;
-    netlink[2] = 0x03;
-    netlink[3] = 0x38;
-    assert_eq!(rt; outer_vlan(Start::LinuxSll, &netlink), None);
-    Ok(())
+fn of_any_start(rt: HostRuntime) {
+    for &(name, start, frame, from, to, wanted) in &OUTER {
+        let tag = outer_vlan(start, frame.get(from..to).unwrap_or(&[]));
+        equal(&rt, name, &tag.map(|tag| tag.to_bytes()), &wanted);
+    }
 }

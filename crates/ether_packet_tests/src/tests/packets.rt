@@ -1,4 +1,5 @@
 //! The headers of packets, with what is left and the fault, and the least length to which a frame can be cut.
+use super::equal;
 use super::frames::{
     CHECKED, CONFIDENTIALITY, COOKED_ARP_REQUEST, FOUR_TAGS, INTEGRITY, PADDED_ARP, SECOND_TAG_CUT,
     TAG_IN_SEC_TAG, TWICE_TAGGED_ARP_REQUEST,
@@ -30,16 +31,32 @@ fn short(offset: usize, required_len: usize, len: usize, layer: Layer) -> PeelFa
 
 const MACSEC: Start = Start::EtherType(EtherType::MACSEC);
 
+/// What announces the bytes that are left, if it is no protocol of a cooked capture.
+enum Kind {
+    Start,
+    EtherType(EtherType),
+    Sealed,
+    AfterArp,
+}
+
+fn rest_kind(kind: &Kind) -> RestKind {
+    match kind {
+        Kind::Start => RestKind::Start,
+        Kind::EtherType(ether_type) => RestKind::EtherType(*ether_type),
+        Kind::Sealed => RestKind::Sealed,
+        Kind::AfterArp => RestKind::AfterArp,
+    }
+}
+
 /// What is left of a frame and how it ends: the identifiers of the tags, where the rest starts and ends, its kind, the place, the required
 /// length, the length and the layer of a fault, and the least length to which the frame can be cut.
-#[derive(Clone, Copy)]
 struct Left {
     name: &'static str,
     start: Start,
     frame: &'static [u8],
     ids: &'static [u16],
     rest: (usize, usize),
-    kind: RestKind,
+    kind: Kind,
     fault: Option<(usize, usize, usize, Layer)>,
     least: usize,
 }
@@ -61,9 +78,9 @@ macro_rules! left {
 
 const ETH: Start = Start::Ethernet2;
 
-const IPV4: RestKind = RestKind::EtherType(EtherType::IPV4);
+const IPV4: Kind = Kind::EtherType(EtherType::IPV4);
 
-const VLAN: RestKind = RestKind::EtherType(EtherType::VLAN_TAGGED_FRAME);
+const VLAN: Kind = Kind::EtherType(EtherType::VLAN_TAGGED_FRAME);
 
 const EXAMPLE: [u8; 23] = [
     0xFF, 0xFF, 0xFF, 0xFF, 0xFF, 0xFF, 0x02, 0x00, 0x00, 0x00, 0x00, 0x01, 0x88, 0xA8, 0x00, 0x0A,
@@ -78,64 +95,60 @@ const ONE_TAG: [u8; 19] = [
 const THIRTEEN: [u8; 13] = [0xFF, 0xFF, 0xFF, 0xFF, 0xFF, 0xFF, 2, 0, 0, 0, 0, 1, 0x81];
 
 #[rattlefmt::skip]
-const ROWS: [Left; 12] = [
+static ROWS: [Left; 12] = [
     left!("the example", ETH, &EXAMPLE, &[10, 100], (22, 23), IPV4, None, 22),
     left!("the example of a cut", ETH, &ONE_TAG, &[0x123], (18, 19), IPV4, None, 18),
-    left!("two tags and an ARP packet", ETH, &TWICE_TAGGED_ARP_REQUEST, &[10, 100], (50, 50), RestKind::AfterArp, None, 50),
-    left!("a cooked capture", Start::LinuxSll, &COOKED_ARP_REQUEST, &[], (44, 44), RestKind::AfterArp, None, 44),
-    left!("padding after an ARP packet", ETH, &PADDED_ARP, &[], (42, 60), RestKind::AfterArp, None, 42),
+    left!("two tags and an ARP packet", ETH, &TWICE_TAGGED_ARP_REQUEST, &[10, 100], (50, 50), Kind::AfterArp, None, 50),
+    left!("a cooked capture", Start::LinuxSll, &COOKED_ARP_REQUEST, &[], (44, 44), Kind::AfterArp, None, 44),
+    left!("padding after an ARP packet", ETH, &PADDED_ARP, &[], (42, 60), Kind::AfterArp, None, 42),
     left!("a readable payload", ETH, &INTEGRITY, &[], (30, 70), IPV4, None, 70),
-    left!("a sealed payload", ETH, &CONFIDENTIALITY, &[], (20, 62), RestKind::Sealed, None, 62),
-    left!("a tag in a SecTag", MACSEC, &TAG_IN_SEC_TAG, &[0xABB], (12, 12), RestKind::EtherType(EtherType(0xCCDD)), None, 12),
+    left!("a sealed payload", ETH, &CONFIDENTIALITY, &[], (20, 62), Kind::Sealed, None, 62),
+    left!("a tag in a SecTag", MACSEC, &TAG_IN_SEC_TAG, &[0xABB], (12, 12), Kind::EtherType(EtherType(0xCCDD)), None, 12),
     left!("the fourth tag is left", Start::EtherType(EtherType::VLAN_TAGGED_FRAME), &FOUR_TAGS, &[1, 2, 3], (12, 16), VLAN, None, 12),
     left!("a fault keeps the headers before it", ETH, &SECOND_TAG_CUT, &[1], (18, 20), VLAN, Some((18, 4, 2, Layer::VlanHeader)), 18),
-    left!("a refused link", ETH, &THIRTEEN, &[], (0, 13), RestKind::Start, Some((0, 14, 13, Layer::Ethernet2Header)), 0),
+    left!("a refused link", ETH, &THIRTEEN, &[], (0, 13), Kind::Start, Some((0, 14, 13, Layer::Ethernet2Header)), 0),
     left!("no link after an ether type", Start::EtherType(EtherType::IPV4), &[0x45], &[], (0, 1), IPV4, None, 0),
 ];
 
 /// The packet of a row's frame has these identifiers, this rest, this fault and this least length.
 fn is_left(rt: &impl Abort, row: &Left) {
     let packet = PacketSlice::from_slice(row.start, row.frame);
-    let ids = packet.vlan_ids();
-    assert_eq!(rt; ids.len(), row.ids.len(), "{}", row.name);
-    for (id, number) in ids.iter().zip(row.ids) {
-        assert_eq!(rt; id.value(), *number, "{}", row.name);
+    let mut numbers = [0; 3];
+    for (number, id) in numbers.iter_mut().zip(packet.vlan_ids()) {
+        *number = id.value();
     }
     let (start, end) = row.rest;
-    assert_eq!(rt;
-        Some(packet.rest),
-        row.frame.get(start..end),
-        "{}",
-        row.name
-    );
     // three tags are followed by a fourth one, with which the frame ends
     let least_of_all = if row.ids.len() == 3 {
         row.frame.len()
     } else {
         row.least
     };
-    assert_eq!(rt;
-        (
-            packet.rest_offset,
-            packet.rest_kind,
-            packet.is_complete(),
-            packet.min_snap_len(),
-            min_snap_len(row.start, row.frame)
-        ),
-        (
-            start,
-            row.kind,
-            row.fault.is_none(),
-            row.least,
-            least_of_all
-        ),
-        "{}",
-        row.name
-    );
     let fault = row.fault.map(|(offset, required_len, len, layer)| {
         short(offset, required_len, len, layer)
     });
-    assert_eq!(rt; packet.fault, fault, "{}", row.name);
+    equal(
+        rt,
+        row.name,
+        &(
+            numbers.get(..packet.vlan_ids().len()),
+            Some(packet.rest),
+            packet.rest_offset,
+            packet.rest_kind,
+            packet.is_complete(),
+            [packet.min_snap_len(), min_snap_len(row.start, row.frame)],
+            packet.fault,
+        ),
+        &(
+            Some(row.ids),
+            row.frame.get(start..end),
+            start,
+            rest_kind(&row.kind),
+            row.fault.is_none(),
+            [row.least, least_of_all],
+            fault,
+        ),
+    );
 }
 
 #[test]
@@ -151,7 +164,7 @@ fn cuts_keep(rt: &impl Abort, row: &Left) {
     let whole = snap_limited(start, frame, frame.len(), PacketSlice::LINK_EXTS_CAP);
     for n in 0..=frame.len() {
         let cut = snap_limited(start, frame, n, PacketSlice::LINK_EXTS_CAP);
-        assert_eq!(rt; cut.units == whole.units, row.least <= n, "{}", row.name);
+        equal(rt, row.name, &(cut.units == whole.units), &(row.least <= n));
     }
 }
 
@@ -170,36 +183,33 @@ fn headers_as_views(rt: HostRuntime) -> Result<(), Fail> {
     let inner = SingleVlanSlice::from_slice(&frame[18..])?;
     let link = Ethernet2Slice::from_slice_without_fcs(&frame)?;
     let arp = ArpPacketSlice::from_slice(&frame[22..])?;
-    assert_eq!(rt;
-        (packet.link(), packet.vlan(), packet.arp()),
-        (
-            Some(LinkSlice::Ethernet2(link)),
-            Some(VlanSlice::DoubleVlan(DoubleVlanSlice { outer, inner })),
-            Some(arp)
-        )
-    );
-    let fields = packet
-        .arp()
-        .map(|arp| (arp.operation(), arp.target_protocol_addr().len()));
-    let exts = packet.link_exts();
-    assert_eq!(rt;
-        (fields, exts.len(), packet.arp_offset()),
-        (Some((ArpOperation::REQUEST, 4)), 2, Some(22))
-    );
-    let outer = PacketExt {
+    let first = PacketExt {
         offset: 14,
-        slice: LinkExtSlice::Vlan(SingleVlanSlice::from_slice(&frame[14..])?),
+        slice: LinkExtSlice::Vlan(outer.clone()?),
     };
-    let inner = PacketExt {
+    let last = PacketExt {
         offset: 18,
-        slice: LinkExtSlice::Vlan(SingleVlanSlice::from_slice(&frame[18..])?),
+        slice: LinkExtSlice::Vlan(inner.clone()?),
     };
-    assert_eq!(rt; (exts.first(), exts.last()), (Some(&outer), Some(&inner)));
-    let checked = PacketSlice::from_slice(Start::Ethernet2Fcs, &CHECKED);
-    let link = Ethernet2Slice::from_slice_with_crc32_fcs(&CHECKED)?;
-    assert_eq!(rt;
-        (checked.link(), checked.rest),
-        (Some(LinkSlice::Ethernet2(link)), [0x45].as_slice())
+    let operation = packet.arp().map(|arp| arp.operation());
+    let exts = packet.link_exts();
+    equal(
+        &rt,
+        "a frame with two tags",
+        &(
+            (packet.link(), packet.vlan(), packet.arp()),
+            (operation, packet.arp_offset()),
+            (exts.len(), exts.first(), exts.last()),
+        ),
+        &(
+            (
+                Some(LinkSlice::Ethernet2(link)),
+                Some(VlanSlice::DoubleVlan(DoubleVlanSlice { outer, inner })),
+                Some(arp),
+            ),
+            (Some(ArpOperation::REQUEST), Some(22)),
+            (2, Some(&first), Some(&last)),
+        ),
     );
     Ok(())
 }
@@ -208,87 +218,112 @@ fn headers_as_views(rt: HostRuntime) -> Result<(), Fail> {
 fn sec_tags_as_views(rt: HostRuntime) -> Result<(), Fail> {
     let packet = PacketSlice::from_slice(MACSEC, &TAG_IN_SEC_TAG);
     let tag = SingleVlanSlice::from_slice(&TAG_IN_SEC_TAG[8..12])?;
-    let protected = PacketExt {
+    let first = PacketExt {
         offset: 0,
         slice: LinkExtSlice::Macsec(MacsecSlice::from_slice(&TAG_IN_SEC_TAG)?),
     };
-    let inner = PacketExt {
+    let last = PacketExt {
         offset: 8,
-        slice: LinkExtSlice::Vlan(SingleVlanSlice::from_slice(&TAG_IN_SEC_TAG[8..12])?),
+        slice: LinkExtSlice::Vlan(tag.clone()?),
     };
-    let exts = packet.link_exts();
-    assert_eq!(rt;
-        (exts.len(), exts.first(), exts.last(), packet.vlan()),
-        (
-            2,
-            Some(&protected),
-            Some(&inner),
-            Some(VlanSlice::SingleVlan(tag))
-        )
-    );
-    let packet = PacketSlice::from_slice(Start::Ethernet2, &INTEGRITY);
-    let fields = packet
+    let integrity = PacketSlice::from_slice(Start::Ethernet2, &INTEGRITY);
+    let fields = integrity
         .macsec()
         .map(|tag| (tag.header.packet_nr(), tag.header.sci()));
-    assert_eq!(rt;
-        (fields, packet.vlan()),
-        (Some((0xB2C2_8465, Some(0x1215_3524_C089_5E81))), None)
+    let exts = packet.link_exts();
+    equal(
+        &rt,
+        "a tag in a SecTag, and integrity protection",
+        &(
+            (exts.len(), exts.first(), exts.last(), packet.vlan()),
+            (fields, integrity.vlan()),
+        ),
+        &(
+            (
+                2,
+                Some(&first),
+                Some(&last),
+                Some(VlanSlice::SingleVlan(tag)),
+            ),
+            (Some((0xB2C2_8465, Some(0x1215_3524_C089_5E81))), None),
+        ),
     );
     Ok(())
 }
 
 #[test]
-fn payloads_with_their_types(rt: HostRuntime) -> Result<(), Fail> {
-    let readable = EtherPayloadSlice {
-        ether_type: EtherType::IPV4,
-        len_source: LenSource::MacsecShortLength,
-        payload: &INTEGRITY[30..70],
-    };
-    let request = EtherPayloadSlice {
-        ether_type: EtherType::ARP,
-        len_source: LenSource::Slice,
-        payload: &COOKED_ARP_REQUEST[16..],
-    };
-    for (name, start, frame, wanted) in [
-        (
-            "a readable payload",
-            Start::Ethernet2,
-            INTEGRITY.as_slice(),
-            Some(readable),
+fn links_as_views(rt: HostRuntime) -> Result<(), Fail> {
+    let checked = PacketSlice::from_slice(Start::Ethernet2Fcs, &CHECKED);
+    let frame = Ethernet2Slice::from_slice_with_crc32_fcs(&CHECKED)?;
+    let cooked = PacketSlice::from_slice(Start::LinuxSll, &COOKED_ARP_REQUEST);
+    let capture = LinuxSllSlice::from_slice(&COOKED_ARP_REQUEST)?;
+    let payload = PacketSlice::from_slice(Start::EtherType(EtherType::IPV4), &[0x45]);
+    equal(
+        &rt,
+        "a check sequence, a cooked capture, and no link",
+        &(
+            [checked.link(), cooked.link(), payload.link()],
+            checked.rest,
+            (cooked.link_exts().is_empty(), cooked.macsec()),
         ),
-        ("a sealed payload", Start::Ethernet2, &CONFIDENTIALITY, None),
-        (
-            "a cooked capture",
-            Start::LinuxSll,
-            &COOKED_ARP_REQUEST,
-            Some(request),
+        &(
+            [
+                Some(LinkSlice::Ethernet2(frame)),
+                Some(LinkSlice::LinuxSll(capture)),
+                None,
+            ],
+            [0x45].as_slice(),
+            (true, None),
         ),
-        (
-            "no header",
-            Start::EtherType(EtherType::IPV4),
-            &[0x45],
-            None,
-        ),
-    ] {
-        assert_eq!(rt;
-            PacketSlice::from_slice(start, frame).ether_payload(),
-            wanted,
-            "{name}"
+    );
+    Ok(())
+}
+
+/// A start, a frame, and the ether type, source of the length and place of its payload.
+type Payload = (
+    &'static str,
+    Start,
+    &'static [u8],
+    Option<(EtherType, LenSource, usize, usize)>,
+);
+
+static PAYLOADS: [Payload; 4] = [
+    (
+        "a readable payload",
+        Start::Ethernet2,
+        &INTEGRITY,
+        Some((EtherType::IPV4, LenSource::MacsecShortLength, 30, 70)),
+    ),
+    ("a sealed payload", Start::Ethernet2, &CONFIDENTIALITY, None),
+    (
+        "a cooked capture",
+        Start::LinuxSll,
+        &COOKED_ARP_REQUEST,
+        Some((EtherType::ARP, LenSource::Slice, 16, 44)),
+    ),
+    (
+        "no header",
+        Start::EtherType(EtherType::IPV4),
+        &[0x45],
+        None,
+    ),
+];
+
+#[test]
+fn payloads_with_their_types(rt: HostRuntime) {
+    for &(name, start, frame, wanted) in &PAYLOADS {
+        let payload = wanted.map(|(ether_type, len_source, from, to)| EtherPayloadSlice {
+            ether_type,
+            len_source,
+            payload: frame.get(from..to).unwrap_or(&[]),
+        });
+        equal(
+            &rt,
+            name,
+            &PacketSlice::from_slice(start, frame).ether_payload(),
+            &payload,
         );
     }
-    let packet = PacketSlice::from_slice(Start::LinuxSll, &COOKED_ARP_REQUEST);
-    let link = LinuxSllSlice::from_slice(&COOKED_ARP_REQUEST)?;
-    assert_eq!(rt;
-        (
-            packet.link(),
-            packet.link_exts().is_empty(),
-            packet.macsec()
-        ),
-        (Some(LinkSlice::LinuxSll(link)), true, None)
-    );
-    let packet = PacketSlice::from_slice(Start::EtherType(EtherType::IPV4), &[0x45]);
-    assert_eq!(rt; packet.link(), None);
-    Ok(())
 }
 
 /// The bytes of a tag are shown with the frame alone.
@@ -296,11 +331,14 @@ fn payloads_with_their_types(rt: HostRuntime) -> Result<(), Fail> {
 fn shown_by_debug(rt: HostRuntime) -> Result<(), Fail> {
     let tag = [0x00, 0x0A, 0x08, 0x00, 0x45];
     let packet = PacketSlice::from_slice(Start::EtherType(EtherType::PROVIDER_BRIDGING), &tag);
-    assert_eq!(rt;
-        format!(in rt.alloc(); "{packet:?}")?.as_str(),
-        "PacketSlice { read: PacketUnits { frame: [0, 10, 8, 0, 69], link: Missing, exts: ExtPlaces { first: \
+    let shown = format!(in rt.alloc(); "{packet:?}")?;
+    equal(
+        &rt,
+        "a tag",
+        &shown.as_str(),
+        &"PacketSlice { read: PacketUnits { frame: [0, 10, 8, 0, 69], link: Missing, exts: ExtPlaces { first: \
 Some(ExtPlace { kind: Vlan, place: FrameWindow { start: 0, len: 5 } }), second: None, third: None }, arp: None }, \
-rest: [69], rest_offset: 4, rest_kind: EtherType(0x0800 (Internet Protocol version 4 (IPv4))), fault: None }"
+rest: [69], rest_offset: 4, rest_kind: EtherType(0x0800 (Internet Protocol version 4 (IPv4))), fault: None }",
     );
     Ok(())
 }

@@ -2,6 +2,7 @@
 use super::frames::{
     CHECKED, CONFIDENTIALITY, COOKED_ARP_REQUEST, PADDED_ARP, TWICE_TAGGED_ARP_REQUEST,
 };
+use super::{equal, filled, put};
 use ether_packet::{Difference, PacketSlice, ReplaceError, replace_arp};
 use ether_peel::Start;
 use etherparse::{ArpEthIpv4Packet, ArpHardwareId, ArpOperation, ArpPacket, EtherType};
@@ -35,71 +36,88 @@ fn between(hardware: &[u8], protocol: &[u8]) -> Result<ArpPacket, Fail> {
     )?)
 }
 
-/// Frames whose ARP packet is replaced by the reply, and where it begins, or why it is not.
+const ETH: Start = Start::Ethernet2;
+
+const EXAMPLE: &[u8] = &[
+    0xFF, 0xFF, 0xFF, 0xFF, 0xFF, 0xFF, 0x02, 0x00, 0x00, 0x00, 0x00, 0x01, 0x08, 0x06, 0x00, 0x01,
+    0x08, 0x00, 0x06, 0x04, 0x00, 0x01, 0x02, 0x00, 0x00, 0x00, 0x00, 0x01, 0x0A, 0x00, 0x00, 0x01,
+    0x00, 0x00, 0x00, 0x00, 0x00, 0x00, 0x0A, 0x00, 0x00, 0x02,
+];
+
+/// After the ether type of a VLAN tag: a tag, the captured request and three bytes of padding.
+const PADDED: &[u8] = &[
+    0x01, 0x23, 0x08, 0x06, 0x00, 0x01, 0x08, 0x00, 0x06, 0x04, 0x00, 0x01, 0x02, 0x00, 0x5E, 0x10,
+    0x00, 0x01, 0xC0, 0x00, 0x02, 0x01, 0x00, 0x00, 0x00, 0x00, 0x00, 0x00, 0xC0, 0x00, 0x02, 0x02,
+    0xAA, 0xBB, 0xCC,
+];
+
+/// Frames of a length whose ARP packet is replaced by the reply, and where it begins, or why it is not.
+static FRAMES: [(&str, Start, &[u8], usize, Result<usize, ReplaceError>); 7] = [
+    ("the example", ETH, EXAMPLE, 42, Ok(14)),
+    ("after two tags", ETH, &TWICE_TAGGED_ARP_REQUEST, 50, Ok(22)),
+    (
+        "after a tag and before padding",
+        Start::EtherType(EtherType::VLAN_TAGGED_FRAME),
+        PADDED,
+        35,
+        Ok(4),
+    ),
+    (
+        "in a cooked capture",
+        Start::LinuxSll,
+        &COOKED_ARP_REQUEST,
+        44,
+        Ok(16),
+    ),
+    (
+        "no ARP packet",
+        Start::Ethernet2Fcs,
+        &CHECKED,
+        19,
+        Err(ReplaceError::NoArp),
+    ),
+    (
+        "a sealed payload",
+        ETH,
+        &CONFIDENTIALITY,
+        78,
+        Err(ReplaceError::NoArp),
+    ),
+    (
+        "a packet that is cut short",
+        ETH,
+        &PADDED_ARP,
+        41,
+        Err(ReplaceError::NoArp),
+    ),
+];
+
 #[test]
 fn by_a_reply(rt: HostRuntime) {
-    let example = [
-        0xFF, 0xFF, 0xFF, 0xFF, 0xFF, 0xFF, 0x02, 0x00, 0x00, 0x00, 0x00, 0x01, 0x08, 0x06, 0x00,
-        0x01, 0x08, 0x00, 0x06, 0x04, 0x00, 0x01, 0x02, 0x00, 0x00, 0x00, 0x00, 0x01, 0x0A, 0x00,
-        0x00, 0x01, 0x00, 0x00, 0x00, 0x00, 0x00, 0x00, 0x0A, 0x00, 0x00, 0x02,
-    ];
-    let padded = [
-        0x01, 0x23, 0x08, 0x06, 0x00, 0x01, 0x08, 0x00, 0x06, 0x04, 0x00, 0x01, 0x02, 0x00, 0x5E,
-        0x10, 0x00, 0x01, 0xC0, 0x00, 0x02, 0x01, 0x00, 0x00, 0x00, 0x00, 0x00, 0x00, 0xC0, 0x00,
-        0x02, 0x02, 0xAA, 0xBB, 0xCC,
-    ];
-    let (eth, fcs) = (Start::Ethernet2, Start::Ethernet2Fcs);
-    let tag = Start::EtherType(EtherType::VLAN_TAGGED_FRAME);
     let packet = REPLY.to_arp_packet();
-    for (name, start, frame, wanted) in [
-        ("the example", eth, example.as_slice(), Ok(14)),
-        ("after two tags", eth, &TWICE_TAGGED_ARP_REQUEST, Ok(22)),
-        ("after a tag and before padding", tag, &padded, Ok(4)),
-        (
-            "in a cooked capture",
-            Start::LinuxSll,
-            &COOKED_ARP_REQUEST,
-            Ok(16),
-        ),
-        ("no ARP packet", fcs, &CHECKED, Err(ReplaceError::NoArp)),
-        (
-            "a sealed payload",
-            eth,
-            &CONFIDENTIALITY,
-            Err(ReplaceError::NoArp),
-        ),
-        (
-            "a packet that is cut short",
-            eth,
-            &PADDED_ARP[..41],
-            Err(ReplaceError::NoArp),
-        ),
-    ] {
-        let mut changed = [0; 96];
-        let mut after = [0; 96];
-        for (at, byte) in frame.iter().enumerate().take(96) {
-            changed[at] = *byte;
-            after[at] = *byte;
+    for (name, start, frame, len, wanted) in &FRAMES {
+        let (mut changed, mut after) = (filled(frame), filled(frame));
+        if let Ok(place) = wanted {
+            put(&mut after, *place, &REPLY_BYTES);
         }
-        if let Ok(place) = &wanted {
-            for (to, byte) in after.iter_mut().skip(*place).zip(&REPLY_BYTES) {
-                *to = *byte;
-            }
-        }
-        let replaced = replace_arp(start, &mut changed[..frame.len().min(96)], &packet);
-        assert_eq!(rt;
-            (replaced, changed.as_slice()),
-            (wanted.map(|_| ()), after.as_slice()),
-            "{name}"
+        let replaced = replace_arp(*start, &mut changed[..(*len).min(96)], &packet);
+        let refused = wanted.as_ref().err();
+        equal(
+            &rt,
+            name,
+            &(replaced.as_ref().err(), changed),
+            &(refused, after),
         );
     }
     let mut frame = TWICE_TAGGED_ARP_REQUEST;
-    let replaced = replace_arp(eth, &mut frame, &packet);
-    let read = PacketSlice::from_slice(eth, &frame);
+    let replaced = replace_arp(ETH, &mut frame, &packet);
+    let read = PacketSlice::from_slice(ETH, &frame);
     let arp = read.arp().map(|arp| arp.slice());
-    assert_eq!(rt;
-        (replaced, read.link_ext_count(), read.is_complete(), arp),
-        (Ok(()), 2, true, Some(REPLY_BYTES.as_slice()))
+    equal(
+        &rt,
+        "a reply that is read again",
+        &(replaced, read.link_ext_count(), read.is_complete(), arp),
+        &(Ok(()), 2, true, Some(REPLY_BYTES.as_slice())),
     );
 }
 
@@ -121,22 +139,48 @@ fn by_addresses_of_other_sizes(rt: HostRuntime) -> Result<(), Fail> {
     let wanted = [
         0x00, 0x07, 0x08, 0x00, 0x01, 0x02, 0x00, 0x02, 0x66, 0x44, 0x55, 0x11, 0x22, 0x33, 0xEE,
     ];
-    assert_eq!(rt; (replaced, bytes), (Ok(()), wanted));
-    let zeros = [0; 16];
-    for (hardware, protocol, difference) in [
-        (&zeros[..8], &zeros[..4], Difference::HwAddrLen),
-        (&zeros[..6], &zeros[..16], Difference::ProtocolAddrLen),
-        (&zeros[..4], &zeros[..6], Difference::HwAddrLen),
-    ] {
+    equal(
+        &rt,
+        "as short as those of the frame",
+        &(replaced, bytes),
+        &(Ok(()), wanted),
+    );
+    Ok(())
+}
+
+/// Lengths of hardware and protocol addresses, and which of them the frame has not.
+static LENGTHS: [(&str, &[u8], &[u8], Difference); 3] = [
+    (
+        "longer hardware addresses",
+        &[0; 8],
+        &[0; 4],
+        Difference::HwAddrLen,
+    ),
+    (
+        "longer protocol addresses",
+        &[0; 6],
+        &[0; 16],
+        Difference::ProtocolAddrLen,
+    ),
+    (
+        "other lengths of the same sum",
+        &[0; 4],
+        &[0; 6],
+        Difference::HwAddrLen,
+    ),
+];
+
+#[test]
+fn by_longer_addresses(rt: HostRuntime) -> Result<(), Fail> {
+    for &(name, hardware, protocol, difference) in &LENGTHS {
         let packet = between(hardware, protocol)?;
         let mut frame = PADDED_ARP;
         let replaced = replace_arp(Start::Ethernet2, &mut frame, &packet);
-        assert_eq!(rt;
-            (replaced, frame.as_slice()),
-            (
-                Err(ReplaceError::SaysOther(difference)),
-                PADDED_ARP.as_slice()
-            )
+        equal(
+            &rt,
+            name,
+            &(replaced, frame),
+            &(Err(ReplaceError::SaysOther(difference)), PADDED_ARP),
         );
     }
     Ok(())
