@@ -85,88 +85,119 @@ fn bodies(rt: HostRuntime) -> Result<(), Fail> {
 }
 
 #[test]
-fn bodies_that_are_cut_or_too_long(rt: HostRuntime) {
-    let order = ByteOrder::BigEndian;
+fn simple_packets_that_are_cut(rt: HostRuntime) {
     for len in 0..43 {
-        let cut = |required_len| BodyError::Len { required_len, len };
-        let simple = SimplePacket::from_body(order, 39, &BIG[140..140 + len]);
+        let found = SimplePacket::from_body(ByteOrder::BigEndian, 39, &BIG[140..140 + len]);
+        let required_len = if len < 4 { 4 } else { 43 };
         equal(
             &rt,
             "a simple packet",
-            &simple,
-            &Err(cut(if len < 4 { 4 } else { 43 })),
+            &found,
+            &Err(BodyError::Len { required_len, len }),
         );
-        if len < 36 {
-            let packet = EnhancedPacket::from_body(order, &BIG[92..92 + len]);
-            equal(
-                &rt,
-                "an enhanced packet",
-                &packet,
-                &Err(cut(if len < 20 { 20 } else { 36 })),
-            );
-        }
-        if len < 8 {
-            let interface = InterfaceDescription::from_body(order, &BIG[36..36 + len]);
-            equal(&rt, "an interface", &interface, &Err(cut(8)));
-        }
-    }
-    let mut file = BIG;
-    file[105] = 0x04;
-    let packet = EnhancedPacket::from_body(order, &file[92..128]);
-    equal(
-        &rt,
-        "too many bytes",
-        &packet,
-        &Err(BodyError::CapturedLen(262_160)),
-    );
-    let simple = SimplePacket::from_body(order, 0, &[0x00, 0x04, 0x00, 0x01]);
-    equal(
-        &rt,
-        "one byte too many",
-        &simple,
-        &Err(BodyError::CapturedLen(262_145)),
-    );
-    // a simple packet without a snap length has all its bytes, and one with a great one, too
-    for snap_len in [0, 3, 4, 262_144] {
-        let found = SimplePacket::from_body(order, snap_len, &[0, 0, 0, 3, 1, 2, 3, 0]);
-        let packet = found.ok().map(|found| found.packet);
-        equal(&rt, "not cut", &packet, &Some([1, 2, 3].as_slice()));
     }
 }
 
 #[test]
-fn lengths_that_no_block_has(rt: HostRuntime) {
-    let order = ByteOrder::BigEndian;
-    for total_len in [
-        0,
-        4,
-        11,
-        13,
-        14,
-        15,
-        16_777_216,
-        16_777_217,
-        16_777_220,
-        u32::MAX,
-    ] {
-        let [a, b, c, d] = total_len.to_be_bytes();
-        let bytes = [0, 0, 0, 1, a, b, c, d, 0, 0, 0, 0];
-        let error = if total_len == 16_777_216 {
-            // the greatest
-            BlockError::Len {
-                required_len: 16_777_216,
-                len: 12,
-            }
-        } else {
-            BlockError::TotalLen(total_len)
-        };
+fn enhanced_packets_that_are_cut(rt: HostRuntime) {
+    for len in 0..36 {
+        let found = EnhancedPacket::from_body(ByteOrder::BigEndian, &BIG[92..92 + len]);
+        let required_len = if len < 20 { 20 } else { 36 };
         equal(
             &rt,
-            "a length",
-            &PcapngBlock::from_slice(order, &bytes),
-            &Err(error),
+            "an enhanced packet",
+            &found,
+            &Err(BodyError::Len { required_len, len }),
         );
     }
+}
+
+#[test]
+fn interfaces_that_are_cut(rt: HostRuntime) {
+    for len in 0..8 {
+        let found = InterfaceDescription::from_body(ByteOrder::BigEndian, &BIG[36..36 + len]);
+        equal(
+            &rt,
+            "an interface",
+            &found,
+            &Err(BodyError::Len {
+                required_len: 8,
+                len,
+            }),
+        );
+    }
+}
+
+#[test]
+fn bodies_that_are_too_long(rt: HostRuntime) {
+    let mut file = BIG;
+    file[105] = 0x04;
+    let order = ByteOrder::BigEndian;
+    equal(
+        &rt,
+        "too many bytes, and one byte too many",
+        &(
+            EnhancedPacket::from_body(order, &file[92..128]),
+            SimplePacket::from_body(order, 0, &[0x00, 0x04, 0x00, 0x01]),
+        ),
+        &(
+            Err(BodyError::CapturedLen(262_160)),
+            Err(BodyError::CapturedLen(262_145)),
+        ),
+    );
+}
+
+/// Snap lengths that don't cut a simple packet.
+static SNAP_LENS: [(&str, u32); 4] = [
+    ("none", 0),
+    ("just its length", 3),
+    ("a byte more", 4),
+    ("a great one", 262_144),
+];
+
+#[test]
+fn simple_packets_that_are_not_cut(rt: HostRuntime) -> Result<(), Fail> {
+    for &(name, snap_len) in &SNAP_LENS {
+        let bytes = [0, 0, 0, 3, 1, 2, 3, 0];
+        let found = SimplePacket::from_body(ByteOrder::BigEndian, snap_len, &bytes)?;
+        equal(&rt, name, &found.packet, &[1, 2, 3].as_slice());
+    }
+    Ok(())
+}
+
+/// The length of a block, and why twelve bytes of it are refused.
+static TOTAL_LENS: [(&str, u32, BlockError); 10] = [
+    ("nothing", 0, BlockError::TotalLen(0)),
+    ("four bytes", 4, BlockError::TotalLen(4)),
+    ("eleven bytes", 11, BlockError::TotalLen(11)),
+    ("13 bytes", 13, BlockError::TotalLen(13)),
+    ("14 bytes", 14, BlockError::TotalLen(14)),
+    ("15 bytes", 15, BlockError::TotalLen(15)),
+    (
+        "the greatest",
+        16_777_216,
+        BlockError::Len {
+            required_len: 16_777_216,
+            len: 12,
+        },
+    ),
+    ("one more", 16_777_217, BlockError::TotalLen(16_777_217)),
+    ("four more", 16_777_220, BlockError::TotalLen(16_777_220)),
+    ("all bits", u32::MAX, BlockError::TotalLen(u32::MAX)),
+];
+
+#[test]
+fn lengths_that_no_block_has(rt: HostRuntime) {
+    for (name, total_len, error) in &TOTAL_LENS {
+        let [a, b, c, d] = total_len.to_be_bytes();
+        let bytes = [0, 0, 0, 1, a, b, c, d, 0, 0, 0, 0];
+        let found = PcapngBlock::from_slice(ByteOrder::BigEndian, &bytes).err();
+        equal(&rt, name, &found.as_ref(), &Some(error));
+    }
+}
+
+#[test]
+fn another_length_at_the_end(rt: HostRuntime) {
     let mut file = BIG;
     file[67] = 44;
     let error = BlockError::Trailer {
@@ -175,8 +206,8 @@ fn lengths_that_no_block_has(rt: HostRuntime) {
     };
     equal(
         &rt,
-        "another at the end",
-        &PcapngBlock::from_slice(order, &file[28..]),
+        "44 in the place of 40",
+        &PcapngBlock::from_slice(ByteOrder::BigEndian, &file[28..]),
         &Err(error),
     );
 }
@@ -208,63 +239,66 @@ fn section_headers(rt: HostRuntime) {
 }
 
 /// The bytes of a section header that are changed, from a place on, and why it is refused.
+static REFUSED: [(&str, usize, &[u8], SectionError); 8] = [
+    (
+        "another type",
+        0,
+        &[0x0B],
+        SectionError::BlockType(0x0B0D_0D0A),
+    ),
+    (
+        "a classic file",
+        0,
+        &[0xA1, 0xB2, 0xC3, 0xD4],
+        SectionError::BlockType(0xA1B2_C3D4),
+    ),
+    (
+        "another magic",
+        11,
+        &[0x4E],
+        SectionError::Magic(0x1A2B_3C4E),
+    ),
+    (
+        "a length of 29",
+        7,
+        &[0x1D],
+        SectionError::Block(BlockError::TotalLen(29)),
+    ),
+    (
+        "version 2.0",
+        13,
+        &[2],
+        SectionError::Version { major: 2, minor: 0 },
+    ),
+    (
+        "version 1.1",
+        15,
+        &[1],
+        SectionError::Version { major: 1, minor: 1 },
+    ),
+    (
+        "version 1.3",
+        15,
+        &[3],
+        SectionError::Version { major: 1, minor: 3 },
+    ),
+    (
+        "without its fields",
+        4,
+        &[0, 0, 0, 0x10, 0x1A, 0x2B, 0x3C, 0x4D, 0, 0, 0, 0x10],
+        SectionError::Body {
+            required_len: 16,
+            len: 4,
+        },
+    ),
+];
+
 #[test]
 fn refused_section_headers(rt: HostRuntime) {
-    for (name, place, bytes, error) in [
-        (
-            "another type",
-            0,
-            [0x0B].as_slice(),
-            SectionError::BlockType(0x0B0D_0D0A),
-        ),
-        (
-            "a classic file",
-            0,
-            &[0xA1, 0xB2, 0xC3, 0xD4],
-            SectionError::BlockType(0xA1B2_C3D4),
-        ),
-        (
-            "another magic",
-            11,
-            &[0x4E],
-            SectionError::Magic(0x1A2B_3C4E),
-        ),
-        (
-            "a length of 29",
-            7,
-            &[0x1D],
-            SectionError::Block(BlockError::TotalLen(29)),
-        ),
-        (
-            "version 2.0",
-            13,
-            &[2],
-            SectionError::Version { major: 2, minor: 0 },
-        ),
-        (
-            "version 1.1",
-            15,
-            &[1],
-            SectionError::Version { major: 1, minor: 1 },
-        ),
-        (
-            "version 1.3",
-            15,
-            &[3],
-            SectionError::Version { major: 1, minor: 3 },
-        ),
-        (
-            "without its fields",
-            4,
-            &[0, 0, 0, 0x10, 0x1A, 0x2B, 0x3C, 0x4D, 0, 0, 0, 0x10],
-            SectionError::Body {
-                required_len: 16,
-                len: 4,
-            },
-        ),
-    ] {
+    for (name, place, bytes, error) in &REFUSED {
         let mut file = BIG;
-        put(&mut file, place, bytes);
-        equal(&rt, name, &SectionHeader::from_slice(&file), &Err(error));
+        put(&mut file, *place, bytes);
+        let found = SectionHeader::from_slice(&file).err();
+        equal(&rt, name, &found.as_ref(), &Some(error));
     }
 }

@@ -101,16 +101,16 @@ fn of_classic_files(rt: HostRuntime) -> Result<(), Fail> {
     );
     let mut records = PcapRecords::from_slice(&FILE)?;
     let link_type = records.header().link_type;
-    let packet = records
-        .next()
-        .and_then(|record| record.ok())
-        .map(|record| record.packet);
+    let packet = match records.next() {
+        Some(Ok(record)) => record.packet,
+        _ => &[],
+    };
     let is_over = records.next().is_none();
     equal(
         &rt,
         "the records of a file",
         &(link_type, packet, is_over, records.offset()),
-        &(LinkType::ETHERNET, Some([0xFF].as_slice()), true, 41),
+        &(LinkType::ETHERNET, [0xFF].as_slice(), true, 41),
     );
     Ok(())
 }
@@ -207,7 +207,16 @@ fn of_a_reader(rt: HostRuntime) -> Result<(), Fail> {
         fcs_len: None,
         packet: &[0xFF],
     };
-    let units = [(24, None), (17, Some(packet))].map(|(len, packet)| CaptureUnit { len, packet });
+    let units = [
+        CaptureUnit {
+            len: 24,
+            packet: None,
+        },
+        CaptureUnit {
+            len: 17,
+            packet: Some(packet),
+        },
+    ];
     equal(
         &rt,
         "the units of a file",

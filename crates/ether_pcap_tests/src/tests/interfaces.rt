@@ -3,89 +3,67 @@ use super::equal;
 use super::pcapng_captures::{BIG, LITTLE};
 use ether_pcap::{ByteOrder, InterfaceDescription, LinkType};
 
-/// Options, and the length of the frame check sequence and the resolution of times that they name. Of both files Wireshark's `capinfos`
-/// shows 0 bytes and a resolution of 9.
+/// A place of options in bytes, and the length of the frame check sequence and the resolution of times that they name.
+type Row = (
+    &'static str,
+    ByteOrder,
+    &'static [u8],
+    usize,
+    usize,
+    Option<u8>,
+    Option<u8>,
+);
+
+const NAMED: &[u8] = &[
+    0x00, 0x02, 0x00, 0x05, b'e', b't', b'h', b'1', b'0', 0x00, 0x00, 0x00, // if_name
+    0x00, 0x09, 0x00, 0x01, 0x86, 0x00, 0x00, 0x00, // if_tsresol
+];
+
+const TWO: &[u8] = &[
+    0x00, 0x0D, 0x00, 0x01, 0x04, 0x00, 0x00, 0x00, //
+    0x00, 0x0D, 0x00, 0x01, 0x00, 0x00, 0x00, 0x00, //
+];
+
+const ENDED: &[u8] = &[
+    0x00, 0x00, 0x00, 0x00, //
+    0x00, 0x0D, 0x00, 0x01, 0x04, 0x00, 0x00, 0x00, //
+];
+
+const SWAPPED: &[u8] = &[0x0D, 0x00, 0x01, 0x00, 0x04, 0x00, 0x00, 0x00];
+
+const BE: ByteOrder = ByteOrder::BigEndian;
+
+const LE: ByteOrder = ByteOrder::LittleEndian;
+
+/// Of both files Wireshark's `capinfos` shows 0 bytes and a resolution of 9.
+#[rattlefmt::skip]
+static OPTIONS: [Row; 11] = [
+    ("the most significant byte first", BE, &BIG, 44, 64, Some(0), Some(9)),
+    ("the least significant byte first", LE, &LITTLE, 44, 64, Some(0), Some(9)),
+    ("after a padded name", BE, NAMED, 0, 20, None, Some(0x86)),
+    ("the first of two", BE, TWO, 0, 16, Some(4), None),
+    ("not after the end", BE, ENDED, 0, 12, None, None),
+    ("a number of no byte", BE, &[0x00, 0x0D, 0x00, 0, 4, 4, 4, 4], 0, 8, None, None),
+    ("a number of two bytes", BE, &[0x00, 0x0D, 0x00, 2, 4, 4, 4, 4], 0, 8, None, None),
+    ("a number of three bytes", BE, &[0x00, 0x0D, 0x00, 3, 4, 4, 4, 4], 0, 8, None, None),
+    ("a number of four bytes", BE, &[0x00, 0x0D, 0x00, 4, 4, 4, 4, 4], 0, 8, None, None),
+    ("in the order of the section", LE, SWAPPED, 0, 8, Some(4), None),
+    ("in the other order", BE, SWAPPED, 0, 8, None, None),
+];
+
 #[test]
 fn options(rt: HostRuntime) {
-    let (big, little) = (ByteOrder::BigEndian, ByteOrder::LittleEndian);
-    let named = [
-        0x00, 0x02, 0x00, 0x05, b'e', b't', b'h', b'1', b'0', 0x00, 0x00, 0x00, // if_name
-        0x00, 0x09, 0x00, 0x01, 0x86, 0x00, 0x00, 0x00, // if_tsresol
-    ];
-    let two = [
-        0x00, 0x0D, 0x00, 0x01, 0x04, 0x00, 0x00, 0x00, //
-        0x00, 0x0D, 0x00, 0x01, 0x00, 0x00, 0x00, 0x00, //
-    ];
-    let ended = [
-        0x00, 0x00, 0x00, 0x00, //
-        0x00, 0x0D, 0x00, 0x01, 0x04, 0x00, 0x00, 0x00, //
-    ];
-    let swapped = [0x0D, 0x00, 0x01, 0x00, 0x04, 0x00, 0x00, 0x00];
-    for (name, order, options, fcs_len, resolution) in [
-        (
-            "the most significant byte first",
-            big,
-            &BIG[44..64],
-            Some(0),
-            Some(9),
-        ),
-        (
-            "the least significant byte first",
-            little,
-            &LITTLE[44..64],
-            Some(0),
-            Some(9),
-        ),
-        ("after a padded name", big, &named, None, Some(0x86)),
-        ("the first of two", big, &two, Some(4), None),
-        ("not after the end", big, &ended, None, None),
-        (
-            "a number of no byte",
-            big,
-            &[0x00, 0x0D, 0x00, 0, 4, 4, 4, 4],
-            None,
-            None,
-        ),
-        (
-            "a number of two bytes",
-            big,
-            &[0x00, 0x0D, 0x00, 2, 4, 4, 4, 4],
-            None,
-            None,
-        ),
-        (
-            "a number of three bytes",
-            big,
-            &[0x00, 0x0D, 0x00, 3, 4, 4, 4, 4],
-            None,
-            None,
-        ),
-        (
-            "a number of four bytes",
-            big,
-            &[0x00, 0x0D, 0x00, 4, 4, 4, 4, 4],
-            None,
-            None,
-        ),
-        (
-            "in the order of the section",
-            little,
-            &swapped,
-            Some(4),
-            None,
-        ),
-        ("in the other order", big, &swapped, None, None),
-    ] {
+    for &(name, order, bytes, from, to, fcs_len, resolution) in &OPTIONS {
         let interface = InterfaceDescription {
             link_type: LinkType::ETHERNET,
             snap_len: 0,
-            options,
+            options: bytes.get(from..to).unwrap_or(&[]),
         };
         equal(
             &rt,
             name,
-            &(interface.fcs_len(order), interface.time_resolution(order)),
-            &(fcs_len, resolution),
+            &[interface.fcs_len(order), interface.time_resolution(order)],
+            &[fcs_len, resolution],
         );
     }
 }

@@ -4,53 +4,38 @@ use super::equal;
 use super::pcapng_captures::{BIG, LITTLE};
 use ether_pcap::{CaptureError, CaptureFault, CapturePackets, RecordError};
 
+/// A capture, and the places of its packets.
+static CAPTURES: [(&str, &[u8], &[(usize, usize)]); 5] = [
+    ("microseconds", &BIG_MICROSECONDS, &[(40, 82), (98, 114)]),
+    ("check sequence", &LITTLE_FCS, &[(40, 60)]),
+    ("cooked capture", &BIG_SLL, &[(40, 57)]),
+    ("pcapng, big-endian", &BIG, &[(112, 128), (144, 183)]),
+    ("pcapng, little-endian", &LITTLE, &[(112, 128), (144, 183)]),
+];
+
 #[test]
 fn of_whole_files(rt: HostRuntime) {
-    for (name, file, places) in [
-        (
-            "microseconds",
-            BIG_MICROSECONDS.as_slice(),
-            [(40, 82), (98, 114)].as_slice(),
-        ),
-        ("check sequence", LITTLE_FCS.as_slice(), &[(40, 60)]),
-        ("cooked capture", BIG_SLL.as_slice(), &[(40, 57)]),
-        (
-            "pcapng, big-endian",
-            BIG.as_slice(),
-            &[(112, 128), (144, 183)],
-        ),
-        (
-            "pcapng, little-endian",
-            LITTLE.as_slice(),
-            &[(112, 128), (144, 183)],
-        ),
-    ] {
+    for (name, file, places) in &CAPTURES {
         let mut packets = CapturePackets::from_slice(file);
-        for (start, end) in places {
-            let found = packets.next().and_then(|packet| packet.ok());
-            equal(
-                &rt,
-                name,
-                &found.map(|found| found.packet),
-                &file.get(*start..*end),
-            );
+        for (start, end) in *places {
+            let found = match packets.next() {
+                Some(Ok(found)) => Some(found.packet),
+                _ => None,
+            };
+            equal(&rt, name, &found, &file.get(*start..*end));
         }
-        equal(&rt, name, &packets.next(), &None);
-        equal(&rt, name, &packets.offset(), &file.len());
+        let is_over = packets.next().is_none();
+        equal(&rt, name, &(is_over, packets.offset()), &(true, file.len()));
     }
 }
 
 #[test]
 fn before_a_cut_record(rt: HostRuntime) {
-    let file = BIG_MICROSECONDS.get(..100).unwrap_or(&[]);
-    let mut packets = CapturePackets::from_slice(file);
-    let first = packets.next().and_then(|packet| packet.ok());
-    equal(
-        &rt,
-        "first packet",
-        &first.map(|first| first.original_len),
-        &Some(60),
-    );
+    let mut packets = CapturePackets::from_slice(&BIG_MICROSECONDS[..100]);
+    let first = match packets.next() {
+        Some(Ok(first)) => first.original_len,
+        _ => 0,
+    };
     let fault = CaptureFault {
         offset: 82,
         error: CaptureError::Record(RecordError::Len {
@@ -58,12 +43,18 @@ fn before_a_cut_record(rt: HostRuntime) {
             len: 18,
         }),
     };
-    equal(&rt, "second packet", &packets.next(), &Some(Err(fault)));
-    equal(&rt, "after the fault", &packets.next(), &None);
+    let second = packets.next();
+    let is_over = packets.next().is_none();
     equal(
         &rt,
-        "what is left",
-        &(packets.offset(), packets.rest().len()),
-        &(82, 18),
+        "a packet, a fault and no more",
+        &(
+            first,
+            second,
+            is_over,
+            packets.offset(),
+            packets.rest().len(),
+        ),
+        &(60, Some(Err(fault)), true, 82, 18),
     );
 }

@@ -61,59 +61,21 @@ fn reader_at(file: &[u8; 508], number: usize) -> Result<CaptureReader, Fail> {
     Ok(reader)
 }
 
-/// The packets of the units of these numbers.
+/// The number of a unit, and the nanoseconds, original length, link type, length of a frame check sequence and place of its packet.
+#[rattlefmt::skip]
+static PACKETS: [(&str, usize, u32, Option<u32>, u32, LinkType, Option<u8>, usize, usize); 5] = [
+    ("the second interface", 3, 1, Some(123_456_789), 60, LinkType::LINUX_SLL, None, 128, 145),
+    ("the first interface", 4, 0, Some(123_456_000), 16, LinkType::ETHERNET, Some(4), 180, 196),
+    ("powers of two", 9, 0, Some(333_007_812), 16, LinkType::ETHERNET, None, 356, 372),
+    ("whole seconds", 10, 1, Some(0), 16, LinkType::ETHERNET, None, 404, 420),
+    ("a simple packet", 12, 0, None, 16, LinkType::ETHERNET, None, 488, 504),
+];
+
 #[test]
 fn packets_of_both_sections(rt: HostRuntime) -> Result<(), Fail> {
-    let (ethernet, sll) = (LinkType::ETHERNET, LinkType::LINUX_SLL);
-    for (name, number, interface, time, original_len, link_type, fcs_len, start, end) in [
-        (
-            "the second interface",
-            3,
-            1,
-            Some(123_456_789),
-            60,
-            sll,
-            None,
-            128,
-            145,
-        ),
-        (
-            "the first interface",
-            4,
-            0,
-            Some(123_456_000),
-            16,
-            ethernet,
-            Some(4),
-            180,
-            196,
-        ),
-        (
-            "powers of two",
-            9,
-            0,
-            Some(333_007_812),
-            16,
-            ethernet,
-            None,
-            356,
-            372,
-        ),
-        (
-            "whole seconds",
-            10,
-            1,
-            Some(0),
-            16,
-            ethernet,
-            None,
-            404,
-            420,
-        ),
-        ("a simple packet", 12, 0, None, 16, ethernet, None, 488, 504),
-    ] {
+    for &(name, number, interface, time, original_len, link_type, fcs_len, start, end) in &PACKETS {
         let mut reader = reader_at(&SECTIONS, number)?;
-        let unit = reader.read(&SECTIONS[PLACES[number]..])?;
+        let unit = reader.read(&SECTIONS[PLACES[number.min(13)].min(508)..])?;
         let packet = CapturedPacket {
             time: time.map(|nanoseconds| Timestamp {
                 seconds: 1_700_000_000,
@@ -123,7 +85,7 @@ fn packets_of_both_sections(rt: HostRuntime) -> Result<(), Fail> {
             original_len,
             link_type,
             fcs_len,
-            packet: &SECTIONS[start..end],
+            packet: SECTIONS.get(start..end).unwrap_or(&[]),
         };
         equal(&rt, name, &unit.packet, &Some(packet));
     }
@@ -156,67 +118,42 @@ fn cuts(rt: HostRuntime) -> Result<(), Fail> {
     Ok(())
 }
 
-/// Changes a byte of the file, and reads at a place after the units before a number.
+/// The file with other bytes from some places on.
+fn changed(changes: &[(usize, &[u8])]) -> [u8; 508] {
+    let mut file = SECTIONS;
+    for (place, bytes) in changes {
+        put(&mut file, *place, bytes);
+    }
+    file
+}
+
+/// Other bytes, the number of units that are read before, the place that is read then, and why it is refused.
+type Refused = (
+    &'static str,
+    &'static [(usize, &'static [u8])],
+    usize,
+    usize,
+    CaptureError,
+);
+
+#[rattlefmt::skip]
+static REFUSED: [Refused; 7] = [
+    ("an interface that is not described", &[(111, &[2])], 3, 100, CaptureError::NoInterface(2)),
+    ("one of the second section", &[(336, &[3])], 9, 328, CaptureError::NoInterface(3)),
+    ("an interface of the section before", &[], 7, 376, CaptureError::NoInterface(1)),
+    ("a simple packet without one", &[], 6, 476, CaptureError::NoInterface(0)),
+    ("another length at the end", &[(67, &[41])], 1, 28, CaptureError::Block(BlockError::Trailer { total_len: 40, trailer: 41 })),
+    ("a captured length above the block", &[(122, &[1])], 3, 100, CaptureError::Body(BodyError::Len { required_len: 293, len: 40 })),
+    ("one of the first interface", &[(174, &[1])], 4, 152, CaptureError::Body(BodyError::Len { required_len: 292, len: 36 })),
+];
+
 #[test]
 fn refused_units(rt: HostRuntime) -> Result<(), Fail> {
-    let trailer = CaptureError::Block(BlockError::Trailer {
-        total_len: 40,
-        trailer: 41,
-    });
-    let body = |required_len, len| CaptureError::Body(BodyError::Len { required_len, len });
-    for (name, place, byte, number, start, error) in [
-        (
-            "an interface that is not described",
-            111,
-            2,
-            3,
-            100,
-            CaptureError::NoInterface(2),
-        ),
-        (
-            "one of the second section",
-            336,
-            3,
-            9,
-            328,
-            CaptureError::NoInterface(3),
-        ),
-        (
-            "an interface of the section before",
-            0,
-            0x0A,
-            7,
-            376,
-            CaptureError::NoInterface(1),
-        ),
-        (
-            "a simple packet without one",
-            0,
-            0x0A,
-            6,
-            476,
-            CaptureError::NoInterface(0),
-        ),
-        ("another length at the end", 67, 41, 1, 28, trailer),
-        (
-            "a captured length above the block",
-            122,
-            1,
-            3,
-            100,
-            body(293, 40),
-        ),
-        ("one of the first interface", 174, 1, 4, 152, body(292, 36)),
-    ] {
-        let mut file = SECTIONS;
-        put(&mut file, place, &[byte]);
-        let mut reader = reader_at(&file, number)?;
-        equal(
-            &rt,
-            name,
-            &reader.read(file.get(start..).unwrap_or(&[])),
-            &Err(error),
-        );
+    for (name, changes, number, start, error) in &REFUSED {
+        let file = changed(changes);
+        let mut reader = reader_at(&file, *number)?;
+        let found = reader.read(file.get(*start..).unwrap_or(&[])).err();
+        equal(&rt, name, &found.as_ref(), &Some(error));
     }
     Ok(())
 }
@@ -239,52 +176,36 @@ fn too_many_interfaces(rt: HostRuntime) -> Result<(), Fail> {
     Ok(())
 }
 
+/// Other bytes, the number of units that are read before, where the next one begins, and its seconds and nanoseconds.
+type Shifted = (
+    &'static str,
+    &'static [(usize, &'static [u8])],
+    usize,
+    usize,
+    u64,
+    u32,
+);
+
 /// A packet of an interface whose times are an hour later, and a second earlier; and a packet as an obsolete block of type 2, whose
 /// interface has two bytes. Wireshark's `tshark` shows these times.
+#[rattlefmt::skip]
+static SHIFTED: [Shifted; 3] = [
+    ("an hour later", &[], 11, 424, 1_700_003_600, 123_456_000),
+    ("a second earlier", &[(312, &[0xFF; 8])], 11, 424, 1_699_999_999, 123_456_000),
+    ("an obsolete packet", &[(103, &[2]), (108, &[0, 1, 0xFF, 0xFF])], 3, 100, 1_700_000_000, 123_456_789),
+];
+
 #[test]
 fn shifted_times_and_an_obsolete_packet(rt: HostRuntime) -> Result<(), Fail> {
-    let mut earlier = SECTIONS;
-    earlier[312..320].copy_from_slice(&[0xFF; 8]);
-    let mut obsolete = SECTIONS;
-    obsolete[103] = 2;
-    obsolete[108..112].copy_from_slice(&[0, 1, 0xFF, 0xFF]);
-    for (name, file, number, start, seconds, nanoseconds) in [
-        (
-            "an hour later",
-            &SECTIONS,
-            11,
-            424,
-            1_700_003_600,
-            123_456_000,
-        ),
-        (
-            "a second earlier",
-            &earlier,
-            11,
-            424,
-            1_699_999_999,
-            123_456_000,
-        ),
-        (
-            "an obsolete packet",
-            &obsolete,
-            3,
-            100,
-            1_700_000_000,
-            123_456_789,
-        ),
-    ] {
-        let mut reader = reader_at(file, number)?;
-        let packet = reader.read(&file[start..])?.packet;
-        equal(
-            &rt,
-            name,
-            &packet.and_then(|packet| packet.time),
-            &Some(Timestamp {
-                seconds,
-                nanoseconds,
-            }),
-        );
+    for &(name, changes, number, start, seconds, nanoseconds) in &SHIFTED {
+        let file = changed(changes);
+        let mut reader = reader_at(&file, number)?;
+        let packet = reader.read(file.get(start..).unwrap_or(&[]))?.packet;
+        let time = Some(Timestamp {
+            seconds,
+            nanoseconds,
+        });
+        equal(&rt, name, &packet.and_then(|packet| packet.time), &time);
     }
     Ok(())
 }
