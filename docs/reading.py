@@ -162,7 +162,7 @@ ORDER = {
         ether_capture: Run Options
         ether_pcap: Texts PcapngTexts CaptureTexts
         ether_filter: ErrorTexts
-        ether_capture: Outcome Program Tags
+        ether_capture: Outcome Files Program Tags
     """,
     "C": """
         ether_c: Numbers Starts Found Units Walk

@@ -16,7 +16,7 @@ from dataclasses import dataclass
 from programs import count, run, run_in_pieces, run_until_a_fault, on_a_full_disk
 
 FAILED = ("ether_capture: input or output failed\n", 4)
-USAGE = "usage: ether_capture [[--plain] [--limit N] | --write [--cut-to-headers | --pop-vlan | --push-vlan TPID:ID | --set-vlan A:B]] [--select EXPR] [-c N] [FILE]\n"
+USAGE = "usage: ether_capture [[--plain] [--limit N] | --write [--cut-to-headers | --pop-vlan | --push-vlan TPID:ID | --set-vlan A:B]] [--select EXPR] [-c N] [FILE]..\n"
 
 
 def joined(*parts):
@@ -364,11 +364,13 @@ WRONG = [
     ("a limit of a copy", ["--write", "--limit", "1"]),
     ("a limit of an edited copy", ["--limit", "0", "--cut-to-headers", "--write"]),
     ("a number after a file", ["one", "-c", "1"]),
+    ("an option between files", ["one", "--plain", "two"]),
+    ("an option after files", ["one", "two", "--help"]),
+    ("a copy of two files", ["--write", "one", "two"]),
+    ("an edited copy of three files", ["--pop-vlan", "--write", "one", "two", "three"]),
     ("an option that is none", ["--plane"]),
     ("a word twice", ["--plain", "--plain"]),
     ("an option after a file", ["plain", "--plain"]),
-    ("two files", ["one", "two"]),
-    ("three words", ["--plain", "one", "two"]),
     ("standard input by a hyphen", ["-"]),
     ("an expression that is missing", ["--select"]),
     ("lines and a copy", ["--plain", "--write"]),
@@ -401,7 +403,7 @@ WRONG = [
     ("a tag more and another identifier", ["--write", "--push-vlan", "0x8100:5", "--set-vlan", "5:6"]),
     ("help and a copy", ["--write", "--help"]),
     ("the version and a file", ["--version", "one"]),
-    ("five words", ["--plain", "--select", "arp", "one", "two"]),
+    ("standard input by a hyphen, and a file", ["--plain", "one", "-"]),
 ]
 
 
@@ -594,6 +596,87 @@ COPIES += [
 ]
 
 
+def part(lines, before):
+    """The lines of a capture that comes after so many packets, without the totals."""
+    found = []
+    for line in lines.splitlines(True):
+        if line.startswith("frame "):
+            _, number, rest = line.split(" ", 2)
+            line = f"frame {int(number) + before} {rest}"
+        if not line.startswith("total"):
+            found.append(line)
+    return "".join(found)
+
+
+def totals(frames, skipped):
+    return f"total frames {frames} skipped {skipped}\n"
+
+
+# Several files: those that are there, and the words, the lines and the status of each run over some of them.
+FILES = {"one.pcap": CLASSIC, "two.pcapng": SECTIONS, "fcs.pcap": WITH_FCS, "cut.pcap": CLASSIC[:120], "none.pcap": CLASSIC[:24], "empty": b"",
+         "packed.gz": gzip.compress(CLASSIC, mtime=0), "six.pcap": classic(*SIX), "v2.pcap": TAGGED_V2}
+CUT = "cut.pcap: " + record_is_cut(59, 62, 61)
+EMPTY = "empty: byte 0: The header of a pcap file needs 24 byte(s); only 0 are available.\n"
+ONE_TWO = part(CLASSIC_LINES, 0) + part(SECTION_LINES, 2)
+THIRD = part(SECTION_LINES, 2)[:part(SECTION_LINES, 2).index("frame 4")]
+SEVERAL_FILES = [
+    ("both formats", ["one.pcap", "two.pcapng"], ONE_TWO + totals(6, 1), 1),
+    ("the walks of both", ["--plain", "one.pcap", "two.pcapng"], plain(ONE_TWO), 1),
+    ("a file twice", ["two.pcapng", "two.pcapng"], part(SECTION_LINES, 0) + part(SECTION_LINES, 4) + totals(8, 2), 1),
+    ("three files", ["fcs.pcap", "one.pcap", "none.pcap"], part(FCS_LINES, 0) + part(CLASSIC_LINES, 2) + totals(4, 0), 1),
+    ("no frame that is refused", ["fcs.pcap", "none.pcap", "fcs.pcap"], part(FCS_LINES, 0) + part(FCS_LINES, 2) + totals(4, 0), 0),
+    ("no packet", ["none.pcap", "none.pcap"], totals(0, 0), 0),
+    ("a file that is not there", ["one.pcap", "no.pcap", "two.pcapng"],
+     part(CLASSIC_LINES, 0) + "no.pcap: can't be opened\n" + part(SECTION_LINES, 2) + totals(6, 1), 4),
+    ("no file that is there", ["--plain", "no.pcap", ""], "no.pcap: can't be opened\n: can't be opened\n", 4),
+    ("a folder", [os.curdir, "fcs.pcap"], ".: can't be read\n" + FCS_LINES, 4),
+    ("a fault in the first", ["cut.pcap", "one.pcap"], FIRST_LINES + CUT + part(CLASSIC_LINES, 1) + totals(3, 0), 3),
+    ("a fault in the last", ["--plain", "one.pcap", "cut.pcap"], plain(CLASSIC_LINES) + plain(FIRST_LINES) + CUT, 3),
+    ("faults, and a file that is not there", ["empty", "no.pcap", "cut.pcap"],
+     EMPTY + "no.pcap: can't be opened\n" + FIRST_LINES + CUT + totals(1, 0), 4),
+    ("a packed capture", ["packed.gz", "fcs.pcap"],
+     "packed.gz: byte 0: The magic number 0x1F8B0800 is not that of a pcap file. This looks like gzip: zcat unpacks it.\n" + FCS_LINES, 3),
+    ("packets of two files", ["-c", "3", "one.pcap", "two.pcapng"], part(CLASSIC_LINES, 0) + THIRD + totals(3, 0), 1),
+    ("packets of the first alone", ["-c", "2", "one.pcap", "no.pcap"], CLASSIC_LINES, 1),
+    ("all packets there are", ["-c", "6", "one.pcap", "two.pcapng", "no.pcap"], ONE_TWO + totals(6, 1), 1),
+    ("more than there are", ["-c", "7", "one.pcap", "two.pcapng"], ONE_TWO + totals(6, 1), 1),
+    ("a packet before a fault, and one after it", ["-c", "2", "cut.pcap", "one.pcap", "no.pcap"],
+     FIRST_LINES + CUT + part(FIRST_LINES, 1) + totals(2, 0), 3),
+    ("the second packet that a filter selects", ["-c", "2", "--select", "not refused and vlan 291", "one.pcap", "two.pcapng", "cut.pcap"],
+     part(CLASSIC_LINES, 0).replace(FIRST_LINES, "") + part(SECTION_LINES, 2)[part(SECTION_LINES, 2).index("frame 5"):part(SECTION_LINES, 2).index("frame 6")]
+     + totals(5, 0), 0),
+    ("a limit", ["--limit", "0", "--plain", "--select", "outer vlan 100", "six.pcap", "six.pcap"], 2 * (plain(DOUBLE) + "rest 14 23 type 0x88A8\n"), 0),
+    ("a limit after a header of cooked capture v2", ["--plain", "--limit", "0", "none.pcap", "v2.pcap"], V2_LINE + "rest 20 25 type 0x8100\n", 0),
+]
+
+
+def several(program):
+    """Runs over several files, also with little memory, to a full disk and to a reader that has gone."""
+    with tempfile.TemporaryDirectory() as folder:
+        for name, capture in FILES.items():
+            with open(os.path.join(folder, name), "wb") as file:
+                file.write(capture)
+        with open(os.path.join(folder, "large"), "wb") as file:
+            file.write(secrets(16_777_216, 16_777_216))
+        here = os.getcwd()
+        os.chdir(folder)
+        try:
+            tried = [(f"several files: {name}", run(program, words, CLASSIC), (text, status)) for name, words, text, status in SEVERAL_FILES]
+            found = without_memory(program, b"", ["no", "large", "fcs.pcap"])
+            wanted = "no: can't be opened\n" + ONE_LINES + "large: out of memory\n" + part(FCS_LINES, 1) + totals(3, 0), 5
+            tried.append(("several files, no memory for a block", found, wanted))
+            for words in (["one.pcap", "two.pcapng"], ["no", "none.pcap"], ["--plain", "no", "none.pcap"]):
+                tried.append((f"several files, a full disk, {words}", on_a_full_disk(program, words, b""), FAILED))
+            gone, end = os.pipe()
+            os.close(gone)
+            with os.fdopen(end, "wb") as out:
+                done = subprocess.run([program, "one.pcap", "no", "two.pcapng"], stdin=subprocess.DEVNULL, stdout=out, stderr=subprocess.PIPE, check=False)
+            tried.append(("several files that nobody reads", (done.stderr.decode(), done.returncode), FAILED))
+        finally:
+            os.chdir(here)
+    return tried
+
+
 def copied(program, words, capture, **how):
     """What the program writes, what it says on standard error, and its status."""
     with tempfile.TemporaryFile() as file:
@@ -670,10 +753,10 @@ def before_the_end(program, words, given):
     return text, status
 
 
-def without_memory(program, capture):
+def without_memory(program, capture, words=()):
     """What the program prints, and its status, if it may have 4 MiB."""
     limit = lambda: resource.setrlimit(resource.RLIMIT_AS, (4 << 20, 4 << 20))  # noqa: E731
-    done = subprocess.run([program], input=capture, stdout=subprocess.PIPE, preexec_fn=limit, check=False)
+    done = subprocess.run([program, *words], input=capture, stdout=subprocess.PIPE, preexec_fn=limit, check=False)
     return done.stdout.decode(), done.returncode
 
 
@@ -701,6 +784,7 @@ def main():
         tried.append(("a filter and a file", run(program, ["--plain", "--select", "arp", name], b""), wanted))
     tried += [(name, copied(program, words, CLASSIC), (b"", USAGE, 2)) for name, words in WRONG]
     tried += selections(program)
+    tried += several(program)
     tried += copies(program)
     tried += copies_that_fail(program)
     tried += wrong_words_alone(program)

@@ -1,13 +1,14 @@
 -- What words ask for, one after the other.
-use Rattle.std.proofs.Common.{◌≡◌, ◌≢◌, ℕ, List, [], ◌∷◌, codes, Bool, true, false, Option, Some, None, Result, Ok, Err, IfOk, IfErr, OnOk, OnErr, refl, sym, ap, subst, ◌∙◌}
-use Rattle.std.specs.Prelude.{◌↔◌, ◌==◌, map, nat_eq, if◌then◌else◌, String, string_bytes}
+use Rattle.std.proofs.Common.{◌≡◌, ◌≢◌, ℕ, List, [], ◌∷◌, codes, Bool, true, false, Option, Some, None, Result, Ok, Err, IfOk, IfErr, IsErrAnd, OnOk, OnErr, refl, sym, ap, subst, ◌∙◌}
+use Rattle.std.specs.Prelude.{◌==◌, map, nat_eq, if◌then◌else◌, String, string_bytes}
 use Rattle.std.proofs.lemmas.Bool.{eqb-true}
 use Rattle.std.specs.Option.{option_map, is_none}
 use Rattle.std.specs.Vec.Iter.{into_iter_steps}
 use Rattle.std.specs.declared.vec.IntoIter.{IntoIter}
 use Rattle.ether_text.proofs.ArgumentsLemmas.{words_end}
+use Rattle.ether_filter.specs.Expressions.{Expression}
 use Rattle.ether_filter.specs.Numerals.{number_in}
-use Rattle.ether_capture.specs.Options.{AskedValue, nothing_asked, Asks, no_word, file, plain, write, cut, pop, tag, select, count, limit, IsCount, IsLimit, IsName, IsKnown, IsWord, AskSame, words_left, clashes, IsRequestOf, OptionsAsk, RequestValue, NamesRequest, help, version, options, RefusesAsked, RefusesOptions, RefusesWords, request_view}
+use Rattle.ether_capture.specs.Options.{AskedValue, nothing_asked, Asks, no_word, files, plain, write, cut, pop, tag, select, count, limit, IsCount, IsLimit, AreNames, IsName, IsKnown, IsWord, AskSame, RefusesTaking, are_several, form_of, options_of, request_for, Run, Lists, words_left, clashes, IsRequestOf, OptionsAsk, RequestValue, NamesRequest, help, version, options, RefusesAsked, RefusesOptions, RefusesWords, request_view}
 use Rattle.ether_content.specs.Editing.{EditValue, CutToHeaders, PopVlan}
 use Rattle.ether_capture.specs.Tags.{IsTagEdit, tag_word}
 use Rattle.ether_capture.specs.declared.tags.TagEdit.{TagEdit}
@@ -95,7 +96,7 @@ one_kind word known kinds.Unknown is other = absurd (other known is)
 
 -- what follows a word, by its kind
 abbrev pub Follows : Word → AskedValue → (word : List ℕ) → (words : List (List ℕ)) → AskedValue → Type 0
-Follows kinds.Name a word words c = (words ≡ []) × (c ≡ record a { file = Some word })
+Follows kinds.Name a word words c = AreNames words × (c ≡ record a { files = word ∷ words })
 Follows kinds.Plain a word words c = (a.plain ≡ false) × Asks (record a { plain = true }) words c
 Follows kinds.Write a word words c = (a.write ≡ false) × Asks (record a { write = true }) words c
 Follows kinds.Cut a word words c = (a.edit ≡ None) × Asks (record a { edit = Some CutToHeaders }) words c
@@ -124,7 +125,8 @@ follows_as known kind a c word words known_is is rest =
 
 pub follows : (kind : Word) (a c : AskedValue) (word : List ℕ) (words : List (List ℕ)) → IsWord word kind
     → Asks a (word ∷ words) c → Follows kind a word words c
-follows kind a c word words is (file _ _ named) = follows_as kinds.Name kind a c word words named is (refl, refl)
+follows kind a c word words is (files _ _ _ named) =
+    follows_as kinds.Name kind a c word words named.0 is (named.1, refl)
 follows kind a c word words is (plain _ _ _ none asks) =
     follows_as kinds.Plain kind a c word words refl is (none, asks)
 follows kind a c word words is (write _ _ _ none asks) =
@@ -143,9 +145,8 @@ follows kind a c word words is (limit _ _ text n others counts none asks) =
 
 pub precedes : (kind : Word) (a c : AskedValue) (word : List ℕ) (words : List (List ℕ)) → IsWord word kind
     → Follows kind a word words c → Asks a (word ∷ words) c
-precedes kinds.Name a c word words is (none, same) =
-    subst (λ (l : List (List ℕ)). Asks a (word ∷ l) c) (sym none)
-    (subst (λ (b : AskedValue). Asks a (word ∷ []) b) (sym same) (file a word is))
+precedes kinds.Name a c word words is (names, same) =
+    subst (λ (b : AskedValue). Asks a (word ∷ words) b) (sym same) (files a word words (is, names))
 precedes kinds.Plain a c word words is (first, asks) =
     subst (λ (w : List ℕ). Asks a (w ∷ words) c) (sym is) (plain a c words first asks)
 precedes kinds.Write a c word words is (first, asks) =
@@ -174,21 +175,29 @@ precedes kinds.Unknown a c word words is rest = absurd rest
 pub last_asked : (a c : AskedValue) → Asks a [] c → c ≡ a
 last_asked a c (no_word _) = refl
 
--- the name of a file is the last word
-pub ask_name : (a : AskedValue) (word : List ℕ) (words : List (List ℕ)) → IsWord word kinds.Name → words ≡ []
-    → AskSame a (word ∷ words) (record a { file = Some word }) words
-ask_name a word words is none c = (
+-- the names of files are the last words
+pub ask_names : (a : AskedValue) (word : List ℕ) (words left names : List (List ℕ)) → IsWord word kinds.Name
+    → AreNames words → names ≡ word ∷ words → left ≡ []
+    → AskSame a (word ∷ words) (record a { files = names }) left
+ask_names a word words left names is named same none c = (
   λ asks.
+      let here = subst (λ (l : List (List ℕ)). Asks (record a { files = names }) l c) none asks in
       precedes kinds.Name a c word words is (
-        none,
-        last_asked (record a { file = Some word }) c
-            (subst (λ (l : List (List ℕ)). Asks (record a { file = Some word }) l c) none asks),
+        named,
+        last_asked (record a { files = names }) c here
+            ∙ ap (λ (l : List (List ℕ)). record a { files = l }) same,
       ),
   λ asks.
       let f = follows kinds.Name a c word words is asks in
-      subst (λ (l : List (List ℕ)). Asks (record a { file = Some word }) l c) (sym none)
-      (subst (λ (b : AskedValue). Asks (record a { file = Some word }) [] b) (sym f.1) (no_word _)),
+      subst (λ (l : List (List ℕ)). Asks (record a { files = names }) l c) (sym none)
+      (subst (λ (b : AskedValue). Asks (record a { files = names }) [] b)
+      (ap (λ (l : List (List ℕ)). record a { files = l }) same ∙ sym f.1) (no_word (record a { files = names }))),
 )
+
+-- .. and words that are no names ask for nothing
+pub no_names : (a c : AskedValue) (word : List ℕ) (words : List (List ℕ)) → IsWord word kinds.Name
+    → ¬ (AreNames words) → Asks a (word ∷ words) c → ⊥
+no_names a c word words is none asks = none (follows kinds.Name a c word words is asks).0
 
 pub ask_plain : (a : AskedValue) (word : List ℕ) (words : List (List ℕ)) → IsWord word kinds.Plain → a.plain ≡ false
     → AskSame a (word ∷ words) (record a { plain = true }) words
@@ -283,9 +292,10 @@ ask_limit a word text n words others is counts none same c = (
       (subst (λ (m : ℕ). Asks (record a { limit = Some m }) f.2 c) one f.6),
 )
 
-pub on_err : {A B : Type 0} (r : Result A B) (P : Type 0) → P → OnErr r P
-on_err (Ok a) P is = tt
-on_err (Err e) P is = is
+-- what is so of an error is so of the same one
+pub err_as : {A E : Type 0} (r : Result A E) (e : E) (P : E → Type 0) → IsErrAnd r (λ other. other ≡ e) → P e → IfErr r P
+err_as (Ok a) e P is p = tt
+err_as (Err other) e P is p = subst P (sym is) p
 
 -- .. with a text that is no number
 pub no_count : (a c : AskedValue) (word text : List ℕ) (words others : List (List ℕ)) → IsWord word kinds.Count
@@ -300,23 +310,6 @@ no_limit a c word text words others is same none asks =
     let f = follows kinds.Limit a c word words is asks in
     none f.1 (subst (λ (t : List ℕ). IsLimit t f.1) (ap head_of (sym f.3 ∙ same)) f.4)
 
--- .. also once it was tried to take another
-pub ask_name_last : (a : AskedValue) (word : List ℕ) (words left : List (List ℕ)) → IsWord word kinds.Name → words ≡ []
-    → left ≡ [] → AskSame a (word ∷ words) (record a { file = Some word }) left
-ask_name_last a word words left is none none_left c =
-    subst
-    (λ (l : List (List ℕ)). Asks (record a { file = Some word }) l c ↔ Asks a (word ∷ words) c) (none ∙ sym none_left)
-    (ask_name a word words is none c)
-
--- no word was left to take
-pub none_taken : {A : Type 0} (args others : IntoIter (String A) A) (word : Option (String A))
-    → into_iter_steps args word others → is_none word ≡ true → (words_left args ≡ []) × (words_left others ≡ [])
-none_taken args others None ended none = (
-  ap (map string_bytes) (words_end args others None ended refl),
-  ap (map string_bytes) (words_end others others None (ended.1, ended.1) refl),
-)
-none_taken args others (Some word) next none = absurd cc
-
 pub none_is : {X : Type 0} (o : Option X) → is_none o ≡ true → o ≡ None
 none_is None none = refl
 none_is (Some x) none = absurd cc
@@ -328,13 +321,6 @@ some_is (Some x) some none = absurd cc
 pub none_mapped : {X Y : Type 0} (f : X → Y) (o : Option X) → is_none o ≡ true → option_map f o ≡ None
 none_mapped f None none = refl
 none_mapped f (Some x) none = absurd cc
-
--- a word was left to take
-pub some_taken : {A : Type 0} (args others : IntoIter (String A) A) (word : Option (String A))
-    → into_iter_steps args word others → is_none word ≡ false → words_left args ≡ [] → ⊥
-some_taken args others None ended some none = absurd cc
-some_taken args others (Some word) next some none =
-    let both : string_bytes word ∷ words_left others ≡ [] = sym (ap (map string_bytes) next.0) ∙ none in absurd cc
 
 pub some_mapped : {X Y : Type 0} (f : X → Y) (o : Option X) → is_none o ≡ false → option_map f o ≡ None → ⊥
 some_mapped f None some none = absurd cc
@@ -367,6 +353,7 @@ asks_nothing kinds.Unknown a c word words is n p w k o t s m l asks =
 pub refused_asked : (words : List (List ℕ)) (a : AskedValue) (r : RequestError) → AskSame nothing_asked words a []
     → RefusesAsked a r → RefusesOptions words r
 refused_asked words a reasons.Usage same clash = λ c asks. ap clashes (last_asked a c ((same c).1 asks)) ∙ clash
+refused_asked words a (reasons.Memory copy) same refused = absurd refused
 refused_asked words a (reasons.Filter copy e) same no_filter =
     record { asked = a; asks = (same a).0 (no_word a); no_filter = no_filter }
 
@@ -389,8 +376,48 @@ refused_words words reasons.Usage not_help not_version refused = (
   λ form e none. no_clash none.asked (refused none.asked none.asks) none.no_filter.form.1,
 )
 refused_words words (reasons.Filter copy e) not_help not_version refused = refused
+refused_words words (reasons.Memory copy) not_help not_version refused = refused
 
 -- ---- requests
+
+-- before any word is taken
+pub asks_same : (a : AskedValue) (words : List (List ℕ)) → AskSame a words a words
+asks_same a words c = (λ asks. asks, λ asks. asks)
+
+-- a word that is not taken refuses all words
+pub refused_taking : (words : List (List ℕ)) (a : AskedValue) (word : List ℕ) (left : List (List ℕ)) (e : RequestError)
+    → AskSame nothing_asked words a (word ∷ left) → RefusesTaking a word left e → RefusesOptions words e
+refused_taking words a word left reasons.Usage same refused = λ c asks. absurd (refused c ((same c).1 asks))
+refused_taking words a word left (reasons.Filter copy e) same refused = absurd refused
+refused_taking words a word left (reasons.Memory copy) same refused =
+    record { asked = a; name = word; names = left; options = same; is_name = refused.0; form = refused.1 }
+
+-- the first of the names is the only one
+pub first_file : {A : Type 0} (a : AskedValue) (x : Option Expression) (names others : IntoIter (String A) A)
+    (first : Option (String A)) (list : List (List ℕ))
+    → into_iter_steps names first others → list ≡ words_left names → are_several list ≡ false
+    → request_for a x list
+    ≡ Run (record { select = x; count = a.count; form = form_of a }) (option_map string_bytes first)
+first_file a x names others None list ended same few =
+    ap (request_for a x) (same ∙ ap (map string_bytes) (words_end names others None ended refl))
+first_file a x names others (Some name) list next same few =
+    let is = same ∙ ap (map string_bytes) next.0 in
+    ap (request_for a x) is
+    ∙ alone (string_bytes name) (words_left others) (subst (λ (l : List (List ℕ)). are_several l ≡ false) is few)
+  where
+    alone : (name : List ℕ) (names : List (List ℕ)) → are_several (name ∷ names) ≡ false
+        → request_for a x (name ∷ names)
+        ≡ Run (record { select = x; count = a.count; form = form_of a }) (Some name)
+    alone name [] few = refl
+    alone name (other ∷ names) few = absurd cc
+
+-- there is a list of several names
+pub several_files : (a : AskedValue) (x : Option Expression) (list : List (List ℕ)) → are_several list ≡ true
+    → request_for a x list
+    ≡ Lists (record { select = x; count = a.count; options = options_of a; files = list })
+several_files a x [] some = absurd cc
+several_files a x (name ∷ []) some = absurd cc
+several_files a x (name ∷ other ∷ names) some = refl
 
 pub options_ask : (words : List (List ℕ)) (a : AskedValue) (r : Result Request RequestError)
     → AskSame nothing_asked words a [] → IfOk r (λ request. IsRequestOf a (request_view request))

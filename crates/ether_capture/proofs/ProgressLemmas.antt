@@ -1,287 +1,32 @@
 -- How far a run has come, one unit of the capture after another.
-use Rattle.std.proofs.Common.{◌≡◌, ◌≢◌, ℕ, zero, suc, ◌+◌, ◌-◌, ◌<◌, ◌≤◌, ◌⊎◌, List, [], ◌∷◌, ◌++◌, length, take, drop, slice_range, Bool, true, false, ◌&&◌, Option, Some, None, unwrap_or, Result, Ok, Err, IsErrAnd, IfErr, refl, sym, ap, subst, ◌∙◌, arith, append_assoc, append-nil, inl, inr}
-use Rattle.std.proofs.Math.Bool.{and_assoc}
-use Rattle.std.proofs.lemmas.List.{length-append, length-drop, take-append-drop, take_all, length-take-le}
-use Rattle.std.proofs.lemmas.List.Sums.{sum_by-append}
+use Rattle.std.proofs.Common.{◌≡◌, ◌≢◌, ℕ, zero, suc, ◌+◌, ◌-◌, ◌<◌, ◌≤◌, List, [], ◌∷◌, ◌++◌, length, take, drop, slice_range, Bool, true, ◌&&◌, Option, Some, None, unwrap_or, Result, Ok, Err, IsErrAnd, IfErr, refl, sym, ap, subst, ◌∙◌, arith, append_assoc, inl, inr}
+use Rattle.std.proofs.lemmas.List.{length-append, length-drop, take_all, length-take-le}
 use Rattle.std.specs.List.{sum_by}
 use Rattle.std.specs.Io.KnownBytes.{Appends}
 use Rattle.ether_filter.specs.Expressions.{Expression}
 use Rattle.ether_pcap.specs.Capture.{PacketValue, Expectation, Beginning, Begins}
-use Rattle.ether_pcap.specs.Copies.{Selected, none, one_kept, one_left}
+use Rattle.ether_pcap.specs.Copies.{Selected, none}
 use Rattle.ether_pcap.specs.Editing.{EditedValue, unit_after}
-use Rattle.ether_pcap.proofs.CaptureLocality.{unit_alone}
 use Rattle.ether_pcap.proofs.PacketUnits.{begun, same_after}
 use Rattle.ether_content.specs.Editing.{EditValue}
 use Rattle.ether_text.specs.OutputBuffer.{contents_of, WritesOut}
-use Rattle.ether_text.specs.Verdict.{verdict_of, verdict_with}
+use Rattle.ether_text.specs.Verdict.{verdict_with}
 use Rattle.ether_text.specs.declared.output_buffer.OutputBuffer.{OutputBuffer}
 use Rattle.ether_text.specs.declared.verdict.Verdict.{Verdict}
 use Rattle.ether_text.proofs.KnownBytesLemmas.{Appends-none, Appends-then, Appends-written_out}
-use Rattle.ether_capture.specs.Answering.{AreAnswered}
-use Rattle.ether_capture.specs.Copying.{EditsIf, CopyGoesOn}
-use Rattle.ether_capture.specs.FrameLines.{AnswersPacket, skip_count}
-use Rattle.ether_capture.specs.Packets.{counted, GoesOn, HasFewer, EndsAtCount}
-use Rattle.ether_capture.specs.Progress.{Made, IsLeftOf, LeavesLess, Reached, IsStart, IsUnitOf, Writes, writes_unit, writes_nothing, writes_packet, Makes, other_text, Counts, TakesUnit, StopsUnwritten, Unedited, UneditedIn, StopsAfter, OnNotEdited}
-use Rattle.ether_capture.specs.Task.{TaskValue, FormValue, Lines, Copy, IsChosen, IsBelow}
+use Rattle.ether_capture.specs.Copying.{EditsIf}
+use Rattle.ether_capture.specs.Counting.{AreCounted}
+use Rattle.ether_capture.specs.FrameLines.{skip_count}
+use Rattle.ether_capture.specs.Packets.{counted, GoesOn, HasFewer, EndsAtCount, IsLeftOf}
+use Rattle.ether_capture.specs.Progress.{Made, LeavesLess, Reached, IsStart, counts_at, Writes, writes_unit, writes_nothing, writes_packet, Makes, Counts, TakesUnit, StopsUnwritten, Unedited, UneditedIn, StopsAfter, OnNotEdited}
+use Rattle.ether_capture.specs.Task.{TaskValue, FormValue, Lines, Copy, IsChosen, IsBelow, packets_before}
 use Rattle.ether_capture.specs.declared.outcome.RunFault.{RunFault}
 use Rattle.ether_capture.specs.declared.outcome.RunFault.TheVariants as faults
 use Rattle.ether_capture.specs.declared.progress.Progress.{Progress}
 use Rattle.ether_capture.specs.declared.task.LineOptions.{LineOptions}
-use Rattle.ether_capture.proofs.CopiesLemmas.{CopyGoesOn-start, CopyGoesOn-unit, CopyGoesOn-kept, CopyGoesOn-left, edited_as_said}
+use Rattle.ether_capture.proofs.CopiesLemmas.{edited_as_said}
 use Rattle.ether_capture.proofs.PacketsLemmas.{GoesOn-start, GoesOn-unit, GoesOn-packet}
-
-and_true : (b : Bool) → (true && b) ≡ (b && true)
-and_true true = refl
-and_true false = refl
-
-verdict_with-verdict_of : (all accepted : Bool) → verdict_with (verdict_of all) accepted ≡ verdict_of (all && accepted)
-verdict_with-verdict_of true accepted = refl
-verdict_with-verdict_of false accepted = refl
-
-and_is_true : (b : Bool) → (b && true) ≡ b
-and_is_true true = refl
-and_is_true false = refl
-
--- one answered packet more
-pub AreAnswered-push : (select : Option Expression) (options : LineOptions) (before : ℕ) (packets : List PacketValue)
-    (text : List ℕ) (all : Bool)
-    (p : PacketValue) (more : List ℕ) (accepted : Bool)
-    → AreAnswered select options before packets text all
-    → AnswersPacket select options (counted (before + length packets + 1)) p more accepted
-    → AreAnswered select options before (packets ++ p ∷ []) (text ++ more) (all && accepted)
-AreAnswered-push select options before [] text all p more accepted so_far is =
-    let n : before + length {A = PacketValue} [] + 1 ≡ before + 1 = omega arith in (
-      more,
-      accepted,
-      [],
-      true,
-      subst (λ (k : ℕ). AnswersPacket select options (counted k) p more accepted) n is,
-      (refl, refl),
-      ap (λ (t : List ℕ). t ++ more) so_far.0 ∙ sym (append-nil more),
-      ap (λ (b : Bool). b && accepted) so_far.1 ∙ and_true accepted,
-    )
-AreAnswered-push select options before (first ∷ others) text all p more accepted so_far is =
-    let (one, one_accepted, rest, others_accepted, here, there, whole, every) = so_far in
-    let n : before + length (first ∷ others) + 1 ≡ before + 1 + length others + 1 = omega arith in (
-      one,
-      one_accepted,
-      rest ++ more,
-      others_accepted && accepted,
-      here,
-      AreAnswered-push select options (before + 1) others rest others_accepted p more accepted there
-          (subst (λ (k : ℕ). AnswersPacket select options (counted k) p more accepted) n is),
-      ap (λ (t : List ℕ). t ++ more) whole ∙ append_assoc one rest more,
-      ap (λ (b : Bool). b && accepted) every ∙ and_assoc one_accepted others_accepted accepted,
-    )
-
--- what was skipped, and one packet more
-skipped-push : (packets : List PacketValue) (p : PacketValue)
-    → sum_by skip_count (packets ++ p ∷ []) ≡ sum_by skip_count packets + skip_count p
-skipped-push packets p = sum_by-append skip_count packets (p ∷ []) ∙ last
-  where
-    last : sum_by skip_count packets + sum_by skip_count (p ∷ []) ≡ sum_by skip_count packets + skip_count p
-    last = omega arith
-
-some_text : (a b : List ℕ) → Some a ≡ Some b → a ≡ b
-some_text a b e = ap (λ (o : Option (List ℕ)). unwrap_or o a) e
-
-some_none : (a : List ℕ) → Some a ≡ None → ⊥
-some_none a e = absurd cc
-
--- the front with a unit more
-pub front_after : (input front buffered : List ℕ) (len : ℕ) → input ≡ front ++ buffered
-    → input ≡ (front ++ take len buffered) ++ drop len buffered
-front_after input front buffered len is =
-    is ∙ ap (λ (l : List ℕ). front ++ l) (sym (take-append-drop len buffered))
-    ∙ sym (append_assoc front (take len buffered) (drop len buffered))
-
-pub front_len : (front buffered : List ℕ) (len : ℕ) → len ≤ length buffered
-    → length (front ++ take len buffered) ≡ length front + len
-front_len front buffered len within =
-    length-append front (take len buffered) ∙ ap (λ (n : ℕ). length front + n) (length-take-le len buffered within)
-
--- ---- what is chosen
-
-module _ (select : Option Expression) where
-  -- a packet more, which is chosen
-  chosen-push : (packets kept : List PacketValue) (p : PacketValue) → IsChosen select p
-      → Selected (IsChosen select) packets kept → Selected (IsChosen select) (packets ++ p ∷ []) (kept ++ p ∷ [])
-  chosen-push packets kept p is none = one_kept p [] [] is none
-  chosen-push packets kept p is (one_kept q qs ks first others) =
-      one_kept q (qs ++ p ∷ []) (ks ++ p ∷ []) first (chosen-push qs ks p is others)
-  chosen-push packets kept p is (one_left q qs ks first others) =
-      one_left q (qs ++ p ∷ []) (ks ++ p ∷ []) first (chosen-push qs ks p is others)
-
-  -- .. or is not
-  left-push : (packets kept : List PacketValue) (p : PacketValue) → ¬ (IsChosen select p)
-      → Selected (IsChosen select) packets kept → Selected (IsChosen select) (packets ++ p ∷ []) kept
-  left-push packets kept p is none = one_left p [] [] is none
-  left-push packets kept p is (one_kept q qs ks first others) =
-      one_kept q (qs ++ p ∷ []) ks first (left-push qs ks p is others)
-  left-push packets kept p is (one_left q qs ks first others) =
-      one_left q (qs ++ p ∷ []) ks first (left-push qs ks p is others)
-
--- ---- what is made
-
--- the packets with that of a unit, if it has one
-abbrev pub with_packet : List PacketValue → Option PacketValue → List PacketValue
-with_packet packets None = packets
-with_packet packets (Some p) = packets ++ p ∷ []
-
--- .. if it is chosen
-abbrev pub KeptMore : (select : Option Expression) → (old : List PacketValue) → Option PacketValue
-    → (new : List PacketValue) → Type 0
-KeptMore select old None new = new ≡ old
-KeptMore select old (Some p) new =
-    (IsChosen select p × (new ≡ old ++ p ∷ [])) ⊎ (¬ (IsChosen select p) × (new ≡ old))
-
--- what is made with a unit more
-record MadeMore (select : Option Expression) (form : FormValue) (packets old : List PacketValue)
-    (packet : Option PacketValue) (front text : List ℕ) (all : Bool) (x : Expectation) : Type 0 where
-  kept : List PacketValue
-  more : KeptMore select old packet kept
-  selected : Selected (IsChosen select) (with_packet packets packet) kept
-  made : Made select form (with_packet packets packet) kept front text all x
-
--- the lines of a packet that is chosen or not
-answered_more : (select : Option Expression) (options : LineOptions) (packets kept : List PacketValue) (front text : List ℕ)
-    (all : Bool) (x y : Expectation) (p : PacketValue) (own more : List ℕ) (accepted : Bool)
-    → Selected (IsChosen select) packets kept → Made select (Lines options) packets kept front text all x
-    → AnswersPacket select options (counted (0 + length packets + 1)) p more accepted
-    → MadeMore select (Lines options) packets kept (Some p) (front ++ own) (text ++ more) (all && accepted) y
-answered_more select options packets kept front text all x y p own more accepted selected made (inl is) = record {
-  kept = kept ++ p ∷ [];
-  more = inl (is.0, refl);
-  selected = chosen-push select packets kept p is.0 selected;
-  made = AreAnswered-push select options 0 packets text all p more accepted made (inl is);
-}
-answered_more select options packets kept front text all x y p own more accepted selected made (inr is) = record {
-  kept = kept;
-  more = inr (is.0, refl);
-  selected = left-push select packets kept p is.0 selected;
-  made = AreAnswered-push select options 0 packets text all p more accepted made (inr is);
-}
-
--- the copy of a unit
-copied_more : (select : Option Expression) (edit : Option EditValue) (packets kept : List PacketValue)
-    (front copy : List ℕ) (all : Bool) (x y : Expectation) (buffered : List ℕ) (len : ℕ) (packet : Option PacketValue)
-    (own more : List ℕ) (text : Option (List ℕ))
-    → len ≤ length buffered → Begins buffered x len packet y → own ≡ take len buffered
-    → Selected (IsChosen select) packets kept → Made select (Copy edit) packets kept front copy all x
-    → text ≡ Some more → Writes select edit y own packet text
-    → MadeMore select (Copy edit) packets kept packet (front ++ take len buffered) (copy ++ more) (all && true) y
-copied_more select edit packets kept front copy all x y buffered len packet own more text within begins unit_is selected
-    made is writes_unit =
-    let same : take len buffered ≡ more = sym unit_is ∙ some_text own more is in
-    record {
-      kept = kept;
-      more = refl;
-      selected = selected;
-      made = (
-        λ to edits.
-            subst (λ (l : List ℕ). CopyGoesOn select to (front ++ take len buffered) (copy ++ l) kept y) same
-            (CopyGoesOn-unit select edit to edits front copy kept x y buffered len within begins (made.0 to edits)),
-        ap (λ (b : Bool). b && true) made.1,
-      );
-    }
-copied_more select edit packets kept front copy all x y buffered len packet own more text within begins unit_is selected
-    made is (writes_nothing p not_chosen) =
-    let same : copy ≡ copy ++ more =
-    sym (append-nil copy) ∙ ap (λ (l : List ℕ). copy ++ l) (some_text [] more is) in
-    record {
-      kept = kept;
-      more = inr (not_chosen, refl);
-      selected = left-push select packets kept p not_chosen selected;
-      made = (
-        λ to edits.
-            subst (λ (l : List ℕ). CopyGoesOn select to (front ++ take len buffered) l kept y) same
-            (CopyGoesOn-left select edit to edits front copy kept p x y buffered len within begins not_chosen
-            (made.0 to edits)),
-        ap (λ (b : Bool). b && true) made.1,
-      );
-    }
-copied_more select edit packets kept front copy all x y buffered len packet own more text within begins unit_is selected
-    made is (writes_packet p o _ chosen edited e) =
-    record {
-      kept = kept ++ p ∷ [];
-      more = inl (chosen, refl);
-      selected = chosen-push select packets kept p chosen selected;
-      made = (
-        λ to edits.
-            CopyGoesOn-kept select edit to edits front copy more kept p x y buffered len within begins chosen
-            (edited_as_said edit to y x own (take len buffered) p o (Some more) edits edited
-            (same_after buffered x y len p begins) unit_is (e ∙ is))
-            (made.0 to edits),
-        ap (λ (b : Bool). b && true) made.1,
-      );
-    }
-
--- the text of a unit that is no packet
-pub other_made : (select : Option Expression) (form : FormValue) (x : Expectation) (number : ℕ) (unit : List ℕ)
-    → Makes select form x number unit None true (Some (other_text form unit))
-other_made select (Lines options) x number unit = (refl, refl)
-other_made select (Copy edit) x number unit = (writes_unit, refl)
-
--- .. and of a packet that is not chosen
-pub left_made : (select : Option Expression) (form : FormValue) (x : Expectation) (number : ℕ) (unit : List ℕ)
-    (p : PacketValue) → ¬ (IsChosen select p) → Makes select form x number unit (Some p) true (Some [])
-left_made select (Lines options) x number unit p not_chosen = ([], inr (not_chosen, refl, refl), refl)
-left_made select (Copy edit) x number unit p not_chosen = (writes_nothing p not_chosen, refl)
-
--- what is made of a unit
-made_more : (select : Option Expression) (form : FormValue) (packets kept : List PacketValue) (front text : List ℕ)
-    (all : Bool) (x y : Expectation) (buffered : List ℕ) (len number : ℕ) (packet : Option PacketValue)
-    (own more : List ℕ) (accepted : Bool)
-    → len ≤ length buffered → Begins buffered x len packet y → own ≡ take len buffered
-    → number ≡ counted (0 + length packets + 1)
-    → Selected (IsChosen select) packets kept → Made select form packets kept front text all x
-    → Makes select form y number own packet accepted (Some more)
-    → MadeMore select form packets kept packet (front ++ take len buffered) (text ++ more) (all && accepted) y
-made_more select (Lines options) packets kept front text all x y buffered len number None own more accepted within begins
-    unit_is is selected made makes =
-    let same : text ≡ text ++ more =
-    sym (append-nil text) ∙ ap (λ (l : List ℕ). text ++ l) (sym (some_text more [] makes.0)) in
-    let same_all : all ≡ (all && accepted) = sym (and_is_true all) ∙ ap (λ (b : Bool). all && b) (sym makes.1) in
-    record {
-      kept = kept;
-      more = refl;
-      selected = selected;
-      made =
-          subst (λ (b : Bool). AreAnswered select options 0 packets (text ++ more) b) same_all
-          (subst (λ (l : List ℕ). AreAnswered select options 0 packets l all) same made);
-    }
-made_more select (Lines options) packets kept front text all x y buffered len number (Some p) own more accepted within
-    begins unit_is is selected made (lines, answers, e) =
-    let same : lines ≡ more = sym (some_text more lines e) in
-    answered_more select options packets kept front text all x y p (take len buffered) more accepted selected made
-    (subst (λ (n : ℕ). AnswersPacket select options n p more accepted) is
-    (subst (λ (l : List ℕ). AnswersPacket select options number p l accepted) same answers))
-made_more select (Copy edit) packets kept front text all x y buffered len number packet own more accepted within begins
-    unit_is is selected made makes =
-    subst
-    (λ (b : Bool).
-    MadeMore select (Copy edit) packets kept packet (front ++ take len buffered) (text ++ more) (all && b) y)
-    (sym makes.1)
-    (copied_more select edit packets kept front text all x y buffered len packet own more (Some more) within begins
-    unit_is selected made refl makes.0)
-
--- nothing is made yet
-made_start : (select : Option Expression) (form : FormValue) → Made select form [] [] [] [] true Beginning
-made_start select (Lines options) = (refl, refl)
-made_start select (Copy edit) = (λ to edits. CopyGoesOn-start select edit to edits, refl)
-
--- a unit that was read has this packet
-pub packet_of_unit : (buffered : List ℕ) (x y : Expectation) (len : ℕ) (packet : Option PacketValue)
-    → len ≤ length buffered → Begins buffered x len packet y → IsUnitOf y (take len buffered) packet
-packet_of_unit buffered x y len None within begins = tt
-packet_of_unit buffered x y len (Some p) within begins =
-    let front = take len buffered in
-    let long : length front ≡ len = length-take-le len buffered within in
-    let whole = subst (λ (l : List ℕ). Begins l x len (Some p) y) (sym (take-append-drop len buffered)) begins in
-    let alone = unit_alone front (drop len buffered) x y len (Some p) (omega (arith, long)) whole in
-    let same = same_after buffered x y len p begins in
-    subst (λ (z : Expectation). Begins front z (length front) (Some p) y) (sym same)
-    (subst (λ (k : ℕ). Begins front x k (Some p) y) (sym long) alone)
+use Rattle.ether_capture.proofs.MadeLemmas.{verdict_with-verdict_of, skipped-push, some_none, front_after, front_len, with_packet, KeptMore, made_more, made_start, packet_of_unit}
 
 -- ---- how far the run has come
 
@@ -296,14 +41,14 @@ goes_more front packets (Some p) x y buffered len within begins go =
     GoesOn-packet front packets p x y buffered len within begins go
 
 -- the counts with a unit more
-counts_more : (select : Option Expression) (packets : List PacketValue) (packet : Option PacketValue)
+counts_more : (select : Option Expression) (before : ℕ) (packets : List PacketValue) (packet : Option PacketValue)
     (old new : Progress)
-    → Counts select packet old new → old.count ≡ counted (length packets)
+    → Counts select packet old new → old.count ≡ counted (before + length packets)
     → old.skipped ≡ counted (sum_by skip_count packets)
-    → (new.count ≡ counted (length (with_packet packets packet)))
+    → (new.count ≡ counted (before + length (with_packet packets packet)))
     × (new.skipped ≡ counted (sum_by skip_count (with_packet packets packet)))
-counts_more select packets None old new counts count skipped = (counts.0 ∙ count, counts.1 ∙ skipped)
-counts_more select packets (Some p) old new counts count skipped =
+counts_more select before packets None old new counts count skipped = (counts.0 ∙ count, counts.1 ∙ skipped)
+counts_more select before packets (Some p) old new counts count skipped =
     let more = length-append packets (p ∷ []) in
     let skips = skipped-push packets p in
     let a = counts.0 in let b = counts.1 in
@@ -403,7 +148,7 @@ ends_more select count packets kept front x y buffered len (Some p) (Some m) new
     )
 
 -- none are chosen at first
-all_left : (count : Option ℕ) → IsLeftOf count 0 count
+pub all_left : (count : Option ℕ) → IsLeftOf count 0 count
 all_left None = refl
 all_left (Some n) = (n, refl, omega arith)
 
@@ -427,8 +172,19 @@ module _ {W : Type 0} (task : TaskValue) (contents : W → Option (List ℕ)) wh
     below = is_below task.count (length so_far.kept) at.left so_far.is_left some;
   }
 
+  -- how many packets were read
+  pub Reached-counted : (held : Option (List ℕ)) (input buffered : List ℕ) (at : Progress) (out : OutputBuffer W)
+      → (so_far : Reached task contents held input buffered at out) → AreCounted task so_far.packets (counts_at at)
+  Reached-counted held input buffered at out so_far = record {
+    kept = so_far.kept;
+    selected = so_far.selected;
+    is_number = so_far.is_count;
+    is_skipped = so_far.is_skipped;
+    is_left = so_far.is_left;
+  }
+
   -- nothing is read
-  pub Reached-start : (start : Progress) (out : OutputBuffer W) → IsStart task.count start
+  pub Reached-start : (start : Progress) (out : OutputBuffer W) → IsStart task start
       → Reached task contents (contents_of contents out) [] [] start out
   Reached-start start out is = record {
     packets = [];
@@ -443,7 +199,7 @@ module _ {W : Type 0} (task : TaskValue) (contents : W → Option (List ℕ)) wh
         subst (λ (x : Expectation). Made task.select task.form [] [] [] [] true x) (sym is.is_reader)
         (made_start task.select task.form);
     is_verdict = is.is_verdict;
-    is_count = is.is_count;
+    is_count = let a = is.is_count in omega (arith, a);
     is_skipped = is.is_skipped;
     is_offset = is.is_offset;
     is_left =
@@ -510,14 +266,14 @@ module _ {W : Type 0} (task : TaskValue) (contents : W → Option (List ℕ)) wh
       → Reached task contents held input buffered old from
       → Reached task contents held input (drop len buffered) new to
   Reached-unit held input buffered old new y from to len packet own some within begins unit_is takes so_far =
-      let number : counted (old.count + 1) ≡ counted (0 + length so_far.packets + 1) = let b = so_far.is_count in
-      omega (arith, b) in
+      let number : counted (old.count + 1) ≡ counted (packets_before task.form + length so_far.packets + 1) =
+      let b = so_far.is_count in omega (arith, b) in
       let more =
       made_more task.select task.form so_far.packets so_far.kept so_far.front so_far.text so_far.all_accepted old.reader
       y buffered len (counted (old.count + 1)) packet own takes.text takes.accepted within begins unit_is number
       so_far.selected so_far.made takes.makes in
       let counts =
-      counts_more task.select so_far.packets packet
+      counts_more task.select (packets_before task.form) so_far.packets packet
       (record old { reader = y }) new takes.counts so_far.is_count so_far.is_skipped in
       let less = left_counted task.select packet (record old { reader = y }) new takes.counts in
       let long : length own ≡ len = ap length unit_is ∙ length-take-le len buffered within in

@@ -1,5 +1,5 @@
 -- What a run has read and written, one read after another.
-use Rattle.std.proofs.Common.{◌⊎◌, ◌-◌, ◌^◌, ◌≡◌, ◌≢◌, ℕ, ◌<◌, ◌≤◌, List, [], ◌∷◌, ◌++◌, length, drop, Bool, Option, Some, None, unwrap_or, Result, Ok, Err, IfOk, IfErr, IsErrAnd, OnOk, refl, sym, ap, subst, ◌∙◌, arith, append_assoc, append-nil, inl, inr, IfSome}
+use Rattle.std.proofs.Common.{◌⊎◌, ◌+◌, ◌-◌, ◌^◌, ◌≡◌, ◌≢◌, ℕ, ◌<◌, ◌≤◌, List, [], ◌∷◌, ◌++◌, length, drop, Bool, Option, Some, None, unwrap_or, Result, Ok, Err, IfOk, IfErr, IsErrAnd, OnOk, refl, sym, ap, subst, ◌∙◌, arith, append_assoc, append-nil, inl, inr, IfSome}
 use Rattle.std.specs.List.{sum_by}
 use Rattle.std.specs.Io.KnownBytes.{Appends, Consumes, IsAtEnd, Keeps}
 use Rattle.ether_filter.specs.Expressions.{Expression}
@@ -22,17 +22,19 @@ use Rattle.ether_text.specs.Run.{IsLeft, BreaksOffAfter, IsEndless}
 use Rattle.ether_text.proofs.RunLemmas.{IsLeft-left_of, IsLeft-end, Consumes-nothing, answers_flushed, stops_flushed, breaks_flushed, answers_slice, stops_slice, breaks_slice, no_endless_slice}
 use Rattle.ether_content.specs.Editing.{EditValue}
 use Rattle.ether_capture.specs.Copying.{IsCopyTo}
+use Rattle.ether_capture.specs.Counting.{HasCounted, IfRead}
 use Rattle.ether_capture.specs.FrameLines.{skip_count}
 use Rattle.ether_capture.specs.Packets.{counted, GoesOn, HasFewer}
-use Rattle.ether_capture.specs.Progress.{Made, Reached, TakesUnits, UneditedIn, StopsAfter, OnNotEdited, IsTakingFault, last_lines}
-use Rattle.ether_capture.specs.Run.{Completes, CompletesAll, ReachesCount, StopsAtFault, StopsAtPacket, EndsInUnit, AnswersSlice, NeedsMemory, HasRun, OnStreamFault}
-use Rattle.ether_capture.specs.Task.{TaskValue, FormValue, Lines, Copy}
+use Rattle.ether_capture.specs.Progress.{Made, Reached, counts_at, TakesUnits, UneditedIn, StopsAfter, OnNotEdited, IsTakingFault, last_lines}
+use Rattle.ether_capture.specs.Run.{Completes, CompletesAll, ReachesCount, StopsAtFault, StopsAtPacket, EndsInUnit, AnswersSlice, AnswersSliceOver, NeedsMemory, HasRun, HasRunOver, OnStreamFault}
+use Rattle.ether_capture.specs.Task.{TaskValue, FormValue, Lines, Copy, packets_before}
+use Rattle.ether_capture.specs.declared.counts.PacketCounts.{PacketCounts}
 use Rattle.ether_capture.specs.declared.outcome.RunFault.{RunFault}
 use Rattle.ether_capture.specs.declared.outcome.RunFault.TheVariants as faults
 use Rattle.ether_capture.specs.declared.progress.Progress.{Progress}
 use Rattle.ether_capture.proofs.CopiesLemmas.{is_copy, copied_to_end, copied_to_refusal, copied_to_packet, read_so_far}
 use Rattle.ether_capture.proofs.PacketsLemmas.{GoesOn-ended, GoesOn-refused}
-use Rattle.ether_capture.proofs.ProgressLemmas.{Reached-fewer}
+use Rattle.ether_capture.proofs.ProgressLemmas.{Reached-fewer, Reached-counted}
 
 -- ---- what is left
 
@@ -110,10 +112,9 @@ module _ (select : Option Expression) (bytes front text : List ℕ) (packets kep
 
   -- it ends after a unit
   completed : (form : FormValue) → bytes ≡ front → x ≢ Beginning → Made select form packets kept front text all x
-      → Completes select form bytes
-      (text ++ last_lines form (counted (length packets)) (counted (sum_by skip_count packets))) all
+      → Completes select form packets bytes
+      (text ++ last_lines form (counted (packets_before form + length packets)) (counted (sum_by skip_count packets))) all
   completed (Lines options) is begun made = record {
-    packets = packets;
     lines = text;
     has =
         subst (λ (l : List ℕ). HasPackets Beginning l packets [] None) (sym is) (GoesOn-ended front packets x begun go);
@@ -134,9 +135,8 @@ module _ (select : Option Expression) (bytes front text : List ℕ) (packets kep
       → bytes ≡ front ++ rest → offset ≡ counted (length front)
       → ¬ (IsEnd x rest) → Refuses rest x (capture_refusal_view error)
       → HasFewer select count front → Made select form packets kept front text all x
-      → StopsAtFault select count form (record { offset = offset; error = error }) bytes text
+      → StopsAtFault select count form packets (record { offset = offset; error = error }) bytes text
   stopped (Lines options) rest offset error place at more refused fewer made = record {
-    packets = packets;
     front = front;
     rest = rest;
     all_accepted = all;
@@ -165,9 +165,8 @@ module _ (select : Option Expression) (bytes front text : List ℕ) (packets kep
   -- .. or within a unit
   broken : (Needs : Option ℕ → Type 0) (form : FormValue) (rest : List ℕ) (reason : CaptureRefusal)
       → bytes ≡ front ++ rest → Refuses rest x reason → Needs (required_len reason) → HasFewer select count front
-      → Made select form packets kept front text all x → EndsInUnit Needs select count form bytes text
+      → Made select form packets kept front text all x → EndsInUnit Needs select count form packets bytes text
   broken Needs (Lines options) rest reason place refused unfinished fewer made = record {
-    packets = packets;
     front = front;
     rest = rest;
     expected = x;
@@ -195,6 +194,15 @@ module _ (select : Option Expression) (bytes front text : List ℕ) (packets kep
         read_so_far select edit to edits front text kept x rest reason refused (made.0 to edits) some;
   }
 
+-- what is counted is said of the outcomes that count
+if_read : (r : Result Verdict RunFault) {P : Type 0} → P → IfRead r P
+if_read (Ok verdict) p = p
+if_read (Err (faults.Capture fault)) p = p
+if_read (Err (faults.NotEdited offset)) p = tt
+if_read (Err faults.Input) p = p
+if_read (Err faults.Output) p = tt
+if_read (Err faults.Memory) p = p
+
 -- ---- a run
 
 module _ {W : Type 0} (task : TaskValue) (contents : W → Option (List ℕ)) where
@@ -219,16 +227,28 @@ module _ {W : Type 0} (task : TaskValue) (contents : W → Option (List ℕ)) wh
       }
 
   module _ (before after held : Option (List ℕ)) where
+    -- the packets that were read are counted
+    counted_as : (input buffered : List ℕ) (at : Progress) (out : OutputBuffer W) (holds : Option (List ℕ))
+        (r : Result Verdict RunFault) (so_far : Reached task contents held input buffered at out)
+        → HasRunOver task so_far.packets before after held holds r
+        → HasCounted task before after held holds r (counts_at at)
+    counted_as input buffered at out holds r so_far run = record {
+      packets = so_far.packets;
+      run = run;
+      counted = if_read r (Reached-counted task contents held input buffered at out so_far);
+    }
+
     stops : (input buffered left : List ℕ) (at : Progress) (out : OutputBuffer W) (error : CaptureError)
         (fault : RunFault)
         → fault ≡ faults.Capture (record { offset = at.offset; error = error }) → Consumes before after input
         → IsLeft after left → at.left ≢ Some 0 → ¬ (IsEnd at.reader (buffered ++ left))
         → Refuses (buffered ++ left) at.reader (capture_refusal_view error)
-        → Reached task contents held input buffered at out
-        → HasRun task before after held (contents_of contents out) (Err fault)
+        → (so_far : Reached task contents held input buffered at out)
+        → HasRunOver task so_far.packets before after held (contents_of contents out) (Err fault)
     stops input buffered left at out error fault is read is_left some more refused so_far =
         let place = ap (λ (l : List ℕ). l ++ left) so_far.place ∙ append_assoc so_far.front buffered left in
-        subst (λ (f : RunFault). HasRun task before after held (contents_of contents out) (Err f)) (sym is) (record {
+        subst (λ (f : RunFault). HasRunOver task so_far.packets before after held (contents_of contents out) (Err f))
+        (sym is) (record {
           taken = input;
           left = left;
           text = so_far.text;
@@ -249,13 +269,14 @@ module _ {W : Type 0} (task : TaskValue) (contents : W → Option (List ℕ)) wh
         → at.left ≢ Some 0 → Refuses buffered at.reader (capture_refusal_view error)
         → required_len (capture_refusal_view error) ≡ None
         → Reached task contents held input buffered at out
-        → HasRun task before after held (contents_of contents out) (Err fault)
+        → HasCounted task before after held (contents_of contents out) (Err fault) (counts_at at)
     stopped_for_good input buffered at out error fault is read some refused none so_far =
         let left : List ℕ = unwrap_or after [] in
         let r = capture_refusal_view error in
-        stops input buffered left at out error fault is read (IsLeft-left_of after) some
+        counted_as input buffered at out (contents_of contents out) (Err fault) so_far
+        (stops input buffered left at out error fault is read (IsLeft-left_of after) some
         (λ end. refused_nothing buffered at.reader r (nothing_first buffered left end.1) refused none)
-        (refusal_local buffered left at.reader r refused none) so_far
+        (refusal_local buffered left at.reader r refused none) so_far)
 
     -- the capture ends within a unit
     pub stopped_at_end : (input buffered : List ℕ) (at : Progress) (out : OutputBuffer W) (error : CaptureError)
@@ -264,12 +285,20 @@ module _ {W : Type 0} (task : TaskValue) (contents : W → Option (List ℕ)) wh
         → IsAtEnd after → at.left ≢ Some 0 → ¬ (IsEnd at.reader buffered)
         → Refuses buffered at.reader (capture_refusal_view error)
         → Reached task contents held input buffered at out
-        → HasRun task before after held (contents_of contents out) (Err fault)
+        → HasCounted task before after held (contents_of contents out) (Err fault) (counts_at at)
     stopped_at_end input buffered at out error fault is read end some more refused so_far =
         let none = sym (append-nil buffered) in
-        stops input buffered [] at out error fault is read (IsLeft-end after end) some
+        counted_as input buffered at out (contents_of contents out) (Err fault) so_far
+        (stops input buffered [] at out error fault is read (IsLeft-end after end) some
         (subst (λ (l : List ℕ). ¬ (IsEnd at.reader l)) none more)
-        (subst (λ (l : List ℕ). Refuses l at.reader (capture_refusal_view error)) none refused) so_far
+        (subst (λ (l : List ℕ). Refuses l at.reader (capture_refusal_view error)) none refused) so_far)
+
+    -- the writer fails, and nothing is said
+    output_failed : (at : Progress) (to : OutputBuffer W) (fault : RunFault) → fault ≡ faults.Output
+        → HasCounted task before after held (contents_of contents to) (Err fault) (counts_at at)
+    output_failed at to fault failed =
+        subst (λ (f : RunFault). HasCounted task before after held (contents_of contents to) (Err f) (counts_at at))
+        (sym failed) (record { packets = []; run = tt; counted = tt })
 
     -- all units are taken
     pub finished : (input buffered : List ℕ) (at : Progress) (from to : OutputBuffer W) (r : Result Verdict RunFault)
@@ -279,15 +308,15 @@ module _ {W : Type 0} (task : TaskValue) (contents : W → Option (List ℕ)) wh
         (Appends (contents_of contents from) (contents_of contents to) (last_lines task.form at.count at.skipped))
         → IfErr r (λ fault. fault ≡ faults.Output)
         → Reached task contents held input buffered at from
-        → HasRun task before after held (contents_of contents to) r
+        → HasCounted task before after held (contents_of contents to) r (counts_at at)
     finished input buffered at from to (Ok verdict) read end some over is written fault so_far =
-        let last = last_lines task.form (counted (length so_far.packets)) (counted
+        let last = last_lines task.form (counted (packets_before task.form + length so_far.packets)) (counted
         (sum_by skip_count so_far.packets)) in
         let same : last_lines task.form at.count at.skipped ≡ last =
         (λ i. last_lines task.form (so_far.is_count i) (so_far.is_skipped i)) in
         let whole : input ≡ so_far.front =
         so_far.place ∙ ap (λ (l : List ℕ). so_far.front ++ l) over.1 ∙ append-nil so_far.front in
-        inl (record {
+        counted_as input buffered at from (contents_of contents to) (Ok verdict) so_far (inl (record {
           input = input;
           text = so_far.text ++ last;
           all_accepted = so_far.all_accepted;
@@ -303,9 +332,9 @@ module _ {W : Type 0} (task : TaskValue) (contents : W → Option (List ℕ)) wh
           written =
               Appends-then held (contents_of contents from) (contents_of contents to) so_far.text last so_far.written
               (subst (λ (t : List ℕ). Appends (contents_of contents from) (contents_of contents to) t) same written);
-        })
+        }))
     finished input buffered at from to (Err fault) read end some over is written failed so_far =
-        subst (λ (f : RunFault). HasRun task before after held (contents_of contents to) (Err f)) (sym failed) tt
+        output_failed at to fault failed
 
     -- all packets that are asked for are taken
     pub counted_out : (input buffered : List ℕ) (at : Progress) (from to : OutputBuffer W) (r : Result Verdict RunFault)
@@ -315,15 +344,15 @@ module _ {W : Type 0} (task : TaskValue) (contents : W → Option (List ℕ)) wh
         (Appends (contents_of contents from) (contents_of contents to) (last_lines task.form at.count at.skipped))
         → IfErr r (λ fault. fault ≡ faults.Output)
         → Reached task contents held input buffered at from
-        → HasRun task before after held (contents_of contents to) r
+        → HasCounted task before after held (contents_of contents to) r (counts_at at)
     counted_out input buffered at from to (Ok verdict) read none is written fault so_far =
         let left : List ℕ = unwrap_or after [] in
-        let last = last_lines task.form (counted (length so_far.packets)) (counted
+        let last = last_lines task.form (counted (packets_before task.form + length so_far.packets)) (counted
         (sum_by skip_count so_far.packets)) in
         let same : last_lines task.form at.count at.skipped ≡ last =
         (λ i. last_lines task.form (so_far.is_count i) (so_far.is_skipped i)) in
         let ends = so_far.at_count none in
-        inr (record {
+        counted_as input buffered at from (contents_of contents to) (Ok verdict) so_far (inr (record {
           taken = input;
           left = left;
           text = so_far.text ++ last;
@@ -344,17 +373,17 @@ module _ {W : Type 0} (task : TaskValue) (contents : W → Option (List ℕ)) wh
           written =
               Appends-then held (contents_of contents from) (contents_of contents to) so_far.text last so_far.written
               (subst (λ (t : List ℕ). Appends (contents_of contents from) (contents_of contents to) t) same written);
-        })
+        }))
     counted_out input buffered at from to (Err fault) read none is written failed so_far =
-        subst (λ (f : RunFault). HasRun task before after held (contents_of contents to) (Err f)) (sym failed) tt
+        output_failed at to fault failed
 
     -- a unit is not whole
     breaks_off : (Needs : Option ℕ → Type 0) (input buffered : List ℕ) (at : Progress) (out : OutputBuffer W)
         (reason : CaptureRefusal)
         → Consumes before after input → at.left ≢ Some 0 → Refuses buffered at.reader reason
         → Needs (required_len reason)
-        → Reached task contents held input buffered at out
-        → BreaksOffAfter (EndsInUnit Needs task.select task.count task.form) before after held
+        → (so_far : Reached task contents held input buffered at out)
+        → BreaksOffAfter (EndsInUnit Needs task.select task.count task.form so_far.packets) before after held
         (contents_of contents out)
     breaks_off Needs input buffered at out reason read some refused unfinished so_far = record {
       taken = input;
@@ -373,13 +402,15 @@ module _ {W : Type 0} (task : TaskValue) (contents : W → Option (List ℕ)) wh
         → Consumes before mid input → Keeps mid after → IsErrAnd r (λ fault. fault ≡ faults.Input)
         → at.left ≢ Some 0 → Refuses buffered at.reader reason → required_len reason ≢ None
         → Reached task contents held input buffered at out
-        → HasRun task before after held (contents_of contents out) r
+        → HasCounted task before after held (contents_of contents out) r (counts_at at)
     broken_off mid (Ok verdict) input buffered at out reason read kept is some refused needed so_far =
         absurd is
     broken_off mid (Err fault) input buffered at out reason read kept is some refused needed so_far =
-        subst (λ (f : RunFault). HasRun task before after held (contents_of contents out) (Err f)) (sym is)
+        counted_as input buffered at out (contents_of contents out) (Err fault) so_far
+        (subst (λ (f : RunFault). HasRunOver task so_far.packets before after held (contents_of contents out) (Err f))
+        (sym is)
         (breaks_off (λ n. n ≢ None) input buffered at out reason (Consumes-kept before mid after input read kept)
-        some refused needed so_far)
+        some refused needed so_far))
 
     -- memory is refused
     pub without_memory : (r : Result Verdict RunFault) (input buffered : List ℕ) (at : Progress) (out : OutputBuffer W)
@@ -388,17 +419,19 @@ module _ {W : Type 0} (task : TaskValue) (contents : W → Option (List ℕ)) wh
         → Refuses buffered at.reader reason
         → required_len reason ≡ Some n → 65536 < n
         → Reached task contents held input buffered at out
-        → HasRun task before after held (contents_of contents out) r
+        → HasCounted task before after held (contents_of contents out) r (counts_at at)
     without_memory (Ok verdict) input buffered at out reason n is read some refused needs large so_far = absurd is
     without_memory (Err fault) input buffered at out reason n is read some refused needs large so_far =
-        subst (λ (f : RunFault). HasRun task before after held (contents_of contents out) (Err f)) (sym is)
+        counted_as input buffered at out (contents_of contents out) (Err fault) so_far
+        (subst (λ (f : RunFault). HasRunOver task so_far.packets before after held (contents_of contents out) (Err f))
+        (sym is)
         (breaks_off NeedsMemory input buffered at out reason read some refused (subst NeedsMemory
-        (sym needs) large) so_far)
+        (sym needs) large) so_far))
 
     -- a packet can't be edited
     at_packet : (form : FormValue) (input : List ℕ) (offset : ℕ) (out : OutputBuffer W)
         → Consumes before after input → UneditedIn task.select task.count form contents held input offset out
-        → HasRun (record task { form = form }) before after held (contents_of contents out) (Err
+        → HasRunOver (record task { form = form }) [] before after held (contents_of contents out) (Err
         (faults.NotEdited offset))
     at_packet (Lines options) input offset out read s = absurd s
     at_packet (Copy edit) input offset out read s =
@@ -435,79 +468,97 @@ module _ {W : Type 0} (task : TaskValue) (contents : W → Option (List ℕ)) wh
         }
 
     -- .. or the writer fails
-    stopped_taking : (fault : RunFault) (input buffered : List ℕ) (old : Progress) (from to : OutputBuffer W)
+    stopped_taking : (fault : RunFault) (input buffered : List ℕ) (old new : Progress) (from to : OutputBuffer W)
         → IsTakingFault fault → OnNotEdited fault (λ offset. StopsAfter task contents buffered old from offset to)
         → Consumes before after input → Reached task contents held input buffered old from
-        → HasRun task before after held (contents_of contents to) (Err fault)
-    stopped_taking (faults.Capture fault) input buffered old from to is stops read so_far = absurd is
-    stopped_taking (faults.NotEdited offset) input buffered old from to is stops read so_far =
-        at_packet task.form input offset to read (stops held input so_far)
-    stopped_taking faults.Input input buffered old from to is stops read so_far = absurd is
-    stopped_taking faults.Output input buffered old from to is stops read so_far = tt
-    stopped_taking faults.Memory input buffered old from to is stops read so_far = absurd is
+        → HasCounted task before after held (contents_of contents to) (Err fault) (counts_at new)
+    stopped_taking (faults.Capture fault) input buffered old new from to is stops read so_far = absurd is
+    stopped_taking (faults.NotEdited offset) input buffered old new from to is stops read so_far =
+        record { packets = []; run = at_packet task.form input offset to read (stops held input so_far); counted = tt }
+    stopped_taking faults.Input input buffered old new from to is stops read so_far = absurd is
+    stopped_taking faults.Output input buffered old new from to is stops read so_far =
+        record { packets = []; run = tt; counted = tt }
+    stopped_taking faults.Memory input buffered old new from to is stops read so_far = absurd is
 
-    pub stopped_with : (r : Result Verdict RunFault) (fault : RunFault) (input buffered : List ℕ) (old : Progress)
+    pub stopped_with : (r : Result Verdict RunFault) (fault : RunFault) (input buffered : List ℕ) (old new : Progress)
         (from to : OutputBuffer W)
         → IsErrAnd r (λ other. other ≡ fault) → IsTakingFault fault
         → OnNotEdited fault (λ offset. StopsAfter task contents buffered old from offset to)
         → Consumes before after input → Reached task contents held input buffered old from
-        → HasRun task before after held (contents_of contents to) r
-    stopped_with (Ok verdict) fault input buffered old from to is of stops read so_far = absurd is
-    stopped_with (Err other) fault input buffered old from to is of stops read so_far =
-        subst (λ (f : RunFault). HasRun task before after held (contents_of contents to) (Err f)) (sym is)
-        (stopped_taking fault input buffered old from to of stops read so_far)
+        → HasCounted task before after held (contents_of contents to) r (counts_at new)
+    stopped_with (Ok verdict) fault input buffered old new from to is of stops read so_far = absurd is
+    stopped_with (Err other) fault input buffered old new from to is of stops read so_far =
+        subst (λ (f : RunFault). HasCounted task before after held (contents_of contents to) (Err f) (counts_at new))
+        (sym is) (stopped_taking fault input buffered old new from to of stops read so_far)
 
 -- ---- the closing flush
 
 -- all that waited is passed to the writer
-pub HasRun-flushed : {W : Type 0} (task : TaskValue) (contents : W → Option (List ℕ))
+HasRunOver-flushed : {W : Type 0} (task : TaskValue) (contents : W → Option (List ℕ))
     (before after held : Option (List ℕ))
     (from to : OutputBuffer W) (r : Result Verdict RunFault)
-    → WritesOut contents from to → HasRun task before after held (contents_of contents from) r
-    → HasRun task before after held (contents to.writer.now) r
-HasRun-flushed task contents before after held from to (Ok verdict) drains (inl h) =
+    (packets : List PacketValue)
+    → WritesOut contents from to → HasRunOver task packets before after held (contents_of contents from) r
+    → HasRunOver task packets before after held (contents to.writer.now) r
+HasRunOver-flushed task contents before after held from to (Ok verdict) packets drains (inl h) =
     inl (answers_flushed contents before after held from to drains verdict h)
-HasRun-flushed task contents before after held from to (Ok verdict) drains (inr h) =
+HasRunOver-flushed task contents before after held from to (Ok verdict) packets drains (inr h) =
     inr (stops_flushed contents before after held from to drains h)
-HasRun-flushed task contents before after held from to (Err (faults.Capture fault)) drains h =
+HasRunOver-flushed task contents before after held from to (Err (faults.Capture fault)) packets drains h =
     stops_flushed contents before after held from to drains h
-HasRun-flushed task contents before after held from to (Err (faults.NotEdited offset)) drains h =
+HasRunOver-flushed task contents before after held from to (Err (faults.NotEdited offset)) packets drains h =
     stops_flushed contents before after held from to drains h
-HasRun-flushed task contents before after held from to (Err faults.Input) drains h =
+HasRunOver-flushed task contents before after held from to (Err faults.Input) packets drains h =
     breaks_flushed contents before after held from to drains h
-HasRun-flushed task contents before after held from to (Err faults.Output) drains h = tt
-HasRun-flushed task contents before after held from to (Err faults.Memory) drains h =
+HasRunOver-flushed task contents before after held from to (Err faults.Output) packets drains h = tt
+HasRunOver-flushed task contents before after held from to (Err faults.Memory) packets drains h =
     breaks_flushed contents before after held from to drains h
 
+pub HasCounted-flushed : {W : Type 0} (task : TaskValue) (contents : W → Option (List ℕ))
+    (before after held : Option (List ℕ)) (from to : OutputBuffer W) (r : Result Verdict RunFault) (counts : PacketCounts)
+    → WritesOut contents from to → HasCounted task before after held (contents_of contents from) r counts
+    → HasCounted task before after held (contents to.writer.now) r counts
+HasCounted-flushed task contents before after held from to r counts drains h = record {
+  packets = h.packets;
+  run = HasRunOver-flushed task contents before after held from to r h.packets drains h.run;
+  counted = h.counted;
+}
+
 -- what is said of known bytes is said of the same bytes
-pub HasRun-same : (task : TaskValue) (r : Result Verdict RunFault)
+pub HasCounted-same : (task : TaskValue) (r : Result Verdict RunFault) (counts counts' : PacketCounts)
     (before after held holds before' after' held' holds' : Option (List ℕ))
-    → before ≡ before' → after ≡ after' → held ≡ held' → holds ≡ holds' → HasRun task before after held holds r
-    → HasRun task before' after' held' holds' r
-HasRun-same task r before after held holds before' after' held' holds' e f g h =
-    subst (λ (t : Type 0). t) (λ i. HasRun task (e i) (f i) (g i) (h i) r)
+    → before ≡ before' → after ≡ after' → held ≡ held' → holds ≡ holds' → counts ≡ counts'
+    → HasCounted task before after held holds r counts → HasCounted task before' after' held' holds' r counts'
+HasCounted-same task r counts counts' before after held holds before' after' held' holds' e f g h k =
+    subst (λ (t : Type 0). t) (λ i. HasCounted task (e i) (f i) (g i) (h i) r (k i))
+
+-- .. without the number of packets
+pub has_run : (task : TaskValue) (r : Result Verdict RunFault) (counts : PacketCounts)
+    (before after held holds : Option (List ℕ))
+    → HasCounted task before after held holds r counts → HasRun task before after held holds r
+has_run task r counts before after held holds h = (h.packets, h.run)
 
 -- ---- a run over a slice
 
-slice_answers : (task : TaskValue) (can_fail : Type 0) (bytes : List ℕ) (after held holds : Option (List ℕ))
+slice_answers : (task : TaskValue) (packets : List PacketValue) (can_fail : Type 0) (bytes : List ℕ) (after held holds : Option (List ℕ))
     (r : Result Verdict RunFault)
     → length bytes < 2 ^ 64 - 1
-    → HasRun task (Some bytes) after held holds r
+    → HasRunOver task packets (Some bytes) after held holds r
     → IfErr r (λ fault. OnStreamFault fault (⊥ ⊎ IsEndless (Some bytes) after) can_fail)
-    → AnswersSlice task can_fail bytes held holds r
-slice_answers task can_fail bytes after held holds (Ok verdict) short (inl h) failed =
-    inl (answers_slice (CompletesAll task) bytes after held holds verdict h)
-slice_answers task can_fail bytes after held holds (Ok verdict) short (inr h) failed =
-    inr (stops_slice (ReachesCount task verdict) bytes after held holds h)
-slice_answers task can_fail bytes after held holds (Err (faults.Capture fault)) short h failed =
-    stops_slice (StopsAtFault task.select task.count task.form fault) bytes after held holds h
-slice_answers task can_fail bytes after held holds (Err (faults.NotEdited offset)) short h failed =
+    → AnswersSliceOver task packets can_fail bytes held holds r
+slice_answers task packets can_fail bytes after held holds (Ok verdict) short (inl h) failed =
+    inl (answers_slice (CompletesAll task packets) bytes after held holds verdict h)
+slice_answers task packets can_fail bytes after held holds (Ok verdict) short (inr h) failed =
+    inr (stops_slice (ReachesCount task packets verdict) bytes after held holds h)
+slice_answers task packets can_fail bytes after held holds (Err (faults.Capture fault)) short h failed =
+    stops_slice (StopsAtFault task.select task.count task.form packets fault) bytes after held holds h
+slice_answers task packets can_fail bytes after held holds (Err (faults.NotEdited offset)) short h failed =
     stops_slice (StopsAtPacket task.select task.count task.form offset) bytes after held holds h
-slice_answers task can_fail bytes after held holds (Err faults.Input) short h failed =
+slice_answers task packets can_fail bytes after held holds (Err faults.Input) short h failed =
     absurd (no_endless_slice bytes after short failed)
-slice_answers task can_fail bytes after held holds (Err faults.Output) short h failed = failed
-slice_answers task can_fail bytes after held holds (Err faults.Memory) short h failed =
-    breaks_slice (EndsInUnit NeedsMemory task.select task.count task.form) bytes after held holds h
+slice_answers task packets can_fail bytes after held holds (Err faults.Output) short h failed = failed
+slice_answers task packets can_fail bytes after held holds (Err faults.Memory) short h failed =
+    breaks_slice (EndsInUnit NeedsMemory task.select task.count task.form packets) bytes after held holds h
 
 pub slice_answered : (task : TaskValue) (can_fail : Type 0) (bytes : List ℕ)
     (before after held holds : Option (List ℕ))
@@ -515,7 +566,10 @@ pub slice_answered : (task : TaskValue) (can_fail : Type 0) (bytes : List ℕ)
     → before ≡ Some bytes → length bytes < 2 ^ 64 - 1 → HasRun task before after held holds r
     → IfErr r (λ fault. OnStreamFault fault (⊥ ⊎ IsEndless before after) can_fail)
     → AnswersSlice task can_fail bytes held holds r
-slice_answered task can_fail bytes before after held holds r is short h failed =
-    slice_answers task can_fail bytes after held holds r short
-    (subst (λ (o : Option (List ℕ)). HasRun task o after held holds r) is h)
-    (subst (λ (o : Option (List ℕ)). IfErr r (λ fault. OnStreamFault fault (⊥ ⊎ IsEndless o after) can_fail)) is failed)
+slice_answered task can_fail bytes before after held holds r is short h failed = (
+  h.0,
+  slice_answers task h.0 can_fail bytes after held holds r short
+      (subst (λ (o : Option (List ℕ)). HasRunOver task h.0 o after held holds r) is h.1)
+      (subst (λ (o : Option (List ℕ)). IfErr r (λ fault. OnStreamFault fault (⊥ ⊎ IsEndless o after) can_fail)) is
+      failed),
+)

@@ -5,8 +5,9 @@ use Rattle.ether_filter.specs.Expressions.{Expression}
 use Rattle.ether_pcap.specs.Capture.{PacketValue, Expectation, Beginning, CaptureRefusal, Refuses, required_len, HasPackets}
 use Rattle.ether_pcap.specs.CaptureViews.{capture_refusal_view}
 use Rattle.ether_pcap.specs.declared.capture.capture_fault.CaptureFault.{CaptureFault}
-use Rattle.ether_capture.specs.FrameLines.{AnswersPacket, skip_count, totals_line_if}
+use Rattle.ether_capture.specs.FrameLines.{AnswersPacket, skip_count, totals_line_after}
 use Rattle.ether_capture.specs.Packets.{counted, GoesOn, HasFewer}
+use Rattle.ether_capture.specs.Task.{Lines, packets_before}
 use Rattle.ether_capture.specs.declared.task.LineOptions.{LineOptions}
 
 -- this is the text for the packets in order, after so many before them, and all says that each is accepted
@@ -19,19 +20,24 @@ AreAnswered select options before (p ∷ packets) text all =
 
 -- the line after those of all packets
 abbrev pub totals_of : (options : LineOptions) → List PacketValue → List ℕ
-totals_of options packets = totals_line_if options.is_plain (counted (length packets)) (counted (sum_by skip_count packets))
+totals_of options packets =
+    totals_line_after options.before options.is_plain (counted (packets_before (Lines options) + length packets)) (counted (sum_by skip_count packets))
 
--- this is the text for all packets of the bytes, to their end, and for the totals
-pub record AnswersCapture (select : Option Expression) (options : LineOptions) (bytes text : List ℕ) (all_accepted : Bool) : Type 0 where
-  pub packets : List PacketValue
+-- this is the text for the packets of a capture, after those of captures before it
+abbrev pub AreListed : (select : Option Expression) → (options : LineOptions) → List PacketValue → (text : List ℕ) → (all : Bool) → Type 0
+AreListed select options packets text all = AreAnswered select options (packets_before (Lines options)) packets text all
+
+-- these are all packets of the bytes, to their end, and this is the text for them and for the totals
+pub record AnswersCapture (select : Option Expression) (options : LineOptions) (packets : List PacketValue) (bytes text : List ℕ)
+    (all_accepted : Bool) : Type 0 where
   pub lines : List ℕ
   pub has : HasPackets Beginning bytes packets [] None
-  pub answered : AreAnswered select options 0 packets lines all_accepted
+  pub answered : AreListed select options packets lines all_accepted
   pub is_text : text ≡ lines ++ totals_of options packets
 
--- this is the text for the packets of the bytes up to the fault, which is at this place
-pub record AnswersToFault (select : Option Expression) (count : Option ℕ) (options : LineOptions) (fault : CaptureFault) (bytes text : List ℕ) : Type 0 where
-  pub packets : List PacketValue
+-- these are the packets of the bytes up to the fault, which is at this place, and this is the text for them
+pub record AnswersToFault (select : Option Expression) (count : Option ℕ) (options : LineOptions) (packets : List PacketValue)
+    (fault : CaptureFault) (bytes text : List ℕ) : Type 0 where
   pub front : List ℕ
   pub rest : List ℕ
   pub all_accepted : Bool
@@ -39,12 +45,12 @@ pub record AnswersToFault (select : Option Expression) (count : Option ℕ) (opt
   pub place : bytes ≡ front ++ rest
   pub is_offset : fault.offset ≡ counted (length front)
   pub fewer : HasFewer select count front
-  pub answered : AreAnswered select options 0 packets text all_accepted
+  pub answered : AreListed select options packets text all_accepted
 
--- This is the text for the packets that come first in the bytes, whatever follows; what is left is not a whole unit, and more bytes may
--- make it one: this holds of how many it needs at least.
-pub record AnswersToUnit (Needs : Option ℕ → Type 0) (select : Option Expression) (count : Option ℕ) (options : LineOptions) (bytes text : List ℕ) : Type 0 where
-  pub packets : List PacketValue
+-- These are the packets that come first in the bytes, whatever follows, and this is the text for them; what is left is not a whole unit, and
+-- more bytes may make it one: this holds of how many it needs at least.
+pub record AnswersToUnit (Needs : Option ℕ → Type 0) (select : Option Expression) (count : Option ℕ) (options : LineOptions)
+    (packets : List PacketValue) (bytes text : List ℕ) : Type 0 where
   pub front : List ℕ
   pub rest : List ℕ
   pub expected : Expectation
@@ -55,4 +61,4 @@ pub record AnswersToUnit (Needs : Option ℕ → Type 0) (select : Option Expres
   pub begun : Refuses rest expected reason
   pub unfinished : Needs (required_len reason)
   pub fewer : HasFewer select count front
-  pub answered : AreAnswered select options 0 packets text all_accepted
+  pub answered : AreListed select options packets text all_accepted

@@ -70,3 +70,8 @@ AnswersPacket select options number p text accepted =
 abbrev pub totals_line_if : (plain : Bool) → (frames skipped : ℕ) → List ℕ
 totals_line_if true frames skipped = []
 totals_line_if false frames skipped = codes "total frames " ++ (decimal frames ++ (codes " skipped " ++ (decimal skipped ++ codes "\n")))
+
+-- .. and unless the capture is one of several
+abbrev pub totals_line_after : (before : Option ℕ) → (plain : Bool) → (frames skipped : ℕ) → List ℕ
+totals_line_after None plain frames skipped = totals_line_if plain frames skipped
+totals_line_after (Some packets) plain frames skipped = []

@@ -11,3 +11,5 @@ pub mod Outcome
 pub mod Progress
 pub mod Program
 pub mod Tags
+pub mod Counting
+pub mod Files

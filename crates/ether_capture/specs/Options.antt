@@ -14,6 +14,8 @@ use Rattle.ether_content.specs.EditingViews.{edit_view}
 use Rattle.ether_capture.specs.Tags.{IsTagEdit, tag_word}
 use Rattle.ether_capture.specs.Task.{TaskValue, FormValue, Lines, Copy, task_view}
 use Rattle.ether_capture.specs.declared.options.Asked.{Asked}
+use Rattle.ether_capture.specs.declared.options.Listing.{Listing}
+use Rattle.ether_capture.specs.declared.task.LineOptions.{LineOptions}
 use Rattle.ether_capture.specs.declared.options.RequestError.{RequestError}
 use Rattle.ether_capture.specs.declared.options.RequestError.TheVariants as reasons
 use Rattle.ether_capture.specs.declared.options.Request.{Request}
@@ -21,14 +23,31 @@ use Rattle.ether_capture.specs.declared.options.Request.TheVariants as requests
 use Rattle.ether_capture.specs.declared.options.Word.{Word}
 use Rattle.ether_capture.specs.declared.options.Word.TheVariants as kinds
 
--- this is made of the capture in the file of this name, or of standard input; the usage; the version
+-- the lines of the captures in the files of these names
+pub record ListingValue : Type 0 where
+  pub select : Option Expression
+  pub count : Option ℕ
+  pub options : LineOptions
+  pub files : List (List ℕ)
+
+abbrev pub listing_view : Listing → ListingValue
+listing_view l = record {
+  select = l.filter;
+  count = option_map non_zero_usize_get l.count;
+  options = l.options;
+  files = map string_bytes l.files.items;
+}
+
+-- this is made of the capture in the file of this name, or of standard input; or lines of several captures; the usage; the version
 pub data RequestValue : Type 0 where
   Run : TaskValue → (file : Option (List ℕ)) → RequestValue
+  Lists : ListingValue → RequestValue
   Help : RequestValue
   Version : RequestValue
 
 abbrev pub request_view : Request → RequestValue
 request_view (requests.Run task file) = Run (task_view task) (option_map string_bytes file)
+request_view (requests.List listing) = Lists (listing_view listing)
 request_view requests.Help = Help
 request_view requests.Version = Version
 
@@ -39,7 +58,12 @@ abbrev pub IsName : List ℕ → Type 0
 IsName [] = ⊤
 IsName (byte ∷ bytes) = byte ≢ 45
 
--- which options there are, with the text of a filter, and the name of a file
+-- each word names a file
+abbrev pub AreNames : List (List ℕ) → Type 0
+AreNames [] = ⊤
+AreNames (name ∷ names) = IsName name × AreNames names
+
+-- which options there are, with the text of a filter, and the names of files
 pub record AskedValue : Type 0 where
   pub plain : Bool
   pub write : Bool
@@ -47,10 +71,10 @@ pub record AskedValue : Type 0 where
   pub text : Option (List ℕ)
   pub count : Option ℕ
   pub limit : Option ℕ
-  pub file : Option (List ℕ)
+  pub files : List (List ℕ)
 
 abbrev pub nothing_asked : AskedValue
-nothing_asked = record { plain = false; write = false; edit = None; text = None; count = None; limit = None; file = None }
+nothing_asked = record { plain = false; write = false; edit = None; text = None; count = None; limit = None; files = [] }
 
 -- a number of packets, written as in a filter, and not 0
 abbrev pub IsCount : (text : List ℕ) → ℕ → Type 0
@@ -61,10 +85,11 @@ abbrev pub IsLimit : (text : List ℕ) → ℕ → Type 0
 IsLimit text n = number_in text ≡ Some (Some n)
 
 -- What is asked for with these words, after the words before them. Options come in any order, each once at most, with one edit
--- at most, and the name of a file comes last.
+-- at most, and the names of files come last.
 pub data Asks : AskedValue → List (List ℕ) → AskedValue → Type 0 where
   no_word : (a : AskedValue) → Asks a [] a
-  file : (a : AskedValue) (name : List ℕ) → IsName name → Asks a (name ∷ []) (record a { file = Some name })
+  files : (a : AskedValue) (name : List ℕ) (names : List (List ℕ)) → AreNames (name ∷ names)
+      → Asks a (name ∷ names) (record a { files = name ∷ names })
   plain : (a b : AskedValue) (words : List (List ℕ)) → a.plain ≡ false → Asks (record a { plain = true }) words b
       → Asks a (codes "--plain" ∷ words) b
   write : (a b : AskedValue) (words : List (List ℕ)) → a.write ≡ false → Asks (record a { write = true }) words b
@@ -90,20 +115,37 @@ IsSelection None None = ⊤
 IsSelection (Some text) (Some x) = IsExpressionOf text x
 IsSelection text other = ⊥
 
--- an option is asked for that does not go with the others: no copy is plain or has a limit, and no packet is edited without a copy
+-- there are two at least
+abbrev pub are_several : List (List ℕ) → Bool
+are_several (name ∷ other ∷ names) = true
+are_several _ = false
+
+-- an option is asked for that does not go with the others: no copy is plain, has a limit or is of several files, and no packet is edited without
+-- a copy
 abbrev pub clashes : AskedValue → Bool
-clashes a = if a.write then a.plain || is_some a.limit else is_some a.edit
+clashes a = if a.write then a.plain || (is_some a.limit || are_several a.files) else is_some a.edit
+
+-- which lines are asked for
+abbrev pub options_of : AskedValue → LineOptions
+options_of a = record { is_plain = a.plain; limit = a.limit; before = None }
 
 -- lines are asked for, or a copy
 abbrev pub form_of : AskedValue → FormValue
-form_of a = if a.write then Copy a.edit else Lines (record { is_plain = a.plain; limit = a.limit })
+form_of a = if a.write then Copy a.edit else Lines (options_of a)
+
+-- what is asked for, with these files
+abbrev pub request_for : AskedValue → (select : Option Expression) → (files : List (List ℕ)) → RequestValue
+request_for a x [] = Run (record { select = x; count = a.count; form = form_of a }) None
+request_for a x (name ∷ []) = Run (record { select = x; count = a.count; form = form_of a }) (Some name)
+request_for a x (name ∷ other ∷ names) =
+    Lists (record { select = x; count = a.count; options = options_of a; files = name ∷ other ∷ names })
 
 -- this is what is asked for
 pub record IsRequestOf (a : AskedValue) (request : RequestValue) : Type 0 where
   pub select : Option Expression
   pub goes : clashes a ≡ false
   pub selects : IsSelection a.text select
-  pub is : request ≡ Run (record { select = select; count = a.count; form = form_of a }) a.file
+  pub is : request ≡ request_for a select a.files
 
 pub data NamesRequest : List (List ℕ) → RequestValue → Type 0 where
   help : NamesRequest (codes "--help" ∷ []) Help
@@ -126,10 +168,20 @@ pub record NamesNoFilter (words : List (List ℕ)) (copy : Bool) (e : FilterErro
   pub asks : Asks nothing_asked words asked
   pub no_filter : HasNoFilter asked copy e
 
--- why words are wrong
+-- after options, of a copy or not, there is the name of a file
+pub record HasNames (words : List (List ℕ)) (copy : Bool) : Type 0 where
+  pub asked : AskedValue
+  pub name : List ℕ
+  pub names : List (List ℕ)
+  pub options : (c : AskedValue) → Asks asked (name ∷ names) c ↔ Asks nothing_asked words c
+  pub is_name : IsName name
+  pub form : asked.write ≡ copy
+
+-- why words are wrong, or that memory for names was refused
 abbrev pub RefusesWords : List (List ℕ) → RequestError → Type 0
 RefusesWords words reasons.Usage = NamesNothing words × ((copy : Bool) (e : FilterError) → ¬ (NamesNoFilter words copy e))
 RefusesWords words (reasons.Filter copy e) = NamesNoFilter words copy e
+RefusesWords words (reasons.Memory copy) = HasNames words copy
 
 -- ---- one word after another
 
@@ -144,7 +196,7 @@ asked_view asked = record {
   text = option_map string_bytes asked.text;
   count = option_map non_zero_usize_get asked.count;
   limit = asked.limit;
-  file = option_map string_bytes asked.file;
+  files = map string_bytes asked.files.items;
 }
 
 -- what a word is, if it is known
@@ -174,6 +226,12 @@ AskSame a words b left = (c : AskedValue) → Asks b left c ↔ Asks a words c
 abbrev pub AskNothing : (a : AskedValue) → (words : List (List ℕ)) → Type 0
 AskNothing a words = (c : AskedValue) → ¬ (Asks a words c)
 
+-- why a word is not taken: with those after it, it asks for nothing; or memory for names was refused
+abbrev pub RefusesTaking : (a : AskedValue) → (word : List ℕ) → (words : List (List ℕ)) → RequestError → Type 0
+RefusesTaking a word words reasons.Usage = AskNothing a (word ∷ words)
+RefusesTaking a word words (reasons.Filter copy e) = ⊥
+RefusesTaking a word words (reasons.Memory copy) = IsName word × (a.write ≡ copy)
+
 -- an expression means a text, if there is one, or the text is refused
 abbrev pub RefusesSelection : (text : Option (List ℕ)) → FilterError → Type 0
 RefusesSelection None e = ⊥
@@ -183,6 +241,7 @@ RefusesSelection (Some text) e = RefusesText text e
 abbrev pub RefusesAsked : AskedValue → RequestError → Type 0
 RefusesAsked a reasons.Usage = clashes a ≡ true
 RefusesAsked a (reasons.Filter copy e) = HasNoFilter a copy e
+RefusesAsked a (reasons.Memory copy) = ⊥
 
 -- options ask for this
 abbrev pub OptionsAsk : (words : List (List ℕ)) → RequestValue → Type 0
@@ -192,3 +251,4 @@ OptionsAsk words request = (a : AskedValue) × Asks nothing_asked words a × IsR
 abbrev pub RefusesOptions : (words : List (List ℕ)) → RequestError → Type 0
 RefusesOptions words reasons.Usage = (a : AskedValue) → Asks nothing_asked words a → clashes a ≡ true
 RefusesOptions words (reasons.Filter copy e) = NamesNoFilter words copy e
+RefusesOptions words (reasons.Memory copy) = HasNames words copy

@@ -14,6 +14,10 @@ use Rattle.ether_capture.specs.declared.outcome.Outcome.TheVariants as outcomes
 use Rattle.ether_pcap.specs.declared.capture.capture_fault.CaptureFault.{CaptureFault}
 use Rattle.ether_capture.specs.declared.outcome.LastLine.{LastLine}
 use Rattle.ether_capture.specs.declared.outcome.LastLine.TheVariants as last_lines
+use Rattle.ether_capture.specs.declared.outcome.FileEnd.{FileEnd}
+use Rattle.ether_capture.specs.declared.outcome.FileEnd.TheVariants as ends
+use Rattle.ether_capture.specs.declared.outcome.Reason.{Reason}
+use Rattle.ether_capture.specs.declared.outcome.Reason.TheVariants as why
 use Rattle.ether_capture.specs.declared.outcome.RunFault.{RunFault}
 use Rattle.ether_capture.specs.declared.outcome.RunFault.TheVariants.{Capture, NotEdited, Input, Output, Memory}
 
@@ -28,7 +32,7 @@ exit_status (Err Output) = 4
 exit_status (Err Memory) = 5
 
 abbrev pub usage_text : List ℕ
-usage_text = codes "usage: ether_capture [[--plain] [--limit N] | --write [--cut-to-headers | --pop-vlan | --push-vlan TPID:ID | --set-vlan A:B]] [--select EXPR] [-c N] [FILE]"
+usage_text = codes "usage: ether_capture [[--plain] [--limit N] | --write [--cut-to-headers | --pop-vlan | --push-vlan TPID:ID | --set-vlan A:B]] [--select EXPR] [-c N] [FILE].."
 
 -- what is said if memory was refused
 abbrev pub memory_text : List ℕ
@@ -56,7 +60,7 @@ not_edited_text offset =
     codes "byte " ++ (decimal offset ++ (codes ": " ++ codes "This packet can't be edited: its block has no number of captured bytes, or it would be too long."))
 
 abbrev pub help_text : List ℕ
-help_text = codes "usage: ether_capture [[--plain] [--limit N] | --write [--cut-to-headers | --pop-vlan | --push-vlan TPID:ID | --set-vlan A:B]] [--select EXPR] [-c N] [FILE]\n\nPrints the link-layer headers of each packet of a capture, pcap or pcapng: FILE, or standard input.\n\n  --plain           leave out the lines of packets and the totals\n  --limit N         read N VLAN tags and SecTags of each packet at most\n  --select EXPR     only packets that match EXPR, in words of pcap-filter(7), as 'vlan 5 or arp'\n  -c N              end with the N-th of these packets\n  --write           write the capture itself, without the other packets; faults go to standard error\n  --cut-to-headers  with --write, cut each packet where its link-layer headers end\n  --pop-vlan        with --write, take the VLAN tag after the link's header off each frame\n  --push-vlan TPID:ID\n                    with --write, put a VLAN tag after the link's header, as 0x8100:5\n  --set-vlan A:B    with --write, give the outermost VLAN tag with identifier A identifier B\n  --help            print this text\n  --version         print the version"
+help_text = codes "usage: ether_capture [[--plain] [--limit N] | --write [--cut-to-headers | --pop-vlan | --push-vlan TPID:ID | --set-vlan A:B]] [--select EXPR] [-c N] [FILE]..\n\nPrints the link-layer headers of each packet of captures, pcap or pcapng: of each FILE, or of standard input.\n\n  --plain           leave out the lines of packets and the totals\n  --limit N         read N VLAN tags and SecTags of each packet at most\n  --select EXPR     only packets that match EXPR, in words of pcap-filter(7), as 'vlan 5 or arp'\n  -c N              end with the N-th of these packets, of all files together\n  --write           write the capture itself, of one FILE at most, without the other packets; faults go to standard error\n  --cut-to-headers  with --write, cut each packet where its link-layer headers end\n  --pop-vlan        with --write, take the VLAN tag after the link's header off each frame\n  --push-vlan TPID:ID\n                    with --write, put a VLAN tag after the link's header, as 0x8100:5\n  --set-vlan A:B    with --write, give the outermost VLAN tag with identifier A identifier B\n  --help            print this text\n  --version         print the version"
 
 abbrev pub version_text : List ℕ
 version_text = codes "ether_capture 1.0"
@@ -68,6 +72,32 @@ not_opened_text name = name ++ codes ": can't be opened"
 abbrev pub no_filter_text : FilterError → List ℕ
 no_filter_text error = codes "--select: " ++ filter_error_text error
 
+-- why a capture was not read to its end
+abbrev pub reason_text : Reason → List ℕ
+reason_text (why.Fault fault) = fault_line_text fault.now
+reason_text (why.NotEdited offset) = not_edited_text offset
+reason_text why.Input = codes "can't be read"
+reason_text why.Memory = memory_text
+
+-- .. with the name of its file
+abbrev pub named_text : (name reason : List ℕ) → List ℕ
+named_text name reason = name ++ (codes ": " ++ reason)
+
+-- what is printed after a capture, one of several, without its line feed
+abbrev pub text_of_file : (name : List ℕ) → FileEnd → Option (List ℕ)
+text_of_file name ends.NotOpened = Some (not_opened_text name)
+text_of_file name (ends.Read (Ok verdict)) = None
+text_of_file name (ends.Read (Err (Capture fault))) = Some (named_text name (fault_line_text fault))
+text_of_file name (ends.Read (Err (NotEdited offset))) = Some (named_text name (not_edited_text offset))
+text_of_file name (ends.Read (Err Input)) = Some (named_text name (codes "can't be read"))
+text_of_file name (ends.Read (Err Output)) = None
+text_of_file name (ends.Read (Err Memory)) = Some (named_text name memory_text)
+
+-- its exit status
+abbrev pub status_of_file : FileEnd → ℕ
+status_of_file ends.NotOpened = exit_status (Err Input)
+status_of_file (ends.Read end) = exit_status end
+
 -- what is printed after a run
 abbrev pub last_text_of_run : Result Verdict RunFault → Option (List ℕ)
 last_text_of_run (Ok verdict) = None
@@ -77,9 +107,15 @@ last_text_of_run (Err Input) = None
 last_text_of_run (Err Output) = None
 last_text_of_run (Err Memory) = Some memory_text
 
+-- a line with its line feed, if there is one
+abbrev pub last_bytes : Option (List ℕ) → List ℕ
+last_bytes None = []
+last_bytes (Some text) = text ++ codes "\n"
+
 -- what the program prints last, without its line feed
 abbrev pub last_text : Outcome → Option (List ℕ)
 last_text (outcomes.Run copy end) = last_text_of_run end
+last_text (outcomes.Files end) = None
 last_text (outcomes.NotOpened copy name) = Some (not_opened_text (string_bytes name))
 last_text (outcomes.NoFilter copy error) = Some (no_filter_text error)
 last_text outcomes.Help = Some help_text
@@ -89,6 +125,7 @@ last_text outcomes.Usage = Some usage_text
 -- what is printed last is a message: the words are wrong, or a copy was asked for
 abbrev pub is_message : Outcome → Bool
 is_message (outcomes.Run copy end) = copy
+is_message (outcomes.Files end) = false
 is_message (outcomes.NotOpened copy name) = copy
 is_message (outcomes.NoFilter copy error) = copy
 is_message outcomes.Help = false
@@ -98,6 +135,8 @@ is_message outcomes.Usage = true
 -- the exit status of an outcome
 abbrev pub status_of_outcome : Outcome → ℕ
 status_of_outcome (outcomes.Run copy end) = exit_status end
+status_of_outcome (outcomes.Files (Ok status)) = status
+status_of_outcome (outcomes.Files (Err fault)) = exit_status (Err Output)
 status_of_outcome (outcomes.NotOpened copy name) = exit_status (Err Input)
 status_of_outcome (outcomes.NoFilter copy error) = 2
 status_of_outcome outcomes.Help = 0
@@ -109,9 +148,8 @@ abbrev pub status_of_program : Outcome → (printed : Bool) → ℕ
 status_of_program outcome printed = if printed || is_message outcome then status_of_outcome outcome else exit_status (Err Output)
 
 abbrev pub last_line_text : LastLine → List ℕ
-last_line_text (last_lines.Fault fault) = fault_line_text fault.now
-last_line_text (last_lines.NotEdited offset) = not_edited_text offset
-last_line_text last_lines.Memory = memory_text
+last_line_text (last_lines.Stopped reason) = reason_text reason
+last_line_text (last_lines.Named name reason) = named_text name.now (reason_text reason)
 last_line_text (last_lines.NotOpened name) = not_opened_text name.now
 last_line_text last_lines.Help = help_text
 last_line_text last_lines.Version = version_text

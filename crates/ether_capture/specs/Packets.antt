@@ -1,5 +1,5 @@
 -- The packets of a capture as far as it was read.
-use Rattle.std.specs.Prelude.{◌≡◌, ℕ, suc, ◌-◌, ◌^◌, min, List, ◌++◌, length, Option, Some}
+use Rattle.std.specs.Prelude.{◌≡◌, ℕ, suc, ◌+◌, ◌-◌, ◌^◌, min, List, ◌++◌, length, Option, Some, None}
 use Rattle.ether_filter.specs.Expressions.{Expression}
 use Rattle.ether_pcap.specs.Capture.{PacketValue, Expectation, Beginning, CaptureRefusal, Begins, HasPackets}
 use Rattle.ether_pcap.specs.Copies.{Selected}
@@ -14,6 +14,11 @@ abbrev pub GoesOn : (front : List ℕ) → List PacketValue → Expectation → 
 GoesOn front packets x =
     (later : List ℕ) (others : List PacketValue) (rest : List ℕ) (fault : Option CaptureRefusal)
     → HasPackets x later others rest fault → HasPackets Beginning (front ++ later) (packets ++ others) rest fault
+
+-- so many of the packets that are asked for at most are left, after so many
+abbrev pub IsLeftOf : (count : Option ℕ) → ℕ → (left : Option ℕ) → Type 0
+IsLeftOf None k left = left ≡ None
+IsLeftOf (Some n) k left = (m : ℕ) × (left ≡ Some m) × (m + k ≡ n)
 
 -- Of the packets of these units fewer are chosen than are asked for at most.
 pub record HasFewer (select : Option Expression) (count : Option ℕ) (front : List ℕ) : Type 0 where

@@ -1,21 +1,18 @@
 -- What the program has read and written, and how it ends.
-use Rattle.std.specs.Prelude.{◌≡◌, ◌⊎◌, ℕ, List, [], ◌++◌, codes, Option, Some, None, Result, Err, IfNone, Bool, true, false, IfErr, string_bytes, ⊤}
+use Rattle.std.specs.Prelude.{◌≡◌, ◌⊎◌, ℕ, List, Option, Some, None, Result, Err, IfNone, Bool, true, false, IfErr, string_bytes, ⊤}
 use Rattle.std.specs.Io.KnownBytes.{Appends}
 use Rattle.ether_text.specs.Run.{IsEndless}
 use Rattle.ether_text.specs.declared.verdict.Verdict.{Verdict}
-use Rattle.ether_capture.specs.Options.{RequestValue, Run, Help, Version, NamesRequest, RefusesWords}
+use Rattle.ether_capture.specs.Options.{RequestValue, Run, Lists, Help, Version, NamesRequest, RefusesWords}
 use Rattle.ether_capture.specs.declared.options.RequestError.TheVariants as reasons
-use Rattle.ether_capture.specs.Run.{HasRun, OnStreamFault}
+use Rattle.ether_capture.specs.Files.{HasListed}
+use Rattle.ether_capture.specs.Run.{HasRun, HasNoMemory, OnStreamFault}
 use Rattle.ether_capture.specs.Task.{TaskValue, is_copy}
-use Rattle.ether_capture.specs.Outcome.{last_text, is_message, status_of_program}
+use Rattle.ether_capture.specs.Outcome.{last_bytes, last_text, is_message, status_of_program}
 use Rattle.ether_capture.specs.declared.outcome.Outcome.{Outcome}
 use Rattle.ether_capture.specs.declared.outcome.Outcome.TheVariants as outcomes
 use Rattle.ether_capture.specs.declared.outcome.RunFault.{RunFault}
 use Rattle.ether_capture.specs.declared.outcome.RunFault.TheVariants.{Input, Memory}
-
--- there is no memory to begin with
-abbrev pub HasNoMemory : (before after held holds : Option (List ℕ)) → Result Verdict RunFault → Type 0
-HasNoMemory before after held holds outcome = (outcome ≡ Err Memory) × (after ≡ before) × (holds ≡ held)
 
 -- A capture was read, from before to after, and what is asked for was made of it. Only a stream that can fail has failed, or one that does not
 -- end.
@@ -41,12 +38,22 @@ HasAnswered has can_fail can_refuse can_read can_write (Run task None) before af
     (copy ≡ is_copy task.form) × HasRead can_fail can_write task before after held holds end
 HasAnswered has can_fail can_refuse can_read can_write (Run task (Some name)) before after held holds outcome =
     HasRunFile has can_refuse can_read can_write task name held holds outcome × (after ≡ before)
+HasAnswered has can_fail can_refuse can_read can_write (Lists l) before after held holds (outcomes.Files end) =
+    HasListed has can_refuse can_read can_write l held holds end × (after ≡ before)
 HasAnswered has can_fail can_refuse can_read can_write Help before after held holds outcomes.Help = (after ≡ before) × (holds ≡ held)
 HasAnswered has can_fail can_refuse can_read can_write Version before after held holds outcomes.Version = (after ≡ before) × (holds ≡ held)
 HasAnswered has can_fail can_refuse can_read can_write request before after held holds outcome = ⊥
 
--- The words ask for something, and it was done. Or they are wrong, or can't be read, which is a fault of the input: then nothing is read or
--- written.
+-- memory for the names of files was refused
+pub record HasNoRoom (words : List (List ℕ)) (before after held holds : Option (List ℕ)) (outcome : Outcome) : Type 0 where
+  pub copy : Bool
+  pub refused : RefusesWords words (reasons.Memory copy)
+  pub is : outcome ≡ outcomes.Run copy (Err Memory)
+  pub unread : after ≡ before
+  pub unwritten : holds ≡ held
+
+-- The words ask for something, and it was done. Or they are wrong, or can't be read, which is a fault of the input, or there is no memory for
+-- them: then nothing is read or written.
 abbrev pub HasObeyed : (has : List ℕ → Option (List ℕ) → Type 0) (can_fail can_refuse can_read can_write : Type 0) → Option (List (List ℕ))
     → (before after held holds : Option (List ℕ)) → Outcome → Type 0
 HasObeyed has can_fail can_refuse can_read can_write (Some words) before after held holds outcomes.Usage =
@@ -54,14 +61,11 @@ HasObeyed has can_fail can_refuse can_read can_write (Some words) before after h
 HasObeyed has can_fail can_refuse can_read can_write (Some words) before after held holds (outcomes.NoFilter copy error) =
     RefusesWords words (reasons.Filter copy error) × (after ≡ before) × (holds ≡ held)
 HasObeyed has can_fail can_refuse can_read can_write (Some words) before after held holds outcome =
-    (request : RequestValue) × NamesRequest words request × HasAnswered has can_fail can_refuse can_read can_write request before after held holds outcome
+    ((request : RequestValue) × NamesRequest words request
+    × HasAnswered has can_fail can_refuse can_read can_write request before after held holds outcome)
+    ⊎ HasNoRoom words before after held holds outcome
 HasObeyed has can_fail can_refuse can_read can_write None before after held holds outcome =
     (outcome ≡ outcomes.Run false (Err Input)) × (after ≡ before) × (holds ≡ held)
-
--- the last line with its line feed, if there is one
-abbrev pub last_bytes : Option (List ℕ) → List ℕ
-last_bytes None = []
-last_bytes (Some text) = text ++ codes "\n"
 
 -- the last line of the outcome, if there is one, is written, or the writer has failed
 pub record PrintsLast (outcome : Outcome) (held holds : Option (List ℕ)) (printed : Bool) : Type 0 where

@@ -13,11 +13,12 @@ use Rattle.ether_text.specs.OutputBuffer.{contents_of, Takes}
 use Rattle.ether_text.specs.Verdict.{verdict_of, verdict_with}
 use Rattle.ether_text.specs.declared.output_buffer.OutputBuffer.{OutputBuffer}
 use Rattle.ether_text.specs.declared.verdict.Verdict.TheVariants.{AllAccepted}
-use Rattle.ether_capture.specs.Answering.{AreAnswered}
+use Rattle.ether_capture.specs.Answering.{AreListed}
 use Rattle.ether_capture.specs.Copying.{EditsTo, EditsIf, CopiesOn}
-use Rattle.ether_capture.specs.FrameLines.{AnswersPacket, skip_count, totals_line_if}
-use Rattle.ether_capture.specs.Packets.{counted, GoesOn, HasFewer, EndsAtCount}
-use Rattle.ether_capture.specs.Task.{TaskValue, FormValue, Lines, Copy, IsChosen}
+use Rattle.ether_capture.specs.declared.counts.PacketCounts.{PacketCounts}
+use Rattle.ether_capture.specs.FrameLines.{AnswersPacket, skip_count, totals_line_after}
+use Rattle.ether_capture.specs.Packets.{counted, GoesOn, HasFewer, EndsAtCount, IsLeftOf}
+use Rattle.ether_capture.specs.Task.{TaskValue, FormValue, Lines, Copy, IsChosen, packets_before}
 use Rattle.ether_capture.specs.declared.outcome.RunFault.{RunFault}
 use Rattle.ether_capture.specs.declared.outcome.RunFault.TheVariants as faults
 use Rattle.ether_capture.specs.declared.progress.Progress.{Progress}
@@ -28,13 +29,8 @@ use Rattle.ether_capture.specs.declared.task.LineOptions.{LineOptions}
 -- this is the text for its packets, or its copy, after which this is expected
 abbrev pub Made : (select : Option Expression) → FormValue → (packets kept : List PacketValue) → (front text : List ℕ) → (all : Bool)
     → Expectation → Type 0
-Made select (Lines options) packets kept front text all x = AreAnswered select options 0 packets text all
+Made select (Lines options) packets kept front text all x = AreListed select options packets text all
 Made select (Copy edit) packets kept front text all x = CopiesOn select edit front text kept x × (all ≡ true)
-
--- so many of the packets that are asked for at most are left, after so many
-abbrev pub IsLeftOf : (count : Option ℕ) → ℕ → (left : Option ℕ) → Type 0
-IsLeftOf None k left = left ≡ None
-IsLeftOf (Some n) k left = (m : ℕ) × (left ≡ Some m) × (m + k ≡ n)
 
 -- Of the input the units before the buffered bytes are taken.
 pub record Reached {W : Type 0} (task : TaskValue) (contents : W → Option (List ℕ)) (held : Option (List ℕ)) (input buffered : List ℕ)
@@ -49,7 +45,7 @@ pub record Reached {W : Type 0} (task : TaskValue) (contents : W → Option (Lis
   pub selected : Selected (IsChosen task.select) packets kept
   pub made : Made task.select task.form packets kept front text all_accepted at.reader
   pub is_verdict : at.verdict ≡ verdict_of all_accepted
-  pub is_count : at.count ≡ counted (length packets)
+  pub is_count : at.count ≡ counted (packets_before task.form + length packets)
   pub is_skipped : at.skipped ≡ counted (sum_by skip_count packets)
   pub is_offset : at.offset ≡ counted (length front)
   pub is_left : IsLeftOf task.count (length kept) at.left
@@ -57,14 +53,18 @@ pub record Reached {W : Type 0} (task : TaskValue) (contents : W → Option (Lis
   pub written : Appends held (contents_of contents out) text
 
 -- nothing is read
-pub record IsStart (count : Option ℕ) (at : Progress) : Type 0 where
+pub record IsStart (task : TaskValue) (at : Progress) : Type 0 where
   pub is_reader : at.reader ≡ Beginning
-  pub is_count : at.count ≡ 0
+  pub is_count : at.count ≡ counted (packets_before task.form)
   pub is_skipped : at.skipped ≡ 0
   pub is_offset : at.offset ≡ 0
   pub is_verdict : at.verdict ≡ AllAccepted
-  pub is_left : at.left ≡ count
+  pub is_left : at.left ≡ task.count
   pub is_more : at.left ≢ Some 0
+
+-- how many packets were read
+abbrev pub counts_at : Progress → PacketCounts
+counts_at at = record { number = at.count; skipped = at.skipped; left = at.left }
 
 -- ---- one unit
 
@@ -225,5 +225,5 @@ pub record TakesUnits {W : Type 0} (task : TaskValue) (contents : W → Option (
 
 -- what is written after all units
 abbrev pub last_lines : FormValue → (count skipped : ℕ) → List ℕ
-last_lines (Lines options) count skipped = totals_line_if options.is_plain count skipped
+last_lines (Lines options) count skipped = totals_line_after options.before options.is_plain count skipped
 last_lines (Copy edit) count skipped = []

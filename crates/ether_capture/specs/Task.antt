@@ -1,5 +1,5 @@
 -- What is made of a capture.
-use Rattle.std.specs.Prelude.{◌<◌, ℕ, Bool, true, false, Option, None, Some, ⊤}
+use Rattle.std.specs.Prelude.{◌<◌, ℕ, Bool, true, false, Option, None, Some, unwrap_or, ⊤}
 use Rattle.std.specs.Int.NonZero.{non_zero_usize_get}
 use Rattle.std.specs.Option.{option_map}
 use Rattle.ether_filter.specs.Expressions.{Expression}
@@ -29,6 +29,11 @@ form_view (forms.Copy edit) = Copy (option_map edit_view edit)
 
 abbrev pub task_view : Task → TaskValue
 task_view task = record { select = task.filter; count = option_map non_zero_usize_get task.count; form = form_view task.form }
+
+-- how many packets were in captures before this one
+abbrev pub packets_before : FormValue → ℕ
+packets_before (Lines options) = unwrap_or options.before 0
+packets_before (Copy edit) = 0
 
 abbrev pub is_copy : FormValue → Bool
 is_copy (Lines options) = false

@@ -4,33 +4,32 @@ ghost use Rattle.std.specs.Option.{option_map};
 ghost use Rattle.ether_pcap.specs.CaptureViews.{captured_packet_view, timestamp_view};
 ghost use Rattle.ether_content.specs.Content.{content_of};
 ghost use Rattle.ether_content.specs.ContentViews.{content_view};
-ghost use Rattle.ether_peel.specs.Walker.Start.{limited_start, start_with};
 ghost use Rattle.ether_text.specs.OutputBuffer.{Takes, TakesAnswer};
-ghost use Rattle.ether_text.specs.WalkText.{AnswersWalkAfter};
-ghost use Rattle.ether_capture.specs.FrameLines.{is_skipped, nine_digits, time_text, mark, packet_line_if, HasLines, totals_line_if};
+ghost use Rattle.ether_capture.specs.FrameLines.{is_skipped, nine_digits, time_text, mark, packet_line_if, HasLines, totals_line_if, totals_line_after};
+ghost use Rattle.ether_capture.specs.Packets.{counted};
 
 use crate::linux_sll2_lines::write_linux_sll2;
 use crate::task::LineOptions;
 use ether_content::{Content, is_cut};
 use ether_pcap::{CapturedPacket, Timestamp};
-use ether_peel::Start;
 use ether_text::{OutputBuffer, Sink, eight_digits, write_decimal, write_walk_after};
 
 /// Writes the line of a packet unless only those of walks are asked for, and the lines of the walk through its headers. Returns whether the
 /// walk ends in no fault.
 ///
-/// A packet of another link type than Ethernet and Linux cooked capture is skipped: it has no lines of a walk.
+/// The packet has the number after `count`, which is read only if it is written. A packet of another link type than Ethernet and Linux cooked
+/// capture is skipped: it has no lines of a walk.
 pub fn write_lines<W: Sink>(
     options: LineOptions,
-    number: usize,
+    count: &usize,
     packet: &CapturedPacket<'_>,
     out: &mut OutputBuffer<'_, W>,
 ) -> bool
-    ensures { TakesAnswer W.contents W.can_fail (HasLines options number (captured_packet_view packet.now))
+    ensures { TakesAnswer W.contents W.can_fail (HasLines options (counted (count.now + 1)) (captured_packet_view packet.now))
         out.old out.new result }
 {
     let content = Content::of(packet);
-    write_packet_line(options.is_plain, number, packet, content, out);
+    write_packet_line(options.is_plain, count, packet, content, out);
     let (header_len, start, bytes) = match content {
         Content::Frame(start, bytes) => (0, start, bytes),
         Content::LinuxSll2(bytes) => match write_linux_sll2(bytes, out) {
@@ -39,40 +38,22 @@ pub fn write_lines<W: Sink>(
         },
         Content::Unknown => return true,
     };
-    write_walk_within(header_len, start, options.limit, bytes, out)
+    write_walk_after(header_len, start, options.limit, bytes, out)
 }
 
-/// Does as [`write_walk_after`], whose loop tests no limit if there is none.
-#[inline(always)]
-fn write_walk_within<W: Sink>(
-    header_len: u8,
-    start: Start,
-    limit: Option<usize>,
-    bytes: &[u8],
+/// Writes the line after those of all packets, unless the capture is one of several.
+pub fn write_totals_of<W: Sink>(
+    options: LineOptions,
+    frames: usize,
+    skipped: usize,
     out: &mut OutputBuffer<'_, W>,
-) -> bool
-    ensures { TakesAnswer W.contents W.can_fail
-        (AnswersWalkAfter header_len (start_with start limit) bytes.now) out.old out.new result }
+)
+    ensures { Takes W.contents W.can_fail out.old (totals_line_after options.before options.is_plain frames skipped) out.new }
 {
-    match limit {
-        None => write_walk_after(header_len, start, None, bytes, out),
-        Some(limit) => write_limited_walk(header_len, start, limit, bytes, out),
+    match options.before {
+        None => write_totals(options.is_plain, frames, skipped, out),
+        Some(_) => {}
     }
-}
-
-/// Writes the lines of a walk with a limit.
-#[inline(never)]
-fn write_limited_walk<W: Sink>(
-    header_len: u8,
-    start: Start,
-    limit: usize,
-    bytes: &[u8],
-    out: &mut OutputBuffer<'_, W>,
-) -> bool
-    ensures { TakesAnswer W.contents W.can_fail
-        (AnswersWalkAfter header_len (limited_start start limit) bytes.now) out.old out.new result }
-{
-    write_walk_after(header_len, start, Some(limit), bytes, out)
 }
 
 /// Writes the line after those of all packets, unless `is_plain`: how many packets there are, and how many of them were skipped.
@@ -101,22 +82,22 @@ pub fn is_skipped(packet: &CapturedPacket<'_>) -> bool
     Content::of(packet).is_unknown()
 }
 
-/// Writes the line of a packet, unless `is_plain`: its number, its time, its link type, its lengths, and whether it was cut or is skipped.
+/// Writes the line of a packet, unless `is_plain`: its number, that after `count`, its time, its link type, its lengths, and whether it was cut or is skipped.
 fn write_packet_line<W: Sink>(
     is_plain: bool,
-    number: usize,
+    count: &usize,
     packet: &CapturedPacket<'_>,
     content: Content<'_>,
     out: &mut OutputBuffer<'_, W>,
 )
     requires { content_view content ≡ content_of (captured_packet_view packet.now) }
-    ensures { Takes W.contents W.can_fail out.old (packet_line_if is_plain number (captured_packet_view packet.now)) out.new }
+    ensures { Takes W.contents W.can_fail out.old (packet_line_if is_plain (counted (count.now + 1)) (captured_packet_view packet.now)) out.new }
 {
     if is_plain {
         return;
     }
     out.append(b"frame ");
-    write_decimal(out, number);
+    write_decimal(out, count.saturating_add(1));
     write_time(packet.time, out);
     write_decimal(out, usize::from(packet.link_type.0));
     out.append(b" captured ");

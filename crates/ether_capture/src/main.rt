@@ -7,9 +7,12 @@
 
 pub mod captures;
 mod copying;
+pub mod counts;
 pub mod edit_buffer;
+pub mod files;
 mod frame_lines;
 pub mod input_buffer;
+pub mod line_sink;
 mod linux_sll2_lines;
 pub mod options;
 pub mod outcome;

@@ -1,5 +1,5 @@
 //! What the words after the program's name ask for.
-ghost use Rattle.std.specs.Prelude.{◌≡◌, ◌≢◌, ◌≤◌, ◌↔◌, ℕ, IsTrue, [], ◌∷◌, length, string_bytes, IfOk, IfErr, OnOk, OnErr};
+ghost use Rattle.std.specs.Prelude.{◌≡◌, ◌≢◌, ◌⊎◌, ◌≤◌, ◌↔◌, ℕ, IsTrue, None, [], ◌∷◌, length, map, string_bytes, IfOk, IfErr, OnOk, OnErr};
 ghost use Rattle.std.specs.Int.NonZero.{non_zero_usize_get};
 ghost use Rattle.std.specs.Option.{option_map};
 ghost use Rattle.std.specs.Vec.Iter.{into_iter_items};
@@ -8,12 +8,13 @@ ghost use Rattle.ether_content.specs.Editing.{EditValue};
 ghost use Rattle.ether_content.specs.EditingViews.{edit_view};
 ghost use Rattle.ether_capture.specs.Tags.{IsTagEdit, tag_word};
 ghost use Rattle.ether_capture.specs.Task.{form_view};
-ghost use Rattle.ether_capture.specs.Options.{IsCount, IsLimit, IsName, IsWord, words_left, asked_view, nothing_asked, clashes, form_of, AskSame, AskNothing, IsSelection, RefusesSelection, IsRequestOf, RefusesAsked, OptionsAsk, RefusesOptions, NamesRequest, RefusesWords, request_view};
+ghost use Rattle.ether_capture.specs.Options.{IsCount, AreNames, IsLimit, IsName, IsWord, words_left, asked_view, nothing_asked, are_several, clashes, form_of, options_of, AskSame, RefusesTaking, IsSelection, RefusesSelection, IsRequestOf, RefusesAsked, OptionsAsk, RefusesOptions, NamesRequest, RefusesWords, request_view};
 
 use crate::tags::{TagEdit, small_number, tag_edit_of};
 use crate::task::{Form, LineOptions, Task};
 use ether_content::PacketEdit;
 use ether_filter::{Filter, FilterError};
+use std::alloc::Global;
 use std::env;
 use std::num::NonZeroUsize;
 
@@ -22,6 +23,11 @@ use std::num::NonZeroUsize;
 pub enum RequestError {
     /// There is a word that is none, or one too many.
     Usage,
+    /// Memory for the names of files was refused.
+    Memory {
+        /// Whether a copy was asked for.
+        is_copy: bool,
+    },
     /// The filter is no expression.
     Filter {
         /// Whether a copy was asked for.
@@ -36,10 +42,25 @@ pub enum RequestError {
 pub enum Request {
     /// What is made of the capture in the file of this name, or of standard input.
     Run(Task, Option<String>),
+    /// The lines of several captures.
+    List(Listing),
     /// How the program is used.
     Help,
     /// The program's name and version.
     Version,
+}
+
+/// Which lines of several captures.
+#[derive(Debug, Drop)]
+pub struct Listing {
+    /// Which packets are chosen; all of them without a filter.
+    pub filter: Option<Filter>,
+    /// After how many of these the run ends; at the end of the last capture without a number.
+    pub count: Option<NonZeroUsize>,
+    /// Which lines a packet has.
+    pub options: LineOptions,
+    /// The names of their files, two at least.
+    pub files: Vec<String>,
 }
 
 /// What the program's arguments ask for. The first of them is its own name.
@@ -47,18 +68,18 @@ pub enum Request {
 /// In any order there may be `--plain` and `--limit` with a number of headers, or `--write` and `--cut-to-headers`, `--pop-vlan`, `--push-vlan`
 /// with a tag or `--set-vlan` with two identifiers; `--select` with the text of a filter, and `-c` with a number of packets; after them a word
 /// that does not begin with a hyphen, which names a file. `--help` and `--version` come alone.
-pub fn request_of_args(mut args: env::Args) -> Result<Request, RequestError>
+pub fn request_of_args(mut args: env::Args, alloc: Global) -> Result<Request, RequestError>
     ensures ok { IfOk result (λ request. NamesRequest (words_after (into_iter_items args)) (request_view request)) }
     ensures err { IfErr result (RefusesWords (words_after (into_iter_items args))) }
 {
     let _program = args.next();
     let Some(first) = args.next() else {
-        return Asked::nothing().request();
+        return Asked::nothing(alloc).request();
     };
     match word_of(first.as_str()) {
         Word::Help => alone(Request::Help, args),
         Word::Version => alone(Request::Version, args),
-        _ => request_of_options(first, args),
+        _ => request_of_options(first, args, alloc),
     }
 }
 
@@ -76,14 +97,18 @@ fn alone(request: Request, mut args: env::Args) -> Result<Request, RequestError>
 }
 
 /// What options ask for, and the name of a file after them.
-fn request_of_options(first: String, mut args: env::Args) -> Result<Request, RequestError>
+fn request_of_options(
+    first: String,
+    mut args: env::Args,
+    alloc: Global,
+) -> Result<Request, RequestError>
     ensures ok { IfOk result (λ request. OptionsAsk (string_bytes first ∷ words_left args) (request_view request)) }
     ensures err { IfErr result (RefusesOptions (string_bytes first ∷ words_left args)) }
 {
-    let mut asked = Asked::nothing();
-    asked.take(first, &mut args)?;
+    let mut asked = Asked::nothing(alloc);
+    asked.take(first, &mut args, alloc)?;
     while let Some(word) = args.next() {
-        asked.take(word, &mut args)?;
+        asked.take(word, &mut args, alloc)?;
     }
     asked.request()
 }
@@ -97,12 +122,12 @@ struct Asked {
     text: Option<String>,
     count: Option<NonZeroUsize>,
     limit: Option<usize>,
-    file: Option<String>,
+    files: Vec<String>,
 }
 
 impl Asked {
     /// What no word asks for.
-    fn nothing() -> Asked
+    fn nothing(alloc: Global) -> Asked
         ensures { asked_view result ≡ nothing_asked }
     {
         Asked {
@@ -112,20 +137,27 @@ impl Asked {
             text: None,
             count: None,
             limit: None,
-            file: None,
+            files: Vec::new(alloc),
         }
     }
 
-    /// Takes a word, and the next one if that belongs to it.
-    fn take(&mut self, word: String, args: &mut env::Args) -> Result<(), RequestError>
+    /// Takes a word, and those after it that belong to it.
+    fn take(
+        &mut self,
+        word: String,
+        args: &mut env::Args,
+        alloc: Global,
+    ) -> Result<(), RequestError>
         ensures ok { OnOk result (AskSame (asked_view self.old) (string_bytes word ∷ words_left args.old)
             (asked_view self.new) (words_left args.new)) }
-        ensures err { OnErr result (AskNothing (asked_view self.old) (string_bytes word ∷ words_left args.old)) }
-        ensures usage { IfErr result (λ e. e ≡ RequestError.Usage) }
+        ensures err { IfErr result (RefusesTaking (asked_view self.old) (string_bytes word) (words_left args.old)) }
         ensures fewer { length (words_left args.new) ≤ length (words_left args.old) }
     {
         match word_of(word.as_str()) {
-            Word::Name if args.next().is_none() => self.file = Some(word),
+            Word::Name => {
+                let names = names_of(self.is_copy, word, args, alloc)?;
+                self.files = names;
+            }
             Word::Plain if !self.is_plain => self.is_plain = true,
             Word::Write if !self.is_copy => self.is_copy = true,
             Word::Cut if self.edit.is_none() => self.edit = Some(PacketEdit::CutToHeaders),
@@ -151,12 +183,19 @@ impl Asked {
         Ok(())
     }
 
+    /// Tests that there are several names.
+    fn has_several(&self) -> bool
+        ensures { result ≡ are_several (map string_bytes self.now.files.items) }
+    {
+        matches!(self.files.as_slice(), [_, _, ..])
+    }
+
     /// Tests that there is an option that does not go with the others.
     fn clashes(&self) -> bool
         ensures { result ≡ clashes (asked_view self.now) }
     {
         if self.is_copy {
-            self.is_plain || self.limit.is_some()
+            self.is_plain || self.limit.is_some() || self.has_several()
         } else {
             self.edit.is_some()
         }
@@ -171,6 +210,12 @@ impl Asked {
             return Err(RequestError::Usage);
         }
         match filter_of(&self.text) {
+            Ok(filter) if self.has_several() => Ok(Request::List(Listing {
+                filter,
+                count: self.count,
+                options: self.options(),
+                files: self.files,
+            })),
             Ok(filter) => {
                 let form = self.form();
                 let task = Task {
@@ -178,7 +223,8 @@ impl Asked {
                     count: self.count,
                     form,
                 };
-                Ok(Request::Run(task, self.file))
+                let mut files = self.files.into_iter();
+                Ok(Request::Run(task, files.next()))
             }
             Err(error) => Err(RequestError::Filter {
                 is_copy: self.is_copy,
@@ -194,12 +240,49 @@ impl Asked {
         if self.is_copy {
             Form::Copy { edit: self.edit }
         } else {
-            Form::Lines(LineOptions {
-                is_plain: self.is_plain,
-                limit: self.limit,
-            })
+            Form::Lines(self.options())
         }
     }
+
+    /// Which lines are asked for.
+    fn options(&self) -> LineOptions
+        ensures { result ≡ options_of (asked_view self.now) }
+    {
+        LineOptions {
+            is_plain: self.is_plain,
+            limit: self.limit,
+            before: None,
+        }
+    }
+}
+
+/// The names of files: this word, and all after it.
+fn names_of(
+    is_copy: bool,
+    first: String,
+    args: &mut env::Args,
+    alloc: Global,
+) -> Result<Vec<String>, RequestError>
+    ensures ok { IfOk result (λ names. map string_bytes names.items ≡ string_bytes first ∷ words_left args.old) }
+    ensures names { OnOk result (AreNames (words_left args.old)) }
+    ensures none_left { OnOk result (words_left args.new ≡ []) }
+    ensures err { IfErr result (λ e. ((e ≡ RequestError.Usage) × ¬ (AreNames (words_left args.old)))
+        ⊎ (e ≡ RequestError.Memory is_copy)) }
+    ensures fewer { length (words_left args.new) ≤ length (words_left args.old) }
+{
+    let mut names = Vec::new(alloc);
+    let Ok(()) = names.push(first) else {
+        return Err(RequestError::Memory { is_copy });
+    };
+    while let Some(word) = args.next() {
+        if !is_name(word.as_str()) {
+            return Err(RequestError::Usage);
+        }
+        let Ok(()) = names.push(word) else {
+            return Err(RequestError::Memory { is_copy });
+        };
+    }
+    Ok(names)
 }
 
 /// The edit of VLAN tags that a text says.

@@ -1,7 +1,7 @@
 //! How the program ends: what a run found or why it stopped, the exit status of each, and the last line.
 ghost use Rattle.std.specs.Prelude.{◌≡◌};
 ghost use Rattle.std.specs.Option.{option_map};
-ghost use Rattle.ether_capture.specs.Outcome.{exit_status, hint_text, is_message, magic_hint_text, last_line_text, last_text, last_text_of_run, status_of_program};
+ghost use Rattle.ether_capture.specs.Outcome.{exit_status, hint_text, is_message, magic_hint_text, last_line_text, last_text, last_text_of_run, status_of_file, status_of_program, text_of_file};
 
 use ether_filter::FilterError;
 use ether_pcap::{CaptureError, CaptureFault, FileHeaderError};
@@ -104,6 +104,8 @@ pub enum Outcome {
         /// How it ended.
         end: Result<Verdict, RunFault>,
     },
+    /// Several captures were read: the greatest exit status of these, unless the output failed.
+    Files(Result<u8, OutputFault>),
     /// The file can't be opened.
     NotOpened {
         /// Whether a copy of it was asked for.
@@ -128,11 +130,11 @@ pub enum Outcome {
 
 /// The line that is printed if the arguments are wrong, without its LF.
 pub const USAGE: &str =
-    "usage: ether_capture [[--plain] [--limit N] | --write [--cut-to-headers | --pop-vlan | --push-vlan TPID:ID | --set-vlan A:B]] [--select EXPR] [-c N] [FILE]";
+    "usage: ether_capture [[--plain] [--limit N] | --write [--cut-to-headers | --pop-vlan | --push-vlan TPID:ID | --set-vlan A:B]] [--select EXPR] [-c N] [FILE]..";
 
 /// What `--help` prints, without its last LF.
 pub const HELP: &str =
-    "usage: ether_capture [[--plain] [--limit N] | --write [--cut-to-headers | --pop-vlan | --push-vlan TPID:ID | --set-vlan A:B]] [--select EXPR] [-c N] [FILE]\n\nPrints the link-layer headers of each packet of a capture, pcap or pcapng: FILE, or standard input.\n\n  --plain           leave out the lines of packets and the totals\n  --limit N         read N VLAN tags and SecTags of each packet at most\n  --select EXPR     only packets that match EXPR, in words of pcap-filter(7), as 'vlan 5 or arp'\n  -c N              end with the N-th of these packets\n  --write           write the capture itself, without the other packets; faults go to standard error\n  --cut-to-headers  with --write, cut each packet where its link-layer headers end\n  --pop-vlan        with --write, take the VLAN tag after the link's header off each frame\n  --push-vlan TPID:ID\n                    with --write, put a VLAN tag after the link's header, as 0x8100:5\n  --set-vlan A:B    with --write, give the outermost VLAN tag with identifier A identifier B\n  --help            print this text\n  --version         print the version";
+    "usage: ether_capture [[--plain] [--limit N] | --write [--cut-to-headers | --pop-vlan | --push-vlan TPID:ID | --set-vlan A:B]] [--select EXPR] [-c N] [FILE]..\n\nPrints the link-layer headers of each packet of captures, pcap or pcapng: of each FILE, or of standard input.\n\n  --plain           leave out the lines of packets and the totals\n  --limit N         read N VLAN tags and SecTags of each packet at most\n  --select EXPR     only packets that match EXPR, in words of pcap-filter(7), as 'vlan 5 or arp'\n  -c N              end with the N-th of these packets, of all files together\n  --write           write the capture itself, of one FILE at most, without the other packets; faults go to standard error\n  --cut-to-headers  with --write, cut each packet where its link-layer headers end\n  --pop-vlan        with --write, take the VLAN tag after the link's header off each frame\n  --push-vlan TPID:ID\n                    with --write, put a VLAN tag after the link's header, as 0x8100:5\n  --set-vlan A:B    with --write, give the outermost VLAN tag with identifier A identifier B\n  --help            print this text\n  --version         print the version";
 
 /// Why a packet can't be edited.
 const NOT_EDITED: &str =
@@ -141,15 +143,47 @@ const NOT_EDITED: &str =
 /// What `--version` prints, without its LF.
 pub const VERSION: &str = "ether_capture 1.0";
 
-/// A line that the program prints after the lines of all packets, or in their place.
+/// Why a capture was not read to its end.
 #[derive(Clone, Copy, Debug)]
-pub enum LastLine<'a> {
-    /// The capture can't be read further.
+pub enum Reason<'a> {
+    /// It can't be read further.
     Fault(&'a CaptureFault),
     /// The packet at this place can't be edited.
     NotEdited(usize),
+    /// Its reader failed.
+    Input,
     /// Memory was refused.
     Memory,
+}
+
+impl fmt::Display for Reason<'_> {
+    ghost use Rattle.std.specs.Prelude.{Some};
+    ghost use Rattle.ether_capture.specs.Outcome.{reason_text};
+
+    ghost output = { λ reason. Some (reason_text reason) };
+
+    fn fmt<W: fmt::Write>(&self, f: &mut fmt::Formatter<W>) -> fmt::Result {
+        match self {
+            Reason::Fault(fault) => {
+                let offset = fault.offset;
+                let error = &fault.error;
+                let hint = hint(error);
+                write!(f, "byte {offset}: {error}{hint}")
+            }
+            Reason::NotEdited(offset) => write!(f, "byte {offset}: {NOT_EDITED}"),
+            Reason::Input => f.write_str("can't be read"),
+            Reason::Memory => f.write_str("out of memory"),
+        }
+    }
+}
+
+/// A line that the program prints after the lines of a capture, or in their place.
+#[derive(Clone, Copy, Debug)]
+pub enum LastLine<'a> {
+    /// The only capture was not read to its end.
+    Stopped(Reason<'a>),
+    /// Nor was that of this name, one of several.
+    Named(&'a str, Reason<'a>),
     /// The file of this name can't be opened.
     NotOpened(&'a str),
     /// How the program is used.
@@ -170,14 +204,8 @@ impl fmt::Display for LastLine<'_> {
 
     fn fmt<W: fmt::Write>(&self, f: &mut fmt::Formatter<W>) -> fmt::Result {
         match self {
-            LastLine::Fault(fault) => {
-                let offset = fault.offset;
-                let error = &fault.error;
-                let hint = hint(error);
-                write!(f, "byte {offset}: {error}{hint}")
-            }
-            LastLine::NotEdited(offset) => { write!(f, "byte {offset}: {NOT_EDITED}") }
-            LastLine::Memory => f.write_str("out of memory"),
+            LastLine::Stopped(reason) => write!(f, "{reason}"),
+            LastLine::Named(name, reason) => write!(f, "{name}: {reason}"),
             LastLine::NotOpened(name) => write!(f, "{name}: can't be opened"),
             LastLine::Help => write!(f, "{HELP}"),
             LastLine::Version => write!(f, "{VERSION}"),
@@ -193,6 +221,7 @@ pub fn last_line(outcome: &Outcome) -> Option<LastLine<'_>>
 {
     match outcome {
         Outcome::Run { end, .. } => last_line_of_run(end),
+        Outcome::Files(_) => None,
         Outcome::NotOpened { name, .. } => Some(LastLine::NotOpened(name.as_str())),
         Outcome::NoFilter { error, .. } => Some(LastLine::NoFilter(error)),
         Outcome::Help => Some(LastLine::Help),
@@ -206,10 +235,49 @@ fn last_line_of_run(outcome: &Result<Verdict, RunFault>) -> Option<LastLine<'_>>
     ensures { option_map last_line_text result ≡ last_text_of_run outcome.now }
 {
     match outcome {
-        Err(RunFault::Capture(fault)) => Some(LastLine::Fault(fault)),
-        Err(RunFault::NotEdited(offset)) => Some(LastLine::NotEdited(*offset)),
-        Err(RunFault::Memory) => Some(LastLine::Memory),
+        Err(RunFault::Capture(fault)) => Some(LastLine::Stopped(Reason::Fault(fault))),
+        Err(RunFault::NotEdited(offset)) => Some(LastLine::Stopped(Reason::NotEdited(*offset))),
+        Err(RunFault::Memory) => Some(LastLine::Stopped(Reason::Memory)),
         _ => None,
+    }
+}
+
+/// How a capture, one of several, has ended.
+#[derive(Debug, Drop)]
+pub enum FileEnd {
+    /// Its file can't be opened.
+    NotOpened,
+    /// It was read: how its run ended.
+    Read(Result<Verdict, RunFault>),
+}
+
+/// The line that is printed after the lines of a capture, one of several, if there is one.
+pub fn line_of_file<'a>(name: &'a str, end: &'a FileEnd) -> Option<LastLine<'a>>
+    ensures { option_map last_line_text result ≡ text_of_file name.now end.now }
+{
+    match end {
+        FileEnd::NotOpened => Some(LastLine::NotOpened(name)),
+        FileEnd::Read(Err(RunFault::Capture(fault))) => Some(LastLine::Named(
+            name,
+            Reason::Fault(fault),
+        )),
+        FileEnd::Read(Err(RunFault::NotEdited(offset))) => Some(LastLine::Named(
+            name,
+            Reason::NotEdited(*offset),
+        )),
+        FileEnd::Read(Err(RunFault::Input)) => Some(LastLine::Named(name, Reason::Input)),
+        FileEnd::Read(Err(RunFault::Memory)) => Some(LastLine::Named(name, Reason::Memory)),
+        FileEnd::Read(_) => None,
+    }
+}
+
+/// The exit status of a capture, one of several.
+pub fn status_of_file(end: &FileEnd) -> u8
+    ensures { result ≡ status_of_file end.now }
+{
+    match end {
+        FileEnd::NotOpened => status_of(&Err(RunFault::Input)),
+        FileEnd::Read(end) => status_of(end),
     }
 }
 
@@ -222,7 +290,7 @@ pub fn is_message(outcome: &Outcome) -> bool
         Outcome::Run { is_copy, .. }
         | Outcome::NotOpened { is_copy, .. }
         | Outcome::NoFilter { is_copy, .. } => *is_copy,
-        Outcome::Help | Outcome::Version => false,
+        Outcome::Files(_) | Outcome::Help | Outcome::Version => false,
         Outcome::Usage => true,
     }
 }
@@ -237,6 +305,8 @@ pub fn program_status(outcome: &Outcome, is_printed: bool) -> u8
     }
     match outcome {
         Outcome::Run { end, .. } => status_of(end),
+        Outcome::Files(Ok(status)) => *status,
+        Outcome::Files(Err(_)) => status_of(&Err(RunFault::Output)),
         Outcome::NotOpened { .. } => status_of(&Err(RunFault::Input)),
         Outcome::Help | Outcome::Version => 0,
         Outcome::Usage | Outcome::NoFilter { .. } => 2,

@@ -3,18 +3,18 @@ ghost use Rattle.std.specs.Prelude.{◌≡◌, ◌⊎◌, IfErr, string_bytes};
 ghost use Rattle.ether_text.specs.Arguments.{words_of};
 ghost use Rattle.ether_text.specs.Run.{IsEndless};
 ghost use Rattle.ether_capture.specs.Outcome.{is_message};
-ghost use Rattle.ether_capture.specs.Program.{HasNoMemory, HasObeyed, HasRunFile, HasServed, PrintsApart, PrintsLast};
+ghost use Rattle.ether_capture.specs.Program.{HasObeyed, HasRunFile, HasServed, PrintsApart, PrintsLast};
 ghost use Rattle.ether_capture.specs.Run.{HasRun, OnStreamFault};
 ghost use Rattle.ether_capture.specs.Task.{task_view};
 
 use crate::captures::Captures;
-use crate::edit_buffer::EditBuffer;
-use crate::input_buffer::InputBuffer;
+use crate::files::run_files;
+use crate::line_sink::LineSink;
 use crate::options::{Request, RequestError, request_of_args};
 use crate::outcome::{Outcome, RunFault, is_message, last_line, program_status};
-use crate::run::run;
+use crate::run::run_input;
 use crate::task::Task;
-use ether_text::{Sink, Source, Verdict};
+use ether_text::{Sink, Source};
 use std::alloc::Global;
 use std::io::Write;
 use std::{env, io};
@@ -41,15 +41,15 @@ pub fn program<C: Captures, R: Source, W: Write, M: Write>(
 }
 
 /// Writes the lines of a capture, or a copy of it, as the arguments say.
-fn obey<C: Captures, R: Source, W: Sink>(
+fn obey<C: Captures, R: Source, W: LineSink>(
     args: io::Result<env::Args>,
     alloc: Global,
     captures: &C,
     reader: &mut R,
     writer: &mut W,
 ) -> Outcome
-    ensures { HasObeyed (C.has captures.now) R.can_fail C.can_refuse C.Input.Source.can_fail W.can_fail (words_of args)
-        (R.remaining reader.old) (R.remaining reader.new) (W.contents writer.old) (W.contents writer.new) result }
+    ensures { HasObeyed (C.has captures.now) R.can_fail C.can_refuse C.Input.Source.can_fail W.Sink.can_fail (words_of args)
+        (R.remaining reader.old) (R.remaining reader.new) (W.Sink.contents writer.old) (W.Sink.contents writer.new) result }
 {
     let Ok(args) = args else {
         return Outcome::Run {
@@ -57,18 +57,23 @@ fn obey<C: Captures, R: Source, W: Sink>(
             end: Err(RunFault::Input),
         };
     };
-    match request_of_args(args) {
+    match request_of_args(args, alloc) {
         Ok(Request::Run(task, file)) => match file {
             None => Outcome::Run {
                 is_copy: task.is_copy(),
-                end: run_input(&task, alloc, reader, writer),
+                end: run_input(&task, alloc, reader, writer).0,
             },
             Some(name) => run_file(&task, name, alloc, captures, writer),
         },
+        Ok(Request::List(listing)) => Outcome::Files(run_files(listing, alloc, captures, writer)),
         Ok(Request::Help) => Outcome::Help,
         Ok(Request::Version) => Outcome::Version,
         Err(RequestError::Usage) => Outcome::Usage,
         Err(RequestError::Filter { is_copy, error }) => Outcome::NoFilter { is_copy, error },
+        Err(RequestError::Memory { is_copy }) => Outcome::Run {
+            is_copy,
+            end: Err(RunFault::Memory),
+        },
     }
 }
 
@@ -87,29 +92,9 @@ fn run_file<C: Captures, W: Sink>(
     match captures.open_named(name.as_str()) {
         Ok(mut input) => Outcome::Run {
             is_copy,
-            end: run_input(task, alloc, &mut input, writer),
+            end: run_input(task, alloc, &mut input, writer).0,
         },
         Err(_) => Outcome::NotOpened { is_copy, name },
-    }
-}
-
-/// Writes what is made of a capture.
-fn run_input<R: Source, W: Sink>(
-    task: &Task,
-    alloc: Global,
-    reader: &mut R,
-    writer: &mut W,
-) -> Result<Verdict, RunFault>
-    ensures run { HasRun (task_view task.now) (R.remaining reader.old) (R.remaining reader.new)
-        (W.contents writer.old) (W.contents writer.new) result
-        ⊎ HasNoMemory (R.remaining reader.old) (R.remaining reader.new)
-        (W.contents writer.old) (W.contents writer.new) result }
-    ensures failed { IfErr result (λ fault. OnStreamFault fault
-        (R.can_fail ⊎ IsEndless (R.remaining reader.old) (R.remaining reader.new)) W.can_fail) }
-{
-    match (InputBuffer::new(alloc), EditBuffer::new(alloc)) {
-        (Ok(buffer), Ok(edits)) => run(task, buffer, edits, reader, writer),
-        _ => Err(RunFault::Memory),
     }
 }
 

@@ -1,23 +1,24 @@
 //! How far a run has come.
 ghost use Rattle.std.specs.Prelude.{◌≡◌, ◌≢◌, ◌≤◌, ◌↔◌, ◌+◌, IsTrue, IfSome, IfNone, drop, length, Some, None, IfOk, IfErr, OnOk, true};
-ghost use Rattle.std.specs.Int.NonZero.{non_zero_usize_get};
 ghost use Rattle.std.specs.Option.{option_map};
 ghost use Rattle.std.specs.Io.KnownBytes.{Appends};
 ghost use Rattle.ether_pcap.specs.Capture.{Beginning};
 ghost use Rattle.ether_pcap.specs.CaptureViews.{captured_packet_view};
 ghost use Rattle.ether_text.specs.OutputBuffer.{contents_of, Marks, Takes};
+ghost use Rattle.ether_text.specs.Verdict.{verdict_with};
+ghost use Rattle.ether_capture.specs.FrameLines.{skip_count};
 ghost use Rattle.ether_capture.specs.Packets.{counted};
-ghost use Rattle.ether_capture.specs.Progress.{Counts, IsStart, IsTakingFault, IsUnitOf, last_lines, Makes, MakesText, OnNotEdited, OnOutput, other_text, StopsAfter, StopsUnwritten, TakesUnit, TakesUnits};
+ghost use Rattle.ether_capture.specs.Progress.{Counts, counts_at, IsStart, IsTakingFault, IsUnitOf, last_lines, Makes, MakesText, OnNotEdited, OnOutput, other_text, StopsAfter, StopsUnwritten, TakesUnit, TakesUnits};
 ghost use Rattle.ether_capture.specs.Task.{form_view, task_view};
 
 use crate::copying::write_packet;
+use crate::counts::PacketCounts;
 use crate::edit_buffer::EditBuffer;
-use crate::frame_lines::{is_skipped, write_lines, write_totals};
+use crate::frame_lines::{is_skipped, write_lines, write_totals_of};
 use crate::outcome::RunFault;
 use crate::task::{Form, Task};
 use ether_pcap::{CaptureError, CaptureFault, CaptureReader, CapturedPacket};
 use ether_text::{OutputBuffer, Sink, Verdict};
-use std::num::NonZeroUsize;
 
 /// Where the run is in the capture, and what the packets before gave.
 #[derive(Drop)]
@@ -31,21 +32,28 @@ pub struct Progress {
 }
 
 impl Progress {
-    /// The state of a run that has read nothing, and ends after so many packets at most.
-    pub fn new(count: Option<NonZeroUsize>) -> Self
-        ensures { IsStart (option_map non_zero_usize_get count) result }
+    /// The state of a run that has read nothing.
+    pub fn new(task: &Task) -> Self
+        ensures { IsStart (task_view task.now) result }
     {
-        let left = match count {
-            Some(count) => Some(count.get()),
-            None => None,
-        };
         Progress {
             reader: CaptureReader::new(),
-            count: 0,
+            count: task.packets_before(),
             skipped: 0,
             offset: 0,
-            left,
+            left: task.asked_for(),
             verdict: Verdict::AllAccepted,
+        }
+    }
+
+    /// How many packets were read.
+    pub fn counts(&self) -> PacketCounts
+        ensures { result ≡ counts_at self.now }
+    {
+        PacketCounts {
+            number: self.count,
+            skipped: self.skipped,
+            left: self.left,
         }
     }
 
@@ -113,9 +121,19 @@ impl Progress {
         };
         out.check()?;
         self.count_packet(task, packet);
-        self.verdict = self.verdict.with(accepted);
+        self.judge(accepted);
         self.offset = self.offset.saturating_add(unit.len());
         Ok(())
+    }
+
+    /// Refuses all packets together if this one is refused. If it is accepted, nothing is written.
+    #[inline(always)]
+    fn judge(&mut self, accepted: bool)
+        ensures { self.new ≡ record self.old { verdict = verdict_with self.old.verdict accepted } }
+    {
+        if !accepted {
+            self.verdict = Verdict::SomeRefused;
+        }
     }
 
     /// Writes what is made of a unit, and returns whether its packet is accepted. Returns `None` and writes nothing if the packet is to be
@@ -145,10 +163,7 @@ impl Progress {
             return Some(true);
         }
         match task.form {
-            Form::Lines(options) => {
-                let number = self.count.saturating_add(1);
-                Some(write_lines(options, number, packet, out))
-            }
+            Form::Lines(options) => { Some(write_lines(options, &self.count, packet, out)) }
             Form::Copy { edit } => {
                 if write_packet(&self.reader, edit, edits, unit, packet, out) {
                     Some(true)
@@ -171,7 +186,7 @@ impl Progress {
             return;
         };
         self.count = self.count.saturating_add(1);
-        self.skipped = self.skipped.saturating_add(usize::from(is_skipped(packet)));
+        self.skipped = skipped_after(self.skipped, packet);
         if let Some(left) = self.left {
             if task.chooses(packet) {
                 self.left = Some(left.saturating_sub(1));
@@ -212,11 +227,22 @@ impl Progress {
         ensures marks { Marks W.can_fail out.old out.new }
     {
         if let Form::Lines(options) = form {
-            write_totals(options.is_plain, self.count, self.skipped, out);
+            write_totals_of(options, self.count, self.skipped, out);
         }
         out.check()?;
         Ok(self.verdict)
     }
+}
+
+/// How many packets are skipped with this one, after so many before it.
+#[inline(always)]
+fn skipped_after(skipped: usize, packet: &CapturedPacket<'_>) -> usize
+    ensures { result ≡ counted (skipped + skip_count (captured_packet_view packet.now)) }
+{
+    if is_skipped(packet) {
+        return skipped.saturating_add(1);
+    }
+    skipped
 }
 
 /// Writes a unit that is no packet, if a copy is made.

@@ -4,16 +4,20 @@ ghost use Rattle.ether_pcap.specs.Capture.{IsEnd};
 ghost use Rattle.ether_text.specs.InputReader.{StopsReading};
 ghost use Rattle.ether_text.specs.OutputBuffer.{contents_of, Marks};
 ghost use Rattle.ether_text.specs.Run.{IsEndless};
+ghost use Rattle.ether_capture.specs.Counting.{AreCounted, HasCounted};
 ghost use Rattle.ether_capture.specs.InputBuffer.{items};
-ghost use Rattle.ether_capture.specs.Run.{AnswersSlice, HasRun, IfSettled, OnInput, OnStreamFault};
+ghost use Rattle.ether_capture.specs.Progress.{counts_at, IsStart};
+ghost use Rattle.ether_capture.specs.Run.{AnswersSlice, HasNoMemory, HasRun, IfSettled, OnInput, OnStreamFault};
 ghost use Rattle.ether_capture.specs.Task.{task_view};
 
+use crate::counts::PacketCounts;
 use crate::edit_buffer::EditBuffer;
 use crate::input_buffer::InputBuffer;
 use crate::outcome::RunFault;
 use crate::progress::Progress;
 use crate::task::Task;
 use ether_text::{InputReader, OutputBuffer, Sink, SliceSource, Source, Verdict};
+use std::alloc::Global;
 
 /// Reads a capture to its end, and writes what is asked for: the lines of its packets, or a copy.
 ///
@@ -43,9 +47,52 @@ pub fn run<R: Source, W: Sink>(
         (R.can_fail ⊎ IsEndless (R.remaining reader.old) (R.remaining reader.new)) W.can_fail) }
     ensures flushed { IfSettled result (W.is_flushed writer.new) }
 {
+    let (outcome, _) = run_counted(task, buffer, edits, reader, writer);
+    outcome
+}
+
+/// Does as [`run`], and says how many packets were read.
+pub fn run_counted<R: Source, W: Sink>(
+    task: &Task,
+    buffer: InputBuffer,
+    edits: EditBuffer,
+    reader: &mut R,
+    writer: &mut W,
+) -> (Result<Verdict, RunFault>, PacketCounts)
+    ensures run { HasCounted (task_view task.now) (R.remaining reader.old) (R.remaining reader.new)
+        (W.contents writer.old) (W.contents writer.new) result.0 result.1 }
+    ensures failed { IfErr result.0 (λ fault. OnStreamFault fault
+        (R.can_fail ⊎ IsEndless (R.remaining reader.old) (R.remaining reader.new)) W.can_fail) }
+    ensures flushed { IfSettled result.0 (W.is_flushed writer.new) }
+{
     let mut input = InputReader::new(reader);
     let mut out = OutputBuffer::new(writer);
-    answer_capture(task, buffer, edits, &mut input, &mut out)
+    let mut progress = Progress::new(task);
+    let outcome = answer_capture(task, &mut progress, buffer, edits, &mut input, &mut out);
+    (outcome, progress.counts())
+}
+
+/// Does as [`run_counted`], with memory that is allocated before.
+pub(crate) fn run_input<R: Source, W: Sink>(
+    task: &Task,
+    alloc: Global,
+    reader: &mut R,
+    writer: &mut W,
+) -> (Result<Verdict, RunFault>, PacketCounts)
+    ensures run { HasRun (task_view task.now) (R.remaining reader.old) (R.remaining reader.new)
+        (W.contents writer.old) (W.contents writer.new) result.0
+        ⊎ HasNoMemory (R.remaining reader.old) (R.remaining reader.new) (W.contents writer.old) (W.contents writer.new) result.0 }
+    ensures counted { HasCounted (task_view task.now) (R.remaining reader.old) (R.remaining reader.new)
+        (W.contents writer.old) (W.contents writer.new) result.0 result.1
+        ⊎ (HasNoMemory (R.remaining reader.old) (R.remaining reader.new) (W.contents writer.old) (W.contents writer.new) result.0
+        × AreCounted (task_view task.now) [] result.1) }
+    ensures failed { IfErr result.0 (λ fault. OnStreamFault fault
+        (R.can_fail ⊎ IsEndless (R.remaining reader.old) (R.remaining reader.new)) W.can_fail) }
+{
+    match (InputBuffer::new(alloc), EditBuffer::new(alloc)) {
+        (Ok(buffer), Ok(edits)) => run_counted(task, buffer, edits, reader, writer),
+        _ => (Err(RunFault::Memory), PacketCounts::none(task)),
+    }
 }
 
 /// Does as [`run`] on a capture that is a slice. No read can fail, so the outcome is never [`RunFault::Input`].
@@ -67,22 +114,24 @@ pub fn run_slice<W: Sink>(
 /// again.
 fn answer_capture<R: Source, W: Sink>(
     task: &Task,
+    progress: &mut Progress,
     buffer: InputBuffer,
     edits: EditBuffer,
     input: &mut InputReader<'_, R>,
     out: &mut OutputBuffer<'_, W>,
 ) -> Result<Verdict, RunFault>
+    requires { IsStart (task_view task.now) progress.old }
     ensures same_reader { input.new.inner.ghost_name ≡ input.old.inner.ghost_name }
     ensures same_writer { out.new.writer.ghost_name ≡ out.old.writer.ghost_name }
-    ensures run { HasRun (task_view task.now) (R.remaining input.old.inner.now) (R.remaining input.new.inner.now)
-        (contents_of W.contents out.old) (W.contents out.new.writer.now) result }
+    ensures run { HasCounted (task_view task.now) (R.remaining input.old.inner.now) (R.remaining input.new.inner.now)
+        (contents_of W.contents out.old) (W.contents out.new.writer.now) result (counts_at progress.new) }
     ensures failed { IfErr result
         (λ fault. OnStreamFault fault (input.new.has_failed ≡ true) (out.new.has_failed ≡ true)) }
     ensures cause { IfErr result (λ fault. OnInput fault (StopsReading R.remaining R.can_fail input.old input.new)) }
     ensures marks { Marks W.can_fail out.old out.new }
     ensures flushed { IfSettled result (W.is_flushed out.new.writer.now) }
 {
-    let outcome = read_capture(task, buffer, edits, input, out);
+    let outcome = read_capture(task, progress, buffer, edits, input, out);
     if let Ok(_) | Err(RunFault::Capture(_) | RunFault::NotEdited(_) | RunFault::Memory) = outcome {
         out.flush()?;
     }
@@ -92,26 +141,27 @@ fn answer_capture<R: Source, W: Sink>(
 /// Reads the capture to its end, and gathers what is written. What is gathered is written out before each read.
 fn read_capture<R: Source, W: Sink>(
     task: &Task,
+    progress: &mut Progress,
     buffer: InputBuffer,
     edits: EditBuffer,
     input: &mut InputReader<'_, R>,
     out: &mut OutputBuffer<'_, W>,
 ) -> Result<Verdict, RunFault>
+    requires { IsStart (task_view task.now) progress.old }
     ensures same_reader { input.new.inner.ghost_name ≡ input.old.inner.ghost_name }
     ensures same_writer { out.new.writer.ghost_name ≡ out.old.writer.ghost_name }
-    ensures run { HasRun (task_view task.now) (R.remaining input.old.inner.now) (R.remaining input.new.inner.now)
-        (contents_of W.contents out.old) (contents_of W.contents out.new) result }
+    ensures run { HasCounted (task_view task.now) (R.remaining input.old.inner.now) (R.remaining input.new.inner.now)
+        (contents_of W.contents out.old) (contents_of W.contents out.new) result (counts_at progress.new) }
     ensures none_waits { IfErr result (λ fault. OnInput fault (out.new.waiting.items ≡ [])) }
     ensures failed { IfErr result
         (λ fault. OnStreamFault fault (input.new.has_failed ≡ true) (out.new.has_failed ≡ true)) }
     ensures cause { IfErr result (λ fault. OnInput fault (StopsReading R.remaining R.can_fail input.old input.new)) }
     ensures marks { Marks W.can_fail out.old out.new }
 {
-    let mut progress = Progress::new(task.count);
     let (mut buffer, mut edits) = (buffer, edits);
     buffer.clear();
     loop {
-        let Some(error) = buffer.take_units(&mut progress, task, &mut edits, out)? else {
+        let Some(error) = buffer.take_units(progress, task, &mut edits, out)? else {
             return progress.finish(task.form, out);
         };
         let Some(required_len) = error.required_len() else {
@@ -120,7 +170,7 @@ fn read_capture<R: Source, W: Sink>(
         out.write_out()?;
         buffer.make_room(required_len)?;
         if buffer.read(input, out)? == 0 {
-            if is_over(&progress, &buffer) {
+            if is_over(progress, &buffer) {
                 return progress.finish(task.form, out);
             }
             return Err(progress.fault(error));

@@ -1,7 +1,7 @@
 //! What is made of a capture.
-ghost use Rattle.std.specs.Prelude.{◌≡◌, ◌↔◌, IsTrue};
+ghost use Rattle.std.specs.Prelude.{◌≡◌, ◌↔◌, IsTrue, Some};
 ghost use Rattle.ether_pcap.specs.CaptureViews.{captured_packet_view};
-ghost use Rattle.ether_capture.specs.Task.{is_copy, task_view, IsChosen};
+ghost use Rattle.ether_capture.specs.Task.{is_copy, packets_before, task_view, IsChosen};
 
 use ether_content::{PacketEdit, selects};
 use ether_filter::Filter;
@@ -38,6 +38,21 @@ pub struct LineOptions {
     pub is_plain: bool,
     /// How many VLAN tags and SecTags are read of a packet at most; `None` for all.
     pub limit: Option<usize>,
+    /// How many packets were before, if the capture is one of several: then it has no line of totals.
+    pub before: Option<usize>,
+}
+
+impl LineOptions {
+    /// The same for a capture after others with so many packets.
+    pub fn after(self, packets: usize) -> LineOptions
+        ensures { result ≡ record self { before = Some packets } }
+    {
+        LineOptions {
+            is_plain: self.is_plain,
+            limit: self.limit,
+            before: Some(packets),
+        }
+    }
 }
 
 impl Task {
@@ -49,6 +64,26 @@ impl Task {
         match &self.filter {
             Some(filter) => selects(filter, packet),
             None => true,
+        }
+    }
+
+    /// How many packets were before.
+    pub fn packets_before(&self) -> usize
+        ensures { result ≡ packets_before (task_view self.now).form }
+    {
+        match self.form {
+            Form::Lines(options) => options.before.unwrap_or(0),
+            Form::Copy { .. } => 0,
+        }
+    }
+
+    /// How many packets are asked for, if their number is limited.
+    pub fn asked_for(&self) -> Option<usize>
+        ensures { result ≡ (task_view self.now).count }
+    {
+        match self.count {
+            Some(count) => Some(count.get()),
+            None => None,
         }
     }
 

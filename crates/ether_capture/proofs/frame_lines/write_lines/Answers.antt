@@ -1,4 +1,4 @@
-use Rattle.std.proofs.Common.{ℕ, List, [], ◌++◌, Option, None, Bor, true, refl, sym, subst, append-nil}
+use Rattle.std.proofs.Common.{ℕ, ◌+◌, List, [], ◌++◌, Option, Bor, true, refl, sym, subst, append-nil}
 use Rattle.std.specs.Prelude.{codes}
 use Rattle.ether_peel.specs.Grammar.Expectation.{Next, EtherType}
 use Rattle.ether_peel.specs.Walker.Start.{start_with}
@@ -11,6 +11,7 @@ use Rattle.ether_text.specs.declared.output_buffer.OutputBuffer.{OutputBuffer}
 use Rattle.ether_text.proofs.OutputBufferLemmas.{Takes-then}
 use Rattle.ether_content.specs.Content.{ContentValue}
 use Rattle.ether_capture.specs.FrameLines.{AnswersContent, packet_line_if}
+use Rattle.ether_capture.specs.Packets.{counted}
 use Rattle.ether_capture.specs.LinuxSll2Lines.{AnswersPayload, linux_sll2_text, read}
 use Rattle.ether_capture.proofs.frame_lines.write_lines.Goals.{in-Frame, in-LinuxSll2+in-Ok}
 use Rattle.ether_capture.proofs.frame_lines.write_lines.Goals as goal
@@ -20,7 +21,7 @@ returns-in-Err g c =
     let walk = c.in-Err.ensures.ended c.args.options.limit in
     let is = rw c.in-LinuxSll2.is at c.of-content.ensures in
     record {
-      text = packet_line_if c.args.options.is_plain c.args.number (captured_packet_view c.args.packet.now) ++ walk.text;
+      text = packet_line_if c.args.options.is_plain (counted (c.args.count.now + 1)) (captured_packet_view c.args.packet.now) ++ walk.text;
       answers = record {
         lines = walk.text;
         content = subst (λ (f : ContentValue). AnswersContent c.args.options.limit f walk.text c.in-Err.accepted) is walk.answers;
@@ -31,7 +32,7 @@ returns-in-Err g c =
 
 pub returns-in-Unknown : goal.returns-in-Unknown
 returns-in-Unknown g c =
-    let line = packet_line_if c.args.options.is_plain c.args.number (captured_packet_view c.args.packet.now) in
+    let line = packet_line_if c.args.options.is_plain (counted (c.args.count.now + 1)) (captured_packet_view c.args.packet.now) in
     let is = rw c.in-Unknown.is at c.of-content.ensures in
     record {
       text = line;
@@ -47,10 +48,10 @@ pub returns : goal.returns
 returns g c =
     let contents = g.W.Sink.contents in
     let can_fail = g.W.Sink.can_fail in
-    let line = packet_line_if c.args.options.is_plain c.args.number (captured_packet_view c.args.packet.now) in
-    let walk = c.write_walk_within.ensures in
-    let accepted = c.write_walk_within.result in
-    let new = c.write_walk_within.new.out in
+    let line = packet_line_if c.args.options.is_plain (counted (c.args.count.now + 1)) (captured_packet_view c.args.packet.now) in
+    let walk = c.write_walk_after.ensures in
+    let accepted = c.write_walk_after.result in
+    let new = c.write_walk_after.new.out in
     elim c.match-content.branch [
       | in-Frame w ↦
           let is = rw w.in-Frame.is at c.of-content.ensures in

@@ -29,10 +29,10 @@ loop-edits-init g c = (
         (λ (l : List ℕ).
         Reached (task_view c.args.task.now) g.W.Sink.contents (contents_of g.W.Sink.contents c.args.out.now)
         [] l
-        c.new-progress.result c.args.out.now)
+        c.args.progress.now c.args.out.now)
         (sym c.clear.ensures)
-        (Reached-start (task_view c.args.task.now) g.W.Sink.contents c.new-progress.result
-        c.args.out.now c.new-progress.ensures);
+        (Reached-start (task_view c.args.task.now) g.W.Sink.contents c.args.progress.now
+        c.args.out.now c.requires);
   },
 )
 
@@ -282,5 +282,5 @@ returns-in_err-error-clause-run g c =
     let before = g.R.Source.remaining c.args.input.now.inner.now in
     let mid = g.R.Source.remaining c.loop-edits.input.inner.now in
     stopped_with task contents before mid held c.from_residual.result c.in_err-error.field-0.0 taken
-    (items c.loop-edits.buffer) c.loop-edits.progress c.loop-edits.out c.take_units.new.out c.from_residual.ensures.1
+    (items c.loop-edits.buffer) c.loop-edits.progress c.take_units.new.progress c.loop-edits.out c.take_units.new.out c.from_residual.ensures.1
     c.in_err-error.ensures.fault c.in_err-error.ensures.stopped so_far.read so_far.reached

@@ -1,26 +1,7 @@
-use Rattle.std.proofs.Common.{rules, ap, ◌∙◌, List, ℕ}
-use Rattle.std.specs.Io.KnownBytes.{append_known}
-use Rattle.ether_text.proofs.KnownBytesLemmas.{append_known_nil}
-use Rattle.ether_text.proofs.RunLemmas.{run_fails}
 use Rattle.ether_capture.specs.Task.{task_view}
-use Rattle.ether_capture.specs.Run.{stream_of}
-use Rattle.ether_capture.proofs.RunLemmas.{HasRun-same}
+use Rattle.ether_capture.proofs.RunLemmas.{has_run}
 use Rattle.ether_capture.proofs.run.run.Goals as goal
 
 pub returns-clause-run : goal.returns-clause-run
 returns-clause-run g c =
-    let none =
-    ap (λ (l : List ℕ). append_known (g.W.Sink.contents c.new-out.result.writer.now) l)
-    c.new-out.ensures.none_waits
-    ∙ append_known_nil _ ∙ ap g.W.Sink.contents c.new-out.ensures.contents in
-    HasRun-same (task_view c.args.task.now) c.answer_capture.result _ _ _ _ _ _ _ _
-    (ap g.R.Source.remaining c.new-input.ensures.remaining) (search rules) none (search rules)
-    c.answer_capture.ensures.run
-
-pub returns-clause-failed : goal.returns-clause-failed
-returns-clause-failed g c =
-    run_fails stream_of g.R.Source.remaining g.R.Source.can_fail g.W.Sink.can_fail c.new-input.result
-    c.answer_capture.new.input
-    c.new-out.result c.answer_capture.new.out _ _ (ap g.R.Source.remaining c.new-input.ensures.remaining) (search rules)
-    c.new-input.ensures.fresh c.new-input.ensures.reads c.new-out.ensures.fresh c.answer_capture.result
-    c.answer_capture.ensures.failed c.answer_capture.ensures.cause c.answer_capture.ensures.marks
+    has_run (task_view c.args.task.now) c.run_counted-outcome.result.0 c.run_counted-outcome.result.1 _ _ _ _ c.run_counted-outcome.ensures.run

@@ -1,20 +1,19 @@
-use Rattle.std.proofs.Common.{rules, ℕ, List, ◌∷◌, map, ap, subst}
+use Rattle.std.proofs.Common.{rules, ℕ, List, ◌∷◌, map, ap, subst, sym}
 use Rattle.std.specs.Prelude.{string_bytes}
 use Rattle.std.specs.Int.NonZero.{non_zero_usize_get}
 use Rattle.ether_content.specs.EditingViews.{edit_view}
-use Rattle.ether_capture.specs.Options.{AskNothing, IsWord, asked_view, words_left}
+use Rattle.ether_capture.specs.Options.{AskNothing, RefusesTaking, IsWord, asked_view, words_left}
 use Rattle.ether_capture.specs.declared.options.Word.TheVariants as kinds
-use Rattle.ether_capture.proofs.OptionsLemmas.{ask_plain, ask_write, ask_cut, ask_pop, ask_tag, ask_select, ask_count, no_count, ask_limit, no_limit, on_err, none_taken, some_taken, none_is, none_mapped, some_is, some_mapped, ask_name_last, follows, asks_nothing}
+use Rattle.ether_capture.proofs.OptionsLemmas.{ask_names, ask_plain, ask_write, ask_cut, ask_pop, ask_tag, ask_select, ask_count, no_count, ask_limit, no_limit, err_as, none_is, none_mapped, some_is, some_mapped, follows, asks_nothing}
 use Rattle.ether_capture.proofs.options.Asked.take.Goals as goal
-use Rattle.ether_capture.proofs.options.Asked.take.Goals.{in_default-via-in-Name+else-is_none, in_default-via-in-Plain+else-not-self, in_default-via-in-Write+else-not-self-2, in_default-via-in-Cut+else-is_none-2, in_default-via-in-Pop+else-is_none-3, in_default-via-in-Tag+else-is_none-4, in_default-via-in-Select+else-is_none-5, in_default-via-in-Count+else-is_none-6, in_default-via-in-Limit+else-is_none-7, in_default-via-in_default}
+use Rattle.ether_capture.proofs.options.Asked.take.Goals.{in_default-via-in-Plain+else-not-self, in_default-via-in-Write+else-not-self-2, in_default-via-in-Cut+else-is_none, in_default-via-in-Pop+else-is_none-2, in_default-via-in-Tag+else-is_none-3, in_default-via-in-Select+else-is_none-4, in_default-via-in-Count+else-is_none-5, in_default-via-in-Limit+else-is_none-6, in_default-via-in_default}
 
-pub returns-in-Name-clause-ok : goal.returns-in-Name-clause-ok
-returns-in-Name-clause-ok c =
-    let a = asked_view c.args.self.now in
-    let word = string_bytes c.args.word in
+pub returns-in_ok-names-in-Name-clause-ok : goal.returns-in_ok-names-in-Name-clause-ok
+returns-in_ok-names-in-Name-clause-ok c =
     let is = subst (λ (w : List ℕ). IsWord w kinds.Name) c.as_str.ensures.value c.in-Name.ensures in
-    let none = none_taken c.args.args.now c.next.new.self c.next.result c.next.ensures.cases (search rules) in
-    ask_name_last a word (words_left c.args.args.now) (words_left c.next.new.self) is none.0 none.1
+    ask_names (asked_view c.args.self.now) (string_bytes c.args.word) (words_left c.args.args.now)
+    (words_left c.names_of.new.args) (map string_bytes c.in_ok-names-in-Name.names.items) is c.in_ok-names-in-Name.ensures.names
+    c.in_ok-names-in-Name.ensures.ok c.in_ok-names-in-Name.ensures.none_left
 
 pub returns-in-Plain-clause-ok : goal.returns-in-Plain-clause-ok
 returns-in-Plain-clause-ok c =
@@ -50,7 +49,7 @@ returns-in_ok-tag_edit-in-Some-clause-ok c =
     let kind = c.in-Tag.kind in
     let is = subst (λ (w : List ℕ). IsWord w (kinds.Tag kind)) c.as_str.ensures.value c.in-Tag.ensures in
     ask_tag (asked_view c.args.self.now) kind (string_bytes c.args.word) (string_bytes c.in-Some.text)
-    (edit_view c.in_ok-tag_edit-in-Some.field-0) (words_left c.args.args.now) (words_left c.next-in-Tag.new.self) is
+    (edit_view c.in_ok-tag_edit-in-Some.field-0) (words_left c.args.args.now) (words_left c.next.new.self) is
     c.in_ok-tag_edit-in-Some.ensures.ok (none_mapped edit_view c.args.self.now.edit (search rules))
     (ap (map string_bytes) c.in-Some.ensures.items)
 
@@ -72,7 +71,9 @@ returns-in_err-count_of-in-Some-next-2-clause-err c =
     let nothing : AskNothing a (word ∷ words) = λ asked asks.
     no_count a asked word (string_bytes c.in-Some-next-2.text) words (words_left c.next-in-Count.new.self) is
     (ap (map string_bytes) c.in-Some-next-2.ensures.items) c.in_err-count_of-in-Some-next-2.ensures.err asks in
-    on_err c.from_residual-in_err-count_of-in-Some-next-2.result (AskNothing a (word ∷ words)) nothing
+    err_as c.from_residual-in_err-count_of-in-Some-next-2.result c.in_err-count_of-in-Some-next-2.field-0.0
+    (RefusesTaking a word words) c.from_residual-in_err-count_of-in-Some-next-2.ensures.1
+    (subst (RefusesTaking a word words) (sym c.in_err-count_of-in-Some-next-2.ensures.usage) nothing)
 
 pub returns-in_ok-limit_of-in-Some-next-3-clause-ok : goal.returns-in_ok-limit_of-in-Some-next-3-clause-ok
 returns-in_ok-limit_of-in-Some-next-3-clause-ok c =
@@ -91,7 +92,9 @@ returns-in_err-limit_of-in-Some-next-3-clause-err c =
     let nothing : AskNothing a (word ∷ words) = λ asked asks.
     no_limit a asked word (string_bytes c.in-Some-next-3.text) words (words_left c.next-in-Limit.new.self) is
     (ap (map string_bytes) c.in-Some-next-3.ensures.items) c.in_err-limit_of-in-Some-next-3.ensures.err asks in
-    on_err c.from_residual-in_err-limit_of-in-Some-next-3.result (AskNothing a (word ∷ words)) nothing
+    err_as c.from_residual-in_err-limit_of-in-Some-next-3.result c.in_err-limit_of-in-Some-next-3.field-0.0
+    (RefusesTaking a word words) c.from_residual-in_err-limit_of-in-Some-next-3.ensures.1
+    (subst (RefusesTaking a word words) (sym c.in_err-limit_of-in-Some-next-3.ensures.usage) nothing)
 
 pub returns-in_default-clause-err : goal.returns-in_default-clause-err
 returns-in_default-clause-err c asked asks =
@@ -100,10 +103,6 @@ returns-in_default-clause-err c asked asks =
     let word = string_bytes c.args.word in
     let words = words_left c.args.args.now in
     elim c.in_default.branch [
-      | in_default-via-in-Name+else-is_none w ↦
-          let is = subst (λ (v : List ℕ). IsWord v kinds.Name) c.as_str.ensures.value w.in-Name.ensures in
-          some_taken c.args.args.now w.next.new.self w.next.result w.next.ensures.cases (search rules)
-          (follows kinds.Name a asked word words is asks).0
       | in_default-via-in-Plain+else-not-self w ↦
           let is = subst (λ (v : List ℕ). IsWord v kinds.Plain) c.as_str.ensures.value w.in-Plain.ensures in
           let off = (follows kinds.Plain a asked word words is asks).0 in
@@ -112,23 +111,23 @@ returns-in_default-clause-err c asked asks =
           let is = subst (λ (v : List ℕ). IsWord v kinds.Write) c.as_str.ensures.value w.in-Write.ensures in
           let off = (follows kinds.Write a asked word words is asks).0 in
           absurd (search (rules, off))
-      | in_default-via-in-Cut+else-is_none-2 w ↦
+      | in_default-via-in-Cut+else-is_none w ↦
           let is = subst (λ (v : List ℕ). IsWord v kinds.Cut) c.as_str.ensures.value w.in-Cut.ensures in
           some_mapped edit_view self.edit (search rules) (follows kinds.Cut a asked word words is asks).0
-      | in_default-via-in-Pop+else-is_none-3 w ↦
+      | in_default-via-in-Pop+else-is_none-2 w ↦
           let is = subst (λ (v : List ℕ). IsWord v kinds.Pop) c.as_str.ensures.value w.in-Pop.ensures in
           some_mapped edit_view self.edit (search rules) (follows kinds.Pop a asked word words is asks).0
-      | in_default-via-in-Tag+else-is_none-4 w ↦
+      | in_default-via-in-Tag+else-is_none-3 w ↦
           let kind = w.in-Tag.kind in
           let is = subst (λ (v : List ℕ). IsWord v (kinds.Tag kind)) c.as_str.ensures.value w.in-Tag.ensures in
           some_mapped edit_view self.edit (search rules) (follows (kinds.Tag kind) a asked word words is asks).5
-      | in_default-via-in-Select+else-is_none-5 w ↦
+      | in_default-via-in-Select+else-is_none-4 w ↦
           let is = subst (λ (v : List ℕ). IsWord v kinds.Select) c.as_str.ensures.value w.in-Select.ensures in
           some_mapped string_bytes self.text (search rules) (follows kinds.Select a asked word words is asks).3
-      | in_default-via-in-Count+else-is_none-6 w ↦
+      | in_default-via-in-Count+else-is_none-5 w ↦
           let is = subst (λ (v : List ℕ). IsWord v kinds.Count) c.as_str.ensures.value w.in-Count.ensures in
           some_mapped non_zero_usize_get self.count (search rules) (follows kinds.Count a asked word words is asks).5
-      | in_default-via-in-Limit+else-is_none-7 w ↦
+      | in_default-via-in-Limit+else-is_none-6 w ↦
           let is = subst (λ (v : List ℕ). IsWord v kinds.Limit) c.as_str.ensures.value w.in-Limit.ensures in
           some_is self.limit (search rules) (follows kinds.Limit a asked word words is asks).5
       | in_default-via-in_default w ↦

@@ -7,7 +7,8 @@ use Rattle.ether_pcap.specs.CaptureViews.{captured_packet_view}
 use Rattle.ether_text.proofs.OutputBufferLemmas.{Marks-none, Marks-then}
 use Rattle.ether_capture.specs.Progress.{Reached, IsUnitOf, OnNotEdited, StopsAfter}
 use Rattle.ether_capture.specs.Task.{task_view}
-use Rattle.ether_capture.proofs.ProgressLemmas.{Reached-unit, packet_of_unit, unit_is, unit_unwritten, err_is, rest_is}
+use Rattle.ether_capture.proofs.MadeLemmas.{packet_of_unit}
+use Rattle.ether_capture.proofs.ProgressLemmas.{Reached-unit, unit_is, unit_unwritten, err_is, rest_is}
 use Rattle.ether_capture.proofs.progress.Progress.take_units.Goals as goal
 
 pub loop-self-init : goal.loop-self-init

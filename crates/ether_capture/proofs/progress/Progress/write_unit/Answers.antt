@@ -8,7 +8,7 @@ use Rattle.ether_capture.specs.Packets.{counted}
 use Rattle.ether_capture.specs.Progress.{MakesText, Makes, other_text, writes_packet}
 use Rattle.ether_capture.specs.Task.{form_view, IsChosen}
 use Rattle.ether_capture.specs.declared.task.Form.{Form}
-use Rattle.ether_capture.proofs.ProgressLemmas.{other_made, left_made}
+use Rattle.ether_capture.proofs.MadeLemmas.{other_made, left_made}
 use Rattle.ether_capture.proofs.progress.Progress.write_unit.Goals as goal
 
 pub returns-in_default-clause-some : goal.returns-in_default-clause-some

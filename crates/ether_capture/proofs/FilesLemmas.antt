@@ -1,0 +1,96 @@
+-- What is read of several captures, one after the other.
+use Rattle.std.proofs.Common.{◌≡◌, ◌≢◌, ◌⊎◌, ℕ, ◌+◌, List, [], length, Option, Result, Ok, Err, IfErr, refl, sym, subst, ◌∙◌, arith, inl, inr}
+use Rattle.std.specs.Prelude.{max}
+use Rattle.std.specs.Io.KnownBytes.{Appends}
+use Rattle.ether_pcap.specs.Capture.{PacketValue}
+use Rattle.ether_text.specs.Run.{IsEndless}
+use Rattle.ether_text.specs.declared.verdict.Verdict.{Verdict}
+use Rattle.ether_capture.specs.Counting.{AreCounted, HasCounted, IfFileRead, IfRead}
+use Rattle.ether_capture.specs.Files.{HasEnded, ReadsFile, next_task}
+use Rattle.ether_capture.specs.Options.{ListingValue}
+use Rattle.ether_capture.specs.Outcome.{last_bytes, status_of_file, text_of_file}
+use Rattle.ether_capture.specs.Packets.{counted, IsLeftOf}
+use Rattle.ether_capture.specs.Run.{HasNoMemory, OnStreamFault}
+use Rattle.ether_capture.specs.Task.{TaskValue}
+use Rattle.ether_capture.specs.declared.counts.PacketCounts.{PacketCounts}
+use Rattle.ether_capture.specs.declared.files.Tally.{Tally}
+use Rattle.ether_capture.specs.declared.outcome.FileEnd.{FileEnd}
+use Rattle.ether_capture.specs.declared.outcome.FileEnd.TheVariants as ends
+use Rattle.ether_capture.specs.declared.outcome.RunFault.{RunFault}
+use Rattle.ether_capture.specs.declared.outcome.RunFault.TheVariants as faults
+
+module _ (has : List ℕ → Option (List ℕ) → Type 0) (can_refuse can_read can_write : Type 0) where
+  -- how many packets were read is known of each end but that of a failed output: lines have no packet that can't be edited
+  counts_known : (l : ListingValue) (at : Tally) (name : List ℕ) (packets : List PacketValue)
+      (held holds : Option (List ℕ)) (end : FileEnd) {P : Type 0}
+      → HasEnded has can_refuse can_read can_write (next_task l at) name packets held holds end
+      → IfFileRead end P → end ≢ ends.Read (Err faults.Output) → P
+  counts_known l at name packets held holds ends.NotOpened ended known going = known
+  counts_known l at name packets held holds (ends.Read (Ok verdict)) ended known going = known
+  counts_known l at name packets held holds (ends.Read (Err (faults.Capture fault))) ended known going = known
+  counts_known l at name packets held holds (ends.Read (Err (faults.NotEdited offset)))
+      (before, after, is, inl run, failed) known going = absurd run.stops
+  counts_known l at name packets held holds (ends.Read (Err (faults.NotEdited offset)))
+      (before, after, is, inr (none, no_memory), failed) known going = let e = no_memory.0 in absurd cc
+  counts_known l at name packets held holds (ends.Read (Err faults.Input)) ended known going = known
+  counts_known l at name packets held holds (ends.Read (Err faults.Output)) ended known going = absurd (going refl)
+  counts_known l at name packets held holds (ends.Read (Err faults.Memory)) ended known going = known
+
+  -- a capture was read, and its line is written
+  pub file_read : (l : ListingValue) (task : TaskValue) (name : List ℕ) (at next : Tally)
+      (held mid holds : Option (List ℕ)) (packets : List PacketValue) (end : FileEnd) (counts : PacketCounts)
+      → task ≡ next_task l at
+      → HasEnded has can_refuse can_read can_write task name packets held mid end
+      → IfFileRead end (AreCounted task packets counts) → end ≢ ends.Read (Err faults.Output)
+      → Appends mid holds (last_bytes (text_of_file name end))
+      → next.packets ≡ counts.number → next.skipped ≡ counted (at.skipped + counts.skipped)
+      → next.left ≡ counts.left → next.status ≡ max at.status (status_of_file end)
+      → ReadsFile has can_refuse can_read can_write l name at held next holds
+  file_read l task name at next held mid holds packets end counts same ended known going told number skipped left
+      status =
+      let ended_so =
+      subst (λ (t : TaskValue). HasEnded has can_refuse can_read can_write t name packets held mid end) same ended in
+      let known_so = subst (λ (t : TaskValue). IfFileRead end (AreCounted t packets counts)) same known in
+      let are = counts_known l at name packets held mid end ended_so known_so going in
+      record {
+        packets = packets;
+        end = end;
+        mid = mid;
+        ended = ended_so;
+        going = going;
+        told = told;
+        tallied = record {
+          kept = are.kept;
+          selected = are.selected;
+          is_count = number ∙ are.is_number;
+          is_skipped = let a = are.is_skipped in omega (arith, skipped, a);
+          is_left = subst (IsLeftOf at.left (length are.kept)) (sym left) are.is_left;
+          is_status = status;
+        };
+      }
+
+  -- a run that was counted, or had no memory, is the end of a capture
+  pub run_ended : (task : TaskValue) (name : List ℕ) (before after held holds : Option (List ℕ))
+      (end : Result Verdict RunFault) (counts : PacketCounts)
+      → has name before
+      → HasCounted task before after held holds end counts
+      ⊎ (HasNoMemory before after held holds end × AreCounted task [] counts)
+      → IfErr end (λ fault. OnStreamFault fault (can_read ⊎ IsEndless before after) can_write)
+      → (packets : List PacketValue) × HasEnded has can_refuse can_read can_write task name packets held holds
+      (ends.Read end)
+      × IfFileRead (ends.Read end) (AreCounted task packets counts)
+  run_ended task name before after held holds end counts is (inl run) failed =
+      (run.packets, (before, after, is, inl run.run, failed), run.counted)
+  run_ended task name before after held holds (Ok verdict) counts is (inr (none, are)) failed = absurd cc
+  run_ended task name before after held holds (Err fault) counts is (inr (none, are)) failed = (
+    [],
+    (before, after, is, inr (refl, none), failed),
+    memory_counted fault,
+  )
+    where
+      memory_counted : (f : RunFault) → IfRead (Err f) (AreCounted task [] counts)
+      memory_counted (faults.Capture fault) = are
+      memory_counted (faults.NotEdited offset) = tt
+      memory_counted faults.Input = are
+      memory_counted faults.Output = tt
+      memory_counted faults.Memory = are

@@ -1,0 +1,76 @@
+-- What is read of several captures, one after the other, and written.
+use Rattle.std.specs.Prelude.{◌≡◌, ◌≢◌, ◌⊎◌, ℕ, ◌+◌, max, List, [], ◌∷◌, length, Option, Some, Result, Ok, Err, IfErr}
+use Rattle.std.specs.List.{sum_by}
+use Rattle.std.specs.Io.KnownBytes.{Appends}
+use Rattle.ether_filter.specs.Expressions.{Expression}
+use Rattle.ether_pcap.specs.Capture.{PacketValue}
+use Rattle.ether_pcap.specs.Copies.{Selected}
+use Rattle.ether_text.specs.Run.{IsEndless}
+use Rattle.ether_text.specs.declared.output_fault.OutputFault.{OutputFault}
+use Rattle.ether_capture.specs.FrameLines.{skip_count, totals_line_if}
+use Rattle.ether_capture.specs.Options.{ListingValue}
+use Rattle.ether_capture.specs.Outcome.{last_bytes, status_of_file, text_of_file}
+use Rattle.ether_capture.specs.Packets.{counted, IsLeftOf}
+use Rattle.ether_capture.specs.Run.{HasRunOver, HasNoMemory, OnStreamFault}
+use Rattle.ether_capture.specs.Task.{TaskValue, Lines, IsChosen}
+use Rattle.ether_capture.specs.declared.files.Tally.{Tally}
+use Rattle.ether_capture.specs.declared.outcome.FileEnd.{FileEnd}
+use Rattle.ether_capture.specs.declared.outcome.FileEnd.TheVariants as ends
+use Rattle.ether_capture.specs.declared.outcome.RunFault.TheVariants.{Output}
+
+-- before the first capture
+abbrev pub nothing_read : (count : Option ℕ) → Tally
+nothing_read count = record { packets = 0; skipped = 0; left = count; status = 0 }
+
+-- what is made of the next capture: lines, numbered on, of as many packets as are still asked for
+abbrev pub next_task : ListingValue → (at : Tally) → TaskValue
+next_task l at = record { select = l.select; count = at.left; form = Lines (record l.options { before = Some at.packets }) }
+
+-- the tally with a capture more, which has these packets and this end
+pub record IsTallied (select : Option Expression) (at : Tally) (packets : List PacketValue) (end : FileEnd) (next : Tally) : Type 0 where
+  pub kept : List PacketValue
+  pub selected : Selected (IsChosen select) packets kept
+  pub is_count : next.packets ≡ counted (at.packets + length packets)
+  pub is_skipped : next.skipped ≡ counted (at.skipped + sum_by skip_count packets)
+  pub is_left : IsLeftOf at.left (length kept) next.left
+  pub is_status : next.status ≡ max at.status (status_of_file end)
+
+-- A run over the capture of this name has found these packets; or there was no memory to begin with, or it can't be opened: then it has found none, and
+-- nothing is written.
+abbrev pub HasEnded : (has : List ℕ → Option (List ℕ) → Type 0) (can_refuse can_read can_write : Type 0) → (task : TaskValue) → (name : List ℕ)
+    → List PacketValue → (held holds : Option (List ℕ)) → FileEnd → Type 0
+HasEnded has can_refuse can_read can_write task name packets held holds ends.NotOpened = can_refuse × (packets ≡ []) × (holds ≡ held)
+HasEnded has can_refuse can_read can_write task name packets held holds (ends.Read end) =
+    (before after : Option (List ℕ)) × has name before
+    × (HasRunOver task packets before after held holds end ⊎ ((packets ≡ []) × HasNoMemory before after held holds end))
+    × IfErr end (λ fault. OnStreamFault fault (can_read ⊎ IsEndless before after) can_write)
+
+-- A capture was read, and the line that says why it was not read to its end is written, if there is one.
+pub record ReadsFile (has : List ℕ → Option (List ℕ) → Type 0) (can_refuse can_read can_write : Type 0) (l : ListingValue) (name : List ℕ)
+    (at : Tally) (held : Option (List ℕ)) (next : Tally) (holds : Option (List ℕ)) : Type 0 where
+  pub packets : List PacketValue
+  pub end : FileEnd
+  pub mid : Option (List ℕ)
+  pub ended : HasEnded has can_refuse can_read can_write (next_task l at) name packets held mid end
+  pub going : end ≢ ends.Read (Err Output)
+  pub told : Appends mid holds (last_bytes (text_of_file name end))
+  pub tallied : IsTallied l.select at packets end next
+
+-- Captures were read one after the other: the last one, too, or until no packet more is asked for.
+pub data ReadsFiles (has : List ℕ → Option (List ℕ) → Type 0) (can_refuse can_read can_write : Type 0) (l : ListingValue)
+    : (names : List (List ℕ)) → (at : Tally) → (held : Option (List ℕ)) → (last : Tally) → (holds : Option (List ℕ)) → Type 0 where
+  no_more : (at : Tally) (held : Option (List ℕ)) → ReadsFiles has can_refuse can_read can_write l [] at held at held
+  enough : (names : List (List ℕ)) (at : Tally) (held : Option (List ℕ)) → at.left ≡ Some 0
+      → ReadsFiles has can_refuse can_read can_write l names at held at held
+  next : (name : List ℕ) (names : List (List ℕ)) (at then last : Tally) (held mid holds : Option (List ℕ)) → at.left ≢ Some 0
+      → ReadsFile has can_refuse can_read can_write l name at held then mid
+      → ReadsFiles has can_refuse can_read can_write l names then mid last holds
+      → ReadsFiles has can_refuse can_read can_write l (name ∷ names) at held last holds
+
+-- .. and the line of the totals of all of them is written. Of a fault of the writer nothing is said.
+abbrev pub HasListed : (has : List ℕ → Option (List ℕ) → Type 0) (can_refuse can_read can_write : Type 0) → (l : ListingValue)
+    → (held holds : Option (List ℕ)) → Result ℕ OutputFault → Type 0
+HasListed has can_refuse can_read can_write l held holds (Ok status) =
+    (last : Tally) × (mid : Option (List ℕ)) × ReadsFiles has can_refuse can_read can_write l l.files (nothing_read l.count) held last mid
+    × Appends mid holds (totals_line_if l.options.is_plain last.packets last.skipped) × (status ≡ last.status)
+HasListed has can_refuse can_read can_write l held holds (Err fault) = can_write

@@ -1,0 +1,207 @@
+//! Reads several captures, one after the other.
+ghost use Rattle.std.specs.Prelude.{◌≡◌, ◌≢◌, ◌+◌, ◌↔◌, max, IsTrue, Some, Err, IfOk, OnOk, OnErr, List};
+ghost use Rattle.std.specs.Int.NonZero.{non_zero_usize_get};
+ghost use Rattle.std.specs.Io.KnownBytes.{Appends};
+ghost use Rattle.std.specs.Option.{option_map};
+ghost use Rattle.ether_pcap.specs.Capture.{PacketValue};
+ghost use Rattle.ether_capture.specs.Counting.{AreCounted, IfFileRead};
+ghost use Rattle.ether_capture.specs.Files.{HasEnded, HasListed, ReadsFile, ReadsFiles, next_task, nothing_read};
+ghost use Rattle.ether_capture.specs.FrameLines.{totals_line_if};
+ghost use Rattle.ether_capture.specs.Options.{ListingValue, listing_view};
+ghost use Rattle.ether_capture.specs.Outcome.{last_bytes, status_of_file, text_of_file};
+ghost use Rattle.ether_capture.specs.Packets.{counted};
+ghost use Rattle.ether_capture.specs.Task.{task_view};
+ghost use Rattle.ether_capture.specs.declared.outcome.FileEnd.TheVariants as ends;
+ghost use Rattle.ether_capture.specs.declared.outcome.RunFault.TheVariants.{Output};
+
+use crate::captures::Captures;
+use crate::counts::PacketCounts;
+use crate::frame_lines::write_totals;
+use crate::line_sink::LineSink;
+use crate::options::Listing;
+use crate::outcome::{FileEnd, RunFault, line_of_file, status_of_file};
+use crate::run::run_input;
+use crate::task::{Form, Task};
+use ether_text::{OutputBuffer, OutputFault, Sink};
+use std::alloc::Global;
+use std::num::NonZeroUsize;
+
+/// What the captures so far had.
+#[derive(Clone, Copy, Debug)]
+pub struct Tally {
+    /// How many packets.
+    pub packets: usize,
+    /// How many of these were skipped.
+    pub skipped: usize,
+    /// How many packets more are asked for, if their number is limited.
+    pub left: Option<usize>,
+    /// The greatest exit status of a capture.
+    pub status: u8,
+}
+
+impl Tally {
+    /// Before the first capture.
+    fn new(asked_for: Option<usize>) -> Tally
+        ensures { result ≡ nothing_read asked_for }
+    {
+        Tally {
+            packets: 0,
+            skipped: 0,
+            left: asked_for,
+            status: 0,
+        }
+    }
+
+    /// With a capture more.
+    fn with(&self, counts: PacketCounts, end: &FileEnd) -> Tally
+        ensures packets { result.packets ≡ counts.number }
+        ensures skipped { result.skipped ≡ counted (self.now.skipped + counts.skipped) }
+        ensures left { result.left ≡ counts.left }
+        ensures status { result.status ≡ max self.now.status (status_of_file end.now) }
+    {
+        Tally {
+            packets: counts.number,
+            skipped: self.skipped.saturating_add(counts.skipped),
+            left: counts.left,
+            status: self.status.max(status_of_file(end)),
+        }
+    }
+
+    /// Tests that no packet more is asked for.
+    fn is_done(&self) -> bool
+        ensures { IsTrue result ↔ (self.now.left ≡ Some 0) }
+    {
+        matches!(self.left, Some(0))
+    }
+
+    /// How many packets more are asked for, if their number is limited and not 0.
+    fn count(&self) -> Option<NonZeroUsize>
+        ensures { self.now.left ≢ Some 0 → option_map non_zero_usize_get result ≡ self.now.left }
+    {
+        match self.left {
+            Some(left) => NonZeroUsize::new(left),
+            None => None,
+        }
+    }
+}
+
+/// Writes the lines of several captures, each after those before it, and where one is not read to its end, the line that says why; then
+/// that of the totals of all. Returns the greatest exit status of a capture.
+pub fn run_files<C: Captures, W: LineSink>(
+    listing: Listing,
+    alloc: Global,
+    captures: &C,
+    writer: &mut W,
+) -> Result<u8, OutputFault>
+    ensures { HasListed (C.has captures.now) C.can_refuse C.Input.Source.can_fail W.Sink.can_fail (listing_view listing)
+        (W.Sink.contents writer.old) (W.Sink.contents writer.new) result }
+{
+    let is_plain = listing.options.is_plain;
+    let tally = read_files(listing, alloc, captures, writer)?;
+    write_last(is_plain, &tally, writer)?;
+    Ok(tally.status)
+}
+
+/// Writes what is made of each capture, until no packet more is asked for.
+fn read_files<C: Captures, W: LineSink>(
+    listing: Listing,
+    alloc: Global,
+    captures: &C,
+    writer: &mut W,
+) -> Result<Tally, OutputFault>
+    ensures ok { IfOk result (λ last. ReadsFiles (C.has captures.now) C.can_refuse C.Input.Source.can_fail W.Sink.can_fail
+        (listing_view listing) (listing_view listing).files (nothing_read (listing_view listing).count)
+        (W.Sink.contents writer.old) last (W.Sink.contents writer.new)) }
+    ensures failed { OnErr result W.Sink.can_fail }
+{
+    let options = listing.options;
+    let mut files = listing.files.into_iter();
+    let mut task = Task {
+        filter: listing.filter,
+        count: listing.count,
+        form: Form::Lines(options),
+    };
+    let mut tally = Tally::new(task.asked_for());
+    while let Some(name) = files.next() {
+        if tally.is_done() {
+            return Ok(tally);
+        }
+        task.count = tally.count();
+        task.form = Form::Lines(options.after(tally.packets));
+        tally = read_file(&task, &tally, name.as_str(), alloc, captures, writer)?;
+    }
+    Ok(tally)
+}
+
+/// Writes what is made of one capture, and the line that says why it was not read to its end, if there is one.
+fn read_file<C: Captures, W: LineSink>(
+    task: &Task,
+    tally: &Tally,
+    name: &str,
+    alloc: Global,
+    captures: &C,
+    writer: &mut W,
+) -> Result<Tally, OutputFault>
+    ensures ok { (l : ListingValue) → task_view task.now ≡ next_task l tally.now → IfOk result (λ then. ReadsFile (C.has captures.now)
+        C.can_refuse C.Input.Source.can_fail W.Sink.can_fail l name.now tally.now (W.Sink.contents writer.old) then
+        (W.Sink.contents writer.new)) }
+    ensures failed { OnErr result W.Sink.can_fail }
+{
+    let (end, counts) = end_of_file(task, name, alloc, captures, writer);
+    if is_output_fault(&end) {
+        return Err(OutputFault);
+    }
+    write_reason(name, &end, writer)?;
+    Ok(tally.with(counts, &end))
+}
+
+/// Tests that the writer failed.
+fn is_output_fault(end: &FileEnd) -> bool
+    ensures { IsTrue result ↔ (end.now ≡ ends.Read (Err Output)) }
+{
+    matches!(end, FileEnd::Read(Err(RunFault::Output)))
+}
+
+/// Writes the line that says why a capture was not read to its end, if there is one.
+fn write_reason<W: LineSink>(name: &str, end: &FileEnd, writer: &mut W) -> Result<(), OutputFault>
+    ensures told { OnOk result (Appends (W.Sink.contents writer.old) (W.Sink.contents writer.new)
+        (last_bytes (text_of_file name.now end.now))) }
+    ensures failed { OnErr result W.Sink.can_fail }
+{
+    match line_of_file(name, end) {
+        Some(line) => writer.put_line(&line),
+        None => Ok(()),
+    }
+}
+
+/// Writes what is made of one capture, and returns how it ended, and how many packets were read.
+fn end_of_file<C: Captures, W: Sink>(
+    task: &Task,
+    name: &str,
+    alloc: Global,
+    captures: &C,
+    writer: &mut W,
+) -> (FileEnd, PacketCounts)
+    ensures { (packets : List PacketValue) × HasEnded (C.has captures.now) C.can_refuse C.Input.Source.can_fail W.can_fail
+        (task_view task.now) name.now packets (W.contents writer.old) (W.contents writer.new) result.0
+        × IfFileRead result.0 (AreCounted (task_view task.now) packets result.1) }
+{
+    match captures.open_named(name) {
+        Ok(mut input) => {
+            let (end, counts) = run_input(task, alloc, &mut input, writer);
+            (FileEnd::Read(end), counts)
+        }
+        Err(_) => (FileEnd::NotOpened, PacketCounts::none(task)),
+    }
+}
+
+/// Writes the line of the totals, unless only those of walks are asked for.
+fn write_last<W: Sink>(is_plain: bool, tally: &Tally, writer: &mut W) -> Result<(), OutputFault>
+    ensures written { OnOk result (Appends (W.contents writer.old) (W.contents writer.new)
+        (totals_line_if is_plain tally.now.packets tally.now.skipped)) }
+    ensures failed { OnErr result W.can_fail }
+{
+    let mut out = OutputBuffer::new(writer);
+    write_totals(is_plain, tally.packets, tally.skipped, &mut out);
+    out.flush()
+}
