@@ -20,7 +20,7 @@ use Rattle.ether_capture.specs.declared.outcome.RunFault.{RunFault}
 use Rattle.ether_capture.specs.declared.outcome.RunFault.TheVariants as faults
 
 module _ (has : List ℕ → Option (List ℕ) → Type 0) (can_refuse can_read can_write : Type 0) where
-  -- how many packets were read is known of each end but that of a failed output: lines have no packet that can't be edited
+  -- how many packets were read is known of each end but that of a failed output, since lines edit no packet
   counts_known : (l : ListingValue) (at : Tally) (name : List ℕ) (packets : List PacketValue)
       (held holds : Option (List ℕ)) (end : FileEnd) {P : Type 0}
       → HasEnded has can_refuse can_read can_write (next_task l at) name packets held holds end

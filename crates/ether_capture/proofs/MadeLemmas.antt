@@ -24,7 +24,8 @@ and_true : (b : Bool) → (true && b) ≡ (b && true)
 and_true true = refl
 and_true false = refl
 
-pub verdict_with-verdict_of : (all accepted : Bool) → verdict_with (verdict_of all) accepted ≡ verdict_of (all && accepted)
+pub verdict_with-verdict_of : (all accepted : Bool)
+    → verdict_with (verdict_of all) accepted ≡ verdict_of (all && accepted)
 verdict_with-verdict_of true accepted = refl
 verdict_with-verdict_of false accepted = refl
 
@@ -134,8 +135,8 @@ pub record MadeMore (select : Option Expression) (form : FormValue) (packets old
   pub made : Made select form (with_packet packets packet) kept front text all x
 
 -- the lines of a packet that is chosen or not
-answered_more : (select : Option Expression) (options : LineOptions) (packets kept : List PacketValue) (front text : List ℕ)
-    (all : Bool) (x y : Expectation) (p : PacketValue) (own more : List ℕ) (accepted : Bool)
+answered_more : (select : Option Expression) (options : LineOptions) (packets kept : List PacketValue)
+    (front text : List ℕ) (all : Bool) (x y : Expectation) (p : PacketValue) (own more : List ℕ) (accepted : Bool)
     → Selected (IsChosen select) packets kept → Made select (Lines options) packets kept front text all x
     → AnswersPacket select options (counted (packets_before (Lines options) + length packets + 1)) p more accepted
     → MadeMore select (Lines options) packets kept (Some p) (front ++ own) (text ++ more) (all && accepted) y
@@ -143,13 +144,15 @@ answered_more select options packets kept front text all x y p own more accepted
   kept = kept ++ p ∷ [];
   more = inl (is.0, refl);
   selected = chosen-push select packets kept p is.0 selected;
-  made = AreAnswered-push select options (packets_before (Lines options)) packets text all p more accepted made (inl is);
+  made =
+      AreAnswered-push select options (packets_before (Lines options)) packets text all p more accepted made (inl is);
 }
 answered_more select options packets kept front text all x y p own more accepted selected made (inr is) = record {
   kept = kept;
   more = inr (is.0, refl);
   selected = left-push select packets kept p is.0 selected;
-  made = AreAnswered-push select options (packets_before (Lines options)) packets text all p more accepted made (inr is);
+  made =
+      AreAnswered-push select options (packets_before (Lines options)) packets text all p more accepted made (inr is);
 }
 
 -- the copy of a unit
@@ -227,8 +230,8 @@ pub made_more : (select : Option Expression) (form : FormValue) (packets kept : 
     → Selected (IsChosen select) packets kept → Made select form packets kept front text all x
     → Makes select form y number own packet accepted (Some more)
     → MadeMore select form packets kept packet (front ++ take len buffered) (text ++ more) (all && accepted) y
-made_more select (Lines options) packets kept front text all x y buffered len number None own more accepted within begins
-    unit_is is selected made makes =
+made_more select (Lines options) packets kept front text all x y buffered len number None own more accepted within
+    begins unit_is is selected made makes =
     let same : text ≡ text ++ more =
     sym (append-nil text) ∙ ap (λ (l : List ℕ). text ++ l) (sym (some_text more [] makes.0)) in
     let same_all : all ≡ (all && accepted) = sym (and_is_true all) ∙ ap (λ (b : Bool). all && b) (sym makes.1) in

@@ -293,7 +293,8 @@ ask_limit a word text n words others is counts none same c = (
 )
 
 -- what is so of an error is so of the same one
-pub err_as : {A E : Type 0} (r : Result A E) (e : E) (P : E → Type 0) → IsErrAnd r (λ other. other ≡ e) → P e → IfErr r P
+pub err_as : {A E : Type 0} (r : Result A E) (e : E) (P : E → Type 0) → IsErrAnd r (λ other. other ≡ e) → P e
+    → IfErr r P
 err_as (Ok a) e P is p = tt
 err_as (Err other) e P is p = subst P (sym is) p
 

@@ -113,7 +113,8 @@ module _ (select : Option Expression) (bytes front text : List ℕ) (packets kep
   -- it ends after a unit
   completed : (form : FormValue) → bytes ≡ front → x ≢ Beginning → Made select form packets kept front text all x
       → Completes select form packets bytes
-      (text ++ last_lines form (counted (packets_before form + length packets)) (counted (sum_by skip_count packets))) all
+      (text ++ last_lines form (counted (packets_before form + length packets))
+      (counted (sum_by skip_count packets))) all
   completed (Lines options) is begun made = record {
     lines = text;
     has =
@@ -515,7 +516,8 @@ HasRunOver-flushed task contents before after held from to (Err faults.Memory) p
     breaks_flushed contents before after held from to drains h
 
 pub HasCounted-flushed : {W : Type 0} (task : TaskValue) (contents : W → Option (List ℕ))
-    (before after held : Option (List ℕ)) (from to : OutputBuffer W) (r : Result Verdict RunFault) (counts : PacketCounts)
+    (before after held : Option (List ℕ)) (from to : OutputBuffer W) (r : Result Verdict RunFault)
+    (counts : PacketCounts)
     → WritesOut contents from to → HasCounted task before after held (contents_of contents from) r counts
     → HasCounted task before after held (contents to.writer.now) r counts
 HasCounted-flushed task contents before after held from to r counts drains h = record {
@@ -540,7 +542,8 @@ has_run task r counts before after held holds h = (h.packets, h.run)
 
 -- ---- a run over a slice
 
-slice_answers : (task : TaskValue) (packets : List PacketValue) (can_fail : Type 0) (bytes : List ℕ) (after held holds : Option (List ℕ))
+slice_answers : (task : TaskValue) (packets : List PacketValue) (can_fail : Type 0) (bytes : List ℕ)
+    (after held holds : Option (List ℕ))
     (r : Result Verdict RunFault)
     → length bytes < 2 ^ 64 - 1
     → HasRunOver task packets (Some bytes) after held holds r

@@ -21,7 +21,8 @@ AreAnswered select options before (p ∷ packets) text all =
 -- the line after those of all packets
 abbrev pub totals_of : (options : LineOptions) → List PacketValue → List ℕ
 totals_of options packets =
-    totals_line_after options.before options.is_plain (counted (packets_before (Lines options) + length packets)) (counted (sum_by skip_count packets))
+    totals_line_after options.before options.is_plain (counted (packets_before (Lines options) + length packets))
+    (counted (sum_by skip_count packets))
 
 -- this is the text for the packets of a capture, after those of captures before it
 abbrev pub AreListed : (select : Option Expression) → (options : LineOptions) → List PacketValue → (text : List ℕ) → (all : Bool) → Type 0

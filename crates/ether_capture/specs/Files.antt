@@ -35,7 +35,7 @@ pub record IsTallied (select : Option Expression) (at : Tally) (packets : List P
   pub is_left : IsLeftOf at.left (length kept) next.left
   pub is_status : next.status ≡ max at.status (status_of_file end)
 
--- A run over the capture of this name has found these packets; or there was no memory to begin with, or it can't be opened: then it has found none, and
+-- A run over the capture of this name has found these packets. Or it can't be opened, or there was no memory to begin with: then none is found, and
 -- nothing is written.
 abbrev pub HasEnded : (has : List ℕ → Option (List ℕ) → Type 0) (can_refuse can_read can_write : Type 0) → (task : TaskValue) → (name : List ℕ)
     → List PacketValue → (held holds : Option (List ℕ)) → FileEnd → Type 0

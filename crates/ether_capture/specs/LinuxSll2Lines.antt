@@ -23,7 +23,8 @@ linux_sll2_fault_text (Short required len) =
     spaced (codes "fault" ∷ decimal 0 ∷ codes "open" ∷ codes "length" ∷ decimal required ∷ decimal len ∷ codes "slice" ∷ [])
 linux_sll2_fault_text (PacketType n) = spaced (codes "fault" ∷ decimal 0 ∷ codes "open" ∷ codes "content" ∷ codes "sll_packet_type" ∷ decimal n ∷ [])
 
--- the lines after the header's, which no limit counts: those of the walk of its payload, which begins with what the ether type announces, or what is left
+-- The lines after the header's, which no limit counts: those of the walk of its payload, which begins with what the ether type announces, or what
+-- is left.
 abbrev pub AnswersPayload : (limit : Option ℕ) → (ether_type : Option ℕ) → (bytes text : List ℕ) → (accepted : Bool) → Type 0
 AnswersPayload limit (Some n) bytes text accepted =
     AnswersWalkAfter 20 (record { next = EtherType n; limit = limit }) (slice_range bytes 20 (length bytes)) text accepted

@@ -82,8 +82,10 @@ HasRun task before after held holds outcome = (packets : List PacketValue) × Ha
 abbrev pub HasNoMemory : (before after held holds : Option (List ℕ)) → Result Verdict RunFault → Type 0
 HasNoMemory before after held holds outcome = (outcome ≡ Err Memory) × (after ≡ before) × (holds ≡ held)
 
--- What a run over a slice of these bytes that found these packets has written, by its outcome. There is no fault of the reader, and one of the writer only if that can fail.
-abbrev pub AnswersSliceOver : (task : TaskValue) → List PacketValue → (can_fail : Type 0) → (bytes : List ℕ) → (held holds : Option (List ℕ)) → Result Verdict RunFault → Type 0
+-- What a run over a slice of these bytes that found these packets has written, by its outcome. There is no fault of the reader, and one of the writer
+-- only if that can fail.
+abbrev pub AnswersSliceOver : (task : TaskValue) → List PacketValue → (can_fail : Type 0) → (bytes : List ℕ) → (held holds : Option (List ℕ))
+    → Result Verdict RunFault → Type 0
 AnswersSliceOver task packets can_fail bytes held holds (Ok verdict) =
     ((text : List ℕ) × (all : Bool) × CompletesAll task packets bytes text all × (verdict ≡ verdict_of all) × Appends held holds text)
     ⊎ ((text : List ℕ) × ReachesCount task packets verdict bytes text × Appends held holds text)
@@ -94,7 +96,8 @@ AnswersSliceOver task packets can_fail bytes held holds (Err (NotEdited offset))
 AnswersSliceOver task packets can_fail bytes held holds (Err Input) = ⊥
 AnswersSliceOver task packets can_fail bytes held holds (Err Output) = can_fail
 AnswersSliceOver task packets can_fail bytes held holds (Err Memory) =
-    (taken left text : List ℕ) × (bytes ≡ taken ++ left) × EndsInUnit NeedsMemory task.select task.count task.form packets taken text × Appends held holds text
+    (taken left text : List ℕ) × (bytes ≡ taken ++ left)
+    × EndsInUnit NeedsMemory task.select task.count task.form packets taken text × Appends held holds text
 
 -- .. of any packets
 abbrev pub AnswersSlice : (task : TaskValue) → (can_fail : Type 0) → (bytes : List ℕ) → (held holds : Option (List ℕ))

@@ -18,13 +18,16 @@ use Rattle.ether_capture.proofs.frame_lines.write_lines.Goals as goal
 
 pub returns-in-Err : goal.returns-in-Err
 returns-in-Err g c =
-    let walk = c.in-Err.ensures.ended c.args.options.limit in
+    let limit = c.args.options.limit in
+    let walk = c.in-Err.ensures.ended limit in
+    let line = packet_line_if c.args.options.is_plain (counted (c.args.count.now + 1))
+    (captured_packet_view c.args.packet.now) in
     let is = rw c.in-LinuxSll2.is at c.of-content.ensures in
     record {
-      text = packet_line_if c.args.options.is_plain (counted (c.args.count.now + 1)) (captured_packet_view c.args.packet.now) ++ walk.text;
+      text = line ++ walk.text;
       answers = record {
         lines = walk.text;
-        content = subst (λ (f : ContentValue). AnswersContent c.args.options.limit f walk.text c.in-Err.accepted) is walk.answers;
+        content = subst (λ (f : ContentValue). AnswersContent limit f walk.text c.in-Err.accepted) is walk.answers;
         whole = refl;
       };
       taken = Takes-then c.write_packet_line.ensures walk.taken;
@@ -32,7 +35,8 @@ returns-in-Err g c =
 
 pub returns-in-Unknown : goal.returns-in-Unknown
 returns-in-Unknown g c =
-    let line = packet_line_if c.args.options.is_plain (counted (c.args.count.now + 1)) (captured_packet_view c.args.packet.now) in
+    let line = packet_line_if c.args.options.is_plain (counted (c.args.count.now + 1))
+    (captured_packet_view c.args.packet.now) in
     let is = rw c.in-Unknown.is at c.of-content.ensures in
     record {
       text = line;
@@ -46,9 +50,11 @@ returns-in-Unknown g c =
 
 pub returns : goal.returns
 returns g c =
+    let limit = c.args.options.limit in
     let contents = g.W.Sink.contents in
     let can_fail = g.W.Sink.can_fail in
-    let line = packet_line_if c.args.options.is_plain (counted (c.args.count.now + 1)) (captured_packet_view c.args.packet.now) in
+    let line = packet_line_if c.args.options.is_plain (counted (c.args.count.now + 1))
+    (captured_packet_view c.args.packet.now) in
     let walk = c.write_walk_after.ensures in
     let accepted = c.write_walk_after.result in
     let new = c.write_walk_after.new.out in
@@ -58,14 +64,14 @@ returns g c =
           let answers =
           subst
           (λ (t : ℕ × Start × Bor (List ℕ)).
-          AnswersWalkAfter t.0 (start_with t.1 c.args.options.limit) t.2.now walk.text accepted)
+          AnswersWalkAfter t.0 (start_with t.1 limit) t.2.now walk.text accepted)
           w.header_len-is walk.answers in
           record {
             text = line ++ walk.text;
             answers =
                 record {
                   lines = walk.text;
-                  content = subst (λ (f : ContentValue). AnswersContent c.args.options.limit f walk.text accepted) is answers;
+                  content = subst (λ (f : ContentValue). AnswersContent limit f walk.text accepted) is answers;
                   whole = refl;
                 };
             taken =
@@ -80,28 +86,28 @@ returns g c =
           let answers =
           subst
           (λ (t : ℕ × Start × Bor (List ℕ)).
-          AnswersWalkAfter t.0 (start_with t.1 c.args.options.limit) t.2.now walk.text accepted)
+          AnswersWalkAfter t.0 (start_with t.1 limit) t.2.now walk.text accepted)
           w.header_len-is walk.answers in
           let payload =
           subst
           (λ (l : List ℕ).
-          AnswersWalkAfter 20 (record { next = EtherType begins.ether_type; limit = c.args.options.limit }) l walk.text
+          AnswersWalkAfter 20 (record { next = EtherType begins.ether_type; limit = limit }) l walk.text
           accepted)
           begins.rest
           (subst
           (λ (x : Next).
-          AnswersWalkAfter 20 (record { next = x; limit = c.args.options.limit }) w.in-Ok.payload.now walk.text accepted)
+          AnswersWalkAfter 20 (record { next = x; limit = limit }) w.in-Ok.payload.now walk.text accepted)
           begins.next answers) in
           let whole =
           read walk.text accepted begins.accepted
-          (subst (λ (o : Option ℕ). AnswersPayload c.args.options.limit o bytes walk.text accepted) (sym begins.announced) payload) in
+          (subst (λ (o : Option ℕ). AnswersPayload limit o bytes walk.text accepted) (sym begins.announced) payload) in
           let first = linux_sll2_text (linux_sll2_of bytes) ++ codes "\n" in
           record {
             text = line ++ (first ++ walk.text);
             answers =
                 record {
                   lines = first ++ walk.text;
-                  content = subst (λ (f : ContentValue). AnswersContent c.args.options.limit f (first ++ walk.text) accepted) is whole;
+                  content = subst (λ (f : ContentValue). AnswersContent limit f (first ++ walk.text) accepted) is whole;
                   whole = refl;
                 };
             taken = Takes-then c.write_packet_line.ensures

@@ -11,7 +11,8 @@ pub returns : goal.returns
 unfolding packet_line
 returns g c =
     let p = captured_packet_view c.args.packet.now in
-    let number : c.saturating_add.result ≡ counted (c.args.count.now + 1) =
+    let n = counted (c.args.count.now + 1) in
+    let number : c.saturating_add.result ≡ n =
     let a = c.saturating_add.ensures in omega (arith, a) in
     let first = Takes-same (ap decimal number) c.write_decimal.ensures in
     let link = Takes-same (ap decimal c.from.ensures) c.write_decimal-2.ensures in
@@ -24,9 +25,9 @@ returns g c =
     ++ (codes " captured " ++ (decimal (length p.packet) ++ (codes " original " ++ decimal p.original_len))) in
     let joined = append_assoc (time_text p.time) (codes " link ") lengths in
     let numbers = Takes-then c.write_decimal-3.ensures (Takes-then c.append-3.ensures c.write_decimal-4.ensures) in
-    Takes-same (ap (λ (b : Bool). packet_line_if b (counted (c.args.count.now + 1)) p) (sym c.if-is_plain.false))
+    Takes-same (ap (λ (b : Bool). packet_line_if b n p) (sym c.if-is_plain.false))
     (Takes-then
-    (Takes-same (ap (λ (l : List ℕ). codes "frame " ++ (decimal (counted (c.args.count.now + 1)) ++ (codes " time " ++ l))) joined)
+    (Takes-same (ap (λ (l : List ℕ). codes "frame " ++ (decimal n ++ (codes " time " ++ l))) joined)
     (Takes-then c.append.ensures (Takes-then first (Takes-then c.write_time.ensures (Takes-then link
     (Takes-then c.append-2.ensures numbers))))))
     (Takes-then cut (Takes-then skipped c.append-4.ensures)))

@@ -48,5 +48,5 @@ returns-in_err-take-2-clause-err c =
     c.loop-word.invariant in
     err_as c.from_residual-in_err-take-2.result c.in_err-take-2.field-0.0 (RefusesOptions words)
     c.from_residual-in_err-take-2.ensures.1
-    (refused_taking words asked (string_bytes c.in-Some.word) (words_left c.next.new.self) c.in_err-take-2.field-0.0 same
-    c.in_err-take-2.ensures.err)
+    (refused_taking words asked (string_bytes c.in-Some.word) (words_left c.next.new.self) c.in_err-take-2.field-0.0
+    same c.in_err-take-2.ensures.err)

@@ -282,5 +282,6 @@ returns-in_err-error-clause-run g c =
     let before = g.R.Source.remaining c.args.input.now.inner.now in
     let mid = g.R.Source.remaining c.loop-edits.input.inner.now in
     stopped_with task contents before mid held c.from_residual.result c.in_err-error.field-0.0 taken
-    (items c.loop-edits.buffer) c.loop-edits.progress c.take_units.new.progress c.loop-edits.out c.take_units.new.out c.from_residual.ensures.1
-    c.in_err-error.ensures.fault c.in_err-error.ensures.stopped so_far.read so_far.reached
+    (items c.loop-edits.buffer) c.loop-edits.progress c.take_units.new.progress c.loop-edits.out
+    c.take_units.new.out c.from_residual.ensures.1 c.in_err-error.ensures.fault
+    c.in_err-error.ensures.stopped so_far.read so_far.reached

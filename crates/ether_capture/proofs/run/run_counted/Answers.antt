@@ -20,7 +20,8 @@ returns-clause-run g c =
 pub returns-clause-failed : goal.returns-clause-failed
 returns-clause-failed g c =
     run_fails stream_of g.R.Source.remaining g.R.Source.can_fail g.W.Sink.can_fail c.new-input.result
-    c.answer_capture-outcome.new.input
-    c.new-out.result c.answer_capture-outcome.new.out _ _ (ap g.R.Source.remaining c.new-input.ensures.remaining) (search rules)
-    c.new-input.ensures.fresh c.new-input.ensures.reads c.new-out.ensures.fresh c.answer_capture-outcome.result
-    c.answer_capture-outcome.ensures.failed c.answer_capture-outcome.ensures.cause c.answer_capture-outcome.ensures.marks
+    c.answer_capture-outcome.new.input c.new-out.result c.answer_capture-outcome.new.out _ _
+    (ap g.R.Source.remaining c.new-input.ensures.remaining) (search rules) c.new-input.ensures.fresh
+    c.new-input.ensures.reads c.new-out.ensures.fresh c.answer_capture-outcome.result
+    c.answer_capture-outcome.ensures.failed c.answer_capture-outcome.ensures.cause
+    c.answer_capture-outcome.ensures.marks

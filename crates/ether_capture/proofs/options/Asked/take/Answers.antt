@@ -12,8 +12,8 @@ pub returns-in_ok-names-in-Name-clause-ok : goal.returns-in_ok-names-in-Name-cla
 returns-in_ok-names-in-Name-clause-ok c =
     let is = subst (λ (w : List ℕ). IsWord w kinds.Name) c.as_str.ensures.value c.in-Name.ensures in
     ask_names (asked_view c.args.self.now) (string_bytes c.args.word) (words_left c.args.args.now)
-    (words_left c.names_of.new.args) (map string_bytes c.in_ok-names-in-Name.names.items) is c.in_ok-names-in-Name.ensures.names
-    c.in_ok-names-in-Name.ensures.ok c.in_ok-names-in-Name.ensures.none_left
+    (words_left c.names_of.new.args) (map string_bytes c.in_ok-names-in-Name.names.items) is
+    c.in_ok-names-in-Name.ensures.names c.in_ok-names-in-Name.ensures.ok c.in_ok-names-in-Name.ensures.none_left
 
 pub returns-in-Plain-clause-ok : goal.returns-in-Plain-clause-ok
 returns-in-Plain-clause-ok c =
