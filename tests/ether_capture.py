@@ -689,8 +689,11 @@ def copied(program, words, capture, **how):
 def copied_in_pieces(program, words, capture, step):
     """The same of a capture that comes some bytes at a time."""
     with subprocess.Popen([program, *words], stdin=subprocess.PIPE, stdout=subprocess.PIPE, stderr=subprocess.PIPE, bufsize=0) as child:
-        for at in range(0, len(capture), step):
-            child.stdin.write(capture[at:at + step])
+        try:
+            for at in range(0, len(capture), step):
+                child.stdin.write(capture[at:at + step])
+        except BrokenPipeError:
+            pass  # the program has ended
         out, said = child.communicate()
     return out, said.decode(), child.returncode
 
