@@ -1,5 +1,6 @@
 """What the tests of the programs share: runs of a built program, and the count of those that end as they should."""
 
+import resource
 import socket
 import subprocess
 import tempfile
@@ -45,6 +46,13 @@ def on_a_full_disk(program, words, given):
     with open("/dev/full", "wb") as full:
         done = subprocess.run([program, *words], input=given, stdout=full, stderr=subprocess.PIPE, check=False)
     return done.stderr.decode(), done.returncode
+
+
+def without_memory(program, capture, words=()):
+    """What the program prints, and its status, if it may have 4 MiB."""
+    limit = lambda: resource.setrlimit(resource.RLIMIT_AS, (4 << 20, 4 << 20))  # noqa: E731
+    done = subprocess.run([program, *words], input=capture, stdout=subprocess.PIPE, preexec_fn=limit, check=False)
+    return done.stdout.decode(), done.returncode
 
 
 def count(tried):

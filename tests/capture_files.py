@@ -1,0 +1,93 @@
+"""Tests of `ether_capture` over several files."""
+
+import gzip
+import os
+import subprocess
+import tempfile
+
+from captures import (
+    CLASSIC, CLASSIC_LINES, DOUBLE, FAILED, FCS_LINES, FIRST_LINES, ONE_LINES, SECTIONS, SECTION_LINES, SIX, TAGGED_V2,
+    V2_LINE, WITH_FCS, classic, plain, record_is_cut, secrets,
+)
+from programs import on_a_full_disk, run, without_memory
+
+
+def part(lines, before):
+    """The lines of a capture that comes after so many packets, without the totals."""
+    found = []
+    for line in lines.splitlines(True):
+        if line.startswith("frame "):
+            _, number, rest = line.split(" ", 2)
+            line = f"frame {int(number) + before} {rest}"
+        if not line.startswith("total"):
+            found.append(line)
+    return "".join(found)
+
+
+def totals(frames, skipped):
+    return f"total frames {frames} skipped {skipped}\n"
+
+
+# Several files: those that are there, and the words, the lines and the status of each run over some of them.
+FILES = {"one.pcap": CLASSIC, "two.pcapng": SECTIONS, "fcs.pcap": WITH_FCS, "cut.pcap": CLASSIC[:120], "none.pcap": CLASSIC[:24], "empty": b"",
+         "packed.gz": gzip.compress(CLASSIC, mtime=0), "six.pcap": classic(*SIX), "v2.pcap": TAGGED_V2}
+CUT_FAULT = "cut.pcap: " + record_is_cut(59, 62, 61)
+EMPTY_FAULT = "empty: byte 0: The header of a pcap file needs 24 byte(s); only 0 are available.\n"
+ONE_TWO = part(CLASSIC_LINES, 0) + part(SECTION_LINES, 2)
+THIRD = part(SECTION_LINES, 2)[:part(SECTION_LINES, 2).index("frame 4")]
+SEVERAL_FILES = [
+    ("both formats", ["one.pcap", "two.pcapng"], ONE_TWO + totals(6, 1), 1),
+    ("the walks of both", ["--plain", "one.pcap", "two.pcapng"], plain(ONE_TWO), 1),
+    ("a file twice", ["two.pcapng", "two.pcapng"], part(SECTION_LINES, 0) + part(SECTION_LINES, 4) + totals(8, 2), 1),
+    ("three files", ["fcs.pcap", "one.pcap", "none.pcap"], part(FCS_LINES, 0) + part(CLASSIC_LINES, 2) + totals(4, 0), 1),
+    ("no frame that is refused", ["fcs.pcap", "none.pcap", "fcs.pcap"], part(FCS_LINES, 0) + part(FCS_LINES, 2) + totals(4, 0), 0),
+    ("no packet", ["none.pcap", "none.pcap"], totals(0, 0), 0),
+    ("a file that is not there", ["one.pcap", "no.pcap", "two.pcapng"],
+     part(CLASSIC_LINES, 0) + "no.pcap: can't be opened\n" + part(SECTION_LINES, 2) + totals(6, 1), 4),
+    ("no file that is there", ["--plain", "no.pcap", ""], "no.pcap: can't be opened\n: can't be opened\n", 4),
+    ("a folder", [os.curdir, "fcs.pcap"], ".: can't be read\n" + FCS_LINES, 4),
+    ("a fault in the first", ["cut.pcap", "one.pcap"], FIRST_LINES + CUT_FAULT + part(CLASSIC_LINES, 1) + totals(3, 0), 3),
+    ("a fault in the last", ["--plain", "one.pcap", "cut.pcap"], plain(CLASSIC_LINES) + plain(FIRST_LINES) + CUT_FAULT, 3),
+    ("faults, and a file that is not there", ["empty", "no.pcap", "cut.pcap"],
+     EMPTY_FAULT + "no.pcap: can't be opened\n" + FIRST_LINES + CUT_FAULT + totals(1, 0), 4),
+    ("a packed capture", ["packed.gz", "fcs.pcap"],
+     "packed.gz: byte 0: The magic number 0x1F8B0800 is not that of a pcap file. This looks like gzip: zcat unpacks it.\n" + FCS_LINES, 3),
+    ("packets of two files", ["-c", "3", "one.pcap", "two.pcapng"], part(CLASSIC_LINES, 0) + THIRD + totals(3, 0), 1),
+    ("packets of the first alone", ["-c", "2", "one.pcap", "no.pcap"], CLASSIC_LINES, 1),
+    ("all packets there are", ["-c", "6", "one.pcap", "two.pcapng", "no.pcap"], ONE_TWO + totals(6, 1), 1),
+    ("more than there are", ["-c", "7", "one.pcap", "two.pcapng"], ONE_TWO + totals(6, 1), 1),
+    ("a packet before a fault, and one after it", ["-c", "2", "cut.pcap", "one.pcap", "no.pcap"],
+     FIRST_LINES + CUT_FAULT + part(FIRST_LINES, 1) + totals(2, 0), 3),
+    ("the second packet that a filter selects", ["-c", "2", "--select", "not refused and vlan 291", "one.pcap", "two.pcapng", "cut.pcap"],
+     part(CLASSIC_LINES, 0).replace(FIRST_LINES, "") + part(SECTION_LINES, 2)[part(SECTION_LINES, 2).index("frame 5"):part(SECTION_LINES, 2).index("frame 6")]
+     + totals(5, 0), 0),
+    ("a limit", ["--limit", "0", "--plain", "--select", "outer vlan 100", "six.pcap", "six.pcap"], 2 * (plain(DOUBLE) + "rest 14 23 type 0x88A8\n"), 0),
+    ("a limit after a header of cooked capture v2", ["--plain", "--limit", "0", "none.pcap", "v2.pcap"], V2_LINE + "rest 20 25 type 0x8100\n", 0),
+]
+
+
+def several(program):
+    """Runs over several files, also with little memory, to a full disk and to a reader that has gone."""
+    with tempfile.TemporaryDirectory() as folder:
+        for name, capture in FILES.items():
+            with open(os.path.join(folder, name), "wb") as file:
+                file.write(capture)
+        with open(os.path.join(folder, "large"), "wb") as file:
+            file.write(secrets(16_777_216, 16_777_216))
+        here = os.getcwd()
+        os.chdir(folder)
+        try:
+            tried = [(f"several files: {name}", run(program, words, CLASSIC), (text, status)) for name, words, text, status in SEVERAL_FILES]
+            found = without_memory(program, b"", ["no", "large", "fcs.pcap"])
+            wanted = "no: can't be opened\n" + ONE_LINES + "large: out of memory\n" + part(FCS_LINES, 1) + totals(3, 0), 5
+            tried.append(("several files, no memory for a block", found, wanted))
+            for words in (["one.pcap", "two.pcapng"], ["no", "none.pcap"], ["--plain", "no", "none.pcap"]):
+                tried.append((f"several files, a full disk, {words}", on_a_full_disk(program, words, b""), FAILED))
+            gone, end = os.pipe()
+            os.close(gone)
+            with os.fdopen(end, "wb") as out:
+                done = subprocess.run([program, "one.pcap", "no", "two.pcapng"], stdin=subprocess.DEVNULL, stdout=out, stderr=subprocess.PIPE, check=False)
+            tried.append(("several files that nobody reads", (done.stderr.decode(), done.returncode), FAILED))
+        finally:
+            os.chdir(here)
+    return tried
