@@ -1,4 +1,17 @@
-//! Every public path, and worked examples.
+//! Every public path, and worked examples. Rows stand in statics, since the proof of a function pays for each row that the function makes.
+/// The error of a slice that is too short.
+macro_rules! cut_short {
+    ($required_len:expr, $len:expr, $layer:expr $(,)?) => {
+        etherparse::err::LenError {
+            required_len: $required_len,
+            len: $len,
+            len_source: etherparse::LenSource::Slice,
+            layer: $layer,
+            layer_start_offset: 0,
+        }
+    };
+}
+
 mod arp;
 mod arp_addresses;
 mod ether_types;
@@ -16,24 +29,14 @@ mod texts;
 mod vlan;
 mod write_front;
 
-use etherparse::err::{Layer, LenError};
-use etherparse::{EtherPayloadSlice, EtherType, LenSource};
+use etherparse::{
+    EtherPayloadSlice, EtherType, LenSource, LinuxNonstandardEtherType, LinuxSllProtocolType,
+};
 use std::process::Abort;
 
 /// Fails if `found` isn't what is wanted of the row `name`.
 fn equal<R: Abort, T: PartialEq>(rt: &R, name: &str, found: &T, wanted: &T) {
     assert!(rt; found == wanted, "{name}");
-}
-
-/// The error of a slice that is too short.
-const fn cut_short(required_len: usize, len: usize, layer: Layer) -> LenError {
-    LenError {
-        required_len,
-        len,
-        len_source: LenSource::Slice,
-        layer,
-        layer_start_offset: 0,
-    }
 }
 
 /// A payload of IPv4 up to the end of its slice.
@@ -42,5 +45,33 @@ const fn ipv4(payload: &[u8]) -> EtherPayloadSlice<'_> {
         ether_type: EtherType::IPV4,
         len_source: LenSource::Slice,
         payload,
+    }
+}
+
+/// The variant of a protocol of cooked captures. A static holds no [`LinuxSllProtocolType`].
+#[derive(Clone, Copy)]
+enum Protocol {
+    Ignored,
+    Netlink,
+    Gre,
+    EtherType,
+    /// The dummy type for 802.3 frames, whose number is 1.
+    Dummy,
+    /// That for 802.2 frames, whose number is 4.
+    Llc,
+}
+
+fn protocol_type(protocol: Protocol, number: u16) -> LinuxSllProtocolType {
+    match protocol {
+        Protocol::Ignored => LinuxSllProtocolType::Ignored(number),
+        Protocol::Netlink => LinuxSllProtocolType::NetlinkProtocolType(number),
+        Protocol::Gre => LinuxSllProtocolType::GenericRoutingEncapsulationProtocolType(number),
+        Protocol::EtherType => LinuxSllProtocolType::EtherType(EtherType(number)),
+        Protocol::Dummy => {
+            LinuxSllProtocolType::LinuxNonstandardEtherType(LinuxNonstandardEtherType::N802_3)
+        }
+        Protocol::Llc => {
+            LinuxSllProtocolType::LinuxNonstandardEtherType(LinuxNonstandardEtherType::N802_2)
+        }
     }
 }

@@ -242,30 +242,59 @@ fn the_greatest_sizes(rt: HostRuntime) -> Result<(), Fail> {
     Ok(())
 }
 
+/// The first bytes of a slice of sevens, its length, how many bytes it requires, and what says so.
+static SHORT: [(&str, &[u8], usize, usize, LenSource); 7] = [
+    ("no byte", &[], 0, 8, LenSource::Slice),
+    (
+        "the front alone",
+        &REQUEST,
+        8,
+        28,
+        LenSource::ArpAddrLengths,
+    ),
+    ("a byte less", &REQUEST, 27, 28, LenSource::ArpAddrLengths),
+    // one byte of protocol address each, of which the front tells
+    (
+        "the front is asked for first",
+        &[0, 1, 8, 0, 0, 1, 0],
+        7,
+        8,
+        LenSource::Slice,
+    ),
+    (
+        "then the addresses",
+        &[0, 1, 8, 0, 0, 1, 0, 1],
+        8,
+        10,
+        LenSource::ArpAddrLengths,
+    ),
+    (
+        "hardware addresses alone",
+        &[7, 7, 7, 7, 255, 0],
+        517,
+        518,
+        LenSource::ArpAddrLengths,
+    ),
+    (
+        "the greatest sizes",
+        &[7, 7, 7, 7, 255, 255],
+        1027,
+        1028,
+        LenSource::ArpAddrLengths,
+    ),
+];
+
 #[test]
 fn slices_that_are_too_short(rt: HostRuntime) {
-    let (mut one_kind, mut both_kinds) = ([7; 517], [7; 1027]);
-    (one_kind[4], one_kind[5]) = (255, 0);
-    (both_kinds[4], both_kinds[5]) = (255, 255);
-    let (slice, sizes) = (LenSource::Slice, LenSource::ArpAddrLengths);
-    for (name, bytes, required_len, len_source) in [
-        ("no byte", [].as_slice(), 8, slice),
-        ("the front alone", &REQUEST[..8], 28, sizes),
-        ("a byte less", &REQUEST[..27], 28, sizes),
-        // one byte of protocol address each, of which the front tells
-        (
-            "the front is asked for first",
-            &[0, 1, 8, 0, 0, 1, 0],
-            8,
-            slice,
-        ),
-        ("then the addresses", &[0, 1, 8, 0, 0, 1, 0, 1], 10, sizes),
-        ("hardware addresses alone", &one_kind, 518, sizes),
-        ("the greatest sizes", &both_kinds, 1028, sizes),
-    ] {
+    for &(name, front, len, required_len, len_source) in &SHORT {
+        let mut buffer = [7; 1028];
+        for (to, byte) in buffer.iter_mut().zip(front) {
+            *to = *byte;
+        }
+        let bytes = &buffer[..len.min(1028)];
         let refused = LenError {
             required_len,
-            len: bytes.len(),
+            len,
             len_source,
             layer: Layer::Arp,
             layer_start_offset: 0,
@@ -302,40 +331,53 @@ fn of_ethernet_and_ipv4(rt: HostRuntime) -> Result<(), Fail> {
     Ok(())
 }
 
+/// The types and hardware addresses of a packet whose protocol addresses have 16 bytes, and why it is of another kind.
+type Other = (
+    &'static str,
+    ArpHardwareId,
+    EtherType,
+    &'static [u8],
+    ArpEthIpv4FromError,
+);
+
 /// Types are told before sizes.
+static OTHERS: [Other; 4] = [
+    (
+        "a hardware type",
+        ArpHardwareId::EETHER,
+        EtherType::IPV6,
+        &[0; 8],
+        ArpEthIpv4FromError::NonMatchingHwType(ArpHardwareId::EETHER),
+    ),
+    (
+        "a protocol type",
+        ArpHardwareId::ETHERNET,
+        EtherType::IPV6,
+        &[0; 8],
+        ArpEthIpv4FromError::NonMatchingProtocolType(EtherType::IPV6),
+    ),
+    (
+        "longer hardware addresses",
+        ArpHardwareId::ETHERNET,
+        EtherType::IPV4,
+        &[0; 8],
+        ArpEthIpv4FromError::NonMatchingHwAddrSize(8),
+    ),
+    (
+        "longer protocol addresses",
+        ArpHardwareId::ETHERNET,
+        EtherType::IPV4,
+        &[0; 6],
+        ArpEthIpv4FromError::NonMatchingProtoAddrSize(16),
+    ),
+];
+
 #[test]
 fn of_other_kinds(rt: HostRuntime) -> Result<(), Fail> {
-    let (ethernet, eether) = (ArpHardwareId::ETHERNET, ArpHardwareId::EETHER);
-    let (ipv4, ipv6) = (EtherType::IPV4, EtherType::IPV6);
-    for (hardware_type, protocol_type, hardware, wanted) in [
-        (
-            eether,
-            ipv6,
-            [0; 8].as_slice(),
-            ArpEthIpv4FromError::NonMatchingHwType(eether),
-        ),
-        (
-            ethernet,
-            ipv6,
-            &[0; 8],
-            ArpEthIpv4FromError::NonMatchingProtocolType(ipv6),
-        ),
-        (
-            ethernet,
-            ipv4,
-            &[0; 8],
-            ArpEthIpv4FromError::NonMatchingHwAddrSize(8),
-        ),
-        (
-            ethernet,
-            ipv4,
-            &[0; 6],
-            ArpEthIpv4FromError::NonMatchingProtoAddrSize(16),
-        ),
-    ] {
+    for (name, hardware_type, protocol_type, hardware, wanted) in &OTHERS {
         let packet = ArpPacket::new(
-            hardware_type,
-            protocol_type,
+            *hardware_type,
+            *protocol_type,
             ArpOperation::REQUEST,
             hardware,
             &[0; 16],
@@ -344,7 +386,7 @@ fn of_other_kinds(rt: HostRuntime) -> Result<(), Fail> {
         )?;
         let refused = packet.try_eth_ipv4().err();
         let alike = ArpEthIpv4Packet::try_from(packet).err() == refused;
-        equal(&rt, "a packet", &(refused, alike), &(Some(wanted), true));
+        equal(&rt, name, &(refused.as_ref(), alike), &(Some(wanted), true));
     }
     Ok(())
 }
@@ -353,14 +395,14 @@ fn of_other_kinds(rt: HostRuntime) -> Result<(), Fail> {
 fn shown_by_debug(rt: HostRuntime) -> Result<(), Fail> {
     let packet = ArpPacket::from_slice(&REQUEST)?;
     let view = ArpPacketSlice::from_slice(&REQUEST)?;
-    let shown = format!(in rt.alloc(); "{packet:?}\n{view:?}\n{QUESTION:?}")?;
+    let shown = format!(in rt.alloc(); "{:?}", (packet, view, QUESTION))?;
     equal(
         &rt,
         "a request, its view, and as one of Ethernet and IPv4",
         &shown.as_str(),
-        &"ArpPacket { hw_addr_type: 1 (Ethernet), proto_addr_type: 0x0800 (Internet Protocol version 4 (IPv4)), hw_addr_size: 6, proto_addr_size: 4, operation: ArpOperation(1), sender_hw_addr: [2, 0, 0, 0, 0, 1], sender_protocol_addr: [10, 0, 0, 1], target_hw_addr: [0, 0, 0, 0, 0, 0], target_protocol_addr: [10, 0, 0, 2] }\n\
-ArpPacketSlice { slice: [0, 1, 8, 0, 6, 4, 0, 1, 2, 0, 0, 0, 0, 1, 10, 0, 0, 1, 0, 0, 0, 0, 0, 0, 10, 0, 0, 2] }\n\
-ArpEthIpv4Packet { operation: ArpOperation(1), sender_mac: [2, 0, 0, 0, 0, 1], sender_ipv4: [10, 0, 0, 1], target_mac: [0, 0, 0, 0, 0, 0], target_ipv4: [10, 0, 0, 2] }",
+        &"(ArpPacket { hw_addr_type: 1 (Ethernet), proto_addr_type: 0x0800 (Internet Protocol version 4 (IPv4)), hw_addr_size: 6, proto_addr_size: 4, operation: ArpOperation(1), sender_hw_addr: [2, 0, 0, 0, 0, 1], sender_protocol_addr: [10, 0, 0, 1], target_hw_addr: [0, 0, 0, 0, 0, 0], target_protocol_addr: [10, 0, 0, 2] }, \
+ArpPacketSlice { slice: [0, 1, 8, 0, 6, 4, 0, 1, 2, 0, 0, 0, 0, 1, 10, 0, 0, 1, 0, 0, 0, 0, 0, 0, 10, 0, 0, 2] }, \
+ArpEthIpv4Packet { operation: ArpOperation(1), sender_mac: [2, 0, 0, 0, 0, 1], sender_ipv4: [10, 0, 0, 1], target_mac: [0, 0, 0, 0, 0, 0], target_ipv4: [10, 0, 0, 2] })",
     );
     Ok(())
 }

@@ -25,28 +25,39 @@ fn request(addresses: [&[u8]; 4]) -> Result<ArpPacket, ArpNewError> {
     )
 }
 
-/// Lengths are compared before they are measured.
+/// Addresses, and why they are refused: lengths are compared before they are measured.
+static REFUSED: [(&str, [&[u8]; 4], ArpNewError); 4] = [
+    (
+        "hardware addresses of two lengths",
+        [&[0; 5], &[0; 4], &[0; 6], &[0; 3]],
+        ArpNewError::HwAddr(ArpHwAddrError::LenNonMatching(5, 6)),
+    ),
+    (
+        "protocol addresses of two lengths",
+        [&[0; 256], &[0; 4], &[0; 256], &[0; 3]],
+        ArpNewError::ProtoAddr(ArpProtoAddrError::LenNonMatching(4, 3)),
+    ),
+    (
+        "long hardware addresses",
+        [&[0; 256], &[0; 256], &[0; 256], &[0; 256]],
+        ArpNewError::HwAddr(ArpHwAddrError::LenTooBig(256)),
+    ),
+    (
+        "long protocol addresses",
+        [&[0; 6], &[0; 300], &[0; 6], &[0; 300]],
+        ArpNewError::ProtoAddr(ArpProtoAddrError::LenTooBig(300)),
+    ),
+];
+
 #[test]
 fn addresses_that_are_refused(rt: HostRuntime) {
-    for (addresses, wanted) in [
-        (
-            [[0; 5].as_slice(), &[0; 4], &[0; 6], &[0; 3]],
-            ArpNewError::HwAddr(ArpHwAddrError::LenNonMatching(5, 6)),
-        ),
-        (
-            [&[0; 256], &[0; 4], &[0; 256], &[0; 3]],
-            ArpNewError::ProtoAddr(ArpProtoAddrError::LenNonMatching(4, 3)),
-        ),
-        (
-            [&[0; 256], &[0; 256], &[0; 256], &[0; 256]],
-            ArpNewError::HwAddr(ArpHwAddrError::LenTooBig(256)),
-        ),
-        (
-            [&[0; 6], &[0; 300], &[0; 6], &[0; 300]],
-            ArpNewError::ProtoAddr(ArpProtoAddrError::LenTooBig(300)),
-        ),
-    ] {
-        equal(&rt, "new", &request(addresses).err(), &Some(wanted));
+    for (name, addresses, wanted) in &REFUSED {
+        equal(
+            &rt,
+            name,
+            &request(*addresses).err().as_ref(),
+            &Some(wanted),
+        );
     }
 }
 

@@ -86,117 +86,73 @@ fn with_names(rt: HostRuntime) -> Result<(), Fail> {
     Ok(())
 }
 
-/// Number, constant and description.
-const NONSTANDARD: [(u16, LinuxNonstandardEtherType, &str); 28] = [
-    (
-        0x01,
-        LinuxNonstandardEtherType::N802_3,
-        "Dummy type for 802.3 frames",
-    ),
-    (
-        0x02,
-        LinuxNonstandardEtherType::AX25,
-        "Dummy protocol id for AX.25",
-    ),
-    (0x03, LinuxNonstandardEtherType::ALL, "Every packet"),
-    (0x04, LinuxNonstandardEtherType::N802_2, "802.2 frames"),
-    (0x05, LinuxNonstandardEtherType::SNAP, "SNAP: Internal only"),
-    (
-        0x06,
-        LinuxNonstandardEtherType::DDCMP,
-        "DEC DDCMP: Internal only",
-    ),
-    (
-        0x07,
-        LinuxNonstandardEtherType::WAN_PPP,
-        "Dummy type for WAN PPP frames",
-    ),
-    (
-        0x08,
-        LinuxNonstandardEtherType::PPP_MP,
-        "Dummy type for PPP MP frames",
-    ),
-    (
-        0x09,
-        LinuxNonstandardEtherType::LOCALTALK,
-        "Localtalk pseudo type",
-    ),
-    (
-        0x0C,
-        LinuxNonstandardEtherType::CAN,
-        "CAN: Controller Area Network",
-    ),
-    (
-        0x0D,
-        LinuxNonstandardEtherType::CANFD,
-        "CANFD: CAN flexible data rate",
-    ),
-    (
-        0x0E,
-        LinuxNonstandardEtherType::CANXL,
-        "CANXL: eXtended frame Length",
-    ),
-    (
-        0x10,
-        LinuxNonstandardEtherType::PPPTALK,
-        "Dummy type for Atalk over PPP",
-    ),
-    (0x11, LinuxNonstandardEtherType::TR_802_2, "802.2 frames"),
-    (0x15, LinuxNonstandardEtherType::MOBITEX, "Mobitex"),
-    (
-        0x16,
-        LinuxNonstandardEtherType::CONTROL,
-        "Card specific control frames",
-    ),
-    (0x17, LinuxNonstandardEtherType::IRDA, "Linux-IrDA"),
-    (0x18, LinuxNonstandardEtherType::ECONET, "Acorn Econet"),
-    (0x19, LinuxNonstandardEtherType::HDLC, "HDLC frames"),
-    (0x1A, LinuxNonstandardEtherType::ARCNET, "1A for ArcNet"),
-    (
-        0x1B,
-        LinuxNonstandardEtherType::DSA,
-        "Distributed Switch Arch",
-    ),
-    (
-        0x1C,
-        LinuxNonstandardEtherType::TRAILER,
-        "Trailer switch tagging",
-    ),
-    (
-        0xF5,
-        LinuxNonstandardEtherType::PHONET,
-        "Nokia Phonet frame",
-    ),
-    (
-        0xF6,
-        LinuxNonstandardEtherType::IEEE802154,
-        "IEEE802.15.4 frame",
-    ),
-    (
-        0xF7,
-        LinuxNonstandardEtherType::CAIF,
-        "ST-Ericsson CAIF protocol",
-    ),
-    (
-        0xF8,
-        LinuxNonstandardEtherType::XDSA,
-        "Multiplexed DSA protocol",
-    ),
-    (
-        0xF9,
-        LinuxNonstandardEtherType::MAP,
-        "Qualcomm multiplexing and aggregation protocol",
-    ),
-    (
-        0xFA,
-        LinuxNonstandardEtherType::MCTP,
-        "Management component transport protocol packets",
-    ),
+/// Number and description.
+static NONSTANDARD: [(u16, &str); 28] = [
+    (0x01, "Dummy type for 802.3 frames"),
+    (0x02, "Dummy protocol id for AX.25"),
+    (0x03, "Every packet"),
+    (0x04, "802.2 frames"),
+    (0x05, "SNAP: Internal only"),
+    (0x06, "DEC DDCMP: Internal only"),
+    (0x07, "Dummy type for WAN PPP frames"),
+    (0x08, "Dummy type for PPP MP frames"),
+    (0x09, "Localtalk pseudo type"),
+    (0x0C, "CAN: Controller Area Network"),
+    (0x0D, "CANFD: CAN flexible data rate"),
+    (0x0E, "CANXL: eXtended frame Length"),
+    (0x10, "Dummy type for Atalk over PPP"),
+    (0x11, "802.2 frames"),
+    (0x15, "Mobitex"),
+    (0x16, "Card specific control frames"),
+    (0x17, "Linux-IrDA"),
+    (0x18, "Acorn Econet"),
+    (0x19, "HDLC frames"),
+    (0x1A, "1A for ArcNet"),
+    (0x1B, "Distributed Switch Arch"),
+    (0x1C, "Trailer switch tagging"),
+    (0xF5, "Nokia Phonet frame"),
+    (0xF6, "IEEE802.15.4 frame"),
+    (0xF7, "ST-Ericsson CAIF protocol"),
+    (0xF8, "Multiplexed DSA protocol"),
+    (0xF9, "Qualcomm multiplexing and aggregation protocol"),
+    (0xFA, "Management component transport protocol packets"),
+];
+
+/// The constants of these numbers.
+const CONSTANTS: [LinuxNonstandardEtherType; 28] = [
+    LinuxNonstandardEtherType::N802_3,
+    LinuxNonstandardEtherType::AX25,
+    LinuxNonstandardEtherType::ALL,
+    LinuxNonstandardEtherType::N802_2,
+    LinuxNonstandardEtherType::SNAP,
+    LinuxNonstandardEtherType::DDCMP,
+    LinuxNonstandardEtherType::WAN_PPP,
+    LinuxNonstandardEtherType::PPP_MP,
+    LinuxNonstandardEtherType::LOCALTALK,
+    LinuxNonstandardEtherType::CAN,
+    LinuxNonstandardEtherType::CANFD,
+    LinuxNonstandardEtherType::CANXL,
+    LinuxNonstandardEtherType::PPPTALK,
+    LinuxNonstandardEtherType::TR_802_2,
+    LinuxNonstandardEtherType::MOBITEX,
+    LinuxNonstandardEtherType::CONTROL,
+    LinuxNonstandardEtherType::IRDA,
+    LinuxNonstandardEtherType::ECONET,
+    LinuxNonstandardEtherType::HDLC,
+    LinuxNonstandardEtherType::ARCNET,
+    LinuxNonstandardEtherType::DSA,
+    LinuxNonstandardEtherType::TRAILER,
+    LinuxNonstandardEtherType::PHONET,
+    LinuxNonstandardEtherType::IEEE802154,
+    LinuxNonstandardEtherType::CAIF,
+    LinuxNonstandardEtherType::XDSA,
+    LinuxNonstandardEtherType::MAP,
+    LinuxNonstandardEtherType::MCTP,
 ];
 
 #[test]
 fn of_linux(rt: HostRuntime) -> Result<(), Fail> {
-    for (number, constant, description) in NONSTANDARD {
+    for (&(number, description), constant) in NONSTANDARD.iter().zip(CONSTANTS) {
         let shown = format!(in rt.alloc(); "{constant:?}")?;
         let wanted = format!(in rt.alloc(); "0x{number:04X} ({description})")?;
         equal(
@@ -210,13 +166,16 @@ fn of_linux(rt: HostRuntime) -> Result<(), Fail> {
             &(Ok(constant), number, wanted.as_str()),
         );
     }
-    for number in [0, 0x0A, 0x0F, 0x14, 0x1D, 0xF4, 0xFB, 0x0800] {
-        equal(
-            &rt,
-            "between",
-            &LinuxNonstandardEtherType::try_from(number),
-            &Err(()),
-        );
-    }
     Ok(())
+}
+
+/// Numbers between those.
+static UNKNOWN: [u16; 8] = [0, 0x0A, 0x0F, 0x14, 0x1D, 0xF4, 0xFB, 0x0800];
+
+#[test]
+fn of_no_type_of_linux(rt: HostRuntime) {
+    for &number in &UNKNOWN {
+        let found = LinuxNonstandardEtherType::try_from(number);
+        assert!(rt; found == Err(()), "{number}");
+    }
 }

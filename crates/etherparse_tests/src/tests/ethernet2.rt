@@ -1,11 +1,12 @@
 //! Ethernet II headers and frames.
-use super::{cut_short, equal, ipv4};
+use super::{equal, ipv4};
 use crate::test_frames::{ARP_REQUEST, FRAME, SPANNING_TREE};
 use etherparse::err::{Layer, SliceWriteSpaceError};
 use etherparse::{
     EtherType, Ethernet2Header, Ethernet2HeaderSlice, Ethernet2Slice, SingleVlanSlice, VlanId,
     ether_type,
 };
+use std::process::Abort;
 use std::test::Fail;
 
 /// The header of [`FRAME`].
@@ -42,24 +43,32 @@ fn the_example_of_the_facade(rt: HostRuntime) -> Result<(), Fail> {
     Ok(())
 }
 
+/// A frame, and its header.
+static FRAMES: [(&str, &[u8], Ethernet2Header); 3] = [
+    ("the example", &FRAME, HEADER),
+    (
+        "a captured header",
+        &ARP_REQUEST,
+        Ethernet2Header {
+            source: [0x02, 0x00, 0x5E, 0x10, 0x00, 0x01],
+            destination: [0xFF; 6],
+            ether_type: EtherType::ARP,
+        },
+    ),
+    (
+        "a length in the place of the type",
+        &SPANNING_TREE,
+        Ethernet2Header {
+            source: [0x02, 0x00, 0x5E, 0x10, 0x00, 0x01],
+            destination: [0x01, 0x80, 0xC2, 0x00, 0x00, 0x00],
+            ether_type: EtherType(38),
+        },
+    ),
+];
+
 #[test]
-fn headers(rt: HostRuntime) -> Result<(), Fail> {
-    let kernel = [0x02, 0x00, 0x5E, 0x10, 0x00, 0x01];
-    let captured = Ethernet2Header {
-        source: kernel,
-        destination: [0xFF; 6],
-        ether_type: EtherType::ARP,
-    };
-    let length = Ethernet2Header {
-        source: kernel,
-        destination: [0x01, 0x80, 0xC2, 0x00, 0x00, 0x00],
-        ether_type: EtherType(38),
-    };
-    for (name, frame, header) in [
-        ("the example", FRAME.as_slice(), HEADER),
-        ("a captured header", &ARP_REQUEST, captured),
-        ("a length in the place of the type", &SPANNING_TREE, length),
-    ] {
+fn headers(rt: HostRuntime) {
+    for &(name, frame, header) in &FRAMES {
         let bytes = header.to_bytes();
         let wanted = (header, frame.get(14..).unwrap_or(&[]));
         equal(
@@ -74,19 +83,6 @@ fn headers(rt: HostRuntime) -> Result<(), Fail> {
             &(Ok(wanted), Some(wanted), frame.get(..14), header),
         );
     }
-    let refused = Err(cut_short(14, 13, LAYER));
-    equal(
-        &rt,
-        "thirteen bytes",
-        &Ethernet2Header::from_slice(&FRAME[..13]),
-        &refused,
-    );
-    equal(
-        &rt,
-        "thirteen bytes read",
-        &Ethernet2Header::read_from_slice(&FRAME[..13]),
-        &refused,
-    );
     equal(
         &rt,
         "lengths and the default",
@@ -98,7 +94,37 @@ fn headers(rt: HostRuntime) -> Result<(), Fail> {
         ),
         &(14, 14, 14, [0; 14]),
     );
-    Ok(())
+}
+
+#[test]
+fn slices_that_are_too_short(rt: HostRuntime) {
+    let bytes = &FRAME[..13];
+    equal(
+        &rt,
+        "thirteen bytes, and seventeen before a check sequence",
+        &(
+            [
+                Ethernet2Header::from_slice(bytes),
+                Ethernet2Header::read_from_slice(bytes),
+            ],
+            Ethernet2HeaderSlice::from_slice(bytes).err(),
+            [
+                Ethernet2Slice::from_slice_without_fcs(bytes).err(),
+                Ethernet2Slice::from_slice_with_crc32_fcs(&FRAME[..17]).err(),
+            ],
+        ),
+        &(
+            [
+                Err(cut_short!(14, 13, LAYER)),
+                Err(cut_short!(14, 13, LAYER)),
+            ],
+            Some(cut_short!(14, 13, LAYER)),
+            [
+                Some(cut_short!(14, 13, LAYER)),
+                Some(cut_short!(18, 17, LAYER)),
+            ],
+        ),
+    );
 }
 
 #[test]
@@ -155,12 +181,34 @@ fn views_of_headers(rt: HostRuntime) -> Result<(), Fail> {
             true,
         ),
     );
-    let refused = Ethernet2HeaderSlice::from_slice(&FRAME[..13]).err();
+    Ok(())
+}
+
+/// The view of [`FRAME`] with this payload and check sequence.
+fn is_frame(
+    rt: &impl Abort,
+    name: &str,
+    view: &Ethernet2Slice<'_>,
+    payload: &[u8],
+    fcs: Option<[u8; 4]>,
+) -> Result<(), Fail> {
     equal(
-        &rt,
-        "thirteen bytes",
-        &refused,
-        &Some(cut_short(14, 13, LAYER)),
+        rt,
+        name,
+        &(
+            (view.slice(), view.header_slice(), view.payload_slice()),
+            (view.header_len(), view.fcs(), view.payload()),
+            (view.destination(), view.source(), view.ether_type()),
+            view.to_header(),
+            view.clone()? == *view,
+        ),
+        &(
+            (FRAME.as_slice(), &FRAME[..14], payload),
+            (14, fcs, ipv4(payload)),
+            ([0xFF; 6], [2, 0, 0, 0, 0, 1], EtherType::IPV4),
+            HEADER,
+            true,
+        ),
     );
     Ok(())
 }
@@ -169,52 +217,15 @@ fn views_of_headers(rt: HostRuntime) -> Result<(), Fail> {
 fn views_of_frames(rt: HostRuntime) -> Result<(), Fail> {
     let with = Ethernet2Slice::from_slice_with_crc32_fcs(&FRAME)?;
     let without = Ethernet2Slice::from_slice_without_fcs(&FRAME)?;
-    for (name, view, payload, fcs) in [
-        (
-            "with a check sequence",
-            with,
-            [].as_slice(),
-            Some([0x11, 0x22, 0x33, 0x44]),
-        ),
-        ("without one", without, &FRAME[14..], None),
-    ] {
-        equal(
-            &rt,
-            name,
-            &(
-                (view.slice(), view.header_slice(), view.payload_slice()),
-                (view.header_len(), view.fcs(), view.payload()),
-                (view.destination(), view.source(), view.ether_type()),
-                view.to_header(),
-                view.clone()? == view,
-            ),
-            &(
-                (FRAME.as_slice(), &FRAME[..14], payload),
-                (14, fcs, ipv4(payload)),
-                ([0xFF; 6], [2, 0, 0, 0, 0, 1], EtherType::IPV4),
-                HEADER,
-                true,
-            ),
-        );
-    }
+    let fcs = Some([0x11, 0x22, 0x33, 0x44]);
+    is_frame(&rt, "with a check sequence", &with, &[], fcs)?;
+    is_frame(&rt, "without one", &without, &FRAME[14..], None)?;
     let payload = Ethernet2Slice::from_slice_without_fcs(&SPANNING_TREE)?.payload();
     equal(
         &rt,
         "a length in the place of the type",
         &(payload.ether_type, payload.payload),
         &(EtherType(38), &SPANNING_TREE[14..]),
-    );
-    equal(
-        &rt,
-        "slices that are too short",
-        &(
-            Ethernet2Slice::from_slice_without_fcs(&FRAME[..13]).err(),
-            Ethernet2Slice::from_slice_with_crc32_fcs(&FRAME[..17]).err(),
-        ),
-        &(
-            Some(cut_short(14, 13, LAYER)),
-            Some(cut_short(18, 17, LAYER)),
-        ),
     );
     Ok(())
 }
@@ -224,15 +235,15 @@ fn shown_by_debug(rt: HostRuntime) -> Result<(), Fail> {
     let header = Ethernet2HeaderSlice::from_slice(&FRAME)?;
     let with = Ethernet2Slice::from_slice_with_crc32_fcs(&FRAME)?;
     let without = Ethernet2Slice::from_slice_without_fcs(&FRAME)?;
-    let shown = format!(in rt.alloc(); "{HEADER:?}\n{header:?}\n{with:?}\n{without:?}")?;
+    let shown = format!(in rt.alloc(); "{:?}", (HEADER, header, with, without))?;
     equal(
         &rt,
         "a header, its view and two frames",
         &shown.as_str(),
-        &"Ethernet2Header { source: [2, 0, 0, 0, 0, 1], destination: [255, 255, 255, 255, 255, 255], ether_type: 0x0800 (Internet Protocol version 4 (IPv4)) }\n\
-Ethernet2HeaderSlice { slice: [255, 255, 255, 255, 255, 255, 2, 0, 0, 0, 0, 1, 8, 0] }\n\
-Ethernet2Slice { header: Ethernet2Header { source: [2, 0, 0, 0, 0, 1], destination: [255, 255, 255, 255, 255, 255], ether_type: 0x0800 (Internet Protocol version 4 (IPv4)) }, payload: EtherPayloadSlice { ether_type: 0x0800 (Internet Protocol version 4 (IPv4)), len_source: Slice, payload: [] }, fcs: Some([17, 34, 51, 68]) }\n\
-Ethernet2Slice { header: Ethernet2Header { source: [2, 0, 0, 0, 0, 1], destination: [255, 255, 255, 255, 255, 255], ether_type: 0x0800 (Internet Protocol version 4 (IPv4)) }, payload: EtherPayloadSlice { ether_type: 0x0800 (Internet Protocol version 4 (IPv4)), len_source: Slice, payload: [17, 34, 51, 68] }, fcs: None }",
+        &"(Ethernet2Header { source: [2, 0, 0, 0, 0, 1], destination: [255, 255, 255, 255, 255, 255], ether_type: 0x0800 (Internet Protocol version 4 (IPv4)) }, \
+Ethernet2HeaderSlice { slice: [255, 255, 255, 255, 255, 255, 2, 0, 0, 0, 0, 1, 8, 0] }, \
+Ethernet2Slice { header: Ethernet2Header { source: [2, 0, 0, 0, 0, 1], destination: [255, 255, 255, 255, 255, 255], ether_type: 0x0800 (Internet Protocol version 4 (IPv4)) }, payload: EtherPayloadSlice { ether_type: 0x0800 (Internet Protocol version 4 (IPv4)), len_source: Slice, payload: [] }, fcs: Some([17, 34, 51, 68]) }, \
+Ethernet2Slice { header: Ethernet2Header { source: [2, 0, 0, 0, 0, 1], destination: [255, 255, 255, 255, 255, 255], ether_type: 0x0800 (Internet Protocol version 4 (IPv4)) }, payload: EtherPayloadSlice { ether_type: 0x0800 (Internet Protocol version 4 (IPv4)), len_source: Slice, payload: [17, 34, 51, 68] }, fcs: None })",
     );
     Ok(())
 }

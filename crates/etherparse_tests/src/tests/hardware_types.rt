@@ -169,16 +169,14 @@ fn second_names_and_operations(rt: HostRuntime) -> Result<(), Fail> {
         ],
         &[ArpHardwareId(1), ArpHardwareId(8), ArpHardwareId(15)],
     );
-    for (number, text) in [(39, "0x0027"), (0xFFFD, "0xFFFD")] {
-        let id = ArpHardwareId(number);
-        let shown = format!(in rt.alloc(); "{id:?}")?;
-        equal(
-            &rt,
-            "without a name",
-            &(id.name(), shown.as_str()),
-            &(None, text),
-        );
-    }
+    let unknown = [ArpHardwareId(39), ArpHardwareId(0xFFFD)];
+    let shown = format!(in rt.alloc(); "{unknown:?}")?;
+    equal(
+        &rt,
+        "without a name",
+        &(unknown.map(|id| id.name()), shown.as_str()),
+        &([None; 2], "[0x0027, 0xFFFD]"),
+    );
     equal(
         &rt,
         "operations",

@@ -6,6 +6,7 @@ use etherparse::{
     LinkHeader, LinkSlice, LinuxSllHeader, LinuxSllPacketType, LinuxSllPayloadSlice,
     LinuxSllProtocolType, LinuxSllSlice,
 };
+use std::process::Abort;
 use std::test::Fail;
 
 const NETLINK: LinuxSllHeader = LinuxSllHeader {
@@ -72,18 +73,73 @@ fn headers(rt: HostRuntime) {
     );
 }
 
+/// The link has this header, and the payload of both kinds.
+fn is_link(
+    rt: &impl Abort,
+    name: &str,
+    link: &LinkSlice<'_>,
+    header: &Option<LinkHeader>,
+    ether_payload: &Option<EtherPayloadSlice<'_>>,
+    sll_payload: &LinuxSllPayloadSlice<'_>,
+) -> Result<(), Fail> {
+    equal(rt, name, &link.to_header(), header);
+    equal(rt, name, &link.ether_payload(), ether_payload);
+    equal(rt, name, &link.sll_payload(), sll_payload);
+    equal(rt, name, &link.clone()?, link);
+    Ok(())
+}
+
 #[test]
-fn packets_and_payloads(rt: HostRuntime) -> Result<(), Fail> {
+fn packets(rt: HostRuntime) -> Result<(), Fail> {
     let frame = Ethernet2Slice::from_slice_without_fcs(&FRAME)?;
-    let frame_header = frame.to_header();
+    let header = Some(LinkHeader::Ethernet2(frame.to_header()));
+    let payload = &FRAME[14..];
+    let link = LinkSlice::Ethernet2(frame);
+    let sll_payload = sll(EtherType::IPV4, payload);
+    is_link(
+        &rt,
+        "a frame",
+        &link,
+        &header,
+        &Some(ipv4(payload)),
+        &sll_payload,
+    )?;
     let outgoing = LinuxSllSlice::from_slice(&COOKED_OUTGOING)?;
-    let outgoing_header = outgoing.to_header();
+    let header = Some(LinkHeader::LinuxSll(outgoing.to_header()));
+    let link = LinkSlice::LinuxSll(outgoing);
+    let sll_payload = sll(EtherType::IPV4, &[0x45]);
+    is_link(
+        &rt,
+        "the example",
+        &link,
+        &header,
+        &Some(ipv4(&[0x45])),
+        &sll_payload,
+    )?;
+    Ok(())
+}
+
+#[test]
+fn a_packet_from_a_gre_tunnel(rt: HostRuntime) -> Result<(), Fail> {
     let gre = LinuxSllSlice::from_slice(&COOKED_GRE)?;
-    let gre_header = gre.to_header();
-    let gre_payload = LinuxSllPayloadSlice {
+    let header = Some(LinkHeader::LinuxSll(gre.to_header()));
+    let sll_payload = LinuxSllPayloadSlice {
         protocol_type: LinuxSllProtocolType::GenericRoutingEncapsulationProtocolType(0x0800),
         payload: &[0x45],
     };
+    let link = LinkSlice::LinuxSll(gre);
+    is_link(
+        &rt,
+        "a packet from a GRE tunnel",
+        &link,
+        &header,
+        &None,
+        &sll_payload,
+    )
+}
+
+#[test]
+fn payloads(rt: HostRuntime) -> Result<(), Fail> {
     let named = EtherPayloadSlice {
         ether_type: EtherType(0x8100),
         len_source: LenSource::MacsecShortLength,
@@ -93,56 +149,24 @@ fn packets_and_payloads(rt: HostRuntime) -> Result<(), Fail> {
         len_source: LenSource::Slice,
         ..named
     };
-    for (name, link, header, ether_payload, sll_payload) in [
-        (
-            "a frame",
-            LinkSlice::Ethernet2(frame),
-            Some(LinkHeader::Ethernet2(frame_header)),
-            Some(ipv4(&FRAME[14..])),
-            sll(EtherType::IPV4, &FRAME[14..]),
-        ),
-        (
-            "the example",
-            LinkSlice::LinuxSll(outgoing),
-            Some(LinkHeader::LinuxSll(outgoing_header)),
-            Some(ipv4(&[0x45])),
-            sll(EtherType::IPV4, &[0x45]),
-        ),
-        (
-            "a packet from a GRE tunnel",
-            LinkSlice::LinuxSll(gre),
-            Some(LinkHeader::LinuxSll(gre_header)),
-            None,
-            gre_payload,
-        ),
-        (
-            "a payload with its ether type",
-            LinkSlice::EtherPayload(named),
-            None,
-            Some(named),
-            VLAN,
-        ),
-        (
-            "a payload of cooked capture",
-            LinkSlice::LinuxSllPayload(VLAN),
-            None,
-            Some(unnamed),
-            VLAN,
-        ),
-    ] {
-        equal(
-            &rt,
-            name,
-            &(
-                link.to_header(),
-                link.ether_payload(),
-                link.sll_payload(),
-                link.clone()? == link,
-            ),
-            &(header, ether_payload, sll_payload, true),
-        );
-    }
-    Ok(())
+    let ether = LinkSlice::EtherPayload(named);
+    let cooked = LinkSlice::LinuxSllPayload(VLAN);
+    is_link(
+        &rt,
+        "with its ether type",
+        &ether,
+        &None,
+        &Some(named),
+        &VLAN,
+    )?;
+    is_link(
+        &rt,
+        "of cooked capture",
+        &cooked,
+        &None,
+        &Some(unnamed),
+        &VLAN,
+    )
 }
 
 /// Equality tells the variants apart, and of packets the bytes.
@@ -167,13 +191,13 @@ fn that_differ(rt: HostRuntime) -> Result<(), Fail> {
 fn shown_by_debug(rt: HostRuntime) -> Result<(), Fail> {
     let header = LinkHeader::LinuxSll(NETLINK);
     let payload = LinkSlice::LinuxSllPayload(VLAN);
-    let shown = format!(in rt.alloc(); "{header:?}\n{payload:?}")?;
+    let shown = format!(in rt.alloc(); "{:?}", (header, payload))?;
     equal(
         &rt,
         "a header and a payload",
         &shown.as_str(),
-        &"LinuxSll(LinuxSllHeader { packet_type: 4 (Sent by us), arp_hrd_type: 824 (Netlink header), sender_address_valid_length: 0, sender_address: [0, 0, 0, 0, 0, 0, 0, 0], protocol_type: NetlinkProtocolType(1) })\n\
-LinuxSllPayload(LinuxSllPayloadSlice { protocol_type: EtherType(0x8100 (Customer VLAN Tag (C-TAG) as defined in IEEE Std 802.1Q)), payload: [170] })",
+        &"(LinuxSll(LinuxSllHeader { packet_type: 4 (Sent by us), arp_hrd_type: 824 (Netlink header), sender_address_valid_length: 0, sender_address: [0, 0, 0, 0, 0, 0, 0, 0], protocol_type: NetlinkProtocolType(1) }), \
+LinuxSllPayload(LinuxSllPayloadSlice { protocol_type: EtherType(0x8100 (Customer VLAN Tag (C-TAG) as defined in IEEE Std 802.1Q)), payload: [170] }))",
     );
     Ok(())
 }

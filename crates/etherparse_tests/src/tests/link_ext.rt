@@ -1,71 +1,63 @@
 //! The extensions of a link, and payloads of both kinds.
-use super::{equal, ipv4};
+use super::{Protocol, equal, ipv4, protocol_type};
 use crate::test_frames::{NAMED, SEALED, TAG};
 use etherparse::{
-    EtherPayloadSlice, EtherType, LenSource, LinkExtHeader, LinkExtSlice,
-    LinuxNonstandardEtherType, LinuxSllPayloadSlice, LinuxSllProtocolType, MacsecHeader,
-    MacsecSlice, SingleVlanHeader, SingleVlanSlice,
+    EtherPayloadSlice, EtherType, LenSource, LinkExtHeader, LinkExtSlice, LinuxSllPayloadSlice,
+    LinuxSllProtocolType, MacsecHeader, MacsecSlice, SingleVlanHeader, SingleVlanSlice,
 };
+use std::process::Abort;
 use std::test::Fail;
+
+/// The extension has this header, and this payload.
+fn is_ext(
+    rt: &impl Abort,
+    name: &str,
+    view: &LinkExtSlice<'_>,
+    len: usize,
+    header: LinkExtHeader,
+    payload: Option<EtherPayloadSlice<'_>>,
+) {
+    equal(
+        rt,
+        name,
+        &(
+            view.header_len(),
+            view.to_header(),
+            header.header_len(),
+            view.ether_payload(),
+        ),
+        &(len, header, len, payload),
+    );
+}
 
 #[test]
 fn extensions(rt: HostRuntime) -> Result<(), Fail> {
     let vlan = LinkExtSlice::Vlan(SingleVlanSlice::from_slice(&TAG)?);
+    let header = SingleVlanHeader::from_bytes([0xB1, 0x23, 0x08, 0x00]);
+    let header = LinkExtHeader::Vlan(header);
+    is_ext(&rt, "a VLAN tag", &vlan, 4, header, Some(ipv4(&[0x45])));
     let named = LinkExtSlice::Macsec(MacsecSlice::from_slice(&NAMED)?);
-    let sealed = LinkExtSlice::Macsec(MacsecSlice::from_slice(&SEALED)?);
-    let tag = SingleVlanHeader::from_bytes([0xB1, 0x23, 0x08, 0x00]);
+    let header = LinkExtHeader::Macsec(MacsecHeader::from_slice(&NAMED)?);
     let payload = EtherPayloadSlice {
         ether_type: EtherType(0x8100),
         len_source: LenSource::MacsecShortLength,
         payload: &[0xAA, 0xBB, 0xCC, 0xDD],
     };
-    let readable = MacsecHeader::from_slice(&NAMED)?;
-    let encrypted = MacsecHeader::from_slice(&SEALED)?;
-    for (name, view, len, header, payload) in [
-        (
-            "a VLAN tag",
-            vlan,
-            4,
-            LinkExtHeader::Vlan(tag),
-            Some(ipv4(&[0x45])),
-        ),
-        (
-            "a SecTag",
-            named,
-            8,
-            LinkExtHeader::Macsec(readable),
-            Some(payload),
-        ),
-        (
-            "an encrypted payload",
-            sealed,
-            14,
-            LinkExtHeader::Macsec(encrypted),
-            None,
-        ),
-    ] {
-        equal(
-            &rt,
-            name,
-            &(
-                view.header_len(),
-                view.to_header(),
-                header.header_len(),
-                view.ether_payload(),
-            ),
-            &(len, header, len, payload),
-        );
-    }
+    is_ext(&rt, "a SecTag", &named, 8, header, Some(payload));
+    let sealed = LinkExtSlice::Macsec(MacsecSlice::from_slice(&SEALED)?);
+    let header = LinkExtHeader::Macsec(MacsecHeader::from_slice(&SEALED)?);
+    is_ext(&rt, "an encrypted payload", &sealed, 14, header, None);
     let least = LinkExtHeader::Macsec(MacsecHeader::from_slice(&[0x0C, 0x00, 0, 0, 0, 1])?);
-    equal(&rt, "the least SecTag", &least.header_len(), &6);
-    let view = LinkExtSlice::Macsec(MacsecSlice::from_slice(&SEALED)?);
-    let shown = format!(in rt.alloc(); "{:?}\n{view:?}", view.to_header())?;
+    let shown = format!(in rt.alloc(); "{:?}", (header, sealed))?;
     equal(
         &rt,
-        "by Debug",
-        &shown.as_str(),
-        &"Macsec(MacsecHeader { ptype: Encrypted, endstation_id: false, scb: false, an: MacsecAn(0), short_len: MacsecShortLen(0), packet_nr: 1, sci: Some(4822678189205111) })\n\
-Macsec(MacsecSlice { header: MacsecHeaderSlice { slice: [44, 192, 0, 0, 0, 1, 0, 17, 34, 51, 68, 85, 102, 119] }, payload: Modified([153]) })",
+        "the least SecTag, and by Debug",
+        &(least.header_len(), shown.as_str()),
+        &(
+            6,
+            "(Macsec(MacsecHeader { ptype: Encrypted, endstation_id: false, scb: false, an: MacsecAn(0), short_len: MacsecShortLen(0), packet_nr: 1, sci: Some(4822678189205111) }), \
+Macsec(MacsecSlice { header: MacsecHeaderSlice { slice: [44, 192, 0, 0, 0, 1, 0, 17, 34, 51, 68, 85, 102, 119] }, payload: Modified([153]) }))",
+        ),
     );
     Ok(())
 }
@@ -78,51 +70,44 @@ const fn sll(protocol_type: LinuxSllProtocolType) -> LinuxSllPayloadSlice<'stati
     }
 }
 
-/// Payloads of cooked capture, and those of an ether type that they are.
+/// Payloads of cooked capture, and the ether types of those that have one.
+static PAYLOADS: [(&str, Protocol, u16, Option<EtherType>); 6] = [
+    (
+        "the example",
+        Protocol::EtherType,
+        0x0800,
+        Some(EtherType::IPV4),
+    ),
+    (
+        "a VLAN tag",
+        Protocol::EtherType,
+        0x8100,
+        Some(EtherType(0x8100)),
+    ),
+    (
+        "a nonstandard number",
+        Protocol::Dummy,
+        1,
+        Some(EtherType(1)),
+    ),
+    ("netlink", Protocol::Netlink, 1, None),
+    ("GRE", Protocol::Gre, 0x0800, None),
+    ("an ignored number", Protocol::Ignored, 1, None),
+];
+
 #[test]
 fn payloads_of_both_kinds(rt: HostRuntime) {
-    let ether = |ether_type| {
-        Ok(EtherPayloadSlice {
-            ether_type,
-            len_source: LenSource::Slice,
-            payload: [0xAA].as_slice(),
-        })
-    };
-    let dummy = LinuxSllProtocolType::LinuxNonstandardEtherType(LinuxNonstandardEtherType::N802_3);
-    for (name, protocol_type, wanted) in [
-        (
-            "the example",
-            LinuxSllProtocolType::EtherType(EtherType::IPV4),
-            ether(EtherType::IPV4),
-        ),
-        (
-            "a VLAN tag",
-            LinuxSllProtocolType::EtherType(EtherType(0x8100)),
-            ether(EtherType(0x8100)),
-        ),
-        ("a nonstandard number", dummy, ether(EtherType(1))),
-        (
-            "netlink",
-            LinuxSllProtocolType::NetlinkProtocolType(1),
-            Err(()),
-        ),
-        (
-            "GRE",
-            LinuxSllProtocolType::GenericRoutingEncapsulationProtocolType(0x0800),
-            Err(()),
-        ),
-        (
-            "an ignored number",
-            LinuxSllProtocolType::Ignored(1),
-            Err(()),
-        ),
-    ] {
-        equal(
-            &rt,
-            name,
-            &EtherPayloadSlice::try_from(sll(protocol_type)),
-            &wanted,
-        );
+    for &(name, protocol, number, ether_type) in &PAYLOADS {
+        let payload = sll(protocol_type(protocol, number));
+        let wanted = match ether_type {
+            Some(ether_type) => Ok(EtherPayloadSlice {
+                ether_type,
+                len_source: LenSource::Slice,
+                payload: [0xAA].as_slice(),
+            }),
+            None => Err(()),
+        };
+        equal(&rt, name, &EtherPayloadSlice::try_from(payload), &wanted);
     }
     let named = LinuxSllPayloadSlice::from(EtherPayloadSlice {
         ether_type: EtherType(0x8100),

@@ -1,5 +1,5 @@
 //! Packets of Linux cooked capture v1.
-use super::{cut_short, equal};
+use super::equal;
 use crate::test_frames::{
     COOKED, COOKED_ARP_REQUEST, COOKED_GRE, COOKED_LOOPBACK, COOKED_OUTGOING, COOKED_SPANNING_TREE,
 };
@@ -9,6 +9,7 @@ use etherparse::{
     ArpHardwareId, EtherType, LinuxNonstandardEtherType, LinuxSllHeader, LinuxSllHeaderSlice,
     LinuxSllPacketType, LinuxSllPayloadSlice, LinuxSllProtocolType, LinuxSllSlice,
 };
+use std::process::Abort;
 use std::test::Fail;
 
 /// The header of [`COOKED`].
@@ -82,36 +83,113 @@ const PACKETS: [(&str, &[u8], LinuxSllHeader, &[u8]); 5] = [
     ),
 ];
 
+/// The header as a value.
+fn is_header(rt: &impl Abort, name: &str, packet: &[u8], header: &LinuxSllHeader) {
+    let bytes = header.to_bytes();
+    let rest = packet.get(16..).unwrap_or(&[]);
+    equal(
+        rt,
+        name,
+        &(
+            LinuxSllHeader::from_slice(packet),
+            LinuxSllHeader::from_bytes(bytes),
+            Some(bytes.as_slice()),
+            header.header_len(),
+        ),
+        &(
+            Ok((*header, rest)),
+            Ok(*header),
+            packet.get(..LinuxSllHeader::LEN),
+            16,
+        ),
+    );
+}
+
+/// The header as a view.
+fn is_view(
+    rt: &impl Abort,
+    name: &str,
+    packet: &[u8],
+    header: &LinuxSllHeader,
+    address: &[u8],
+) -> Result<(), Fail> {
+    let view = LinuxSllHeaderSlice::from_slice(packet)?;
+    equal(
+        rt,
+        name,
+        &(
+            (view.packet_type(), view.arp_hardware_type()),
+            (view.sender_address_valid_length(), view.sender_address()),
+            (view.sender_address_full(), view.protocol_type()),
+            (Some(view.slice()), view.to_header(), view.clone()? == view),
+        ),
+        &(
+            (header.packet_type, header.arp_hrd_type),
+            (header.sender_address_valid_length, address),
+            (header.sender_address, header.protocol_type),
+            (packet.get(..16), *header, true),
+        ),
+    );
+    Ok(())
+}
+
+/// The header with its payload.
+fn is_packet(
+    rt: &impl Abort,
+    name: &str,
+    packet: &[u8],
+    header: &LinuxSllHeader,
+    address: &[u8],
+) -> Result<(), Fail> {
+    let view = LinuxSllSlice::from_slice(packet)?;
+    let rest = packet.get(16..).unwrap_or(&[]);
+    let payload = LinuxSllPayloadSlice {
+        protocol_type: header.protocol_type,
+        payload: rest,
+    };
+    equal(
+        rt,
+        name,
+        &(
+            (view.packet_type(), view.arp_hardware_type()),
+            (view.sender_address_valid_length(), view.sender_address()),
+            (view.sender_address_full(), view.protocol_type()),
+            (view.header_len(), view.to_header(), view.clone()? == view),
+            (view.slice(), Some(view.header_slice())),
+            (view.payload_slice(), view.payload()),
+        ),
+        &(
+            (header.packet_type, header.arp_hrd_type),
+            (header.sender_address_valid_length, address),
+            (header.sender_address, header.protocol_type),
+            (16, *header, true),
+            (packet, packet.get(..16)),
+            (rest, payload),
+        ),
+    );
+    Ok(())
+}
+
 #[test]
-fn headers(rt: HostRuntime) {
-    for (name, packet, header, _) in PACKETS {
-        let bytes = header.to_bytes();
-        let rest = packet.get(16..).unwrap_or(&[]);
-        equal(
-            &rt,
-            name,
-            &(
-                LinuxSllHeader::from_slice(packet),
-                LinuxSllHeader::from_bytes(bytes),
-                Some(bytes.as_slice()),
-                header.header_len(),
-            ),
-            &(
-                Ok((header, rest)),
-                Ok(header),
-                packet.get(..LinuxSllHeader::LEN),
-                16,
-            ),
-        );
+fn packets(rt: HostRuntime) -> Result<(), Fail> {
+    for (name, packet, header, address) in PACKETS {
+        is_header(&rt, name, packet, &header);
+        is_view(&rt, name, packet, &header, address)?;
+        is_packet(&rt, name, packet, &header, address)?;
     }
-    // the hardware type is that of Ethernet, where 1 is the dummy type for 802.3 frames
+    Ok(())
+}
+
+/// The hardware type is that of Ethernet, where 1 is the dummy type for 802.3 frames.
+#[test]
+fn another_variant_is_read_back(rt: HostRuntime) {
     let other = LinuxSllHeader {
         protocol_type: LinuxSllProtocolType::EtherType(EtherType(1)),
         ..HEADER
     };
     equal(
         &rt,
-        "another variant is read back",
+        "another variant",
         &LinuxSllHeader::from_bytes(other.to_bytes()),
         &Ok(HEADER),
     );
@@ -148,39 +226,31 @@ fn written_to_slices(rt: HostRuntime) -> Result<(), Fail> {
     Ok(())
 }
 
+/// The length of an address, and the part of 1 to 8 that is the address.
+static ADDRESSES: [(&str, u8, &[u8]); 5] = [
+    ("no address", 0, &[]),
+    ("six bytes", 6, &[1, 2, 3, 4, 5, 6]),
+    ("eight bytes", 8, &[1, 2, 3, 4, 5, 6, 7, 8]),
+    (
+        "nine bytes, of which eight are there",
+        9,
+        &[1, 2, 3, 4, 5, 6, 7, 8],
+    ),
+    (
+        "255 bytes, of which eight are there",
+        255,
+        &[1, 2, 3, 4, 5, 6, 7, 8],
+    ),
+];
+
 #[test]
-fn views_of_headers(rt: HostRuntime) -> Result<(), Fail> {
-    for (name, packet, header, address) in PACKETS {
-        let view = LinuxSllHeaderSlice::from_slice(packet)?;
-        equal(
-            &rt,
-            name,
-            &(
-                (view.packet_type(), view.arp_hardware_type()),
-                (view.sender_address_valid_length(), view.sender_address()),
-                (view.sender_address_full(), view.protocol_type()),
-                (Some(view.slice()), view.to_header(), view.clone()? == view),
-            ),
-            &(
-                (header.packet_type, header.arp_hrd_type),
-                (header.sender_address_valid_length, address),
-                (header.sender_address, header.protocol_type),
-                (packet.get(..16), header, true),
-            ),
-        );
-    }
-    for (valid_len, address) in [
-        (0, [].as_slice()),
-        (6, &[1, 2, 3, 4, 5, 6]),
-        (8, &[1, 2, 3, 4, 5, 6, 7, 8]),
-        (9, &[1, 2, 3, 4, 5, 6, 7, 8]),
-        (255, &[1, 2, 3, 4, 5, 6, 7, 8]),
-    ] {
+fn addresses(rt: HostRuntime) -> Result<(), Fail> {
+    for &(name, valid_len, address) in &ADDRESSES {
         let bytes = [0, 0, 0, 1, 0, valid_len, 1, 2, 3, 4, 5, 6, 7, 8, 0x08, 0x00];
         let view = LinuxSllHeaderSlice::from_slice(&bytes)?;
         equal(
             &rt,
-            "an address of another length",
+            name,
             &(view.sender_address_valid_length(), view.sender_address()),
             &(u16::from(valid_len), address),
         );
@@ -188,41 +258,32 @@ fn views_of_headers(rt: HostRuntime) -> Result<(), Fail> {
     Ok(())
 }
 
-#[test]
-fn views_of_packets(rt: HostRuntime) -> Result<(), Fail> {
-    for (name, packet, header, address) in PACKETS {
-        let view = LinuxSllSlice::from_slice(packet)?;
-        let rest = packet.get(16..).unwrap_or(&[]);
-        let payload = LinuxSllPayloadSlice {
-            protocol_type: header.protocol_type,
-            payload: rest,
-        };
-        equal(
-            &rt,
-            name,
-            &(
-                (view.packet_type(), view.arp_hardware_type()),
-                (view.sender_address_valid_length(), view.sender_address()),
-                (view.sender_address_full(), view.protocol_type()),
-                (view.header_len(), view.to_header(), view.clone()? == view),
-                (view.slice(), Some(view.header_slice())),
-                (view.payload_slice(), view.payload()),
-            ),
-            &(
-                (header.packet_type, header.arp_hrd_type),
-                (header.sender_address_valid_length, address),
-                (header.sender_address, header.protocol_type),
-                (16, header, true),
-                (packet, packet.get(..16)),
-                (rest, payload),
-            ),
-        );
-    }
-    Ok(())
-}
-
 /// A header whose packet type and hardware type are not supported.
 const UNSUPPORTED: [u8; 16] = [0, 8, 1, 1, 0, 0, 0, 0, 0, 0, 0, 0, 0, 0, 0, 0];
+
+/// A refused packet type.
+macro_rules! packet_type {
+    ($packet_type:expr $(,)?) => {
+        Some(HeaderSliceError::Content(
+            HeaderError::UnsupportedPacketTypeField { packet_type: $packet_type },
+        ))
+    };
+}
+
+/// A refused hardware type.
+macro_rules! hardware_type {
+    ($number:expr $(,)?) => {
+        Some(HeaderSliceError::Content(
+            HeaderError::UnsupportedArpHardwareId { arp_hardware_type: ArpHardwareId($number) },
+        ))
+    };
+}
+
+const SHORT: Option<HeaderSliceError> = Some(HeaderSliceError::Len(cut_short!(
+    16,
+    15,
+    Layer::LinuxSllHeader
+)));
 
 fn refusal(bytes: &[u8]) -> Option<HeaderSliceError> {
     match LinuxSllHeader::from_slice(bytes) {
@@ -232,55 +293,52 @@ fn refusal(bytes: &[u8]) -> Option<HeaderSliceError> {
 }
 
 /// The length is refused first, then the packet type.
+static REFUSALS: [(&str, &[u8], Option<HeaderSliceError>); 8] = [
+    (
+        "fifteen bytes",
+        &[0, 0, 0, 1, 0, 0xFF, 2, 0, 0, 0, 0, 1, 0, 0, 0],
+        SHORT,
+    ),
+    (
+        "fifteen bytes of a refused header",
+        &[0, 8, 1, 1, 0, 0, 0, 0, 0, 0, 0, 0, 0, 0, 0],
+        SHORT,
+    ),
+    (
+        "a packet type",
+        &[0, 8, 0, 1, 0, 0xFF, 2, 0, 0, 0, 0, 1, 0, 0, 0, 1],
+        packet_type!(8),
+    ),
+    (
+        "the greatest packet type",
+        &[0xFF, 0xFF, 0, 1, 0, 0, 0, 0, 0, 0, 0, 0, 0, 0, 0, 0],
+        packet_type!(65535),
+    ),
+    ("both types", &UNSUPPORTED, packet_type!(8)),
+    (
+        "a hardware type",
+        &[0, 0, 1, 1, 0, 0, 0, 0, 0, 0, 0, 0, 0, 0, 0x08, 0x00],
+        hardware_type!(257),
+    ),
+    (
+        "a hardware type after the greatest packet type that is supported",
+        &[0, 7, 1, 1, 0, 0, 0, 0, 0, 0, 0, 0, 0, 0, 0, 0],
+        hardware_type!(257),
+    ),
+    (
+        "a captured packet of the loopback device",
+        &COOKED_LOOPBACK,
+        hardware_type!(772),
+    ),
+];
+
 #[test]
 fn refusals(rt: HostRuntime) {
-    let short = || HeaderSliceError::Len(cut_short(16, 15, Layer::LinuxSllHeader));
-    let packet_type = |packet_type| {
-        HeaderSliceError::Content(HeaderError::UnsupportedPacketTypeField { packet_type })
-    };
-    let hardware_type = |number| {
-        HeaderSliceError::Content(HeaderError::UnsupportedArpHardwareId {
-            arp_hardware_type: ArpHardwareId(number),
-        })
-    };
-    for (name, bytes, wanted) in [
-        ("fifteen bytes", &COOKED[..15], short()),
-        (
-            "fifteen bytes of a refused header",
-            &UNSUPPORTED[..15],
-            short(),
-        ),
-        (
-            "a packet type",
-            &[0, 8, 0, 1, 0, 0xFF, 2, 0, 0, 0, 0, 1, 0, 0, 0, 1],
-            packet_type(8),
-        ),
-        (
-            "the greatest packet type",
-            &[0xFF, 0xFF, 0, 1, 0, 0, 0, 0, 0, 0, 0, 0, 0, 0, 0, 0],
-            packet_type(65535),
-        ),
-        ("both types", &UNSUPPORTED, packet_type(8)),
-        (
-            "a hardware type",
-            &[0, 0, 1, 1, 0, 0, 0, 0, 0, 0, 0, 0, 0, 0, 0x08, 0x00],
-            hardware_type(257),
-        ),
-        (
-            "a hardware type after the greatest packet type that is supported",
-            &[0, 7, 1, 1, 0, 0, 0, 0, 0, 0, 0, 0, 0, 0, 0, 0],
-            hardware_type(257),
-        ),
-        (
-            "a captured packet of the loopback device",
-            &COOKED_LOOPBACK,
-            hardware_type(772),
-        ),
-    ] {
+    for (name, bytes, wanted) in &REFUSALS {
         let packet = LinuxSllSlice::from_slice(bytes).err();
         let view = LinuxSllHeaderSlice::from_slice(bytes).err();
         let alike = view == packet && refusal(bytes) == packet;
-        equal(&rt, name, &(packet, alike), &(Some(wanted), true));
+        equal(&rt, name, &(&packet, alike), &(wanted, true));
     }
     let refused = HeaderError::UnsupportedPacketTypeField { packet_type: 8 };
     equal(
@@ -295,14 +353,14 @@ fn refusals(rt: HostRuntime) {
 fn shown_by_debug(rt: HostRuntime) -> Result<(), Fail> {
     let view = LinuxSllHeaderSlice::from_slice(&COOKED)?;
     let packet = LinuxSllSlice::from_slice(&COOKED)?;
-    let shown = format!(in rt.alloc(); "{HEADER:?}\n{view:?}\n{packet:?}")?;
+    let shown = format!(in rt.alloc(); "{:?}", (HEADER, view, packet))?;
     equal(
         &rt,
         "a header, its view and one with the payload",
         &shown.as_str(),
-        &"LinuxSllHeader { packet_type: 0 (Sent to us), arp_hrd_type: 1 (Ethernet), sender_address_valid_length: 255, sender_address: [2, 0, 0, 0, 0, 1, 0, 0], protocol_type: LinuxNonstandardEtherType(0x0001 (Dummy type for 802.3 frames)) }\n\
-LinuxSllHeaderSlice { slice: [0, 0, 0, 1, 0, 255, 2, 0, 0, 0, 0, 1, 0, 0, 0, 1] }\n\
-LinuxSllSlice { header: LinuxSllHeader { packet_type: 0 (Sent to us), arp_hrd_type: 1 (Ethernet), sender_address_valid_length: 255, sender_address: [2, 0, 0, 0, 0, 1, 0, 0], protocol_type: LinuxNonstandardEtherType(0x0001 (Dummy type for 802.3 frames)) }, payload: LinuxSllPayloadSlice { protocol_type: LinuxNonstandardEtherType(0x0001 (Dummy type for 802.3 frames)), payload: [170] } }",
+        &"(LinuxSllHeader { packet_type: 0 (Sent to us), arp_hrd_type: 1 (Ethernet), sender_address_valid_length: 255, sender_address: [2, 0, 0, 0, 0, 1, 0, 0], protocol_type: LinuxNonstandardEtherType(0x0001 (Dummy type for 802.3 frames)) }, \
+LinuxSllHeaderSlice { slice: [0, 0, 0, 1, 0, 255, 2, 0, 0, 0, 0, 1, 0, 0, 0, 1] }, \
+LinuxSllSlice { header: LinuxSllHeader { packet_type: 0 (Sent to us), arp_hrd_type: 1 (Ethernet), sender_address_valid_length: 255, sender_address: [2, 0, 0, 0, 0, 1, 0, 0], protocol_type: LinuxNonstandardEtherType(0x0001 (Dummy type for 802.3 frames)) }, payload: LinuxSllPayloadSlice { protocol_type: LinuxNonstandardEtherType(0x0001 (Dummy type for 802.3 frames)), payload: [170] } })",
     );
     Ok(())
 }

@@ -1,12 +1,10 @@
 //! Packets of Linux cooked capture v2. Captured ones are from `tcpdump -i any`, cut after a few bytes of their payload; the
 //! others were composed with scapy's CookedLinuxV2. The fields that are wanted are those that tshark prints of them, and
 //! scapy's where it prints none.
-use super::equal;
+use super::{Protocol, equal, protocol_type};
 use ether_peel::{Peel, PeelUnit, Start};
 use ether_sll2::{LinuxSll2Error, LinuxSll2Header, LinuxSll2HeaderSlice, LinuxSll2Slice};
-use etherparse::{
-    ArpHardwareId, EtherType, LinuxNonstandardEtherType, LinuxSllPacketType, LinuxSllProtocolType,
-};
+use etherparse::{ArpHardwareId, EtherType, LinuxSllPacketType};
 use std::test::Fail;
 
 /// Captured on the loopback device: an IPv4 packet, to us.
@@ -51,133 +49,144 @@ const GRE: [u8; 21] = [
     0x00, 0x00, 0x00, 0x00, 0x45,
 ];
 
-/// The header of [`SPANNING_TREE`].
-const CAPTURED: LinuxSll2Header = LinuxSll2Header {
-    protocol_type: LinuxSllProtocolType::LinuxNonstandardEtherType(
-        LinuxNonstandardEtherType::N802_2,
-    ),
-    interface_index: 2,
-    arp_hrd_type: ArpHardwareId::ETHERNET,
-    packet_type: LinuxSllPacketType::MULTICAST,
-    sender_address_valid_length: 6,
-    sender_address: [0x02, 0x00, 0x5E, 0x10, 0x00, 0x01, 0, 0],
-};
+/// A packet: the fields of its header, the sender's address and the start of a walk.
+struct Row {
+    name: &'static str,
+    packet: &'static [u8],
+    protocol: (Protocol, u16),
+    interface_index: u32,
+    arp_hrd_type: ArpHardwareId,
+    packet_type: u16,
+    sender_address_valid_length: u8,
+    sender_address: [u8; 8],
+    address: &'static [u8],
+    start: Option<Start>,
+}
 
-/// The header of [`LOOPBACK`].
-const TO_US: LinuxSll2Header = LinuxSll2Header {
-    protocol_type: LinuxSllProtocolType::EtherType(EtherType::IPV4),
+/// An IPv4 packet, to us.
+const CAPTURED: Row = Row {
+    name: "loopback",
+    packet: &LOOPBACK,
+    protocol: (Protocol::EtherType, 0x0800),
     interface_index: 1,
     arp_hrd_type: ArpHardwareId::LOOPBACK,
-    packet_type: LinuxSllPacketType::HOST,
+    packet_type: 0,
     sender_address_valid_length: 6,
     sender_address: [0; 8],
+    address: &[0; 6],
+    start: Some(Start::EtherType(EtherType::IPV4)),
 };
 
-/// Name, packet, its header, the sender's address and the start of a walk.
-const PACKETS: [(&str, &[u8], LinuxSll2Header, &[u8], Option<Start>); 7] = [
-    (
-        "the example",
-        &EXAMPLE,
-        LinuxSll2Header {
-            protocol_type: LinuxSllProtocolType::EtherType(EtherType::VLAN_TAGGED_FRAME),
-            interface_index: 3,
-            packet_type: LinuxSllPacketType::OUTGOING,
-            sender_address: [2, 0, 0, 0, 0, 1, 0, 0],
-            ..CAPTURED
-        },
-        &[2, 0, 0, 0, 0, 1],
-        Some(Start::EtherType(EtherType::VLAN_TAGGED_FRAME)),
-    ),
-    (
-        "loopback",
-        &LOOPBACK,
-        TO_US,
-        &[0; 6],
-        Some(Start::EtherType(EtherType::IPV4)),
-    ),
-    (
-        "a tun device",
-        &TUN,
-        LinuxSll2Header {
-            interface_index: 2,
-            arp_hrd_type: ArpHardwareId::NONE,
-            sender_address_valid_length: 0,
-            ..TO_US
-        },
-        &[],
-        Some(Start::EtherType(EtherType::IPV4)),
-    ),
-    (
-        "802.2",
-        &SPANNING_TREE,
-        CAPTURED,
-        &[0x02, 0x00, 0x5E, 0x10, 0x00, 0x01],
-        Some(Start::EtherType(EtherType(4))),
-    ),
-    (
-        "reserved bytes that are not 0",
-        &TAGGED,
-        LinuxSll2Header {
-            protocol_type: LinuxSllProtocolType::EtherType(EtherType::VLAN_TAGGED_FRAME),
-            interface_index: 3,
-            ..CAPTURED
-        },
-        &[0x02, 0x00, 0x5E, 0x10, 0x00, 0x01],
-        Some(Start::EtherType(EtherType::VLAN_TAGGED_FRAME)),
-    ),
-    (
-        "an address of 16 bytes",
-        &TUNNEL,
-        LinuxSll2Header {
-            protocol_type: LinuxSllProtocolType::EtherType(EtherType::IPV6),
-            interface_index: 16_909_060,
-            arp_hrd_type: ArpHardwareId::TUNNEL6,
-            packet_type: LinuxSllPacketType::OUTGOING,
-            sender_address_valid_length: 16,
-            sender_address: [1, 2, 3, 4, 5, 6, 7, 8],
-        },
-        &[1, 2, 3, 4, 5, 6, 7, 8],
-        Some(Start::EtherType(EtherType::IPV6)),
-    ),
-    (
-        "GRE",
-        &GRE,
-        LinuxSll2Header {
-            protocol_type: LinuxSllProtocolType::GenericRoutingEncapsulationProtocolType(0x0800),
-            interface_index: 7,
-            arp_hrd_type: ArpHardwareId::IPGRE,
-            packet_type: LinuxSllPacketType::HOST,
-            sender_address_valid_length: 4,
-            sender_address: [192, 0, 2, 1, 0, 0, 0, 0],
-        },
-        &[192, 0, 2, 1],
-        None,
-    ),
+static PACKETS: [Row; 7] = [
+    Row {
+        name: "the example",
+        packet: &EXAMPLE,
+        protocol: (Protocol::EtherType, 0x8100),
+        interface_index: 3,
+        arp_hrd_type: ArpHardwareId::ETHERNET,
+        packet_type: 4,
+        sender_address: [2, 0, 0, 0, 0, 1, 0, 0],
+        address: &[2, 0, 0, 0, 0, 1],
+        start: Some(Start::EtherType(EtherType::VLAN_TAGGED_FRAME)),
+        ..CAPTURED
+    },
+    CAPTURED,
+    Row {
+        name: "a tun device",
+        packet: &TUN,
+        interface_index: 2,
+        arp_hrd_type: ArpHardwareId::NONE,
+        sender_address_valid_length: 0,
+        address: &[],
+        ..CAPTURED
+    },
+    Row {
+        name: "802.2",
+        packet: &SPANNING_TREE,
+        protocol: (Protocol::Llc, 4),
+        interface_index: 2,
+        arp_hrd_type: ArpHardwareId::ETHERNET,
+        packet_type: 2,
+        sender_address: [0x02, 0x00, 0x5E, 0x10, 0x00, 0x01, 0, 0],
+        address: &[0x02, 0x00, 0x5E, 0x10, 0x00, 0x01],
+        start: Some(Start::EtherType(EtherType(4))),
+        ..CAPTURED
+    },
+    Row {
+        name: "reserved bytes that are not 0",
+        packet: &TAGGED,
+        protocol: (Protocol::EtherType, 0x8100),
+        interface_index: 3,
+        arp_hrd_type: ArpHardwareId::ETHERNET,
+        packet_type: 2,
+        sender_address: [0x02, 0x00, 0x5E, 0x10, 0x00, 0x01, 0, 0],
+        address: &[0x02, 0x00, 0x5E, 0x10, 0x00, 0x01],
+        start: Some(Start::EtherType(EtherType::VLAN_TAGGED_FRAME)),
+        ..CAPTURED
+    },
+    Row {
+        name: "an address of 16 bytes",
+        packet: &TUNNEL,
+        protocol: (Protocol::EtherType, 0x86DD),
+        interface_index: 16_909_060,
+        arp_hrd_type: ArpHardwareId::TUNNEL6,
+        packet_type: 4,
+        sender_address_valid_length: 16,
+        sender_address: [1, 2, 3, 4, 5, 6, 7, 8],
+        address: &[1, 2, 3, 4, 5, 6, 7, 8],
+        start: Some(Start::EtherType(EtherType::IPV6)),
+    },
+    Row {
+        name: "GRE",
+        packet: &GRE,
+        protocol: (Protocol::Gre, 0x0800),
+        interface_index: 7,
+        arp_hrd_type: ArpHardwareId::IPGRE,
+        sender_address_valid_length: 4,
+        sender_address: [192, 0, 2, 1, 0, 0, 0, 0],
+        address: &[192, 0, 2, 1],
+        start: None,
+        ..CAPTURED
+    },
 ];
+
+fn header(row: &Row) -> Result<LinuxSll2Header, Fail> {
+    let (protocol, number) = row.protocol;
+    let sender_address = row.sender_address;
+    Ok(LinuxSll2Header {
+        protocol_type: protocol_type(protocol, number),
+        interface_index: row.interface_index,
+        arp_hrd_type: row.arp_hrd_type,
+        packet_type: LinuxSllPacketType::try_from(row.packet_type)?,
+        sender_address_valid_length: row.sender_address_valid_length,
+        sender_address,
+    })
+}
 
 #[test]
 fn packets(rt: HostRuntime) -> Result<(), Fail> {
-    for (name, packet, header, address, start) in PACKETS {
-        let view = LinuxSll2Slice::from_slice(packet)?;
+    for row in &PACKETS {
+        let view = LinuxSll2Slice::from_slice(row.packet)?;
+        let header = header(row)?;
         let bytes = header.to_bytes();
-        let rest = packet.get(20..).unwrap_or(&[]);
         equal(
             &rt,
-            name,
-            &(view.to_header(), view.payload_slice(), view.start()),
-            &(header, rest, start),
+            row.name,
+            &(view.sender_address(), view.payload_slice(), view.start()),
+            &(row.address, row.packet.get(20..).unwrap_or(&[]), row.start),
         );
         equal(
             &rt,
-            name,
-            &(view.sender_address(), &bytes[..2], &bytes[4..]),
-            &(
-                address,
-                packet.get(..2).unwrap_or(&[]),
-                packet.get(4..20).unwrap_or(&[]),
-            ),
+            row.name,
+            &(view.to_header(), Some(&bytes[..2]), Some(&bytes[4..])),
+            &(header, row.packet.get(..2), row.packet.get(4..20)),
         );
     }
+    Ok(())
+}
+
+#[test]
+fn the_walk_of_the_example(rt: HostRuntime) -> Result<(), Fail> {
     let packet = LinuxSll2Slice::from_slice(&EXAMPLE)?;
     let view = LinuxSll2HeaderSlice::from_slice(&EXAMPLE)?;
     let mut found = None;
@@ -189,19 +198,24 @@ fn packets(rt: HostRuntime) -> Result<(), Fail> {
     }
     equal(
         &rt,
-        "the walk of the example, and clones",
+        "a tag, and clones",
         &(found, packet.clone()? == packet, view.clone()? == view),
         &(Some((291, 4)), true, true),
     );
+    Ok(())
+}
+
+#[test]
+fn shown_by_debug(rt: HostRuntime) -> Result<(), Fail> {
     let view = LinuxSll2HeaderSlice::from_slice(&GRE)?;
     let packet = LinuxSll2Slice::from_slice(&GRE)?;
-    let shown = format!(in rt.alloc(); "{view:?}\n{packet:?}")?;
+    let shown = format!(in rt.alloc(); "{:?}", (view, packet))?;
     equal(
         &rt,
         "a view of a header and one with the payload",
         &shown.as_str(),
-        &"LinuxSll2HeaderSlice { slice: [8, 0, 0, 0, 0, 0, 0, 7, 3, 10, 0, 4, 192, 0, 2, 1, 0, 0, 0, 0] }\n\
-LinuxSll2Slice { header: LinuxSll2Header { protocol_type: GenericRoutingEncapsulationProtocolType(2048), interface_index: 7, arp_hrd_type: 778 (GRE over IP), packet_type: 0 (Sent to us), sender_address_valid_length: 4, sender_address: [192, 0, 2, 1, 0, 0, 0, 0] }, payload: LinuxSllPayloadSlice { protocol_type: GenericRoutingEncapsulationProtocolType(2048), payload: [69] } }",
+        &"(LinuxSll2HeaderSlice { slice: [8, 0, 0, 0, 0, 0, 0, 7, 3, 10, 0, 4, 192, 0, 2, 1, 0, 0, 0, 0] }, \
+LinuxSll2Slice { header: LinuxSll2Header { protocol_type: GenericRoutingEncapsulationProtocolType(2048), interface_index: 7, arp_hrd_type: 778 (GRE over IP), packet_type: 0 (Sent to us), sender_address_valid_length: 4, sender_address: [192, 0, 2, 1, 0, 0, 0, 0] }, payload: LinuxSllPayloadSlice { protocol_type: GenericRoutingEncapsulationProtocolType(2048), payload: [69] } })",
     );
     Ok(())
 }
@@ -219,26 +233,50 @@ fn refusal(bytes: &[u8]) -> Option<LinuxSll2Error> {
     }
 }
 
-/// The length is refused first.
+/// Bytes of a header, why they are refused, and the text of that: the length is refused first.
+static REFUSALS: [(&str, &[u8], LinuxSll2Error, &str); 3] = [
+    (
+        "no byte",
+        &[],
+        LinuxSll2Error::Len {
+            required_len: 20,
+            len: 0,
+        },
+        "A header of Linux cooked capture v2 needs 20 byte(s); only 0 are available.",
+    ),
+    (
+        "nineteen bytes of a refused header",
+        &[
+            0x08, 0x00, 0x00, 0x00, 0x00, 0x00, 0x00, 0x03, 0x00, 0x01, 0x08, 0x06, 0x02, 0x00,
+            0x00, 0x00, 0x00, 0x01, 0x00,
+        ],
+        LinuxSll2Error::Len {
+            required_len: 20,
+            len: 19,
+        },
+        "A header of Linux cooked capture v2 needs 20 byte(s); only 19 are available.",
+    ),
+    (
+        "a packet type",
+        &UNSUPPORTED,
+        LinuxSll2Error::PacketType(8),
+        "The packet type 8 of a header of Linux cooked capture v2 is not supported, the maximum is 7.",
+    ),
+];
+
 #[test]
 fn refusals(rt: HostRuntime) -> Result<(), Fail> {
-    let short = |len| LinuxSll2Error::Len {
-        required_len: 20,
-        len,
-    };
-    for (name, bytes, wanted) in [
-        ("no byte", [].as_slice(), short(0)),
-        (
-            "nineteen bytes of a refused header",
-            &UNSUPPORTED[..19],
-            short(19),
-        ),
-        ("a packet type", &UNSUPPORTED, LinuxSll2Error::PacketType(8)),
-    ] {
+    for (name, bytes, wanted, text) in &REFUSALS {
         let view = LinuxSll2HeaderSlice::from_slice(bytes).err();
         let packet = LinuxSll2Slice::from_slice(bytes).err();
         let alike = view == packet && refusal(bytes) == packet;
-        equal(&rt, name, &(packet, alike), &(Some(wanted), true));
+        let shown = format!(in rt.alloc(); "{wanted}")?;
+        equal(
+            &rt,
+            name,
+            &(packet.as_ref(), alike, shown.as_str()),
+            &(Some(wanted), true, *text),
+        );
     }
     equal(
         &rt,
@@ -246,22 +284,5 @@ fn refusals(rt: HostRuntime) -> Result<(), Fail> {
         &LinuxSll2Header::from_bytes(UNSUPPORTED),
         &Err(LinuxSll2Error::PacketType(8)),
     );
-    for (error, text) in [
-        (
-            short(19),
-            "A header of Linux cooked capture v2 needs 20 byte(s); only 19 are available.",
-        ),
-        (
-            LinuxSll2Error::PacketType(8),
-            "The packet type 8 of a header of Linux cooked capture v2 is not supported, the maximum is 7.",
-        ),
-    ] {
-        equal(
-            &rt,
-            "a text",
-            &format!(in rt.alloc(); "{error}")?.as_str(),
-            &text,
-        );
-    }
     Ok(())
 }

@@ -1,10 +1,10 @@
 //! Numbers with a range, numbers of several bytes, and the two types of cooked captures.
-use super::equal;
+use super::{Protocol, equal, protocol_type};
 use ether_base::big_endian;
 use etherparse::err::{ValueTooBigError, ValueType, linux_sll};
 use etherparse::{
-    ArpHardwareId, EtherType, LinuxNonstandardEtherType, LinuxSllPacketType, LinuxSllProtocolType,
-    MacsecAn, MacsecShortLen, VlanId, VlanPcp,
+    ArpHardwareId, LinuxSllPacketType, LinuxSllProtocolType, MacsecAn, MacsecShortLen, VlanId,
+    VlanPcp,
 };
 use std::test::Fail;
 
@@ -24,9 +24,9 @@ const fn above_u8(actual: u8, max_allowed: u8, value_type: ValueType) -> ValueTo
     }
 }
 
-/// The value of a number, the greatest one, and the refusal of one more.
+// the value of a number, the greatest one, and the refusal of one more
 #[test]
-fn with_a_range(rt: HostRuntime) -> Result<(), Fail> {
+fn vlan_identifiers(rt: HostRuntime) -> Result<(), Fail> {
     let (id, greatest) = (VlanId::try_new(100)?, VlanId::try_from(4095)?);
     equal(
         &rt,
@@ -48,6 +48,11 @@ fn with_a_range(rt: HostRuntime) -> Result<(), Fail> {
             Err(above_u16(4096, 4095, ValueType::VlanId)),
         ),
     );
+    Ok(())
+}
+
+#[test]
+fn priority_code_points(rt: HostRuntime) -> Result<(), Fail> {
     let (pcp, greatest) = (VlanPcp::try_new(5)?, VlanPcp::try_from(7)?);
     equal(
         &rt,
@@ -69,6 +74,11 @@ fn with_a_range(rt: HostRuntime) -> Result<(), Fail> {
             Err(above_u8(8, 7, ValueType::VlanPcp)),
         ),
     );
+    Ok(())
+}
+
+#[test]
+fn association_numbers(rt: HostRuntime) -> Result<(), Fail> {
     let (an, greatest) = (MacsecAn::try_new(2)?, MacsecAn::try_from(3)?);
     equal(
         &rt,
@@ -90,6 +100,11 @@ fn with_a_range(rt: HostRuntime) -> Result<(), Fail> {
             Err(above_u8(4, 3, ValueType::MacsecAn)),
         ),
     );
+    Ok(())
+}
+
+#[test]
+fn short_lens(rt: HostRuntime) -> Result<(), Fail> {
     let (len, greatest) = (
         MacsecShortLen::try_from_u8(46)?,
         MacsecShortLen::try_from(63)?,
@@ -117,42 +132,46 @@ fn with_a_range(rt: HostRuntime) -> Result<(), Fail> {
     Ok(())
 }
 
+/// Lengths and short lengths: those above 63 have none.
+static SHORT_LENS: [(&str, usize, u8); 4] = [
+    ("34", 34, 34),
+    ("the greatest", 63, 63),
+    ("one more", 64, 0),
+    ("two more", 65, 0),
+];
+
 #[test]
 fn short_lengths_of_lengths(rt: HostRuntime) {
-    // lengths above 63 have no short length
-    for (len, value) in [(34, 34), (63, 63), (64, 0), (65, 0)] {
+    for &(name, len, value) in &SHORT_LENS {
         let found = MacsecShortLen::from_len(len).value();
-        equal(
-            &rt,
-            "a length",
-            &(len, found, MacsecShortLen::MAX_USIZE),
-            &(len, value, 63),
-        );
+        equal(&rt, name, &(found, MacsecShortLen::MAX_USIZE), &(value, 63));
     }
 }
 
+/// The first byte is the most significant, and comes first.
 #[test]
 fn of_several_bytes(rt: HostRuntime) {
     equal(
         &rt,
-        "the first byte is the most significant",
+        "from and to bytes",
         &(
             big_endian::u16_of([0x88, 0xA8]),
             big_endian::u32_of([192, 0, 2, 1]),
             big_endian::u64_of([0, 0, 0, 0, 0, 0, 1, 2]),
             big_endian::u64_of([0xFF; 8]),
-        ),
-        &(0x88A8, 3_221_225_985, 258, 18_446_744_073_709_551_615),
-    );
-    equal(
-        &rt,
-        "it comes first",
-        &(
             big_endian::bytes_of_u16(0x88A8),
             big_endian::bytes_of_u32(258),
             big_endian::bytes_of_u64(258),
         ),
-        &([0x88, 0xA8], [0, 0, 1, 2], [0, 0, 0, 0, 0, 0, 1, 2]),
+        &(
+            0x88A8,
+            3_221_225_985,
+            258,
+            18_446_744_073_709_551_615,
+            [0x88, 0xA8],
+            [0, 0, 1, 2],
+            [0, 0, 0, 0, 0, 0, 1, 2],
+        ),
     );
 }
 
@@ -201,68 +220,97 @@ fn of_packet_types(rt: HostRuntime) -> Result<(), Fail> {
     Ok(())
 }
 
-/// The dummy type for 802.3 frames.
-const DUMMY: LinuxSllProtocolType = LinuxSllProtocolType::LinuxNonstandardEtherType(
-    LinuxNonstandardEtherType::N802_3,
-);
-
-const IPV4: LinuxSllProtocolType = LinuxSllProtocolType::EtherType(EtherType::IPV4);
-
-fn changed(mut protocol_type: LinuxSllProtocolType, number: u16) -> LinuxSllProtocolType {
-    protocol_type.change_value(number);
-    protocol_type
-}
+/// A hardware type, a number, and the variant that both give, if the hardware type is supported.
+static BY_HARDWARE_TYPE: [(&str, ArpHardwareId, u16, Option<Protocol>); 8] = [
+    (
+        "netlink",
+        ArpHardwareId::NETLINK,
+        123,
+        Some(Protocol::Netlink),
+    ),
+    ("GRE", ArpHardwareId::IPGRE, 123, Some(Protocol::Gre)),
+    (
+        "radiotap",
+        ArpHardwareId::IEEE80211_RADIOTAP,
+        123,
+        Some(Protocol::Ignored),
+    ),
+    (
+        "frame relay",
+        ArpHardwareId::FRAD,
+        123,
+        Some(Protocol::Ignored),
+    ),
+    (
+        "a nonstandard number",
+        ArpHardwareId::ETHERNET,
+        1,
+        Some(Protocol::Dummy),
+    ),
+    (
+        "an ether type",
+        ArpHardwareId::ETHERNET,
+        0x0800,
+        Some(Protocol::EtherType),
+    ),
+    ("SLIP", ArpHardwareId::SLIP, 0x0800, None),
+    ("CSLIP", ArpHardwareId(257), 0x0800, None),
+];
 
 #[test]
 fn of_protocol_types(rt: HostRuntime) {
-    let refused = |arp_hardware_type| {
-        Err(linux_sll::HeaderError::UnsupportedArpHardwareId { arp_hardware_type })
-    };
-    for (hardware, number, wanted) in [
-        (
-            ArpHardwareId::NETLINK,
-            123,
-            Ok(LinuxSllProtocolType::NetlinkProtocolType(123)),
-        ),
-        (
-            ArpHardwareId::IPGRE,
-            123,
-            Ok(LinuxSllProtocolType::GenericRoutingEncapsulationProtocolType(123)),
-        ),
-        (
-            ArpHardwareId::IEEE80211_RADIOTAP,
-            123,
-            Ok(LinuxSllProtocolType::Ignored(123)),
-        ),
-        (
-            ArpHardwareId::FRAD,
-            123,
-            Ok(LinuxSllProtocolType::Ignored(123)),
-        ),
-        (ArpHardwareId::ETHERNET, 1, Ok(DUMMY)),
-        (ArpHardwareId::ETHERNET, 0x0800, Ok(IPV4)),
-        (ArpHardwareId::SLIP, 0x0800, refused(ArpHardwareId::SLIP)),
-        (ArpHardwareId(257), 0x0800, refused(ArpHardwareId(257))),
-    ] {
-        let found = LinuxSllProtocolType::try_from((hardware, number));
+    for &(name, hardware, number, protocol) in &BY_HARDWARE_TYPE {
+        let wanted = match protocol {
+            Some(protocol) => Ok(protocol_type(protocol, number)),
+            None => Err(linux_sll::HeaderError::UnsupportedArpHardwareId {
+                arp_hardware_type: hardware,
+            }),
+        };
         let is_supported = LinuxSllProtocolType::SUPPORTED_ARPHWD.contains(&hardware);
-        let written = wanted.as_ref().ok().map(|protocol| u16::from(*protocol));
+        equal(&rt, name, &is_supported, &protocol.is_some());
         equal(
             &rt,
-            "by hardware type",
-            &(is_supported, written.unwrap_or(number), found),
-            &(wanted.is_ok(), number, wanted),
+            name,
+            &LinuxSllProtocolType::try_from((hardware, number)),
+            &wanted,
         );
+        if let Some(protocol) = protocol {
+            let written = u16::from(protocol_type(protocol, number));
+            equal(&rt, name, &written, &number);
+        }
     }
-    for (before, number, after) in [
-        (IPV4, 1, DUMMY),
-        (DUMMY, 0, LinuxSllProtocolType::EtherType(EtherType(0))),
-        (
-            LinuxSllProtocolType::Ignored(5),
-            1,
-            LinuxSllProtocolType::Ignored(1),
-        ),
-    ] {
-        equal(&rt, "another number", &changed(before, number), &after);
+}
+
+/// A protocol with its number, another number, and the protocol with that.
+static CHANGES: [(&str, Protocol, u16, u16, Protocol); 3] = [
+    (
+        "to a nonstandard number",
+        Protocol::EtherType,
+        0x0800,
+        1,
+        Protocol::Dummy,
+    ),
+    (
+        "to an ether type",
+        Protocol::Dummy,
+        1,
+        0,
+        Protocol::EtherType,
+    ),
+    (
+        "of an ignored number",
+        Protocol::Ignored,
+        5,
+        1,
+        Protocol::Ignored,
+    ),
+];
+
+#[test]
+fn of_changed_protocol_types(rt: HostRuntime) {
+    for &(name, before, number, other, after) in &CHANGES {
+        let mut changed = protocol_type(before, number);
+        changed.change_value(other);
+        equal(&rt, name, &changed, &protocol_type(after, other));
     }
 }

@@ -1,5 +1,5 @@
 //! VLAN tags, one or two.
-use super::{cut_short, equal, ipv4};
+use super::{equal, ipv4};
 use crate::test_frames::{TAG, TAGGED_ARP_REQUEST, TWICE_TAGGED_ARP_REQUEST, TWO_TAGS};
 use etherparse::err::Layer;
 use etherparse::{
@@ -18,16 +18,17 @@ fn tag(ether_type: EtherType) -> Result<SingleVlanHeader, Fail> {
     })
 }
 
+/// A frame, where a tag with its payload begins, and the next ether type.
+static TAGS: [(&str, &[u8], usize, EtherType); 2] = [
+    ("a tag", &TAG, 0, EtherType::IPV4),
+    ("a captured tag", &TAGGED_ARP_REQUEST, 14, EtherType::ARP),
+];
+
 #[test]
 fn headers(rt: HostRuntime) -> Result<(), Fail> {
-    for (name, bytes, header) in [
-        ("a tag", TAG.as_slice(), tag(EtherType::IPV4)?),
-        (
-            "a captured tag",
-            &TAGGED_ARP_REQUEST[14..],
-            tag(EtherType::ARP)?,
-        ),
-    ] {
+    for &(name, frame, start, ether_type) in &TAGS {
+        let bytes = frame.get(start..).unwrap_or(&[]);
+        let header = tag(ether_type)?;
         let written = header.to_bytes();
         let rest = bytes.get(4..).unwrap_or(&[]);
         equal(
@@ -47,6 +48,11 @@ fn headers(rt: HostRuntime) -> Result<(), Fail> {
             ),
         );
     }
+    Ok(())
+}
+
+#[test]
+fn the_example(rt: HostRuntime) -> Result<(), Fail> {
     let mut changed = SingleVlanHeader::from_bytes([0xB1, 0x23, 0x08, 0x00]);
     changed.vlan_id = VlanId::try_new(100)?;
     equal(
@@ -76,8 +82,8 @@ fn slices_that_are_too_short(rt: HostRuntime) {
                 SingleVlanHeader::read_from_slice(bytes),
             ),
             &(
-                Err(cut_short(4, len, Layer::VlanHeader)),
-                Err(cut_short(4, len, Layer::VlanHeader)),
+                Err(cut_short!(4, len, Layer::VlanHeader)),
+                Err(cut_short!(4, len, Layer::VlanHeader)),
             ),
         );
         equal(
@@ -88,8 +94,8 @@ fn slices_that_are_too_short(rt: HostRuntime) {
                 SingleVlanSlice::from_slice(bytes).err(),
             ),
             &(
-                Some(cut_short(4, len, Layer::VlanHeader)),
-                Some(cut_short(4, len, Layer::VlanHeader)),
+                Some(cut_short!(4, len, Layer::VlanHeader)),
+                Some(cut_short!(4, len, Layer::VlanHeader)),
             ),
         );
     }
@@ -118,10 +124,13 @@ fn views_of_one_tag(rt: HostRuntime) -> Result<(), Fail> {
             true,
         ),
     );
-    for (name, bytes, ether_type) in [
-        ("a tag and its payload", TAG.as_slice(), EtherType::IPV4),
-        ("a captured one", &TAGGED_ARP_REQUEST[14..], EtherType::ARP),
-    ] {
+    Ok(())
+}
+
+#[test]
+fn views_with_payloads(rt: HostRuntime) -> Result<(), Fail> {
+    for &(name, frame, start, ether_type) in &TAGS {
+        let bytes = frame.get(start..).unwrap_or(&[]);
         let view = SingleVlanSlice::from_slice(bytes)?;
         let rest = bytes.get(4..).unwrap_or(&[]);
         equal(
@@ -191,6 +200,11 @@ fn views_of_two_tags(rt: HostRuntime) -> Result<(), Fail> {
         ),
         &(10, EtherType::VLAN_TAGGED_FRAME, 100, EtherType::ARP),
     );
+    Ok(())
+}
+
+#[test]
+fn the_default_announces_the_inner_tag(rt: HostRuntime) -> Result<(), Fail> {
     let mut made = DoubleVlanHeader::default();
     made.outer.vlan_id = VlanId::try_new(10)?;
     made.inner.vlan_id = VlanId::try_new(100)?;
@@ -210,40 +224,27 @@ fn one_tag_or_two(rt: HostRuntime) -> Result<(), Fail> {
     let inner = SingleVlanHeader::from_bytes([0x00, 0x02, 0x08, 0x00]);
     let single = VlanSlice::SingleVlan(SingleVlanSlice::from_slice(&TWO_TAGS)?);
     let double = VlanSlice::DoubleVlan(two_tags(&TWO_TAGS)?);
-    for (name, view, header, next, payload) in [
-        (
-            "one tag",
-            single,
-            VlanHeader::Single(outer),
-            EtherType(0x8100),
-            &TWO_TAGS[4..],
-        ),
-        (
-            "two tags",
-            double,
-            VlanHeader::Double(DoubleVlanHeader { outer, inner }),
-            EtherType::IPV4,
-            &TWO_TAGS[8..],
-        ),
-    ] {
-        let found = view.payload();
-        equal(
-            &rt,
-            name,
-            &(
-                view.to_header(),
-                header.next_header(),
-                found.ether_type,
-                found.payload,
-            ),
-            &(header, next, next, payload),
-        );
-    }
+    let headers = [
+        VlanHeader::Single(outer),
+        VlanHeader::Double(DoubleVlanHeader { outer, inner }),
+    ];
     equal(
         &rt,
-        "the types that announce a tag",
-        &VlanHeader::VLAN_ETHER_TYPES,
-        &[EtherType(0x8100), EtherType(0x88A8), EtherType(0x9100)],
+        "one tag, and two, with the types that announce a tag",
+        &(
+            [single.to_header(), double.to_header()],
+            [headers[0].next_header(), headers[1].next_header()],
+            (single.payload().ether_type, single.payload().payload),
+            double.payload(),
+            VlanHeader::VLAN_ETHER_TYPES,
+        ),
+        &(
+            headers,
+            [EtherType(0x8100), EtherType::IPV4],
+            (EtherType(0x8100), &TWO_TAGS[4..]),
+            ipv4(&[0x45]),
+            [EtherType(0x8100), EtherType(0x88A8), EtherType(0x9100)],
+        ),
     );
     Ok(())
 }
@@ -255,25 +256,25 @@ fn shown_by_debug(rt: HostRuntime) -> Result<(), Fail> {
     let single = SingleVlanSlice::from_slice(&TAG)?;
     let double = two_tags(&TWO_TAGS)?;
     let either = VlanSlice::SingleVlan(SingleVlanSlice::from_slice(&TAG)?);
-    let value = VlanHeader::Single(tag);
-    let shown = format!(in rt.alloc(); "{tag:?}\n{header:?}\n{single:?}\n{either:?}\n{value:?}")?;
+    let value = VlanHeader::Single(single.to_header());
+    let shown = format!(in rt.alloc(); "{:?}", (tag, header, single, either, value))?;
     equal(
         &rt,
         "one tag",
         &shown.as_str(),
-        &"SingleVlanHeader { pcp: VlanPcp(5), drop_eligible_indicator: true, vlan_id: VlanId(291), ether_type: 0x0800 (Internet Protocol version 4 (IPv4)) }\n\
-SingleVlanHeaderSlice { slice: [177, 35, 8, 0] }\n\
-SingleVlanSlice { header: SingleVlanHeader { pcp: VlanPcp(5), drop_eligible_indicator: true, vlan_id: VlanId(291), ether_type: 0x0800 (Internet Protocol version 4 (IPv4)) }, payload: EtherPayloadSlice { ether_type: 0x0800 (Internet Protocol version 4 (IPv4)), len_source: Slice, payload: [69] } }\n\
-SingleVlan(SingleVlanSlice { header: SingleVlanHeader { pcp: VlanPcp(5), drop_eligible_indicator: true, vlan_id: VlanId(291), ether_type: 0x0800 (Internet Protocol version 4 (IPv4)) }, payload: EtherPayloadSlice { ether_type: 0x0800 (Internet Protocol version 4 (IPv4)), len_source: Slice, payload: [69] } })\n\
-Single(SingleVlanHeader { pcp: VlanPcp(5), drop_eligible_indicator: true, vlan_id: VlanId(291), ether_type: 0x0800 (Internet Protocol version 4 (IPv4)) })",
+        &"(SingleVlanHeader { pcp: VlanPcp(5), drop_eligible_indicator: true, vlan_id: VlanId(291), ether_type: 0x0800 (Internet Protocol version 4 (IPv4)) }, \
+SingleVlanHeaderSlice { slice: [177, 35, 8, 0] }, \
+SingleVlanSlice { header: SingleVlanHeader { pcp: VlanPcp(5), drop_eligible_indicator: true, vlan_id: VlanId(291), ether_type: 0x0800 (Internet Protocol version 4 (IPv4)) }, payload: EtherPayloadSlice { ether_type: 0x0800 (Internet Protocol version 4 (IPv4)), len_source: Slice, payload: [69] } }, \
+SingleVlan(SingleVlanSlice { header: SingleVlanHeader { pcp: VlanPcp(5), drop_eligible_indicator: true, vlan_id: VlanId(291), ether_type: 0x0800 (Internet Protocol version 4 (IPv4)) }, payload: EtherPayloadSlice { ether_type: 0x0800 (Internet Protocol version 4 (IPv4)), len_source: Slice, payload: [69] } }), \
+Single(SingleVlanHeader { pcp: VlanPcp(5), drop_eligible_indicator: true, vlan_id: VlanId(291), ether_type: 0x0800 (Internet Protocol version 4 (IPv4)) }))",
     );
-    let shown = format!(in rt.alloc(); "{double:?}\n{:?}", DoubleVlanHeader::default())?;
+    let shown = format!(in rt.alloc(); "{:?}", (double, DoubleVlanHeader::default()))?;
     equal(
         &rt,
         "two tags",
         &shown.as_str(),
-        &"DoubleVlanSlice { outer: SingleVlanHeader { pcp: VlanPcp(0), drop_eligible_indicator: false, vlan_id: VlanId(1), ether_type: 0x8100 (Customer VLAN Tag (C-TAG) as defined in IEEE Std 802.1Q) }, inner: SingleVlanHeader { pcp: VlanPcp(0), drop_eligible_indicator: false, vlan_id: VlanId(2), ether_type: 0x0800 (Internet Protocol version 4 (IPv4)) }, payload: EtherPayloadSlice { ether_type: 0x0800 (Internet Protocol version 4 (IPv4)), len_source: Slice, payload: [69] } }\n\
-DoubleVlanHeader { outer: SingleVlanHeader { pcp: VlanPcp(0), drop_eligible_indicator: false, vlan_id: VlanId(0), ether_type: 0x8100 (Customer VLAN Tag (C-TAG) as defined in IEEE Std 802.1Q) }, inner: SingleVlanHeader { pcp: VlanPcp(0), drop_eligible_indicator: false, vlan_id: VlanId(0), ether_type: 0x0000 } }",
+        &"(DoubleVlanSlice { outer: SingleVlanHeader { pcp: VlanPcp(0), drop_eligible_indicator: false, vlan_id: VlanId(1), ether_type: 0x8100 (Customer VLAN Tag (C-TAG) as defined in IEEE Std 802.1Q) }, inner: SingleVlanHeader { pcp: VlanPcp(0), drop_eligible_indicator: false, vlan_id: VlanId(2), ether_type: 0x0800 (Internet Protocol version 4 (IPv4)) }, payload: EtherPayloadSlice { ether_type: 0x0800 (Internet Protocol version 4 (IPv4)), len_source: Slice, payload: [69] } }, \
+DoubleVlanHeader { outer: SingleVlanHeader { pcp: VlanPcp(0), drop_eligible_indicator: false, vlan_id: VlanId(0), ether_type: 0x8100 (Customer VLAN Tag (C-TAG) as defined in IEEE Std 802.1Q) }, inner: SingleVlanHeader { pcp: VlanPcp(0), drop_eligible_indicator: false, vlan_id: VlanId(0), ether_type: 0x0000 } })",
     );
     Ok(())
 }
