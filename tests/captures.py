@@ -112,7 +112,7 @@ ENHANCED, OBSOLETE = (6, "00000000"), (2, "0000 0500")
 
 
 def long_record(len_, captured):
-    """A classic capture of one record of zeros with this captured length, of which some bytes are there."""
+    """A classic capture of one record with this captured length. So many bytes of it are there, all zeros."""
     return CLASSIC[:24] + bytes(8) + len_.to_bytes(4, "big") + bytes(4) + bytes(captured)
 
 
