@@ -10,7 +10,7 @@ use std::fmt::{self, Display};
 ///
 /// Each format gives it a name of its own, with the format's error of contents: `err::linux_sll::HeaderSliceError` and
 /// `err::macsec::HeaderSliceError`. `Display` gives the text of the error within.
-#[derive(Clone, PartialEq, Eq, Hash, Debug, Drop)]
+#[derive(Clone, Copy, PartialEq, Eq, Hash, Debug)]
 pub enum HeaderSliceError<E> {
     /// The slice is too short.
     Len(LenError),

@@ -15,7 +15,7 @@ use std::fmt;
 ///     "A header follows the SecTag at index 1, whose payload is encrypted or changed."
 /// );
 /// ```
-#[derive(Clone, PartialEq, Eq, Debug, Drop)]
+#[derive(Clone, Copy, PartialEq, Eq, Debug)]
 pub enum BuildError {
     /// The header of cooked capture has this hardware type, which is not that of Ethernet, so no ether type can follow.
     HardwareType(ArpHardwareId),

@@ -14,7 +14,7 @@ use std::fmt;
 ///     "There is no VLAN tag or SecTag at this index: the frame has 1."
 /// );
 /// ```
-#[derive(Clone, PartialEq, Eq, Debug, Drop)]
+#[derive(Clone, Copy, PartialEq, Eq, Debug)]
 pub enum ReplaceError {
     /// The frame does not begin with the header of a link.
     NoLink,

@@ -14,7 +14,7 @@ use std::fmt;
 ///     "No VLAN tag is announced by the ether type 2048."
 /// );
 /// ```
-#[derive(Clone, PartialEq, Eq, Debug, Drop)]
+#[derive(Clone, Copy, PartialEq, Eq, Debug)]
 pub enum TagError {
     /// This ether type announces no VLAN tag: it is none of 0x8100, 0x88A8 and 0x9100.
     Tpid(EtherType),

@@ -7,7 +7,7 @@ use std::error::Error;
 use std::fmt::{self, Display};
 
 /// Why a unit is refused. `Display` gives the text of the error within.
-#[derive(Clone, PartialEq, Eq, Debug, Drop)]
+#[derive(Clone, Copy, PartialEq, Eq, Debug)]
 pub enum PeelError {
     /// The unit needs more bytes than there are.
     Len(LenError),

@@ -10,7 +10,7 @@ use std::fmt;
 /// A unit that is refused, which ends a walk.
 ///
 /// `Display` gives `at offset O: ` and the text of the error.
-#[derive(Clone, PartialEq, Eq, Drop)]
+#[derive(Clone, Copy, PartialEq, Eq)]
 pub struct PeelFault {
     /// Where the unit starts, in bytes from the start of the frame.
     pub offset: usize,

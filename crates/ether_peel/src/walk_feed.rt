@@ -2,7 +2,7 @@
 use crate::PeelFault;
 
 /// The result of [`feed`](crate::feed): how often a walk asked for more bytes, how many it took, and how it ended.
-#[derive(Clone, PartialEq, Eq, Debug, Drop)]
+#[derive(Clone, Copy, PartialEq, Eq, Debug)]
 pub struct Feed {
     /// How often the walk asked for more bytes and was given them.
     pub refusals: usize,

@@ -2,7 +2,7 @@
 use crate::{PeelFault, RestKind};
 
 /// The result of the walk through a frame.
-#[derive(Clone, PartialEq, Eq, Debug, Drop)]
+#[derive(Clone, Copy, PartialEq, Eq, Debug)]
 pub struct Summary {
     /// The number of units.
     pub units: usize,

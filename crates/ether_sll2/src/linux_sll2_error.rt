@@ -17,7 +17,7 @@ use std::fmt;
 ///     "A header of Linux cooked capture v2 needs 20 byte(s); only 19 are available."
 /// );
 /// ```
-#[derive(Clone, PartialEq, Eq, Debug, Drop)]
+#[derive(Clone, Copy, PartialEq, Eq, Debug)]
 pub enum LinuxSll2Error {
     /// The slice is too short.
     Len {

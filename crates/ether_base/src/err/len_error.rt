@@ -21,7 +21,7 @@ use std::fmt;
 /// };
 /// assert_eq!(rt; error.add_offset(14).layer_start_offset, 14);
 /// ```
-#[derive(Clone, PartialEq, Eq, Hash, Debug, Drop)]
+#[derive(Clone, Copy, PartialEq, Eq, Hash, Debug)]
 pub struct LenError {
     /// The length that is required; if `len` is no smaller, the greatest length that is allowed.
     pub required_len: usize,

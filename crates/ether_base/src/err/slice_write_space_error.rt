@@ -22,7 +22,7 @@ use std::fmt;
 ///     "Not enough space to write Ethernet 2 header to slice. Needed 14 byte(s), but only 13 byte(s) were available."
 /// );
 /// ```
-#[derive(Clone, PartialEq, Eq, Hash, Debug, Drop)]
+#[derive(Clone, Copy, PartialEq, Eq, Hash, Debug)]
 pub struct SliceWriteSpaceError {
     /// The length that the layer requires.
     pub required_len: usize,

@@ -16,7 +16,7 @@ use std::hash::Hash;
 /// };
 /// assert_eq!(rt; VlanPcp::try_new(8), Err(refused));
 /// ```
-#[derive(Clone, PartialEq, Eq, Hash, Debug, Drop)]
+#[derive(Clone, Copy, PartialEq, Eq, Hash, Debug)]
 pub struct ValueTooBigError<T: Clone + Display + Debug + Eq + Hash> {
     /// The value that was passed in.
     pub actual: T,

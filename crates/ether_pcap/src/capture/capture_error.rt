@@ -21,7 +21,7 @@ use std::fmt;
 ///     "A packet of a pcapng file names interface 3, which its section does not describe."
 /// );
 /// ```
-#[derive(Clone, PartialEq, Eq, Debug, Drop)]
+#[derive(Clone, Copy, PartialEq, Eq, Debug)]
 pub enum CaptureError {
     /// The file begins neither with the header of a classic file nor with the type of a section header.
     File(FileHeaderError),

@@ -18,7 +18,7 @@ use std::fmt;
 ///     "At byte 24: A packet of a pcapng file names interface 3, which its section does not describe."
 /// );
 /// ```
-#[derive(Clone, PartialEq, Eq, Debug, Drop)]
+#[derive(Clone, Copy, PartialEq, Eq, Debug)]
 pub struct CaptureFault {
     /// The place of the file header, record or block that can't be read, from the start of the file.
     pub offset: usize,

@@ -14,7 +14,7 @@ use std::fmt;
 ///     "The magic number 0x0A0D0D0A is not that of a pcap file."
 /// );
 /// ```
-#[derive(Clone, PartialEq, Eq, Debug, Drop)]
+#[derive(Clone, Copy, PartialEq, Eq, Debug)]
 pub enum FileHeaderError {
     /// The slice is too short.
     Len {

@@ -17,7 +17,7 @@ use std::fmt;
 ///     "A record of a pcap file needs 76 byte(s); only 20 are available."
 /// );
 /// ```
-#[derive(Clone, PartialEq, Eq, Debug, Drop)]
+#[derive(Clone, Copy, PartialEq, Eq, Debug)]
 pub enum RecordError {
     /// The slice is too short.
     Len {

@@ -21,7 +21,7 @@ use std::fmt;
 ///     "At byte 24: A record of a pcap file needs 16 byte(s); only 3 are available."
 /// );
 /// ```
-#[derive(Clone, PartialEq, Eq, Debug, Drop)]
+#[derive(Clone, Copy, PartialEq, Eq, Debug)]
 pub struct RecordFault {
     /// The place of the record, from the start of the file.
     pub offset: usize,

@@ -13,7 +13,7 @@ use std::fmt;
 ///     "A block of a pcapng file cannot have 13 byte(s)."
 /// );
 /// ```
-#[derive(Clone, PartialEq, Eq, Debug, Drop)]
+#[derive(Clone, Copy, PartialEq, Eq, Debug)]
 pub enum BlockError {
     /// The slice is too short.
     Len {

@@ -13,7 +13,7 @@ use std::fmt;
 ///     "A block of a pcapng file cannot have 262145 captured byte(s), the maximum is 262144."
 /// );
 /// ```
-#[derive(Clone, PartialEq, Eq, Debug, Drop)]
+#[derive(Clone, Copy, PartialEq, Eq, Debug)]
 pub enum BodyError {
     /// The body is too short for its fields, or for its captured bytes.
     Len {

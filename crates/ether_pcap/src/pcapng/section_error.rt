@@ -15,7 +15,7 @@ use std::fmt;
 ///     "The byte-order magic 0x1A2B3C4E is not that of a pcapng file."
 /// );
 /// ```
-#[derive(Clone, PartialEq, Eq, Debug, Drop)]
+#[derive(Clone, Copy, PartialEq, Eq, Debug)]
 pub enum SectionError {
     /// The slice is too short for a type, a length and a byte-order magic.
     Len {

@@ -16,7 +16,7 @@ use std::fmt;
 ///     "Hardware address size is expected to be 6 but is 8"
 /// );
 /// ```
-#[derive(Clone, PartialEq, Eq, Hash, Debug, Drop)]
+#[derive(Clone, Copy, PartialEq, Eq, Hash, Debug)]
 pub enum ArpEthIpv4FromError {
     /// The hardware type is not Ethernet's, 1.
     NonMatchingHwType(ArpHardwareId),

@@ -14,7 +14,7 @@ use std::fmt;
 ///     "ARP Hardware Address Error: Given hardware address has a length of 256 which is greater then the maximum of 255."
 /// );
 /// ```
-#[derive(Clone, PartialEq, Eq, Hash, Debug, Drop)]
+#[derive(Clone, Copy, PartialEq, Eq, Hash, Debug)]
 pub enum ArpHwAddrError {
     /// The addresses are longer than 255 bytes; this is their length.
     LenTooBig(usize),

@@ -14,7 +14,7 @@ use std::fmt;
 ///     "ARP Protocol Address Error: Given protocol address has a length of 256 which is greater then the maximum of 255."
 /// );
 /// ```
-#[derive(Clone, PartialEq, Eq, Hash, Debug, Drop)]
+#[derive(Clone, Copy, PartialEq, Eq, Hash, Debug)]
 pub enum ArpProtoAddrError {
     /// The addresses are longer than 255 bytes; this is their length.
     LenTooBig(usize),

@@ -13,7 +13,7 @@ use std::fmt;
 /// let refused = HeaderError::UnsupportedPacketTypeField { packet_type: 8 };
 /// assert_eq!(rt; LinuxSllPacketType::try_from(8), Err(refused));
 /// ```
-#[derive(Clone, PartialEq, Eq, Hash, Debug, Drop)]
+#[derive(Clone, Copy, PartialEq, Eq, Hash, Debug)]
 pub enum HeaderError {
     /// The packet type is above 7.
     UnsupportedPacketTypeField {

@@ -14,7 +14,7 @@ use std::fmt;
 ///     "MACsec Header Error: Encountered '1' as MACsec version in the MACsec SecTag header (must be '0')."
 /// );
 /// ```
-#[derive(Clone, PartialEq, Eq, Hash, Debug, Drop)]
+#[derive(Clone, Copy, PartialEq, Eq, Hash, Debug)]
 pub enum HeaderError {
     /// The version bit V is 1.
     UnexpectedVersion,
