@@ -1,5 +1,5 @@
 -- What the kit's hexadecimal text is in the formatter's digits.
-use Rattle.std.proofs.Common.{◌≡◌, ℕ, zero, suc, ◌/◌, ◌%◌, ◌<◌, ◌==◌, ◌&&◌, Bool, true, false, List, [], ◌∷◌, ◌++◌, slice_index, slice_index_or, length, refl, inl, inr, arith}
+use Rattle.std.proofs.Common.{◌≡◌, ℕ, zero, suc, ◌+◌, ◌/◌, ◌%◌, ◌<◌, ◌==◌, ◌&&◌, Bool, true, false, List, [], ◌∷◌, ◌++◌, slice_index, slice_index_or, length, refl, ap, ◌∙◌, inl, inr, arith}
 use Rattle.std.proofs.lemmas.Bool.{and_parts, cases_lt, eqb-true}
 use Rattle.std.specs.Fmt.{digit_glyph}
 use Rattle.hex.specs.Hex.{lower_digits, encode_with, encode_lower}
@@ -42,38 +42,25 @@ encoded (b ∷ bytes) h =
 
 -- ---- the table of pairs
 
--- the test of one entry, which computes
-abbrev is_pair : List ℕ → ℕ → Bool
-is_pair (a ∷ b ∷ []) n = (a == digit_glyph false (n / 16)) && (b == digit_glyph false (n % 16))
-is_pair _ n = false
+-- the digits of so many bytes, from one on
+abbrev pairs_from : (byte n : ℕ) → List (List ℕ)
+pairs_from byte zero = []
+pairs_from byte (suc n) = hex_byte false byte ∷ pairs_from (suc byte) n
 
-is_pair-same : (l : List ℕ) (n : ℕ) → is_pair l n ≡ true → l ≡ hex_byte false n
-is_pair-same [] n h = cc
-is_pair-same (a ∷ []) n h = cc
-is_pair-same (a ∷ b ∷ []) n h =
-    let parts = and_parts (a == digit_glyph false (n / 16)) (b == digit_glyph false (n % 16)) h in
-    let high = eqb-true a _ parts.0 in
-    let low = eqb-true b _ parts.1 in
-    λ i. high i ∷ low i ∷ []
-is_pair-same (a ∷ b ∷ c ∷ l) n h = cc
+pair_in : (byte n k : ℕ) → k < n → slice_index_or (pairs_from byte n) k [] ≡ hex_byte false (byte + k)
+pair_in byte zero k lt = absurd (omega arith)
+pair_in byte (suc n) zero lt = let e : byte ≡ byte + 0 = omega arith in ap (hex_byte false) e
+pair_in byte (suc n) (suc k) lt =
+    let e : suc byte + k ≡ byte + suc k = omega arith in
+    pair_in (suc byte) n k (omega arith) ∙ ap (hex_byte false) e
 
-abbrev are_pairs : ℕ → Bool
-are_pairs zero = true
-are_pairs (suc n) = is_pair (slice_index_or PAIRS n []) n && are_pairs n
-
-pair_below : (n k : ℕ) → are_pairs n ≡ true → k < n → slice_index_or PAIRS k [] ≡ hex_byte false k
-pair_below zero k h lt = absurd (omega arith)
-pair_below (suc n) k h lt =
-    let parts = and_parts (is_pair (slice_index_or PAIRS n []) n) (are_pairs n) h in
-    elim (cases_lt k n) [
-      | inl below ↦ pair_below n k parts.1 below
-      | inr top ↦
-          let e : k ≡ n = omega arith in
-          rw e (is_pair-same (slice_index_or PAIRS n []) n parts.0)
-    ]
+is_table : PAIRS ≡ pairs_from 0 256
+is_table = refl
 
 pub pair_at : (k : ℕ) → k < 256 → slice_index_or PAIRS k [] ≡ hex_byte false k
-pair_at k lt = pair_below 256 k refl lt
+pair_at k lt =
+    let e : 0 + k ≡ k = omega arith in
+    ap (λ (l : List (List ℕ)). slice_index_or l k []) is_table ∙ pair_in 0 256 k lt ∙ ap (hex_byte false) e
 
 -- the digits of six bytes
 pub of_six : (l : List ℕ) → length l ≡ 6

@@ -32,6 +32,21 @@ pub fn write_unit<W: Sink>(
 )
     ensures { Takes W.contents W.can_fail out.old (view_text start len closed unit.now ++ codes "\n") out.new }
 {
+    write_view(out, start, len, closed, unit);
+    out.append(b"\n");
+}
+
+/// Writes the text of a unit.
+#[inline(always)]
+fn write_view<W: Sink>(
+    out: &mut OutputBuffer<'_, W>,
+    start: usize,
+    len: usize,
+    closed: bool,
+    unit: &PeelUnit<'_>,
+)
+    ensures { Takes W.contents W.can_fail out.old (view_text start len closed unit.now) out.new }
+{
     match unit {
         PeelUnit::Ethernet2(slice) => write_ethernet2(out, start, slice),
         PeelUnit::LinuxSll(slice) => write_linux_sll(out, start, slice),
@@ -39,7 +54,6 @@ pub fn write_unit<W: Sink>(
         PeelUnit::Macsec(slice) => write_macsec(out, start, &slice.header, len, closed),
         PeelUnit::Arp(slice) => write_arp(out, start, slice),
     }
-    out.append(b"\n");
 }
 
 /// Writes the text of an Ethernet II header.

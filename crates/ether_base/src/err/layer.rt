@@ -99,38 +99,45 @@ impl Layer {
             Layer::Arp => "Address Resolution Protocol Packet Error",
         }
     }
+
+    /// The name within a text.
+    fn name(&self) -> &'static str
+        ensures { result.now ≡ layer_name self.now }
+    {
+        match self {
+            Layer::LinuxSllHeader => "Linux Cooked Capture v1 header",
+            Layer::Ethernet2Header => "Ethernet 2 header",
+            Layer::EtherPayload => "Ether type payload",
+            Layer::VlanHeader => "VLAN header",
+            Layer::MacsecHeader => "MACsec header",
+            Layer::MacsecPacket => "MACsec packet",
+            Layer::IpHeader => "IP header",
+            Layer::Ipv4Header => "IPv4 header",
+            Layer::Ipv4Packet => "IPv4 packet",
+            Layer::IpAuthHeader => "IP Authentication header",
+            Layer::Ipv6Header => "IPv6 header",
+            Layer::Ipv6Packet => "IPv6 packet",
+            Layer::Ipv6ExtHeader => "IPv6 extension header",
+            Layer::Ipv6HopByHopHeader => "IPv6 hop-by-hop option header",
+            Layer::Ipv6DestOptionsHeader => "IPv6 destination options header",
+            Layer::Ipv6RouteHeader => "IPv6 routing header",
+            Layer::Ipv6FragHeader => "IPv6 fragment header",
+            Layer::UdpHeader => "UDP header",
+            Layer::UdpPayload => "UDP payload",
+            Layer::TcpHeader => "TCP header",
+            Layer::Icmpv4 => "ICMP packet",
+            Layer::Icmpv4Timestamp => "ICMP timestamp message",
+            Layer::Icmpv4TimestampReply => "ICMP timestamp reply message",
+            Layer::Icmpv6 => "ICMPv6 packet",
+            Layer::Arp => "Address Resolution Protocol packet",
+        }
+    }
 }
 
 impl fmt::Display for Layer {
     ghost output = { λ layer. Some (layer_name layer) };
 
     fn fmt<W: fmt::Write>(&self, f: &mut fmt::Formatter<W>) -> fmt::Result {
-        match self {
-            Layer::LinuxSllHeader => write!(f, "Linux Cooked Capture v1 header"),
-            Layer::Ethernet2Header => write!(f, "Ethernet 2 header"),
-            Layer::EtherPayload => write!(f, "Ether type payload"),
-            Layer::VlanHeader => write!(f, "VLAN header"),
-            Layer::MacsecHeader => write!(f, "MACsec header"),
-            Layer::MacsecPacket => write!(f, "MACsec packet"),
-            Layer::IpHeader => write!(f, "IP header"),
-            Layer::Ipv4Header => write!(f, "IPv4 header"),
-            Layer::Ipv4Packet => write!(f, "IPv4 packet"),
-            Layer::IpAuthHeader => write!(f, "IP Authentication header"),
-            Layer::Ipv6Header => write!(f, "IPv6 header"),
-            Layer::Ipv6Packet => write!(f, "IPv6 packet"),
-            Layer::Ipv6ExtHeader => write!(f, "IPv6 extension header"),
-            Layer::Ipv6HopByHopHeader => write!(f, "IPv6 hop-by-hop option header"),
-            Layer::Ipv6DestOptionsHeader => write!(f, "IPv6 destination options header"),
-            Layer::Ipv6RouteHeader => write!(f, "IPv6 routing header"),
-            Layer::Ipv6FragHeader => write!(f, "IPv6 fragment header"),
-            Layer::UdpHeader => write!(f, "UDP header"),
-            Layer::UdpPayload => write!(f, "UDP payload"),
-            Layer::TcpHeader => write!(f, "TCP header"),
-            Layer::Icmpv4 => write!(f, "ICMP packet"),
-            Layer::Icmpv4Timestamp => write!(f, "ICMP timestamp message"),
-            Layer::Icmpv4TimestampReply => write!(f, "ICMP timestamp reply message"),
-            Layer::Icmpv6 => write!(f, "ICMPv6 packet"),
-            Layer::Arp => write!(f, "Address Resolution Protocol packet"),
-        }
+        f.write_str(self.name())
     }
 }

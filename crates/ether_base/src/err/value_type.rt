@@ -1,5 +1,5 @@
 //! The field that a value was too big for.
-ghost use Rattle.std.specs.Prelude.{Some};
+ghost use Rattle.std.specs.Prelude.{◌≡◌, Some};
 ghost use Rattle.ether_base.specs.Enumerations.ValueType.{value_type_name};
 
 use std::fmt;
@@ -48,28 +48,37 @@ pub enum ValueType {
     LinuxSllType,
 }
 
+impl ValueType {
+    /// The name within a text.
+    #[rattlefmt::skip]
+    fn name(&self) -> &'static str
+        ensures { result.now ≡ value_type_name self.now }
+    {
+        match self {
+            ValueType::VlanId => "VLAN ID",
+            ValueType::VlanPcp => "VLAN PCP (Priority Code Point)",
+            ValueType::MacsecAn => "MACsec AN (Association Number)",
+            ValueType::MacsecShortLen => "MACsec SL (Short Length)",
+            ValueType::IpFragmentOffset => "IP Fragment Offset",
+            ValueType::IpDscp => "IPv4 DSCP (Differentiated Services Code Point)",
+            ValueType::IpEcn => "IPv4 ECN (Explicit Congestion Notification)",
+            ValueType::Ipv6FlowLabel => "IPv6 Flow Label",
+            ValueType::Ipv4PayloadLength => "IPv4 Header 'Payload Length' (sets 'Total Length')",
+            ValueType::Ipv6PayloadLength => "IPv6 Header 'Payload Length'",
+            ValueType::UdpPayloadLengthIpv4 => "UDP Payload Length (in IPv4 checksum calculation)",
+            ValueType::UdpPayloadLengthIpv6 => "UDP Payload Length (in IPv6 checksum calculation)",
+            ValueType::TcpPayloadLengthIpv4 => "TCP Payload Length (in IPv4 checksum calculation)",
+            ValueType::TcpPayloadLengthIpv6 => "TCP Payload Length (in IPv6 checksum calculation)",
+            ValueType::Icmpv6PayloadLength => "ICMPv6 Payload Length",
+            ValueType::LinuxSllType => "Linux Cooked Capture v1 (SLL)",
+        }
+    }
+}
+
 impl fmt::Display for ValueType {
     ghost output = { λ value_type. Some (value_type_name value_type) };
 
-    #[rattlefmt::skip]
     fn fmt<W: fmt::Write>(&self, f: &mut fmt::Formatter<W>) -> fmt::Result {
-        match self {
-            ValueType::VlanId => write!(f, "VLAN ID"),
-            ValueType::VlanPcp => write!(f, "VLAN PCP (Priority Code Point)"),
-            ValueType::MacsecAn => write!(f, "MACsec AN (Association Number)"),
-            ValueType::MacsecShortLen => write!(f, "MACsec SL (Short Length)"),
-            ValueType::IpFragmentOffset => write!(f, "IP Fragment Offset"),
-            ValueType::IpDscp => write!(f, "IPv4 DSCP (Differentiated Services Code Point)"),
-            ValueType::IpEcn => write!(f, "IPv4 ECN (Explicit Congestion Notification)"),
-            ValueType::Ipv6FlowLabel => write!(f, "IPv6 Flow Label"),
-            ValueType::Ipv4PayloadLength => write!(f, "IPv4 Header 'Payload Length' (sets 'Total Length')"),
-            ValueType::Ipv6PayloadLength => write!(f, "IPv6 Header 'Payload Length'"),
-            ValueType::UdpPayloadLengthIpv4 => write!(f, "UDP Payload Length (in IPv4 checksum calculation)"),
-            ValueType::UdpPayloadLengthIpv6 => write!(f, "UDP Payload Length (in IPv6 checksum calculation)"),
-            ValueType::TcpPayloadLengthIpv4 => write!(f, "TCP Payload Length (in IPv4 checksum calculation)"),
-            ValueType::TcpPayloadLengthIpv6 => write!(f, "TCP Payload Length (in IPv6 checksum calculation)"),
-            ValueType::Icmpv6PayloadLength => write!(f, "ICMPv6 Payload Length"),
-            ValueType::LinuxSllType => write!(f, "Linux Cooked Capture v1 (SLL)"),
-        }
+        f.write_str(self.name())
     }
 }
