@@ -6,8 +6,8 @@ use Rattle.ether_pcap.specs.Record.{RecordValue, RecordRefusal}
 use Rattle.ether_pcap.specs.Record as record_rows
 use Rattle.ether_pcap.specs.declared.byte_order.ByteOrder.{ByteOrder}
 use Rattle.ether_pcap.specs.declared.byte_order.ByteOrder.TheVariants as orders
-use Rattle.ether_pcap.specs.declared.classic.time_unit.TimeUnit.{TimeUnit}
-use Rattle.ether_pcap.specs.declared.classic.time_unit.TimeUnit.TheVariants as units
+use Rattle.ether_pcap.specs.declared.classic.timestamp_resolution.TimestampResolution.{TimestampResolution}
+use Rattle.ether_pcap.specs.declared.classic.timestamp_resolution.TimestampResolution.TheVariants as resolutions
 use Rattle.ether_pcap.specs.declared.classic.file_header.FileHeader.{FileHeader}
 use Rattle.ether_pcap.specs.declared.classic.file_header_error.FileHeaderError.{FileHeaderError}
 use Rattle.ether_pcap.specs.declared.classic.file_header_error.FileHeaderError.TheVariants as file_errors
@@ -19,14 +19,14 @@ abbrev pub order_of : ByteOrder → Order
 order_of orders.BigEndian = BigEndian
 order_of orders.LittleEndian = LittleEndian
 
-abbrev pub resolution_of : TimeUnit → Resolution
-resolution_of units.Microseconds = file.Microseconds
-resolution_of units.Nanoseconds = file.Nanoseconds
+abbrev pub resolution_of : TimestampResolution → Resolution
+resolution_of resolutions.Microseconds = file.Microseconds
+resolution_of resolutions.Nanoseconds = file.Nanoseconds
 
 abbrev pub file_header_view : FileHeader → FileHeaderValue
 file_header_view h = record {
   order = order_of h.byte_order;
-  resolution = resolution_of h.time_unit;
+  resolution = resolution_of h.resolution;
   snap_len = h.snap_len;
   link_type = h.link_type.0;
   fcs_len = h.fcs_len;

@@ -8,7 +8,7 @@ mod pcap_record;
 mod pcap_records;
 mod record_error;
 mod record_fault;
-mod time_unit;
+mod timestamp_resolution;
 
 pub use file_header::FileHeader;
 pub use file_header_error::FileHeaderError;
@@ -16,4 +16,4 @@ pub use pcap_record::PcapRecord;
 pub use pcap_records::PcapRecords;
 pub use record_error::RecordError;
 pub use record_fault::RecordFault;
-pub use time_unit::TimeUnit;
+pub use timestamp_resolution::TimestampResolution;

@@ -16,7 +16,8 @@ pub use capture::{
     EditedUnit, Timestamp,
 };
 pub use classic::{
-    FileHeader, FileHeaderError, PcapRecord, PcapRecords, RecordError, RecordFault, TimeUnit,
+    FileHeader, FileHeaderError, PcapRecord, PcapRecords, RecordError, RecordFault,
+    TimestampResolution,
 };
 pub use link_type::LinkType;
 pub use pcapng::{

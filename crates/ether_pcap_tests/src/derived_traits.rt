@@ -10,7 +10,7 @@ use ether_pcap::{
     BlockError, BodyError, ByteOrder, CaptureError, CaptureFault, CaptureReader, CaptureUnit,
     CapturedPacket, EnhancedPacket, FileHeader, FileHeaderError, InterfaceDescription, LinkType,
     PcapRecord, PcapngBlock, RecordError, RecordFault, SectionError, SectionHeader, SimplePacket,
-    TimeUnit, Timestamp,
+    Timestamp, TimestampResolution,
 };
 use std::alloc::AllocError;
 
@@ -46,7 +46,7 @@ pub(crate) fn same_byte_order(a: &ByteOrder, b: &ByteOrder) -> bool
     *a == *b
 }
 
-pub(crate) fn same_time_unit(a: &TimeUnit, b: &TimeUnit) -> bool
+pub(crate) fn same_timestamp_resolution(a: &TimestampResolution, b: &TimestampResolution) -> bool
     ensures { IsTrue result ↔ (a.now ≡ b.now) }
 {
     *a == *b

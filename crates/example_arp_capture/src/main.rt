@@ -6,7 +6,7 @@ ghost use Rattle.example_arp_capture.specs.Capture.{header_of_capture, IsCapture
 ghost use Rattle.ether_pcap.specs.Writing.{WritesFileHeader};
 
 use ether_pcap::laws::written_files_are_read;
-use ether_pcap::{ByteOrder, FileHeader, LinkType, PcapRecord, TimeUnit};
+use ether_pcap::{ByteOrder, FileHeader, LinkType, PcapRecord, TimestampResolution};
 use etherparse::VlanId;
 use example_arp_generator::{REQUEST_LEN, write_arp_request};
 use std::io;
@@ -42,7 +42,7 @@ pub fn request_capture(
     };
     let file = FileHeader {
         byte_order: ByteOrder::LittleEndian,
-        time_unit: TimeUnit::Nanoseconds,
+        resolution: TimestampResolution::Nanoseconds,
         snap_len: PcapRecord::MAX_CAPTURED_LEN,
         link_type: LinkType::ETHERNET,
         fcs_len: None,

@@ -227,7 +227,7 @@ fn read_record<'a>(header: &FileHeader, bytes: &'a [u8]) -> Result<CaptureUnit<'
         Ok(record) => record,
         Err(error) => return Err(CaptureError::Record(error)),
     };
-    let time = Timestamp::from_nanoseconds(record.nanoseconds(header.time_unit));
+    let time = Timestamp::from_nanoseconds(record.nanoseconds(header.resolution));
     Ok(CaptureUnit {
         len: record.record_len(),
         packet: Some(CapturedPacket {

@@ -4,7 +4,7 @@ ghost use Rattle.ether_pcap.specs.FileHeader.{IsFileHeader, RefusesFile, HasMagi
 ghost use Rattle.ether_pcap.specs.Writing.{WritesFileHeader, HasFcsLen, link_word_of, zeros};
 ghost use Rattle.ether_pcap.specs.Views.{order_of, resolution_of, file_header_view, file_refusal_view};
 
-use crate::{ByteOrder, FileHeaderError, LinkType, TimeUnit};
+use crate::{ByteOrder, FileHeaderError, LinkType, TimestampResolution};
 
 /// The header of a classic pcap file (draft-ietf-opsawg-pcap, section 4), 24 bytes: how the records after it are to be read.
 ///
@@ -26,7 +26,7 @@ use crate::{ByteOrder, FileHeaderError, LinkType, TimeUnit};
 /// ];
 /// let header = FileHeader::from_slice(&bytes)?;
 /// assert_eq!(rt; header.byte_order, ByteOrder::LittleEndian);
-/// assert_eq!(rt; header.time_unit, TimeUnit::Microseconds);
+/// assert_eq!(rt; header.resolution, TimestampResolution::Microseconds);
 /// assert_eq!(rt; header.snap_len, 65535);
 /// assert_eq!(rt; header.link_type, LinkType::ETHERNET);
 /// assert_eq!(rt; header.fcs_len, Some(4));
@@ -37,7 +37,7 @@ pub struct FileHeader {
     /// The order of the bytes of each number in the file.
     pub byte_order: ByteOrder,
     /// What the second number of each record's time counts.
-    pub time_unit: TimeUnit,
+    pub resolution: TimestampResolution,
     /// The length in bytes to which longer packets were cut when they were captured.
     pub snap_len: u32,
     /// What each packet begins with.
@@ -70,7 +70,7 @@ impl FileHeader {
                 len: slice.len(),
             });
         }
-        let (byte_order, time_unit) = magic(slice)?;
+        let (byte_order, resolution) = magic(slice)?;
         let major = byte_order.u16_at(slice, 4);
         let minor = byte_order.u16_at(slice, 6);
         if (major, minor) != (2, 4) {
@@ -79,7 +79,7 @@ impl FileHeader {
         let link = byte_order.u32_at(slice, 20);
         Ok(FileHeader {
             byte_order,
-            time_unit,
+            resolution,
             snap_len: byte_order.u32_at(slice, 16),
             link_type: LinkType((link % 0x1_0000) as u16),
             fcs_len: fcs_len(link),
@@ -96,7 +96,7 @@ impl FileHeader {
     {
         let order = self.byte_order;
         joined(
-            order.bytes_of_u32(self.time_unit.magic()),
+            order.bytes_of_u32(self.resolution.magic()),
             order.bytes_of_u16(2),
             order.bytes_of_u16(4),
             order.bytes_of_u32(self.snap_len),
@@ -142,19 +142,21 @@ fn link_word(link_type: LinkType, fcs_len: Option<u8>) -> u32
     }
 }
 
-/// The byte order and the unit of time that the first four bytes say.
+/// The byte order and the resolution of timestamps that the first four bytes say.
 #[tactic(auto, using(crate::specs::FileHeader::magic))]
-fn magic(slice: &[u8]) -> Result<(ByteOrder, TimeUnit), FileHeaderError>
+fn magic(slice: &[u8]) -> Result<(ByteOrder, TimestampResolution), FileHeaderError>
     requires { 24 ≤ length slice.now }
     ensures magic { IfOk result (λ m. HasMagic slice.now (order_of m.0) (resolution_of m.1)) }
     ensures refused { IfErr result (λ e. RefusesFile slice.now (file_refusal_view e)) }
 {
     let number = ByteOrder::BigEndian.u32_at(slice, 0);
-    if let Some(time_unit) = TimeUnit::of_magic(number) {
-        return Ok((ByteOrder::BigEndian, time_unit));
+    if let Some(resolution) = TimestampResolution::of_magic(number) {
+        return Ok((ByteOrder::BigEndian, resolution));
     }
-    if let Some(time_unit) = TimeUnit::of_magic(ByteOrder::LittleEndian.u32_at(slice, 0)) {
-        return Ok((ByteOrder::LittleEndian, time_unit));
+    if let Some(resolution) = TimestampResolution::of_magic(ByteOrder::LittleEndian.u32_at(
+        slice, 0,
+    )) {
+        return Ok((ByteOrder::LittleEndian, resolution));
     }
     Err(FileHeaderError::Magic(number))
 }

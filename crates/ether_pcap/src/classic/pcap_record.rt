@@ -4,7 +4,7 @@ ghost use Rattle.ether_pcap.specs.Record.{BeginsRecord, RefusesRecord, max_captu
 ghost use Rattle.ether_pcap.specs.Writing.{WritesRecordHeader};
 ghost use Rattle.ether_pcap.specs.Views.{order_of, resolution_of, record_view, record_refusal_view};
 
-use crate::{ByteOrder, FileHeader, RecordError, TimeUnit};
+use crate::{ByteOrder, FileHeader, RecordError, TimestampResolution};
 
 /// A view of a record of a classic pcap file (draft-ietf-opsawg-pcap, section 5): a captured packet, with a header of 16 bytes
 /// before it.
@@ -21,7 +21,7 @@ use crate::{ByteOrder, FileHeader, RecordError, TimeUnit};
 /// ```
 /// let file = FileHeader {
 ///     byte_order: ByteOrder::BigEndian,
-///     time_unit: TimeUnit::Microseconds,
+///     resolution: TimestampResolution::Microseconds,
 ///     snap_len: 2,
 ///     link_type: LinkType::ETHERNET,
 ///     fcs_len: None,
@@ -31,7 +31,7 @@ use crate::{ByteOrder, FileHeader, RecordError, TimeUnit};
 ///     0xFF, 0xFF, // packet
 /// ];
 /// let record = PcapRecord::from_slice(&file, &bytes)?;
-/// assert_eq!(rt; record.nanoseconds(file.time_unit), 1_700_000_000_000_005_000);
+/// assert_eq!(rt; record.nanoseconds(file.resolution), 1_700_000_000_000_005_000);
 /// assert_eq!(rt; record.original_len, 60);
 /// assert_eq!(rt; record.packet, [0xFF, 0xFF].as_slice());
 /// ```
@@ -39,7 +39,7 @@ use crate::{ByteOrder, FileHeader, RecordError, TimeUnit};
 pub struct PcapRecord<'a> {
     /// The time of the capture in whole seconds since the beginning of 1970, UTC.
     pub seconds: u32,
-    /// What is to be added to the seconds, in the file's [`TimeUnit`]. It should be less than a second.
+    /// What is to be added to the seconds, in the file's [`TimestampResolution`]. It should be less than a second.
     pub fraction: u32,
     /// How many bytes the packet had before it was cut. It should be no less than the length of `packet`.
     pub original_len: u32,
@@ -104,14 +104,14 @@ impl<'a> PcapRecord<'a> {
         PcapRecord::HEADER_LEN + self.packet.len()
     }
 
-    /// The time of the capture in nanoseconds since the beginning of 1970, UTC, from the file's unit of time.
-    pub fn nanoseconds(&self, time_unit: TimeUnit) -> u64
-        ensures { result ≡ nanoseconds_of (resolution_of time_unit) self.now.seconds self.now.fraction }
+    /// The time of the capture in nanoseconds since the beginning of 1970, UTC, from the resolution of the file.
+    pub fn nanoseconds(&self, resolution: TimestampResolution) -> u64
+        ensures { result ≡ nanoseconds_of (resolution_of resolution) self.now.seconds self.now.fraction }
     {
         let fraction = u64::from(self.fraction);
-        let nanoseconds = match time_unit {
-            TimeUnit::Microseconds => fraction * 1_000,
-            TimeUnit::Nanoseconds => fraction,
+        let nanoseconds = match resolution {
+            TimestampResolution::Microseconds => fraction * 1_000,
+            TimestampResolution::Nanoseconds => fraction,
         };
         u64::from(self.seconds) * 1_000_000_000 + nanoseconds
     }

@@ -3,7 +3,7 @@ use super::captures::{BIG_MICROSECONDS, BIG_SLL, LITTLE_FCS, LITTLE_NANOSECONDS}
 use super::{equal, put};
 use ether_pcap::{
     ByteOrder, FileHeader, FileHeaderError, LinkType, PcapRecord, PcapRecords, RecordError,
-    RecordFault, TimeUnit,
+    RecordFault, TimestampResolution,
 };
 use std::process::Abort;
 use std::test::Fail;
@@ -11,7 +11,7 @@ use std::test::Fail;
 /// The header of a file whose first number is the most significant byte first, in microseconds.
 const HEADER: FileHeader = FileHeader {
     byte_order: ByteOrder::BigEndian,
-    time_unit: TimeUnit::Microseconds,
+    resolution: TimestampResolution::Microseconds,
     snap_len: 65535,
     link_type: LinkType::ETHERNET,
     fcs_len: None,
@@ -50,7 +50,7 @@ static HEADERS: [(&str, &[u8], FileHeader); 4] = [
         &LITTLE_NANOSECONDS,
         FileHeader {
             byte_order: ByteOrder::LittleEndian,
-            time_unit: TimeUnit::Nanoseconds,
+            resolution: TimestampResolution::Nanoseconds,
             snap_len: 262_144,
             ..HEADER
         },
@@ -69,7 +69,7 @@ static HEADERS: [(&str, &[u8], FileHeader); 4] = [
         "cooked captures",
         &BIG_SLL,
         FileHeader {
-            time_unit: TimeUnit::Nanoseconds,
+            resolution: TimestampResolution::Nanoseconds,
             snap_len: 96,
             link_type: LinkType::LINUX_SLL,
             ..HEADER
@@ -256,7 +256,7 @@ fn are_read(
     records: &[(usize, u64, u32, usize)],
 ) -> Result<(), Fail> {
     let mut found = PcapRecords::from_slice(file)?;
-    let time_unit = found.header().time_unit;
+    let resolution = found.header().resolution;
     let mut place = 24;
     let mut fault = None;
     for (start, time, original_len, end) in records {
@@ -267,7 +267,7 @@ fn are_read(
         let packet = file.get(start.saturating_add(16)..*end);
         let is_record = match found.next() {
             Some(Ok(record)) => {
-                record.nanoseconds(time_unit) == *time
+                record.nanoseconds(resolution) == *time
                     && record.original_len == *original_len
                     && Some(record.packet) == packet
             }
@@ -376,8 +376,8 @@ fn a_time_beyond_its_second(rt: HostRuntime) {
         &rt,
         "in microseconds and nanoseconds",
         &[
-            record.nanoseconds(TimeUnit::Microseconds),
-            record.nanoseconds(TimeUnit::Nanoseconds),
+            record.nanoseconds(TimestampResolution::Microseconds),
+            record.nanoseconds(TimestampResolution::Nanoseconds),
         ],
         &[4_294_971_589_967_295_000, 4_294_967_299_294_967_295],
     );

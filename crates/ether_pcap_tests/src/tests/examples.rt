@@ -3,7 +3,7 @@ use super::equal;
 use ether_pcap::{
     ByteOrder, CaptureError, CaptureReader, CaptureUnit, CapturedPacket, EditedUnit,
     EnhancedPacket, FileHeader, InterfaceDescription, LinkType, PcapRecord, PcapRecords,
-    PcapngBlock, RecordError, SectionHeader, SimplePacket, TimeUnit, Timestamp,
+    PcapngBlock, RecordError, SectionHeader, SimplePacket, Timestamp, TimestampResolution,
 };
 use std::test::Fail;
 
@@ -34,11 +34,11 @@ fn of_numbers(rt: HostRuntime) {
         &rt,
         "units, times and errors",
         &(
-            TimeUnit::of_magic(0xA1B2_3C4D),
+            TimestampResolution::of_magic(0xA1B2_3C4D),
             early.nanoseconds,
             error.required_len(),
         ),
-        &(Some(TimeUnit::Nanoseconds), 5_000, Some(76)),
+        &(Some(TimestampResolution::Nanoseconds), 5_000, Some(76)),
     );
 }
 
@@ -58,7 +58,7 @@ fn of_classic_files(rt: HostRuntime) -> Result<(), Fail> {
     ];
     let header = FileHeader {
         byte_order: ByteOrder::LittleEndian,
-        time_unit: TimeUnit::Microseconds,
+        resolution: TimestampResolution::Microseconds,
         snap_len: 65535,
         link_type: LinkType::ETHERNET,
         fcs_len: Some(4),
@@ -71,7 +71,7 @@ fn of_classic_files(rt: HostRuntime) -> Result<(), Fail> {
     );
     let file = FileHeader {
         byte_order: ByteOrder::BigEndian,
-        time_unit: TimeUnit::Microseconds,
+        resolution: TimestampResolution::Microseconds,
         snap_len: 2,
         link_type: LinkType::ETHERNET,
         fcs_len: None,
@@ -82,7 +82,7 @@ fn of_classic_files(rt: HostRuntime) -> Result<(), Fail> {
         0xFF, 0xFF, // packet
     ];
     let record = PcapRecord::from_slice(&file, &bytes)?;
-    let nanoseconds = record.nanoseconds(file.time_unit);
+    let nanoseconds = record.nanoseconds(file.resolution);
     equal(
         &rt,
         "a record",

@@ -10,7 +10,7 @@ differ a b h e = grind (arith, h, e.0, e.1)
 pub returns-then-ne-clause-refused : goal.returns-then-ne-clause-refused
 returns-then-ne-clause-refused c =
     let row =
-    version (order_of c.in_ok-byte_order.byte_order) (resolution_of c.in_ok-byte_order.time_unit) (omega arith)
+    version (order_of c.in_ok-byte_order.byte_order) (resolution_of c.in_ok-byte_order.resolution) (omega arith)
     c.in_ok-byte_order.ensures.magic
     (λ e.
     differ c.u16_at-major.result c.u16_at-minor.result (sym c.if-ne.true ∙ c.ne.ensures)
