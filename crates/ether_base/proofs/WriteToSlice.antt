@@ -1,4 +1,4 @@
--- A header's `write_to_slice`: its `put` writes the front and hands the whole slice back, and `rest_from` lends the rest.
+-- A header's `write_to_slice`: `put` writes the front and hands the whole slice back, and `rest_from` lends the rest.
 -- One walk, at any header
 -- type, any width and any layer.
 use Rattle.std.proofs.Common.{◌≡◌, ℕ, ◌^◌, ◌<◌, ◌≤◌, List, [], ◌∷◌, ◌++◌, length, refl, ap, ltb→lt, T, ltb, w8, w64, MutBor}
@@ -184,7 +184,8 @@ module _ (R : RattleType) (#put : Callee) (m : ℕ) (small : T (ltb m (2 ^ bits 
       (λ (r : MutBor (List ℕ)).
       ((‵ (flft κs.0 qs.0) ⊛ ‵ (flft κ q) ⊛ ‵ ftrue) ⊛ ‵ (Lent.own_val r (v ∷ []))) ⊛
       some (λ (ws : Unit {0} × (Unit {0} × Unit {0})).
-      ‵ (lasts (put_ended R) κs a ws) ⊛ (raw (fact 𝓤 (Same r)) ⊛ raw (fact 𝓤 (Wrote r)) ⊛ raw (fact 𝓤 (Kept r)) ⊛ raw (fact 𝓤 (length bs ≡ m)))))))
+      ‵ (lasts (put_ended R) κs a ws) ⊛
+      (raw (fact 𝓤 (Same r)) ⊛ raw (fact 𝓤 (Wrote r)) ⊛ raw (fact 𝓤 (Kept r)) ⊛ raw (fact 𝓤 (length bs ≡ m)))))))
       (id⊢ 𝓤 _) $
       await ! tt $ pick !
       (λ r.
@@ -227,7 +228,8 @@ module _ (R : RattleType) (#put : Callee) (m : ℕ) (small : T (ltb m (2 ^ bits 
       (λ (x : Result (MutBor (List ℕ)) SliceWriteSpaceError).
       ((‵ (flft κ q) ⊛ ‵ ftrue) ⊛ ‵ ((Answer κ).own_val x (v' ∷ []))) ⊛
       some (λ (us : Unit {0} × (Unit {0} × (Unit {0} × Unit {0}))).
-      ‵ (lasts g.ended (κ, tt) (r, (m, (layer, tt))) us) ⊛ (‵ (LendsRest (take m r.now) r x) ⊛ raw (fact 𝓤 (Heard x)))))))
+      ‵ (lasts g.ended (κ, tt) (r, (m, (layer, tt))) us) ⊛
+      (‵ (LendsRest (take m r.now) r x) ⊛ raw (fact 𝓤 (Heard x)))))))
       (id⊢ 𝓤 _) $
       await ! tt $ pick !
       (λ x. split ! $ split ! $ move ! (1 ∷ []) $ peeks ! (Answer κ) _ (shows 𝓛 (Answer κ)) x (v' ∷ []) (λ is'.

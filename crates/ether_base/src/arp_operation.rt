@@ -1,6 +1,6 @@
 //! The operation of an ARP packet.
 
-/// The operation of an ARP packet (RFC 826): 16 bits, of which the values for request and reply are constants.
+/// The operation of an ARP packet (RFC 826), a number of 16 bits. Request and reply are constants.
 ///
 /// ```
 /// assert_eq!(rt; ArpOperation(1), ArpOperation::REQUEST);

@@ -15,8 +15,8 @@ use Rattle.ether_c.proofs.UnitsGiven.{Holds, put_next}
 
 -- ---- packets that are given
 
-given-append : (cs : List EtherCaptured) (ps : List PacketValue) (c : EtherCaptured) (p : PacketValue) → HoldPackets cs ps
-    → HoldsPacket c p
+given-append : (cs : List EtherCaptured) (ps : List PacketValue) (c : EtherCaptured) (p : PacketValue)
+    → HoldPackets cs ps → HoldsPacket c p
     → HoldPackets (cs ++ c ∷ []) (ps ++ p ∷ [])
 given-append [] [] c p are is = (is, tt)
 given-append [] (q ∷ qs) c p are is = absurd are
@@ -157,7 +157,8 @@ captured_packet file s t q count old mid new c a gives is put =
 
 all_given : (file : List ℕ) (s : State) (count : ℕ) (old new : List EtherCaptured)
     (a : CapturedSoFar file s count old new) → a.todo ≡ [] → a.packets ≡ a.before
-all_given file s count old new a none = a.parts ∙ ap (λ (l : List PacketValue). a.before ++ l) none ∙ append-nil a.before
+all_given file s count old new a none =
+    a.parts ∙ ap (λ (l : List PacketValue). a.before ++ l) none ∙ append-nil a.before
 
 pub captured_fault : (file : List ℕ) (s t : State) (f : CaptureFault) (count : ℕ) (old new : List EtherCaptured)
     → CapturedSoFar file s count old new

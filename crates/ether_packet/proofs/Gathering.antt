@@ -124,7 +124,8 @@ place_ext : (r : Read) (x : Expectation) (kind : Kind) (free : ℕ) → Ready r 
 place_ext r x kind free ready e extends room =
     let lt = may_read x kind free ready.limit extends e in (omega arith, no_arp r x kind ready.arp e)
 
-pub has_place : (r : Read) (x : Expectation) (bytes rest : List ℕ) (h : Header) (u : PeelUnit) (p : FrameWindow) (free : ℕ)
+pub has_place : (r : Read) (x : Expectation) (bytes rest : List ℕ) (h : Header) (u : PeelUnit) (p : FrameWindow)
+    (free : ℕ)
     → Ready r x free → announced x ≡ Some (kind_of h) → ShowsUnit bytes rest h u → length (exts_of r.units) + free ≡ 3
     → (r.units ≡ [] → (p.start ≡ 0) × (p.bytes.now ≡ r.frame)) → HasPlace r u p
 has_place r x bytes rest (headers.Ethernet2 e) u p free ready known shows room first =

@@ -87,7 +87,8 @@ parts_go_back start list packet parts b end old new ok is of builder w =
     let own_same = ap length same in
     let len : length (front ++ p) ≡ end = omega (arith, length-append front p, own, own_same, all) in
     let written : take end new ≡ front ++ p =
-    ap (take end) (w.bytes ∙ ap (λ (l : List ℕ). l ++ p ++ drop end old) same) ∙ take_at (front ++ p) (drop end old) end len in
+    ap (take end) (w.bytes ∙ ap (λ (l : List ℕ). l ++ p ++ drop end old) same)
+    ∙ take_at (front ++ p) (drop end old) end len in
     let (more, rest) = rest_is parts.arp parts.ether_type parts.rest.now b.content builder.content in
     let finish = (last_window is.ending).finish in
     let list_front : front ++ p ++ more ≡ take finish (cleared list 0 hs) =

@@ -187,8 +187,8 @@ readable_frame frame true e r = r
 readable_frame frame false e r = r
 
 -- an extension after the others
-pub with_ext : (frame : List ℕ) (link : LinkKind) (xs : List ExtPlace) (arp : Option FrameWindow) (x : ExtPlace) → arp ≡ None
-    → units_at frame link (xs ++ x ∷ []) arp ≡ units_at frame link xs arp ++ ext_unit x ∷ []
+pub with_ext : (frame : List ℕ) (link : LinkKind) (xs : List ExtPlace) (arp : Option FrameWindow) (x : ExtPlace)
+    → arp ≡ None → units_at frame link (xs ++ x ∷ []) arp ≡ units_at frame link xs arp ++ ext_unit x ∷ []
 with_ext frame link xs arp x none =
     let l = link_units frame link in
     let m = map ext_unit xs in
@@ -198,8 +198,8 @@ with_ext frame link xs arp x none =
     ∙ ap (λ (k : List PacketUnit). k ++ u ∷ []) (sym (ap (units_at frame link xs) none ∙ append-nil (l ++ m)))
 
 -- an ARP packet after all
-pub with_arp : (frame : List ℕ) (link : LinkKind) (xs : List ExtPlace) (arp : Option FrameWindow) (p : FrameWindow) → arp ≡ None
-    → units_at frame link xs (Some p) ≡ units_at frame link xs arp ++ unit_at kinds.Arp p ∷ []
+pub with_arp : (frame : List ℕ) (link : LinkKind) (xs : List ExtPlace) (arp : Option FrameWindow) (p : FrameWindow)
+    → arp ≡ None → units_at frame link xs (Some p) ≡ units_at frame link xs arp ++ unit_at kinds.Arp p ∷ []
 with_arp frame link xs arp p none =
     let u = unit_at kinds.Arp p in
     ap (λ (k : List PacketUnit). k ++ u ∷ [])

@@ -92,7 +92,8 @@ pub room_next : (p : PacketBuilder) (old target : List ℕ) (i at : ℕ) (x : Li
     → at + header_len (ext_header_view x) ≤ packet_len p
 room_next p old target i at x lt is so_far =
     let m = length (content_payload p.content) in
-    let next : place m (later p i) ≡ header_len (ext_header_view (slice_index_or p.link_exts.now i x)) + place m (later p (i + 1)) =
+    let next : place m (later p i)
+    ≡ header_len (ext_header_view (slice_index_or p.link_exts.now i x)) + place m (later p (i + 1)) =
     ap (λ (l : List Header). place m (l ++ content_headers p.content)) (drop_next p.link_exts.now i x lt)
     ∙ place-first m (ext_header_view (slice_index_or p.link_exts.now i x)) (later p (i + 1)) in
     let own = ap (λ (y : LinkExtHeader). header_len (ext_header_view y)) is in
@@ -133,12 +134,14 @@ content_parts : (c : PacketContent) → content_bytes c ≡ flat_map header_byte
 content_parts (contents.Payload t bytes) = refl
 content_parts (contents.Arp packet) = sym (append-nil _ ∙ append-nil _)
 
-all_front : (p : PacketBuilder) (i : ℕ) → length p.link_exts.now ≤ i → front p i ++ content_headers p.content ≡ given_headers p
+all_front : (p : PacketBuilder) (i : ℕ) → length p.link_exts.now ≤ i
+    → front p i ++ content_headers p.content ≡ given_headers p
 all_front p i over =
     ap (λ (l : List LinkExtHeader). link_header p.link ∷ views l ++ content_headers p.content)
     (take_all i p.link_exts.now over)
 
-last_later : (p : PacketBuilder) (i : ℕ) → length p.link_exts.now ≤ i → packet_len p ≡ place 0 (front p i) + content_len p.content
+last_later : (p : PacketBuilder) (i : ℕ) → length p.link_exts.now ≤ i
+    → packet_len p ≡ place 0 (front p i) + content_len p.content
 last_later p i over =
     let m = length (content_payload p.content) in
     let fs = front p i in

@@ -60,7 +60,8 @@ same_ext (x ∷ xs) (y ∷ ys) h k later other_later e a b n =
     let r = same_ext xs ys h k later other_later rest a b (same_count x y (ext_count xs) (ext_count ys) first n) in
     ((λ i. first i ∷ r.0 i), r.1, r.2)
 
-pub one_ext : (hs : List Header) (i : ℕ) (front other_front : List Header) (h k : Header) (later other_later : List Header)
+pub one_ext : (hs : List Header) (i : ℕ) (front other_front : List Header) (h k : Header)
+    (later other_later : List Header)
     → IsExtAt hs i front h later → IsExtAt hs i other_front k other_later
     → (front ≡ other_front) × (h ≡ k) × (later ≡ other_later)
 one_ext hs i front other_front h k later other_later f g =

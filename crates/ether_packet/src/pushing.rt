@@ -15,7 +15,7 @@ use crate::typed_link::{announces_vlan, chunk_at, typed_link};
 use ether_peel::Start;
 use etherparse::{EtherType, SingleVlanHeader};
 
-/// Puts a VLAN tag after the header of a link, in place: the frame is `buffer[4..]` before and the whole buffer afterwards.
+/// Puts a VLAN tag after the header of a link, in place: the frame is `buffer[4..]` before the call and the whole buffer after it.
 ///
 /// The TPID is the ether type that announces the tag: 0x8100 ([`EtherType::VLAN_TAGGED_FRAME`]), 0x88A8
 /// ([`EtherType::PROVIDER_BRIDGING`]) or 0x9100 ([`EtherType::VLAN_DOUBLE_TAGGED_FRAME`]). It becomes the ether type of the

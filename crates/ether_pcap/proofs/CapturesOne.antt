@@ -1,5 +1,5 @@
 -- What a unit is, after it and why there is none: one for each list of bytes and each expectation.
-use Rattle.std.proofs.Common.{◌≡◌, ℕ, ◌+◌, ◌<◌, List, [], ◌∷◌, ◌++◌, length, length-append, refl, sym, ap, subst, ◌∙◌, arith, Some, None}
+use Rattle.std.proofs.Common.{◌≡◌, ℕ, ◌+◌, ◌<◌, List, [], ◌∷◌, ◌++◌, length, length-append, refl, sym, ap, subst, ◌∙◌, arith, Some}
 use Rattle.std.specs.Prelude.{Option, slice_get}
 use Rattle.ether_base.specs.Bytes.{IsBytes}
 use Rattle.ether_pcap.specs.Numbers.{Order}

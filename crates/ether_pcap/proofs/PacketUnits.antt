@@ -158,7 +158,8 @@ few_in_body : (kind : BlockKind) (order : Order) (interfaces : List CaptureInter
     (p : PacketValue) → IsBody kind order interfaces body (Some p) interfaces → length p.packet ≤ 262144
 few_in_body InterfaceDescription order interfaces body p (i, d, lt, e, f) = absurd cc
 few_in_body SimplePacket order interfaces body p (i, v, at, is, e, f) =
-    let m : length p.packet ≡ length v.packet = ap (λ (r : PacketValue). length r.packet) (same_packet p (simple_packet_on i v) e) in
+    let m : length p.packet ≡ length v.packet =
+    ap (λ (r : PacketValue). length r.packet) (same_packet p (simple_packet_on i v) e) in
     omega (arith, m, is.room)
 few_in_body (EnhancedPacket n) order interfaces body p (i, v, o, is, at, has, e, f) =
     let m : length p.packet ≡ length v.packet =

@@ -16,12 +16,14 @@ use Rattle.ether_pcap.proofs.WrittenBlocks.{section_read, interface_read, Packet
 
 -- ---- no section header
 
-interface_other : (order : Order) (i : InterfaceValue) (bytes : List ℕ) → HasSectionType (interface_bytes order i ++ bytes) → ⊥
+interface_other : (order : Order) (i : InterfaceValue) (bytes : List ℕ)
+    → HasSectionType (interface_bytes order i ++ bytes) → ⊥
 unfolding spelled
 interface_other BigEndian i bytes has = let e : 1 ≡ 168627466 = has in omega (arith, e)
 interface_other LittleEndian i bytes has = let e : 16777216 ≡ 168627466 = has in omega (arith, e)
 
-packet_other : (order : Order) (p : EnhancedPacketValue) (bytes : List ℕ) → HasSectionType (packet_bytes order p ++ bytes) → ⊥
+packet_other : (order : Order) (p : EnhancedPacketValue) (bytes : List ℕ)
+    → HasSectionType (packet_bytes order p ++ bytes) → ⊥
 unfolding spelled
 packet_other BigEndian p bytes has = let e : 6 ≡ 168627466 = has in omega (arith, e)
 packet_other LittleEndian p bytes has = let e : 100663296 ≡ 168627466 = has in omega (arith, e)
@@ -33,7 +35,8 @@ unfolding spelled
 length-section_bytes BigEndian = refl
 length-section_bytes LittleEndian = refl
 
-length-interface_bytes : (order : Order) (i : InterfaceValue) → length (interface_bytes order i) ≡ 12 + length (interface_body order i)
+length-interface_bytes : (order : Order) (i : InterfaceValue)
+    → length (interface_bytes order i) ≡ 12 + length (interface_body order i)
 length-interface_bytes order i =
     let len = bytes_of order 4 (interface_block_len i) in
     let one = bytes_of order 4 1 in
@@ -49,7 +52,8 @@ length-interface_bytes order i =
       length-bytes_of order 4 (interface_block_len i),
     )
 
-length-packet_bytes : (order : Order) (p : EnhancedPacketValue) → length (packet_bytes order p) ≡ 12 + length (packet_body order p)
+length-packet_bytes : (order : Order) (p : EnhancedPacketValue)
+    → length (packet_bytes order p) ≡ 12 + length (packet_body order p)
 length-packet_bytes order p =
     let len = bytes_of order 4 (packet_block_len p) in
     let six = bytes_of order 4 6 in

@@ -60,7 +60,7 @@ pub const PADDED_ARP: [u8; 60] = [
     0x00, 0x00, 0x00, 0x00, 0x00, 0x00, 0x00, 0x00, 0x00, 0x00, 0x00, 0x00, 0x00, 0x00, 0x00,
 ];
 
-/// Four SecTags one in another, each of which names the length of its payload.
+/// Four SecTags one in another. Each names the length of its payload.
 #[rattlefmt::skip]
 pub const NESTED: [u8; 32] = [
     0x00, 0x1A, 0, 0, 0, 1, 0x88, 0xE5,

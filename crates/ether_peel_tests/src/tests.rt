@@ -36,7 +36,7 @@ macro_rules! vlan {
     };
 }
 
-/// A SecTag with packet number 1, without an SCI, in front of a payload that can be read.
+/// A SecTag with packet number 1, without an SCI, before a payload that can be read.
 macro_rules! readable {
     ($short_len:expr, $ether_type:expr $(,)?) => {
         crate::plain::PlainHeader::Macsec {

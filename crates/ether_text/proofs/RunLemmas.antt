@@ -58,7 +58,8 @@ module _ {W : Type 0} (contents : W → Option (List ℕ)) (before after held : 
     written = flushed h.text h.written;
   }
 
-  pub stops_flushed : {Stops : (input text : List ℕ) → Type 0} → StopsIn Stops before after held (contents_of contents from)
+  pub stops_flushed : {Stops : (input text : List ℕ) → Type 0}
+      → StopsIn Stops before after held (contents_of contents from)
       → StopsIn Stops before after held (contents to.writer.now)
   stops_flushed h = record {
     taken = h.taken;

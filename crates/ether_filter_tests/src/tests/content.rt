@@ -120,7 +120,7 @@ fn of_headers_len(rt: HostRuntime) {
         ("a tag cut short", packet(1, None, 60, &tagged[..17]), 14),
         ("a check sequence", packet(1, Some(4), 18, &[0xFF; 18]), 14),
         (
-            "cooked capture v2, of which the ARP packet is missing",
+            "cooked capture v2 without its ARP packet",
             packet(276, None, 60, &LINUX_SLL2),
             20,
         ),

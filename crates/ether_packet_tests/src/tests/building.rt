@@ -76,7 +76,7 @@ const COOKED_SERVICE: &[u8] = &[0, 0, 0, 1, 0, 6, 2, 0, 0, 0, 0, 1, 0, 0, 0x88, 
 
 const NETLINK: &[u8] = &[0, 0, 3, 0x38, 0, 6, 2, 0, 0, 0, 0, 1, 0, 0, 0, 0];
 
-/// SecTags with packet number 1, in front of payloads that can be read, with ether types of 0 and 0x9100, and that can't.
+/// SecTags with packet number 1, before payloads that can be read, with ether types of 0 and 0x9100, and that can't.
 const READABLE: &[u8] = &[0, 0, 0, 0, 0, 1, 0, 0];
 
 const READABLE_DOUBLE: &[u8] = &[0, 0, 0, 0, 0, 1, 0x91, 0x00];

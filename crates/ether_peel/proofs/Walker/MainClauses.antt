@@ -1,5 +1,5 @@
 -- The clauses of the main theorem, of the one walk that a list has.
-use Rattle.std.proofs.Common.{◌≡◌, ℕ, List, ◌++◌, drop, take, refl, sym, ap, subst, ◌∙◌}
+use Rattle.std.proofs.Common.{◌≡◌, ℕ, List, ◌++◌, drop, take, ap, subst, ◌∙◌}
 use Rattle.std.specs.Prelude.{Result, Ok, Err, IfOk, IfErr, flat_map}
 use Rattle.etherparse.specs.Types.Layer.TheVariants as layers
 use Rattle.etherparse.specs.Types.SliceWriteSpaceError.{SliceWriteSpaceError}
@@ -18,8 +18,11 @@ use Rattle.ether_peel.specs.declared.laws.Findings.{Findings}
 use Rattle.ether_peel.proofs.Grammar.Cuts.{cuts_keep}
 
 held : (start : Expectation) (list old new : List ℕ) (hs : List Header) (e : Ending)
-    → ((ks : List Header) (f : Ending) → Walk start list ks f → (ks ≡ hs) × (f ≡ e)) → (r : Result ℕ SliceWriteSpaceError)
-    → IfOk r (λ end. WritesBack start list end old new) → IfErr r (RefusesBack start list old) → IfErr r (λ _. new ≡ old)
+    → ((ks : List Header) (f : Ending) → Walk start list ks f → (ks ≡ hs) × (f ≡ e))
+    → (r : Result ℕ SliceWriteSpaceError)
+    → IfOk r (λ end. WritesBack start list end old new)
+    → IfErr r (RefusesBack start list old)
+    → IfErr r (λ _. new ≡ old)
     → HoldsHeaders list hs e old new r
 held start list old new hs e one (Ok end) w refused kept =
     let same = one w.found w.ending w.walk in (

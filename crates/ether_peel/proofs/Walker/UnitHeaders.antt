@@ -1,5 +1,5 @@
 -- The views of a walk mean its headers.
-use Rattle.std.proofs.Common.{◌≡◌, ℕ, List, ◌∷◌, ap, subst, ◌∙◌, cond}
+use Rattle.std.proofs.Common.{◌≡◌, ℕ, List, ◌∷◌, ap, subst, ◌∙◌}
 use Rattle.etherparse.specs.Bytes.{IsBytes}
 use Rattle.etherparse.specs.Macsec.{sec_tag_of}
 use Rattle.etherparse.specs.Header.{Header, Means}

@@ -1,5 +1,5 @@
 -- What callers see of a walker, and the representation that shows it.
-use Rattle.std.specs.Prelude.{◌≡◌, ℕ, List, Bool, Option}
+use Rattle.std.specs.Prelude.{◌≡◌, ℕ, List, Bool}
 use Rattle.etherparse.specs.Types.LenSource.{LenSource}
 use Rattle.etherparse.specs.Kind as kinds
 use Rattle.ether_peel.specs.Grammar.Expectation.{Next, Expectation, Start, EtherType, Sll, Sealed, AfterArp, announced_next, announced_by}

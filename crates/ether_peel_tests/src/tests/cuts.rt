@@ -96,7 +96,7 @@ fn a_cut_is_the_summary_of_the_first_bytes(rt: HostRuntime) {
     }
 }
 
-/// A cut in an ARP packet of `required_len` bytes that begins at `at`, of which `len` are left.
+/// A cut in an ARP packet of `required_len` bytes that begins at `at`: `len` bytes are left.
 fn cut_arp(required_len: usize, len: usize, at: usize) -> Option<PeelFault> {
     if len < 8 {
         return open(len_error(8, len, Layer::Arp, at));
@@ -126,7 +126,7 @@ fn every_cut_of_a_closed_window(rt: HostRuntime) {
     }
 }
 
-/// Every cut of a frame behind the place at which an ARP packet of `required_len` bytes begins.
+/// Every cut of a frame after the place at which an ARP packet of `required_len` bytes begins.
 fn cuts_of_arp(
     rt: &impl Abort,
     start: Start,

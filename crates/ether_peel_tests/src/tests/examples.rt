@@ -92,7 +92,7 @@ fn the_bound_of_what_is_left(rt: HostRuntime) {
     }
 }
 
-/// VLAN tags one after the other, each with its place as VID, the last of so many in front of IPv4.
+/// VLAN tags one after the other, each with its place as VID, the last of so many before IPv4.
 fn tags(count: u16) -> [u8; 2048] {
     let mut bytes = [0; 2048];
     for i in 0..count {
@@ -136,7 +136,7 @@ static LENS: [(&str, u16, usize, PlainKind); 3] = [
     ("a cut tag", 512, 2047, ether_type!(0x8100)),
 ];
 
-/// The units are VLAN tags with the VIDs 0, 1, 2, .., and the last one is cut short, or in front of IPv4.
+/// The units are VLAN tags with the VIDs 0, 1, 2, .., and the last one is cut short, or before IPv4.
 #[test]
 fn hundreds_of_vlan_tags(rt: HostRuntime) {
     for &(name, count, len, kind) in &LENS {

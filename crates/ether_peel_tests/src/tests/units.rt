@@ -35,7 +35,7 @@ const WITH_SEQUENCE: PlainHeader<'static> = PlainHeader::Ethernet2Fcs {
     check_sequence: 0x1122_3344,
 };
 
-/// A SecTag with packet number 1 in front of a payload that can't be read.
+/// A SecTag with packet number 1 before a payload that can't be read.
 macro_rules! sealed {
     ($encrypted:expr, $changed:expr, $short_len:expr, $sci:expr $(,)?) => {
         PlainHeader::Macsec {

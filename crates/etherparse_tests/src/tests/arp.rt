@@ -253,7 +253,7 @@ static SHORT: [(&str, &[u8], usize, usize, LenSource); 7] = [
         LenSource::ArpAddrLengths,
     ),
     ("a byte less", &REQUEST, 27, 28, LenSource::ArpAddrLengths),
-    // one byte of protocol address each, of which the front tells
+    // the front names one byte of protocol address each
     (
         "the front is asked for first",
         &[0, 1, 8, 0, 0, 1, 0],

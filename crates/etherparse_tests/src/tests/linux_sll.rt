@@ -231,16 +231,8 @@ static ADDRESSES: [(&str, u8, &[u8]); 5] = [
     ("no address", 0, &[]),
     ("six bytes", 6, &[1, 2, 3, 4, 5, 6]),
     ("eight bytes", 8, &[1, 2, 3, 4, 5, 6, 7, 8]),
-    (
-        "nine bytes, of which eight are there",
-        9,
-        &[1, 2, 3, 4, 5, 6, 7, 8],
-    ),
-    (
-        "255 bytes, of which eight are there",
-        255,
-        &[1, 2, 3, 4, 5, 6, 7, 8],
-    ),
+    ("nine bytes, eight held", 9, &[1, 2, 3, 4, 5, 6, 7, 8]),
+    ("255 bytes, eight held", 255, &[1, 2, 3, 4, 5, 6, 7, 8]),
 ];
 
 #[test]

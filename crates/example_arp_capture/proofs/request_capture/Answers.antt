@@ -35,5 +35,6 @@ returns-clause-packets c =
       frame = frame;
       request = request;
       has = subst (λ (l : List ℕ). HasPackets Beginning l (packet_at a.seconds frame ∷ []) [] None) joined
-          (subst (λ (n : ℕ). HasPackets Beginning (file ++ (front ++ frame ++ [])) (packet_of n ∷ []) [] None) time has);
+          (subst (λ (n : ℕ). HasPackets Beginning (file ++ (front ++ frame ++ [])) (packet_of n ∷ []) [] None)
+          time has);
     }

@@ -112,7 +112,8 @@ rest_from_spec 𝓤 𝓛 𝓜 𝓡 wired =
     keep ! (0 ∷ 1 ∷ 2 ∷ []) $
     suffices ! _
     (ends_at 𝓛 F.ended stayed c y (live 1 (vcons ev vnil)) (Err e) (tt, (tt, (tt, tt))) (tt, (tt, (tt, tt)))) $
-    nothing ! $ nothing ! $ fjoin ! $ nothing ! $ fjoin ! $ nothing ! $ fjoin ! $ join ! $ nothing ! $ move ! (2 ∷ 0 ∷ [])
+    nothing ! $ nothing ! $ fjoin ! $ nothing ! $ fjoin ! $ nothing ! $ fjoin ! $ join ! $ nothing !
+    $ move ! (2 ∷ 0 ∷ [])
     $ join ! $ join ! $ frame ! $ says ! (record { short = ltb→lt n m short; error = refl }) $ done !)
     (λ long. let le : m ≤ n = nltb→le n m long in
     let front : List ℕ = take m all in let back : List ℕ = drop_list m all in let p : ℕ = m + o in
@@ -142,5 +143,6 @@ rest_from_spec 𝓤 𝓛 𝓜 𝓡 wired =
     use1 𝓛 (‵ (Out.own_val (Ok r) (live 0 (vcons v vnil) ∷ []))) (ok_of 𝓛 Lent SE.the_row r v) $
     suffices ! _ (ends_at 𝓛 F.ended stayed c y (live 0 (vcons v vnil)) (Ok r) (tt, (tt, (tt, tt))) (tt, (tt, (tt, tt))))
     $
-    nothing ! $ nothing ! $ fjoin ! $ nothing ! $ fjoin ! $ nothing ! $ fjoin ! $ join ! $ nothing ! $ move ! (2 ∷ 0 ∷ [])
+    nothing ! $ nothing ! $ fjoin ! $ nothing ! $ fjoin ! $ nothing ! $ fjoin ! $ join ! $ nothing !
+    $ move ! (2 ∷ 0 ∷ [])
     $ join ! $ join ! $ frame ! $ says ! (record { room = le; same = refl }) $ done !))))

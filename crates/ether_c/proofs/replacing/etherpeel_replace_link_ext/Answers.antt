@@ -10,7 +10,8 @@ pub returns-in-Ok-clause-given : goal.returns-in-Ok-clause-given
 returns-in-Ok-clause-given c =
     let replaced = c.replace_link_ext.ensures in
     subst (λ (o : Option Start). IfSome o (λ s. GivesReplaceExt (packet_start s) c.args.index c.args.header.now
-    c.args.frame.now c.replace_link_ext.new.frame c.args.error.now c.answer.new.error c.answer.result)) c.in-Some.ensures
+    c.args.frame.now c.replace_link_ext.new.frame c.args.error.now c.answer.new.error c.answer.result))
+    c.in-Some.ensures
     (passed (ext_header_view c.in-Ok.ext) c.in-Ok.ensures.ext record {
       replaced = c.replace_link_ext.result;
       ok = replaced.ok;

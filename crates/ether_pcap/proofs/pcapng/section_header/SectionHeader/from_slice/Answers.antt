@@ -7,7 +7,8 @@ use Rattle.ether_pcap.proofs.pcapng.section_header.SectionHeader.from_slice.Goal
 pub returns-then-slice-lt-MIN_LEN-clause-refused : goal.returns-then-slice-lt-MIN_LEN-clause-refused
 returns-then-slice-lt-MIN_LEN-clause-refused c = short (omega arith)
 
-pub returns-then-block_type-ne-SECTION_HEADER-clause-refused : goal.returns-then-block_type-ne-SECTION_HEADER-clause-refused
+pub returns-then-block_type-ne-SECTION_HEADER-clause-refused :
+    goal.returns-then-block_type-ne-SECTION_HEADER-clause-refused
 returns-then-block_type-ne-SECTION_HEADER-clause-refused c =
     block_type c.u32_at-block_type.result (omega arith) (sym c.u32_at-block_type.ensures) (λ e. omega arith)
 

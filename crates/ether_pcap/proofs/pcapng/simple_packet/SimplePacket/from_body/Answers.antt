@@ -4,7 +4,8 @@ use Rattle.ether_pcap.specs.Views.{order_of}
 use Rattle.ether_pcap.specs.Bodies.{simple_too_long, simple_packet, captured_by}
 use Rattle.ether_pcap.proofs.pcapng.simple_packet.SimplePacket.from_body.Goals as goal
 
-pub returns-then-captured_len-gt-MAX_CAPTURED_LEN-clause-refused : goal.returns-then-captured_len-gt-MAX_CAPTURED_LEN-clause-refused
+pub returns-then-captured_len-gt-MAX_CAPTURED_LEN-clause-refused :
+    goal.returns-then-captured_len-gt-MAX_CAPTURED_LEN-clause-refused
 returns-then-captured_len-gt-MAX_CAPTURED_LEN-clause-refused c =
     let n = c.captured_len-captured_len.result in
     let e : captured_by c.args.snap_len (field (order_of c.args.byte_order) c.args.body.now 0 4) ≡ n =
