@@ -8,8 +8,8 @@ PROGRAM is `ether_capture`; TOOL, if given, is `ether_tool`. For each capture:
 - the bytes that tshark reads of each packet are those of `make.py`;
 - destination, source and ether type of each Ethernet frame are those of tshark;
 - the lines of each walk are those of the tool for the bytes that tshark read. Without a tool they are those of PROGRAM for a
-  classic capture of these bytes: that tests how the file is read, but not the walks, of which only the Ethernet header is then
-  compared with anything else;
+  classic capture of these bytes. That tests how the file is read, but not the walks: only the Ethernet header is then compared
+  with anything else;
 - `--plain` prints the lines of the walks alone;
 - a capture below 2,000 bytes is cut at every byte: the lines are those of the packets before the cut, then the totals if the cut
   is between two units, else `byte N: ..` with the place where the last unit begins, and status 3;

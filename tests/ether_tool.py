@@ -449,7 +449,7 @@ def each_length():
                    for length in range(2049))
 
 
-# 508 tags after an Ethernet II header, each of which announces one more, and two bytes.
+# 508 tags after an Ethernet II header, each announcing one more, and two bytes.
 TAGS = "0" * 24 + "81000000" * 509
 TAGS_TEXT = "ethernet2 0 000000000000 000000000000 0x8100\n" + "".join(
     f"vlan {14 + 4 * tag} pcp 0 dei 0 vid 0 0x8100\n" for tag in range(508)) + "fault 2046 open length 4 2 slice\n"

@@ -39,10 +39,10 @@ put_all_next (x ∷ xs) front old mid count counted held =
 abbrev tag_fields : Option ℕ → PayloadType → List FieldPlace
 tag_fields sci t = sec_tag_fields ++ (sci_fields sci ++ payload_type_fields t (48 + 64 * sci_present_of sci))
 
-abbrev tag_len : Option ℕ → PayloadType → ℕ
-tag_len sci t = 6 + 8 * sci_present_of sci + ether_type_len (encrypted_of t) (changed_of t)
+abbrev sec_tag_size : Option ℕ → PayloadType → ℕ
+sec_tag_size sci t = 6 + 8 * sci_present_of sci + ether_type_len (encrypted_of t) (changed_of t)
 
-few_of_tag : (sci : Option ℕ) (t : PayloadType) → length (tag_fields sci t) ≤ 2 * tag_len sci t
+few_of_tag : (sci : Option ℕ) (t : PayloadType) → length (tag_fields sci t) ≤ 2 * sec_tag_size sci t
 few_of_tag None (Unmodified n) = omega arith
 few_of_tag None Modified = omega arith
 few_of_tag None EncryptedUnmodified = omega arith
@@ -74,7 +74,7 @@ front_in list start more le are = (
   ),
 )
 
-tag_in : (list : List ℕ) (start : ℕ) (sci : Option ℕ) (t : PayloadType) → start + tag_len sci t ≤ length list
+tag_in : (list : List ℕ) (start : ℕ) (sci : Option ℕ) (t : PayloadType) → start + sec_tag_size sci t ≤ length list
     → AreIn list start (tag_fields sci t)
 tag_in list start None (Unmodified n) le = front_in list start
     (sci_fields None ++ payload_type_fields (Unmodified n) (48 + 64 * sci_present_of None)) (omega arith)

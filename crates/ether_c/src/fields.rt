@@ -37,7 +37,7 @@ pub extern "C" fn etherpeel_fields(
 
 /// Which unit it is, where it starts and where its payload ends.
 #[derive(Clone, Copy)]
-struct UnitPlace {
+struct NumberedUnit {
     index: usize,
     start: usize,
     payload_end: usize,
@@ -54,7 +54,7 @@ fn fields_walked(start: Start, bytes: &[u8], fields: &mut [EtherField]) -> usize
         let start = peel.offset();
         match peel.next() {
             Some(Ok(unit)) => {
-                let place = UnitPlace {
+                let place = NumberedUnit {
                     index,
                     start,
                     payload_end: peel.offset() + peel.rest().len(),
@@ -72,7 +72,7 @@ fn fields_walked(start: Start, bytes: &[u8], fields: &mut [EtherField]) -> usize
 fn put_unit(
     bytes: &[u8],
     unit: &PeelUnit<'_>,
-    place: UnitPlace,
+    place: NumberedUnit,
     fields: &mut [EtherField],
     at: usize,
 ) -> usize
@@ -101,7 +101,7 @@ fn put_unit(
 fn put_header(
     bytes: &[u8],
     unit: &PeelUnit<'_>,
-    place: UnitPlace,
+    place: NumberedUnit,
     fields: &mut [EtherField],
     at: usize,
 ) -> usize
@@ -111,7 +111,7 @@ fn put_header(
         (c_table bytes.now place.index place.start (header_fields (header_of unit.now))) }
     ensures next { result ≡ at + length (header_fields (header_of unit.now)) }
 {
-    let UnitPlace { index, start, .. } = place;
+    let NumberedUnit { index, start, .. } = place;
     match unit {
         PeelUnit::Ethernet2(_) => {
             put_table(bytes, index, start, &field_place::ethernet2(), fields, at)

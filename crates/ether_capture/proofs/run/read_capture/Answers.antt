@@ -14,7 +14,7 @@ use Rattle.ether_capture.proofs.ProgressLemmas.{Reached-start, Reached-more, Rea
 use Rattle.ether_capture.proofs.RunLemmas.{broken_off, counted_out, has_room, consumed_all, finished, same_left, stopped_at_end, stopped_for_good, stopped_with, without_memory}
 use Rattle.ether_capture.proofs.run.read_capture.Goals as goal
 
--- the error that is there is the one of which this holds
+-- what holds of an error that is there
 if_some : {o : Option CaptureError} {e : CaptureError} (P : CaptureError → Type 0) → o ≡ Some e → IfSome o P → P e
 if_some P is = subst (λ (q : Option CaptureError). IfSome q P) is
 
