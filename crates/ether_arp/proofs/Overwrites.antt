@@ -1,4 +1,4 @@
--- Lists of which a part is written over, and addresses replaced in them.
+-- Lists with a part written over, and addresses replaced in them.
 use Rattle.std.proofs.Common.{◌≡◌, ℕ, ◌+◌, ◌-◌, ◌≤◌, List, ◌++◌, length, take, drop, sym, ap, ◌∙◌, arith}
 use Rattle.std.specs.Prelude.{slice_range}
 use Rattle.std.proofs.lemmas.List.{append_assoc, drop_at, take_at, drop-drop, drop-take, length-append, length-drop, length-take-le}

@@ -164,7 +164,7 @@ keeps_end_less p frame new less front =
 
 -- ---- in a buffer
 
--- a packet after four bytes of a buffer, of which another frame replaces that at the front
+-- a packet after four bytes of a buffer, where another frame replaces the one at the front
 pub replaced_front : (buffer new packet : List ℕ) (k s : ℕ) → 4 + length packet ≤ length buffer
     → slice_range buffer 4 (4 + length packet) ≡ packet → k ≤ length packet → length new ≡ k → s ≤ k
     → slice_range (put_mid 4 (4 + k - 4) buffer new) (4 + s) (4 + length packet) ≡ drop s new ++ drop k packet
@@ -326,7 +326,7 @@ keeps_end_more p frame new more least front =
           omega (arith, most, k, more, least, le);
     }
 
--- the packet in a buffer, of which another frame replaces the first bytes
+-- the packet in a buffer whose first bytes another frame replaces
 replaced_whole : (buffer new packet : List ℕ) (k : ℕ) → 4 + length packet ≤ length buffer
     → slice_range buffer 4 (4 + length packet) ≡ packet → k ≤ length packet → length new ≡ k + 4
     → slice_range (new ++ drop (4 + k) buffer) 0 (4 + length packet) ≡ new ++ drop k packet

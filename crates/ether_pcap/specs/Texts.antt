@@ -1,19 +1,18 @@
 -- The texts of the errors.
-use Rattle.std.specs.Prelude.{ℕ, ◌/◌, ◌%◌, ◌^◌, List, [], ◌∷◌, ◌++◌, codes, true}
-use Rattle.std.specs.Fmt.{decimal, digit_glyph}
+use Rattle.std.specs.Prelude.{ℕ, ◌/◌, ◌%◌, ◌^◌, List, ◌++◌, codes, true}
+use Rattle.std.specs.Fmt.{decimal}
+use Rattle.ether_base.specs.Texts.NumberText.{hex_byte}
 use Rattle.ether_pcap.specs.declared.classic.file_header_error.FileHeaderError.{FileHeaderError}
 use Rattle.ether_pcap.specs.declared.classic.file_header_error.FileHeaderError.TheVariants as file_errors
 use Rattle.ether_pcap.specs.declared.classic.record_error.RecordError.{RecordError}
 use Rattle.ether_pcap.specs.declared.classic.record_error.RecordError.TheVariants as record_errors
 use Rattle.ether_pcap.specs.declared.classic.record_fault.RecordFault.{RecordFault}
 
--- the two hexadecimal digits of a byte
-unfoldable pub two_digits : ℕ → List ℕ
-two_digits n = digit_glyph true (n / 16) ∷ digit_glyph true (n % 16) ∷ []
-
 -- the eight hexadecimal digits of a number of four bytes
 abbrev pub eight_digits : ℕ → List ℕ
-eight_digits n = two_digits (n / 2 ^ 24) ++ (two_digits (n / 2 ^ 16 % 256) ++ (two_digits (n / 2 ^ 8 % 256) ++ two_digits (n % 256)))
+eight_digits n =
+    hex_byte true (n / 2 ^ 24)
+    ++ (hex_byte true (n / 2 ^ 16 % 256) ++ (hex_byte true (n / 2 ^ 8 % 256) ++ hex_byte true (n % 256)))
 
 abbrev pub file_header_error_text : FileHeaderError → List ℕ
 file_header_error_text (file_errors.Len required len) =

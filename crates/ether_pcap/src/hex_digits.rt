@@ -1,5 +1,5 @@
 //! Numbers as hexadecimal digits.
-ghost use Rattle.std.specs.Prelude.{Some};
+ghost use Rattle.std.specs.Prelude.{Some, true};
 
 use std::fmt;
 
@@ -27,9 +27,9 @@ impl fmt::Display for EightDigits {
 struct TwoDigits(u8);
 
 impl fmt::Display for TwoDigits {
-    ghost use Rattle.ether_pcap.specs.Texts.{two_digits};
+    ghost use Rattle.ether_base.specs.Texts.NumberText.{hex_byte};
 
-    ghost output = { λ byte. Some (two_digits byte.0) };
+    ghost output = { λ byte. Some (hex_byte true byte.0) };
 
     fn fmt<W: fmt::Write>(&self, f: &mut fmt::Formatter<W>) -> fmt::Result {
         let byte = self.0;

@@ -4,7 +4,8 @@ use Rattle.std.proofs.lemmas.Bool.{and_parts, cases_lt, eqb-true}
 use Rattle.std.specs.Fmt.{digit_glyph}
 use Rattle.hex.specs.Hex.{lower_digits, encode_with, encode_lower}
 use Rattle.etherparse.specs.Bytes.{IsBytes}
-use Rattle.ether_text.specs.HexText.{hex_byte, hex_text}
+use Rattle.ether_base.specs.Texts.NumberText.{hex_byte}
+use Rattle.ether_text.specs.HexText.{hex_text}
 use Rattle.ether_text.specs.declared.write_hex.TheConstants.{PAIRS}
 
 -- the test of one digit, which computes

@@ -1,11 +1,7 @@
 -- Bytes as hexadecimal text.
-use Rattle.std.specs.Prelude.{ℕ, ◌/◌, ◌%◌, List, [], ◌∷◌, Bool, false}
+use Rattle.std.specs.Prelude.{ℕ, List, false}
 use Rattle.std.specs.List.{flat_map}
-use Rattle.std.specs.Fmt.{digit_glyph}
-
--- a byte as two hexadecimal digits
-abbrev pub hex_byte : Bool → ℕ → List ℕ
-hex_byte upper b = digit_glyph upper (b / 16) ∷ digit_glyph upper (b % 16) ∷ []
+use Rattle.ether_base.specs.Texts.NumberText.{hex_byte}
 
 -- bytes in lower case
 unfoldable pub hex_text : List ℕ → List ℕ

@@ -2,7 +2,8 @@
 ghost use Rattle.std.specs.Prelude.{◌≡◌, ◌<◌, ◌*◌, ◌++◌, length, true, false, slice_index};
 ghost use Rattle.std.specs.Fmt.{digit_glyph};
 ghost use Rattle.etherparse.specs.NumberText.{hex_number};
-ghost use Rattle.ether_text.specs.HexText.{hex_byte, hex_text};
+ghost use Rattle.ether_base.specs.Texts.NumberText.{hex_byte};
+ghost use Rattle.ether_text.specs.HexText.{hex_text};
 
 use etherparse::EtherType;
 

@@ -16,7 +16,7 @@ layer_start_text layer offset =
     then codes " ('" ++ (layer_name layer ++ (codes "' starts at overall parsed byte " ++ (decimal offset ++ codes ").")))
     else codes "."
 
--- the text of a length error, of which fewer bytes are there than required, or else too many
+-- the text of a length error: fewer bytes are there than required, or else too many
 abbrev pub len_error_text : LenError → List ℕ
 len_error_text error =
     if nat_lt error.len error.required_len
