@@ -101,6 +101,7 @@ LONG = CASES[-9:]
 OFFSETS = {"an hour later": ("0e000800 100e000000000000", 3600), "no offset": ("0e000800 0000000000000000", 0),
            "two hours earlier": ("0e000800 e0e3ffffffffffff", -7200)}
 SHORT_LINES = "ethernet2 0 020000000001 020000000002 0x88B5"
+MANY_INTERFACES = interface("") + block(1, "01000000 00000000") * 65_535
 
 
 def one(seconds, walk):
@@ -125,7 +126,9 @@ CASES += [
          one(1_700_000_000, WITHOUT_TWO), 0),
     Case("flags that don't say it", [], interface("0d000100 04000000") + frame(*ENHANCED, "02000400 01000000"),
          one(1_700_000_000, WITHOUT_FOUR), 0),
-    Case("257 interfaces", [], interface("") + block(1, "01000000 00000000") * 256 + frame(6, "00010000"), one(1_700_000_000, WHOLE), 0),
+    Case("65,536 interfaces", [], MANY_INTERFACES + frame(6, "ffff0000"), one(1_700_000_000, WHOLE), 0),
+    Case("an interface more", [], MANY_INTERFACES + block(1, "01000000 00000000"),
+         f"byte {28 + 65_536 * 20}: A section of a pcapng file describes more interfaces than this reader keeps.\n", 3),
 ]
 
 

@@ -4,7 +4,7 @@ use Rattle.std.specs.Prelude.{Option, Some, None, Result, Ok, Err}
 use Rattle.std.proofs.Math.Seq.{take-nil}
 use Rattle.std.proofs.lemmas.List.{append_assoc, append-nil, length-append}
 use Rattle.ether_pcap.specs.Capture.{PacketValue, Beginning, CaptureRefusal, HasPackets}
-use Rattle.ether_pcap.specs.CaptureReading.{State, start, GivesNext, Gives}
+use Rattle.ether_pcap.specs.CaptureReading.{State, max_interfaces, start, GivesNext, Gives}
 use Rattle.ether_pcap.specs.CaptureViews.{captured_packet_view, capture_refusal_view}
 use Rattle.ether_pcap.specs.declared.capture.captured_packet.CapturedPacket.{CapturedPacket}
 use Rattle.ether_pcap.specs.declared.capture.capture_fault.CaptureFault.{CaptureFault}
@@ -95,7 +95,7 @@ pub record CapturedSoFar (file : List ℕ) (s : State) (count : ℕ) (old new : 
   pub packets : List PacketValue
   pub left : List ℕ
   pub fault : Option CaptureRefusal
-  pub has : HasPackets Beginning file packets left fault
+  pub has : HasPackets (Beginning max_interfaces) file packets left fault
   pub todo : List PacketValue
   pub rest : HasPackets s.expected s.rest todo left fault
   pub going : s.over ≡ false
@@ -109,7 +109,7 @@ pub record CapturedSoFar (file : List ℕ) (s : State) (count : ℕ) (old new : 
 
 pub captured_first : (file : List ℕ) (old : List EtherCaptured) → CapturedSoFar file (start file) 0 old old
 captured_first file old =
-    let c = some_packets Beginning file in
+    let c = some_packets (Beginning max_interfaces) file in
     record {
       packets = c.packets;
       left = c.rest;
@@ -172,7 +172,9 @@ captured_fault file s t f count old new a gives =
     record {
       packets = a.packets;
       left = a.left;
-      has = subst (λ (r : Option CaptureRefusal). HasPackets Beginning file a.packets a.left r) n.refusal a.has;
+      has =
+          subst (λ (r : Option CaptureRefusal). HasPackets (Beginning max_interfaces) file a.packets a.left r)
+          n.refusal a.has;
       place = omega arith;
       given = a.given;
       are = subst (λ (ps : List PacketValue). HoldPackets a.given ps) (sym all) a.are;
@@ -189,7 +191,9 @@ captured_none file s t count old new a gives =
     record {
       packets = a.packets;
       left = a.left;
-      has = subst (λ (r : Option CaptureRefusal). HasPackets Beginning file a.packets a.left r) n.no_fault a.has;
+      has =
+          subst (λ (r : Option CaptureRefusal). HasPackets (Beginning max_interfaces) file a.packets a.left r)
+          n.no_fault a.has;
       place = tt;
       given = a.given;
       are = subst (λ (ps : List PacketValue). HoldPackets a.given ps) (sym all) a.are;

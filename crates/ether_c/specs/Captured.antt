@@ -2,6 +2,7 @@
 use Rattle.std.specs.Prelude.{◌≡◌, ℕ, ◌+◌, List, [], ◌∷◌, ◌++◌, length, take, drop, Option, Some, None, unwrap_or, IfSome, ◌⊎◌}
 use Rattle.std.specs.Option.{option_map}
 use Rattle.ether_pcap.specs.Capture.{TimeValue, PacketValue, Beginning, HasPackets, required_len}
+use Rattle.ether_pcap.specs.CaptureReading.{max_interfaces}
 use Rattle.ether_pcap.specs.CaptureViews.{capture_refusal_view}
 use Rattle.ether_pcap.specs.CaptureTexts.{capture_fault_text}
 use Rattle.ether_pcap.specs.declared.capture.capture_fault.CaptureFault.{CaptureFault}
@@ -43,7 +44,7 @@ pub record HasCaptured (file : List ℕ) (old new : List EtherCaptured) (count :
     (fault : Option CaptureFault) : Type 0 where
   pub packets : List PacketValue
   pub left : List ℕ
-  pub has : HasPackets Beginning file packets left
+  pub has : HasPackets (Beginning max_interfaces) file packets left
       (option_map (λ f. capture_refusal_view f.error) fault)
   pub place : IfSome fault (λ f. f.offset + length left ≡ length file)
   pub given : List EtherCaptured

@@ -2,7 +2,7 @@
 use Rattle.std.proofs.Common.{◌≡◌, ◌≢◌, ◌⊎◌, ℕ, ◌≤◌, List, [], ◌∷◌, ◌++◌, length, take, drop, Option, Some, None, refl, sym, ap, subst, ◌∙◌, arith, append_assoc, append-nil, inl, inr, zero, suc}
 use Rattle.std.proofs.lemmas.List.{take-append-le, take_all, length-take-le}
 use Rattle.ether_filter.specs.Expressions.{Expression}
-use Rattle.ether_pcap.specs.Capture.{PacketValue, Expectation, Beginning, CaptureRefusal, Begins, Refuses, IsEnd, HasPackets}
+use Rattle.ether_pcap.specs.Capture.{PacketValue, Expectation, HasBegun, CaptureRefusal, Begins, Refuses, IsEnd, HasPackets}
 use Rattle.ether_pcap.specs.Editing.{EditedValue, unit_after}
 use Rattle.ether_pcap.specs.Writing.{zeros}
 use Rattle.ether_pcap.specs.Copies.{CopyFault, Refused, NotEdited, Copies, ended, refused, not_edited, unit, keeps, leaves, EditsNone, edited_all}
@@ -11,6 +11,7 @@ use Rattle.ether_pcap.proofs.CaptureSome.{at_end}
 use Rattle.ether_pcap.proofs.Copies.{copy_read, copy_source, copy_nothing, copy_all}
 use Rattle.ether_content.specs.Editing.{EditValue}
 use Rattle.ether_capture.specs.Copying.{EditsTo, EditsIf, IsCopyTo, CopyGoesOn}
+use Rattle.ether_capture.specs.Packets.{capture_start}
 use Rattle.ether_capture.specs.Task.{IsChosen}
 use Rattle.ether_capture.proofs.PacketsLemmas.{unit_front, after_front}
 
@@ -38,9 +39,9 @@ module _ (select : Option Expression) (asked : Option EditValue) (edit : PacketV
 
   -- what is known of a copy
   pub is_copy : (bytes copy : List ℕ) (kept : List PacketValue) (rest : List ℕ) (fault : Option CopyFault)
-      → Copied Beginning bytes copy kept rest fault → IsCopyTo edit select asked bytes copy rest fault
+      → Copied capture_start bytes copy kept rest fault → IsCopyTo edit select asked bytes copy rest fault
   is_copy bytes copy kept rest fault copies =
-      let source = copy_source (IsChosen select) edit Beginning bytes copy kept rest fault copies in
+      let source = copy_source (IsChosen select) edit capture_start bytes copy kept rest fault copies in
       record {
         packets = source.packets;
         kept = kept;
@@ -48,18 +49,20 @@ module _ (select : Option Expression) (asked : Option EditValue) (edit : PacketV
         selected = source.selected;
         copies = copies;
         is_read = λ some.
-            copy_read (IsChosen select) edit Beginning bytes copy kept rest fault copies (inr (not_empty some));
+            copy_read (IsChosen select) edit capture_start bytes copy kept rest fault copies (inr (not_empty some));
         nothing = λ none.
-            (copy_nothing (IsChosen select) edit Beginning bytes copy kept rest fault copies refl none).1;
+            (copy_nothing (IsChosen select) edit capture_start bytes copy kept rest fault copies (λ begun. begun)
+            none).1;
         all = λ every whole.
-            copy_all edit (none_edited asked edit whole edits) Beginning bytes copy kept rest fault
-            (subst (λ (s : Option Expression). Copies (IsChosen s) edit Beginning bytes copy kept rest fault)
+            copy_all edit (none_edited asked edit whole edits) capture_start bytes copy kept rest fault
+            (subst (λ (s : Option Expression). Copies (IsChosen s) edit capture_start bytes copy kept rest fault)
             every copies);
       }
     where
       not_empty : (fault ≡ None) ⊎ (copy ≢ []) → copy ≢ []
       not_empty (inl none) = λ e.
-          (copy_nothing (IsChosen select) edit Beginning bytes copy kept rest fault copies refl e).2 none
+          (copy_nothing (IsChosen select) edit capture_start bytes copy kept rest fault copies (λ begun. begun) e).2
+          none
       not_empty (inr some) = some
 
   -- what is left after a unit is copied
@@ -71,7 +74,7 @@ module _ (select : Option Expression) (asked : Option EditValue) (edit : PacketV
       subst (λ (l : List ℕ). Copied y l more others rest fault) (sym (after_front buffered later len within)) copies
 
   -- nothing is read
-  pub CopyGoesOn-start : Goes [] [] [] Beginning
+  pub CopyGoesOn-start : Goes [] [] [] capture_start
   CopyGoesOn-start later more others rest fault copies = copies
 
   -- a unit that is no packet is copied
@@ -81,9 +84,9 @@ module _ (select : Option Expression) (asked : Option EditValue) (edit : PacketV
       → Goes (front ++ take len buffered) (copy ++ take len buffered) kept y
   CopyGoesOn-unit front copy kept x y buffered len within is go later more others rest fault copies =
       let own = take len buffered in
-      subst (λ (l : List ℕ). Copied Beginning l ((copy ++ own) ++ more) (kept ++ others) rest fault)
+      subst (λ (l : List ℕ). Copied capture_start l ((copy ++ own) ++ more) (kept ++ others) rest fault)
       (sym (append_assoc front own later))
-      (subst (λ (l : List ℕ). Copied Beginning (front ++ (own ++ later)) l (kept ++ others) rest fault)
+      (subst (λ (l : List ℕ). Copied capture_start (front ++ (own ++ later)) l (kept ++ others) rest fault)
       (ap (λ (l : List ℕ). copy ++ (l ++ more)) (own_front buffered later len within) ∙ sym
       (append_assoc copy own more))
       (go (own ++ later) (take len (own ++ later) ++ more) others rest fault
@@ -98,11 +101,12 @@ module _ (select : Option Expression) (asked : Option EditValue) (edit : PacketV
       → Goes (front ++ take len buffered) (copy ++ text) (kept ++ p ∷ []) y
   CopyGoesOn-kept front copy text kept p x y buffered len within is chosen fits go later more others rest fault copies =
       let own = take len buffered in
-      subst (λ (l : List PacketValue). Copied Beginning ((front ++ own) ++ later) ((copy ++ text) ++ more) l rest fault)
+      subst
+      (λ (l : List PacketValue). Copied capture_start ((front ++ own) ++ later) ((copy ++ text) ++ more) l rest fault)
       (sym (append_assoc kept (p ∷ []) others))
-      (subst (λ (l : List ℕ). Copied Beginning ((front ++ own) ++ later) l (kept ++ p ∷ others) rest fault)
+      (subst (λ (l : List ℕ). Copied capture_start ((front ++ own) ++ later) l (kept ++ p ∷ others) rest fault)
       (sym (append_assoc copy text more))
-      (subst (λ (l : List ℕ). Copied Beginning l (copy ++ (text ++ more)) (kept ++ p ∷ others) rest fault)
+      (subst (λ (l : List ℕ). Copied capture_start l (copy ++ (text ++ more)) (kept ++ p ∷ others) rest fault)
       (sym (append_assoc front own later))
       (go (own ++ later) (text ++ more) (p ∷ others) rest fault
       (keeps x y (own ++ later) text more len p others rest fault (unit_front buffered later x y len (Some p) within is)
@@ -116,7 +120,7 @@ module _ (select : Option Expression) (asked : Option EditValue) (edit : PacketV
       → Goes front copy kept x → Goes (front ++ take len buffered) copy kept y
   CopyGoesOn-left front copy kept p x y buffered len within is not_chosen go later more others rest fault copies =
       let own = take len buffered in
-      subst (λ (l : List ℕ). Copied Beginning l (copy ++ more) (kept ++ others) rest fault)
+      subst (λ (l : List ℕ). Copied capture_start l (copy ++ more) (kept ++ others) rest fault)
       (sym (append_assoc front own later))
       (go (own ++ later) more others rest fault
       (leaves x y (own ++ later) more len p others rest fault (unit_front buffered later x y len (Some p) within is)
@@ -125,23 +129,24 @@ module _ (select : Option Expression) (asked : Option EditValue) (edit : PacketV
 
   -- the copy ends
   ended_copy : (bytes copy : List ℕ) (kept : List PacketValue) (rest : List ℕ) (fault : Option CopyFault)
-      → Copied Beginning bytes (copy ++ []) (kept ++ []) rest fault → Copied Beginning bytes copy kept rest fault
+      → Copied capture_start bytes (copy ++ []) (kept ++ []) rest fault
+      → Copied capture_start bytes copy kept rest fault
   ended_copy bytes copy kept rest fault copies =
-      subst (λ (l : List ℕ). Copied Beginning bytes l kept rest fault) (append-nil copy)
-      (subst (λ (l : List PacketValue). Copied Beginning bytes (copy ++ []) l rest fault) (append-nil kept) copies)
+      subst (λ (l : List ℕ). Copied capture_start bytes l kept rest fault) (append-nil copy)
+      (subst (λ (l : List PacketValue). Copied capture_start bytes (copy ++ []) l rest fault) (append-nil kept) copies)
 
   -- .. at the end of a capture that has begun
-  pub copied_to_end : (front copy : List ℕ) (kept : List PacketValue) (x : Expectation) → x ≢ Beginning
-      → Goes front copy kept x → Copied Beginning front copy kept [] None
+  pub copied_to_end : (front copy : List ℕ) (kept : List PacketValue) (x : Expectation) → HasBegun x
+      → Goes front copy kept x → Copied capture_start front copy kept [] None
   copied_to_end front copy kept x begun go =
-      subst (λ (l : List ℕ). Copied Beginning l copy kept [] None) (append-nil front)
+      subst (λ (l : List ℕ). Copied capture_start l copy kept [] None) (append-nil front)
       (ended_copy (front ++ []) copy kept [] None (go [] [] [] [] None (ended x [] (begun, refl))))
 
   -- .. at a refusal of all that is left
   pub copied_to_refusal : (front copy : List ℕ) (kept : List PacketValue) (x : Expectation) (left : List ℕ)
       (r : CaptureRefusal)
       → ¬ (IsEnd x left) → Refuses left x r → Goes front copy kept x
-      → Copied Beginning (front ++ left) copy kept left (Some (Refused r))
+      → Copied capture_start (front ++ left) copy kept left (Some (Refused r))
   copied_to_refusal front copy kept x left r more is go =
       ended_copy (front ++ left) copy kept left (Some (Refused r))
       (go left [] [] left (Some (Refused r)) (refused x left r more is))
@@ -151,7 +156,7 @@ module _ (select : Option Expression) (asked : Option EditValue) (edit : PacketV
       (len : ℕ) (p : PacketValue)
       → len ≤ length buffered → Begins buffered x len (Some p) x → IsChosen select p
       → unit_after x p (edit p) (take len buffered) ≡ None → Goes front copy kept x
-      → Copied Beginning (front ++ (buffered ++ later)) copy kept (buffered ++ later) (Some (NotEdited p))
+      → Copied capture_start (front ++ (buffered ++ later)) copy kept (buffered ++ later) (Some (NotEdited p))
   copied_to_packet front copy kept x buffered later len p within begins is not_written go =
       ended_copy (front ++ (buffered ++ later)) copy kept (buffered ++ later) (Some (NotEdited p))
       (go (buffered ++ later) [] [] (buffered ++ later) (Some (NotEdited p))
@@ -162,14 +167,14 @@ module _ (select : Option Expression) (asked : Option EditValue) (edit : PacketV
   pub read_so_far : (front copy : List ℕ) (kept : List PacketValue) (x : Expectation) (left : List ℕ)
       (r : CaptureRefusal)
       → Refuses left x r → Goes front copy kept x → copy ≢ []
-      → HasPackets Beginning copy (edited_all edit kept) [] None
+      → HasPackets capture_start copy (edited_all edit kept) [] None
   read_so_far front copy kept x left r is go some =
       elim (at_end x left) [
         | inl end ↦
-            copy_read (IsChosen select) edit Beginning front copy kept [] None
+            copy_read (IsChosen select) edit capture_start front copy kept [] None
             (copied_to_end front copy kept x end.0 go) (inr some)
         | inr more ↦
-            copy_read (IsChosen select) edit Beginning (front ++ left) copy kept left (Some (Refused r))
+            copy_read (IsChosen select) edit capture_start (front ++ left) copy kept left (Some (Refused r))
             (copied_to_refusal front copy kept x left r more is go) (inr some)
       ]
 

@@ -5,7 +5,7 @@ use Rattle.std.proofs.lemmas.List.{length-append, take-append-drop, length-take-
 use Rattle.std.proofs.lemmas.List.Sums.{sum_by-append}
 use Rattle.std.specs.List.{sum_by}
 use Rattle.ether_filter.specs.Expressions.{Expression}
-use Rattle.ether_pcap.specs.Capture.{PacketValue, Expectation, Beginning, Begins}
+use Rattle.ether_pcap.specs.Capture.{PacketValue, Expectation, Begins}
 use Rattle.ether_pcap.specs.Copies.{Selected, none, one_kept, one_left}
 use Rattle.ether_pcap.proofs.CaptureLocality.{unit_alone}
 use Rattle.ether_pcap.proofs.PacketUnits.{same_after}
@@ -14,7 +14,7 @@ use Rattle.ether_text.specs.Verdict.{verdict_of, verdict_with}
 use Rattle.ether_capture.specs.Answering.{AreAnswered, AreListed}
 use Rattle.ether_capture.specs.Copying.{CopyGoesOn}
 use Rattle.ether_capture.specs.FrameLines.{AnswersPacket, skip_count}
-use Rattle.ether_capture.specs.Packets.{counted}
+use Rattle.ether_capture.specs.Packets.{capture_start, counted}
 use Rattle.ether_capture.specs.Progress.{Made, IsUnitOf, Writes, writes_unit, writes_nothing, writes_packet, Makes, other_text}
 use Rattle.ether_capture.specs.Task.{FormValue, Lines, Copy, IsChosen, packets_before}
 use Rattle.ether_capture.specs.declared.task.LineOptions.{LineOptions}
@@ -259,7 +259,7 @@ made_more select (Copy edit) packets kept front text all x y buffered len number
     unit_is selected made refl makes.0)
 
 -- nothing is made yet
-pub made_start : (select : Option Expression) (form : FormValue) → Made select form [] [] [] [] true Beginning
+pub made_start : (select : Option Expression) (form : FormValue) → Made select form [] [] [] [] true capture_start
 made_start select (Lines options) = (refl, refl)
 made_start select (Copy edit) = (λ to edits. CopyGoesOn-start select edit to edits, refl)
 

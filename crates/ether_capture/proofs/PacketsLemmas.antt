@@ -1,9 +1,9 @@
 -- The packets of a capture, as further units are read.
-use Rattle.std.proofs.Common.{◌≡◌, ◌≢◌, ℕ, ◌≤◌, List, [], ◌∷◌, ◌++◌, length, take, drop, Option, Some, None, refl, sym, ap, subst, ◌∙◌, arith, append_assoc, append-nil}
+use Rattle.std.proofs.Common.{◌≡◌, ℕ, ◌≤◌, List, [], ◌∷◌, ◌++◌, length, take, drop, Option, Some, None, refl, sym, ap, subst, ◌∙◌, arith, append_assoc, append-nil}
 use Rattle.std.proofs.lemmas.List.{drop-append-le, drop_all, take-append-drop, length-take-le}
-use Rattle.ether_pcap.specs.Capture.{PacketValue, Expectation, Beginning, CaptureRefusal, Begins, Refuses, IsEnd, HasPackets, ended, refused, unit, packet}
+use Rattle.ether_pcap.specs.Capture.{PacketValue, Expectation, HasBegun, CaptureRefusal, Begins, Refuses, IsEnd, HasPackets, ended, refused, unit, packet}
 use Rattle.ether_pcap.proofs.CaptureLocality.{unit_local, unit_alone}
-use Rattle.ether_capture.specs.Packets.{GoesOn}
+use Rattle.ether_capture.specs.Packets.{capture_start, GoesOn}
 
 -- a unit that was read is a unit whatever follows it
 pub unit_front : (buffered later : List ℕ) (x y : Expectation) (len : ℕ) (p : Option PacketValue)
@@ -25,7 +25,7 @@ after_front buffered later len within =
     ∙ ap (λ (l : List ℕ). l ++ later) (drop_all len front (omega (arith, long)))
 
 -- nothing is read
-pub GoesOn-start : GoesOn [] [] Beginning
+pub GoesOn-start : GoesOn [] [] capture_start
 GoesOn-start later others rest fault h = h
 
 -- a unit that is no packet is read
@@ -34,7 +34,8 @@ pub GoesOn-unit : (front : List ℕ) (packets : List PacketValue) (x y : Expecta
     → GoesOn front packets x → GoesOn (front ++ take len buffered) packets y
 GoesOn-unit front packets x y buffered len within is go later others rest fault h =
     let own = take len buffered in
-    subst (λ (l : List ℕ). HasPackets Beginning l (packets ++ others) rest fault) (sym (append_assoc front own later))
+    subst (λ (l : List ℕ). HasPackets capture_start l (packets ++ others) rest fault)
+    (sym (append_assoc front own later))
     (go (own ++ later) others rest fault
     (unit x y (own ++ later) len others rest fault (unit_front buffered later x y len None within is)
     (subst (λ (l : List ℕ). HasPackets y l others rest fault) (sym (after_front buffered later len within)) h)))
@@ -46,27 +47,27 @@ pub GoesOn-packet : (front : List ℕ) (packets : List PacketValue) (p : PacketV
     → GoesOn front packets x → GoesOn (front ++ take len buffered) (packets ++ p ∷ []) y
 GoesOn-packet front packets p x y buffered len within is go later others rest fault h =
     let own = take len buffered in
-    subst (λ (l : List PacketValue). HasPackets Beginning ((front ++ own) ++ later) l rest fault)
+    subst (λ (l : List PacketValue). HasPackets capture_start ((front ++ own) ++ later) l rest fault)
     (sym (append_assoc packets (p ∷ []) others))
-    (subst (λ (l : List ℕ). HasPackets Beginning l (packets ++ p ∷ others) rest fault)
+    (subst (λ (l : List ℕ). HasPackets capture_start l (packets ++ p ∷ others) rest fault)
     (sym (append_assoc front own later))
     (go (own ++ later) (p ∷ others) rest fault
     (packet x y (own ++ later) len p others rest fault (unit_front buffered later x y len (Some p) within is)
     (subst (λ (l : List ℕ). HasPackets y l others rest fault) (sym (after_front buffered later len within)) h))))
 
 -- the end of a capture that has begun
-pub GoesOn-ended : (front : List ℕ) (packets : List PacketValue) (x : Expectation) → x ≢ Beginning
-    → GoesOn front packets x → HasPackets Beginning front packets [] None
+pub GoesOn-ended : (front : List ℕ) (packets : List PacketValue) (x : Expectation) → HasBegun x
+    → GoesOn front packets x → HasPackets capture_start front packets [] None
 GoesOn-ended front packets x begun go =
-    subst (λ (l : List ℕ). HasPackets Beginning l packets [] None) (append-nil front)
-    (subst (λ (l : List PacketValue). HasPackets Beginning (front ++ []) l [] None) (append-nil packets)
+    subst (λ (l : List ℕ). HasPackets capture_start l packets [] None) (append-nil front)
+    (subst (λ (l : List PacketValue). HasPackets capture_start (front ++ []) l [] None) (append-nil packets)
     (go [] [] [] None (ended x [] (begun, refl))))
 
 -- a refusal of all that is left
 pub GoesOn-refused : (front : List ℕ) (packets : List PacketValue) (x : Expectation) (left : List ℕ)
     (r : CaptureRefusal)
     → ¬ (IsEnd x left) → Refuses left x r → GoesOn front packets x
-    → HasPackets Beginning (front ++ left) packets left (Some r)
+    → HasPackets capture_start (front ++ left) packets left (Some r)
 GoesOn-refused front packets x left r more is go =
-    subst (λ (l : List PacketValue). HasPackets Beginning (front ++ left) l left (Some r)) (append-nil packets)
+    subst (λ (l : List PacketValue). HasPackets capture_start (front ++ left) l left (Some r)) (append-nil packets)
     (go left [] left (Some r) (refused x left r more is))

@@ -4,7 +4,7 @@ use Rattle.std.proofs.lemmas.List.{length-append, length-drop, take_all, length-
 use Rattle.std.specs.List.{sum_by}
 use Rattle.std.specs.Io.KnownBytes.{Appends}
 use Rattle.ether_filter.specs.Expressions.{Expression}
-use Rattle.ether_pcap.specs.Capture.{PacketValue, Expectation, Beginning, Begins}
+use Rattle.ether_pcap.specs.Capture.{PacketValue, Expectation, HasBegun, Begins}
 use Rattle.ether_pcap.specs.Copies.{Selected, none}
 use Rattle.ether_pcap.specs.Editing.{EditedValue, unit_after}
 use Rattle.ether_pcap.proofs.PacketUnits.{begun, same_after}
@@ -120,7 +120,7 @@ ends_more : (select : Option Expression) (count : Option ℕ) (packets kept : Li
     → len ≤ length buffered → Begins buffered x len packet y → GoesOn front packets x
     → Selected (IsChosen select) packets kept
     → IsLeftOf count (length kept) old → old ≢ Some 0 → LeftMore select packet old new → new ≡ Some 0
-    → (y ≢ Beginning) × EndsAtCount select count (front ++ take len buffered)
+    → HasBegun y × EndsAtCount select count (front ++ take len buffered)
 ends_more select count packets kept front x y buffered len None old new within begins go selected is some less done =
     absurd (some (sym less ∙ done))
 ends_more select count packets kept front x y buffered len (Some p) None new within begins go selected is some less
@@ -309,7 +309,7 @@ module _ {W : Type 0} (task : TaskValue) (contents : W → Option (List ℕ)) wh
         at_count = λ none.
             subst
             (λ (x : Expectation).
-            (x ≢ Beginning) × EndsAtCount task.select task.count (so_far.front ++ take len buffered))
+            HasBegun x × EndsAtCount task.select task.count (so_far.front ++ take len buffered))
             (sym takes.same_reader)
             (ends_more task.select task.count so_far.packets so_far.kept so_far.front old.reader y buffered len packet
             old.left new.left within begins so_far.parts so_far.selected so_far.is_left some less none);

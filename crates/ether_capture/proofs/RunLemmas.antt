@@ -7,7 +7,7 @@ use Rattle.ether_pcap.specs.FileHeader as file
 use Rattle.ether_pcap.specs.Record as record_rows
 use Rattle.ether_pcap.specs.Block as block_rows
 use Rattle.ether_pcap.specs.Section as section_rows
-use Rattle.ether_pcap.specs.Capture.{PacketValue, Expectation, Beginning, CaptureRefusal, Refuses, file_header_refused, file_record_refused, first_section_refused, section_refused, block_refused, body_refused, required_len, IsEnd, HasPackets}
+use Rattle.ether_pcap.specs.Capture.{PacketValue, Expectation, HasBegun, CaptureRefusal, Refuses, file_header_refused, file_record_refused, first_section_refused, section_refused, block_refused, body_refused, required_len, IsEnd, HasPackets}
 use Rattle.ether_pcap.specs.CaptureViews.{capture_refusal_view}
 use Rattle.ether_pcap.specs.Copies.{CopyFault, Refused, NotEdited}
 use Rattle.ether_pcap.specs.Editing.{EditedValue}
@@ -24,7 +24,7 @@ use Rattle.ether_content.specs.Editing.{EditValue}
 use Rattle.ether_capture.specs.Copying.{IsCopyTo}
 use Rattle.ether_capture.specs.Counting.{HasCounted, IfRead}
 use Rattle.ether_capture.specs.FrameLines.{skip_count}
-use Rattle.ether_capture.specs.Packets.{counted, GoesOn, HasFewer}
+use Rattle.ether_capture.specs.Packets.{capture_start, counted, GoesOn, HasFewer}
 use Rattle.ether_capture.specs.Progress.{Made, Reached, counts_at, TakesUnits, UneditedIn, StopsAfter, OnNotEdited, IsTakingFault, last_lines}
 use Rattle.ether_capture.specs.Run.{Completes, CompletesAll, ReachesCount, StopsAtFault, StopsAtPacket, EndsInUnit, AnswersSlice, AnswersSliceOver, NeedsMemory, HasRun, HasRunOver, OnStreamFault}
 use Rattle.ether_capture.specs.Task.{TaskValue, FormValue, Lines, Copy, packets_before}
@@ -76,30 +76,30 @@ nothing_of_blocks r n some none = let e : Some n ≡ None = sym some ∙ none in
 
 pub refused_nothing : (bytes : List ℕ) (x : Expectation) (r : CaptureRefusal) → bytes ≡ [] → Refuses bytes x r
     → required_len r ≡ None → ⊥
-refused_nothing bytes x r e (file_header_refused s other (file.short lt)) none = nothing_of_blocks r 24 refl none
-refused_nothing bytes x r e (file_header_refused s other (file.magic le never)) none =
+refused_nothing bytes x r e (file_header_refused most s other (file.short lt)) none = nothing_of_blocks r 24 refl none
+refused_nothing bytes x r e (file_header_refused most s other (file.magic le never)) none =
     let n = ap length e in omega (arith, le, n)
-refused_nothing bytes x r e (file_header_refused s other (file.version order resolution le has never)) none =
+refused_nothing bytes x r e (file_header_refused most s other (file.version order resolution le has never)) none =
     let n = ap length e in omega (arith, le, n)
 refused_nothing bytes x r e (file_record_refused h s (record_rows.header lt)) none = nothing_of_blocks r 16 refl none
 refused_nothing bytes x r e (file_record_refused h s (record_rows.too_long le lt)) none =
     let n = ap length e in omega (arith, le, n)
 refused_nothing bytes x r e (file_record_refused h s (record_rows.packet le small lt)) none =
     let n = ap length e in omega (arith, le, n)
-refused_nothing bytes x r e (first_section_refused s has refused) none =
+refused_nothing bytes x r e (first_section_refused most s has refused) none =
     no_section (subst section_rows.HasSectionType e has)
-refused_nothing bytes x r e (section_refused order interfaces s has refused) none =
+refused_nothing bytes x r e (section_refused most order interfaces s has refused) none =
     no_section (subst section_rows.HasSectionType e has)
-refused_nothing bytes x r e (block_refused order interfaces s other (block_rows.front lt)) none =
+refused_nothing bytes x r e (block_refused most order interfaces s other (block_rows.front lt)) none =
     nothing_of_blocks r 12 refl none
-refused_nothing bytes x r e (block_refused order interfaces s other (block_rows.total_len le never)) none =
+refused_nothing bytes x r e (block_refused most order interfaces s other (block_rows.total_len le never)) none =
     let n = ap length e in omega (arith, le, n)
-refused_nothing bytes x r e (block_refused order interfaces s other (block_rows.body m le is sound lt)) none =
+refused_nothing bytes x r e (block_refused most order interfaces s other (block_rows.body m le is sound lt)) none =
     let n = ap length e in omega (arith, le, n)
-refused_nothing bytes x r e (block_refused order interfaces s other (block_rows.trailer m k le is sound whole at never))
-    none =
+refused_nothing bytes x r e
+    (block_refused most order interfaces s other (block_rows.trailer m k le is sound whole at never)) none =
     let n = ap length e in omega (arith, le, n)
-refused_nothing bytes x r e (body_refused order interfaces b s other begins refused) none =
+refused_nothing bytes x r e (body_refused most order interfaces b s other begins refused) none =
     let n = ap length e in let w = begins.whole in omega (arith, w, n)
 
 -- ---- what is made of a capture, by how it ends
@@ -111,14 +111,15 @@ module _ (select : Option Expression) (bytes front text : List ℕ) (packets kep
   IsCopyBy edit to bytes copy rest fault = IsCopyTo to select edit bytes copy rest fault
 
   -- it ends after a unit
-  completed : (form : FormValue) → bytes ≡ front → x ≢ Beginning → Made select form packets kept front text all x
+  completed : (form : FormValue) → bytes ≡ front → HasBegun x → Made select form packets kept front text all x
       → Completes select form packets bytes
       (text ++ last_lines form (counted (packets_before form + length packets))
       (counted (sum_by skip_count packets))) all
   completed (Lines options) is begun made = record {
     lines = text;
     has =
-        subst (λ (l : List ℕ). HasPackets Beginning l packets [] None) (sym is) (GoesOn-ended front packets x begun go);
+        subst (λ (l : List ℕ). HasPackets capture_start l packets [] None) (sym is)
+        (GoesOn-ended front packets x begun go);
     answered = made;
     is_text = refl;
   }
@@ -142,7 +143,7 @@ module _ (select : Option Expression) (bytes front text : List ℕ) (packets kep
     rest = rest;
     all_accepted = all;
     has =
-        subst (λ (l : List ℕ). HasPackets Beginning l packets rest (Some (capture_refusal_view error))) (sym place)
+        subst (λ (l : List ℕ). HasPackets capture_start l packets rest (Some (capture_refusal_view error))) (sym place)
         (GoesOn-refused front packets x rest (capture_refusal_view error) more refused go);
     place = place;
     is_offset = at;

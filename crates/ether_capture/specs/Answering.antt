@@ -2,11 +2,11 @@
 use Rattle.std.specs.Prelude.{◌≡◌, ℕ, ◌+◌, List, [], ◌∷◌, ◌++◌, length, Bool, true, ◌&&◌, Option, Some, None}
 use Rattle.std.specs.List.{sum_by}
 use Rattle.ether_filter.specs.Expressions.{Expression}
-use Rattle.ether_pcap.specs.Capture.{PacketValue, Expectation, Beginning, CaptureRefusal, Refuses, required_len, HasPackets}
+use Rattle.ether_pcap.specs.Capture.{PacketValue, Expectation, CaptureRefusal, Refuses, required_len, HasPackets}
 use Rattle.ether_pcap.specs.CaptureViews.{capture_refusal_view}
 use Rattle.ether_pcap.specs.declared.capture.capture_fault.CaptureFault.{CaptureFault}
 use Rattle.ether_capture.specs.FrameLines.{AnswersPacket, skip_count, totals_line_after}
-use Rattle.ether_capture.specs.Packets.{counted, GoesOn, HasFewer}
+use Rattle.ether_capture.specs.Packets.{capture_start, counted, GoesOn, HasFewer}
 use Rattle.ether_capture.specs.Task.{Lines, packets_before}
 use Rattle.ether_capture.specs.declared.task.LineOptions.{LineOptions}
 
@@ -32,7 +32,7 @@ AreListed select options packets text all = AreAnswered select options (packets_
 pub record AnswersCapture (select : Option Expression) (options : LineOptions) (packets : List PacketValue) (bytes text : List ℕ)
     (all_accepted : Bool) : Type 0 where
   pub lines : List ℕ
-  pub has : HasPackets Beginning bytes packets [] None
+  pub has : HasPackets capture_start bytes packets [] None
   pub answered : AreListed select options packets lines all_accepted
   pub is_text : text ≡ lines ++ totals_of options packets
 
@@ -42,7 +42,7 @@ pub record AnswersToFault (select : Option Expression) (count : Option ℕ) (opt
   pub front : List ℕ
   pub rest : List ℕ
   pub all_accepted : Bool
-  pub has : HasPackets Beginning bytes packets rest (Some (capture_refusal_view fault.error))
+  pub has : HasPackets capture_start bytes packets rest (Some (capture_refusal_view fault.error))
   pub place : bytes ≡ front ++ rest
   pub is_offset : fault.offset ≡ counted (length front)
   pub fewer : HasFewer select count front

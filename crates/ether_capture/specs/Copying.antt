@@ -1,11 +1,11 @@
 -- The copy of a capture.
 use Rattle.std.specs.Prelude.{◌≡◌, ◌≢◌, ◌⊎◌, ℕ, List, [], ◌++◌, length, Bool, true, Option, Some, None}
 use Rattle.ether_filter.specs.Expressions.{Expression}
-use Rattle.ether_pcap.specs.Capture.{PacketValue, Expectation, Beginning, CaptureRefusal, Refuses, required_len, HasPackets}
+use Rattle.ether_pcap.specs.Capture.{PacketValue, Expectation, CaptureRefusal, Refuses, required_len, HasPackets}
 use Rattle.ether_pcap.specs.Copies.{CopyFault, NotEdited, Copies, Selected, HasPacketsTo, edited_all}
 use Rattle.ether_pcap.specs.Editing.{EditedValue}
 use Rattle.ether_content.specs.Editing.{EditValue, Edits}
-use Rattle.ether_capture.specs.Packets.{counted, HasFewer}
+use Rattle.ether_capture.specs.Packets.{capture_start, counted, HasFewer}
 use Rattle.ether_capture.specs.Task.{IsChosen}
 
 -- what a packet is edited to, if it is
@@ -23,10 +23,10 @@ pub record IsCopyTo (edit : PacketValue → Option EditedValue) (select : Option
     (bytes copy rest : List ℕ) (fault : Option CopyFault) : Type 0 where
   pub packets : List PacketValue
   pub kept : List PacketValue
-  pub has : HasPacketsTo Beginning bytes packets rest fault
+  pub has : HasPacketsTo capture_start bytes packets rest fault
   pub selected : Selected (IsChosen select) packets kept
-  pub copies : Copies (IsChosen select) edit Beginning bytes copy kept rest fault
-  pub is_read : (fault ≡ None) ⊎ (copy ≢ []) → HasPackets Beginning copy (edited_all edit kept) [] None
+  pub copies : Copies (IsChosen select) edit capture_start bytes copy kept rest fault
+  pub is_read : (fault ≡ None) ⊎ (copy ≢ []) → HasPackets capture_start copy (edited_all edit kept) [] None
   pub nothing : copy ≡ [] → rest ≡ bytes
   pub all : select ≡ None → asked ≡ None → copy ++ rest ≡ bytes
 
@@ -61,7 +61,7 @@ abbrev pub CopyGoesOn : (select : Option Expression) → (edit : PacketValue →
 CopyGoesOn select edit front copy kept x =
     (later more : List ℕ) (others : List PacketValue) (rest : List ℕ) (fault : Option CopyFault)
     → Copies (IsChosen select) edit x later more others rest fault
-    → Copies (IsChosen select) edit Beginning (front ++ later) (copy ++ more) (kept ++ others) rest fault
+    → Copies (IsChosen select) edit capture_start (front ++ later) (copy ++ more) (kept ++ others) rest fault
 
 -- .. by any function that says what packets are edited to
 abbrev pub CopiesOn : (select : Option Expression) → (asked : Option EditValue) → (front copy : List ℕ) → (kept : List PacketValue)
@@ -84,4 +84,4 @@ pub record CopiesToUnit (Needs : Option ℕ → Type 0) (select : Option Express
   pub unfinished : Needs (required_len reason)
   pub fewer : HasFewer select count front
   pub is_read : copy ≢ [] → (edit : PacketValue → Option EditedValue) → EditsTo asked edit
-      → HasPackets Beginning copy (edited_all edit kept) [] None
+      → HasPackets capture_start copy (edited_all edit kept) [] None

@@ -9,11 +9,15 @@ use Rattle.ether_capture.specs.Task.{IsChosen, IsBelow}
 abbrev pub counted : ℕ → ℕ
 counted n = min n (2 ^ 64 - 1)
 
+-- what is expected at the beginning of a capture, a section of which may describe so many interfaces
+abbrev pub capture_start : Expectation
+capture_start = Beginning 65536
+
 -- A capture that begins with these bytes, whole units, has these packets first, and then those that follow where this is expected.
 abbrev pub GoesOn : (front : List ℕ) → List PacketValue → Expectation → Type 0
 GoesOn front packets x =
     (later : List ℕ) (others : List PacketValue) (rest : List ℕ) (fault : Option CaptureRefusal)
-    → HasPackets x later others rest fault → HasPackets Beginning (front ++ later) (packets ++ others) rest fault
+    → HasPackets x later others rest fault → HasPackets capture_start (front ++ later) (packets ++ others) rest fault
 
 -- so many of the packets that are asked for at most are left, after so many
 abbrev pub IsLeftOf : (count : Option ℕ) → ℕ → (left : Option ℕ) → Type 0

@@ -3,7 +3,7 @@ use Rattle.std.specs.Prelude.{◌≡◌, ◌≢◌, ◌⊎◌, ℕ, ◌+◌, ◌
 use Rattle.std.specs.List.{sum_by}
 use Rattle.std.specs.Io.KnownBytes.{Appends}
 use Rattle.ether_filter.specs.Expressions.{Expression}
-use Rattle.ether_pcap.specs.Capture.{PacketValue, Expectation, Beginning, Begins, Refuses}
+use Rattle.ether_pcap.specs.Capture.{PacketValue, Expectation, HasBegun, Begins, Refuses}
 use Rattle.ether_pcap.specs.CaptureViews.{capture_refusal_view}
 use Rattle.ether_pcap.specs.Copies.{Selected}
 use Rattle.ether_pcap.specs.Editing.{EditedValue, unit_after}
@@ -17,7 +17,7 @@ use Rattle.ether_capture.specs.Answering.{AreListed}
 use Rattle.ether_capture.specs.Copying.{EditsTo, EditsIf, CopiesOn}
 use Rattle.ether_capture.specs.declared.counts.PacketCounts.{PacketCounts}
 use Rattle.ether_capture.specs.FrameLines.{AnswersPacket, skip_count, totals_line_after}
-use Rattle.ether_capture.specs.Packets.{counted, GoesOn, HasFewer, EndsAtCount, IsLeftOf}
+use Rattle.ether_capture.specs.Packets.{capture_start, counted, GoesOn, HasFewer, EndsAtCount, IsLeftOf}
 use Rattle.ether_capture.specs.Task.{TaskValue, FormValue, Lines, Copy, IsChosen, packets_before}
 use Rattle.ether_capture.specs.declared.outcome.RunFault.{RunFault}
 use Rattle.ether_capture.specs.declared.outcome.RunFault.TheVariants as faults
@@ -49,12 +49,12 @@ pub record Reached {W : Type 0} (task : TaskValue) (contents : W → Option (Lis
   pub is_skipped : at.skipped ≡ counted (sum_by skip_count packets)
   pub is_offset : at.offset ≡ counted (length front)
   pub is_left : IsLeftOf task.count (length kept) at.left
-  pub at_count : at.left ≡ Some 0 → (at.reader ≢ Beginning) × EndsAtCount task.select task.count front
+  pub at_count : at.left ≡ Some 0 → HasBegun at.reader × EndsAtCount task.select task.count front
   pub written : Appends held (contents_of contents out) text
 
 -- nothing is read
 pub record IsStart (task : TaskValue) (at : Progress) : Type 0 where
-  pub is_reader : at.reader ≡ Beginning
+  pub is_reader : at.reader ≡ capture_start
   pub is_count : at.count ≡ counted (packets_before task.form)
   pub is_skipped : at.skipped ≡ 0
   pub is_offset : at.offset ≡ 0

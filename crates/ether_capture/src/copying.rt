@@ -8,6 +8,7 @@ ghost use Rattle.ether_text.specs.OutputBuffer.{Takes};
 ghost use Rattle.ether_capture.specs.Progress.{AppendsEdited, AppendsNone, IsUneditable, IsUnitOf, WritesPacket};
 
 use crate::edit_buffer::EditBuffer;
+use crate::interface_buffer::InterfaceBuffer;
 use ether_content::{EditedPacket, PacketEdit};
 use ether_pcap::{CaptureReader, CapturedPacket, EditedUnit};
 use ether_text::{OutputBuffer, Sink};
@@ -15,7 +16,7 @@ use ether_text::{OutputBuffer, Sink};
 /// Writes the unit of a packet, edited if there is an edit for it. Returns `false` and writes nothing if it can't be.
 #[inline(never)]
 pub fn write_packet<W: Sink>(
-    reader: &CaptureReader,
+    reader: &CaptureReader<InterfaceBuffer>,
     edit: Option<PacketEdit>,
     edits: &mut EditBuffer,
     unit: &[u8],
@@ -40,7 +41,7 @@ pub fn write_packet<W: Sink>(
 
 /// Writes the unit of a packet as edited. Returns `false` and writes nothing if it can't be.
 fn write_edited<W: Sink>(
-    reader: &CaptureReader,
+    reader: &CaptureReader<InterfaceBuffer>,
     edits: &EditBuffer,
     unit: &[u8],
     edited: &EditedPacket,

@@ -5,6 +5,7 @@
 //! the usage, the last line of a copy, and that a stream failed, to standard error.
 #![tactic(auto)]
 
+pub mod buffers;
 pub mod captures;
 mod copying;
 pub mod counts;
@@ -12,6 +13,7 @@ pub mod edit_buffer;
 pub mod files;
 mod frame_lines;
 pub mod input_buffer;
+pub mod interface_buffer;
 pub mod line_sink;
 mod linux_sll2_lines;
 pub mod options;

@@ -1,8 +1,8 @@
 //! How far a run has come.
-ghost use Rattle.std.specs.Prelude.{◌≡◌, ◌≢◌, ◌≤◌, ◌↔◌, ◌+◌, IsTrue, IfSome, IfNone, drop, length, Some, None, IfOk, IfErr, OnOk, true};
+ghost use Rattle.std.specs.Prelude.{◌≡◌, ◌≤◌, ◌↔◌, ◌+◌, IsTrue, IfSome, IfNone, drop, length, Some, None, IfOk, IfErr, OnOk, true};
 ghost use Rattle.std.specs.Option.{option_map};
 ghost use Rattle.std.specs.Io.KnownBytes.{Appends};
-ghost use Rattle.ether_pcap.specs.Capture.{Beginning};
+ghost use Rattle.ether_pcap.specs.Capture.{HasBegun};
 ghost use Rattle.ether_pcap.specs.CaptureViews.{captured_packet_view};
 ghost use Rattle.ether_text.specs.OutputBuffer.{contents_of, Marks, Takes};
 ghost use Rattle.ether_text.specs.Verdict.{verdict_with};
@@ -15,6 +15,7 @@ use crate::copying::write_packet;
 use crate::counts::PacketCounts;
 use crate::edit_buffer::EditBuffer;
 use crate::frame_lines::{is_skipped, write_lines, write_totals_of};
+use crate::interface_buffer::InterfaceBuffer;
 use crate::outcome::RunFault;
 use crate::task::{Form, Task};
 use ether_pcap::{CaptureError, CaptureFault, CaptureReader, CapturedPacket};
@@ -23,7 +24,7 @@ use ether_text::{OutputBuffer, Sink, Verdict};
 /// Where the run is in the capture, and what the packets before gave.
 #[derive(Drop)]
 pub struct Progress {
-    reader: CaptureReader,
+    reader: CaptureReader<InterfaceBuffer>,
     count: usize,
     skipped: usize,
     offset: usize,
@@ -33,11 +34,11 @@ pub struct Progress {
 
 impl Progress {
     /// The state of a run that has read nothing.
-    pub fn new(task: &Task) -> Self
+    pub fn new(task: &Task, interfaces: InterfaceBuffer) -> Self
         ensures { IsStart (task_view task.now) result }
     {
         Progress {
-            reader: CaptureReader::new(),
+            reader: CaptureReader::new(interfaces),
             count: task.packets_before(),
             skipped: 0,
             offset: 0,
@@ -207,7 +208,7 @@ impl Progress {
 
     /// Tests that a unit was taken.
     pub fn has_begun(&self) -> bool
-        ensures { IsTrue result ↔ (self.now.reader ≢ Beginning) }
+        ensures { IsTrue result ↔ HasBegun self.now.reader }
     {
         self.reader.has_begun()
     }

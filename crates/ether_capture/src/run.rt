@@ -10,6 +10,7 @@ ghost use Rattle.ether_capture.specs.Progress.{counts_at, IsStart};
 ghost use Rattle.ether_capture.specs.Run.{AnswersSlice, HasNoMemory, HasRun, IfSettled, OnInput, OnStreamFault};
 ghost use Rattle.ether_capture.specs.Task.{task_view};
 
+use crate::buffers::Buffers;
 use crate::counts::PacketCounts;
 use crate::edit_buffer::EditBuffer;
 use crate::input_buffer::InputBuffer;
@@ -32,12 +33,11 @@ use std::alloc::Global;
 ///
 /// If a number of packets is asked for, the run ends after the last of these, as if the capture ended there.
 ///
-/// The memory of `buffer` grows to what the longest record or block needs, 16 MiB at most. If that is refused, the run stops with
+/// The memory for bytes that are read grows to what the longest record or block needs, 16 MiB at most. If that is refused, the run stops with
 /// [`RunFault::Memory`].
 pub fn run<R: Source, W: Sink>(
     task: &Task,
-    buffer: InputBuffer,
-    edits: EditBuffer,
+    buffers: Buffers,
     reader: &mut R,
     writer: &mut W,
 ) -> Result<Verdict, RunFault>
@@ -47,15 +47,14 @@ pub fn run<R: Source, W: Sink>(
         (R.can_fail ⊎ IsEndless (R.remaining reader.old) (R.remaining reader.new)) W.can_fail) }
     ensures flushed { IfSettled result (W.is_flushed writer.new) }
 {
-    let (outcome, _) = run_counted(task, buffer, edits, reader, writer);
+    let (outcome, _) = run_counted(task, buffers, reader, writer);
     outcome
 }
 
 /// Does as [`run`], and says how many packets were read.
 pub fn run_counted<R: Source, W: Sink>(
     task: &Task,
-    buffer: InputBuffer,
-    edits: EditBuffer,
+    buffers: Buffers,
     reader: &mut R,
     writer: &mut W,
 ) -> (Result<Verdict, RunFault>, PacketCounts)
@@ -67,7 +66,12 @@ pub fn run_counted<R: Source, W: Sink>(
 {
     let mut input = InputReader::new(reader);
     let mut out = OutputBuffer::new(writer);
-    let mut progress = Progress::new(task);
+    let Buffers {
+        input: buffer,
+        edits,
+        interfaces,
+    } = buffers;
+    let mut progress = Progress::new(task, interfaces);
     let outcome = answer_capture(task, &mut progress, buffer, edits, &mut input, &mut out);
     (outcome, progress.counts())
 }
@@ -89,17 +93,16 @@ pub(crate) fn run_input<R: Source, W: Sink>(
     ensures failed { IfErr result.0 (λ fault. OnStreamFault fault
         (R.can_fail ⊎ IsEndless (R.remaining reader.old) (R.remaining reader.new)) W.can_fail) }
 {
-    match (InputBuffer::new(alloc), EditBuffer::new(alloc)) {
-        (Ok(buffer), Ok(edits)) => run_counted(task, buffer, edits, reader, writer),
-        _ => (Err(RunFault::Memory), PacketCounts::none(task)),
+    match Buffers::new(alloc) {
+        Ok(buffers) => run_counted(task, buffers, reader, writer),
+        Err(_) => (Err(RunFault::Memory), PacketCounts::none(task)),
     }
 }
 
 /// Does as [`run`] on a capture that is a slice. No read can fail, so the outcome is never [`RunFault::Input`].
 pub fn run_slice<W: Sink>(
     task: &Task,
-    buffer: InputBuffer,
-    edits: EditBuffer,
+    buffers: Buffers,
     capture: &[u8],
     writer: &mut W,
 ) -> Result<Verdict, RunFault>
@@ -107,7 +110,7 @@ pub fn run_slice<W: Sink>(
     ensures flushed { IfSettled result (W.is_flushed writer.new) }
 {
     let mut source = SliceSource::new(capture);
-    run(task, buffer, edits, &mut source, writer)
+    run(task, buffers, &mut source, writer)
 }
 
 /// Reads the capture to its end, and writes the text and flushes it. After a fault of the reader or the writer neither is called

@@ -10,19 +10,19 @@ use Rattle.ether_pcap.specs.Capture.{CaptureInterfaceValue, PacketValue, Expecta
 
 pub unit_within : (bytes : List ℕ) (x y : Expectation) (len : ℕ) (p : Option PacketValue) → Begins bytes x len p y
     → len ≤ length bytes
-unit_within bytes x y len p (file_header h other is) = is.len
+unit_within bytes x y len p (file_header m h other is) = is.len
 unit_within bytes x y len p (file_record h r is) = is.whole
-unit_within bytes x y len p (first_section order b is) = is.block.whole
-unit_within bytes x y len p (section order next interfaces b is) = is.block.whole
-unit_within bytes x y len p (block order interfaces after packet b other begins is) = begins.whole
+unit_within bytes x y len p (first_section m order b is) = is.block.whole
+unit_within bytes x y len p (section m order next interfaces b is) = is.block.whole
+unit_within bytes x y len p (block m order interfaces after packet b other begins is) = begins.whole
 
 pub unit_some : (bytes : List ℕ) (x y : Expectation) (len : ℕ) (p : Option PacketValue) → Begins bytes x len p y
     → 0 < len
-unit_some bytes x y len p (file_header h other is) = omega arith
+unit_some bytes x y len p (file_header m h other is) = omega arith
 unit_some bytes x y len p (file_record h r is) = omega arith
-unit_some bytes x y len p (first_section order b is) = omega arith
-unit_some bytes x y len p (section order next interfaces b is) = omega arith
-unit_some bytes x y len p (block order interfaces after packet b other begins is) = omega arith
+unit_some bytes x y len p (first_section m order b is) = omega arith
+unit_some bytes x y len p (section m order next interfaces b is) = omega arith
+unit_some bytes x y len p (block m order interfaces after packet b other begins is) = omega arith
 
 above : (required n len : ℕ) → Some required ≡ Some n → len < required → len < n
 above required n len e lt = let same : required ≡ n = cc in omega (arith, same, lt)
@@ -51,26 +51,26 @@ section_above bytes r n (section_rows.body order b t m begins lt) e = absurd cc
 section_above bytes r n (section_rows.version order b major minor t m begins le is are none) e = absurd cc
 
 -- no body is refused because the bytes end
-pub body_final : (order : Order) (before : List CaptureInterfaceValue) (body : List ℕ) (kind : BlockKind)
+pub body_final : (most : ℕ) (order : Order) (before : List CaptureInterfaceValue) (body : List ℕ) (kind : BlockKind)
     (r : CaptureRefusal)
-    → RefusesBody order before body kind r → required_len r ≡ None
-body_final order before body kind r (interface s refused) = refl
-body_final order before body kind r (too_many i is most) = refl
-body_final order before body kind r (simple_alone none) = refl
-body_final order before body kind r (simple i s at refused) = refl
-body_final order before body kind r (enhanced n s refused) = refl
-body_final order before body kind r (enhanced_alone n p is none) = refl
+    → RefusesBody most order before body kind r → required_len r ≡ None
+body_final most order before body kind r (interface s refused) = refl
+body_final most order before body kind r (too_many i is full) = refl
+body_final most order before body kind r (simple_alone none) = refl
+body_final most order before body kind r (simple i s at refused) = refl
+body_final most order before body kind r (enhanced n s refused) = refl
+body_final most order before body kind r (enhanced_alone n p is none) = refl
 
 pub required_above : (bytes : List ℕ) (x : Expectation) (r : CaptureRefusal) (n : ℕ) → Refuses bytes x r
     → required_len r ≡ Some n → length bytes < n
-required_above bytes x r n (file_header_refused s other (file.short lt)) e = above 24 n (length bytes) e lt
-required_above bytes x r n (file_header_refused s other (file.magic le none)) e = absurd cc
-required_above bytes x r n (file_header_refused s other (file.version order resolution le has none)) e = absurd cc
+required_above bytes x r n (file_header_refused m s other (file.short lt)) e = above 24 n (length bytes) e lt
+required_above bytes x r n (file_header_refused m s other (file.magic le none)) e = absurd cc
+required_above bytes x r n (file_header_refused m s other (file.version order resolution le has none)) e = absurd cc
 required_above bytes x r n (file_record_refused h s (record_rows.header lt)) e = above 16 n (length bytes) e lt
 required_above bytes x r n (file_record_refused h s (record_rows.too_long le lt)) e = absurd cc
 required_above bytes x r n (file_record_refused h s (record_rows.packet le small lt)) e = above _ n (length bytes) e lt
-required_above bytes x r n (first_section_refused s has refused) e = section_above bytes s n refused e
-required_above bytes x r n (section_refused order interfaces s has refused) e = section_above bytes s n refused e
-required_above bytes x r n (block_refused order interfaces s other refused) e = block_above order bytes s n refused e
-required_above bytes x r n (body_refused order interfaces b s other begins refused) e =
-    let none = body_final order interfaces b.body _ s refused in absurd cc
+required_above bytes x r n (first_section_refused m s has refused) e = section_above bytes s n refused e
+required_above bytes x r n (section_refused m order interfaces s has refused) e = section_above bytes s n refused e
+required_above bytes x r n (block_refused m order interfaces s other refused) e = block_above order bytes s n refused e
+required_above bytes x r n (body_refused m order interfaces b s other begins refused) e =
+    let none = body_final m order interfaces b.body _ s refused in absurd cc

@@ -189,34 +189,35 @@ section_refused_local bytes more r has (section_rows.version order b major minor
 
 pub unit_local : (bytes more : List ℕ) (x y : Expectation) (len : ℕ) (p : Option PacketValue) → Begins bytes x len p y
     → Begins (bytes ++ more) x len p y
-unit_local bytes more x y len p (file_header h other is) =
-    file_header h (no_type bytes more (omega (arith, is.len)) other) (file_header_local bytes more h is)
+unit_local bytes more x y len p (file_header m h other is) =
+    file_header m h (no_type bytes more (omega (arith, is.len)) other) (file_header_local bytes more h is)
 unit_local bytes more x y len p (file_record h r is) = file_record h r (record_local h.order bytes more r is)
-unit_local bytes more x y len p (first_section order b is) = first_section order b (section_local bytes more order b is)
-unit_local bytes more x y len p (section order next interfaces b is) =
-    section order next interfaces b (section_local bytes more next b is)
-unit_local bytes more x y len p (block order interfaces after packet b other begins is) =
-    block order interfaces after packet b (no_type bytes more (omega (arith, begins.whole)) other)
+unit_local bytes more x y len p (first_section m order b is) =
+    first_section m order b (section_local bytes more order b is)
+unit_local bytes more x y len p (section m order next interfaces b is) =
+    section m order next interfaces b (section_local bytes more next b is)
+unit_local bytes more x y len p (block m order interfaces after packet b other begins is) =
+    block m order interfaces after packet b (no_type bytes more (omega (arith, begins.whole)) other)
     (block_local order bytes more b begins) is
 
 pub refusal_local : (bytes more : List ℕ) (x : Expectation) (r : CaptureRefusal) → Refuses bytes x r
     → required_len r ≡ None → Refuses (bytes ++ more) x r
-refusal_local bytes more x r (file_header_refused s other refused) e =
+refusal_local bytes more x r (file_header_refused m s other refused) e =
     let s2 = file_refused_local bytes more s refused e in
-    file_header_refused s (no_type bytes more s2.0 other) s2.1
+    file_header_refused m s (no_type bytes more s2.0 other) s2.1
 refusal_local bytes more x r (file_record_refused h s refused) e =
     file_record_refused h s (record_refused_local h.order bytes more s refused e)
-refusal_local bytes more x r (first_section_refused s has refused) e =
+refusal_local bytes more x r (first_section_refused m s has refused) e =
     let s2 = section_refused_local bytes more s has refused e in
-    first_section_refused s s2.0 s2.1
-refusal_local bytes more x r (section_refused order interfaces s has refused) e =
+    first_section_refused m s s2.0 s2.1
+refusal_local bytes more x r (section_refused m order interfaces s has refused) e =
     let s2 = section_refused_local bytes more s has refused e in
-    section_refused order interfaces s s2.0 s2.1
-refusal_local bytes more x r (block_refused order interfaces s other refused) e =
+    section_refused m order interfaces s s2.0 s2.1
+refusal_local bytes more x r (block_refused m order interfaces s other refused) e =
     let s2 = block_refused_local order bytes more s refused e in
-    block_refused order interfaces s (no_type bytes more (omega (arith, s2.0)) other) s2.1
-refusal_local bytes more x r (body_refused order interfaces b s other begins refused) e =
-    body_refused order interfaces b s (no_type bytes more (omega (arith, begins.whole)) other)
+    block_refused m order interfaces s (no_type bytes more (omega (arith, s2.0)) other) s2.1
+refusal_local bytes more x r (body_refused m order interfaces b s other begins refused) e =
+    body_refused m order interfaces b s (no_type bytes more (omega (arith, begins.whole)) other)
     (block_local order bytes more b begins) refused
 
 -- ---- nor do they need what follows
@@ -273,13 +274,13 @@ section_alone bytes more order b whole is =
 
 pub unit_alone : (bytes more : List ℕ) (x y : Expectation) (len : ℕ) (p : Option PacketValue) → len ≤ length bytes
     → Begins (bytes ++ more) x len p y → Begins bytes x len p y
-unit_alone bytes more x y len p le (file_header h other is) =
-    file_header h (λ has. other (has_type bytes more (omega (arith, le)) has)) (file_header_alone bytes more h le is)
+unit_alone bytes more x y len p le (file_header m h other is) =
+    file_header m h (λ has. other (has_type bytes more (omega (arith, le)) has)) (file_header_alone bytes more h le is)
 unit_alone bytes more x y len p le (file_record h r is) = file_record h r (record_alone h.order bytes more r le is)
-unit_alone bytes more x y len p le (first_section order b is) =
-    first_section order b (section_alone bytes more order b le is)
-unit_alone bytes more x y len p le (section order next interfaces b is) =
-    section order next interfaces b (section_alone bytes more next b le is)
-unit_alone bytes more x y len p le (block order interfaces after packet b other begins is) =
-    block order interfaces after packet b (λ has. other (has_type bytes more (omega (arith, le)) has))
+unit_alone bytes more x y len p le (first_section m order b is) =
+    first_section m order b (section_alone bytes more order b le is)
+unit_alone bytes more x y len p le (section m order next interfaces b is) =
+    section m order next interfaces b (section_alone bytes more next b le is)
+unit_alone bytes more x y len p le (block m order interfaces after packet b other begins is) =
+    block m order interfaces after packet b (λ has. other (has_type bytes more (omega (arith, le)) has))
     (block_alone order bytes more b le begins) is

@@ -16,7 +16,7 @@ use Rattle.ether_pcap.specs.Section as section_rows
 use Rattle.ether_pcap.specs.Options.{padded}
 use Rattle.ether_pcap.specs.Bodies.{BodyRefusal, InterfaceValue, IsInterface, RefusesInterface, EnhancedPacketValue, IsEnhancedPacket, RefusesEnhancedPacket, SimplePacketValue, IsSimplePacket, RefusesSimplePacket, captured_by}
 use Rattle.ether_pcap.specs.Bodies as body_rows
-use Rattle.ether_pcap.specs.Capture.{PacketValue, packet_of_record, CaptureInterfaceValue, described_by, Describes, IsAt, max_interfaces, Expectation, Beginning, Records, Blocks, BlockKind, InterfaceDescription, SimplePacket, EnhancedPacket, Other, kind_of_block, IsBody, CaptureRefusal, File, Record, Section, Block, Body, NoInterface, TooManyInterfaces, RefusesBody, interface, too_many, simple_alone, simple, enhanced, enhanced_alone, Begins, file_header, file_record, first_section, section, block, Refuses, file_header_refused, file_record_refused, first_section_refused, section_refused, block_refused, body_refused, IsEnd, ended, refused, unit, packet}
+use Rattle.ether_pcap.specs.Capture.{PacketValue, packet_of_record, CaptureInterfaceValue, described_by, Describes, IsAt, Expectation, Beginning, Records, Blocks, BlockKind, InterfaceDescription, SimplePacket, EnhancedPacket, Other, kind_of_block, IsBody, CaptureRefusal, File, Record, Section, Block, Body, NoInterface, TooManyInterfaces, RefusesBody, interface, too_many, simple_alone, simple, enhanced, enhanced_alone, Begins, file_header, file_record, first_section, section, block, Refuses, file_header_refused, file_record_refused, first_section_refused, section_refused, block_refused, body_refused, IsEnd, ended, refused, unit, packet}
 use Rattle.ether_pcap.specs.CaptureLaws.{Packets}
 use Rattle.ether_pcap.proofs.Blocks.{whole_block}
 use Rattle.ether_pcap.proofs.Options.{some_options}
@@ -241,10 +241,10 @@ lookup (x ∷ l) (suc n) lt =
       },
     )
 
-abbrev Body_of : BlockKind → Order → List CaptureInterfaceValue → List ℕ → Type 0
-Body_of kind order before body =
-    ((p : Option PacketValue) × (after : List CaptureInterfaceValue) × IsBody kind order before body p after)
-    ⊎ ((r : CaptureRefusal) × RefusesBody order before body kind r)
+abbrev Body_of : BlockKind → (most : ℕ) → Order → List CaptureInterfaceValue → List ℕ → Type 0
+Body_of kind most order before body =
+    ((p : Option PacketValue) × (after : List CaptureInterfaceValue) × IsBody kind most order before body p after)
+    ⊎ ((r : CaptureRefusal) × RefusesBody most order before body kind r)
 
 described : (order : Order) (body : List ℕ) (i : InterfaceValue) → IsInterface order body i
     → (i2 : CaptureInterfaceValue) × Describes order body i2
@@ -254,9 +254,9 @@ described order body i is =
       record { interface = i; options = all.0; is_interface = is; has_options = all.1; value = refl },
     )
 
-some_interface : (order : Order) (before : List CaptureInterfaceValue) (body : List ℕ)
-    → Body_of InterfaceDescription order before body
-some_interface order before body =
+some_interface : (most : ℕ) (order : Order) (before : List CaptureInterfaceValue) (body : List ℕ)
+    → Body_of InterfaceDescription most order before body
+some_interface most order before body =
     elim (cases_lt (length body) 8) [
       | inl lt ↦ inr
           (Body (body_rows.Short 8 (length body)), interface (body_rows.Short 8 (length body)) (body_rows.interface lt))
@@ -267,7 +267,7 @@ some_interface order before body =
             options = slice_range body 8 (length body);
           } in
           let d = described order body v (record { len = le; link_type = refl; snap_len = refl; options = refl }) in
-          elim (cases_lt (length before) max_interfaces) [
+          elim (cases_lt (length before) most) [
             | inl room ↦ inl (None, before ++ d.0 ∷ [], (d.0, d.1, room, refl, refl))
             | inr full ↦ inr (TooManyInterfaces, too_many d.0 d.1 full)
           ]
@@ -303,9 +303,9 @@ some_simple_value order snap body =
       ]
     ]
 
-some_simple : (order : Order) (before : List CaptureInterfaceValue) (body : List ℕ)
-    → Body_of SimplePacket order before body
-some_simple order before body =
+some_simple : (most : ℕ) (order : Order) (before : List CaptureInterfaceValue) (body : List ℕ)
+    → Body_of SimplePacket most order before body
+some_simple most order before body =
     elim (cases_lt 0 (length before)) [
       | inr none ↦ inr (NoInterface 0, simple_alone none)
       | inl some ↦
@@ -355,9 +355,9 @@ some_enhanced_value number_len order body =
       ]
     ]
 
-some_enhanced : (number_len : ℕ) (order : Order) (before : List CaptureInterfaceValue) (body : List ℕ)
-    → Body_of (EnhancedPacket number_len) order before body
-some_enhanced number_len order before body =
+some_enhanced : (number_len most : ℕ) (order : Order) (before : List CaptureInterfaceValue) (body : List ℕ)
+    → Body_of (EnhancedPacket number_len) most order before body
+some_enhanced number_len most order before body =
     elim (some_enhanced_value number_len order body) [
       | inr r ↦ inr (Body r.0, enhanced number_len r.0 r.1)
       | inl v ↦ elim (cases_lt v.0.interface (length before)) [
@@ -369,12 +369,12 @@ some_enhanced number_len order before body =
       ]
     ]
 
-some_body : (kind : BlockKind) (order : Order) (before : List CaptureInterfaceValue) (body : List ℕ)
-    → Body_of kind order before body
-some_body InterfaceDescription order before body = some_interface order before body
-some_body SimplePacket order before body = some_simple order before body
-some_body (EnhancedPacket n) order before body = some_enhanced n order before body
-some_body Other order before body = inl (None, before, (refl, refl))
+some_body : (kind : BlockKind) (most : ℕ) (order : Order) (before : List CaptureInterfaceValue) (body : List ℕ)
+    → Body_of kind most order before body
+some_body InterfaceDescription most order before body = some_interface most order before body
+some_body SimplePacket most order before body = some_simple most order before body
+some_body (EnhancedPacket n) most order before body = some_enhanced n most order before body
+some_body Other most order before body = inl (None, before, (refl, refl))
 
 -- ---- units
 
@@ -383,27 +383,29 @@ Unit_of x bytes =
     ((len : ℕ) × (p : Option PacketValue) × (y : Expectation) × Begins bytes x len p y)
     ⊎ ((r : CaptureRefusal) × Refuses bytes x r)
 
-some_block_unit : (order : Order) (interfaces : List CaptureInterfaceValue) (bytes : List ℕ)
-    → (HasSectionType bytes → ⊥) → Unit_of (Blocks order interfaces) bytes
-some_block_unit order interfaces bytes other =
+some_block_unit : (most : ℕ) (order : Order) (interfaces : List CaptureInterfaceValue) (bytes : List ℕ)
+    → (HasSectionType bytes → ⊥) → Unit_of (Blocks most order interfaces) bytes
+some_block_unit most order interfaces bytes other =
     elim (some_block order bytes) [
-      | inr r ↦ inr (Block r.0, block_refused order interfaces r.0 other r.1)
-      | inl b ↦ elim (some_body (kind_of_block b.0.block_type) order interfaces b.0.body) [
-        | inl v ↦ inl (12 + length b.0.body, v.0, Blocks order v.1, block order interfaces v.1 v.0 b.0 other b.1 v.2)
-        | inr r ↦ inr (r.0, body_refused order interfaces b.0 r.0 other b.1 r.1)
+      | inr r ↦ inr (Block r.0, block_refused most order interfaces r.0 other r.1)
+      | inl b ↦ elim (some_body (kind_of_block b.0.block_type) most order interfaces b.0.body) [
+        | inl v ↦
+            let begins = block most order interfaces v.1 v.0 b.0 other b.1 v.2 in
+            inl (12 + length b.0.body, v.0, Blocks most order v.1, begins)
+        | inr r ↦ inr (r.0, body_refused most order interfaces b.0 r.0 other b.1 r.1)
       ]
     ]
 
 pub some_unit : (x : Expectation) (bytes : List ℕ) → Unit_of x bytes
-some_unit Beginning bytes =
+some_unit (Beginning m) bytes =
     elim (cases_eq (number (slice_range bytes 0 4)) section_type) [
       | inl has ↦ elim (some_section bytes has) [
-        | inl s ↦ inl (12 + length s.1.body, None, Blocks s.0 [], first_section s.0 s.1 s.2)
-        | inr r ↦ inr (Section r.0, first_section_refused r.0 has r.1)
+        | inl s ↦ inl (12 + length s.1.body, None, Blocks m s.0 [], first_section m s.0 s.1 s.2)
+        | inr r ↦ inr (Section r.0, first_section_refused m r.0 has r.1)
       ]
       | inr other ↦ elim (some_file bytes) [
-        | inl h ↦ inl (24, None, Records h.0, file_header h.0 other h.1)
-        | inr r ↦ inr (File r.0, file_header_refused r.0 other r.1)
+        | inl h ↦ inl (24, None, Records h.0, file_header m h.0 other h.1)
+        | inr r ↦ inr (File r.0, file_header_refused m r.0 other r.1)
       ]
     ]
 some_unit (Records h) bytes =
@@ -411,24 +413,24 @@ some_unit (Records h) bytes =
       | inl r ↦ inl (16 + length r.0.packet, Some (packet_of_record h r.0), Records h, file_record h r.0 r.1)
       | inr r ↦ inr (Record r.0, file_record_refused h r.0 r.1)
     ]
-some_unit (Blocks order interfaces) bytes =
+some_unit (Blocks m order interfaces) bytes =
     elim (cases_eq (number (slice_range bytes 0 4)) section_type) [
       | inl has ↦ elim (some_section bytes has) [
-        | inl s ↦ inl (12 + length s.1.body, None, Blocks s.0 [], section order s.0 interfaces s.1 s.2)
-        | inr r ↦ inr (Section r.0, section_refused order interfaces r.0 has r.1)
+        | inl s ↦ inl (12 + length s.1.body, None, Blocks m s.0 [], section m order s.0 interfaces s.1 s.2)
+        | inr r ↦ inr (Section r.0, section_refused m order interfaces r.0 has r.1)
       ]
-      | inr other ↦ some_block_unit order interfaces bytes other
+      | inr other ↦ some_block_unit m order interfaces bytes other
     ]
 
 -- ---- files
 
 -- whether a file has ended
 pub at_end : (x : Expectation) (bytes : List ℕ) → IsEnd x bytes ⊎ (IsEnd x bytes → ⊥)
-at_end Beginning bytes = inr (λ e. e.0 refl)
-at_end (Records h) [] = inl (λ e. absurd cc, refl)
+at_end (Beginning m) bytes = inr (λ e. e.0)
+at_end (Records h) [] = inl (tt, refl)
 at_end (Records h) (b ∷ bytes) = inr (λ e. let n = e.1 in absurd cc)
-at_end (Blocks order interfaces) [] = inl (λ e. absurd cc, refl)
-at_end (Blocks order interfaces) (b ∷ bytes) = inr (λ e. let n = e.1 in absurd cc)
+at_end (Blocks m order interfaces) [] = inl (tt, refl)
+at_end (Blocks m order interfaces) (b ∷ bytes) = inr (λ e. let n = e.1 in absurd cc)
 
 goes_on : (x y : Expectation) (bytes : List ℕ) (len : ℕ) (p : Option PacketValue) → Begins bytes x len p y
     → Packets y (drop len bytes) → Packets x bytes

@@ -96,26 +96,28 @@ record_unit bytes h r len p is n e =
 
 -- ---- what is expected, by what a reader has read
 
-pub section_unit : (p : Progress) (interfaces : List CaptureInterface) (bytes : List ℕ) (order : Order) (b : BlockValue)
-    (len : ℕ)
+pub section_unit : (most : ℕ) (p : Progress) (interfaces : List CaptureInterface) (bytes : List ℕ) (order : Order)
+    (b : BlockValue) (len : ℕ)
     → ((h : FileHeader) → p ≡ progress.Classic h → ⊥)
     → IsSection bytes order b → len ≡ 12 + length b.body
-    → Begins bytes (expectation_of p interfaces) len None (Blocks order [])
-section_unit progress.Nothing interfaces bytes order b len none is e = rw e (first_section order b is)
-section_unit (progress.Classic h) interfaces bytes order b len none is e = absurd (none h refl)
-section_unit (progress.Section old) interfaces bytes order b len none is e =
-    rw e (section (order_of old) order (interfaces_view interfaces) b is)
+    → Begins bytes (expectation_of most p interfaces) len None (Blocks most order [])
+section_unit most progress.Nothing interfaces bytes order b len none is e = rw e (first_section most order b is)
+section_unit most (progress.Classic h) interfaces bytes order b len none is e = absurd (none h refl)
+section_unit most (progress.Section old) interfaces bytes order b len none is e =
+    rw e (section most (order_of old) order (interfaces_view interfaces) b is)
 
-pub section_not_read : (p : Progress) (interfaces : List CaptureInterface) (bytes : List ℕ) (r : SectionRefusal)
+pub section_not_read : (most : ℕ) (p : Progress) (interfaces : List CaptureInterface) (bytes : List ℕ)
+    (r : SectionRefusal)
     → ((h : FileHeader) → p ≡ progress.Classic h → ⊥)
-    → HasSectionType bytes → RefusesSection bytes r → Refuses bytes (expectation_of p interfaces) (Section r)
-section_not_read progress.Nothing interfaces bytes r none has is = first_section_refused r has is
-section_not_read (progress.Classic h) interfaces bytes r none has is = absurd (none h refl)
-section_not_read (progress.Section old) interfaces bytes r none has is =
-    section_refused (order_of old) (interfaces_view interfaces) r has is
+    → HasSectionType bytes → RefusesSection bytes r → Refuses bytes (expectation_of most p interfaces) (Section r)
+section_not_read most progress.Nothing interfaces bytes r none has is = first_section_refused most r has is
+section_not_read most (progress.Classic h) interfaces bytes r none has is = absurd (none h refl)
+section_not_read most (progress.Section old) interfaces bytes r none has is =
+    section_refused most (order_of old) (interfaces_view interfaces) r has is
 
-pub nothing_read : (p : Progress) (interfaces : List CaptureInterface) → ((h : FileHeader) → p ≡ progress.Classic h → ⊥)
-    → ((o : ByteOrder) → p ≡ progress.Section o → ⊥) → expectation_of p interfaces ≡ Beginning
-nothing_read progress.Nothing interfaces classic pcapng = refl
-nothing_read (progress.Classic h) interfaces classic pcapng = absurd (classic h refl)
-nothing_read (progress.Section o) interfaces classic pcapng = absurd (pcapng o refl)
+pub nothing_read : (most : ℕ) (p : Progress) (interfaces : List CaptureInterface)
+    → ((h : FileHeader) → p ≡ progress.Classic h → ⊥)
+    → ((o : ByteOrder) → p ≡ progress.Section o → ⊥) → expectation_of most p interfaces ≡ Beginning most
+nothing_read most progress.Nothing interfaces classic pcapng = refl
+nothing_read most (progress.Classic h) interfaces classic pcapng = absurd (classic h refl)
+nothing_read most (progress.Section o) interfaces classic pcapng = absurd (pcapng o refl)

@@ -56,21 +56,22 @@ simple_packet_of i p = Some (simple_packet_on i p)
 enhanced_packet_of : Order → CaptureInterfaceValue → EnhancedPacketValue → List OptionValue → Option PacketValue
 enhanced_packet_of order i p options = Some (packet_on order i p options)
 
-body_one : (kind : BlockKind) (order : Order) (before : List CaptureInterfaceValue) (body : List ℕ)
+body_one : (kind : BlockKind) (most : ℕ) (order : Order) (before : List CaptureInterfaceValue) (body : List ℕ)
     (p q : Option PacketValue) (after others : List CaptureInterfaceValue)
-    → IsBody kind order before body p after → IsBody kind order before body q others → (p ≡ q) × (after ≡ others)
+    → IsBody kind most order before body p after → IsBody kind most order before body q others
+    → (p ≡ q) × (after ≡ others)
 unfolding simple_packet_of enhanced_packet_of
-body_one InterfaceDescription order before body p q after others (i, d, lt, e, f) (j, d2, lt2, e2, f2) =
+body_one InterfaceDescription most order before body p q after others (i, d, lt, e, f) (j, d2, lt2, e2, f2) =
     let s = described_one order body i j d d2 in
     (e ∙ sym e2, f ∙ ap (λ (k : CaptureInterfaceValue). before ++ k ∷ []) s ∙ sym f2)
-body_one SimplePacket order before body p q after others (i, v, at, is, e, f) (j, w, at2, is2, e2, f2) =
+body_one SimplePacket most order before body p q after others (i, v, at, is, e, f) (j, w, at2, is2, e2, f2) =
     let s = at_one before 0 i j at at2 in
     let m : IsSimplePacket order i.snap_len body w =
     subst (λ (k : CaptureInterfaceValue). IsSimplePacket order k.snap_len body w) (sym s) is2 in
     let o = simple_one order i.snap_len body v w is m in
     let r : simple_packet_of i v ≡ simple_packet_of j w = λ k. simple_packet_of (s k) (o k) in
     (e ∙ r ∙ sym e2, f ∙ sym f2)
-body_one (EnhancedPacket n) order before body p q after others (i, v, l, is, at, has, e, f)
+body_one (EnhancedPacket n) most order before body p q after others (i, v, l, is, at, has, e, f)
     (j, w, m, is2, at2, has2, e2, f2) =
     let o = enhanced_one n order body v w is is2 in
     let at3 : IsAt before v.interface j = subst (λ (k : EnhancedPacketValue). IsAt before k.interface j) (sym o) at2 in
@@ -81,151 +82,153 @@ body_one (EnhancedPacket n) order before body p q after others (i, v, l, is, at,
     let r : enhanced_packet_of order i v l ≡ enhanced_packet_of order j w m =
     λ k. enhanced_packet_of order (s k) (o k) (t k) in
     (e ∙ r ∙ sym e2, f ∙ sym f2)
-body_one Other order before body p q after others (e, f) (e2, f2) = (e ∙ sym e2, f ∙ sym f2)
+body_one Other most order before body p q after others (e, f) (e2, f2) = (e ∙ sym e2, f ∙ sym f2)
 
-body_apart : (kind : BlockKind) (order : Order) (before : List CaptureInterfaceValue) (body : List ℕ)
+body_apart : (kind : BlockKind) (most : ℕ) (order : Order) (before : List CaptureInterfaceValue) (body : List ℕ)
     (p : Option PacketValue) (after : List CaptureInterfaceValue) (r : CaptureRefusal)
-    → RefusesBody order before body kind r → IsBody kind order before body p after → ⊥
-body_apart kind order before body p after r (interface s refused) (i, d, lt, e, f) =
+    → RefusesBody most order before body kind r → IsBody kind most order before body p after → ⊥
+body_apart kind most order before body p after r (interface s refused) (i, d, lt, e, f) =
     interface_apart order body d.interface s d.is_interface refused
-body_apart kind order before body p after r (too_many j d2 most) (i, d, lt, e, f) = omega (arith, lt, most)
-body_apart kind order before body p after r (simple_alone none) (i, v, at, is, e, f) =
+body_apart kind most order before body p after r (too_many j d2 full) (i, d, lt, e, f) = omega (arith, lt, full)
+body_apart kind most order before body p after r (simple_alone none) (i, v, at, is, e, f) =
     omega (arith, at_within before 0 i at, none)
-body_apart kind order before body p after r (simple j s at2 refused) (i, v, at, is, e, f) =
+body_apart kind most order before body p after r (simple j s at2 refused) (i, v, at, is, e, f) =
     let m = at_one before 0 i j at at2 in
     simple_apart order i.snap_len body v s is
     (subst (λ (k : CaptureInterfaceValue). RefusesSimplePacket order k.snap_len body s) (sym m) refused)
-body_apart kind order before body p after r (enhanced n s refused) (i, v, l, is, at, has, e, f) =
+body_apart kind most order before body p after r (enhanced n s refused) (i, v, l, is, at, has, e, f) =
     enhanced_apart n order body v s is refused
-body_apart kind order before body p after r (enhanced_alone m w is2 none) (i, v, l, is, at, has, e, f) =
+body_apart kind most order before body p after r (enhanced_alone m w is2 none) (i, v, l, is, at, has, e, f) =
     let n = ap (λ (k : EnhancedPacketValue). k.interface) (enhanced_one m order body v w is is2) in
     omega (arith, at_within before v.interface i at, none, n)
 
-body_refusal_one : (kind : BlockKind) (order : Order) (before : List CaptureInterfaceValue) (body : List ℕ)
+body_refusal_one : (kind : BlockKind) (most : ℕ) (order : Order) (before : List CaptureInterfaceValue) (body : List ℕ)
     (r s : CaptureRefusal)
-    → RefusesBody order before body kind r → RefusesBody order before body kind s → r ≡ s
-body_refusal_one kind order before body r s (interface a refused) (interface b refused2) =
+    → RefusesBody most order before body kind r → RefusesBody most order before body kind s → r ≡ s
+body_refusal_one kind most order before body r s (interface a refused) (interface b refused2) =
     ap Body (interface_refused body a b refused refused2)
-body_refusal_one kind order before body r s (interface a refused) (too_many i d most) =
+body_refusal_one kind most order before body r s (interface a refused) (too_many i d full) =
     absurd (interface_apart order body d.interface a d.is_interface refused)
-body_refusal_one kind order before body r s (too_many i d most) (interface a refused) =
+body_refusal_one kind most order before body r s (too_many i d full) (interface a refused) =
     absurd (interface_apart order body d.interface a d.is_interface refused)
-body_refusal_one kind order before body r s (too_many i d most) (too_many j d2 most2) = refl
-body_refusal_one kind order before body r s (simple_alone none) (simple_alone none2) = refl
-body_refusal_one kind order before body r s (simple_alone none) (simple i a at refused) =
+body_refusal_one kind most order before body r s (too_many i d full) (too_many j d2 full2) = refl
+body_refusal_one kind most order before body r s (simple_alone none) (simple_alone none2) = refl
+body_refusal_one kind most order before body r s (simple_alone none) (simple i a at refused) =
     absurd (omega (arith, at_within before 0 i at, none))
-body_refusal_one kind order before body r s (simple i a at refused) (simple_alone none) =
+body_refusal_one kind most order before body r s (simple i a at refused) (simple_alone none) =
     absurd (omega (arith, at_within before 0 i at, none))
-body_refusal_one kind order before body r s (simple i a at refused) (simple j b at2 refused2) =
+body_refusal_one kind most order before body r s (simple i a at refused) (simple j b at2 refused2) =
     let m = at_one before 0 i j at at2 in
     ap Body
     (simple_refused order i.snap_len body a b refused
     (subst (λ (k : CaptureInterfaceValue). RefusesSimplePacket order k.snap_len body b) (sym m) refused2))
-body_refusal_one kind order before body r s (enhanced n a refused) (enhanced n2 b refused2) =
+body_refusal_one kind most order before body r s (enhanced n a refused) (enhanced n2 b refused2) =
     ap Body (enhanced_refused order body a b refused refused2)
-body_refusal_one kind order before body r s (enhanced n a refused) (enhanced_alone n2 v is none) =
+body_refusal_one kind most order before body r s (enhanced n a refused) (enhanced_alone n2 v is none) =
     absurd (enhanced_apart n order body v a is refused)
-body_refusal_one kind order before body r s (enhanced_alone n v is none) (enhanced n2 a refused) =
+body_refusal_one kind most order before body r s (enhanced_alone n v is none) (enhanced n2 a refused) =
     absurd (enhanced_apart n order body v a is refused)
-body_refusal_one kind order before body r s (enhanced_alone n v is none) (enhanced_alone n2 w is2 none2) =
+body_refusal_one kind most order before body r s (enhanced_alone n v is none) (enhanced_alone n2 w is2 none2) =
     ap (λ (k : EnhancedPacketValue). NoInterface k.interface) (enhanced_one n order body v w is is2)
 
 -- ---- units
 
 pub unit_one : (bytes : List ℕ) (x y z : Expectation) (len n : ℕ) (p q : Option PacketValue) → IsBytes bytes
     → Begins bytes x len p y → Begins bytes x n q z → (len ≡ n) × (p ≡ q) × (y ≡ z)
-unit_one bytes x y z len n p q ok (file_header h other is) (file_header k other2 is2) =
+unit_one bytes x y z len n p q ok (file_header m h other is) (file_header m2 k other2 is2) =
     (refl, refl, ap Records (one_header bytes h k ok is is2))
-unit_one bytes x y z len n p q ok (file_header h other is) (first_section order b is2) = absurd (other is2.section)
+unit_one bytes x y z len n p q ok (file_header m h other is) (first_section m2 order b is2) = absurd (other is2.section)
 unit_one bytes x y z len n p q ok (file_record h r is) (file_record k s is2) =
     let e = record_one h.order bytes r s is is2 in
     (ap record_len e, ap (λ (v : RecordValue). Some (packet_of_record h v)) e, refl)
-unit_one bytes x y z len n p q ok (first_section order b is) (file_header h other is2) = absurd (other is.section)
-unit_one bytes x y z len n p q ok (first_section order b is) (first_section order2 c is2) =
+unit_one bytes x y z len n p q ok (first_section m order b is) (file_header m2 h other is2) = absurd (other is.section)
+unit_one bytes x y z len n p q ok (first_section m order b is) (first_section m2 order2 c is2) =
     let e = sections.section_one bytes order order2 b c ok is is2 in
-    (ap (λ (v : BlockValue). 12 + length v.body) e.1, refl, ap (λ (o : Order). Blocks o []) e.0)
-unit_one bytes x y z len n p q ok (section order next interfaces b is) (section order2 next2 interfaces2 c is2) =
+    (ap (λ (v : BlockValue). 12 + length v.body) e.1, refl, ap (λ (o : Order). Blocks m o []) e.0)
+unit_one bytes x y z len n p q ok (section m order next interfaces b is) (section m2 order2 next2 interfaces2 c is2) =
     let e = sections.section_one bytes next next2 b c ok is is2 in
-    (ap (λ (v : BlockValue). 12 + length v.body) e.1, refl, ap (λ (o : Order). Blocks o []) e.0)
-unit_one bytes x y z len n p q ok (section order next interfaces b is)
-    (block order2 interfaces2 after packet c other begins is2) =
+    (ap (λ (v : BlockValue). 12 + length v.body) e.1, refl, ap (λ (o : Order). Blocks m o []) e.0)
+unit_one bytes x y z len n p q ok (section m order next interfaces b is)
+    (block m2 order2 interfaces2 after packet c other begins is2) =
     absurd (other is.section)
-unit_one bytes x y z len n p q ok (block order interfaces after packet b other begins is)
-    (section order2 next interfaces2 c is2) =
+unit_one bytes x y z len n p q ok (block m order interfaces after packet b other begins is)
+    (section m2 order2 next interfaces2 c is2) =
     absurd (other is2.section)
-unit_one bytes x y z len n p q ok (block order interfaces after packet b other begins is)
-    (block order2 interfaces2 after2 packet2 c other2 begins2 is2) =
+unit_one bytes x y z len n p q ok (block m order interfaces after packet b other begins is)
+    (block m2 order2 interfaces2 after2 packet2 c other2 begins2 is2) =
     let e = block_one order bytes b c begins begins2 in
-    let m : IsBody (kind_of_block b.block_type) order interfaces b.body packet2 after2 =
-    subst (λ (v : BlockValue). IsBody (kind_of_block v.block_type) order interfaces v.body packet2 after2)
+    let same : IsBody (kind_of_block b.block_type) m order interfaces b.body packet2 after2 =
+    subst (λ (v : BlockValue). IsBody (kind_of_block v.block_type) m order interfaces v.body packet2 after2)
     (sym e) is2 in
-    let both = body_one (kind_of_block b.block_type) order interfaces b.body packet packet2 after after2 is m in
-    (ap (λ (v : BlockValue). 12 + length v.body) e, both.0, ap (Blocks order) both.1)
+    let both = body_one (kind_of_block b.block_type) m order interfaces b.body packet packet2 after after2 is same in
+    (ap (λ (v : BlockValue). 12 + length v.body) e, both.0, ap (Blocks m order) both.1)
 
 pub unit_apart : (bytes : List ℕ) (x y : Expectation) (len : ℕ) (p : Option PacketValue) (r : CaptureRefusal)
     → IsBytes bytes → Begins bytes x len p y → Refuses bytes x r → ⊥
-unit_apart bytes x y len p r ok (file_header h other is) (file_header_refused s other2 refused) =
+unit_apart bytes x y len p r ok (file_header m h other is) (file_header_refused m2 s other2 refused) =
     apart bytes h s ok is refused
-unit_apart bytes x y len p r ok (file_header h other is) (first_section_refused s has refused) = other has
+unit_apart bytes x y len p r ok (file_header m h other is) (first_section_refused m2 s has refused) = other has
 unit_apart bytes x y len p r ok (file_record h v is) (file_record_refused k s refused) =
     record_apart h.order bytes v s is refused
-unit_apart bytes x y len p r ok (first_section order b is) (file_header_refused s other refused) = other is.section
-unit_apart bytes x y len p r ok (first_section order b is) (first_section_refused s has refused) =
+unit_apart bytes x y len p r ok (first_section m order b is) (file_header_refused m2 s other refused) = other is.section
+unit_apart bytes x y len p r ok (first_section m order b is) (first_section_refused m2 s has refused) =
     sections.section_apart bytes order b s ok is refused
-unit_apart bytes x y len p r ok (section order next interfaces b is)
-    (section_refused order2 interfaces2 s has refused) =
+unit_apart bytes x y len p r ok (section m order next interfaces b is)
+    (section_refused m2 order2 interfaces2 s has refused) =
     sections.section_apart bytes next b s ok is refused
-unit_apart bytes x y len p r ok (section order next interfaces b is)
-    (block_refused order2 interfaces2 s other refused) =
+unit_apart bytes x y len p r ok (section m order next interfaces b is)
+    (block_refused m2 order2 interfaces2 s other refused) =
     other is.section
-unit_apart bytes x y len p r ok (section order next interfaces b is)
-    (body_refused order2 interfaces2 c s other begins refused) =
+unit_apart bytes x y len p r ok (section m order next interfaces b is)
+    (body_refused m2 order2 interfaces2 c s other begins refused) =
     other is.section
-unit_apart bytes x y len p r ok (block order interfaces after packet b other begins is)
-    (section_refused order2 interfaces2 s has refused) =
+unit_apart bytes x y len p r ok (block m order interfaces after packet b other begins is)
+    (section_refused m2 order2 interfaces2 s has refused) =
     other has
-unit_apart bytes x y len p r ok (block order interfaces after packet b other begins is)
-    (block_refused order2 interfaces2 s other2 refused) = block_apart order bytes b s begins refused
-unit_apart bytes x y len p r ok (block order interfaces after packet b other begins is)
-    (body_refused order2 interfaces2 c s other2 begins2 refused) =
+unit_apart bytes x y len p r ok (block m order interfaces after packet b other begins is)
+    (block_refused m2 order2 interfaces2 s other2 refused) = block_apart order bytes b s begins refused
+unit_apart bytes x y len p r ok (block m order interfaces after packet b other begins is)
+    (body_refused m2 order2 interfaces2 c s other2 begins2 refused) =
     let e = block_one order bytes b c begins begins2 in
-    body_apart (kind_of_block b.block_type) order interfaces b.body packet after s
-    (subst (λ (v : BlockValue). RefusesBody order interfaces v.body (kind_of_block v.block_type) s) (sym e) refused) is
+    body_apart (kind_of_block b.block_type) m order interfaces b.body packet after s
+    (subst (λ (v : BlockValue). RefusesBody m order interfaces v.body (kind_of_block v.block_type) s) (sym e) refused)
+    is
 
 pub unit_refusal_one : (bytes : List ℕ) (x : Expectation) (r s : CaptureRefusal) → IsBytes bytes → Refuses bytes x r
     → Refuses bytes x s → r ≡ s
-unit_refusal_one bytes x r s ok (file_header_refused a other refused) (file_header_refused b other2 refused2) =
+unit_refusal_one bytes x r s ok (file_header_refused m a other refused) (file_header_refused m2 b other2 refused2) =
     ap File (refused_once bytes a b ok refused refused2)
-unit_refusal_one bytes x r s ok (file_header_refused a other refused) (first_section_refused b has refused2) =
+unit_refusal_one bytes x r s ok (file_header_refused m a other refused) (first_section_refused m2 b has refused2) =
     absurd (other has)
 unit_refusal_one bytes x r s ok (file_record_refused h a refused) (file_record_refused k b refused2) =
     ap Record (refusal_one h.order bytes a b refused refused2)
-unit_refusal_one bytes x r s ok (first_section_refused a has refused) (file_header_refused b other refused2) =
+unit_refusal_one bytes x r s ok (first_section_refused m a has refused) (file_header_refused m2 b other refused2) =
     absurd (other has)
-unit_refusal_one bytes x r s ok (first_section_refused a has refused) (first_section_refused b has2 refused2) =
+unit_refusal_one bytes x r s ok (first_section_refused m a has refused) (first_section_refused m2 b has2 refused2) =
     ap Section (sections.section_refused bytes a b ok refused refused2)
-unit_refusal_one bytes x r s ok (section_refused order interfaces a has refused)
-    (section_refused order2 interfaces2 b has2 refused2) =
+unit_refusal_one bytes x r s ok (section_refused m order interfaces a has refused)
+    (section_refused m2 order2 interfaces2 b has2 refused2) =
     ap Section (sections.section_refused bytes a b ok refused refused2)
-unit_refusal_one bytes x r s ok (section_refused order interfaces a has refused)
-    (block_refused order2 interfaces2 b other refused2) =
+unit_refusal_one bytes x r s ok (section_refused m order interfaces a has refused)
+    (block_refused m2 order2 interfaces2 b other refused2) =
     absurd (other has)
-unit_refusal_one bytes x r s ok (section_refused order interfaces a has refused)
-    (body_refused order2 interfaces2 c b other begins refused2) = absurd (other has)
-unit_refusal_one bytes x r s ok (block_refused order interfaces a other refused)
-    (section_refused order2 interfaces2 b has refused2) =
+unit_refusal_one bytes x r s ok (section_refused m order interfaces a has refused)
+    (body_refused m2 order2 interfaces2 c b other begins refused2) = absurd (other has)
+unit_refusal_one bytes x r s ok (block_refused m order interfaces a other refused)
+    (section_refused m2 order2 interfaces2 b has refused2) =
     absurd (other has)
-unit_refusal_one bytes x r s ok (block_refused order interfaces a other refused)
-    (block_refused order2 interfaces2 b other2 refused2) =
+unit_refusal_one bytes x r s ok (block_refused m order interfaces a other refused)
+    (block_refused m2 order2 interfaces2 b other2 refused2) =
     ap Block (block_refusal_one order bytes a b refused refused2)
-unit_refusal_one bytes x r s ok (block_refused order interfaces a other refused)
-    (body_refused order2 interfaces2 c b other2 begins refused2) = absurd (block_apart order bytes c a begins refused)
-unit_refusal_one bytes x r s ok (body_refused order interfaces c a other begins refused)
-    (section_refused order2 interfaces2 b has refused2) = absurd (other has)
-unit_refusal_one bytes x r s ok (body_refused order interfaces c a other begins refused)
-    (block_refused order2 interfaces2 b other2 refused2) = absurd (block_apart order bytes c b begins refused2)
-unit_refusal_one bytes x r s ok (body_refused order interfaces c a other begins refused)
-    (body_refused order2 interfaces2 d b other2 begins2 refused2) =
+unit_refusal_one bytes x r s ok (block_refused m order interfaces a other refused)
+    (body_refused m2 order2 interfaces2 c b other2 begins refused2) =
+    absurd (block_apart order bytes c a begins refused)
+unit_refusal_one bytes x r s ok (body_refused m order interfaces c a other begins refused)
+    (section_refused m2 order2 interfaces2 b has refused2) = absurd (other has)
+unit_refusal_one bytes x r s ok (body_refused m order interfaces c a other begins refused)
+    (block_refused m2 order2 interfaces2 b other2 refused2) = absurd (block_apart order bytes c b begins refused2)
+unit_refusal_one bytes x r s ok (body_refused m order interfaces c a other begins refused)
+    (body_refused m2 order2 interfaces2 d b other2 begins2 refused2) =
     let e = block_one order bytes c d begins begins2 in
-    body_refusal_one (kind_of_block c.block_type) order interfaces c.body r s refused
-    (subst (λ (v : BlockValue). RefusesBody order interfaces v.body (kind_of_block v.block_type) s) (sym e) refused2)
+    body_refusal_one (kind_of_block c.block_type) m order interfaces c.body r s refused
+    (subst (λ (v : BlockValue). RefusesBody m order interfaces v.body (kind_of_block v.block_type) s) (sym e) refused2)

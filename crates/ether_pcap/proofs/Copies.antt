@@ -2,7 +2,7 @@
 use Rattle.std.proofs.Common.{◌≡◌, ◌≢◌, ◌⊎◌, ℕ, zero, suc, ◌<◌, ◌≤◌, Bool, true, false, List, [], ◌∷◌, ◌++◌, length, drop, length-append, length-drop, append_assoc, refl, sym, ap, subst, ◌∙◌, arith, inl, inr, Some, None}
 use Rattle.std.specs.Prelude.{Option, IsTrue, take, ⊤, unwrap_or}
 use Rattle.std.proofs.lemmas.List.{length-take-le, take-append-drop, drop_at}
-use Rattle.ether_pcap.specs.Capture.{PacketValue, Expectation, Beginning, CaptureRefusal, Begins, Refuses, IsEnd, HasPackets}
+use Rattle.ether_pcap.specs.Capture.{PacketValue, Expectation, CaptureRefusal, HasBegun, Begins, Refuses, IsEnd, HasPackets}
 use Rattle.ether_pcap.specs.Capture as packets
 use Rattle.ether_pcap.specs.Editing.{EditedValue, unit_after, packet_after}
 use Rattle.ether_pcap.specs.Copies.{CopyFault, Refused, NotEdited, Copies, ended, refused, not_edited, unit, keeps, leaves, none, one_kept, one_left, edited_all, EditsNone, IsRead, HasPacketsTo, HasSource, IsNotEdited, Copy}
@@ -10,7 +10,7 @@ use Rattle.ether_pcap.proofs.CaptureLengths.{unit_within, unit_some}
 use Rattle.ether_pcap.proofs.CaptureLocality.{unit_local, unit_alone}
 use Rattle.ether_pcap.proofs.CaptureSome.{at_end, some_unit, some_packets}
 use Rattle.ether_pcap.proofs.EditPackets.{edited_begins, not_written}
-use Rattle.ether_pcap.proofs.PacketUnits.{same_after, begun, no_packet_first}
+use Rattle.ether_pcap.proofs.PacketUnits.{same_after, begun, begun_before}
 
 -- ---- units
 
@@ -92,7 +92,7 @@ module _ (Keeps : PacketValue → Type 0) (edit : PacketValue → Option EditedV
   copy_read x bytes copy kept rest fault (refused _ _ r more is) (inl later) = packets.ended x [] (later, refl)
   copy_read x bytes copy kept rest fault (refused _ _ r more is) (inr some) = absurd (some refl)
   copy_read x bytes copy kept rest fault (not_edited _ y _ len p begins is no_front) some =
-      packets.ended x [] ((λ first. no_packet_first bytes x y len p first begins), refl)
+      packets.ended x [] (begun_before bytes x y len p begins, refl)
   copy_read x bytes copy kept rest fault (unit _ y _ others len _ _ _ begins copies) some =
       let copied = unit_copied bytes others x y len None begins in
       packets.unit x y (take len bytes ++ others) len (edited_all edit kept) [] None copied.0
@@ -143,18 +143,18 @@ module _ (Keeps : PacketValue → Type 0) (edit : PacketValue → Option EditedV
   -- if nothing of a file is copied, nothing of it was read, for a fault
   pub copy_nothing : (x : Expectation) (bytes copy : List ℕ) (kept : List PacketValue) (rest : List ℕ)
       (fault : Option CopyFault)
-      → Copies Keeps edit x bytes copy kept rest fault → x ≡ Beginning → copy ≡ []
+      → Copies Keeps edit x bytes copy kept rest fault → ¬ (HasBegun x) → copy ≡ []
       → (kept ≡ []) × (rest ≡ bytes) × (fault ≢ None)
-  copy_nothing x bytes copy kept rest fault (ended _ _ end) first empty = absurd (end.0 first)
+  copy_nothing x bytes copy kept rest fault (ended _ _ end) first empty = absurd (first end.0)
   copy_nothing x bytes copy kept rest fault (refused _ _ r more is) first empty = (refl, refl, λ e. absurd cc)
   copy_nothing x bytes copy kept rest fault (not_edited _ y _ len p begins is no_front) first empty =
       (refl, refl, λ e. absurd cc)
   copy_nothing x bytes copy kept rest fault (unit _ y _ others len _ _ _ begins copies) first empty =
       absurd (some_copied bytes others x y len None begins empty)
   copy_nothing x bytes copy kept rest fault (keeps _ y _ front others len p ps _ _ begins is fits copies) first empty =
-      absurd (no_packet_first bytes x y len p first begins)
+      absurd (first (begun_before bytes x y len p begins))
   copy_nothing x bytes copy kept rest fault (leaves _ y _ _ len p _ _ _ begins not_kept copies) first empty =
-      absurd (no_packet_first bytes x y len p first begins)
+      absurd (first (begun_before bytes x y len p begins))
 
   -- where a packet can't be edited
   stopped_at : (x : Expectation) (bytes copy : List ℕ) (kept : List PacketValue) (rest : List ℕ)

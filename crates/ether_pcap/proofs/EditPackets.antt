@@ -16,7 +16,7 @@ use Rattle.ether_pcap.specs.Editing.{EditedValue, edited_record, edited_body, bl
 use Rattle.ether_pcap.specs.declared.capture.edited_unit.EditedUnit.{EditedUnit}
 use Rattle.ether_pcap.proofs.CaptureLocality.{unit_local}
 use Rattle.ether_pcap.proofs.EditUnits.{length-edited_front, length-edited_body, length-block_bytes, block_bytes-type, record_edited, body_edited, block_begins}
-use Rattle.ether_pcap.proofs.PacketUnits.{record_of_unit, PacketBlock, block_of_unit, body_of_unit, type_of, is_interface, is_obsolete, is_simple, is_enhanced, is_other, same_packet, no_packet_first, packet_room}
+use Rattle.ether_pcap.proofs.PacketUnits.{record_of_unit, PacketBlock, block_of_unit, body_of_unit, type_of, is_interface, is_obsolete, is_simple, is_enhanced, is_other, same_packet, begun_before, packet_room}
 
 same_bytes : (a b : List ℕ) → Some a ≡ Some b → a ≡ b
 same_bytes a b e = ap (λ (o : Option (List ℕ)). unwrap_or o a) e
@@ -138,14 +138,14 @@ block_fits number_len order m e u new is =
           record { most = most; is = same_bytes all new (subst Is (le-ltb 16777216 (12 + length body) most) is) }
     ]
 
-module _ (order : Order) (interfaces : List CaptureInterfaceValue) (u : List ℕ) (p : PacketValue) (e : EditedValue)
-    (b : PacketBlock order interfaces u p) (len : length u ≡ 12 + length b.value.body)
+module _ (most : ℕ) (order : Order) (interfaces : List CaptureInterfaceValue) (u : List ℕ) (p : PacketValue)
+    (e : EditedValue) (b : PacketBlock most order interfaces u p) (len : length u ≡ 12 + length b.value.body)
     (small : length e.packet ≤ 262144) (four : e.original_len ≤ 4294967295) where
   enhanced_begins : (number_len : ℕ) (new : List ℕ) → number_len ≤ 4
       → kind_of_block b.value.block_type ≡ EnhancedPacket number_len
-      → IsBody (EnhancedPacket number_len) order interfaces b.value.body (Some p) interfaces
+      → IsBody (EnhancedPacket number_len) most order interfaces b.value.body (Some p) interfaces
       → BlockFits order (length p.packet) e u new
-      → Begins new (Blocks order interfaces) (length new) (Some (edited_packet e p)) (Blocks order interfaces)
+      → Begins new (Blocks most order interfaces) (length new) (Some (edited_packet e p)) (Blocks most order interfaces)
   enhanced_begins number_len new few kind (i, v, options, is, at, has, f, g) room =
       let same : p ≡ packet_on order i v options = same_packet p (packet_on order i v options) f in
       let m : length p.packet ≡ length v.packet = ap (λ (q : PacketValue). length q.packet) same in
@@ -158,10 +158,10 @@ module _ (order : Order) (interfaces : List CaptureInterfaceValue) (u : List ℕ
       let all = block_bytes order type_bytes inner in
       let inner_is : edited_body order (length p.packet) e (slice_range u 8 (length u - 4)) ≡ inner =
       ap (λ (k : ℕ). edited_body order k e (slice_range u 8 (length u - 4))) m
-      ∙ ap (edited_body order (length v.packet) e) (body_of_unit order interfaces u p b len) in
-      let most : 12 + length inner ≤ 16777216 =
+      ∙ ap (edited_body order (length v.packet) e) (body_of_unit most order interfaces u p b len) in
+      let small_block : 12 + length inner ≤ 16777216 =
       subst (λ (l : List ℕ). 12 + length l ≤ 16777216) inner_is room.most in
-      let sound = edited_sound order (length v.packet) e body whole b.begins.sound most in
+      let sound = edited_sound order (length v.packet) e body whole b.begins.sound small_block in
       let begins = block_begins order type_bytes inner type_len sound in
       let t : field order u 0 4 ≡ b.value.block_type = b.begins.block_type in
       let other : HasSectionType all → ⊥ =
@@ -169,12 +169,13 @@ module _ (order : Order) (interfaces : List CaptureInterfaceValue) (u : List ℕ
       b.other (ap number (sym (block_bytes-type order type_bytes inner type_len)) ∙ has) in
       let k : EnhancedPacket number_len ≡ kind_of_block (field order u 0 4) = sym (ap kind_of_block t ∙ kind) in
       let q : PacketValue = edited_packet e (packet_on order i v options) in
-      let inside : IsBody (EnhancedPacket number_len) order interfaces inner (Some q) interfaces =
+      let inside : IsBody (EnhancedPacket number_len) most order interfaces inner (Some q) interfaces =
       (i, w, options, body_edited number_len order e body v few small four is, at, has, refl, refl) in
-      let x = Blocks order interfaces in
+      let x = Blocks most order interfaces in
       let unit : Begins all x (12 + length inner) (Some q) x =
-      block order interfaces interfaces (Some q) (record { block_type = field order u 0 4; body = inner }) other begins
-      (subst (λ (z : BlockKind). IsBody z order interfaces inner (Some q) interfaces) k inside) in
+      block most order interfaces interfaces (Some q) (record { block_type = field order u 0 4; body = inner }) other
+      begins
+      (subst (λ (z : BlockKind). IsBody z most order interfaces inner (Some q) interfaces) k inside) in
       let is_new : all ≡ new = ap (block_bytes order type_bytes) (sym inner_is) ∙ room.is in
       let Unit = λ (l : List ℕ) (j : ℕ) (r : PacketValue). Begins l x j (Some (edited_packet e r)) x in
       subst (λ (l : List ℕ). Unit l (length l) p) is_new
@@ -201,24 +202,24 @@ module _ (order : Order) (interfaces : List CaptureInterfaceValue) (u : List ℕ
         | is_other e ↦ let f : Other ≡ EnhancedPacket k = sym e ∙ is in absurd cc
       ]
 
-  block_edited : (new : List ℕ) → unit_with (Blocks order interfaces) (length p.packet) e u ≡ Some new
-      → Begins new (Blocks order interfaces) (length new) (Some (edited_packet e p)) (Blocks order interfaces)
+  block_edited : (new : List ℕ) → unit_with (Blocks most order interfaces) (length p.packet) e u ≡ Some new
+      → Begins new (Blocks most order interfaces) (length new) (Some (edited_packet e p)) (Blocks most order interfaces)
   block_edited new is =
       let found = by_kind (kind_of_block (field order u 0 4)) new is in
       let k : kind_of_block b.value.block_type ≡ EnhancedPacket found.0 =
       ap kind_of_block (sym b.begins.block_type) ∙ found.1 in
       enhanced_begins found.0 new (few_bytes (field order u 0 4) found.0 found.1) k
-      (subst (λ (z : BlockKind). IsBody z order interfaces b.value.body (Some p) interfaces) k b.body) found.2
+      (subst (λ (z : BlockKind). IsBody z most order interfaces b.value.body (Some p) interfaces) k b.body) found.2
 
 -- ---- units
 
 unit_begins : (x : Expectation) (u new : List ℕ) (p : PacketValue) (e : EditedValue) → Begins u x (length u) (Some p) x
     → Fits x (length p.packet) e u new → Begins new x (length new) (Some (edited_packet e p)) x
-unit_begins Beginning u new p e begins room = let bad : None ≡ Some new = room.is in absurd cc
+unit_begins (Beginning m) u new p e begins room = let bad : None ≡ Some new = room.is in absurd cc
 unit_begins (Records h) u new p e begins room = record_begins h u new p e begins room
-unit_begins (Blocks order interfaces) u new p e begins room =
-    let found = block_of_unit u (Blocks order interfaces) (length u) order interfaces p begins in
-    block_edited order interfaces u p e found.0 found.1 room.small room.four new room.is
+unit_begins (Blocks most order interfaces) u new p e begins room =
+    let found = block_of_unit u (Blocks most order interfaces) (length u) most order interfaces p begins in
+    block_edited most order interfaces u p e found.0 found.1 room.small room.four new room.is
 
 -- the unit of a packet that is edited is one of the edited packet
 pub edited_begins : (x : Expectation) (u new : List ℕ) (p : PacketValue) (o : Option EditedValue)
@@ -256,15 +257,15 @@ longer_body order m e body whole sound long =
     let aligned : (12 + length body) % 4 ≡ 0 = sound.aligned in
     omega (arith, l, most, aligned, whole, long)
 
-why_block : (kind : BlockKind) (order : Order) (interfaces : List CaptureInterfaceValue) (u body : List ℕ)
+why_block : (kind : BlockKind) (limit : ℕ) (order : Order) (interfaces : List CaptureInterfaceValue) (u body : List ℕ)
     (p : PacketValue) (e : EditedValue)
     → slice_range u 8 (length u - 4) ≡ body → IsTotalLen (12 + length body)
-    → IsBody kind order interfaces body (Some p) interfaces → edited_block kind order (length p.packet) e u ≡ None
+    → IsBody kind limit order interfaces body (Some p) interfaces → edited_block kind order (length p.packet) e u ≡ None
     → Why p e
-why_block InterfaceDescription order interfaces u body p e is_body sound (i, d, lt, f, g) is = absurd cc
-why_block SimplePacket order interfaces u body p e is_body sound (i, q, at, v, f, g) is =
+why_block InterfaceDescription limit order interfaces u body p e is_body sound (i, d, lt, f, g) is = absurd cc
+why_block SimplePacket limit order interfaces u body p e is_body sound (i, q, at, v, f, g) is =
     inl (ap (λ (r : PacketValue). r.time) (same_packet p (simple_packet_on i q) f))
-why_block (EnhancedPacket k) order interfaces u body p e is_body sound (i, v, options, is_v, at, has, f, g) is =
+why_block (EnhancedPacket k) limit order interfaces u body p e is_body sound (i, v, options, is_v, at, has, f, g) is =
     let same : p ≡ packet_on order i v options = same_packet p (packet_on order i v options) f in
     let m : length p.packet ≡ length v.packet = ap (λ (q : PacketValue). length q.packet) same in
     let new = edited_body order (length p.packet) e (slice_range u 8 (length u - 4)) in
@@ -279,18 +280,18 @@ why_block (EnhancedPacket k) order interfaces u body p e is_body sound (i, v, op
           let bad : Some all ≡ None = subst Is (le-ltb 16777216 (12 + length new) most) is in
           absurd cc
     ]
-why_block Other order interfaces u body p e is_body sound (f, g) is = absurd cc
+why_block Other limit order interfaces u body p e is_body sound (f, g) is = absurd cc
 
 why_unit : (x : Expectation) (u : List ℕ) (p : PacketValue) (e : EditedValue) → Begins u x (length u) (Some p) x
     → unit_with x (length p.packet) e u ≡ None → Why p e
-why_unit Beginning u p e begins is = absurd (no_packet_first u Beginning Beginning (length u) p refl begins)
+why_unit (Beginning m) u p e begins is = absurd (begun_before u (Beginning m) (Beginning m) (length u) p begins)
 why_unit (Records h) u p e begins is = absurd cc
-why_unit (Blocks order interfaces) u p e begins is =
-    let found = block_of_unit u (Blocks order interfaces) (length u) order interfaces p begins in
+why_unit (Blocks most order interfaces) u p e begins is =
+    let found = block_of_unit u (Blocks most order interfaces) (length u) most order interfaces p begins in
     let b = found.0 in
-    why_block (kind_of_block (field order u 0 4)) order interfaces u b.value.body p e
-    (body_of_unit order interfaces u p b found.1) b.begins.sound
-    (subst (λ (z : BlockKind). IsBody z order interfaces b.value.body (Some p) interfaces)
+    why_block (kind_of_block (field order u 0 4)) most order interfaces u b.value.body p e
+    (body_of_unit most order interfaces u p b found.1) b.begins.sound
+    (subst (λ (z : BlockKind). IsBody z most order interfaces b.value.body (Some p) interfaces)
     (ap kind_of_block (sym b.begins.block_type)) b.body)
     is
 

@@ -1,6 +1,6 @@
 -- Units that are packets: a record, or a block of one of three types.
 use Rattle.std.proofs.Common.{◌≡◌, ℕ, ◌+◌, ◌-◌, ◌≤◌, List, length, refl, sym, ap, subst, ◌∙◌, arith, inl, inr, Some, None}
-use Rattle.std.specs.Prelude.{◌≢◌, Option, unwrap_or, slice_range}
+use Rattle.std.specs.Prelude.{Option, unwrap_or, slice_range}
 use Rattle.std.proofs.lemmas.Bool.{cases_eq, ne_eqb}
 use Rattle.ether_pcap.specs.Numbers.{Order, field}
 use Rattle.ether_pcap.specs.Record.{RecordValue, BeginsRecord, record_len}
@@ -9,7 +9,7 @@ use Rattle.ether_pcap.specs.Section.{HasSectionType}
 use Rattle.ether_pcap.specs.FileHeader.{FileHeaderValue}
 use Rattle.ether_pcap.specs.Bodies.{EnhancedPacketValue, IsEnhancedPacket}
 use Rattle.ether_pcap.specs.Editing.{EditedValue, edited_block, unit_with}
-use Rattle.ether_pcap.specs.Capture.{PacketValue, packet_of_record, packet_on, simple_packet_on, CaptureInterfaceValue, Expectation, Beginning, Records, Blocks, BlockKind, InterfaceDescription, SimplePacket, EnhancedPacket, Other, kind_of_block, IsBody, Begins, file_header, file_record, first_section, section, block}
+use Rattle.ether_pcap.specs.Capture.{PacketValue, packet_of_record, packet_on, simple_packet_on, CaptureInterfaceValue, Expectation, Beginning, Records, Blocks, BlockKind, InterfaceDescription, SimplePacket, EnhancedPacket, Other, kind_of_block, IsBody, HasBegun, Begins, file_header, file_record, first_section, section, block}
 
 pub same_packet : (p q : PacketValue) → Some p ≡ Some q → p ≡ q
 same_packet p q e = ap (λ (o : Option PacketValue). unwrap_or o p) e
@@ -19,7 +19,7 @@ same_packet p q e = ap (λ (o : Option PacketValue). unwrap_or o p) e
 record_if : (bytes : List ℕ) (x y : Expectation) (len : ℕ) (packet : Option PacketValue) (h : FileHeaderValue)
     (p : PacketValue) → x ≡ Records h → packet ≡ Some p → Begins bytes x len packet y
     → (r : RecordValue) × BeginsRecord h.order bytes r × (len ≡ record_len r) × (p ≡ packet_of_record h r)
-record_if bytes x y len packet h p e f (file_header g other is) = absurd cc
+record_if bytes x y len packet h p e f (file_header m g other is) = absurd cc
 record_if bytes x y len packet h p e f (file_record g r is) =
     let same : g ≡ h = cc in (
       r,
@@ -27,9 +27,9 @@ record_if bytes x y len packet h p e f (file_record g r is) =
       refl,
       sym (same_packet (packet_of_record g r) p f) ∙ ap (λ (z : FileHeaderValue). packet_of_record z r) same,
     )
-record_if bytes x y len packet h p e f (first_section order b is) = absurd cc
-record_if bytes x y len packet h p e f (section order next interfaces b is) = absurd cc
-record_if bytes x y len packet h p e f (block order interfaces after q b other begins is) = absurd cc
+record_if bytes x y len packet h p e f (first_section m order b is) = absurd cc
+record_if bytes x y len packet h p e f (section m order next interfaces b is) = absurd cc
+record_if bytes x y len packet h p e f (block m order interfaces after q b other begins is) = absurd cc
 
 pub record_of_unit : (bytes : List ℕ) (y : Expectation) (len : ℕ) (h : FileHeaderValue) (p : PacketValue)
     → Begins bytes (Records h) len (Some p) y
@@ -63,30 +63,31 @@ type_of n =
     ]
 
 -- a block that is a packet
-pub record PacketBlock (order : Order) (interfaces : List CaptureInterfaceValue) (bytes : List ℕ) (p : PacketValue)
-    : Type 0 where
+pub record PacketBlock (most : ℕ) (order : Order) (interfaces : List CaptureInterfaceValue) (bytes : List ℕ)
+    (p : PacketValue) : Type 0 where
   pub value : BlockValue
   pub other : HasSectionType bytes → ⊥
   pub begins : BeginsBlock order bytes value
-  pub body : IsBody (kind_of_block value.block_type) order interfaces value.body (Some p) interfaces
+  pub body : IsBody (kind_of_block value.block_type) most order interfaces value.body (Some p) interfaces
 
-same_interfaces : (kind : BlockKind) (order : Order) (before after : List CaptureInterfaceValue) (body : List ℕ)
-    (packet : Option PacketValue) (p : PacketValue) → packet ≡ Some p → IsBody kind order before body packet after
+same_interfaces : (kind : BlockKind) (most : ℕ) (order : Order) (before after : List CaptureInterfaceValue)
+    (body : List ℕ) (packet : Option PacketValue) (p : PacketValue) → packet ≡ Some p
+    → IsBody kind most order before body packet after
     → after ≡ before
-same_interfaces InterfaceDescription order before after body packet p is (i, d, lt, e, f) =
+same_interfaces InterfaceDescription most order before after body packet p is (i, d, lt, e, f) =
     let g : None ≡ Some p = sym e ∙ is in absurd cc
-same_interfaces SimplePacket order before after body packet p is (i, q, at, d, e, f) = f
-same_interfaces (EnhancedPacket n) order before after body packet p is (i, q, o, d, at, has, e, f) = f
-same_interfaces Other order before after body packet p is (e, f) = f
+same_interfaces SimplePacket most order before after body packet p is (i, q, at, d, e, f) = f
+same_interfaces (EnhancedPacket n) most order before after body packet p is (i, q, o, d, at, has, e, f) = f
+same_interfaces Other most order before after body packet p is (e, f) = f
 
 same_if : (bytes : List ℕ) (x y : Expectation) (len : ℕ) (packet : Option PacketValue) (p : PacketValue)
     → packet ≡ Some p → Begins bytes x len packet y → y ≡ x
-same_if bytes x y len packet p e (file_header h other is) = absurd cc
+same_if bytes x y len packet p e (file_header m h other is) = absurd cc
 same_if bytes x y len packet p e (file_record h r is) = refl
-same_if bytes x y len packet p e (first_section order b is) = absurd cc
-same_if bytes x y len packet p e (section order next interfaces b is) = absurd cc
-same_if bytes x y len packet p e (block order interfaces after q b other begins is) =
-    ap (Blocks order) (same_interfaces (kind_of_block b.block_type) order interfaces after b.body q p e is)
+same_if bytes x y len packet p e (first_section m order b is) = absurd cc
+same_if bytes x y len packet p e (section m order next interfaces b is) = absurd cc
+same_if bytes x y len packet p e (block m order interfaces after q b other begins is) =
+    ap (Blocks m order) (same_interfaces (kind_of_block b.block_type) m order interfaces after b.body q p e is)
 
 -- after a packet the same is expected as before it
 pub same_after : (bytes : List ℕ) (x y : Expectation) (len : ℕ) (p : PacketValue) → Begins bytes x len (Some p) y
@@ -97,100 +98,103 @@ same_after bytes x y len p begins = same_if bytes x y len (Some p) p refl begins
 
 -- after a unit a file has begun
 pub begun : (bytes : List ℕ) (x y : Expectation) (len : ℕ) (p : Option PacketValue) → Begins bytes x len p y
-    → y ≢ Beginning
-begun bytes x y len p (file_header h other is) = λ e. absurd cc
-begun bytes x y len p (file_record h r is) = λ e. absurd cc
-begun bytes x y len p (first_section order b is) = λ e. absurd cc
-begun bytes x y len p (section order next interfaces b is) = λ e. absurd cc
-begun bytes x y len p (block order interfaces after packet b other begins is) = λ e. absurd cc
+    → HasBegun y
+begun bytes x y len p (file_header m h other is) = tt
+begun bytes x y len p (file_record h r is) = tt
+begun bytes x y len p (first_section m order b is) = tt
+begun bytes x y len p (section m order next interfaces b is) = tt
+begun bytes x y len p (block m order interfaces after packet b other begins is) = tt
 
-pub no_packet_first : (bytes : List ℕ) (x y : Expectation) (len : ℕ) (p : PacketValue) → x ≡ Beginning
-    → Begins bytes x len (Some p) y → ⊥
-no_packet_first bytes x y len p first begins =
-    begun bytes x y len (Some p) begins (same_after bytes x y len p begins ∙ first)
+pub begun_before : (bytes : List ℕ) (x y : Expectation) (len : ℕ) (p : PacketValue)
+    → Begins bytes x len (Some p) y → HasBegun x
+begun_before bytes x y len p begins =
+    subst HasBegun (same_after bytes x y len p begins) (begun bytes x y len (Some p) begins)
 
-block_if : (bytes : List ℕ) (x y : Expectation) (len : ℕ) (packet : Option PacketValue) (order : Order)
+block_if : (bytes : List ℕ) (x y : Expectation) (len : ℕ) (packet : Option PacketValue) (most : ℕ) (order : Order)
     (interfaces : List CaptureInterfaceValue) (p : PacketValue)
-    → x ≡ Blocks order interfaces → packet ≡ Some p → Begins bytes x len packet y
-    → (b : PacketBlock order interfaces bytes p) × (len ≡ 12 + length b.value.body)
-block_if bytes x y len packet order interfaces p e f (file_header h other is) = absurd cc
-block_if bytes x y len packet order interfaces p e f (file_record h r is) = absurd cc
-block_if bytes x y len packet order interfaces p e f (first_section o b is) = absurd cc
-block_if bytes x y len packet order interfaces p e f (section o next i b is) = absurd cc
-block_if bytes x y len packet order interfaces p e f (block o i after q b other begins is) =
+    → x ≡ Blocks most order interfaces → packet ≡ Some p → Begins bytes x len packet y
+    → (b : PacketBlock most order interfaces bytes p) × (len ≡ 12 + length b.value.body)
+block_if bytes x y len packet most order interfaces p e f (file_header m h other is) = absurd cc
+block_if bytes x y len packet most order interfaces p e f (file_record h r is) = absurd cc
+block_if bytes x y len packet most order interfaces p e f (first_section m o b is) = absurd cc
+block_if bytes x y len packet most order interfaces p e f (section m o next i b is) = absurd cc
+block_if bytes x y len packet most order interfaces p e f (block m o i after q b other begins is) =
     let a : o ≡ order = cc in
     let c : i ≡ interfaces = cc in
+    let d : m ≡ most = cc in
     let kind = kind_of_block b.block_type in
-    let s = same_interfaces kind o i after b.body q p f is in
-    let body : IsBody kind o i b.body (Some p) i =
-    subst (λ (l : List CaptureInterfaceValue). IsBody kind o i b.body (Some p) l) s
-    (subst (λ (r : Option PacketValue). IsBody kind o i b.body r after) f is) in (
+    let s = same_interfaces kind m o i after b.body q p f is in
+    let body : IsBody kind m o i b.body (Some p) i =
+    subst (λ (l : List CaptureInterfaceValue). IsBody kind m o i b.body (Some p) l) s
+    (subst (λ (r : Option PacketValue). IsBody kind m o i b.body r after) f is) in (
       record {
         value = b;
         other = other;
         begins = subst (λ (z : Order). BeginsBlock z bytes b) a begins;
         body =
-            subst (λ (z : Order). IsBody kind z interfaces b.body (Some p) interfaces) a
-            (subst (λ (l : List CaptureInterfaceValue). IsBody kind o l b.body (Some p) l) c body);
+            subst (λ (n : ℕ). IsBody kind n order interfaces b.body (Some p) interfaces) d
+            (subst (λ (z : Order). IsBody kind m z interfaces b.body (Some p) interfaces) a
+            (subst (λ (l : List CaptureInterfaceValue). IsBody kind m o l b.body (Some p) l) c body));
       },
       refl,
     )
 
-pub block_of_unit : (bytes : List ℕ) (y : Expectation) (len : ℕ) (order : Order)
+pub block_of_unit : (bytes : List ℕ) (y : Expectation) (len most : ℕ) (order : Order)
     (interfaces : List CaptureInterfaceValue) (p : PacketValue)
-    → Begins bytes (Blocks order interfaces) len (Some p) y
-    → (b : PacketBlock order interfaces bytes p) × (len ≡ 12 + length b.value.body)
-block_of_unit bytes y len order interfaces p begins =
-    block_if bytes (Blocks order interfaces) y len (Some p) order interfaces p refl refl begins
+    → Begins bytes (Blocks most order interfaces) len (Some p) y
+    → (b : PacketBlock most order interfaces bytes p) × (len ≡ 12 + length b.value.body)
+block_of_unit bytes y len most order interfaces p begins =
+    block_if bytes (Blocks most order interfaces) y len (Some p) most order interfaces p refl refl begins
 
 -- its body, if it has all bytes
-pub body_of_unit : (order : Order) (interfaces : List CaptureInterfaceValue) (bytes : List ℕ) (p : PacketValue)
-    (b : PacketBlock order interfaces bytes p)
+pub body_of_unit : (most : ℕ) (order : Order) (interfaces : List CaptureInterfaceValue) (bytes : List ℕ)
+    (p : PacketValue) (b : PacketBlock most order interfaces bytes p)
     → length bytes ≡ 12 + length b.value.body → slice_range bytes 8 (length bytes - 4) ≡ b.value.body
-body_of_unit order interfaces bytes p b len =
+body_of_unit most order interfaces bytes p b len =
     let e : length bytes - 4 ≡ 8 + length b.value.body = omega (arith, len) in
     ap (slice_range bytes 8) e ∙ b.begins.body
 
 -- ---- how many bytes a packet has
 
 -- as many as a reader accepts, at most
-few_in_body : (kind : BlockKind) (order : Order) (interfaces : List CaptureInterfaceValue) (body : List ℕ)
-    (p : PacketValue) → IsBody kind order interfaces body (Some p) interfaces → length p.packet ≤ 262144
-few_in_body InterfaceDescription order interfaces body p (i, d, lt, e, f) = absurd cc
-few_in_body SimplePacket order interfaces body p (i, v, at, is, e, f) =
+few_in_body : (kind : BlockKind) (most : ℕ) (order : Order) (interfaces : List CaptureInterfaceValue)
+    (body : List ℕ) (p : PacketValue) → IsBody kind most order interfaces body (Some p) interfaces
+    → length p.packet ≤ 262144
+few_in_body InterfaceDescription most order interfaces body p (i, d, lt, e, f) = absurd cc
+few_in_body SimplePacket most order interfaces body p (i, v, at, is, e, f) =
     let m : length p.packet ≡ length v.packet =
     ap (λ (r : PacketValue). length r.packet) (same_packet p (simple_packet_on i v) e) in
     omega (arith, m, is.room)
-few_in_body (EnhancedPacket n) order interfaces body p (i, v, o, is, at, has, e, f) =
+few_in_body (EnhancedPacket n) most order interfaces body p (i, v, o, is, at, has, e, f) =
     let m : length p.packet ≡ length v.packet =
     ap (λ (r : PacketValue). length r.packet) (same_packet p (packet_on order i v o) e) in
     omega (arith, m, is.room)
-few_in_body Other order interfaces body p (e, f) = absurd cc
+few_in_body Other most order interfaces body p (e, f) = absurd cc
 
 pub packet_room : (x : Expectation) (u : List ℕ) (p : PacketValue) → Begins u x (length u) (Some p) x
     → length p.packet ≤ 262144
-packet_room Beginning u p begins = absurd (no_packet_first u Beginning Beginning (length u) p refl begins)
+packet_room (Beginning m) u p begins = absurd (begun_before u (Beginning m) (Beginning m) (length u) p begins)
 packet_room (Records h) u p begins =
     let s = record_of_unit u (Records h) (length u) h p begins in
     let m : length p.packet ≡ length s.0.packet = ap (λ (q : PacketValue). length q.packet) s.3 in
     omega (arith, m, s.1.room)
-packet_room (Blocks order interfaces) u p begins =
-    let b = (block_of_unit u (Blocks order interfaces) (length u) order interfaces p begins).0 in
-    few_in_body (kind_of_block b.value.block_type) order interfaces b.value.body p b.body
+packet_room (Blocks m order interfaces) u p begins =
+    let b = (block_of_unit u (Blocks m order interfaces) (length u) m order interfaces p begins).0 in
+    few_in_body (kind_of_block b.value.block_type) m order interfaces b.value.body p b.body
 
 -- ---- a block whose packet is edited
 
-module _ (order : Order) (interfaces : List CaptureInterfaceValue) (u : List ℕ) (p : PacketValue)
-    (begins : Begins u (Blocks order interfaces) (length u) (Some p) (Blocks order interfaces)) where
+module _ (most : ℕ) (order : Order) (interfaces : List CaptureInterfaceValue) (u : List ℕ) (p : PacketValue)
+    (begins : Begins u (Blocks most order interfaces) (length u) (Some p) (Blocks most order interfaces)) where
   abbrev Is : BlockKind → List ℕ → Type 0
-  Is kind body = IsBody kind order interfaces body (Some p) interfaces
+  Is kind body = IsBody kind most order interfaces body (Some p) interfaces
 
   unit_body : (kind : BlockKind) → kind_of_block (field order u 0 4) ≡ kind
       → Is kind (slice_range u 8 (length u - 4))
   unit_body kind is =
-      let found = block_of_unit u (Blocks order interfaces) (length u) order interfaces p begins in
+      let found = block_of_unit u (Blocks most order interfaces) (length u) most order interfaces p begins in
       let b = found.0 in
-      subst (Is kind) (sym (body_of_unit order interfaces u p b found.1))
+      subst (Is kind) (sym (body_of_unit most order interfaces u p b found.1))
       (subst (λ (z : BlockKind). Is z b.value.body) (ap kind_of_block (sym b.begins.block_type) ∙ is) b.body)
 
   -- an enhanced packet, or an obsolete packet block
@@ -199,9 +203,9 @@ module _ (order : Order) (interfaces : List CaptureInterfaceValue) (u : List ℕ
       → ((k : ℕ) (v : EnhancedPacketValue) → IsTotalLen (length u)
       → IsEnhancedPacket k order (slice_range u 8 (length u - 4)) v
       → new ≡ edited_block (EnhancedPacket k) order (length v.packet) e u)
-      → new ≡ unit_with (Blocks order interfaces) (length p.packet) e u
+      → new ≡ unit_with (Blocks most order interfaces) (length p.packet) e u
   enhanced_edited number_len e new kind edits =
-      let found = block_of_unit u (Blocks order interfaces) (length u) order interfaces p begins in
+      let found = block_of_unit u (Blocks most order interfaces) (length u) most order interfaces p begins in
       let (i, v, options, is, at, has, f, g) = unit_body (EnhancedPacket number_len) kind in
       let m : length p.packet ≡ length v.packet =
       ap (λ (q : PacketValue). length q.packet) (same_packet p (packet_on order i v options) f) in
@@ -211,7 +215,7 @@ module _ (order : Order) (interfaces : List CaptureInterfaceValue) (u : List ℕ
 
   -- .. no other block is edited
   pub other_edited : (e : EditedValue) → (field order u 0 4 ≡ 2 → ⊥) → (field order u 0 4 ≡ 6 → ⊥)
-      → None ≡ unit_with (Blocks order interfaces) (length p.packet) e u
+      → None ≡ unit_with (Blocks most order interfaces) (length p.packet) e u
   other_edited e two six =
       elim (type_of (field order u 0 4)) [
         | is_interface is ↦ none InterfaceDescription (ap kind_of_block is) refl
@@ -223,6 +227,6 @@ module _ (order : Order) (interfaces : List CaptureInterfaceValue) (u : List ℕ
     where
       none : (kind : BlockKind) → kind_of_block (field order u 0 4) ≡ kind
           → None ≡ edited_block kind order (length p.packet) e u
-          → None ≡ unit_with (Blocks order interfaces) (length p.packet) e u
+          → None ≡ unit_with (Blocks most order interfaces) (length p.packet) e u
       none kind is e_none =
           e_none ∙ ap (λ (z : BlockKind). edited_block z order (length p.packet) e u) (sym is)

@@ -39,7 +39,7 @@ no_section header LittleEndian r ok len has is =
 
 written_records : (h : FileHeaderValue) (bytes : List ℕ) (records : List RecordValue)
     → WritesRecords h.order bytes records → HasPackets (Records h) bytes (map (packet_of_record h) records) [] None
-written_records h [] [] none = ended (Records h) [] (λ e. cc, refl)
+written_records h [] [] none = ended (Records h) [] (tt, refl)
 written_records h _ _ (more header bytes r records len is le rest) =
     let front = header ++ r.packet in
     let end = drop_at front bytes (record_len r) (length-append header r.packet ∙ omega (arith, len)) in
@@ -50,12 +50,12 @@ written_records h _ _ (more header bytes r records len is le rest) =
     (subst (λ (l : List ℕ). HasPackets (Records h) l (map (packet_of_record h) records) [] None) (sym end) others)
 
 pub written_files_are_read : WrittenFilesAreRead
-written_files_are_read header bytes h records ok len lt has writes rest =
+written_files_are_read most header bytes h records ok len lt has writes rest =
     let type_of = part-append header bytes 0 4 (omega arith) (omega (arith, len)) in
     let none = λ (t : HasSectionType (header ++ bytes)).
     no_section header h.order h.resolution ok len writes.magic (ap number (sym type_of) ∙ t) in
     let packets = map (packet_of_record h) records in
-    unit Beginning (Records h) (header ++ bytes) 24 packets [] None
-    (file_header h none (file_header_back header bytes h len writes lt has))
+    unit (Beginning most) (Records h) (header ++ bytes) 24 packets [] None
+    (file_header most h none (file_header_back header bytes h len writes lt has))
     (subst (λ (l : List ℕ). HasPackets (Records h) l packets [] None) (sym (drop_at header bytes 24 len))
     (written_records h bytes records rest))

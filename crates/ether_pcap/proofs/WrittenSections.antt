@@ -89,17 +89,18 @@ has_rest : (x : Expectation) (front bytes : List ℕ) (n : ℕ) (packets : List 
 has_rest x front bytes n packets len has =
     subst (λ (l : List ℕ). HasPackets x l packets [] None) (sym (drop_at front bytes n len)) has
 
-written_blocks : (order : Order) (before : List CaptureInterfaceValue) (bytes : List ℕ) (packets : List PacketValue)
-    → WritesBlocks order before bytes packets → HasPackets (Blocks order before) bytes packets [] None
-written_blocks _ _ _ _ (end order before) = capture.ended (Blocks order before) [] (λ e. cc, refl)
-written_blocks _ _ _ _ (section order next before bytes packets rest) =
+written_blocks : (most : ℕ) (order : Order) (before : List CaptureInterfaceValue) (bytes : List ℕ)
+    (packets : List PacketValue) → WritesBlocks most order before bytes packets
+    → HasPackets (Blocks most order before) bytes packets [] None
+written_blocks most _ _ _ _ (end order before) = capture.ended (Blocks most order before) [] (tt, refl)
+written_blocks most _ _ _ _ (section order next before bytes packets rest) =
     let b : BlockValue = record { block_type = section_type; body = section_body next } in
     let n = 12 + length (section_body next) in
-    capture.unit (Blocks order before) (Blocks next []) (section_bytes next ++ bytes) n packets [] None
-    (capture.section order next before b (section_read next bytes))
-    (has_rest (Blocks next []) (section_bytes next) bytes n packets (length-section_bytes next)
-    (written_blocks next [] bytes packets rest))
-written_blocks _ _ _ _ (interface order before bytes packets i options fits has room rest) =
+    capture.unit (Blocks most order before) (Blocks most next []) (section_bytes next ++ bytes) n packets [] None
+    (capture.section most order next before b (section_read next bytes))
+    (has_rest (Blocks most next []) (section_bytes next) bytes n packets (length-section_bytes next)
+    (written_blocks most next [] bytes packets rest))
+written_blocks most _ _ _ _ (interface order before bytes packets i options fits has room rest) =
     let v = described_by order i options in
     let after = before ++ v ∷ [] in
     let b : BlockValue = record { block_type = 1; body = interface_body order i } in
@@ -111,27 +112,30 @@ written_blocks _ _ _ _ (interface order before bytes packets i options fits has 
     fits.total_len bytes in
     let describes : Describes order b.body v =
     record { interface = i; options = options; is_interface = read.1; has_options = has; value = refl } in
-    capture.unit (Blocks order before) (Blocks order after) (interface_bytes order i ++ bytes) n packets [] None
-    (capture.block order before after None b (interface_other order i bytes) read.0 (v, describes, room, refl, refl))
-    (has_rest (Blocks order after) (interface_bytes order i) bytes n packets (length-interface_bytes order i)
-    (written_blocks order after bytes packets rest))
-written_blocks _ _ _ _ (packet order before bytes packets p options i fits has at rest) =
+    capture.unit (Blocks most order before) (Blocks most order after) (interface_bytes order i ++ bytes) n packets []
+    None
+    (capture.block most order before after None b (interface_other order i bytes) read.0
+    (v, describes, room, refl, refl))
+    (has_rest (Blocks most order after) (interface_bytes order i) bytes n packets (length-interface_bytes order i)
+    (written_blocks most order after bytes packets rest))
+written_blocks most _ _ _ _ (packet order before bytes packets p options i fits has at rest) =
     let b : BlockValue = record { block_type = 6; body = packet_body order p } in
     let n = 12 + length (packet_body order p) in
     let value = packet_on order i p options in
     let header = bytes_of order 4 6 ++ bytes_of order 4 (packet_block_len p) ++ packet_head order p in
     let read = packet_read order p header refl (packet_fits order p fits) fits.captured_len fits.total_len bytes in
-    capture.packet (Blocks order before) (Blocks order before) (packet_bytes order p ++ bytes) n value packets [] None
-    (capture.block order before before (Some value) b (packet_other order p bytes) read.0
+    capture.packet (Blocks most order before) (Blocks most order before) (packet_bytes order p ++ bytes) n value packets
+    [] None
+    (capture.block most order before before (Some value) b (packet_other order p bytes) read.0
     (i, p, options, read.1, at, has, refl, refl))
-    (has_rest (Blocks order before) (packet_bytes order p) bytes n packets (length-packet_bytes order p)
-    (written_blocks order before bytes packets rest))
+    (has_rest (Blocks most order before) (packet_bytes order p) bytes n packets (length-packet_bytes order p)
+    (written_blocks most order before bytes packets rest))
 
 pub written_sections_are_read : WrittenSectionsAreRead
-written_sections_are_read order bytes packets rest =
+written_sections_are_read most order bytes packets rest =
     let b : BlockValue = record { block_type = section_type; body = section_body order } in
     let n = 12 + length (section_body order) in
-    capture.unit Beginning (Blocks order []) (section_bytes order ++ bytes) n packets [] None
-    (capture.first_section order b (section_read order bytes))
-    (has_rest (Blocks order []) (section_bytes order) bytes n packets (length-section_bytes order)
-    (written_blocks order [] bytes packets rest))
+    capture.unit (Beginning most) (Blocks most order []) (section_bytes order ++ bytes) n packets [] None
+    (capture.first_section most order b (section_read order bytes))
+    (has_rest (Blocks most order []) (section_bytes order) bytes n packets (length-section_bytes order)
+    (written_blocks most order [] bytes packets rest))

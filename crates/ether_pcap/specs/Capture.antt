@@ -1,6 +1,6 @@
 -- A capture file of either format, from its beginning to its end: the file header and the records of a classic file, or the blocks
 -- of a pcapng file (draft-ietf-opsawg-pcap, section 3; draft-ietf-opsawg-pcapng, section 3).
-use Rattle.std.specs.Prelude.{◌≡◌, ◌≢◌, ℕ, ◌+◌, ◌-◌, ◌*◌, ◌/◌, ◌%◌, ◌^◌, ◌<◌, ◌≤◌, List, [], ◌∷◌, ◌++◌, length, drop, Option, Some, None, unwrap_or, nat_lt, nat_eq, if◌then◌else◌}
+use Rattle.std.specs.Prelude.{◌≡◌, ℕ, ⊤, ◌+◌, ◌-◌, ◌*◌, ◌/◌, ◌%◌, ◌^◌, ◌<◌, ◌≤◌, List, [], ◌∷◌, ◌++◌, length, drop, Option, Some, None, unwrap_or, nat_lt, nat_eq, if◌then◌else◌}
 use Rattle.std.specs.Option.{option_map}
 use Rattle.ether_pcap.specs.Numbers.{Order}
 use Rattle.ether_pcap.specs.FileHeader.{FileHeaderValue, IsFileHeader, FileRefusal, RefusesFile}
@@ -103,18 +103,14 @@ pub record IsAt (interfaces : List CaptureInterfaceValue) (n : ℕ) (i : Capture
   pub parts : interfaces ≡ before ++ i ∷ after
   pub number : length before ≡ n
 
--- the greatest number of interfaces of a section that is read
-abbrev pub max_interfaces : ℕ
-max_interfaces = 4096
-
 -- ---- units
 
 -- what is expected at a place of a file: its beginning; a record after this header; a block of a section of this byte order that
--- has described these interfaces
+-- has described these interfaces. A section may describe so many at most.
 pub data Expectation : Type 0 where
-  Beginning : Expectation
+  Beginning : (most : ℕ) → Expectation
   Records : FileHeaderValue → Expectation
-  Blocks : Order → List CaptureInterfaceValue → Expectation
+  Blocks : (most : ℕ) → Order → List CaptureInterfaceValue → Expectation
 
 -- the length of the frame check sequence in the flags of a packet (4.3.1): bits 5 to 8, where 0 is none that is known
 abbrev pub fcs_in_flags : Option ℕ → Option ℕ
@@ -154,17 +150,17 @@ kind_of_block n =
     else (if nat_eq n 2 then EnhancedPacket 2 else (if nat_eq n 3 then SimplePacket else (if nat_eq n 6 then EnhancedPacket 4 else Other)))
 
 -- the body of a block in a section that has described these interfaces: the packet, if it is one, and the interfaces after it
-abbrev pub IsBody : BlockKind → Order → (before : List CaptureInterfaceValue) → (body : List ℕ) → Option PacketValue → (after : List CaptureInterfaceValue) → Type 0
-IsBody InterfaceDescription order before body packet after =
-    (i : CaptureInterfaceValue) × Describes order body i × (length before < max_interfaces) × (packet ≡ None) × (after ≡ before ++ i ∷ [])
-IsBody SimplePacket order before body packet after =
+abbrev pub IsBody : BlockKind → (most : ℕ) → Order → (before : List CaptureInterfaceValue) → (body : List ℕ) → Option PacketValue → (after : List CaptureInterfaceValue) → Type 0
+IsBody InterfaceDescription most order before body packet after =
+    (i : CaptureInterfaceValue) × Describes order body i × (length before < most) × (packet ≡ None) × (after ≡ before ++ i ∷ [])
+IsBody SimplePacket most order before body packet after =
     (i : CaptureInterfaceValue) × (p : SimplePacketValue) × IsAt before 0 i × IsSimplePacket order i.snap_len body p
     × (packet ≡ Some (simple_packet_on i p)) × (after ≡ before)
-IsBody (EnhancedPacket number_len) order before body packet after =
+IsBody (EnhancedPacket number_len) most order before body packet after =
     (i : CaptureInterfaceValue) × (p : EnhancedPacketValue) × (options : List OptionValue)
     × IsEnhancedPacket number_len order body p × IsAt before p.interface i × HasOptions order p.options options
     × (packet ≡ Some (packet_on order i p options)) × (after ≡ before)
-IsBody Other order before body packet after = (packet ≡ None) × (after ≡ before)
+IsBody Other most order before body packet after = (packet ≡ None) × (after ≡ before)
 
 -- why a unit is refused: a row of its format; a packet of an interface that the section has not described, by its number; one more
 -- interface than there may be
@@ -180,34 +176,34 @@ pub data CaptureRefusal : Type 0 where
 abbrev pub HasNoInterface : List CaptureInterfaceValue → ℕ → Type 0
 HasNoInterface interfaces n = length interfaces ≤ n
 
-pub data RefusesBody (order : Order) (before : List CaptureInterfaceValue) (body : List ℕ) : BlockKind → CaptureRefusal → Type 0 where
-  interface : (r : BodyRefusal) → RefusesInterface body r → RefusesBody order before body InterfaceDescription (Body r)
-  too_many : (i : CaptureInterfaceValue) → Describes order body i → max_interfaces ≤ length before → RefusesBody order before body InterfaceDescription TooManyInterfaces
-  simple_alone : HasNoInterface before 0 → RefusesBody order before body SimplePacket (NoInterface 0)
-  simple : (i : CaptureInterfaceValue) (r : BodyRefusal) → IsAt before 0 i → RefusesSimplePacket order i.snap_len body r → RefusesBody order before body SimplePacket (Body r)
-  enhanced : (n : ℕ) (r : BodyRefusal) → RefusesEnhancedPacket order body r → RefusesBody order before body (EnhancedPacket n) (Body r)
+pub data RefusesBody (most : ℕ) (order : Order) (before : List CaptureInterfaceValue) (body : List ℕ) : BlockKind → CaptureRefusal → Type 0 where
+  interface : (r : BodyRefusal) → RefusesInterface body r → RefusesBody most order before body InterfaceDescription (Body r)
+  too_many : (i : CaptureInterfaceValue) → Describes order body i → most ≤ length before → RefusesBody most order before body InterfaceDescription TooManyInterfaces
+  simple_alone : HasNoInterface before 0 → RefusesBody most order before body SimplePacket (NoInterface 0)
+  simple : (i : CaptureInterfaceValue) (r : BodyRefusal) → IsAt before 0 i → RefusesSimplePacket order i.snap_len body r → RefusesBody most order before body SimplePacket (Body r)
+  enhanced : (n : ℕ) (r : BodyRefusal) → RefusesEnhancedPacket order body r → RefusesBody most order before body (EnhancedPacket n) (Body r)
   enhanced_alone : (n : ℕ) (p : EnhancedPacketValue) → IsEnhancedPacket n order body p → HasNoInterface before p.interface
-      → RefusesBody order before body (EnhancedPacket n) (NoInterface p.interface)
+      → RefusesBody most order before body (EnhancedPacket n) (NoInterface p.interface)
 
 -- Bytes begin with a unit of so many bytes, which is this packet if it is one, and after which this is expected.
 pub data Begins (bytes : List ℕ) : Expectation → (len : ℕ) → Option PacketValue → Expectation → Type 0 where
-  file_header : (h : FileHeaderValue) → ¬ (HasSectionType bytes) → IsFileHeader bytes h → Begins bytes Beginning 24 None (Records h)
+  file_header : (most : ℕ) (h : FileHeaderValue) → ¬ (HasSectionType bytes) → IsFileHeader bytes h → Begins bytes (Beginning most) 24 None (Records h)
   file_record : (h : FileHeaderValue) (r : RecordValue) → BeginsRecord h.order bytes r → Begins bytes (Records h) (record_len r) (Some (packet_of_record h r)) (Records h)
-  first_section : (order : Order) (b : BlockValue) → IsSection bytes order b → Begins bytes Beginning (12 + length b.body) None (Blocks order [])
-  section : (order next : Order) (interfaces : List CaptureInterfaceValue) (b : BlockValue) → IsSection bytes next b
-      → Begins bytes (Blocks order interfaces) (12 + length b.body) None (Blocks next [])
-  block : (order : Order) (interfaces after : List CaptureInterfaceValue) (packet : Option PacketValue) (b : BlockValue) → ¬ (HasSectionType bytes) → BeginsBlock order bytes b
-      → IsBody (kind_of_block b.block_type) order interfaces b.body packet after → Begins bytes (Blocks order interfaces) (12 + length b.body) packet (Blocks order after)
+  first_section : (most : ℕ) (order : Order) (b : BlockValue) → IsSection bytes order b → Begins bytes (Beginning most) (12 + length b.body) None (Blocks most order [])
+  section : (most : ℕ) (order next : Order) (interfaces : List CaptureInterfaceValue) (b : BlockValue) → IsSection bytes next b
+      → Begins bytes (Blocks most order interfaces) (12 + length b.body) None (Blocks most next [])
+  block : (most : ℕ) (order : Order) (interfaces after : List CaptureInterfaceValue) (packet : Option PacketValue) (b : BlockValue) → ¬ (HasSectionType bytes) → BeginsBlock order bytes b
+      → IsBody (kind_of_block b.block_type) most order interfaces b.body packet after → Begins bytes (Blocks most order interfaces) (12 + length b.body) packet (Blocks most order after)
 
 -- Bytes do not begin with the unit that is expected.
 pub data Refuses (bytes : List ℕ) : Expectation → CaptureRefusal → Type 0 where
-  file_header_refused : (r : FileRefusal) → ¬ (HasSectionType bytes) → RefusesFile bytes r → Refuses bytes Beginning (File r)
+  file_header_refused : (most : ℕ) (r : FileRefusal) → ¬ (HasSectionType bytes) → RefusesFile bytes r → Refuses bytes (Beginning most) (File r)
   file_record_refused : (h : FileHeaderValue) (r : RecordRefusal) → RefusesRecord h.order bytes r → Refuses bytes (Records h) (Record r)
-  first_section_refused : (r : SectionRefusal) → HasSectionType bytes → RefusesSection bytes r → Refuses bytes Beginning (Section r)
-  section_refused : (order : Order) (interfaces : List CaptureInterfaceValue) (r : SectionRefusal) → HasSectionType bytes → RefusesSection bytes r → Refuses bytes (Blocks order interfaces) (Section r)
-  block_refused : (order : Order) (interfaces : List CaptureInterfaceValue) (r : BlockRefusal) → ¬ (HasSectionType bytes) → RefusesBlock order bytes r → Refuses bytes (Blocks order interfaces) (Block r)
-  body_refused : (order : Order) (interfaces : List CaptureInterfaceValue) (b : BlockValue) (r : CaptureRefusal) → ¬ (HasSectionType bytes) → BeginsBlock order bytes b
-      → RefusesBody order interfaces b.body (kind_of_block b.block_type) r → Refuses bytes (Blocks order interfaces) r
+  first_section_refused : (most : ℕ) (r : SectionRefusal) → HasSectionType bytes → RefusesSection bytes r → Refuses bytes (Beginning most) (Section r)
+  section_refused : (most : ℕ) (order : Order) (interfaces : List CaptureInterfaceValue) (r : SectionRefusal) → HasSectionType bytes → RefusesSection bytes r → Refuses bytes (Blocks most order interfaces) (Section r)
+  block_refused : (most : ℕ) (order : Order) (interfaces : List CaptureInterfaceValue) (r : BlockRefusal) → ¬ (HasSectionType bytes) → RefusesBlock order bytes r → Refuses bytes (Blocks most order interfaces) (Block r)
+  body_refused : (most : ℕ) (order : Order) (interfaces : List CaptureInterfaceValue) (b : BlockValue) (r : CaptureRefusal) → ¬ (HasSectionType bytes) → BeginsBlock order bytes b
+      → RefusesBody most order interfaces b.body (kind_of_block b.block_type) r → Refuses bytes (Blocks most order interfaces) r
 
 -- how many bytes a unit needs that was refused because the bytes end within it
 abbrev pub required_len : CaptureRefusal → Option ℕ
@@ -220,9 +216,14 @@ required_len _ = None
 
 -- ---- a whole file
 
--- nothing is left of a file that has begun
+-- a file has begun
+abbrev pub HasBegun : Expectation → Type 0
+HasBegun (Beginning most) = ⊥
+HasBegun _ = ⊤
+
+-- .. and nothing is left of it
 abbrev pub IsEnd : Expectation → List ℕ → Type 0
-IsEnd x bytes = (x ≢ Beginning) × (bytes ≡ [])
+IsEnd x bytes = HasBegun x × (bytes ≡ [])
 
 -- The packets of the bytes from a place on, where this is expected; what is left after them is nothing, or refused.
 pub data HasPackets : Expectation → List ℕ → List PacketValue → (rest : List ℕ) → Option CaptureRefusal → Type 0 where

@@ -13,9 +13,13 @@ pub record State : Type 0 where
   pub offset : ℕ
   pub over : Bool
 
+-- how many interfaces a section may describe
+abbrev pub max_interfaces : ℕ
+max_interfaces = 4096
+
 -- nothing is read
 abbrev pub start : List ℕ → State
-start bytes = record { expected = Beginning; rest = bytes; offset = 0; over = false }
+start bytes = record { expected = Beginning max_interfaces; rest = bytes; offset = 0; over = false }
 
 -- The first packet of the bytes is the unit that ends after so many bytes, no unit before it is a packet, and after it this is expected.
 pub data FirstPacket : Expectation → (bytes : List ℕ) → PacketValue → (len : ℕ) → Expectation → Type 0 where

@@ -1,5 +1,5 @@
 -- What is read of a capture file of either format, and why it is refused, as values of the formats.
-use Rattle.std.specs.Prelude.{List, map}
+use Rattle.std.specs.Prelude.{ℕ, List, map}
 use Rattle.std.specs.Option.{option_map}
 use Rattle.ether_pcap.specs.Capture.{TimeValue, PacketValue, CaptureInterfaceValue, Expectation, Beginning, Records, Blocks, CaptureRefusal, File, Record, Section, Block, Body, NoInterface, TooManyInterfaces}
 use Rattle.ether_pcap.specs.Views.{order_of, file_header_view, file_refusal_view, record_refusal_view}
@@ -46,8 +46,8 @@ capture_interface_view i = record {
 abbrev pub interfaces_view : List CaptureInterface → List CaptureInterfaceValue
 interfaces_view interfaces = map capture_interface_view interfaces
 
--- what a reader expects that has read this and keeps these interfaces
-abbrev pub expectation_of : Progress → List CaptureInterface → Expectation
-expectation_of progress.Nothing interfaces = Beginning
-expectation_of (progress.Classic header) interfaces = Records (file_header_view header)
-expectation_of (progress.Section order) interfaces = Blocks (order_of order) (interfaces_view interfaces)
+-- what a reader expects that has read this and keeps these interfaces, so many of a section at most
+abbrev pub expectation_of : (most : ℕ) → Progress → List CaptureInterface → Expectation
+expectation_of most progress.Nothing interfaces = Beginning most
+expectation_of most (progress.Classic header) interfaces = Records (file_header_view header)
+expectation_of most (progress.Section order) interfaces = Blocks most (order_of order) (interfaces_view interfaces)

@@ -2,7 +2,7 @@
 -- for byte: each packet that isn't edited, and each unit that is no packet.
 use Rattle.std.specs.Prelude.{◌≡◌, ◌≢◌, ◌⊎◌, ℕ, ◌<◌, List, [], ◌∷◌, ◌++◌, length, map, take, drop, Bool, IsTrue, Option, Some, None, ⊤}
 use Rattle.ether_base.specs.Bytes.{IsBytes}
-use Rattle.ether_pcap.specs.Capture.{PacketValue, Expectation, Beginning, CaptureRefusal, Begins, Refuses, IsEnd, HasPackets}
+use Rattle.ether_pcap.specs.Capture.{PacketValue, Expectation, Beginning, CaptureRefusal, Begins, Refuses, HasBegun, IsEnd, HasPackets}
 use Rattle.ether_pcap.specs.Editing.{EditedValue, edited_unit, unit_after, packet_after}
 
 -- why a copy ends before the file: what is left is refused, or begins with a packet that is to be edited and can't be
@@ -47,7 +47,7 @@ EditsNone edit = (p : PacketValue) → edit p ≡ None
 -- What a copy that is read from there on has: these packets, as they are edited, and nothing else. At the beginning of a file that is so unless
 -- nothing was copied.
 abbrev pub IsRead : (edit : PacketValue → Option EditedValue) → Expectation → (copy : List ℕ) → (kept : List PacketValue) → Type 0
-IsRead edit x copy kept = (x ≢ Beginning) ⊎ (copy ≢ []) → HasPackets x copy (edited_all edit kept) [] None
+IsRead edit x copy kept = HasBegun x ⊎ (copy ≢ []) → HasPackets x copy (edited_all edit kept) [] None
 
 -- all packets from a place on, up to what is left; if it begins with one that can't be edited, further ones follow that
 abbrev pub HasPacketsTo : Expectation → (bytes : List ℕ) → List PacketValue → (rest : List ℕ) → Option CopyFault → Type 0
@@ -85,8 +85,8 @@ pub record CopiesAreRead : Type 0 where
       → CopiesBy test edit x bytes copy kept rest fault → IsRead edit x copy kept
   pub source : (test : PacketValue → Bool) (edit : PacketValue → Option EditedValue) (x : Expectation) (bytes copy : List ℕ) (kept : List PacketValue) (rest : List ℕ) (fault : Option CopyFault)
       → CopiesBy test edit x bytes copy kept rest fault → HasSource (λ p. IsTrue (test p)) x bytes kept rest fault
-  pub nothing : (test : PacketValue → Bool) (edit : PacketValue → Option EditedValue) (bytes : List ℕ) (kept : List PacketValue) (rest : List ℕ) (fault : Option CopyFault)
-      → CopiesBy test edit Beginning bytes [] kept rest fault → (kept ≡ []) × (rest ≡ bytes) × (fault ≢ None)
+  pub nothing : (most : ℕ) (test : PacketValue → Bool) (edit : PacketValue → Option EditedValue) (bytes : List ℕ) (kept : List PacketValue) (rest : List ℕ) (fault : Option CopyFault)
+      → CopiesBy test edit (Beginning most) bytes [] kept rest fault → (kept ≡ []) × (rest ≡ bytes) × (fault ≢ None)
   pub stopped : (test : PacketValue → Bool) (edit : PacketValue → Option EditedValue) (x : Expectation) (bytes copy : List ℕ) (kept : List PacketValue) (rest : List ℕ) (p : PacketValue)
       → CopiesBy test edit x bytes copy kept rest (Some (NotEdited p)) → IsNotEdited (λ q. IsTrue (test q)) edit rest p
   pub unedited : (edit : PacketValue → Option EditedValue) (kept : List PacketValue) → EditsNone edit → edited_all edit kept ≡ kept

@@ -44,9 +44,9 @@ edited_block _ order m e block = None
 
 -- The unit of a packet with m captured bytes. A simple packet has no captured length of its own (4.4), and can't be edited.
 abbrev pub unit_with : Expectation → (m : ℕ) → EditedValue → List ℕ → Option (List ℕ)
-unit_with Beginning m e unit = None
+unit_with (Beginning most) m e unit = None
 unit_with (Records h) m e unit = Some (edited_record h.order e unit)
-unit_with (Blocks order interfaces) m e unit = edited_block (kind_of_block (field order unit 0 4)) order m e unit
+unit_with (Blocks most order interfaces) m e unit = edited_block (kind_of_block (field order unit 0 4)) order m e unit
 
 -- more captured bytes than a reader accepts, or an original length of more than 4 bytes
 abbrev pub is_too_long : EditedValue → Bool

@@ -50,6 +50,6 @@ pub data WritesRecords (order : Order) : List ℕ → List RecordValue → Type 
 -- A file that is written as a header and records has exactly their packets, and nothing else.
 abbrev pub WrittenFilesAreRead : Type 0
 WrittenFilesAreRead =
-    (header bytes : List ℕ) (h : FileHeaderValue) (records : List RecordValue) → IsBytes header → length header ≡ 24 → h.link_type < 2 ^ 16
+    (most : ℕ) (header bytes : List ℕ) (h : FileHeaderValue) (records : List RecordValue) → IsBytes header → length header ≡ 24 → h.link_type < 2 ^ 16
     → HasFcsLen h.fcs_len → WritesFileHeader header h → WritesRecords h.order bytes records
-    → HasPackets Beginning (header ++ bytes) (map (packet_of_record h) records) [] None
+    → HasPackets (Beginning most) (header ++ bytes) (map (packet_of_record h) records) [] None

@@ -9,7 +9,7 @@ use Rattle.ether_pcap.specs.Options.{padded, OptionValue, HasOptions}
 use Rattle.ether_pcap.specs.Bodies.{InterfaceValue, IsInterface, EnhancedPacketValue, IsEnhancedPacket}
 use Rattle.ether_pcap.specs.Writing.{bytes_of, zeros}
 use Rattle.ether_pcap.specs.Editing.{block_bytes}
-use Rattle.ether_pcap.specs.Capture.{CaptureInterfaceValue, PacketValue, described_by, packet_on, IsAt, max_interfaces, Beginning, HasPackets}
+use Rattle.ether_pcap.specs.Capture.{CaptureInterfaceValue, PacketValue, described_by, packet_on, IsAt, Beginning, HasPackets}
 
 -- byte-order magic, version 1.0, and the number that stands for a section length that is not given (4.1)
 abbrev pub section_body : Order → List ℕ
@@ -89,21 +89,21 @@ pub record FitsPacket (p : EnhancedPacketValue) : Type 0 where
   pub captured_len : length p.packet ≤ max_captured_len
   pub total_len : IsTotalLen (packet_block_len p)
 
--- What follows a section header, where the section has described these interfaces: further ones, packets of those described before them,
+-- What follows a section header, where the section has described these interfaces: further ones, so many at most in all, packets of those described before them,
 -- and further sections. The packets are those that the blocks say.
-pub data WritesBlocks : Order → (before : List CaptureInterfaceValue) → (bytes : List ℕ) → List PacketValue → Type 0 where
-  end : (order : Order) (before : List CaptureInterfaceValue) → WritesBlocks order before [] []
+pub data WritesBlocks (most : ℕ) : Order → (before : List CaptureInterfaceValue) → (bytes : List ℕ) → List PacketValue → Type 0 where
+  end : (order : Order) (before : List CaptureInterfaceValue) → WritesBlocks most order before [] []
   section : (order next : Order) (before : List CaptureInterfaceValue) (bytes : List ℕ) (packets : List PacketValue)
-      → WritesBlocks next [] bytes packets → WritesBlocks order before (section_bytes next ++ bytes) packets
+      → WritesBlocks most next [] bytes packets → WritesBlocks most order before (section_bytes next ++ bytes) packets
   interface : (order : Order) (before : List CaptureInterfaceValue) (bytes : List ℕ) (packets : List PacketValue) (i : InterfaceValue) (options : List OptionValue)
-      → FitsInterface i → HasOptions order i.options options → length before < max_interfaces
-      → WritesBlocks order (before ++ described_by order i options ∷ []) bytes packets → WritesBlocks order before (interface_bytes order i ++ bytes) packets
+      → FitsInterface i → HasOptions order i.options options → length before < most
+      → WritesBlocks most order (before ++ described_by order i options ∷ []) bytes packets → WritesBlocks most order before (interface_bytes order i ++ bytes) packets
   packet : (order : Order) (before : List CaptureInterfaceValue) (bytes : List ℕ) (packets : List PacketValue) (p : EnhancedPacketValue) (options : List OptionValue)
       (i : CaptureInterfaceValue) → FitsPacket p → HasOptions order p.options options → IsAt before p.interface i
-      → WritesBlocks order before bytes packets → WritesBlocks order before (packet_bytes order p ++ bytes) (packet_on order i p options ∷ packets)
+      → WritesBlocks most order before bytes packets → WritesBlocks most order before (packet_bytes order p ++ bytes) (packet_on order i p options ∷ packets)
 
 -- A file that is written as a section header and blocks has exactly their packets, and nothing else.
 abbrev pub WrittenSectionsAreRead : Type 0
 WrittenSectionsAreRead =
-    (order : Order) (bytes : List ℕ) (packets : List PacketValue) → WritesBlocks order [] bytes packets
-    → HasPackets Beginning (section_bytes order ++ bytes) packets [] None
+    (most : ℕ) (order : Order) (bytes : List ℕ) (packets : List PacketValue) → WritesBlocks most order [] bytes packets
+    → HasPackets (Beginning most) (section_bytes order ++ bytes) packets [] None

@@ -12,13 +12,16 @@ mod capture_unit;
 mod captured_packet;
 mod edited_unit;
 mod editing;
+mod interface_table;
 mod timestamp;
 
 pub use capture_error::CaptureError;
 pub use capture_fault::CaptureFault;
+pub use capture_interface::CaptureInterface;
 pub use capture_packets::CapturePackets;
 pub use capture_reader::CaptureReader;
 pub use capture_unit::CaptureUnit;
 pub use captured_packet::CapturedPacket;
 pub use edited_unit::EditedUnit;
+pub use interface_table::InterfaceTable;
 pub use timestamp::Timestamp;

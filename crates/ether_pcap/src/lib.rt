@@ -12,8 +12,8 @@ mod words;
 
 pub use byte_order::ByteOrder;
 pub use capture::{
-    CaptureError, CaptureFault, CapturePackets, CaptureReader, CaptureUnit, CapturedPacket,
-    EditedUnit, Timestamp,
+    CaptureError, CaptureFault, CaptureInterface, CapturePackets, CaptureReader, CaptureUnit,
+    CapturedPacket, EditedUnit, InterfaceTable, Timestamp,
 };
 pub use classic::{
     FileHeader, FileHeaderError, PcapRecord, PcapRecords, RecordError, RecordFault,

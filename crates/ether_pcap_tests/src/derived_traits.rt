@@ -7,7 +7,7 @@ ghost use Rattle.ether_pcap.specs.PcapngViews.{block_view, interface_view, enhan
 ghost use Rattle.ether_pcap.specs.CaptureViews.{captured_packet_view};
 
 use ether_pcap::{
-    BlockError, BodyError, ByteOrder, CaptureError, CaptureFault, CaptureReader, CaptureUnit,
+    BlockError, BodyError, ByteOrder, CaptureError, CaptureFault, CapturePackets, CaptureUnit,
     CapturedPacket, EnhancedPacket, FileHeader, FileHeaderError, InterfaceDescription, LinkType,
     PcapRecord, PcapngBlock, RecordError, RecordFault, SectionError, SectionHeader, SimplePacket,
     Timestamp, TimestampResolution,
@@ -192,7 +192,7 @@ pub(crate) fn same_timestamp(a: &Timestamp, b: &Timestamp) -> bool
 pub(crate) fn greatest_number_of_interfaces() -> usize
     ensures { result ≡ 4096 }
 {
-    CaptureReader::MAX_INTERFACES
+    CapturePackets::MAX_INTERFACES
 }
 
 pub(crate) fn same_pcapng_block(a: &PcapngBlock<'_>, b: &PcapngBlock<'_>) -> bool

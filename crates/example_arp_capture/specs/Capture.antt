@@ -13,8 +13,8 @@ header_of_capture = record { order = LittleEndian; resolution = Nanoseconds; sna
 abbrev pub packet_at : (seconds : ℕ) → List ℕ → PacketValue
 packet_at seconds frame = record { time = Some (time_of (seconds * 10 ^ 9)); interface = None; original_len = 46; link_type = 1; fcs_len = None; packet = frame }
 
--- The file has exactly one packet, which is the request, and nothing else.
+-- The file has exactly one packet, which is the request, and nothing else, for a reader of as many interfaces as you like.
 pub record IsCaptureOfRequest (seconds vlan_id : ℕ) (mac ipv4 target bytes : List ℕ) : Type 0 where
   pub frame : List ℕ
   pub request : IsRequest vlan_id mac ipv4 target frame
-  pub has : HasPackets Beginning bytes (packet_at seconds frame ∷ []) [] None
+  pub has : (most : ℕ) → HasPackets (Beginning most) bytes (packet_at seconds frame ∷ []) [] None

@@ -1,40 +1,35 @@
 //! The blocks of a section of a pcapng file, read in the order of the file.
-ghost use Rattle.std.specs.Prelude.{◌≡◌, ◌≢◌, ◌+◌, length, Some, None, IfOk, IfErr, OnErr, MatchOption, if◌then◌else◌};
+ghost use Rattle.std.specs.Prelude.{◌≡◌, ℕ, ◌+◌, length, Some, None, IfOk, IfErr, OnErr, MatchOption, if◌then◌else◌};
 ghost use Rattle.std.specs.Option.{option_map};
 ghost use Rattle.ether_pcap.specs.Capture.{InterfaceDescription as Description, SimplePacket as Simple, EnhancedPacket as Enhanced, Blocks, IsAt, HasNoInterface, IsBody, RefusesBody, kind_of_block, Begins, Refuses, fcs_of};
 ghost use Rattle.ether_pcap.specs.Section.{HasSectionType};
 ghost use Rattle.ether_pcap.specs.Views.{order_of};
 ghost use Rattle.ether_pcap.specs.CaptureViews.{captured_packet_view, capture_refusal_view, capture_interface_view, interfaces_view};
 
-use crate::capture::capture_interface::CaptureInterface;
 use crate::pcapng::enhanced_packet::packet_of_body;
-use crate::{ByteOrder, CaptureError, CaptureUnit, CapturedPacket, PcapngBlock, SimplePacket};
-use arrayvec::ArrayVec;
-
-/// The greatest number of interfaces of a section that is read.
-pub(crate) const MAX_INTERFACES: usize = 4_096;
-
-/// The interfaces that a section has described.
-pub(crate) type Interfaces = ArrayVec<CaptureInterface, MAX_INTERFACES>;
+use crate::{
+    ByteOrder, CaptureError, CaptureInterface, CaptureUnit, CapturedPacket, InterfaceTable,
+    PcapngBlock, SimplePacket,
+};
 
 /// The block at the front of bytes that begin with no section header.
 #[inline(always)]
 #[tactic(auto, using(crate::specs::Capture::block, crate::specs::Capture::block_refused, crate::specs::Capture::body_refused))]
-pub(crate) fn read_block<'a>(
+pub(crate) fn read_block<'a, T: InterfaceTable>(
     byte_order: ByteOrder,
-    interfaces: &mut Interfaces,
+    interfaces: &mut T,
     bytes: &'a [u8],
 ) -> Result<CaptureUnit<'a>, CaptureError>
     requires { HasSectionType bytes.now → ⊥ }
     ensures unit { IfOk result (λ u. Begins bytes.now
-        (Blocks (order_of byte_order) (interfaces_view interfaces.old.items))
+        (Blocks T.most (order_of byte_order) (interfaces_view (T.items interfaces.old)))
         u.len
         (option_map captured_packet_view u.packet)
-        (Blocks (order_of byte_order) (interfaces_view interfaces.new.items))) }
+        (Blocks T.most (order_of byte_order) (interfaces_view (T.items interfaces.new)))) }
     ensures refused { IfErr result (λ e. Refuses bytes.now
-        (Blocks (order_of byte_order) (interfaces_view interfaces.old.items))
+        (Blocks T.most (order_of byte_order) (interfaces_view (T.items interfaces.old)))
         (capture_refusal_view e)) }
-    ensures same { OnErr result (interfaces.new ≡ interfaces.old) }
+    ensures same { OnErr result (T.items interfaces.new ≡ T.items interfaces.old) }
 {
     let block = match PcapngBlock::from_slice(byte_order, bytes) {
         Ok(block) => block,
@@ -48,22 +43,22 @@ pub(crate) fn read_block<'a>(
 }
 
 /// The packet, if the block is one. Appends the interface, if it describes one.
-fn read_body<'a>(
+fn read_body<'a, T: InterfaceTable>(
     byte_order: ByteOrder,
-    interfaces: &mut Interfaces,
+    interfaces: &mut T,
     block: PcapngBlock<'a>,
 ) -> Result<Option<CapturedPacket<'a>>, CaptureError>
-    ensures body { IfOk result (λ p. IsBody (kind_of_block block.entry.block_type) (order_of byte_order)
-        (interfaces_view interfaces.old.items)
+    ensures body { IfOk result (λ p. IsBody (kind_of_block block.entry.block_type) T.most (order_of byte_order)
+        (interfaces_view (T.items interfaces.old))
         block.entry.body.now
         (option_map captured_packet_view p)
-        (interfaces_view interfaces.new.items)) }
-    ensures refused { IfErr result (λ e. RefusesBody (order_of byte_order)
-        (interfaces_view interfaces.old.items)
+        (interfaces_view (T.items interfaces.new))) }
+    ensures refused { IfErr result (λ e. RefusesBody T.most (order_of byte_order)
+        (interfaces_view (T.items interfaces.old))
         block.entry.body.now
         (kind_of_block block.entry.block_type)
         (capture_refusal_view e)) }
-    ensures same { OnErr result (interfaces.new ≡ interfaces.old) }
+    ensures same { OnErr result (T.items interfaces.new ≡ T.items interfaces.old) }
 {
     match block.block_type {
         PcapngBlock::INTERFACE_DESCRIPTION => {
@@ -71,15 +66,15 @@ fn read_body<'a>(
             Ok(None)
         }
         PcapngBlock::SIMPLE_PACKET => {
-            let packet = simple_packet(byte_order, interfaces.as_slice(), block.body)?;
+            let packet = simple_packet(byte_order, interfaces.interfaces(), block.body)?;
             Ok(Some(packet))
         }
         PcapngBlock::ENHANCED_PACKET => {
-            let packet = enhanced_packet(byte_order, interfaces.as_slice(), true, block.body)?;
+            let packet = enhanced_packet(byte_order, interfaces.interfaces(), true, block.body)?;
             Ok(Some(packet))
         }
         PcapngBlock::PACKET => {
-            let packet = enhanced_packet(byte_order, interfaces.as_slice(), false, block.body)?;
+            let packet = enhanced_packet(byte_order, interfaces.interfaces(), false, block.body)?;
             Ok(Some(packet))
         }
         _ => Ok(None),
@@ -88,25 +83,24 @@ fn read_body<'a>(
 
 /// Appends the interface that the body of an interface description describes.
 #[tactic(auto, using(crate::specs::Capture::interface, crate::specs::Capture::too_many))]
-fn add_interface(
+fn add_interface<T: InterfaceTable>(
     byte_order: ByteOrder,
-    interfaces: &mut Interfaces,
+    interfaces: &mut T,
     body: &[u8],
 ) -> Result<(), CaptureError>
-    ensures body { IfOk result (λ _. IsBody Description (order_of byte_order)
-        (interfaces_view interfaces.old.items) body.now None (interfaces_view interfaces.new.items)) }
-    ensures refused { IfErr result (λ e. RefusesBody (order_of byte_order)
-        (interfaces_view interfaces.old.items) body.now Description (capture_refusal_view e)) }
-    ensures same { OnErr result (interfaces.new ≡ interfaces.old) }
+    ensures body { IfOk result (λ _. IsBody Description T.most (order_of byte_order)
+        (interfaces_view (T.items interfaces.old)) body.now None (interfaces_view (T.items interfaces.new))) }
+    ensures refused { IfErr result (λ e. RefusesBody T.most (order_of byte_order)
+        (interfaces_view (T.items interfaces.old)) body.now Description (capture_refusal_view e)) }
+    ensures same { OnErr result (T.items interfaces.new ≡ T.items interfaces.old) }
 {
     let interface = match CaptureInterface::from_body(byte_order, body) {
         Ok(interface) => interface,
         Err(error) => return Err(CaptureError::Body(error)),
     };
-    if interfaces.is_full() {
+    if !interfaces.add(interface) {
         return Err(CaptureError::TooManyInterfaces);
     }
-    interfaces.push(interface);
     Ok(())
 }
 
@@ -117,9 +111,9 @@ fn simple_packet<'a>(
     interfaces: &[CaptureInterface],
     body: &'a [u8],
 ) -> Result<CapturedPacket<'a>, CaptureError>
-    ensures packet { IfOk result (λ p. IsBody Simple (order_of byte_order) (interfaces_view interfaces.now)
+    ensures packet { IfOk result (λ p. (most : ℕ) → IsBody Simple most (order_of byte_order) (interfaces_view interfaces.now)
         body.now (Some (captured_packet_view p)) (interfaces_view interfaces.now)) }
-    ensures refused { IfErr result (λ e. RefusesBody (order_of byte_order) (interfaces_view interfaces.now)
+    ensures refused { IfErr result (λ e. (most : ℕ) → RefusesBody most (order_of byte_order) (interfaces_view interfaces.now)
         body.now Simple (capture_refusal_view e)) }
 {
     let Some(interface) = interface_at(interfaces, 0) else {
@@ -147,9 +141,9 @@ fn enhanced_packet<'a>(
     is_enhanced: bool,
     body: &'a [u8],
 ) -> Result<CapturedPacket<'a>, CaptureError>
-    ensures packet { IfOk result (λ p. IsBody (Enhanced (if is_enhanced then 4 else 2)) (order_of byte_order)
+    ensures packet { IfOk result (λ p. (most : ℕ) → IsBody (Enhanced (if is_enhanced then 4 else 2)) most (order_of byte_order)
         (interfaces_view interfaces.now) body.now (Some (captured_packet_view p)) (interfaces_view interfaces.now)) }
-    ensures refused { IfErr result (λ e. RefusesBody (order_of byte_order) (interfaces_view interfaces.now)
+    ensures refused { IfErr result (λ e. (most : ℕ) → RefusesBody most (order_of byte_order) (interfaces_view interfaces.now)
         body.now (Enhanced (if is_enhanced then 4 else 2)) (capture_refusal_view e)) }
 {
     let packet = match packet_of_body(byte_order, is_enhanced, body) {

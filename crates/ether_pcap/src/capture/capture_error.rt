@@ -36,7 +36,7 @@ pub enum CaptureError {
     /// A packet names this interface, counted from 0, which its section does not describe before it. A simple packet is one of
     /// interface 0.
     NoInterface(u32),
-    /// A section describes more than [`CaptureReader::MAX_INTERFACES`](crate::CaptureReader::MAX_INTERFACES) interfaces.
+    /// A section describes more interfaces than the [`InterfaceTable`](crate::InterfaceTable) of the reader has room for.
     TooManyInterfaces,
 }
 
@@ -74,7 +74,9 @@ impl fmt::Display for CaptureError {
                 "A packet of a pcapng file names interface {number}, which its section does not describe."
             ),
             CaptureError::TooManyInterfaces => {
-                f.write_str("A section of a pcapng file describes more than 4096 interfaces.")
+                f.write_str(
+                    "A section of a pcapng file describes more interfaces than this reader keeps.",
+                )
             }
         }
     }

@@ -11,11 +11,16 @@ use crate::{BodyError, ByteOrder, InterfaceDescription, LinkType, Timestamp};
 
 /// An interface of a section of a pcapng file, as far as its packets need it.
 #[derive(Clone, Copy)]
-pub(crate) struct CaptureInterface {
+pub struct CaptureInterface {
+    /// The link type of its packets.
     pub link_type: LinkType,
+    /// How many bytes of a packet are captured at most; 0 if there is no limit.
     pub snap_len: u32,
+    /// The length in bytes of the frame check sequence at the end of each packet, if it is known.
     pub fcs_len: Option<u8>,
+    /// The number that gives the resolution of times, if there is one: microseconds without it.
     pub time_resolution: Option<u8>,
+    /// The seconds that are added to each time, as a signed number of 64 bits.
     pub time_offset: u64,
 }
 

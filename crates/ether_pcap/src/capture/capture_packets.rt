@@ -3,8 +3,17 @@ ghost use Rattle.std.specs.Prelude.{◌≡◌, ◌↔◌, IsTrue};
 ghost use Rattle.ether_pcap.specs.Capture.{IsEnd};
 ghost use Rattle.ether_pcap.specs.CaptureReading.{start};
 
-use crate::{CaptureFault, CaptureReader, CaptureUnit, CapturedPacket};
+use crate::{
+    CaptureFault, CaptureInterface, CaptureReader, CaptureUnit, CapturedPacket, InterfaceTable,
+};
+use arrayvec::ArrayVec;
 use std::marker::Model;
+
+/// The interfaces of a section, in 96 KiB.
+type Interfaces = ArrayVec<CaptureInterface, MAX_INTERFACES>;
+
+/// How many interfaces a section may describe.
+const MAX_INTERFACES: usize = 4_096;
 
 /// The packets of a capture file of either format that is in memory, one after the other, and then the fault if there is one.
 ///
@@ -23,7 +32,7 @@ use std::marker::Model;
 /// ```
 #[derive(Drop)]
 pub struct CapturePackets<'a> {
-    reader: CaptureReader,
+    reader: CaptureReader<Interfaces>,
     rest: &'a [u8],
     offset: usize,
     is_over: bool,
@@ -42,12 +51,15 @@ impl<'a> Model for CapturePackets<'a> {
 }
 
 impl<'a> CapturePackets<'a> {
+    /// How many interfaces a section may describe, 4,096.
+    pub const MAX_INTERFACES: usize = MAX_INTERFACES;
+
     /// The packets of a file, from the first one on.
     pub fn from_slice(slice: &'a [u8]) -> CapturePackets<'a>
         ensures { result ≡ start slice.now }
     {
         CapturePackets {
-            reader: CaptureReader::new(),
+            reader: CaptureReader::new(ArrayVec::new()),
             rest: slice,
             offset: 0,
             is_over: false,
@@ -107,7 +119,7 @@ impl<'a> Iterator for CapturePackets<'a> {
 }
 
 /// Tests that a file has begun, and that nothing of it is left.
-fn is_at_end(reader: &CaptureReader, rest: &[u8]) -> bool
+fn is_at_end<T: InterfaceTable>(reader: &CaptureReader<T>, rest: &[u8]) -> bool
     ensures { IsTrue result ↔ IsEnd reader.now rest.now }
 {
     rest.is_empty() && reader.has_begun()

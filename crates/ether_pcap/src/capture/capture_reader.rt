@@ -1,21 +1,20 @@
 //! A reader of capture files of either format, one unit at a time.
-ghost use Rattle.std.specs.Prelude.{◌≡◌, ◌≢◌, ℕ, ◌<◌, ◌≤◌, ◌↔◌, length, Some, IfSome, IfOk, IfErr, OnErr, IsTrue};
+ghost use Rattle.std.specs.Prelude.{◌≡◌, ℕ, ◌<◌, ◌≤◌, ◌↔◌, length, Some, IfSome, IfOk, IfErr, OnErr, IsTrue};
 ghost use Rattle.std.specs.Option.{option_map};
 ghost use Rattle.ether_pcap.specs.FileHeader.{FileHeaderValue, IsFileHeader};
-ghost use Rattle.ether_pcap.specs.Capture.{Expectation, Beginning, Records, Begins, Refuses, required_len};
+ghost use Rattle.ether_pcap.specs.Capture.{Expectation, Beginning, Records, Begins, HasBegun, Refuses, required_len};
 ghost use Rattle.ether_pcap.specs.Editing.{EditsUnit, HasEditedPacket, padding_of};
 ghost use Rattle.ether_pcap.specs.Section.{HasSectionType, IsSection, RefusesSection};
 ghost use Rattle.ether_pcap.specs.Views.{file_header_view};
 ghost use Rattle.ether_pcap.specs.PcapngViews.{block_view, section_refusal_view};
 ghost use Rattle.ether_pcap.specs.CaptureViews.{captured_packet_view, capture_refusal_view};
 
-use crate::capture::capture_blocks::{Interfaces, read_block};
+use crate::capture::capture_blocks::read_block;
 use crate::capture::editing::{edited_block, edited_record};
 use crate::{
-    ByteOrder, CaptureError, CaptureUnit, CapturedPacket, EditedUnit, FileHeader, PcapRecord,
-    PcapngBlock, SectionHeader, Timestamp,
+    ByteOrder, CaptureError, CaptureUnit, CapturedPacket, EditedUnit, FileHeader, InterfaceTable,
+    PcapRecord, PcapngBlock, SectionHeader, Timestamp,
 };
-use arrayvec::ArrayVec;
 use std::marker::Model;
 
 /// What was read of a file.
@@ -32,7 +31,8 @@ pub(crate) enum Progress {
 /// A reader of capture files of the classic pcap format and of pcapng, one unit at a time.
 ///
 /// It keeps what it needs of the file header, or of the section header and the interfaces of the section, and no bytes: a program
-/// can read a file through a buffer of its own. The first bytes say which format it is. The table of interfaces takes 96 KiB.
+/// can read a file through a buffer of its own. The first bytes say which format it is. A section may describe as many interfaces as
+/// `T` has room for.
 ///
 /// ```
 /// let file = [
@@ -41,7 +41,7 @@ pub(crate) enum Progress {
 ///     0x00, 0x00, 0x00, 0x01, 0x00, 0x00, 0x00, 0x02, 0x00, 0x00, 0x00, 0x01, 0x00, 0x00, 0x00, 0x01, // record
 ///     0xFF,
 /// ];
-/// let mut reader = CaptureReader::new();
+/// let mut reader = CaptureReader::new(ArrayVec::<CaptureInterface, 16>::new());
 /// let header = reader.read(&file)?;
 /// assert_eq!(rt; header.len, 24);
 /// assert_eq!(rt; header.packet, None);
@@ -57,37 +57,34 @@ pub(crate) enum Progress {
 /// }
 /// ```
 #[derive(Drop)]
-pub struct CaptureReader {
+pub struct CaptureReader<T: InterfaceTable> {
     progress: Progress,
-    interfaces: Interfaces,
+    interfaces: T,
 }
 
-impl Model for CaptureReader {
+impl<T: InterfaceTable> Model for CaptureReader<T> {
     ghost use Rattle.ether_pcap.specs.Capture.{Expectation};
     ghost use Rattle.ether_pcap.specs.CaptureViews.{expectation_of};
 
     ghost Value = { Expectation };
 
-    ghost view = { λ r. expectation_of r.progress r.interfaces.items };
+    ghost view = { λ r. expectation_of T.most r.progress (T.items r.interfaces) };
 }
 
-impl CaptureReader {
-    /// The greatest number of interfaces of a section that is read, 4,096.
-    pub const MAX_INTERFACES: usize = crate::capture::capture_blocks::MAX_INTERFACES;
-
-    /// A reader that has read nothing yet.
-    pub fn new() -> CaptureReader
-        ensures { result ≡ Beginning }
+impl<T: InterfaceTable> CaptureReader<T> {
+    /// A reader that has read nothing yet, and keeps interfaces in this table.
+    pub fn new(interfaces: T) -> CaptureReader<T>
+        ensures { result ≡ Beginning T.most }
     {
         CaptureReader {
             progress: Progress::Nothing,
-            interfaces: ArrayVec::new(),
+            interfaces,
         }
     }
 
     /// Tests that a unit was read. If nothing is left to read then, the file has ended where a file may end.
     pub fn has_begun(&self) -> bool
-        ensures { IsTrue result ↔ (self.now ≢ Beginning) }
+        ensures { IsTrue result ↔ HasBegun self.now }
     {
         !matches!(self.progress, Progress::Nothing)
     }
@@ -133,7 +130,7 @@ impl CaptureReader {
     ///     0x00, 0x00, 0x00, 0x01, 0x00, 0x00, 0x00, 0x02, 0x00, 0x00, 0x00, 0x03, 0x00, 0x00, 0x00, 0x3C, // record
     ///     0xAA, 0xBB, 0xCC,
     /// ];
-    /// let mut reader = CaptureReader::new();
+    /// let mut reader = CaptureReader::new(ArrayVec::<CaptureInterface, 16>::new());
     /// let header_len = reader.read(&file)?.len;
     /// let record_len = reader.read(&file[header_len..])?.len;
     /// let unit = &file[header_len..header_len + record_len];
@@ -186,7 +183,7 @@ impl CaptureReader {
             let byte_order = section.byte_order;
             let len = section.block.block_len();
             self.progress = Progress::Section(byte_order);
-            self.interfaces.clear();
+            self.interfaces.remove_all();
             return Ok(CaptureUnit { len, packet: None });
         }
         if let Progress::Section(byte_order) = self.progress {

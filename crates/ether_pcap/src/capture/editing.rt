@@ -49,9 +49,9 @@ pub(crate) fn edited_block<'a>(
 ) -> Option<EditedUnit<'a>>
     requires { length packet.now ≤ 262144 }
     ensures padding { IfSome result (λ u. padding_of u ≤ 3) }
-    ensures unit { (interfaces : List CaptureInterfaceValue) (p : PacketValue)
-        → Begins block.now (Blocks (order_of order) interfaces) (length block.now) (Some p) (Blocks (order_of order) interfaces)
-        → option_map unit_bytes result ≡ unit_with (Blocks (order_of order) interfaces) (length p.packet)
+    ensures unit { (most : ℕ) (interfaces : List CaptureInterfaceValue) (p : PacketValue)
+        → Begins block.now (Blocks most (order_of order) interfaces) (length block.now) (Some p) (Blocks most (order_of order) interfaces)
+        → option_map unit_bytes result ≡ unit_with (Blocks most (order_of order) interfaces) (length p.packet)
         (record { original_len = original_len; packet = packet.now }) block.now }
 {
     if block.len() < PcapngBlock::MIN_LEN {

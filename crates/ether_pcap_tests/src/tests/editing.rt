@@ -1,6 +1,7 @@
 //! Packets that are edited within their units.
 use super::{equal, put};
-use ether_pcap::{CaptureReader, EditedUnit};
+use arrayvec::ArrayVec;
+use ether_pcap::{CaptureInterface, CaptureReader, EditedUnit};
 
 /// The header of a classic file, most significant byte first.
 const BIG_FILE: &[u8] = &[
@@ -41,8 +42,8 @@ const ENHANCED: &[u8] = &[
 ];
 
 /// Reads a file of up to two units.
-fn reader_after(file: &[u8]) -> CaptureReader {
-    let mut reader = CaptureReader::new();
+fn reader_after(file: &[u8]) -> CaptureReader<ArrayVec<CaptureInterface, 4>> {
+    let mut reader = CaptureReader::new(ArrayVec::new());
     let mut rest = file;
     for _ in 0..2 {
         if let Ok(unit) = reader.read(rest) {

@@ -1,9 +1,11 @@
 //! The examples of the documentation.
 use super::equal;
+use arrayvec::ArrayVec;
 use ether_pcap::{
-    ByteOrder, CaptureError, CaptureReader, CaptureUnit, CapturedPacket, EditedUnit,
-    EnhancedPacket, FileHeader, InterfaceDescription, LinkType, PcapRecord, PcapRecords,
-    PcapngBlock, RecordError, SectionHeader, SimplePacket, Timestamp, TimestampResolution,
+    ByteOrder, CaptureError, CaptureInterface, CaptureReader, CaptureUnit, CapturedPacket,
+    EditedUnit, EnhancedPacket, FileHeader, InterfaceDescription, LinkType, PcapRecord,
+    PcapRecords, PcapngBlock, RecordError, SectionHeader, SimplePacket, Timestamp,
+    TimestampResolution,
 };
 use std::test::Fail;
 
@@ -195,7 +197,7 @@ fn of_bodies(rt: HostRuntime) -> Result<(), Fail> {
 
 #[test]
 fn of_a_reader(rt: HostRuntime) -> Result<(), Fail> {
-    let mut reader = CaptureReader::new();
+    let mut reader = CaptureReader::new(ArrayVec::<CaptureInterface, 16>::new());
     let packet = CapturedPacket {
         time: Some(Timestamp {
             seconds: 1,
@@ -235,7 +237,7 @@ fn of_an_edited_packet(rt: HostRuntime) -> Result<(), Fail> {
         0x3C, // record
         0xAA, 0xBB, 0xCC,
     ];
-    let mut reader = CaptureReader::new();
+    let mut reader = CaptureReader::new(ArrayVec::<CaptureInterface, 16>::new());
     let header_len = reader.read(&file)?.len;
     let record_len = reader.read(file.get(24..).unwrap_or(&[]))?.len;
     let packet = [0xAA, 0xCC];

@@ -1,8 +1,10 @@
 //! A file of two sections, read one unit at a time, and changed until it is refused. It was written with Python's `struct`; times,
 //! lengths and link types of its packets were printed by Wireshark's `tshark`.
 use super::{equal, put};
+use arrayvec::ArrayVec;
 use ether_pcap::{
-    BlockError, BodyError, CaptureError, CaptureReader, CapturedPacket, LinkType, Timestamp,
+    BlockError, BodyError, CaptureError, CaptureInterface, CaptureReader, CapturedPacket, LinkType,
+    Timestamp,
 };
 use std::test::Fail;
 
@@ -52,9 +54,12 @@ const PLACES: [usize; 14] = [
     0, 28, 68, 100, 152, 200, 228, 260, 292, 328, 376, 424, 476, 508,
 ];
 
+/// A reader of sections with up to four interfaces.
+type Reader = CaptureReader<ArrayVec<CaptureInterface, 4>>;
+
 /// A reader that has read the units up to a number.
-fn reader_at(file: &[u8; 508], number: usize) -> Result<CaptureReader, Fail> {
-    let mut reader = CaptureReader::new();
+fn reader_at(file: &[u8; 508], number: usize) -> Result<Reader, Fail> {
+    let mut reader = CaptureReader::new(ArrayVec::new());
     for start in PLACES.iter().take(number.min(13)) {
         reader.read(&file[(*start).min(508)..])?;
     }
@@ -158,13 +163,13 @@ fn refused_units(rt: HostRuntime) -> Result<(), Fail> {
     Ok(())
 }
 
-/// A section may describe 4,096 interfaces.
+/// A section may describe as many interfaces as the table has room for.
 #[test]
 fn too_many_interfaces(rt: HostRuntime) -> Result<(), Fail> {
     let mut reader = reader_at(&SECTIONS, 1)?;
-    for number in 0..4_097 {
+    for number in 0..5 {
         let found = reader.read(&SECTIONS[28..68]).map(|unit| unit.packet);
-        let wanted = if number < 4_096 {
+        let wanted = if number < 4 {
             Ok(None)
         } else {
             Err(CaptureError::TooManyInterfaces)

@@ -157,7 +157,7 @@ static CAPTURES: [(CaptureError, &str); 4] = [
     ),
     (
         CaptureError::TooManyInterfaces,
-        "A section of a pcapng file describes more than 4096 interfaces.",
+        "A section of a pcapng file describes more interfaces than this reader keeps.",
     ),
 ];
 

@@ -2,7 +2,10 @@
 use super::captures::{BIG_MICROSECONDS, BIG_SLL, LITTLE_FCS, LITTLE_NANOSECONDS};
 use super::equal;
 use super::pcapng_captures::{BIG, LITTLE};
-use ether_pcap::{CaptureReader, CaptureUnit, CapturedPacket, LinkType, Timestamp};
+use arrayvec::ArrayVec;
+use ether_pcap::{
+    CaptureInterface, CaptureReader, CaptureUnit, CapturedPacket, LinkType, Timestamp,
+};
 use std::test::Fail;
 
 /// The length of a unit, and the seconds, nanoseconds, original length and place of its packet.
@@ -82,7 +85,7 @@ static FILES: [Row; 6] = [
 #[test]
 fn of_whole_files(rt: HostRuntime) -> Result<(), Fail> {
     for &(name, file, link_type, fcs_len, interface, units) in &FILES {
-        let mut reader = CaptureReader::new();
+        let mut reader = CaptureReader::new(ArrayVec::<CaptureInterface, 4>::new());
         let mut place = 0;
         for shown in units {
             let has_begun = reader.has_begun();

@@ -25,7 +25,8 @@ returns-clause-packets c =
     let front_writes : WritesRecordHeader LittleEndian front r = c.header_to_bytes.ensures.value in
     let records : WritesRecords LittleEndian (front ++ frame ++ []) (r ∷ []) =
     more front [] r [] c.header_to_bytes.ensures.len front_writes (omega (arith, frame_len)) none in
-    let has = c.written_files_are_read.ensures file (front ++ frame ++ []) h (r ∷ []) bytes c.to_bytes.ensures.len
+    let has = λ (most : ℕ). c.written_files_are_read.ensures most file (front ++ frame ++ []) h (r ∷ []) bytes
+    c.to_bytes.ensures.len
     (omega arith) tt writes records in
     let joined : file ++ (front ++ frame ++ []) ≡ file ++ front ++ frame =
     ap (λ (l : List ℕ). file ++ l) (append-nil (front ++ frame)) ∙ sym (append_assoc file front frame) in
@@ -34,7 +35,8 @@ returns-clause-packets c =
     record {
       frame = frame;
       request = request;
-      has = subst (λ (l : List ℕ). HasPackets Beginning l (packet_at a.seconds frame ∷ []) [] None) joined
-          (subst (λ (n : ℕ). HasPackets Beginning (file ++ (front ++ frame ++ [])) (packet_of n ∷ []) [] None)
-          time has);
+      has = λ most.
+          subst (λ (l : List ℕ). HasPackets (Beginning most) l (packet_at a.seconds frame ∷ []) [] None) joined
+          (subst (λ (n : ℕ). HasPackets (Beginning most) (file ++ (front ++ frame ++ [])) (packet_of n ∷ []) [] None)
+          time (has most));
     }

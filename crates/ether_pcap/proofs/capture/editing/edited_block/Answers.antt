@@ -8,13 +8,13 @@ use Rattle.ether_pcap.proofs.PacketUnits.{enhanced_edited}
 use Rattle.ether_pcap.proofs.capture.editing.edited_block.Goals as goal
 
 pub returns-in-6-clause-unit : goal.returns-in-6-clause-unit
-returns-in-6-clause-unit c interfaces p begins =
+returns-in-6-clause-unit c most interfaces p begins =
     let order = order_of c.args.order in
     let e : EditedValue = record { original_len = c.args.original_len; packet = c.args.packet.now } in
     let call = c.edited_enhanced_packet in
     let t = sym c.u32_at.ensures in
     let edits = λ (number_len : ℕ) (is : kind_of_block (field order c.args.block.now 0 4) ≡ EnhancedPacket number_len).
-    enhanced_edited order interfaces c.args.block.now p begins number_len e (option_map unit_bytes call.result) is
+    enhanced_edited most order interfaces c.args.block.now p begins number_len e (option_map unit_bytes call.result) is
     call.ensures.unit in
     elim c.in-6.is [
       | inl two ↦ edits 2 (ap kind_of_block (t ∙ two))

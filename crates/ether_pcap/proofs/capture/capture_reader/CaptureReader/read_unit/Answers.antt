@@ -8,37 +8,40 @@ use Rattle.ether_pcap.proofs.Captures.{section_unit, section_not_read, nothing_r
 use Rattle.ether_pcap.proofs.capture.capture_reader.CaptureReader.read_unit.Goals as goal
 
 pub returns-in-Err-clause-refused : goal.returns-in-Err-clause-refused
-returns-in-Err-clause-refused c =
+returns-in-Err-clause-refused g c =
     let r = section_refusal_view c.in-Err.error in
     let has : HasSectionType c.args.bytes.now = c.if-begins_section.ensures.0 (search rules) in
     subst (λ (x : Expectation). Refuses c.args.bytes.now x (Section r)) c.self.view_is
-    (section_not_read c.self.inside.progress c.self.inside.interfaces.items c.args.bytes.now r c.in_default.not-Classic
+    (section_not_read _ c.self.inside.progress _ c.args.bytes.now r c.in_default.not-Classic
     has c.in-Err.ensures.refused)
 
 pub returns-then-begins_section-clause-unit : goal.returns-then-begins_section-clause-unit
-returns-then-begins_section-clause-unit c =
+returns-then-begins_section-clause-unit g c =
     let u =
-    section_unit c.self.inside.progress c.self.inside.interfaces.items c.args.bytes.now
+    section_unit g.T.InterfaceTable.most c.self.inside.progress (g.T.InterfaceTable.items c.self.inside.interfaces)
+    c.args.bytes.now
     (order_of c.in-Ok.section.byte_order) (block_view c.in-Ok.section.block) c.block_len-len.result
     c.in_default.not-Classic c.in-Ok.ensures.section c.block_len-len.ensures in
-    rw (← c.self.view_is, c.clear.ensures) u
+    rw (← c.self.view_is, c.remove_all.ensures) u
 
 pub returns-in-Err-from_slice-clause-refused : goal.returns-in-Err-from_slice-clause-refused
-returns-in-Err-from_slice-clause-refused c =
+returns-in-Err-from_slice-clause-refused g c =
     let r = file_refusal_view c.in-Err-from_slice.error in
     let e =
-    nothing_read c.self.inside.progress c.self.inside.interfaces.items c.in_default.not-Classic
+    nothing_read g.T.InterfaceTable.most c.self.inside.progress (g.T.InterfaceTable.items c.self.inside.interfaces)
+    c.in_default.not-Classic
     c.in_default-progress.not-Section in
     let other : HasSectionType c.args.bytes.now → ⊥ = λ has. let t = c.if-begins_section.ensures.1 has in absurd cc in
     subst (λ (x : Expectation). Refuses c.args.bytes.now x (File r)) (sym e ∙ c.self.view_is)
-    (file_header_refused r other c.in-Err-from_slice.ensures.refused)
+    (file_header_refused _ r other c.in-Err-from_slice.ensures.refused)
 
 pub returns-clause-unit : goal.returns-clause-unit
-returns-clause-unit c =
+returns-clause-unit g c =
     let h = file_header_view c.in-Ok-from_slice.header in
     let e =
-    nothing_read c.self.inside.progress c.self.inside.interfaces.items c.in_default.not-Classic
+    nothing_read g.T.InterfaceTable.most c.self.inside.progress (g.T.InterfaceTable.items c.self.inside.interfaces)
+    c.in_default.not-Classic
     c.in_default-progress.not-Section in
     let other : HasSectionType c.args.bytes.now → ⊥ = λ has. let t = c.if-begins_section.ensures.1 has in absurd cc in
     subst (λ (x : Expectation). Begins c.args.bytes.now x 24 None (Records h)) (sym e ∙ c.self.view_is)
-    (file_header h other c.in-Ok-from_slice.ensures.header)
+    (file_header _ h other c.in-Ok-from_slice.ensures.header)

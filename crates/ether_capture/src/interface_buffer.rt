@@ -1,0 +1,48 @@
+//! Memory for the interfaces of a section.
+ghost use Rattle.std.specs.Vec.{vec_capacity};
+ghost use Rattle.std.specs.Prelude.{◌≤◌};
+
+use ether_pcap::{CaptureInterface, InterfaceTable};
+use std::alloc::{AllocError, Global};
+
+/// How many interfaces a section of a capture may describe.
+const MAX_INTERFACES: usize = 65_536;
+
+/// Memory for the interfaces of a section: 65,536 at most.
+#[derive(Drop)]
+pub struct InterfaceBuffer {
+    interfaces: Vec<CaptureInterface>,
+    ghost room: { 65536 ≤ vec_capacity interfaces },
+}
+
+impl InterfaceBuffer {
+    /// Memory with no interface.
+    pub fn new(alloc: Global) -> Result<Self, AllocError> {
+        let interfaces = Vec::with_capacity(alloc, MAX_INTERFACES)?;
+        Ok(InterfaceBuffer { interfaces })
+    }
+}
+
+impl InterfaceTable for InterfaceBuffer {
+    ghost items = { λ buffer. buffer.interfaces.items };
+
+    ghost most = { 65536 };
+
+    fn interfaces(&self) -> &[CaptureInterface] {
+        self.interfaces.as_slice()
+    }
+
+    fn add(&mut self, interface: CaptureInterface) -> bool {
+        if self.interfaces.len() >= MAX_INTERFACES {
+            return false;
+        }
+        match self.interfaces.push(interface) {
+            Ok(()) => true,
+            Err(_) => unreachable!(),
+        }
+    }
+
+    fn remove_all(&mut self) {
+        self.interfaces.clear();
+    }
+}
