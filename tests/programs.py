@@ -49,8 +49,8 @@ def on_a_full_disk(program, words, given):
 
 
 def without_memory(program, capture, words=()):
-    """What the program prints, and its status, if it may have 4 MiB."""
-    limit = lambda: resource.setrlimit(resource.RLIMIT_AS, (4 << 20, 4 << 20))  # noqa: E731
+    """What the program prints, and its status, if it may have 6 MiB."""
+    limit = lambda: resource.setrlimit(resource.RLIMIT_AS, (6 << 20, 6 << 20))  # noqa: E731
     done = subprocess.run([program, *words], input=capture, stdout=subprocess.PIPE, preexec_fn=limit, check=False)
     return done.stdout.decode(), done.returncode
 
