@@ -2,21 +2,24 @@
 use Rattle.std.proofs.Common.{◌≡◌, ◌≢◌, ℕ, List, [], ◌∷◌, codes, Bool, true, false, Option, Some, None, Result, Ok, Err, IfOk, IfErr, IsErrAnd, OnOk, OnErr, refl, sym, ap, subst, ◌∙◌}
 use Rattle.std.specs.Prelude.{◌==◌, map, nat_eq, if◌then◌else◌, String, string_bytes}
 use Rattle.std.proofs.lemmas.Bool.{eqb-true}
-use Rattle.std.specs.Option.{option_map, is_none}
+use Rattle.std.specs.Option.{option_map}
 use Rattle.std.specs.Vec.Iter.{into_iter_steps}
 use Rattle.std.specs.declared.vec.IntoIter.{IntoIter}
 use Rattle.ether_text.proofs.ArgumentsLemmas.{words_end}
 use Rattle.ether_filter.specs.Expressions.{Expression}
 use Rattle.ether_filter.specs.Numerals.{number_in}
-use Rattle.ether_capture.specs.Options.{AskedValue, nothing_asked, Asks, no_word, files, plain, write, cut, pop, tag, select, count, limit, IsCount, IsLimit, AreNames, IsName, IsKnown, IsWord, AskSame, RefusesTaking, are_several, form_of, options_of, request_for, Run, Lists, words_left, clashes, IsRequestOf, OptionsAsk, RequestValue, NamesRequest, help, version, options, RefusesAsked, RefusesOptions, RefusesWords, request_view}
-use Rattle.ether_content.specs.Editing.{EditValue, CutToHeaders, PopVlan}
-use Rattle.ether_capture.specs.Tags.{IsTagEdit, tag_word}
-use Rattle.ether_capture.specs.declared.tags.TagEdit.{TagEdit}
+use Rattle.ether_capture.specs.Options.{AskedValue, nothing_asked, Asks, no_word, files, flag, option, flag_word, has_flag, set_flag, text_word, has_text, SetsText, IsLimit, AreNames, IsName, IsKnown, IsWord, AskSame, RefusesTaking, are_several, form_of, options_of, request_for, Run, Lists, words_left, clashes, IsRequestOf, OptionsAsk, RequestValue, NamesRequest, help, version, options, RefusesAsked, RefusesOptions, RefusesWords, request_view}
+use Rattle.ether_content.specs.Editing.{EditValue}
+use Rattle.ether_capture.specs.Tags.{tag_word}
 use Rattle.ether_capture.specs.declared.tags.TagEdit.TheVariants as tag_edits
-use Rattle.ether_capture.proofs.TagsLemmas.{same_number, tag_edit_one, word_of_edit}
+use Rattle.ether_capture.proofs.TagsLemmas.{same_number, tag_edit_one}
 use Rattle.ether_capture.specs.declared.options.Request.{Request}
 use Rattle.ether_capture.specs.declared.options.RequestError.{RequestError}
 use Rattle.ether_capture.specs.declared.options.RequestError.TheVariants as reasons
+use Rattle.ether_capture.specs.declared.options.Flag.{Flag}
+use Rattle.ether_capture.specs.declared.options.Flag.TheVariants as flags
+use Rattle.ether_capture.specs.declared.options.TextOption.{TextOption}
+use Rattle.ether_capture.specs.declared.options.TextOption.TheVariants as texts
 use Rattle.ether_capture.specs.declared.options.Word.{Word}
 use Rattle.ether_capture.specs.declared.options.Word.TheVariants as kinds
 
@@ -41,12 +44,13 @@ fifth _ = 0
 
 abbrev option_at : (third fourth fifth : ℕ) → Word
 option_at c d e =
-    if nat_eq c 112 then (if nat_eq d 108 then kinds.Plain
-    else (if nat_eq d 111 then kinds.Pop else kinds.Tag tag_edits.Push))
-    else (if nat_eq c 115 then (if nat_eq e 108 then kinds.Select else kinds.Tag tag_edits.Set)
-    else (if nat_eq c 0 then kinds.Count else (if nat_eq c 108 then kinds.Limit
-    else (if nat_eq c 119 then kinds.Write
-    else (if nat_eq c 99 then kinds.Cut else (if nat_eq c 104 then kinds.Help else kinds.Version))))))
+    if nat_eq c 112 then (if nat_eq d 108 then kinds.Flag flags.Plain
+    else (if nat_eq d 111 then kinds.Flag flags.PopVlan else kinds.Text (texts.Tag tag_edits.Push)))
+    else (if nat_eq c 115 then (if nat_eq e 108 then kinds.Text texts.Select else kinds.Text (texts.Tag tag_edits.Set))
+    else (if nat_eq c 0 then kinds.Text texts.Count else (if nat_eq c 108 then kinds.Text texts.Limit
+    else (if nat_eq c 119 then kinds.Flag flags.Write
+    else (if nat_eq c 99 then kinds.Flag flags.CutToHeaders
+    else (if nat_eq c 104 then kinds.Help else kinds.Version))))))
 
 abbrev kind_at : List ℕ → Word
 kind_at word = if initial word == 45 then option_at (third word) (fourth word) (fifth word) else kinds.Name
@@ -61,17 +65,23 @@ name_at (byte ∷ bytes) named = no_option (byte == 45) refl
         ap (λ (b : Bool).
         if b then option_at (third (byte ∷ bytes)) (fourth (byte ∷ bytes)) (fifth (byte ∷ bytes)) else kinds.Name) is
 
+flag_at : (f : Flag) → kind_at (flag_word f) ≡ kinds.Flag f
+flag_at flags.Plain = refl
+flag_at flags.Write = refl
+flag_at flags.CutToHeaders = refl
+flag_at flags.PopVlan = refl
+
+text_at : (o : TextOption) → kind_at (text_word o) ≡ kinds.Text o
+text_at (texts.Tag tag_edits.Push) = refl
+text_at (texts.Tag tag_edits.Set) = refl
+text_at texts.Select = refl
+text_at texts.Count = refl
+text_at texts.Limit = refl
+
 known_at : (word : List ℕ) (kind : Word) → IsKnown word kind → kind_at word ≡ kind
 known_at word kinds.Name is = name_at word is
-known_at word kinds.Plain is = ap kind_at is
-known_at word kinds.Write is = ap kind_at is
-known_at word kinds.Cut is = ap kind_at is
-known_at word kinds.Pop is = ap kind_at is
-known_at word (kinds.Tag tag_edits.Push) is = ap kind_at is
-known_at word (kinds.Tag tag_edits.Set) is = ap kind_at is
-known_at word kinds.Select is = ap kind_at is
-known_at word kinds.Count is = ap kind_at is
-known_at word kinds.Limit is = ap kind_at is
+known_at word (kinds.Flag f) is = ap kind_at is ∙ flag_at f
+known_at word (kinds.Text o) is = ap kind_at is ∙ text_at o
 known_at word kinds.Help is = ap kind_at is
 known_at word kinds.Version is = ap kind_at is
 known_at word kinds.Unknown is = absurd is
@@ -82,14 +92,8 @@ known_once word known kind is other = sym (known_at word kind other) ∙ known_a
 -- a word that is known is of one kind
 one_kind : (word : List ℕ) (known kind : Word) → IsKnown word known → IsWord word kind → kind ≡ known
 one_kind word known kinds.Name is other = known_once word known kinds.Name is other
-one_kind word known kinds.Plain is other = known_once word known kinds.Plain is other
-one_kind word known kinds.Write is other = known_once word known kinds.Write is other
-one_kind word known kinds.Cut is other = known_once word known kinds.Cut is other
-one_kind word known kinds.Pop is other = known_once word known kinds.Pop is other
-one_kind word known (kinds.Tag kind) is other = known_once word known (kinds.Tag kind) is other
-one_kind word known kinds.Select is other = known_once word known kinds.Select is other
-one_kind word known kinds.Count is other = known_once word known kinds.Count is other
-one_kind word known kinds.Limit is other = known_once word known kinds.Limit is other
+one_kind word known (kinds.Flag f) is other = known_once word known (kinds.Flag f) is other
+one_kind word known (kinds.Text o) is other = known_once word known (kinds.Text o) is other
 one_kind word known kinds.Help is other = known_once word known kinds.Help is other
 one_kind word known kinds.Version is other = known_once word known kinds.Version is other
 one_kind word known kinds.Unknown is other = absurd (other known is)
@@ -97,25 +101,11 @@ one_kind word known kinds.Unknown is other = absurd (other known is)
 -- what follows a word, by its kind
 abbrev pub Follows : Word → AskedValue → (word : List ℕ) → (words : List (List ℕ)) → AskedValue → Type 0
 Follows kinds.Name a word words c = AreNames words × (c ≡ record a { files = word ∷ words })
-Follows kinds.Plain a word words c = (a.plain ≡ false) × Asks (record a { plain = true }) words c
-Follows kinds.Write a word words c = (a.write ≡ false) × Asks (record a { write = true }) words c
-Follows kinds.Cut a word words c = (a.edit ≡ None) × Asks (record a { edit = Some CutToHeaders }) words c
-Follows kinds.Pop a word words c = (a.edit ≡ None) × Asks (record a { edit = Some PopVlan }) words c
-Follows (kinds.Tag kind) a word words c =
-    (text : List ℕ) × (e : EditValue) × (others : List (List ℕ)) × (words ≡ text ∷ others) × IsTagEdit word text e
-    × (a.edit ≡ None) × Asks (record a { edit = Some e }) others c
-Follows kinds.Select a word words c =
-    (text : List ℕ) × (others : List (List ℕ)) × (words ≡ text ∷ others) × (a.text ≡ None)
-    × Asks (record a { text = Some text }) others c
-Follows kinds.Count a word words c =
-    (text : List ℕ) × (n : ℕ) × (others : List (List ℕ)) × (words ≡ text ∷ others) × IsCount text n
-    × (a.count ≡ None) × Asks (record a { count = Some n }) others c
-Follows kinds.Limit a word words c =
-    (text : List ℕ) × (n : ℕ) × (others : List (List ℕ)) × (words ≡ text ∷ others) × IsLimit text n
-    × (a.limit ≡ None) × Asks (record a { limit = Some n }) others c
-Follows kinds.Help a word words c = ⊥
-Follows kinds.Version a word words c = ⊥
-Follows kinds.Unknown a word words c = ⊥
+Follows (kinds.Flag f) a word words c = (has_flag f a ≡ false) × Asks (set_flag f a) words c
+Follows (kinds.Text o) a word words c =
+    (text : List ℕ) × (others : List (List ℕ)) × (b : AskedValue) × (words ≡ text ∷ others) × (has_text o a ≡ false)
+    × SetsText o text a b × Asks b others c
+Follows _ a word words c = ⊥
 
 -- .. also by another name of the kind
 follows_as : (known kind : Word) (a c : AskedValue) (word : List ℕ) (words : List (List ℕ)) → IsKnown word known
@@ -127,50 +117,12 @@ pub follows : (kind : Word) (a c : AskedValue) (word : List ℕ) (words : List (
     → Asks a (word ∷ words) c → Follows kind a word words c
 follows kind a c word words is (files _ _ _ named) =
     follows_as kinds.Name kind a c word words named.0 is (named.1, refl)
-follows kind a c word words is (plain _ _ _ none asks) =
-    follows_as kinds.Plain kind a c word words refl is (none, asks)
-follows kind a c word words is (write _ _ _ none asks) =
-    follows_as kinds.Write kind a c word words refl is (none, asks)
-follows kind a c word words is (cut _ _ _ none asks) = follows_as kinds.Cut kind a c word words refl is (none, asks)
-follows kind a c word words is (pop _ _ _ none asks) = follows_as kinds.Pop kind a c word words refl is (none, asks)
-follows kind a c word words is (tag _ _ _ text e others edit none asks) =
-    let known = word_of_edit word text e edit in
-    follows_as (kinds.Tag known.0) kind a c word words known.1 is (text, e, others, refl, edit, none, asks)
-follows kind a c word words is (select _ _ text others none asks) =
-    follows_as kinds.Select kind a c word words refl is (text, others, refl, none, asks)
-follows kind a c word words is (count _ _ text n others counts none asks) =
-    follows_as kinds.Count kind a c word words refl is (text, n, others, refl, counts, none, asks)
-follows kind a c word words is (limit _ _ text n others counts none asks) =
-    follows_as kinds.Limit kind a c word words refl is (text, n, others, refl, counts, none, asks)
+follows kind a c word words is (flag _ _ f _ none asks) =
+    follows_as (kinds.Flag f) kind a c word words refl is (none, asks)
+follows kind a c word words is (option _ b _ o text others none sets asks) =
+    follows_as (kinds.Text o) kind a c word words refl is (text, others, b, refl, none, sets, asks)
 
-pub precedes : (kind : Word) (a c : AskedValue) (word : List ℕ) (words : List (List ℕ)) → IsWord word kind
-    → Follows kind a word words c → Asks a (word ∷ words) c
-precedes kinds.Name a c word words is (names, same) =
-    subst (λ (b : AskedValue). Asks a (word ∷ words) b) (sym same) (files a word words (is, names))
-precedes kinds.Plain a c word words is (first, asks) =
-    subst (λ (w : List ℕ). Asks a (w ∷ words) c) (sym is) (plain a c words first asks)
-precedes kinds.Write a c word words is (first, asks) =
-    subst (λ (w : List ℕ). Asks a (w ∷ words) c) (sym is) (write a c words first asks)
-precedes kinds.Cut a c word words is (first, asks) =
-    subst (λ (w : List ℕ). Asks a (w ∷ words) c) (sym is) (cut a c words first asks)
-precedes kinds.Pop a c word words is (first, asks) =
-    subst (λ (w : List ℕ). Asks a (w ∷ words) c) (sym is) (pop a c words first asks)
-precedes (kinds.Tag kind) a c word words is (text, e, others, same, edit, none, asks) =
-    subst (λ (l : List (List ℕ)). Asks a (word ∷ l) c) (sym same) (tag a c word text e others edit none asks)
-precedes kinds.Select a c word words is (text, others, same, first, asks) =
-    subst (λ (l : List (List ℕ)). Asks a (word ∷ l) c) (sym same)
-    (subst (λ (w : List ℕ). Asks a (w ∷ text ∷ others) c) (sym is) (select a c text others first asks))
-precedes kinds.Count a c word words is (text, n, others, same, counts, first, asks) =
-    subst (λ (l : List (List ℕ)). Asks a (word ∷ l) c) (sym same)
-    (subst (λ (w : List ℕ). Asks a (w ∷ text ∷ others) c) (sym is) (count a c text n others counts first asks))
-precedes kinds.Limit a c word words is (text, n, others, same, counts, first, asks) =
-    subst (λ (l : List (List ℕ)). Asks a (word ∷ l) c) (sym same)
-    (subst (λ (w : List ℕ). Asks a (w ∷ text ∷ others) c) (sym is) (limit a c text n others counts first asks))
-precedes kinds.Help a c word words is rest = absurd rest
-precedes kinds.Version a c word words is rest = absurd rest
-precedes kinds.Unknown a c word words is rest = absurd rest
-
--- ---- the last word
+-- ---- the last words
 
 pub last_asked : (a c : AskedValue) → Asks a [] c → c ≡ a
 last_asked a c (no_word _) = refl
@@ -179,53 +131,47 @@ last_asked a c (no_word _) = refl
 pub ask_names : (a : AskedValue) (word : List ℕ) (words left names : List (List ℕ)) → IsWord word kinds.Name
     → AreNames words → names ≡ word ∷ words → left ≡ []
     → AskSame a (word ∷ words) (record a { files = names }) left
-ask_names a word words left names is named same none c = (
+ask_names a word words left names is named same none c =
+    let b = λ (l : List (List ℕ)). record a { files = l } in (
+      λ asks.
+          let here = subst (λ (l : List (List ℕ)). Asks (b names) l c) none asks in
+          subst (λ (d : AskedValue). Asks a (word ∷ words) d) (sym (last_asked (b names) c here ∙ ap b same))
+          (files a word words (is, named)),
+      λ asks.
+          let f = follows kinds.Name a c word words is asks in
+          subst (λ (l : List (List ℕ)). Asks (b names) l c) (sym none)
+          (subst (λ (d : AskedValue). Asks (b names) [] d) (ap b same ∙ sym f.1) (no_word (b names))),
+    )
+
+-- ---- an option that stands alone
+
+pub ask_flag : (a b : AskedValue) (f : Flag) (word : List ℕ) (words : List (List ℕ)) → IsWord word (kinds.Flag f)
+    → has_flag f a ≡ false → b ≡ set_flag f a → AskSame a (word ∷ words) b words
+ask_flag a b f word words is none sets c = (
   λ asks.
-      let here = subst (λ (l : List (List ℕ)). Asks (record a { files = names }) l c) none asks in
-      precedes kinds.Name a c word words is (
-        named,
-        last_asked (record a { files = names }) c here
-            ∙ ap (λ (l : List (List ℕ)). record a { files = l }) same,
-      ),
-  λ asks.
-      let f = follows kinds.Name a c word words is asks in
-      subst (λ (l : List (List ℕ)). Asks (record a { files = names }) l c) (sym none)
-      (subst (λ (b : AskedValue). Asks (record a { files = names }) [] b)
-      (ap (λ (l : List (List ℕ)). record a { files = l }) same ∙ sym f.1) (no_word (record a { files = names }))),
+      subst (λ (w : List ℕ). Asks a (w ∷ words) c) (sym is)
+      (flag a c f words none (subst (λ (d : AskedValue). Asks d words c) sets asks)),
+  λ asks. subst (λ (d : AskedValue). Asks d words c) (sym sets) (follows (kinds.Flag f) a c word words is asks).1,
 )
 
--- .. and words that are no names ask for nothing
-pub no_names : (a c : AskedValue) (word : List ℕ) (words : List (List ℕ)) → IsWord word kinds.Name
-    → ¬ (AreNames words) → Asks a (word ∷ words) c → ⊥
-no_names a c word words is none asks = none (follows kinds.Name a c word words is asks).0
+-- .. is taken, or refused
+pub flag_taken : (a b : AskedValue) (f : Flag) (word : List ℕ) (words : List (List ℕ))
+    (r : Result (Unit {0}) RequestError)
+    → IsWord word (kinds.Flag f) → OnOk r (has_flag f a ≡ false) → OnOk r (b ≡ set_flag f a)
+    → OnOk r (AskSame a (word ∷ words) b words)
+flag_taken a b f word words (Ok u) is none sets = ask_flag a b f word words is none sets
+flag_taken a b f word words (Err e) is none sets = tt
 
-pub ask_plain : (a : AskedValue) (word : List ℕ) (words : List (List ℕ)) → IsWord word kinds.Plain → a.plain ≡ false
-    → AskSame a (word ∷ words) (record a { plain = true }) words
-ask_plain a word words is first c = (
-  λ asks. precedes kinds.Plain a c word words is (first, asks),
-  λ asks. (follows kinds.Plain a c word words is asks).1,
-)
+pub flag_refused : (a : AskedValue) (f : Flag) (word : List ℕ) (words : List (List ℕ))
+    (r : Result (Unit {0}) RequestError)
+    → IsWord word (kinds.Flag f) → OnErr r (has_flag f a ≡ true) → IfErr r (λ e. e ≡ reasons.Usage)
+    → IfErr r (RefusesTaking a word words)
+flag_refused a f word words (Ok u) is again usage = tt
+flag_refused a f word words (Err e) is again usage =
+    subst (RefusesTaking a word words) (sym usage)
+    (λ c asks. let none : true ≡ false = sym again ∙ (follows (kinds.Flag f) a c word words is asks).0 in absurd cc)
 
-pub ask_write : (a : AskedValue) (word : List ℕ) (words : List (List ℕ)) → IsWord word kinds.Write → a.write ≡ false
-    → AskSame a (word ∷ words) (record a { write = true }) words
-ask_write a word words is first c = (
-  λ asks. precedes kinds.Write a c word words is (first, asks),
-  λ asks. (follows kinds.Write a c word words is asks).1,
-)
-
-pub ask_cut : (a : AskedValue) (word : List ℕ) (words : List (List ℕ)) → IsWord word kinds.Cut → a.edit ≡ None
-    → AskSame a (word ∷ words) (record a { edit = Some CutToHeaders }) words
-ask_cut a word words is first c = (
-  λ asks. precedes kinds.Cut a c word words is (first, asks),
-  λ asks. (follows kinds.Cut a c word words is asks).1,
-)
-
-pub ask_pop : (a : AskedValue) (word : List ℕ) (words : List (List ℕ)) → IsWord word kinds.Pop → a.edit ≡ None
-    → AskSame a (word ∷ words) (record a { edit = Some PopVlan }) words
-ask_pop a word words is first c = (
-  λ asks. precedes kinds.Pop a c word words is (first, asks),
-  λ asks. (follows kinds.Pop a c word words is asks).1,
-)
+-- ---- an option with a text
 
 abbrev tail_of : List (List ℕ) → List (List ℕ)
 tail_of [] = []
@@ -235,62 +181,67 @@ abbrev head_of : List (List ℕ) → List ℕ
 head_of [] = []
 head_of (w ∷ words) = w
 
-pub ask_select : (a : AskedValue) (word text : List ℕ) (words others : List (List ℕ)) → IsWord word kinds.Select
-    → a.text ≡ None → words ≡ text ∷ others → AskSame a (word ∷ words) (record a { text = Some text }) others
-ask_select a word text words others is first same c = (
-  λ asks. precedes kinds.Select a c word words is (text, others, same, first, asks),
-  λ asks.
-      let f = follows kinds.Select a c word words is asks in
-      let both = sym f.2 ∙ same in
-      subst (λ (l : List (List ℕ)). Asks (record a { text = Some text }) l c) (ap tail_of both)
-      (subst (λ (t : List ℕ). Asks (record a { text = Some t }) f.1 c) (ap head_of both) f.4),
-)
+same_numeral : (text : List ℕ) (m n : ℕ) → IsLimit text m → IsLimit text n → m ≡ n
+same_numeral text m n a b = same_number m n (number_in text) a b
 
-pub ask_tag : (a : AskedValue) (kind : TagEdit) (word text : List ℕ) (e : EditValue) (words others : List (List ℕ))
-    → IsWord word (kinds.Tag kind) → IsTagEdit (tag_word kind) text e → a.edit ≡ None → words ≡ text ∷ others
-    → AskSame a (word ∷ words) (record a { edit = Some e }) others
-ask_tag a kind word text e words others is edit none same c =
-    let here : IsTagEdit word text e = subst (λ (w : List ℕ). IsTagEdit w text e) (sym is) edit in (
-      λ asks. precedes (kinds.Tag kind) a c word words is (text, e, others, same, here, none, asks),
-      λ asks.
-          let f = follows (kinds.Tag kind) a c word words is asks in
-          let both = sym f.3 ∙ same in
-          let one : f.1 ≡ e =
-          tag_edit_one word text f.1 e (subst (λ (t : List ℕ). IsTagEdit word t f.1) (ap head_of both) f.4) here in
-          subst (λ (l : List (List ℕ)). Asks (record a { edit = Some e }) l c) (ap tail_of both)
-          (subst (λ (g : EditValue). Asks (record a { edit = Some g }) f.2 c) one f.6),
+-- it asks for one thing
+sets_once : (o : TextOption) (text : List ℕ) (a b c : AskedValue) → SetsText o text a b → SetsText o text a c → b ≡ c
+sets_once (texts.Tag kind) text a b c (e, is, same) (g, is2, same2) =
+    same ∙ ap (λ (it : EditValue). record a { edit = Some it }) (tag_edit_one (tag_word kind) text e g is is2)
+    ∙ sym same2
+sets_once texts.Select text a b c same same2 = same ∙ sym same2
+sets_once texts.Count text a b c (m, is, same) (n, is2, same2) =
+    same ∙ ap (λ (k : ℕ). record a { count = Some k }) (same_numeral text m n is.0 is2.0) ∙ sym same2
+sets_once texts.Limit text a b c (m, is, same) (n, is2, same2) =
+    same ∙ ap (λ (k : ℕ). record a { limit = Some k }) (same_numeral text m n is is2) ∙ sym same2
+
+-- what follows is the text that is there, and the words after it
+sets_here : (a c : AskedValue) (o : TextOption) (word text : List ℕ) (words others : List (List ℕ))
+    → IsWord word (kinds.Text o) → words ≡ text ∷ others → Asks a (word ∷ words) c
+    → (b : AskedValue) × (has_text o a ≡ false) × SetsText o text a b × Asks b others c
+sets_here a c o word text words others is same asks =
+    let f = follows (kinds.Text o) a c word words is asks in
+    let both = sym f.3 ∙ same in (
+      f.2,
+      f.4,
+      subst (λ (t : List ℕ). SetsText o t a f.2) (ap head_of both) f.5,
+      subst (λ (l : List (List ℕ)). Asks f.2 l c) (ap tail_of both) f.6,
     )
 
-count_one : (text : List ℕ) (m n : ℕ) → IsCount text m → IsCount text n → m ≡ n
-count_one text m n a b = same_number m n (number_in text) a.0 b.0
-
-pub ask_count : (a : AskedValue) (word text : List ℕ) (n : ℕ) (words others : List (List ℕ)) → IsWord word kinds.Count
-    → IsCount text n → a.count ≡ None → words ≡ text ∷ others
-    → AskSame a (word ∷ words) (record a { count = Some n }) others
-ask_count a word text n words others is counts none same c = (
-  λ asks. precedes kinds.Count a c word words is (text, n, others, same, counts, none, asks),
+pub ask_text : (a b : AskedValue) (o : TextOption) (word text : List ℕ) (words others : List (List ℕ))
+    → IsWord word (kinds.Text o) → words ≡ text ∷ others → has_text o a ≡ false → SetsText o text a b
+    → AskSame a (word ∷ words) b others
+ask_text a b o word text words others is same none sets c = (
   λ asks.
-      let f = follows kinds.Count a c word words is asks in
-      let both = sym f.3 ∙ same in
-      let one : f.1 ≡ n =
-      count_one text f.1 n (subst (λ (t : List ℕ). IsCount t f.1) (ap head_of both) f.4) counts in
-      subst (λ (l : List (List ℕ)). Asks (record a { count = Some n }) l c) (ap tail_of both)
-      (subst (λ (m : ℕ). Asks (record a { count = Some m }) f.2 c) one f.6),
+      subst (λ (l : List (List ℕ)). Asks a (word ∷ l) c) (sym same)
+      (subst (λ (w : List ℕ). Asks a (w ∷ text ∷ others) c) (sym is) (option a b c o text others none sets asks)),
+  λ asks.
+      let f = sets_here a c o word text words others is same asks in
+      subst (λ (d : AskedValue). Asks d others c) (sets_once o text a f.0 b f.2 sets) f.3,
 )
 
-pub ask_limit : (a : AskedValue) (word text : List ℕ) (n : ℕ) (words others : List (List ℕ)) → IsWord word kinds.Limit
-    → IsLimit text n → a.limit ≡ None → words ≡ text ∷ others
-    → AskSame a (word ∷ words) (record a { limit = Some n }) others
-ask_limit a word text n words others is counts none same c = (
-  λ asks. precedes kinds.Limit a c word words is (text, n, others, same, counts, none, asks),
-  λ asks.
-      let f = follows kinds.Limit a c word words is asks in
-      let both = sym f.3 ∙ same in
-      let here : IsLimit text f.1 = subst (λ (t : List ℕ). IsLimit t f.1) (ap head_of both) f.4 in
-      let one : f.1 ≡ n = same_number f.1 n (number_in text) here counts in
-      subst (λ (l : List (List ℕ)). Asks (record a { limit = Some n }) l c) (ap tail_of both)
-      (subst (λ (m : ℕ). Asks (record a { limit = Some m }) f.2 c) one f.6),
-)
+pub text_taken : (a b : AskedValue) (o : TextOption) (word text : List ℕ) (words others : List (List ℕ))
+    (r : Result (Unit {0}) RequestError)
+    → IsWord word (kinds.Text o) → words ≡ text ∷ others → OnOk r (has_text o a ≡ false) → OnOk r (SetsText o text a b)
+    → OnOk r (AskSame a (word ∷ words) b others)
+text_taken a b o word text words others (Ok u) is same none sets =
+    ask_text a b o word text words others is same none sets
+text_taken a b o word text words others (Err e) is same none sets = tt
+
+pub text_refused : (a : AskedValue) (o : TextOption) (word text : List ℕ) (words others : List (List ℕ))
+    (r : Result (Unit {0}) RequestError)
+    → IsWord word (kinds.Text o) → words ≡ text ∷ others
+    → OnErr r (has_text o a ≡ false → (b : AskedValue) → ¬ (SetsText o text a b)) → IfErr r (λ e. e ≡ reasons.Usage)
+    → IfErr r (RefusesTaking a word words)
+text_refused a o word text words others (Ok u) is same never usage = tt
+text_refused a o word text words others (Err e) is same never usage =
+    subst (RefusesTaking a word words) (sym usage)
+    (λ c asks. let f = sets_here a c o word text words others is same asks in never f.1 f.0 f.2)
+
+-- what is so is so of any error
+pub on_err : {A E : Type 0} (r : Result A E) (P : Type 0) → P → OnErr r P
+on_err (Ok a) P p = tt
+on_err (Err e) P p = p
 
 -- what is so of an error is so of the same one
 pub err_as : {A E : Type 0} (r : Result A E) (e : E) (P : E → Type 0) → IsErrAnd r (λ other. other ≡ e) → P e
@@ -298,54 +249,18 @@ pub err_as : {A E : Type 0} (r : Result A E) (e : E) (P : E → Type 0) → IsEr
 err_as (Ok a) e P is p = tt
 err_as (Err other) e P is p = subst P (sym is) p
 
--- .. with a text that is no number
-pub no_count : (a c : AskedValue) (word text : List ℕ) (words others : List (List ℕ)) → IsWord word kinds.Count
-    → words ≡ text ∷ others → ((n : ℕ) → ¬ (IsCount text n)) → Asks a (word ∷ words) c → ⊥
-no_count a c word text words others is same none asks =
-    let f = follows kinds.Count a c word words is asks in
-    none f.1 (subst (λ (t : List ℕ). IsCount t f.1) (ap head_of (sym f.3 ∙ same)) f.4)
-
-pub no_limit : (a c : AskedValue) (word text : List ℕ) (words others : List (List ℕ)) → IsWord word kinds.Limit
-    → words ≡ text ∷ others → ((n : ℕ) → ¬ (IsLimit text n)) → Asks a (word ∷ words) c → ⊥
-no_limit a c word text words others is same none asks =
-    let f = follows kinds.Limit a c word words is asks in
-    none f.1 (subst (λ (t : List ℕ). IsLimit t f.1) (ap head_of (sym f.3 ∙ same)) f.4)
-
-pub none_is : {X : Type 0} (o : Option X) → is_none o ≡ true → o ≡ None
-none_is None none = refl
-none_is (Some x) none = absurd cc
-
-pub some_is : {X : Type 0} (o : Option X) → is_none o ≡ false → o ≡ None → ⊥
-some_is None some none = absurd cc
-some_is (Some x) some none = absurd cc
-
-pub none_mapped : {X Y : Type 0} (f : X → Y) (o : Option X) → is_none o ≡ true → option_map f o ≡ None
-none_mapped f None none = refl
-none_mapped f (Some x) none = absurd cc
-
-pub some_mapped : {X Y : Type 0} (f : X → Y) (o : Option X) → is_none o ≡ false → option_map f o ≡ None → ⊥
-some_mapped f None some none = absurd cc
-some_mapped f (Some x) some none = absurd cc
-
 -- a word of no other kind asks for nothing
 pub asks_nothing : (kind : Word) (a c : AskedValue) (word : List ℕ) (words : List (List ℕ)) → IsWord word kind
-    → (kind ≡ kinds.Name → ⊥) → (kind ≡ kinds.Plain → ⊥) → (kind ≡ kinds.Write → ⊥) → (kind ≡ kinds.Cut → ⊥)
-    → (kind ≡ kinds.Pop → ⊥) → ((t : TagEdit) → kind ≡ kinds.Tag t → ⊥) → (kind ≡ kinds.Select → ⊥)
-    → (kind ≡ kinds.Count → ⊥) → (kind ≡ kinds.Limit → ⊥) → Asks a (word ∷ words) c → ⊥
-asks_nothing kinds.Name a c word words is n p w k o t s m l asks = n refl
-asks_nothing kinds.Plain a c word words is n p w k o t s m l asks = p refl
-asks_nothing kinds.Write a c word words is n p w k o t s m l asks = w refl
-asks_nothing kinds.Cut a c word words is n p w k o t s m l asks = k refl
-asks_nothing kinds.Pop a c word words is n p w k o t s m l asks = o refl
-asks_nothing (kinds.Tag kind) a c word words is n p w k o t s m l asks = t kind refl
-asks_nothing kinds.Select a c word words is n p w k o t s m l asks = s refl
-asks_nothing kinds.Count a c word words is n p w k o t s m l asks = m refl
-asks_nothing kinds.Limit a c word words is n p w k o t s m l asks = l refl
-asks_nothing kinds.Help a c word words is n p w k o t s m l asks =
+    → (kind ≡ kinds.Name → ⊥) → ((f : Flag) → kind ≡ kinds.Flag f → ⊥) → ((o : TextOption) → kind ≡ kinds.Text o → ⊥)
+    → Asks a (word ∷ words) c → ⊥
+asks_nothing kinds.Name a c word words is no_name no_flag no_option asks = no_name refl
+asks_nothing (kinds.Flag f) a c word words is no_name no_flag no_option asks = no_flag f refl
+asks_nothing (kinds.Text o) a c word words is no_name no_flag no_option asks = no_option o refl
+asks_nothing kinds.Help a c word words is no_name no_flag no_option asks =
     follows kinds.Help a c word words is asks
-asks_nothing kinds.Version a c word words is n p w k o t s m l asks =
+asks_nothing kinds.Version a c word words is no_name no_flag no_option asks =
     follows kinds.Version a c word words is asks
-asks_nothing kinds.Unknown a c word words is n p w k o t s m l asks =
+asks_nothing kinds.Unknown a c word words is no_name no_flag no_option asks =
     follows kinds.Unknown a c word words is asks
 
 -- ---- all words

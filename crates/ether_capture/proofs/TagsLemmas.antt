@@ -93,11 +93,6 @@ says_one word text (SetVlan m n) PopVlan a b = absurd b
 pub tag_edit_one : (word text : List ℕ) (e f : EditValue) → IsTagEdit word text e → IsTagEdit word text f → e ≡ f
 tag_edit_one word text e f a b = says_one word text e f (said word text e a) (said word text f b)
 
-pub word_of_edit : (word text : List ℕ) (e : EditValue) → IsTagEdit word text e
-    → (kind : TagEdit) × (word ≡ tag_word kind)
-word_of_edit word text e (push _ m n pair announces lt) = (tag_edits.Push, refl)
-word_of_edit word text e (set _ m n pair lt less) = (tag_edits.Set, refl)
-
 pub is_push : (kind : TagEdit) (text : List ℕ) (m n : ℕ) (e : EditValue) → kind ≡ tag_edits.Push → IsPair text m n
     → (e ≡ PushVlan m n) × (is_vlan_ether_type m ≡ true) × (n < 4096) → IsTagEdit (tag_word kind) text e
 is_push kind text m n e is pair says =

@@ -20,6 +20,10 @@ use Rattle.ether_capture.specs.declared.options.RequestError.{RequestError}
 use Rattle.ether_capture.specs.declared.options.RequestError.TheVariants as reasons
 use Rattle.ether_capture.specs.declared.options.Request.{Request}
 use Rattle.ether_capture.specs.declared.options.Request.TheVariants as requests
+use Rattle.ether_capture.specs.declared.options.Flag.{Flag}
+use Rattle.ether_capture.specs.declared.options.Flag.TheVariants as flags
+use Rattle.ether_capture.specs.declared.options.TextOption.{TextOption}
+use Rattle.ether_capture.specs.declared.options.TextOption.TheVariants as texts
 use Rattle.ether_capture.specs.declared.options.Word.{Word}
 use Rattle.ether_capture.specs.declared.options.Word.TheVariants as kinds
 
@@ -84,28 +88,53 @@ IsCount text n = (number_in text ≡ Some (Some n)) × (0 < n)
 abbrev pub IsLimit : (text : List ℕ) → ℕ → Type 0
 IsLimit text n = number_in text ≡ Some (Some n)
 
+-- the options that stand alone; whether one of them, or one that goes in its place, was there; and what is asked for with it
+abbrev pub flag_word : Flag → List ℕ
+flag_word flags.Plain = codes "--plain"
+flag_word flags.Write = codes "--write"
+flag_word flags.CutToHeaders = codes "--cut-to-headers"
+flag_word flags.PopVlan = codes "--pop-vlan"
+
+abbrev pub has_flag : Flag → AskedValue → Bool
+has_flag flags.Plain a = a.plain
+has_flag flags.Write a = a.write
+has_flag _ a = is_some a.edit
+
+abbrev pub set_flag : Flag → AskedValue → AskedValue
+set_flag flags.Plain a = record a { plain = true }
+set_flag flags.Write a = record a { write = true }
+set_flag flags.CutToHeaders a = record a { edit = Some CutToHeaders }
+set_flag flags.PopVlan a = record a { edit = Some PopVlan }
+
+-- the options with a text after them, likewise
+abbrev pub text_word : TextOption → List ℕ
+text_word (texts.Tag kind) = tag_word kind
+text_word texts.Select = codes "--select"
+text_word texts.Count = codes "-c"
+text_word texts.Limit = codes "--limit"
+
+abbrev pub has_text : TextOption → AskedValue → Bool
+has_text (texts.Tag kind) a = is_some a.edit
+has_text texts.Select a = is_some a.text
+has_text texts.Count a = is_some a.count
+has_text texts.Limit a = is_some a.limit
+
+abbrev pub SetsText : TextOption → (text : List ℕ) → AskedValue → AskedValue → Type 0
+SetsText (texts.Tag kind) text a b = (e : EditValue) × IsTagEdit (tag_word kind) text e × (b ≡ record a { edit = Some e })
+SetsText texts.Select text a b = b ≡ record a { text = Some text }
+SetsText texts.Count text a b = (n : ℕ) × IsCount text n × (b ≡ record a { count = Some n })
+SetsText texts.Limit text a b = (n : ℕ) × IsLimit text n × (b ≡ record a { limit = Some n })
+
 -- What is asked for with these words, after the words before them. Options come in any order, each once at most, with one edit
 -- at most, and the names of files come last.
 pub data Asks : AskedValue → List (List ℕ) → AskedValue → Type 0 where
   no_word : (a : AskedValue) → Asks a [] a
   files : (a : AskedValue) (name : List ℕ) (names : List (List ℕ)) → AreNames (name ∷ names)
       → Asks a (name ∷ names) (record a { files = name ∷ names })
-  plain : (a b : AskedValue) (words : List (List ℕ)) → a.plain ≡ false → Asks (record a { plain = true }) words b
-      → Asks a (codes "--plain" ∷ words) b
-  write : (a b : AskedValue) (words : List (List ℕ)) → a.write ≡ false → Asks (record a { write = true }) words b
-      → Asks a (codes "--write" ∷ words) b
-  cut : (a b : AskedValue) (words : List (List ℕ)) → a.edit ≡ None → Asks (record a { edit = Some CutToHeaders }) words b
-      → Asks a (codes "--cut-to-headers" ∷ words) b
-  pop : (a b : AskedValue) (words : List (List ℕ)) → a.edit ≡ None → Asks (record a { edit = Some PopVlan }) words b
-      → Asks a (codes "--pop-vlan" ∷ words) b
-  tag : (a b : AskedValue) (word text : List ℕ) (e : EditValue) (words : List (List ℕ)) → IsTagEdit word text e
-      → a.edit ≡ None → Asks (record a { edit = Some e }) words b → Asks a (word ∷ text ∷ words) b
-  select : (a b : AskedValue) (text : List ℕ) (words : List (List ℕ)) → a.text ≡ None → Asks (record a { text = Some text }) words b
-      → Asks a (codes "--select" ∷ text ∷ words) b
-  count : (a b : AskedValue) (text : List ℕ) (n : ℕ) (words : List (List ℕ)) → IsCount text n → a.count ≡ None
-      → Asks (record a { count = Some n }) words b → Asks a (codes "-c" ∷ text ∷ words) b
-  limit : (a b : AskedValue) (text : List ℕ) (n : ℕ) (words : List (List ℕ)) → IsLimit text n → a.limit ≡ None
-      → Asks (record a { limit = Some n }) words b → Asks a (codes "--limit" ∷ text ∷ words) b
+  flag : (a c : AskedValue) (f : Flag) (words : List (List ℕ)) → has_flag f a ≡ false → Asks (set_flag f a) words c
+      → Asks a (flag_word f ∷ words) c
+  option : (a b c : AskedValue) (o : TextOption) (text : List ℕ) (words : List (List ℕ)) → has_text o a ≡ false
+      → SetsText o text a b → Asks b words c → Asks a (text_word o ∷ text ∷ words) c
 
 -- ---- requests
 
@@ -202,14 +231,8 @@ asked_view asked = record {
 -- what a word is, if it is known
 abbrev pub IsKnown : (word : List ℕ) → Word → Type 0
 IsKnown word kinds.Name = IsName word
-IsKnown word kinds.Plain = word ≡ codes "--plain"
-IsKnown word kinds.Write = word ≡ codes "--write"
-IsKnown word kinds.Cut = word ≡ codes "--cut-to-headers"
-IsKnown word kinds.Pop = word ≡ codes "--pop-vlan"
-IsKnown word (kinds.Tag kind) = word ≡ tag_word kind
-IsKnown word kinds.Select = word ≡ codes "--select"
-IsKnown word kinds.Count = word ≡ codes "-c"
-IsKnown word kinds.Limit = word ≡ codes "--limit"
+IsKnown word (kinds.Flag f) = word ≡ flag_word f
+IsKnown word (kinds.Text o) = word ≡ text_word o
 IsKnown word kinds.Help = word ≡ codes "--help"
 IsKnown word kinds.Version = word ≡ codes "--version"
 IsKnown word kinds.Unknown = ⊥

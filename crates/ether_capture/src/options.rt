@@ -1,5 +1,5 @@
 //! What the words after the program's name ask for.
-ghost use Rattle.std.specs.Prelude.{◌≡◌, ◌≢◌, ◌⊎◌, ◌≤◌, ◌↔◌, ℕ, IsTrue, None, [], ◌∷◌, length, map, string_bytes, IfOk, IfErr, OnOk, OnErr};
+ghost use Rattle.std.specs.Prelude.{◌≡◌, ◌≢◌, ◌⊎◌, ◌≤◌, ◌↔◌, ℕ, IsTrue, true, false, None, [], ◌∷◌, length, map, string_bytes, IfOk, IfErr, OnOk, OnErr};
 ghost use Rattle.std.specs.Int.NonZero.{non_zero_usize_get};
 ghost use Rattle.std.specs.Option.{option_map};
 ghost use Rattle.std.specs.Vec.Iter.{into_iter_items};
@@ -8,7 +8,7 @@ ghost use Rattle.ether_content.specs.Editing.{EditValue};
 ghost use Rattle.ether_content.specs.EditingViews.{edit_view};
 ghost use Rattle.ether_capture.specs.Tags.{IsTagEdit, tag_word};
 ghost use Rattle.ether_capture.specs.Task.{form_view};
-ghost use Rattle.ether_capture.specs.Options.{IsCount, AreNames, IsLimit, IsName, IsWord, words_left, asked_view, nothing_asked, are_several, clashes, form_of, options_of, AskSame, RefusesTaking, IsSelection, RefusesSelection, IsRequestOf, RefusesAsked, OptionsAsk, RefusesOptions, NamesRequest, RefusesWords, request_view};
+ghost use Rattle.ether_capture.specs.Options.{AskedValue, IsCount, AreNames, IsLimit, IsName, IsWord, has_flag, set_flag, has_text, SetsText, words_left, asked_view, nothing_asked, are_several, clashes, form_of, options_of, AskSame, RefusesTaking, IsSelection, RefusesSelection, IsRequestOf, RefusesAsked, OptionsAsk, RefusesOptions, NamesRequest, RefusesWords, request_view};
 
 use crate::tags::{TagEdit, small_number, tag_edit_of};
 use crate::task::{Form, LineOptions, Task};
@@ -157,30 +157,77 @@ impl Asked {
             Word::Name => {
                 let names = names_of(self.is_copy, word, args, alloc)?;
                 self.files = names;
+                Ok(())
             }
-            Word::Plain if !self.is_plain => self.is_plain = true,
-            Word::Write if !self.is_copy => self.is_copy = true,
-            Word::Cut if self.edit.is_none() => self.edit = Some(PacketEdit::CutToHeaders),
-            Word::Pop if self.edit.is_none() => self.edit = Some(PacketEdit::PopVlan),
-            Word::Tag(kind) if self.edit.is_none() => match args.next() {
-                Some(text) => self.edit = Some(tag_edit(kind, &text)?),
-                None => return Err(RequestError::Usage),
+            Word::Flag(flag) => self.take_flag(flag),
+            Word::Text(option) => match args.next() {
+                Some(text) => self.take_text(option, text),
+                None => Err(RequestError::Usage),
             },
-            Word::Select if self.text.is_none() => match args.next() {
-                Some(text) => self.text = Some(text),
-                None => return Err(RequestError::Usage),
-            },
-            Word::Count if self.count.is_none() => match args.next() {
-                Some(text) => self.count = Some(count_of(&text)?),
-                None => return Err(RequestError::Usage),
-            },
-            Word::Limit if self.limit.is_none() => match args.next() {
-                Some(text) => self.limit = Some(limit_of(&text)?),
-                None => return Err(RequestError::Usage),
-            },
-            _ => return Err(RequestError::Usage),
+            _ => Err(RequestError::Usage),
+        }
+    }
+
+    /// Takes an option that stands alone.
+    fn take_flag(&mut self, flag: Flag) -> Result<(), RequestError>
+        ensures first { OnOk result (has_flag flag (asked_view self.old) ≡ false) }
+        ensures ok { OnOk result (asked_view self.new ≡ set_flag flag (asked_view self.old)) }
+        ensures again { OnErr result (has_flag flag (asked_view self.old) ≡ true) }
+        ensures usage { IfErr result (λ e. e ≡ RequestError.Usage) }
+    {
+        if self.has_flag(flag) {
+            return Err(RequestError::Usage);
+        }
+        match flag {
+            Flag::Plain => self.is_plain = true,
+            Flag::Write => self.is_copy = true,
+            Flag::CutToHeaders => self.edit = Some(PacketEdit::CutToHeaders),
+            Flag::PopVlan => self.edit = Some(PacketEdit::PopVlan),
         }
         Ok(())
+    }
+
+    /// Takes an option with the text after it.
+    fn take_text(&mut self, option: TextOption, text: String) -> Result<(), RequestError>
+        ensures first { OnOk result (has_text option (asked_view self.old) ≡ false) }
+        ensures ok { OnOk result (SetsText option (string_bytes text) (asked_view self.old) (asked_view self.new)) }
+        ensures err { OnErr result (has_text option (asked_view self.old) ≡ false
+            → (b : AskedValue) → ¬ (SetsText option (string_bytes text) (asked_view self.old) b)) }
+        ensures usage { IfErr result (λ e. e ≡ RequestError.Usage) }
+    {
+        if self.has_text(option) {
+            return Err(RequestError::Usage);
+        }
+        match option {
+            TextOption::Tag(kind) => self.edit = Some(tag_edit(kind, &text)?),
+            TextOption::Select => self.text = Some(text),
+            TextOption::Count => self.count = Some(count_of(&text)?),
+            TextOption::Limit => self.limit = Some(limit_of(&text)?),
+        }
+        Ok(())
+    }
+
+    /// Tests that an option that stands alone, or one that goes in its place, was there.
+    fn has_flag(&self, flag: Flag) -> bool
+        ensures { result ≡ has_flag flag (asked_view self.now) }
+    {
+        match flag {
+            Flag::Plain => self.is_plain,
+            Flag::Write => self.is_copy,
+            Flag::CutToHeaders | Flag::PopVlan => self.edit.is_some(),
+        }
+    }
+
+    /// Tests that an option with a text, or one that goes in its place, was there.
+    fn has_text(&self, option: TextOption) -> bool
+        ensures { result ≡ has_text option (asked_view self.now) }
+    {
+        match option {
+            TextOption::Tag(_) => self.edit.is_some(),
+            TextOption::Select => self.text.is_some(),
+            TextOption::Count => self.count.is_some(),
+            TextOption::Limit => self.limit.is_some(),
+        }
     }
 
     /// Tests that there are several names.
@@ -338,19 +385,22 @@ fn filter_of(text: &Option<String>) -> Result<Option<Filter>, FilterError>
     }
 }
 
-/// What a word is.
+/// An option that stands alone.
 #[derive(Clone, Copy)]
-enum Word {
-    /// The name of a file.
-    Name,
+enum Flag {
     /// `--plain`.
     Plain,
     /// `--write`.
     Write,
     /// `--cut-to-headers`.
-    Cut,
+    CutToHeaders,
     /// `--pop-vlan`.
-    Pop,
+    PopVlan,
+}
+
+/// An option with a text after it.
+#[derive(Clone, Copy)]
+enum TextOption {
     /// `--push-vlan` or `--set-vlan`.
     Tag(TagEdit),
     /// `--select`.
@@ -359,6 +409,17 @@ enum Word {
     Count,
     /// `--limit`.
     Limit,
+}
+
+/// What a word is.
+#[derive(Clone, Copy)]
+enum Word {
+    /// The name of a file.
+    Name,
+    /// An option that stands alone.
+    Flag(Flag),
+    /// An option with a text after it.
+    Text(TextOption),
     /// `--help`.
     Help,
     /// `--version`.
@@ -375,15 +436,15 @@ fn word_of(word: &str) -> Word
         return Word::Name;
     }
     match word {
-        "--plain" => Word::Plain,
-        "--write" => Word::Write,
-        "--cut-to-headers" => Word::Cut,
-        "--pop-vlan" => Word::Pop,
-        "--push-vlan" => Word::Tag(TagEdit::Push),
-        "--set-vlan" => Word::Tag(TagEdit::Set),
-        "--select" => Word::Select,
-        "-c" => Word::Count,
-        "--limit" => Word::Limit,
+        "--plain" => Word::Flag(Flag::Plain),
+        "--write" => Word::Flag(Flag::Write),
+        "--cut-to-headers" => Word::Flag(Flag::CutToHeaders),
+        "--pop-vlan" => Word::Flag(Flag::PopVlan),
+        "--push-vlan" => Word::Text(TextOption::Tag(TagEdit::Push)),
+        "--set-vlan" => Word::Text(TextOption::Tag(TagEdit::Set)),
+        "--select" => Word::Text(TextOption::Select),
+        "-c" => Word::Text(TextOption::Count),
+        "--limit" => Word::Text(TextOption::Limit),
         "--help" => Word::Help,
         "--version" => Word::Version,
         _ => Word::Unknown,
