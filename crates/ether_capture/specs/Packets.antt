@@ -9,7 +9,7 @@ use Rattle.ether_capture.specs.Task.{IsChosen, IsBelow}
 abbrev pub counted : ℕ → ℕ
 counted n = min n (2 ^ 64 - 1)
 
--- what is expected at the beginning of a capture, a section of which may describe so many interfaces
+-- what is expected at the beginning of a capture, where a section may describe so many interfaces
 abbrev pub capture_start : Expectation
 capture_start = Beginning 65536
 

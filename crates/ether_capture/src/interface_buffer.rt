@@ -1,6 +1,6 @@
 //! Memory for the interfaces of a section.
-ghost use Rattle.std.specs.Vec.{vec_capacity};
 ghost use Rattle.std.specs.Prelude.{◌≤◌};
+ghost use Rattle.std.specs.Vec.{vec_capacity};
 
 use ether_pcap::{CaptureInterface, InterfaceTable};
 use std::alloc::{AllocError, Global};
