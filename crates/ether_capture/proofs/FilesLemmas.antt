@@ -1,6 +1,9 @@
 -- What is read of several captures, one after the other.
-use Rattle.std.proofs.Common.{◌≡◌, ◌≢◌, ◌⊎◌, ℕ, ◌+◌, List, [], length, Option, Result, Ok, Err, IfErr, refl, sym, subst, ◌∙◌, arith, inl, inr}
+use Rattle.std.proofs.Common.{◌≡◌, ◌≢◌, ◌⊎◌, ℕ, ◌+◌, List, [], length, map, Option, Result, Ok, Err, IfErr, refl, sym, subst, ◌∙◌, arith, inl, inr}
 use Rattle.std.specs.Prelude.{max}
+use Rattle.std.specs.Borrow.{Bor}
+use Rattle.std.specs.Vec.Iter.{into_iter_items}
+use Rattle.std.specs.declared.vec.IntoIter.{IntoIter}
 use Rattle.std.specs.Io.KnownBytes.{Appends}
 use Rattle.ether_pcap.specs.Capture.{PacketValue}
 use Rattle.ether_text.specs.Run.{IsEndless}
@@ -18,6 +21,10 @@ use Rattle.ether_capture.specs.declared.outcome.FileEnd.{FileEnd}
 use Rattle.ether_capture.specs.declared.outcome.FileEnd.TheVariants as ends
 use Rattle.ether_capture.specs.declared.outcome.RunFault.{RunFault}
 use Rattle.ether_capture.specs.declared.outcome.RunFault.TheVariants as faults
+
+-- the names that are left
+abbrev pub names_in : {A : Type 0} → IntoIter (Bor (List ℕ)) A → List (List ℕ)
+names_in files = map (λ s. s.now) (into_iter_items files)
 
 module _ (has : List ℕ → Option (List ℕ) → Type 0) (can_refuse can_read can_write : Type 0) where
   -- how many packets were read is known of each end but that of a failed output, since lines edit no packet

@@ -1,9 +1,12 @@
--- What the words after the program's name ask for.
-use Rattle.std.specs.Prelude.{◌≡◌, ◌≢◌, ◌<◌, ◌↔◌, ℕ, List, [], ◌∷◌, map, codes, Bool, true, false, if◌then◌else◌, ◌||◌, Option, Some, None, String, string_bytes, ⊤}
+-- What the arguments ask for. What a word is, and how words follow one another, is defined by `clap`.
+use Rattle.std.specs.Prelude.{◌≡◌, ◌≢◌, ◌<◌, ◌⊎◌, ℕ, List, [], ◌∷◌, map, codes, Bool, true, false, if◌then◌else◌, ◌||◌, Option, Some, None, unwrap_or, ⊤}
 use Rattle.std.specs.Int.NonZero.{non_zero_usize_get}
-use Rattle.std.specs.Option.{option_map, is_some}
-use Rattle.std.specs.Vec.Iter.{into_iter_items}
-use Rattle.std.specs.declared.vec.IntoIter.{IntoIter}
+use Rattle.std.specs.Option.{option_map, option_map_or, is_some}
+use Rattle.std.specs.Str.{bytes_eq}
+use Rattle.clap.specs.Words.{App, IsAmong, Row, Rule, Text, all_of, fault_of, first_of, matches_of, new_app, new_rule}
+use Rattle.clap.specs.declared.builder.action.ArgAction.TheVariants.{Append, Set, SetTrue}
+use Rattle.clap.specs.declared.error.kind.ErrorKind.{ErrorKind}
+use Rattle.clap.specs.declared.error.kind.ErrorKind.TheVariants.{DisplayHelp, DisplayVersion, OutOfMemory}
 use Rattle.ether_filter.specs.Expressions.{Expression}
 use Rattle.ether_filter.specs.Texts.{IsExpressionOf}
 use Rattle.ether_filter.specs.Numerals.{number_in}
@@ -11,7 +14,7 @@ use Rattle.ether_filter.specs.Refusals.{RefusesText}
 use Rattle.ether_filter.specs.declared.filter_error.FilterError.{FilterError}
 use Rattle.ether_content.specs.Editing.{EditValue, CutToHeaders, PopVlan}
 use Rattle.ether_content.specs.EditingViews.{edit_view}
-use Rattle.ether_capture.specs.Tags.{IsTagEdit, tag_word}
+use Rattle.ether_capture.specs.Tags.{IsTagEdit}
 use Rattle.ether_capture.specs.Task.{TaskValue, FormValue, Lines, Copy, task_view}
 use Rattle.ether_capture.specs.declared.options.Asked.{Asked}
 use Rattle.ether_capture.specs.declared.options.Listing.{Listing}
@@ -20,132 +23,123 @@ use Rattle.ether_capture.specs.declared.options.RequestError.{RequestError}
 use Rattle.ether_capture.specs.declared.options.RequestError.TheVariants as reasons
 use Rattle.ether_capture.specs.declared.options.Request.{Request}
 use Rattle.ether_capture.specs.declared.options.Request.TheVariants as requests
-use Rattle.ether_capture.specs.declared.options.Flag.{Flag}
-use Rattle.ether_capture.specs.declared.options.Flag.TheVariants as flags
-use Rattle.ether_capture.specs.declared.options.TextOption.{TextOption}
-use Rattle.ether_capture.specs.declared.options.TextOption.TheVariants as texts
-use Rattle.ether_capture.specs.declared.options.Word.{Word}
-use Rattle.ether_capture.specs.declared.options.Word.TheVariants as kinds
 
 -- the lines of the captures in the files of these names
 pub record ListingValue : Type 0 where
   pub select : Option Expression
   pub count : Option ℕ
   pub options : LineOptions
-  pub files : List (List ℕ)
+  pub files : List Text
 
 abbrev pub listing_view : Listing → ListingValue
 listing_view l = record {
   select = l.filter;
   count = option_map non_zero_usize_get l.count;
   options = l.options;
-  files = map string_bytes l.files.items;
+  files = map (λ s. s.now) l.files.items;
 }
 
 -- this is made of the capture in the file of this name, or of standard input; or lines of several captures; the usage; the version
 pub data RequestValue : Type 0 where
-  Run : TaskValue → (file : Option (List ℕ)) → RequestValue
+  Run : TaskValue → (file : Option Text) → RequestValue
   Lists : ListingValue → RequestValue
   Help : RequestValue
   Version : RequestValue
 
 abbrev pub request_view : Request → RequestValue
-request_view (requests.Run task file) = Run (task_view task) (option_map string_bytes file)
+request_view (requests.Run task file) = Run (task_view task) (option_map (λ s. s.now) file)
 request_view (requests.List listing) = Lists (listing_view listing)
 request_view requests.Help = Help
 request_view requests.Version = Version
 
--- ---- options
+-- ---- the program's options
 
--- the word names a file: it does not begin with a hyphen
-abbrev pub IsName : List ℕ → Type 0
-IsName [] = ⊤
-IsName (byte ∷ bytes) = byte ≢ 45
+-- an option without a value
+abbrev pub flag_rule : (name : Text) → Rule
+flag_rule name = record (new_rule name) { long = Some name; action = Some SetTrue }
 
--- each word names a file
-abbrev pub AreNames : List (List ℕ) → Type 0
-AreNames [] = ⊤
-AreNames (name ∷ names) = IsName name × AreNames names
+-- .. with a value
+abbrev pub option_rule : (name : Text) → Rule
+option_rule name = record (new_rule name) { long = Some name; action = Some Set }
+
+-- `-c` (99), with a value
+abbrev pub count_rule : Rule
+count_rule = record (new_rule (codes "count")) { short = Some 99; action = Some Set }
+
+-- names of files
+abbrev pub file_rule : Rule
+file_rule = record (new_rule (codes "file")) { action = Some Append }
+
+abbrev pub capture_rules : List Rule
+capture_rules = flag_rule (codes "plain") ∷ flag_rule (codes "write") ∷ flag_rule (codes "cut-to-headers") ∷ flag_rule (codes "pop-vlan")
+    ∷ option_rule (codes "push-vlan") ∷ option_rule (codes "set-vlan") ∷ option_rule (codes "select") ∷ option_rule (codes "limit")
+    ∷ count_rule ∷ file_rule ∷ []
+
+-- .. beside `--help` and `--version`
+abbrev pub capture_app : App
+capture_app = let app = new_app (codes "ether_capture") in record app { top = record app.top { rules = capture_rules; has_version = true } }
+
+-- ---- what is asked for
 
 -- which options there are, with the text of a filter, and the names of files
 pub record AskedValue : Type 0 where
   pub plain : Bool
   pub write : Bool
   pub edit : Option EditValue
-  pub text : Option (List ℕ)
+  pub text : Option Text
   pub count : Option ℕ
   pub limit : Option ℕ
-  pub files : List (List ℕ)
+  pub files : List Text
 
-abbrev pub nothing_asked : AskedValue
-nothing_asked = record { plain = false; write = false; edit = None; text = None; count = None; limit = None; files = [] }
+-- an option without a value is there
+abbrev pub is_set : (name : Text) → List Row → Bool
+is_set name rows = option_map_or (λ text. bytes_eq text (codes "true")) (first_of name rows) false
+
+-- a text that may be missing means this
+abbrev pub IsIfAny : {A : Type 0} → (Text → A → Type 0) → Option Text → Option A → Type 0
+IsIfAny Means None None = ⊤
+IsIfAny Means (Some text) (Some it) = Means text it
+IsIfAny Means text it = ⊥
 
 -- a number of packets, written as in a filter, and not 0
-abbrev pub IsCount : (text : List ℕ) → ℕ → Type 0
+abbrev pub IsCount : Text → ℕ → Type 0
 IsCount text n = (number_in text ≡ Some (Some n)) × (0 < n)
 
 -- a number of headers, written alike, which may be 0
-abbrev pub IsLimit : (text : List ℕ) → ℕ → Type 0
+abbrev pub IsLimit : Text → ℕ → Type 0
 IsLimit text n = number_in text ≡ Some (Some n)
 
--- the options that stand alone; whether one of them, or one that goes in its place, was there; and what is asked for with it
-abbrev pub flag_word : Flag → List ℕ
-flag_word flags.Plain = codes "--plain"
-flag_word flags.Write = codes "--write"
-flag_word flags.CutToHeaders = codes "--cut-to-headers"
-flag_word flags.PopVlan = codes "--pop-vlan"
+-- one edit at most
+abbrev pub IsOneEdit : (cuts pops : Bool) → (push set : Option Text) → Option EditValue → Type 0
+IsOneEdit false false None None edit = edit ≡ None
+IsOneEdit true false None None edit = edit ≡ Some CutToHeaders
+IsOneEdit false true None None edit = edit ≡ Some PopVlan
+IsOneEdit false false (Some text) None edit = IsIfAny (IsTagEdit (codes "--push-vlan")) (Some text) edit
+IsOneEdit false false None (Some text) edit = IsIfAny (IsTagEdit (codes "--set-vlan")) (Some text) edit
+IsOneEdit cuts pops push set edit = ⊥
 
-abbrev pub has_flag : Flag → AskedValue → Bool
-has_flag flags.Plain a = a.plain
-has_flag flags.Write a = a.write
-has_flag _ a = is_some a.edit
+abbrev pub IsEdit : List Row → Option EditValue → Type 0
+IsEdit rows = IsOneEdit (is_set (codes "cut-to-headers") rows) (is_set (codes "pop-vlan") rows) (first_of (codes "push-vlan") rows)
+    (first_of (codes "set-vlan") rows)
 
-abbrev pub set_flag : Flag → AskedValue → AskedValue
-set_flag flags.Plain a = record a { plain = true }
-set_flag flags.Write a = record a { write = true }
-set_flag flags.CutToHeaders a = record a { edit = Some CutToHeaders }
-set_flag flags.PopVlan a = record a { edit = Some PopVlan }
-
--- the options with a text after them, likewise
-abbrev pub text_word : TextOption → List ℕ
-text_word (texts.Tag kind) = tag_word kind
-text_word texts.Select = codes "--select"
-text_word texts.Count = codes "-c"
-text_word texts.Limit = codes "--limit"
-
-abbrev pub has_text : TextOption → AskedValue → Bool
-has_text (texts.Tag kind) a = is_some a.edit
-has_text texts.Select a = is_some a.text
-has_text texts.Count a = is_some a.count
-has_text texts.Limit a = is_some a.limit
-
-abbrev pub SetsText : TextOption → (text : List ℕ) → AskedValue → AskedValue → Type 0
-SetsText (texts.Tag kind) text a b = (e : EditValue) × IsTagEdit (tag_word kind) text e × (b ≡ record a { edit = Some e })
-SetsText texts.Select text a b = b ≡ record a { text = Some text }
-SetsText texts.Count text a b = (n : ℕ) × IsCount text n × (b ≡ record a { count = Some n })
-SetsText texts.Limit text a b = (n : ℕ) × IsLimit text n × (b ≡ record a { limit = Some n })
-
--- What is asked for with these words, after the words before them. Options come in any order, each once at most, with one edit
--- at most, and the names of files come last.
-pub data Asks : AskedValue → List (List ℕ) → AskedValue → Type 0 where
-  no_word : (a : AskedValue) → Asks a [] a
-  files : (a : AskedValue) (name : List ℕ) (names : List (List ℕ)) → AreNames (name ∷ names)
-      → Asks a (name ∷ names) (record a { files = name ∷ names })
-  flag : (a c : AskedValue) (f : Flag) (words : List (List ℕ)) → has_flag f a ≡ false → Asks (set_flag f a) words c
-      → Asks a (flag_word f ∷ words) c
-  option : (a b c : AskedValue) (o : TextOption) (text : List ℕ) (words : List (List ℕ)) → has_text o a ≡ false
-      → SetsText o text a b → Asks b words c → Asks a (text_word o ∷ text ∷ words) c
+-- what the values of options, by their names, ask for
+pub record Asks (rows : List Row) (a : AskedValue) : Type 0 where
+  pub plain : a.plain ≡ is_set (codes "plain") rows
+  pub write : a.write ≡ is_set (codes "write") rows
+  pub edit : IsEdit rows a.edit
+  pub text : a.text ≡ first_of (codes "select") rows
+  pub count : IsIfAny IsCount (first_of (codes "count") rows) a.count
+  pub limit : IsIfAny IsLimit (first_of (codes "limit") rows) a.limit
+  pub files : a.files ≡ unwrap_or (all_of (codes "file") rows) []
 
 -- ---- requests
 
 -- the expression that a text means, if there is one
-abbrev pub IsSelection : (text : Option (List ℕ)) → Option Expression → Type 0
-IsSelection None None = ⊤
-IsSelection (Some text) (Some x) = IsExpressionOf text x
-IsSelection text other = ⊥
+abbrev pub IsSelection : (text : Option Text) → Option Expression → Type 0
+IsSelection = IsIfAny IsExpressionOf
 
 -- there are two at least
-abbrev pub are_several : List (List ℕ) → Bool
+abbrev pub are_several : List Text → Bool
 are_several (name ∷ other ∷ names) = true
 are_several _ = false
 
@@ -163,7 +157,7 @@ abbrev pub form_of : AskedValue → FormValue
 form_of a = if a.write then Copy a.edit else Lines (options_of a)
 
 -- what is asked for, with these files
-abbrev pub request_for : AskedValue → (select : Option Expression) → (files : List (List ℕ)) → RequestValue
+abbrev pub request_for : AskedValue → (select : Option Expression) → (files : List Text) → RequestValue
 request_for a x [] = Run (record { select = x; count = a.count; form = form_of a }) None
 request_for a x (name ∷ []) = Run (record { select = x; count = a.count; form = form_of a }) (Some name)
 request_for a x (name ∷ other ∷ names) =
@@ -176,87 +170,82 @@ pub record IsRequestOf (a : AskedValue) (request : RequestValue) : Type 0 where
   pub selects : IsSelection a.text select
   pub is : request ≡ request_for a select a.files
 
-pub data NamesRequest : List (List ℕ) → RequestValue → Type 0 where
-  help : NamesRequest (codes "--help" ∷ []) Help
-  version : NamesRequest (codes "--version" ∷ []) Version
-  options : (words : List (List ℕ)) (a : AskedValue) (request : RequestValue) → Asks nothing_asked words a → IsRequestOf a request
-      → NamesRequest words request
+-- what arguments ask for; the first of them is the program's name
+pub data NamesRequest : (words : List Text) → RequestValue → Type 0 where
+  help : (words : List Text) → IsAmong DisplayHelp (fault_of capture_app words) → NamesRequest words Help
+  version : (words : List Text) → IsAmong DisplayVersion (fault_of capture_app words) → NamesRequest words Version
+  options : (words : List Text) (a : AskedValue) (request : RequestValue) → fault_of capture_app words ≡ []
+      → Asks (matches_of capture_app words) a → IsRequestOf a request → NamesRequest words request
 
-abbrev pub NamesNothing : List (List ℕ) → Type 0
-NamesNothing words = (request : RequestValue) → ¬ (NamesRequest words request)
+-- `clap` refuses them
+pub record IsRefused (words : List Text) : Type 0 where
+  pub kind : ErrorKind
+  pub among : IsAmong kind (fault_of capture_app words)
+  pub no_help : kind ≢ DisplayHelp
+  pub no_version : kind ≢ DisplayVersion
+
+-- .. or takes them, but a value means nothing
+pub record NamesNothing (words : List Text) : Type 0 where
+  pub taken : fault_of capture_app words ≡ []
+  pub nothing : (a : AskedValue) → ¬ (Asks (matches_of capture_app words) a)
+
+-- .. or options do not go together
+pub record NamesClash (words : List Text) : Type 0 where
+  pub asked : AskedValue
+  pub taken : fault_of capture_app words ≡ []
+  pub asks : Asks (matches_of capture_app words) asked
+  pub clash : clashes asked ≡ true
 
 -- lines, or a copy, would be asked for, but the text of the filter is refused in this way
 pub record HasNoFilter (a : AskedValue) (copy : Bool) (e : FilterError) : Type 0 where
-  pub text : List ℕ
+  pub text : Text
   pub form : (a.write ≡ copy) × (clashes a ≡ false)
   pub is_text : a.text ≡ Some text
   pub refused : RefusesText text e
 
-pub record NamesNoFilter (words : List (List ℕ)) (copy : Bool) (e : FilterError) : Type 0 where
+pub record NamesNoFilter (words : List Text) (copy : Bool) (e : FilterError) : Type 0 where
   pub asked : AskedValue
-  pub asks : Asks nothing_asked words asked
+  pub taken : fault_of capture_app words ≡ []
+  pub asks : Asks (matches_of capture_app words) asked
   pub no_filter : HasNoFilter asked copy e
 
--- after options, of a copy or not, there is the name of a file
-pub record HasNames (words : List (List ℕ)) (copy : Bool) : Type 0 where
-  pub asked : AskedValue
-  pub name : List ℕ
-  pub names : List (List ℕ)
-  pub options : (c : AskedValue) → Asks asked (name ∷ names) c ↔ Asks nothing_asked words c
-  pub is_name : IsName name
-  pub form : asked.write ≡ copy
-
--- why words are wrong, or that memory for names was refused
-abbrev pub RefusesWords : List (List ℕ) → RequestError → Type 0
-RefusesWords words reasons.Usage = NamesNothing words × ((copy : Bool) (e : FilterError) → ¬ (NamesNoFilter words copy e))
+-- why arguments ask for nothing, or that memory for them was refused
+abbrev pub RefusesWords : (words : List Text) → RequestError → Type 0
+RefusesWords words reasons.Usage = IsRefused words ⊎ (NamesNothing words ⊎ NamesClash words)
 RefusesWords words (reasons.Filter copy e) = NamesNoFilter words copy e
-RefusesWords words (reasons.Memory copy) = HasNames words copy
+RefusesWords words reasons.Memory = ⊤
 
--- ---- one word after another
-
-abbrev pub words_left : {A : Type 0} → IntoIter (String A) A → List (List ℕ)
-words_left args = map string_bytes (into_iter_items args)
+-- ---- step by step
 
 abbrev pub asked_view : Asked → AskedValue
 asked_view asked = record {
   plain = asked.is_plain;
   write = asked.is_copy;
   edit = option_map edit_view asked.edit;
-  text = option_map string_bytes asked.text;
+  text = option_map (λ s. s.now) asked.text;
   count = option_map non_zero_usize_get asked.count;
   limit = asked.limit;
-  files = map string_bytes asked.files.items;
+  files = map (λ s. s.now) asked.files.items;
 }
 
--- what a word is, if it is known
-abbrev pub IsKnown : (word : List ℕ) → Word → Type 0
-IsKnown word kinds.Name = IsName word
-IsKnown word (kinds.Flag f) = word ≡ flag_word f
-IsKnown word (kinds.Text o) = word ≡ text_word o
-IsKnown word kinds.Help = word ≡ codes "--help"
-IsKnown word kinds.Version = word ≡ codes "--version"
-IsKnown word kinds.Unknown = ⊥
+-- what a kind of error of `clap` asks for
+abbrev pub KindNames : ErrorKind → RequestValue → Type 0
+KindNames kind request = ((kind ≡ DisplayHelp) × (request ≡ Help)) ⊎ ((kind ≡ DisplayVersion) × (request ≡ Version))
 
--- .. or that it is none of these
-abbrev pub IsWord : (word : List ℕ) → Word → Type 0
-IsWord word kinds.Unknown = (kind : Word) → ¬ (IsKnown word kind)
-IsWord word kind = IsKnown word kind
+-- .. or why it is one
+abbrev pub RefusesKind : ErrorKind → RequestError → Type 0
+RefusesKind kind reasons.Usage = (kind ≢ DisplayHelp) × (kind ≢ DisplayVersion) × (kind ≢ OutOfMemory)
+RefusesKind kind (reasons.Filter copy e) = ⊥
+RefusesKind kind reasons.Memory = kind ≡ OutOfMemory
 
--- the same is asked for with these words after those before them
-abbrev pub AskSame : (a : AskedValue) → (words : List (List ℕ)) → (b : AskedValue) → (left : List (List ℕ)) → Type 0
-AskSame a words b left = (c : AskedValue) → Asks b left c ↔ Asks a words c
-
-abbrev pub AskNothing : (a : AskedValue) → (words : List (List ℕ)) → Type 0
-AskNothing a words = (c : AskedValue) → ¬ (Asks a words c)
-
--- why a word is not taken: with those after it, it asks for nothing; or memory for names was refused
-abbrev pub RefusesTaking : (a : AskedValue) → (word : List ℕ) → (words : List (List ℕ)) → RequestError → Type 0
-RefusesTaking a word words reasons.Usage = AskNothing a (word ∷ words)
-RefusesTaking a word words (reasons.Filter copy e) = ⊥
-RefusesTaking a word words (reasons.Memory copy) = IsName word × (a.write ≡ copy)
+-- why values of options ask for nothing
+abbrev pub RefusesRows : List Row → RequestError → Type 0
+RefusesRows rows reasons.Usage = (a : AskedValue) → ¬ (Asks rows a)
+RefusesRows rows (reasons.Filter copy e) = ⊥
+RefusesRows rows reasons.Memory = ⊤
 
 -- an expression means a text, if there is one, or the text is refused
-abbrev pub RefusesSelection : (text : Option (List ℕ)) → FilterError → Type 0
+abbrev pub RefusesSelection : (text : Option Text) → FilterError → Type 0
 RefusesSelection None e = ⊥
 RefusesSelection (Some text) e = RefusesText text e
 
@@ -264,14 +253,4 @@ RefusesSelection (Some text) e = RefusesText text e
 abbrev pub RefusesAsked : AskedValue → RequestError → Type 0
 RefusesAsked a reasons.Usage = clashes a ≡ true
 RefusesAsked a (reasons.Filter copy e) = HasNoFilter a copy e
-RefusesAsked a (reasons.Memory copy) = ⊥
-
--- options ask for this
-abbrev pub OptionsAsk : (words : List (List ℕ)) → RequestValue → Type 0
-OptionsAsk words request = (a : AskedValue) × Asks nothing_asked words a × IsRequestOf a request
-
--- why they are wrong
-abbrev pub RefusesOptions : (words : List (List ℕ)) → RequestError → Type 0
-RefusesOptions words reasons.Usage = (a : AskedValue) → Asks nothing_asked words a → clashes a ≡ true
-RefusesOptions words (reasons.Filter copy e) = NamesNoFilter words copy e
-RefusesOptions words (reasons.Memory copy) = HasNames words copy
+RefusesAsked a reasons.Memory = ⊥

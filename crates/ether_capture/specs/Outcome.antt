@@ -1,5 +1,5 @@
 -- How the program ends: what it prints last, and its exit status.
-use Rattle.std.specs.Prelude.{ℕ, ◌/◌, ◌^◌, List, [], ◌++◌, codes, nat_eq, Option, Some, None, Result, Ok, Err, Bool, true, false, ◌||◌, if◌then◌else◌, string_bytes}
+use Rattle.std.specs.Prelude.{ℕ, ◌/◌, ◌^◌, List, [], ◌++◌, codes, nat_eq, Option, Some, None, Result, Ok, Err, Bool, true, false, ◌||◌, if◌then◌else◌}
 use Rattle.std.specs.Fmt.{decimal}
 use Rattle.ether_pcap.specs.CaptureTexts.{capture_error_text}
 use Rattle.ether_pcap.specs.declared.capture.capture_error.CaptureError.{CaptureError}
@@ -116,13 +116,14 @@ last_bytes (Some text) = text ++ codes "\n"
 abbrev pub last_text : Outcome → Option (List ℕ)
 last_text (outcomes.Run copy end) = last_text_of_run end
 last_text (outcomes.Files end) = None
-last_text (outcomes.NotOpened copy name) = Some (not_opened_text (string_bytes name))
+last_text (outcomes.NotOpened copy name) = Some (not_opened_text name.now)
 last_text (outcomes.NoFilter copy error) = Some (no_filter_text error)
 last_text outcomes.Help = Some help_text
 last_text outcomes.Version = Some version_text
 last_text outcomes.Usage = Some usage_text
+last_text outcomes.NoMemory = Some memory_text
 
--- what is printed last is a message: the words are wrong, or a copy was asked for
+-- what is printed last is a message: nothing was asked for, or a copy
 abbrev pub is_message : Outcome → Bool
 is_message (outcomes.Run copy end) = copy
 is_message (outcomes.Files end) = false
@@ -131,6 +132,7 @@ is_message (outcomes.NoFilter copy error) = copy
 is_message outcomes.Help = false
 is_message outcomes.Version = false
 is_message outcomes.Usage = true
+is_message outcomes.NoMemory = true
 
 -- the exit status of an outcome
 abbrev pub status_of_outcome : Outcome → ℕ
@@ -142,6 +144,7 @@ status_of_outcome (outcomes.NoFilter copy error) = 2
 status_of_outcome outcomes.Help = 0
 status_of_outcome outcomes.Version = 0
 status_of_outcome outcomes.Usage = 2
+status_of_outcome outcomes.NoMemory = exit_status (Err Memory)
 
 -- that of the program, by whether its last line was printed: if not, output failed, unless the line is a message
 abbrev pub status_of_program : Outcome → (printed : Bool) → ℕ

@@ -1,5 +1,7 @@
 -- What the program has read and written, and how it ends.
-use Rattle.std.specs.Prelude.{◌≡◌, ◌⊎◌, ℕ, List, Option, Some, None, Result, Err, IfNone, Bool, true, false, IfErr, string_bytes, ⊤}
+use Rattle.std.specs.Prelude.{◌≡◌, ◌⊎◌, ℕ, List, Option, Some, None, Result, Ok, Err, IfNone, Bool, true, false, IfErr, map, String, string_bytes, ⊤}
+use Rattle.std.specs.Vec.Iter.{into_iter_items}
+use Rattle.std.specs.declared.vec.IntoIter.{IntoIter}
 use Rattle.std.specs.Io.KnownBytes.{Appends}
 use Rattle.ether_text.specs.Run.{IsEndless}
 use Rattle.ether_text.specs.declared.verdict.Verdict.{Verdict}
@@ -12,7 +14,12 @@ use Rattle.ether_capture.specs.Outcome.{last_bytes, last_text, is_message, statu
 use Rattle.ether_capture.specs.declared.outcome.Outcome.{Outcome}
 use Rattle.ether_capture.specs.declared.outcome.Outcome.TheVariants as outcomes
 use Rattle.ether_capture.specs.declared.outcome.RunFault.{RunFault}
-use Rattle.ether_capture.specs.declared.outcome.RunFault.TheVariants.{Input, Memory}
+use Rattle.ether_capture.specs.declared.outcome.RunFault.TheVariants.{Input}
+
+-- the arguments, the first of which is the program's name, if they can be read
+abbrev pub arguments_of : {A E : Type 0} → Result (IntoIter (String A) A) E → Option (List (List ℕ))
+arguments_of (Ok args) = Some (map string_bytes (into_iter_items args))
+arguments_of (Err error) = None
 
 -- A capture was read, from before to after, and what is asked for was made of it. Only a stream that can fail has failed, or one that does not
 -- end.
@@ -28,7 +35,7 @@ HasRunFile has can_refuse can_read can_write task name held holds (outcomes.Run 
     (copy ≡ is_copy task.form)
     × ((before after : Option (List ℕ)) × has name before × HasRead can_read can_write task before after held holds end)
 HasRunFile has can_refuse can_read can_write task name held holds (outcomes.NotOpened copy named) =
-    (copy ≡ is_copy task.form) × (string_bytes named ≡ name) × can_refuse × (holds ≡ held)
+    (copy ≡ is_copy task.form) × (named.now ≡ name) × can_refuse × (holds ≡ held)
 HasRunFile has can_refuse can_read can_write task name held holds outcome = ⊥
 
 -- What is asked for was done. Standard input is read only if no file is named.
@@ -44,28 +51,20 @@ HasAnswered has can_fail can_refuse can_read can_write Help before after held ho
 HasAnswered has can_fail can_refuse can_read can_write Version before after held holds outcomes.Version = (after ≡ before) × (holds ≡ held)
 HasAnswered has can_fail can_refuse can_read can_write request before after held holds outcome = ⊥
 
--- memory for the names of files was refused
-pub record HasNoRoom (words : List (List ℕ)) (before after held holds : Option (List ℕ)) (outcome : Outcome) : Type 0 where
-  pub copy : Bool
-  pub refused : RefusesWords words (reasons.Memory copy)
-  pub is : outcome ≡ outcomes.Run copy (Err Memory)
-  pub unread : after ≡ before
-  pub unwritten : holds ≡ held
-
--- The words ask for something, and it was done. Or they are wrong, or can't be read, which is a fault of the input, or there is no memory for
--- them: then nothing is read or written.
+-- The arguments ask for something, and it was done. Or they are wrong, or can't be read, which is a fault of the input, or memory for them was
+-- refused: then nothing is read or written.
 abbrev pub HasObeyed : (has : List ℕ → Option (List ℕ) → Type 0) (can_fail can_refuse can_read can_write : Type 0) → Option (List (List ℕ))
     → (before after held holds : Option (List ℕ)) → Outcome → Type 0
+HasObeyed has can_fail can_refuse can_read can_write None before after held holds outcome =
+    (outcome ≡ outcomes.Run false (Err Input)) × (after ≡ before) × (holds ≡ held)
 HasObeyed has can_fail can_refuse can_read can_write (Some words) before after held holds outcomes.Usage =
     RefusesWords words reasons.Usage × (after ≡ before) × (holds ≡ held)
 HasObeyed has can_fail can_refuse can_read can_write (Some words) before after held holds (outcomes.NoFilter copy error) =
     RefusesWords words (reasons.Filter copy error) × (after ≡ before) × (holds ≡ held)
+HasObeyed has can_fail can_refuse can_read can_write (Some words) before after held holds outcomes.NoMemory = (after ≡ before) × (holds ≡ held)
 HasObeyed has can_fail can_refuse can_read can_write (Some words) before after held holds outcome =
-    ((request : RequestValue) × NamesRequest words request
-    × HasAnswered has can_fail can_refuse can_read can_write request before after held holds outcome)
-    ⊎ HasNoRoom words before after held holds outcome
-HasObeyed has can_fail can_refuse can_read can_write None before after held holds outcome =
-    (outcome ≡ outcomes.Run false (Err Input)) × (after ≡ before) × (holds ≡ held)
+    (request : RequestValue) × NamesRequest words request
+    × HasAnswered has can_fail can_refuse can_read can_write request before after held holds outcome
 
 -- the last line of the outcome, if there is one, is written, or the writer has failed
 pub record PrintsLast (outcome : Outcome) (held holds : Option (List ℕ)) (printed : Bool) : Type 0 where

@@ -88,12 +88,12 @@ impl Tally {
 /// Writes the lines of several captures, each after those before it, and where one is not read to its end, the line that says why; then
 /// that of the totals of all. Returns the greatest exit status of a capture.
 pub fn run_files<C: Captures, W: LineSink>(
-    listing: Listing,
+    listing: Listing<'_>,
     alloc: Global,
     captures: &C,
     writer: &mut W,
 ) -> Result<u8, OutputFault>
-    ensures { HasListed (C.has captures.now) C.can_refuse C.Input.Source.can_fail W.Sink.can_fail (listing_view listing)
+    ensures { HasListed (C.has captures.now) C.can_refuse C.Input.Source.can_fail W.Sink.can_fail (listing_view listing.entry)
         (W.Sink.contents writer.old) (W.Sink.contents writer.new) result }
 {
     let is_plain = listing.options.is_plain;
@@ -104,13 +104,13 @@ pub fn run_files<C: Captures, W: LineSink>(
 
 /// Writes what is made of each capture, until no packet more is asked for.
 fn read_files<C: Captures, W: LineSink>(
-    listing: Listing,
+    listing: Listing<'_>,
     alloc: Global,
     captures: &C,
     writer: &mut W,
 ) -> Result<Tally, OutputFault>
     ensures ok { IfOk result (λ last. ReadsFiles (C.has captures.now) C.can_refuse C.Input.Source.can_fail W.Sink.can_fail
-        (listing_view listing) (listing_view listing).files (nothing_read (listing_view listing).count)
+        (listing_view listing.entry) (listing_view listing.entry).files (nothing_read (listing_view listing.entry).count)
         (W.Sink.contents writer.old) last (W.Sink.contents writer.new)) }
     ensures failed { OnErr result W.Sink.can_fail }
 {
@@ -128,7 +128,7 @@ fn read_files<C: Captures, W: LineSink>(
         }
         task.count = tally.count();
         task.form = Form::Lines(options.after(tally.packets));
-        tally = read_file(&task, &tally, name.as_str(), alloc, captures, writer)?;
+        tally = read_file(&task, &tally, name, alloc, captures, writer)?;
     }
     Ok(tally)
 }

@@ -1,33 +1,30 @@
-//! What the words after the program's name ask for.
-ghost use Rattle.std.specs.Prelude.{◌≡◌, ◌≢◌, ◌⊎◌, ◌≤◌, ◌↔◌, ℕ, IsTrue, true, false, None, [], ◌∷◌, length, map, string_bytes, IfOk, IfErr, OnOk, OnErr};
+//! What the arguments ask for.
+ghost use Rattle.std.specs.Prelude.{◌≡◌, ℕ, Some, None, IfOk, IfErr, OnErr, Option, List, [], codes, false, map, string_bytes, unwrap_or};
 ghost use Rattle.std.specs.Int.NonZero.{non_zero_usize_get};
 ghost use Rattle.std.specs.Option.{option_map};
-ghost use Rattle.std.specs.Vec.Iter.{into_iter_items};
-ghost use Rattle.ether_text.specs.Arguments.{words_after};
+ghost use Rattle.clap.specs.Words.{all_of, app_of, first_of, found_of, rows_of, rule_of};
 ghost use Rattle.ether_content.specs.Editing.{EditValue};
 ghost use Rattle.ether_content.specs.EditingViews.{edit_view};
+ghost use Rattle.ether_capture.specs.Options.{Asks, IsCount, IsEdit, IsIfAny, IsLimit, IsOneEdit, IsRequestOf, IsSelection, KindNames, NamesRequest, RefusesAsked, RefusesKind, RefusesRows, RefusesSelection, RefusesWords, are_several, asked_view, capture_app, clashes, count_rule, file_rule, flag_rule, form_of, is_set, option_rule, options_of, request_view};
 ghost use Rattle.ether_capture.specs.Tags.{IsTagEdit, tag_word};
 ghost use Rattle.ether_capture.specs.Task.{form_view};
-ghost use Rattle.ether_capture.specs.Options.{AskedValue, IsCount, AreNames, IsLimit, IsName, IsWord, has_flag, set_flag, has_text, SetsText, words_left, asked_view, nothing_asked, are_several, clashes, form_of, options_of, AskSame, RefusesTaking, IsSelection, RefusesSelection, IsRequestOf, RefusesAsked, OptionsAsk, RefusesOptions, NamesRequest, RefusesWords, request_view};
 
 use crate::tags::{TagEdit, small_number, tag_edit_of};
 use crate::task::{Form, LineOptions, Task};
+use clap::error::ErrorKind;
+use clap::{Arg, ArgAction, ArgMatches, Command};
 use ether_content::PacketEdit;
 use ether_filter::{Filter, FilterError};
-use std::alloc::Global;
-use std::env;
+use std::alloc::{AllocError, Global};
 use std::num::NonZeroUsize;
 
-/// Why the arguments are wrong.
+/// Why the arguments ask for nothing.
 #[derive(Clone, Copy, Debug)]
 pub enum RequestError {
-    /// There is a word that is none, or one too many.
+    /// One of them is none, has no value that can be read, or does not go with the others.
     Usage,
-    /// Memory for the names of files was refused.
-    Memory {
-        /// Whether a copy was asked for.
-        is_copy: bool,
-    },
+    /// Memory for them was refused.
+    Memory,
     /// The filter is no expression.
     Filter {
         /// Whether a copy was asked for.
@@ -37,13 +34,23 @@ pub enum RequestError {
     },
 }
 
-/// What the words ask for.
+impl From<AllocError> for RequestError {
+    ghost use Rattle.ether_capture.specs.declared.options.RequestError.TheVariants.{Memory};
+
+    ghost from_gives = { λ _ error. error ≡ Memory };
+
+    fn from(_error: AllocError) -> RequestError {
+        RequestError::Memory
+    }
+}
+
+/// What the arguments ask for.
 #[derive(Debug, Drop)]
-pub enum Request {
+pub enum Request<'a> {
     /// What is made of the capture in the file of this name, or of standard input.
-    Run(Task, Option<String>),
+    Run(Task, Option<&'a str>),
     /// The lines of several captures.
-    List(Listing),
+    List(Listing<'a>),
     /// How the program is used.
     Help,
     /// The program's name and version.
@@ -52,7 +59,7 @@ pub enum Request {
 
 /// Which lines of several captures.
 #[derive(Debug, Drop)]
-pub struct Listing {
+pub struct Listing<'a> {
     /// Which packets are chosen; all of them without a filter.
     pub filter: Option<Filter>,
     /// After how many of these the run ends; at the end of the last capture without a number.
@@ -60,179 +67,121 @@ pub struct Listing {
     /// Which lines a packet has.
     pub options: LineOptions,
     /// The names of their files, two at least.
-    pub files: Vec<String>,
+    pub files: Vec<&'a str>,
+}
+
+/// An option without a value.
+fn flag<'a>(alloc: Global, name: &'a str) -> Arg<'a>
+    ensures { (rule_of result ≡ flag_rule name.entry.now) × (result.global ≡ false) }
+{
+    Arg::new(alloc, name).long(name).action(ArgAction::SetTrue)
+}
+
+/// An option with a value.
+fn option<'a>(alloc: Global, name: &'a str) -> Arg<'a>
+    ensures { (rule_of result ≡ option_rule name.entry.now) × (result.global ≡ false) }
+{
+    Arg::new(alloc, name).long(name).action(ArgAction::Set)
+}
+
+/// `-c`.
+fn count<'a>(alloc: Global) -> Arg<'a>
+    ensures { (rule_of result ≡ count_rule) × (result.global ≡ false) }
+{
+    Arg::new(alloc, "count").short('c').action(ArgAction::Set)
+}
+
+/// The names of files.
+fn files<'a>(alloc: Global) -> Arg<'a>
+    ensures { (rule_of result ≡ file_rule) × (result.global ≡ false) }
+{
+    Arg::new(alloc, "file").action(ArgAction::Append)
+}
+
+/// The program's arguments.
+fn command<'a>(alloc: Global) -> Result<Command<'a>, AllocError>
+    ensures { IfOk result (λ it. app_of it ≡ capture_app) }
+{
+    let command = Command::new(alloc, "ether_capture")
+        .version("1.0")
+        .arg(flag(alloc, "plain"))?
+        .arg(flag(alloc, "write"))?
+        .arg(flag(alloc, "cut-to-headers"))?
+        .arg(flag(alloc, "pop-vlan"))?
+        .arg(option(alloc, "push-vlan"))?
+        .arg(option(alloc, "set-vlan"))?
+        .arg(option(alloc, "select"))?
+        .arg(option(alloc, "limit"))?
+        .arg(count(alloc))?
+        .arg(files(alloc))?;
+    Ok(command)
 }
 
 /// What the program's arguments ask for. The first of them is its own name.
 ///
-/// In any order there may be `--plain` and `--limit` with a number of headers, or `--write` and `--cut-to-headers`, `--pop-vlan`, `--push-vlan`
-/// with a tag or `--set-vlan` with two identifiers; `--select` with the text of a filter, and `-c` with a number of packets; after them a word
-/// that does not begin with a hyphen, which names a file. `--help` and `--version` come alone.
-pub fn request_of_args(mut args: env::Args, alloc: Global) -> Result<Request, RequestError>
-    ensures ok { IfOk result (λ request. NamesRequest (words_after (into_iter_items args)) (request_view request)) }
-    ensures err { IfErr result (RefusesWords (words_after (into_iter_items args))) }
+/// There may be `--plain` and `--limit` with a number of headers, or `--write` and `--cut-to-headers`, `--pop-vlan`, `--push-vlan` with a tag or
+/// `--set-vlan` with two identifiers; `--select` with the text of a filter, `-c` with a number of packets, and the names of files. `--help` and
+/// `--version` ask for that alone.
+pub fn request_of_words<'a>(words: &'a [String], alloc: Global) -> Result<Request<'a>, RequestError>
+    ensures ok { IfOk result (λ request. NamesRequest (map string_bytes words.now) (request_view request)) }
+    ensures err { IfErr result (RefusesWords (map string_bytes words.now)) }
 {
-    let _program = args.next();
-    let Some(first) = args.next() else {
-        return Asked::nothing(alloc).request();
-    };
-    match word_of(first.as_str()) {
-        Word::Help => alone(Request::Help, args),
-        Word::Version => alone(Request::Version, args),
-        _ => request_of_options(first, args, alloc),
+    let command = command(alloc)?;
+    match command.try_get_matches_from(words) {
+        Ok(matches) => Asked::of(&matches, alloc)?.request(),
+        Err(error) => request_of_kind(error.kind()),
     }
 }
 
-/// A request whose word is the only one.
-fn alone(request: Request, mut args: env::Args) -> Result<Request, RequestError>
-    ensures ok { IfOk result (λ it. it ≡ request) }
-    ensures last { OnOk result (words_left args ≡ []) }
-    ensures err { IfErr result (λ e. e ≡ RequestError.Usage) }
-    ensures more { OnErr result (words_left args ≢ []) }
+/// What arguments ask for that are no options.
+fn request_of_kind<'a>(kind: ErrorKind) -> Result<Request<'a>, RequestError>
+    ensures ok { IfOk result (λ request. KindNames kind (request_view request)) }
+    ensures err { IfErr result (RefusesKind kind) }
 {
-    if args.next().is_some() {
-        return Err(RequestError::Usage);
+    match kind {
+        ErrorKind::DisplayHelp => Ok(Request::Help),
+        ErrorKind::DisplayVersion => Ok(Request::Version),
+        ErrorKind::OutOfMemory => Err(RequestError::Memory),
+        _ => Err(RequestError::Usage),
     }
-    Ok(request)
 }
 
-/// What options ask for, and the name of a file after them.
-fn request_of_options(
-    first: String,
-    mut args: env::Args,
-    alloc: Global,
-) -> Result<Request, RequestError>
-    ensures ok { IfOk result (λ request. OptionsAsk (string_bytes first ∷ words_left args) (request_view request)) }
-    ensures err { IfErr result (RefusesOptions (string_bytes first ∷ words_left args)) }
-{
-    let mut asked = Asked::nothing(alloc);
-    asked.take(first, &mut args, alloc)?;
-    while let Some(word) = args.next() {
-        asked.take(word, &mut args, alloc)?;
-    }
-    asked.request()
-}
-
-/// What the words so far ask for.
+/// What options ask for.
 #[derive(Drop)]
-struct Asked {
+struct Asked<'a> {
     is_plain: bool,
     is_copy: bool,
     edit: Option<PacketEdit>,
-    text: Option<String>,
+    text: Option<&'a str>,
     count: Option<NonZeroUsize>,
     limit: Option<usize>,
-    files: Vec<String>,
+    files: Vec<&'a str>,
 }
 
-impl Asked {
-    /// What no word asks for.
-    fn nothing(alloc: Global) -> Asked
-        ensures { asked_view result ≡ nothing_asked }
+impl<'a> Asked<'a> {
+    /// What options ask for.
+    fn of(matches: &ArgMatches<'a>, alloc: Global) -> Result<Asked<'a>, RequestError>
+        ensures ok { IfOk result (λ it. Asks (rows_of (found_of matches.now)) (asked_view it)) }
+        ensures err { IfErr result (RefusesRows (rows_of (found_of matches.now))) }
     {
-        Asked {
-            is_plain: false,
-            is_copy: false,
-            edit: None,
-            text: None,
-            count: None,
-            limit: None,
-            files: Vec::new(alloc),
-        }
-    }
-
-    /// Takes a word, and those after it that belong to it.
-    fn take(
-        &mut self,
-        word: String,
-        args: &mut env::Args,
-        alloc: Global,
-    ) -> Result<(), RequestError>
-        ensures ok { OnOk result (AskSame (asked_view self.old) (string_bytes word ∷ words_left args.old)
-            (asked_view self.new) (words_left args.new)) }
-        ensures err { IfErr result (RefusesTaking (asked_view self.old) (string_bytes word) (words_left args.old)) }
-        ensures fewer { length (words_left args.new) ≤ length (words_left args.old) }
-    {
-        match word_of(word.as_str()) {
-            Word::Name => {
-                let names = names_of(self.is_copy, word, args, alloc)?;
-                self.files = names;
-                Ok(())
-            }
-            Word::Flag(flag) => self.take_flag(flag),
-            Word::Text(option) => match args.next() {
-                Some(text) => self.take_text(option, text),
-                None => Err(RequestError::Usage),
-            },
-            _ => Err(RequestError::Usage),
-        }
-    }
-
-    /// Takes an option that stands alone.
-    fn take_flag(&mut self, flag: Flag) -> Result<(), RequestError>
-        ensures first { OnOk result (has_flag flag (asked_view self.old) ≡ false) }
-        ensures ok { OnOk result (asked_view self.new ≡ set_flag flag (asked_view self.old)) }
-        ensures again { OnErr result (has_flag flag (asked_view self.old) ≡ true) }
-        ensures usage { IfErr result (λ e. e ≡ RequestError.Usage) }
-    {
-        if self.has_flag(flag) {
-            return Err(RequestError::Usage);
-        }
-        match flag {
-            Flag::Plain => self.is_plain = true,
-            Flag::Write => self.is_copy = true,
-            Flag::CutToHeaders => self.edit = Some(PacketEdit::CutToHeaders),
-            Flag::PopVlan => self.edit = Some(PacketEdit::PopVlan),
-        }
-        Ok(())
-    }
-
-    /// Takes an option with the text after it.
-    fn take_text(&mut self, option: TextOption, text: String) -> Result<(), RequestError>
-        ensures first { OnOk result (has_text option (asked_view self.old) ≡ false) }
-        ensures ok { OnOk result (SetsText option (string_bytes text) (asked_view self.old) (asked_view self.new)) }
-        ensures err { OnErr result (has_text option (asked_view self.old) ≡ false
-            → (b : AskedValue) → ¬ (SetsText option (string_bytes text) (asked_view self.old) b)) }
-        ensures usage { IfErr result (λ e. e ≡ RequestError.Usage) }
-    {
-        if self.has_text(option) {
-            return Err(RequestError::Usage);
-        }
-        match option {
-            TextOption::Tag(kind) => self.edit = Some(tag_edit(kind, &text)?),
-            TextOption::Select => self.text = Some(text),
-            TextOption::Count => self.count = Some(count_of(&text)?),
-            TextOption::Limit => self.limit = Some(limit_of(&text)?),
-        }
-        Ok(())
-    }
-
-    /// Tests that an option that stands alone, or one that goes in its place, was there.
-    fn has_flag(&self, flag: Flag) -> bool
-        ensures { result ≡ has_flag flag (asked_view self.now) }
-    {
-        match flag {
-            Flag::Plain => self.is_plain,
-            Flag::Write => self.is_copy,
-            Flag::CutToHeaders | Flag::PopVlan => self.edit.is_some(),
-        }
-    }
-
-    /// Tests that an option with a text, or one that goes in its place, was there.
-    fn has_text(&self, option: TextOption) -> bool
-        ensures { result ≡ has_text option (asked_view self.now) }
-    {
-        match option {
-            TextOption::Tag(_) => self.edit.is_some(),
-            TextOption::Select => self.text.is_some(),
-            TextOption::Count => self.count.is_some(),
-            TextOption::Limit => self.limit.is_some(),
-        }
+        let edit = edit_of(matches)?;
+        let count = count_of(text_of(matches, "count"))?;
+        let limit = limit_of(text_of(matches, "limit"))?;
+        let files = names_of(matches, alloc)?;
+        Ok(Asked {
+            is_plain: is_set(matches, "plain"),
+            is_copy: is_set(matches, "write"),
+            edit,
+            text: text_of(matches, "select"),
+            count,
+            limit,
+            files,
+        })
     }
 
     /// Tests that there are several names.
     fn has_several(&self) -> bool
-        ensures { result ≡ are_several (map string_bytes self.now.files.items) }
+        ensures { result ≡ are_several (map (λ s. s.now) self.now.files.items) }
     {
         matches!(self.files.as_slice(), [_, _, ..])
     }
@@ -248,15 +197,15 @@ impl Asked {
         }
     }
 
-    /// What all words together ask for.
-    fn request(self) -> Result<Request, RequestError>
-        ensures ok { IfOk result (λ request. IsRequestOf (asked_view self) (request_view request)) }
-        ensures err { IfErr result (RefusesAsked (asked_view self)) }
+    /// What all options together ask for.
+    fn request(self) -> Result<Request<'a>, RequestError>
+        ensures ok { IfOk result (λ request. IsRequestOf (asked_view self.entry) (request_view request)) }
+        ensures err { IfErr result (RefusesAsked (asked_view self.entry)) }
     {
         if self.clashes() {
             return Err(RequestError::Usage);
         }
-        match filter_of(&self.text) {
+        match filter_of(self.text) {
             Ok(filter) if self.has_several() => Ok(Request::List(Listing {
                 filter,
                 count: self.count,
@@ -270,8 +219,7 @@ impl Asked {
                     count: self.count,
                     form,
                 };
-                let mut files = self.files.into_iter();
-                Ok(Request::Run(task, files.next()))
+                Ok(Request::Run(task, self.files.first().copied()))
             }
             Err(error) => Err(RequestError::Filter {
                 is_copy: self.is_copy,
@@ -303,78 +251,121 @@ impl Asked {
     }
 }
 
-/// The names of files: this word, and all after it.
-fn names_of(
-    is_copy: bool,
-    first: String,
-    args: &mut env::Args,
-    alloc: Global,
-) -> Result<Vec<String>, RequestError>
-    ensures ok { IfOk result (λ names. map string_bytes names.items ≡ string_bytes first ∷ words_left args.old) }
-    ensures names { OnOk result (AreNames (words_left args.old)) }
-    ensures none_left { OnOk result (words_left args.new ≡ []) }
-    ensures err { IfErr result (λ e. ((e ≡ RequestError.Usage) × ¬ (AreNames (words_left args.old)))
-        ⊎ (e ≡ RequestError.Memory is_copy)) }
-    ensures fewer { length (words_left args.new) ≤ length (words_left args.old) }
+/// The value of an option, if it is there.
+fn text_of<'a>(matches: &ArgMatches<'a>, name: &str) -> Option<&'a str>
+    ensures { option_map (λ s. s.now) result ≡ first_of name.now (rows_of (found_of matches.now)) }
+{
+    matches.get_str(name)
+}
+
+/// Tests that an option without a value is there.
+fn is_set(matches: &ArgMatches<'_>, name: &str) -> bool
+    ensures { result ≡ is_set name.now (rows_of (found_of matches.now)) }
+{
+    match text_of(matches, name) {
+        Some(text) => text == "true",
+        None => false,
+    }
+}
+
+/// The names of files.
+fn names_of<'a>(matches: &ArgMatches<'a>, alloc: Global) -> Result<Vec<&'a str>, AllocError>
+    ensures { IfOk result (λ names. map (λ s. s.now) names.items ≡ unwrap_or (all_of (codes "file") (rows_of (found_of matches.now))) []) }
 {
     let mut names = Vec::new(alloc);
-    let Ok(()) = names.push(first) else {
-        return Err(RequestError::Memory { is_copy });
-    };
-    while let Some(word) = args.next() {
-        if !is_name(word.as_str()) {
-            return Err(RequestError::Usage);
-        }
-        let Ok(()) = names.push(word) else {
-            return Err(RequestError::Memory { is_copy });
-        };
+    if let Some(found) = matches.get_strs("file") {
+        names.extend_from_slice(found)?;
     }
     Ok(names)
 }
 
+/// The edit that is asked for, if there is one.
+fn edit_of(matches: &ArgMatches<'_>) -> Result<Option<PacketEdit>, RequestError>
+    ensures ok { IfOk result (λ it. IsEdit (rows_of (found_of matches.now)) (option_map edit_view it)) }
+    ensures err { OnErr result ((e : Option EditValue) → ¬ (IsEdit (rows_of (found_of matches.now)) e)) }
+    ensures usage { IfErr result (λ e. e ≡ RequestError.Usage) }
+{
+    let cuts = is_set(matches, "cut-to-headers");
+    let pops = is_set(matches, "pop-vlan");
+    one_edit(
+        cuts,
+        pops,
+        text_of(matches, "push-vlan"),
+        text_of(matches, "set-vlan"),
+    )
+}
+
+/// The edit, if one at most is asked for.
+fn one_edit(
+    cuts: bool,
+    pops: bool,
+    push: Option<&str>,
+    set: Option<&str>,
+) -> Result<Option<PacketEdit>, RequestError>
+    ensures ok { IfOk result (λ it. IsOneEdit cuts pops (option_map (λ s. s.now) push.entry) (option_map (λ s. s.now) set.entry) (option_map edit_view it)) }
+    ensures err { OnErr result ((e : Option EditValue)
+        → ¬ (IsOneEdit cuts pops (option_map (λ s. s.now) push.entry) (option_map (λ s. s.now) set.entry) e)) }
+    ensures usage { IfErr result (λ e. e ≡ RequestError.Usage) }
+{
+    match (cuts, pops, push, set) {
+        (false, false, None, None) => Ok(None),
+        (true, false, None, None) => Ok(Some(PacketEdit::CutToHeaders)),
+        (false, true, None, None) => Ok(Some(PacketEdit::PopVlan)),
+        (false, false, Some(text), None) => tag_edit(TagEdit::Push, text),
+        (false, false, None, Some(text)) => tag_edit(TagEdit::Set, text),
+        _ => Err(RequestError::Usage),
+    }
+}
+
 /// The edit of VLAN tags that a text says.
-fn tag_edit(kind: TagEdit, text: &String) -> Result<PacketEdit, RequestError>
-    ensures ok { IfOk result (λ edit. IsTagEdit (tag_word kind) (string_bytes text.now) (edit_view edit)) }
-    ensures err { OnErr result ((e : EditValue) → ¬ (IsTagEdit (tag_word kind) (string_bytes text.now) e)) }
+fn tag_edit(kind: TagEdit, text: &str) -> Result<Option<PacketEdit>, RequestError>
+    ensures ok { IfOk result (λ it. IsIfAny (IsTagEdit (tag_word kind)) (Some text.now) (option_map edit_view it)) }
+    ensures err { OnErr result ((e : EditValue) → ¬ (IsTagEdit (tag_word kind) text.now e)) }
     ensures usage { IfErr result (λ e. e ≡ RequestError.Usage) }
 {
     match tag_edit_of(kind, text.as_bytes()) {
-        Some(edit) => Ok(edit),
+        Some(edit) => Ok(Some(edit)),
         None => Err(RequestError::Usage),
     }
 }
 
-/// The number of packets that a text says.
-fn count_of(text: &String) -> Result<NonZeroUsize, RequestError>
-    ensures ok { IfOk result (λ count. IsCount (string_bytes text.now) (non_zero_usize_get count)) }
-    ensures err { OnErr result ((n : ℕ) → ¬ (IsCount (string_bytes text.now) n)) }
+/// The number of packets that a text says, if there is one.
+fn count_of(text: Option<&str>) -> Result<Option<NonZeroUsize>, RequestError>
+    ensures ok { IfOk result (λ it. IsIfAny IsCount (option_map (λ s. s.now) text.entry) (option_map non_zero_usize_get it)) }
+    ensures err { OnErr result ((n : Option ℕ) → ¬ (IsIfAny IsCount (option_map (λ s. s.now) text.entry) n)) }
     ensures usage { IfErr result (λ e. e ≡ RequestError.Usage) }
 {
+    let Some(text) = text else {
+        return Ok(None);
+    };
     let Some(number) = small_number(text.as_bytes()) else {
         return Err(RequestError::Usage);
     };
     match NonZeroUsize::new(number as usize) {
-        Some(count) => Ok(count),
+        Some(count) => Ok(Some(count)),
         None => Err(RequestError::Usage),
     }
 }
 
-/// The number of headers that a text says.
-fn limit_of(text: &String) -> Result<usize, RequestError>
-    ensures ok { IfOk result (λ limit. IsLimit (string_bytes text.now) limit) }
-    ensures err { OnErr result ((n : ℕ) → ¬ (IsLimit (string_bytes text.now) n)) }
+/// The number of headers that a text says, if there is one.
+fn limit_of(text: Option<&str>) -> Result<Option<usize>, RequestError>
+    ensures ok { IfOk result (IsIfAny IsLimit (option_map (λ s. s.now) text.entry)) }
+    ensures err { OnErr result ((n : Option ℕ) → ¬ (IsIfAny IsLimit (option_map (λ s. s.now) text.entry) n)) }
     ensures usage { IfErr result (λ e. e ≡ RequestError.Usage) }
 {
+    let Some(text) = text else {
+        return Ok(None);
+    };
     match small_number(text.as_bytes()) {
-        Some(number) => Ok(number as usize),
+        Some(number) => Ok(Some(number as usize)),
         None => Err(RequestError::Usage),
     }
 }
 
 /// The filter of a text, if there is one.
-fn filter_of(text: &Option<String>) -> Result<Option<Filter>, FilterError>
-    ensures ok { IfOk result (IsSelection (option_map string_bytes text.now)) }
-    ensures err { IfErr result (RefusesSelection (option_map string_bytes text.now)) }
+fn filter_of(text: Option<&str>) -> Result<Option<Filter>, FilterError>
+    ensures ok { IfOk result (IsSelection (option_map (λ s. s.now) text.entry)) }
+    ensures err { IfErr result (RefusesSelection (option_map (λ s. s.now) text.entry)) }
 {
     let Some(text) = text else {
         return Ok(None);
@@ -383,77 +374,4 @@ fn filter_of(text: &Option<String>) -> Result<Option<Filter>, FilterError>
         Ok(filter) => Ok(Some(filter)),
         Err(error) => Err(error),
     }
-}
-
-/// An option that stands alone.
-#[derive(Clone, Copy)]
-enum Flag {
-    /// `--plain`.
-    Plain,
-    /// `--write`.
-    Write,
-    /// `--cut-to-headers`.
-    CutToHeaders,
-    /// `--pop-vlan`.
-    PopVlan,
-}
-
-/// An option with a text after it.
-#[derive(Clone, Copy)]
-enum TextOption {
-    /// `--push-vlan` or `--set-vlan`.
-    Tag(TagEdit),
-    /// `--select`.
-    Select,
-    /// `-c`.
-    Count,
-    /// `--limit`.
-    Limit,
-}
-
-/// What a word is.
-#[derive(Clone, Copy)]
-enum Word {
-    /// The name of a file.
-    Name,
-    /// An option that stands alone.
-    Flag(Flag),
-    /// An option with a text after it.
-    Text(TextOption),
-    /// `--help`.
-    Help,
-    /// `--version`.
-    Version,
-    /// None of these.
-    Unknown,
-}
-
-/// What a word is.
-fn word_of(word: &str) -> Word
-    ensures { IsWord word.now result }
-{
-    if is_name(word) {
-        return Word::Name;
-    }
-    match word {
-        "--plain" => Word::Flag(Flag::Plain),
-        "--write" => Word::Flag(Flag::Write),
-        "--cut-to-headers" => Word::Flag(Flag::CutToHeaders),
-        "--pop-vlan" => Word::Flag(Flag::PopVlan),
-        "--push-vlan" => Word::Text(TextOption::Tag(TagEdit::Push)),
-        "--set-vlan" => Word::Text(TextOption::Tag(TagEdit::Set)),
-        "--select" => Word::Text(TextOption::Select),
-        "-c" => Word::Text(TextOption::Count),
-        "--limit" => Word::Text(TextOption::Limit),
-        "--help" => Word::Help,
-        "--version" => Word::Version,
-        _ => Word::Unknown,
-    }
-}
-
-/// Tests that a word names a file.
-fn is_name(word: &str) -> bool
-    ensures { IsTrue result ↔ IsName word.now }
-{
-    !matches!(word.as_bytes(), [b'-', ..])
 }

@@ -96,7 +96,7 @@ pub fn status_of(outcome: &Result<Verdict, RunFault>) -> u8
 
 /// How the program has answered its arguments.
 #[derive(Debug, Drop)]
-pub enum Outcome {
+pub enum Outcome<'a> {
     /// A run was begun.
     Run {
         /// Whether a copy was asked for.
@@ -111,7 +111,7 @@ pub enum Outcome {
         /// Whether a copy of it was asked for.
         is_copy: bool,
         /// Its name.
-        name: String,
+        name: &'a str,
     },
     /// The text of the filter is no expression.
     NoFilter {
@@ -126,6 +126,8 @@ pub enum Outcome {
     Version,
     /// The arguments are wrong.
     Usage,
+    /// Memory for the arguments was refused.
+    NoMemory,
 }
 
 /// The line that is printed if the arguments are wrong, without its LF.
@@ -216,17 +218,18 @@ impl fmt::Display for LastLine<'_> {
 }
 
 /// The line that the program prints last, if there is one.
-pub fn last_line(outcome: &Outcome) -> Option<LastLine<'_>>
+pub fn last_line<'a>(outcome: &'a Outcome<'_>) -> Option<LastLine<'a>>
     ensures { option_map last_line_text result ≡ last_text outcome.now }
 {
     match outcome {
         Outcome::Run { end, .. } => last_line_of_run(end),
         Outcome::Files(_) => None,
-        Outcome::NotOpened { name, .. } => Some(LastLine::NotOpened(name.as_str())),
+        Outcome::NotOpened { name, .. } => Some(LastLine::NotOpened(name)),
         Outcome::NoFilter { error, .. } => Some(LastLine::NoFilter(error)),
         Outcome::Help => Some(LastLine::Help),
         Outcome::Version => Some(LastLine::Version),
         Outcome::Usage => Some(LastLine::Usage),
+        Outcome::NoMemory => Some(LastLine::Stopped(Reason::Memory)),
     }
 }
 
@@ -281,9 +284,9 @@ pub fn status_of_file(end: &FileEnd) -> u8
     }
 }
 
-/// Tests that the last line is a message: the words are wrong, or a copy was asked for. A message is not printed where
+/// Tests that the last line is a message: nothing was asked for, or a copy. A message is not printed where
 /// the lines or the copy are.
-pub fn is_message(outcome: &Outcome) -> bool
+pub fn is_message(outcome: &Outcome<'_>) -> bool
     ensures { result ≡ is_message outcome.now }
 {
     match outcome {
@@ -291,13 +294,13 @@ pub fn is_message(outcome: &Outcome) -> bool
         | Outcome::NotOpened { is_copy, .. }
         | Outcome::NoFilter { is_copy, .. } => *is_copy,
         Outcome::Files(_) | Outcome::Help | Outcome::Version => false,
-        Outcome::Usage => true,
+        Outcome::Usage | Outcome::NoMemory => true,
     }
 }
 
 /// The exit status of the program, by its outcome and whether the last line was printed. It is that of failed output if
 /// there was a last line and it was not printed, unless that is a message.
-pub fn program_status(outcome: &Outcome, is_printed: bool) -> u8
+pub fn program_status(outcome: &Outcome<'_>, is_printed: bool) -> u8
     ensures { result ≡ status_of_program outcome.now is_printed }
 {
     if !is_printed && !is_message(outcome) {
@@ -310,5 +313,6 @@ pub fn program_status(outcome: &Outcome, is_printed: bool) -> u8
         Outcome::NotOpened { .. } => status_of(&Err(RunFault::Input)),
         Outcome::Help | Outcome::Version => 0,
         Outcome::Usage | Outcome::NoFilter { .. } => 2,
+        Outcome::NoMemory => status_of(&Err(RunFault::Memory)),
     }
 }

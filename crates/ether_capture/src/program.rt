@@ -1,16 +1,15 @@
 //! The program, over any arguments, files, reader and writer.
-ghost use Rattle.std.specs.Prelude.{◌≡◌, ◌⊎◌, IfErr, string_bytes};
-ghost use Rattle.ether_text.specs.Arguments.{words_of};
+ghost use Rattle.std.specs.Prelude.{◌≡◌, ◌⊎◌, Bool, IfErr, Some, map, string_bytes};
 ghost use Rattle.ether_text.specs.Run.{IsEndless};
-ghost use Rattle.ether_capture.specs.Outcome.{is_message};
-ghost use Rattle.ether_capture.specs.Program.{HasObeyed, HasRunFile, HasServed, PrintsApart, PrintsLast};
+ghost use Rattle.ether_capture.specs.Outcome.{is_message, status_of_program};
+ghost use Rattle.ether_capture.specs.Program.{HasObeyed, HasRunFile, HasServed, PrintsApart, PrintsLast, arguments_of};
 ghost use Rattle.ether_capture.specs.Run.{HasRun, OnStreamFault};
 ghost use Rattle.ether_capture.specs.Task.{task_view};
 
 use crate::captures::Captures;
 use crate::files::run_files;
 use crate::line_sink::LineSink;
-use crate::options::{Request, RequestError, request_of_args};
+use crate::options::{Request, RequestError, request_of_words};
 use crate::outcome::{Outcome, RunFault, is_message, last_line, program_status};
 use crate::run::run_input;
 use crate::task::Task;
@@ -21,8 +20,8 @@ use std::{env, io};
 
 /// Writes the lines of a capture, or a copy of it, as the arguments say, prints the last line if there is one, and returns the exit status.
 ///
-/// The last line is printed to `writer`; but to `messages` if a copy is asked for, since `writer` has that, or if the arguments are wrong. If they
-/// are wrong or can't be read, nothing is read. The latter is a fault of the input.
+/// The last line is printed to `writer`; but to `messages` if a copy is asked for, since `writer` has that, or if the arguments are wrong or there
+/// is no memory for them. If they are wrong or can't be read, nothing is read. The latter is a fault of the input.
 pub fn program<C: Captures, R: Source, W: Write, M: Write>(
     args: io::Result<env::Args>,
     alloc: Global,
@@ -31,33 +30,36 @@ pub fn program<C: Captures, R: Source, W: Write, M: Write>(
     writer: &mut W,
     messages: &mut M,
 ) -> u8
-    ensures { HasServed (C.has captures.now) R.can_fail C.can_refuse C.Input.Source.can_fail (words_of args)
+    ensures { HasServed (C.has captures.now) R.can_fail C.can_refuse C.Input.Source.can_fail (arguments_of args)
         (R.remaining reader.old) (R.remaining reader.new) (W.contents writer.old) (W.contents writer.new)
         (M.contents messages.old) (M.contents messages.new) result }
 {
-    let outcome = obey(args, alloc, captures, reader, writer);
-    let is_printed = print_apart(&outcome, writer, messages);
-    program_status(&outcome, is_printed)
+    let Ok(args) = args else {
+        let outcome = Outcome::Run {
+            is_copy: false,
+            end: Err(RunFault::Input),
+        };
+        return end(&outcome, writer, messages);
+    };
+    let Ok(words) = args.collect::<Vec<String>>(alloc) else {
+        return end(&Outcome::NoMemory, writer, messages);
+    };
+    let outcome = obey(words.as_slice(), alloc, captures, reader, writer);
+    end(&outcome, writer, messages)
 }
 
 /// Writes the lines of a capture, or a copy of it, as the arguments say.
-fn obey<C: Captures, R: Source, W: LineSink>(
-    args: io::Result<env::Args>,
+fn obey<'a, C: Captures, R: Source, W: LineSink>(
+    words: &'a [String],
     alloc: Global,
     captures: &C,
     reader: &mut R,
     writer: &mut W,
-) -> Outcome
-    ensures { HasObeyed (C.has captures.now) R.can_fail C.can_refuse C.Input.Source.can_fail W.Sink.can_fail (words_of args)
+) -> Outcome<'a>
+    ensures { HasObeyed (C.has captures.now) R.can_fail C.can_refuse C.Input.Source.can_fail W.Sink.can_fail (Some (map string_bytes words.now))
         (R.remaining reader.old) (R.remaining reader.new) (W.Sink.contents writer.old) (W.Sink.contents writer.new) result }
 {
-    let Ok(args) = args else {
-        return Outcome::Run {
-            is_copy: false,
-            end: Err(RunFault::Input),
-        };
-    };
-    match request_of_args(args, alloc) {
+    match request_of_words(words, alloc) {
         Ok(Request::Run(task, file)) => match file {
             None => Outcome::Run {
                 is_copy: task.is_copy(),
@@ -69,27 +71,24 @@ fn obey<C: Captures, R: Source, W: LineSink>(
         Ok(Request::Help) => Outcome::Help,
         Ok(Request::Version) => Outcome::Version,
         Err(RequestError::Usage) => Outcome::Usage,
+        Err(RequestError::Memory) => Outcome::NoMemory,
         Err(RequestError::Filter { is_copy, error }) => Outcome::NoFilter { is_copy, error },
-        Err(RequestError::Memory { is_copy }) => Outcome::Run {
-            is_copy,
-            end: Err(RunFault::Memory),
-        },
     }
 }
 
 /// Writes what is made of the capture of a name.
-fn run_file<C: Captures, W: Sink>(
+fn run_file<'a, C: Captures, W: Sink>(
     task: &Task,
-    name: String,
+    name: &'a str,
     alloc: Global,
     captures: &C,
     writer: &mut W,
-) -> Outcome
-    ensures { HasRunFile (C.has captures.now) C.can_refuse C.Input.Source.can_fail W.can_fail (task_view task.now) (string_bytes name)
+) -> Outcome<'a>
+    ensures { HasRunFile (C.has captures.now) C.can_refuse C.Input.Source.can_fail W.can_fail (task_view task.now) name.entry.now
         (W.contents writer.old) (W.contents writer.new) result }
 {
     let is_copy = task.is_copy();
-    match captures.open_named(name.as_str()) {
+    match captures.open_named(name) {
         Ok(mut input) => Outcome::Run {
             is_copy,
             end: run_input(task, alloc, &mut input, writer).0,
@@ -98,8 +97,17 @@ fn run_file<C: Captures, W: Sink>(
     }
 }
 
+/// Prints the last line, if there is one, and returns the exit status.
+fn end<W: Write, M: Write>(outcome: &Outcome<'_>, writer: &mut W, messages: &mut M) -> u8
+    ensures { (printed : Bool) × PrintsApart (is_message outcome.now) outcome.now (W.contents writer.old) (W.contents writer.new)
+        (M.contents messages.old) (M.contents messages.new) printed × (result ≡ status_of_program outcome.now printed) }
+{
+    let is_printed = print_apart(outcome, writer, messages);
+    program_status(outcome, is_printed)
+}
+
 /// Prints the last line, if there is one, to the writer that it is for, and returns whether that took it.
-fn print_apart<W: Write, M: Write>(outcome: &Outcome, writer: &mut W, messages: &mut M) -> bool
+fn print_apart<W: Write, M: Write>(outcome: &Outcome<'_>, writer: &mut W, messages: &mut M) -> bool
     ensures { PrintsApart (is_message outcome.now) outcome.now (W.contents writer.old) (W.contents writer.new)
         (M.contents messages.old) (M.contents messages.new) result }
 {
@@ -110,7 +118,7 @@ fn print_apart<W: Write, M: Write>(outcome: &Outcome, writer: &mut W, messages: 
 }
 
 /// Prints the last line, if there is one, and returns whether the writer took it.
-fn print_last_line<W: Write>(outcome: &Outcome, writer: &mut W) -> bool
+fn print_last_line<W: Write>(outcome: &Outcome<'_>, writer: &mut W) -> bool
     ensures { PrintsLast outcome.now (W.contents writer.old) (W.contents writer.new) result }
 {
     match last_line(outcome) {

@@ -21,8 +21,8 @@ words_after-name args others None ended =
     ap words_after (none_left args ended.0) ∙ ap (map string_bytes) (sym (none_left others ended.1))
 words_after-name args others (Some name) next = ap words_after next.0
 
--- no word is left
-pub words_end : {A : Type 0} (args others : IntoIter (String A) A) (word : Option (String A))
-    → into_iter_steps args word others → is_some word ≡ false → into_iter_items args ≡ []
-words_end args others None ended none = none_left args ended.0
-words_end args others (Some word) next none = absurd (cc)
+-- no item is left
+pub items_end : {X Z : Type 0} (it then : IntoIter X Z) (item : Option X) → into_iter_steps it item then
+    → is_some item ≡ false → into_iter_items it ≡ []
+items_end it then None ended none = none_left it ended.0
+items_end it then (Some item) next none = absurd (cc)

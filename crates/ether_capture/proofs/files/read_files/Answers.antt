@@ -1,18 +1,19 @@
 use Rattle.std.proofs.Common.{◌≡◌, ◌≢◌, ◌∷◌, ℕ, List, Some, map, refl, sym, ap, subst}
-use Rattle.std.specs.Prelude.{string_bytes}
+use Rattle.std.specs.Vec.Iter.{into_iter_items}
 use Rattle.std.specs.Int.NonZero.{non_zero_usize_get}
 use Rattle.std.specs.Option.{option_map, is_some}
-use Rattle.ether_text.proofs.ArgumentsLemmas.{words_end}
+use Rattle.ether_text.proofs.ArgumentsLemmas.{items_end}
 use Rattle.ether_capture.specs.Files.{ReadsFile, ReadsFiles, no_more, enough, next, next_task}
-use Rattle.ether_capture.specs.Options.{listing_view, words_left}
+use Rattle.ether_capture.specs.Options.{listing_view}
 use Rattle.ether_capture.specs.Task.{Lines}
+use Rattle.ether_capture.proofs.FilesLemmas.{names_in}
 use Rattle.ether_capture.proofs.files.read_files.Goals as goal
 
 pub returns-then-is_done-clause-ok : goal.returns-then-is_done-clause-ok
 returns-then-is_done-clause-ok g c =
     let tally = c.loop-name.tally in
     c.loop-name.invariant.reads tally (g.W.Sink.contents c.loop-name.writer)
-    (enough (words_left c.loop-name.files) tally (g.W.Sink.contents c.loop-name.writer)
+    (enough (names_in c.loop-name.files) tally (g.W.Sink.contents c.loop-name.writer)
     (c.is_done.ensures.0 c.if-is_done.true))
 
 pub loop-name-preserved : goal.loop-name-preserved
@@ -22,9 +23,9 @@ loop-name-preserved g c =
     let at = c.loop-name.tally in
     let held = g.W.Sink.contents c.loop-name.writer in
     let mid = g.W.Sink.contents c.read_file.new.writer in
-    let names = words_left c.next.new.self in
-    let word = string_bytes c.in-Some.name in
-    let cons : words_left c.loop-name.files ≡ word ∷ names = ap (map string_bytes) c.in-Some.ensures.items in
+    let names = names_in c.next.new.self in
+    let word = c.in-Some.name.now in
+    let cons : names_in c.loop-name.files ≡ word ∷ names = ap (map (λ s. s.now)) c.in-Some.ensures.items in
     let going : at.left ≢ Some 0 = λ e. let t = c.is_done.ensures.1 e in absurd cc in
     let left : option_map non_zero_usize_get c.count-task.result ≡ at.left = c.count-task.ensures going in
     let same : record {
@@ -33,12 +34,7 @@ loop-name-preserved g c =
       form = Lines c.after.result;
     } ≡ next_task listing at =
     (λ i. record { select = so_far.filter i; count = left i; form = Lines (c.after.ensures i) }) in
-    let here =
-    subst
-    (λ (name : List ℕ).
-    ReadsFile (g.C.Captures.has c.args.captures.now) g.C.Captures.can_refuse g.C.Input.Source.can_fail g.W.Sink.can_fail
-    listing name at held c.in_ok-tally.tally mid)
-    c.as_str.ensures.value (c.in_ok-tally.ensures.ok listing same) in
+    let here = c.in_ok-tally.ensures.ok listing same in
     record {
       filter = so_far.filter;
       options = refl;
@@ -56,8 +52,8 @@ returns-clause-ok g c =
     let tally = c.loop-name.tally in
     let held = g.W.Sink.contents c.loop-name.writer in
     let none =
-    ap (map string_bytes)
-    (words_end c.loop-name.files c.next.new.self c.next.result c.next.ensures.cases (ap is_some c.in_default.is)) in
+    ap (map (λ s. s.now))
+    (items_end c.loop-name.files c.next.new.self c.next.result c.next.ensures.cases (ap is_some c.in_default.is)) in
     c.loop-name.invariant.reads tally held
     (subst
     (λ (l : List (List ℕ)).

@@ -1,7 +1,8 @@
 use Rattle.std.proofs.Common.{◌≡◌, ℕ, List, Option, length}
 use Rattle.ether_capture.specs.Files.{ReadsFiles, nothing_read}
-use Rattle.ether_capture.specs.Options.{listing_view, words_left}
+use Rattle.ether_capture.specs.Options.{listing_view}
 use Rattle.ether_capture.specs.declared.files.Tally.{Tally}
+use Rattle.ether_capture.proofs.FilesLemmas.{names_in}
 use Rattle.ether_capture.proofs.files.read_files.Given as goal
 
 abbrev pub invariant-loop-name : goal.invariant-loop-name
@@ -12,11 +13,11 @@ invariant-loop-name g l =
       options : l.options ≡ l.fn.listing.options;
       reads : (last : Tally) (holds : Option (List ℕ))
           → ReadsFiles (g.C.Captures.has l.fn.captures) g.C.Captures.can_refuse g.C.Input.Source.can_fail
-          g.W.Sink.can_fail listing (words_left l.files) l.tally (g.W.Sink.contents l.writer) last holds
+          g.W.Sink.can_fail listing (names_in l.files) l.tally (g.W.Sink.contents l.writer) last holds
           → ReadsFiles (g.C.Captures.has l.fn.captures) g.C.Captures.can_refuse g.C.Input.Source.can_fail
           g.W.Sink.can_fail listing listing.files (nothing_read listing.count) (g.W.Sink.contents l.fn.writer) last
           holds;
     }
 
 abbrev pub decreases-loop-name : goal.decreases-loop-name
-decreases-loop-name g l = length (words_left l.files)
+decreases-loop-name g l = length (names_in l.files)

@@ -4,13 +4,13 @@ use Rattle.std.specs.Option.{is_some}
 use Rattle.std.specs.Vec.Iter.{into_iter_items}
 use Rattle.ether_text.specs.Arguments.{words_after}
 use Rattle.ether_tool.specs.Command.{NamesNoCommand}
-use Rattle.ether_text.proofs.ArgumentsLemmas.{words_after-name, words_end}
+use Rattle.ether_text.proofs.ArgumentsLemmas.{words_after-name, items_end}
 use Rattle.ether_tool.proofs.command.command_of_args.Goals as goal
 
 pub returns-in_default-clause-err : goal.returns-in_default-clause-err
 returns-in_default-clause-err c =
     let none =
-    words_end c.next-program.new.self c.next.new.self c.next.result c.next.ensures.cases
+    items_end c.next-program.new.self c.next.new.self c.next.result c.next.ensures.cases
     (ap is_some c.in_default.is) in
     let is =
     words_after-name c.args.args c.next-program.new.self c.next-program.result c.next-program.ensures.cases
@@ -21,7 +21,7 @@ returns-in_default-clause-err c =
 pub returns-clause-err : goal.returns-clause-err
 returns-clause-err c =
     let none =
-    words_end c.next-4.new.self c.next-5.new.self c.next-5.result c.next-5.ensures.cases
+    items_end c.next-4.new.self c.next-5.new.self c.next-5.result c.next-5.ensures.cases
     (sym c.is_some.ensures ∙ c.if-is_some.false) in
     let fourth = c.in-Some-next-3.ensures.items ∙ ap (λ (l : List (String _)). c.in-Some-next-3.fourth ∷ l) none in
     let third = c.in-Some-next-2.ensures.items ∙ ap (λ (l : List (String _)). c.in-Some-next-2.third ∷ l) fourth in

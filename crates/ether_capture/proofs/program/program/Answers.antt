@@ -1,0 +1,57 @@
+use Rattle.std.proofs.Common.{◌≡◌, ◌∙◌, List, ℕ, Some, Option, map, string_bytes, ap, refl, sym, subst, rules, Err, IfOk, false}
+use Rattle.std.specs.Prelude.{⊤}
+use Rattle.std.specs.Vec.{vec_items}
+use Rattle.std.specs.Vec.Iter.{into_iter_items}
+use Rattle.std.proofs.lemmas.Iterator.{items_from_collect}
+use Rattle.std.proofs.lemmas.Iterator.Adapters.{YieldsList-from_vec}
+use Rattle.ether_capture.specs.Program.{HasObeyed, arguments_of}
+use Rattle.ether_capture.specs.declared.outcome.Outcome.TheVariants as outcomes
+use Rattle.ether_capture.specs.declared.outcome.RunFault.TheVariants.{Input}
+use Rattle.ether_capture.proofs.program.program.Goals as goal
+
+pub returns-in_default : goal.returns-in_default
+returns-in_default g c =
+    rw c.in_default.is
+    (record {
+      outcome = outcomes.Run false (Err Input);
+      printed = c.end.ensures.0;
+      between = g.W.Write.contents c.args.writer.now;
+      obeyed = (refl, refl, refl);
+      ended = c.end.ensures.1;
+      is_status = c.end.ensures.2;
+    })
+
+pub returns-in_default-collect : goal.returns-in_default-collect
+returns-in_default-collect g c =
+    rw c.in-Ok.is
+    (record {
+      outcome = outcomes.NoMemory;
+      printed = c.end-in_default-collect.ensures.0;
+      between = g.W.Write.contents c.args.writer.now;
+      obeyed = (refl, refl);
+      ended = c.end-in_default-collect.ensures.1;
+      is_status = c.end-in_default-collect.ensures.2;
+    })
+
+pub returns : goal.returns
+returns g c =
+    let args = c.in-Ok.args in
+    let yields = YieldsList-from_vec {s = args} (into_iter_items args) refl args.rest.ok.0 in
+    let collected = subst (λ r. IfOk r (λ w. vec_items w ≡ into_iter_items args)) c.in-Ok-collect.is (items_from_collect c.collect.result c.collect.ensures.ran yields) in
+    let words : map string_bytes c.as_slice.result.now ≡ map string_bytes (into_iter_items args) =
+    ap (map string_bytes) (c.as_slice.ensures.value ∙ collected) in
+    rw c.in-Ok.is
+    (record {
+      outcome = c.obey-outcome.result;
+      printed = c.end-2.ensures.0;
+      between = g.W.Write.contents c.obey-outcome.new.writer;
+      obeyed = subst
+          (λ (it : List (List ℕ)).
+          HasObeyed (g.C.Captures.has c.args.captures.now) g.R.Source.can_fail g.C.Captures.can_refuse
+          g.C.Input.Source.can_fail ⊤ (Some it) (g.R.Source.remaining c.args.reader.now)
+          (g.R.Source.remaining c.obey-outcome.new.reader) (g.W.Write.contents c.args.writer.now)
+          (g.W.Write.contents c.obey-outcome.new.writer) c.obey-outcome.result)
+          words c.obey-outcome.ensures;
+      ended = c.end-2.ensures.1;
+      is_status = c.end-2.ensures.2;
+    })
