@@ -178,7 +178,7 @@ CASES += [
     Case("and beside or", ["--select", "arp and ip or vlan"], CLASSIC,
          "--select: At byte 11: `and` and `or` can be mixed only with parentheses.\n", 2),
     Case("options in another order", ["--select", "refused", "--plain"], CLASSIC, plain(FIRST_LINES), 1),
-    Case("a filter that looks like an option", ["--select", "--plain"], CLASSIC, "--select: At byte 0: expected a primitive, `not` or `(`.\n", 2),
+    Case("a filter that looks like an option", ["--select=--plain"], CLASSIC, "--select: At byte 0: expected a primitive, `not` or `(`.\n", 2),
 ]
 
 # A number of packets: the run ends with the last of them, as if the capture ended there.
@@ -232,20 +232,19 @@ WRONG = [
     ("two limits", ["--limit", "1", "--limit", "1"]),
     ("a limit of a copy", ["--write", "--limit", "1"]),
     ("a limit of an edited copy", ["--limit", "0", "--cut-to-headers", "--write"]),
-    ("a number after a file", ["one", "-c", "1"]),
-    ("an option between files", ["one", "--plain", "two"]),
-    ("an option after files", ["one", "two", "--help"]),
     ("a copy of two files", ["--write", "one", "two"]),
     ("an edited copy of three files", ["--pop-vlan", "--write", "one", "two", "three"]),
     ("an option that is none", ["--plane"]),
+    ("the beginning of an option", ["--pla"]),
+    ("a letter that is none", ["-p"]),
+    ("a value of an option that has none", ["--plain=yes"]),
+    ("no filter before an option", ["--select", "--plain"]),
+    ("an option that is none, and help after it", ["--plane", "--help"]),
     ("a word twice", ["--plain", "--plain"]),
-    ("an option after a file", ["plain", "--plain"]),
-    ("standard input by a hyphen", ["-"]),
     ("an expression that is missing", ["--select"]),
     ("lines and a copy", ["--plain", "--write"]),
     ("a copy twice", ["--write", "--select", "arp", "--write"]),
     ("two filters", ["--select", "arp", "--select", "arp"]),
-    ("a copy after a file", ["one", "--write"]),
     ("headers without a copy", ["--cut-to-headers"]),
     ("headers twice", ["--write", "--cut-to-headers", "--cut-to-headers"]),
     ("a tag less without a copy", ["--pop-vlan"]),
@@ -270,17 +269,14 @@ WRONG = [
     ("other identifiers twice", ["--write", "--set-vlan", "5:6", "--set-vlan", "6:7"]),
     ("another identifier and a tag less", ["--write", "--set-vlan", "5:6", "--pop-vlan"]),
     ("a tag more and another identifier", ["--write", "--push-vlan", "0x8100:5", "--set-vlan", "5:6"]),
-    ("help and a copy", ["--write", "--help"]),
-    ("the version and a file", ["--version", "one"]),
-    ("standard input by a hyphen, and a file", ["--plain", "one", "-"]),
 ]
 
 
 def wrong_words_alone(program):
     """Wrong words if standard output is full, or there is no standard error."""
-    silent = subprocess.run([program, "-"], stdin=subprocess.DEVNULL, stdout=subprocess.PIPE, preexec_fn=lambda: os.close(2), check=False)
+    silent = subprocess.run([program, "--plane"], stdin=subprocess.DEVNULL, stdout=subprocess.PIPE, preexec_fn=lambda: os.close(2), check=False)
     return [
-        ("wrong words on a full disk", on_a_full_disk(program, ["-"], b""), (USAGE, 2)),
+        ("wrong words on a full disk", on_a_full_disk(program, ["--plane"], b""), (USAGE, 2)),
         ("wrong words without standard error", (silent.stdout, silent.returncode), (b"", 2)),
     ]
 
@@ -312,7 +308,8 @@ def main():
             name = os.path.join(folder, "a capture")
             with open(name, "wb") as file:
                 file.write(case.capture)
-            tried.append((f"{case.name} from a file", run(program, [*case.words, name], b""), (case.text, case.status)))
+            for words in ([*case.words, name], [name, *case.words], [*case.words, "--", name]):
+                tried.append((f"{case.name} from a file, {words}", run(program, words, b""), (case.text, case.status)))
         name = os.path.join(folder, "six")
         with open(name, "wb") as file:
             file.write(classic(*SIX))
@@ -326,6 +323,9 @@ def main():
     tried += wrong_words_alone(program)
     help_text, status = run(program, ["--help"], CLASSIC)
     tried.append(("the usage", (help_text[: len(USAGE)], status), (USAGE, 0)))
+    tried += [(f"help by {words}", run(program, words, CLASSIC), (help_text, 0)) for words in (["-h"], ["--plain", "--help"], ["one", "-h", "two"])]
+    tried += [(f"the version by {words}", run(program, words, CLASSIC), ("ether_capture 1.0\n", 0)) for words in (["-V"], ["one", "--version"])]
+    tried += [(f"one packet by {words}", run(program, words, CLASSIC), one) for words in (["-c1"], ["-c=1"])]
     tried.append(("no memory for a block", without_memory(program, secrets(16_777_216, 16_777_216)), (ONE_LINES + "out of memory\n", 5)))
     for words in ([], ["--plain"], ["--help"], ["no/such.pcap"]):
         tried.append((f"a full disk, {words}", on_a_full_disk(program, words, CLASSIC), FAILED))

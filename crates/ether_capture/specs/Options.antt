@@ -1,4 +1,4 @@
--- What the arguments ask for. What a word is, and how words follow one another, is defined by `clap`.
+-- What the arguments ask for. `clap` defines which options words are, and which values these have.
 use Rattle.std.specs.Prelude.{◌≡◌, ◌≢◌, ◌<◌, ◌⊎◌, ℕ, List, [], ◌∷◌, map, codes, Bool, true, false, if◌then◌else◌, ◌||◌, Option, Some, None, unwrap_or, ⊤}
 use Rattle.std.specs.Int.NonZero.{non_zero_usize_get}
 use Rattle.std.specs.Option.{option_map, option_map_or, is_some}
@@ -75,7 +75,7 @@ capture_rules = flag_rule (codes "plain") ∷ flag_rule (codes "write") ∷ flag
     ∷ option_rule (codes "push-vlan") ∷ option_rule (codes "set-vlan") ∷ option_rule (codes "select") ∷ option_rule (codes "limit")
     ∷ count_rule ∷ file_rule ∷ []
 
--- .. beside `--help` and `--version`
+-- .. with `--help` and `--version`, which `clap` adds
 abbrev pub capture_app : App
 capture_app = let app = new_app (codes "ether_capture") in record app { top = record app.top { rules = capture_rules; has_version = true } }
 

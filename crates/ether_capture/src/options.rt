@@ -21,7 +21,7 @@ use std::num::NonZeroUsize;
 /// Why the arguments ask for nothing.
 #[derive(Clone, Copy, Debug)]
 pub enum RequestError {
-    /// One of them is none, has no value that can be read, or does not go with the others.
+    /// One of them is unknown, has a value that can't be read, or does not go with the others.
     Usage,
     /// Memory for them was refused.
     Memory,
@@ -119,9 +119,9 @@ fn command<'a>(alloc: Global) -> Result<Command<'a>, AllocError>
 
 /// What the program's arguments ask for. The first of them is its own name.
 ///
-/// There may be `--plain` and `--limit` with a number of headers, or `--write` and `--cut-to-headers`, `--pop-vlan`, `--push-vlan` with a tag or
-/// `--set-vlan` with two identifiers; `--select` with the text of a filter, `-c` with a number of packets, and the names of files. `--help` and
-/// `--version` ask for that alone.
+/// Options go before, between and after the names of files: `--plain` and `--limit` with a number of headers; or `--write`, and with it one of
+/// `--cut-to-headers`, `--pop-vlan`, `--push-vlan` with a tag and `--set-vlan` with two identifiers; `--select` with the text of a filter, and `-c`
+/// with a number of packets. `--help` and `--version` need no others.
 pub fn request_of_words<'a>(words: &'a [String], alloc: Global) -> Result<Request<'a>, RequestError>
     ensures ok { IfOk result (λ request. NamesRequest (map string_bytes words.now) (request_view request)) }
     ensures err { IfErr result (RefusesWords (map string_bytes words.now)) }
@@ -133,7 +133,7 @@ pub fn request_of_words<'a>(words: &'a [String], alloc: Global) -> Result<Reques
     }
 }
 
-/// What arguments ask for that are no options.
+/// What arguments ask for that `clap` finds no options in: to it `--help` and `--version` are errors.
 fn request_of_kind<'a>(kind: ErrorKind) -> Result<Request<'a>, RequestError>
     ensures ok { IfOk result (λ request. KindNames kind (request_view request)) }
     ensures err { IfErr result (RefusesKind kind) }

@@ -10,7 +10,7 @@ ghost use Rattle.ether_pcap.specs.CaptureViews.{timestamp_view, capture_interfac
 use crate::{BodyError, ByteOrder, InterfaceDescription, LinkType, Timestamp};
 
 /// An interface of a section of a pcapng file, as far as its packets need it.
-#[derive(Clone, Copy)]
+#[derive(Clone, Copy, Debug)]
 pub struct CaptureInterface {
     /// The link type of its packets.
     pub link_type: LinkType,

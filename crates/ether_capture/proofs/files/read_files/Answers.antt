@@ -1,9 +1,8 @@
 use Rattle.std.proofs.Common.{◌≡◌, ◌≢◌, ◌∷◌, ℕ, List, Some, map, refl, sym, ap, subst}
-use Rattle.std.specs.Vec.Iter.{into_iter_items}
 use Rattle.std.specs.Int.NonZero.{non_zero_usize_get}
 use Rattle.std.specs.Option.{option_map, is_some}
 use Rattle.ether_text.proofs.ArgumentsLemmas.{items_end}
-use Rattle.ether_capture.specs.Files.{ReadsFile, ReadsFiles, no_more, enough, next, next_task}
+use Rattle.ether_capture.specs.Files.{ReadsFiles, no_more, enough, next, next_task}
 use Rattle.ether_capture.specs.Options.{listing_view}
 use Rattle.ether_capture.specs.Task.{Lines}
 use Rattle.ether_capture.proofs.FilesLemmas.{names_in}

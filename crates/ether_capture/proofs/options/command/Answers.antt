@@ -1,7 +1,6 @@
-use Rattle.std.proofs.Common.{ap, ap₂, refl, true, codes, ◌≡◌, ◌∙◌}
+use Rattle.std.proofs.Common.{ap, ap₂, true, codes, ◌≡◌, ◌∙◌}
 use Rattle.clap.specs.Words.{App, Shape, app_of, new_app, with_rule}
 use Rattle.clap.specs.Simple.{app_of_fields, on_top}
-use Rattle.ether_capture.specs.Options.{capture_app}
 use Rattle.ether_capture.proofs.options.command.Goals as goal
 
 abbrev with_version : App → App

@@ -1,6 +1,6 @@
-use Rattle.std.proofs.Common.{rules, map, string_bytes, ◌≡◌, [], List}
-use Rattle.clap.specs.Words.{App, HasKind, Text, app_of, fault_of, found_of, matches_of, rows_of}
-use Rattle.ether_capture.specs.Options.{asked_view, capture_app}
+use Rattle.std.proofs.Common.{rules, map, string_bytes}
+use Rattle.clap.specs.Words.{app_of}
+use Rattle.ether_capture.specs.Options.{asked_view}
 use Rattle.ether_capture.proofs.OptionsLemmas.{asked_refused, finds, kind_named, kind_refused, nothing_asked, refuses, request_named}
 use Rattle.ether_capture.proofs.options.request_of_words.Goals as goal
 

@@ -1,10 +1,10 @@
-use Rattle.std.proofs.Common.{◌≡◌, ◌∙◌, List, ℕ, Some, Option, map, string_bytes, ap, refl, sym, subst, rules, Err, IfOk, false}
+use Rattle.std.proofs.Common.{◌≡◌, ◌∙◌, List, ℕ, Some, map, string_bytes, ap, refl, subst, Err, IfOk, false}
 use Rattle.std.specs.Prelude.{⊤}
 use Rattle.std.specs.Vec.{vec_items}
 use Rattle.std.specs.Vec.Iter.{into_iter_items}
 use Rattle.std.proofs.lemmas.Iterator.{items_from_collect}
 use Rattle.std.proofs.lemmas.Iterator.Adapters.{YieldsList-from_vec}
-use Rattle.ether_capture.specs.Program.{HasObeyed, arguments_of}
+use Rattle.ether_capture.specs.Program.{HasObeyed}
 use Rattle.ether_capture.specs.declared.outcome.Outcome.TheVariants as outcomes
 use Rattle.ether_capture.specs.declared.outcome.RunFault.TheVariants.{Input}
 use Rattle.ether_capture.proofs.program.program.Goals as goal
