@@ -9,7 +9,7 @@ use Rattle.ether_capture.specs.declared.options.Request.{Request}
 use Rattle.ether_capture.specs.declared.options.RequestError.{RequestError}
 use Rattle.ether_capture.specs.declared.options.RequestError.TheVariants as reasons
 
--- the command is one of which `clap` says what it finds, and how it fails
+-- the command is simple: `clap` says exactly what it finds, or how it fails
 free_app : is_simple_and_free capture_app ≡ true
 free_app = refl
 

@@ -16,7 +16,7 @@ use Rattle.ether_capture.specs.declared.outcome.Outcome.TheVariants as outcomes
 use Rattle.ether_capture.specs.declared.outcome.RunFault.{RunFault}
 use Rattle.ether_capture.specs.declared.outcome.RunFault.TheVariants.{Input}
 
--- the arguments, the first of which is the program's name, if they can be read
+-- the arguments, with the program's name first, if they can be read
 abbrev pub arguments_of : {A E : Type 0} → Result (IntoIter (String A) A) E → Option (List (List ℕ))
 arguments_of (Ok args) = Some (map string_bytes (into_iter_items args))
 arguments_of (Err error) = None

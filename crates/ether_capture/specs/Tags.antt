@@ -1,4 +1,4 @@
--- The words that ask for an edit of VLAN tags.
+-- The options that edit VLAN tags.
 use Rattle.std.specs.Prelude.{◌≡◌, ◌<◌, ◌==◌, ℕ, List, ◌∷◌, ◌++◌, codes, Some, true, false}
 use Rattle.std.specs.List.{All}
 use Rattle.ether_base.specs.Formats.Vlan.{is_vlan_ether_type}
@@ -24,7 +24,7 @@ pub record IsPair (text : List ℕ) (m n : ℕ) : Type 0 where
   pub first : number_in before ≡ Some (Some m)
   pub second : number_in after ≡ Some (Some n)
 
--- What a word asks for, with two numbers in the text after it: a VLAN tag is put in, with a TPID that announces one, or one gets
+-- What an option asks for, with two numbers as its value: a VLAN tag is put in, with a TPID that announces one, or one gets
 -- another identifier. Identifiers have 12 bits.
 pub data IsTagEdit : (word text : List ℕ) → EditValue → Type 0 where
   push : (text : List ℕ) (tpid id : ℕ) → IsPair text tpid id → is_vlan_ether_type tpid ≡ true → id < 4096
@@ -32,7 +32,7 @@ pub data IsTagEdit : (word text : List ℕ) → EditValue → Type 0 where
   set : (text : List ℕ) (old new : ℕ) → IsPair text old new → old < 4096 → new < 4096
       → IsTagEdit (codes "--set-vlan") text (SetVlan old new)
 
--- the word of each
+-- the option of each
 abbrev pub tag_word : TagEdit → List ℕ
 tag_word tag_edits.Push = codes "--push-vlan"
 tag_word tag_edits.Set = codes "--set-vlan"

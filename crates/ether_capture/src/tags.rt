@@ -1,4 +1,4 @@
-//! The words that ask for an edit of VLAN tags.
+//! The options that edit VLAN tags.
 ghost use Rattle.std.specs.Prelude.{◌≡◌, ◌<◌, ◌≤◌, ℕ, Some, IfSome, IfNone, true};
 ghost use Rattle.ether_filter.specs.Numerals.{number_in};
 ghost use Rattle.ether_base.specs.Formats.Vlan.{is_vlan_ether_type};
@@ -70,7 +70,7 @@ fn vlan_id_of(number: u32) -> Option<VlanId>
     }
 }
 
-/// The two numbers of a word, with a colon between them.
+/// The two numbers of a text, with a colon between them.
 fn pair_of(text: &[u8]) -> Option<(u32, u32)>
     ensures some { IfSome result (λ pair. IsPair text.now pair.0 pair.1) }
     ensures none { IfNone result ((m n : ℕ) → ¬ (IsPair text.now m n)) }
@@ -81,12 +81,12 @@ fn pair_of(text: &[u8]) -> Option<(u32, u32)>
     Some((first, second))
 }
 
-/// The number of a word, if it has no more than 32 bits.
-pub(crate) fn small_number(word: &[u8]) -> Option<u32>
-    ensures some { IfSome result (λ number. number_in word.now ≡ Some (Some number)) }
-    ensures none { IfNone result ((number : ℕ) → number_in word.now ≡ Some (Some number) → ⊥) }
+/// The number of a text, if it has no more than 32 bits.
+pub(crate) fn small_number(text: &[u8]) -> Option<u32>
+    ensures some { IfSome result (λ number. number_in text.now ≡ Some (Some number)) }
+    ensures none { IfNone result ((number : ℕ) → number_in text.now ≡ Some (Some number) → ⊥) }
 {
-    match number_of(word) {
+    match number_of(text) {
         Some(number) => number,
         None => None,
     }
