@@ -212,7 +212,7 @@ pub(crate) fn same_interface_description(
     a: &InterfaceDescription<'_>,
     b: &InterfaceDescription<'_>,
 ) -> bool
-    ensures { IsTrue result ↔ (interface_view a.now ≡ interface_view b.now) }
+    ensures { IsTrue result ↔ ((a.now.byte_order ≡ b.now.byte_order) × (interface_view a.now ≡ interface_view b.now)) }
 {
     *a == *b
 }

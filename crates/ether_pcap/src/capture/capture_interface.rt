@@ -34,9 +34,9 @@ impl CaptureInterface {
         Ok(CaptureInterface {
             link_type: description.link_type,
             snap_len: description.snap_len,
-            fcs_len: in_bytes(description.fcs_len(byte_order)),
-            time_resolution: description.time_resolution(byte_order),
-            time_offset: description.time_offset(byte_order).unwrap_or(0),
+            fcs_len: in_bytes(description.fcs_len()),
+            time_resolution: description.time_resolution(),
+            time_offset: description.time_offset().unwrap_or(0),
         })
     }
 

@@ -39,10 +39,12 @@ const TIME_OFFSET: u16 = 14;
 /// let interface = InterfaceDescription::from_body(ByteOrder::BigEndian, &body)?;
 /// assert_eq!(rt; interface.link_type, LinkType::ETHERNET);
 /// assert_eq!(rt; interface.snap_len, 262_144);
-/// assert_eq!(rt; interface.fcs_len(ByteOrder::BigEndian), Some(4));
+/// assert_eq!(rt; interface.fcs_len(), Some(4));
 /// ```
 #[derive(Clone, Copy, PartialEq, Eq, Debug)]
 pub struct InterfaceDescription<'a> {
+    /// The byte order of its numbers and options.
+    pub byte_order: ByteOrder,
     /// What each packet of the interface begins with.
     pub link_type: LinkType,
     /// The length in bytes to which longer packets were cut when they were captured; 0 if they weren't.
@@ -62,6 +64,7 @@ impl<'a> InterfaceDescription<'a> {
         byte_order: ByteOrder,
         body: &'a [u8],
     ) -> Result<InterfaceDescription<'a>, BodyError>
+        ensures order { IfOk result (λ i. i.byte_order ≡ byte_order) }
         ensures interface { IfOk result (λ i. IsInterface (order_of byte_order) body.now (interface_view i)) }
         ensures refused { IfErr result (λ e. RefusesInterface body.now (body_refusal_view e)) }
     {
@@ -72,6 +75,7 @@ impl<'a> InterfaceDescription<'a> {
             });
         }
         Ok(InterfaceDescription {
+            byte_order,
             link_type: LinkType(byte_order.u16_at(body, 0)),
             snap_len: byte_order.u32_at(body, 4),
             options: &body[8..],
@@ -86,6 +90,7 @@ impl<'a> InterfaceDescription<'a> {
     /// ```
     /// let options = InterfaceDescription::nanosecond_options(ByteOrder::BigEndian);
     /// let interface = InterfaceDescription {
+    ///     byte_order: ByteOrder::BigEndian,
     ///     link_type: LinkType::ETHERNET,
     ///     snap_len: 262_144,
     ///     options: &options,
@@ -93,27 +98,27 @@ impl<'a> InterfaceDescription<'a> {
     /// let header = [
     ///     0x00, 0x00, 0x00, 0x01, 0x00, 0x00, 0x00, 0x20, 0x00, 0x01, 0x00, 0x00, 0x00, 0x04, 0x00, 0x00, //
     /// ];
-    /// assert_eq!(rt; interface.header_to_bytes(ByteOrder::BigEndian), header);
-    /// assert_eq!(rt; interface.trailer_to_bytes(ByteOrder::BigEndian), [0x00, 0x00, 0x00, 0x20]);
+    /// assert_eq!(rt; interface.header_to_bytes(), header);
+    /// assert_eq!(rt; interface.trailer_to_bytes(), [0x00, 0x00, 0x00, 0x20]);
     /// ```
-    pub fn header_to_bytes(&self, byte_order: ByteOrder) -> [u8; 16]
-        ensures value { let order = order_of byte_order in let i = interface_view self.now in
+    pub fn header_to_bytes(&self) -> [u8; 16]
+        ensures value { let order = order_of self.now.byte_order in let i = interface_view self.now in
             result ≡ bytes_of order 4 1 ++ bytes_of order 4 (interface_block_len i) ++ interface_head order i }
-        ensures read_back { InterfaceIsRead (order_of byte_order) result (interface_view self.now) }
+        ensures read_back { InterfaceIsRead (order_of self.now.byte_order) result (interface_view self.now) }
     {
         four_words(
-            word(byte_order, PcapngBlock::INTERFACE_DESCRIPTION),
-            len_word(byte_order, 20 + self.options.len()),
-            half_words(byte_order, self.link_type.0, 0),
-            word(byte_order, self.snap_len),
+            word(self.byte_order, PcapngBlock::INTERFACE_DESCRIPTION),
+            len_word(self.byte_order, 20 + self.options.len()),
+            half_words(self.byte_order, self.link_type.0, 0),
+            word(self.byte_order, self.snap_len),
         )
     }
 
     /// The end of the block that describes the interface: its length.
-    pub fn trailer_to_bytes(&self, byte_order: ByteOrder) -> [u8; 4]
-        ensures { result ≡ bytes_of (order_of byte_order) 4 (interface_block_len (interface_view self.now)) }
+    pub fn trailer_to_bytes(&self) -> [u8; 4]
+        ensures { result ≡ bytes_of (order_of self.now.byte_order) 4 (interface_block_len (interface_view self.now)) }
     {
-        len_word(byte_order, 20 + self.options.len())
+        len_word(self.byte_order, 20 + self.options.len())
     }
 
     /// The bytes of the option `if_tsresol` that gives nanoseconds, and of the end of options.
@@ -129,38 +134,38 @@ impl<'a> InterfaceDescription<'a> {
     }
 
     /// The value of the first option with a code. Options are read up to the end of options or to one that is cut.
-    pub fn option(&self, byte_order: ByteOrder, code: u16) -> Option<&'a [u8]>
-        ensures { (all : List OptionValue) → HasOptions (order_of byte_order) self.now.options.now all
+    pub fn option(&self, code: u16) -> Option<&'a [u8]>
+        ensures { (all : List OptionValue) → HasOptions (order_of self.now.byte_order) self.now.options.now all
             → MatchOption result (value_of code all ≡ None) (λ value. value_of code all ≡ Some value.now) }
     {
-        option_value(byte_order, self.options, code)
+        option_value(self.byte_order, self.options, code)
     }
 
     /// The number in the option `if_fcslen` of one byte: the length of the frame check sequence at the end of each packet, in bits by
     /// the description. Wireshark reads and writes it in bytes.
-    pub fn fcs_len(&self, byte_order: ByteOrder) -> Option<u8>
-        ensures { (all : List OptionValue) → HasOptions (order_of byte_order) self.now.options.now all
+    pub fn fcs_len(&self) -> Option<u8>
+        ensures { (all : List OptionValue) → HasOptions (order_of self.now.byte_order) self.now.options.now all
             → result ≡ byte_of (value_of 13 all) }
     {
-        byte_option(byte_order, self.options, FCS_LEN)
+        byte_option(self.byte_order, self.options, FCS_LEN)
     }
 
     /// The number in the option `if_tsresol` of one byte, which gives the unit of the times of packets. If it is below 128, a
     /// second has as many units as ten to the power of this number; else as two to the power of its seven lower bits.
-    pub fn time_resolution(&self, byte_order: ByteOrder) -> Option<u8>
-        ensures { (all : List OptionValue) → HasOptions (order_of byte_order) self.now.options.now all
+    pub fn time_resolution(&self) -> Option<u8>
+        ensures { (all : List OptionValue) → HasOptions (order_of self.now.byte_order) self.now.options.now all
             → result ≡ byte_of (value_of 9 all) }
     {
-        byte_option(byte_order, self.options, TIME_RESOLUTION)
+        byte_option(self.byte_order, self.options, TIME_RESOLUTION)
     }
 
     /// The number in the option `if_tsoffset` of eight bytes: the seconds that are added to the times of packets, whose 64 bits are a
     /// signed number.
-    pub fn time_offset(&self, byte_order: ByteOrder) -> Option<u64>
-        ensures { (all : List OptionValue) → HasOptions (order_of byte_order) self.now.options.now all
-            → result ≡ number_of (order_of byte_order) 8 (value_of 14 all) }
+    pub fn time_offset(&self) -> Option<u64>
+        ensures { (all : List OptionValue) → HasOptions (order_of self.now.byte_order) self.now.options.now all
+            → result ≡ number_of (order_of self.now.byte_order) 8 (value_of 14 all) }
     {
-        u64_option(byte_order, self.options, TIME_OFFSET)
+        u64_option(self.byte_order, self.options, TIME_OFFSET)
     }
 }
 

@@ -175,11 +175,7 @@ fn of_bodies(rt: HostRuntime) -> Result<(), Fail> {
     equal(
         &rt,
         "an interface description",
-        &(
-            interface.link_type,
-            interface.snap_len,
-            interface.fcs_len(order),
-        ),
+        &(interface.link_type, interface.snap_len, interface.fcs_len()),
         &(LinkType::ETHERNET, 262_144, Some(4)),
     );
     equal(
@@ -315,6 +311,7 @@ fn of_written_blocks(rt: HostRuntime) {
         ),
     ] {
         let description = InterfaceDescription {
+            byte_order: order,
             link_type: LinkType::ETHERNET,
             snap_len: 262_144,
             options: &options,
@@ -325,11 +322,11 @@ fn of_written_blocks(rt: HostRuntime) {
             &(
                 SectionHeader::to_bytes(order),
                 InterfaceDescription::nanosecond_options(order),
-                description.header_to_bytes(order),
+                description.header_to_bytes(),
                 packet.header_to_bytes(order),
                 packet.padding_len(),
                 (
-                    description.trailer_to_bytes(order),
+                    description.trailer_to_bytes(),
                     packet.trailer_to_bytes(order),
                 ),
             ),

@@ -55,6 +55,7 @@ static OPTIONS: [Row; 11] = [
 fn options(rt: HostRuntime) {
     for &(name, order, bytes, from, to, fcs_len, resolution) in &OPTIONS {
         let interface = InterfaceDescription {
+            byte_order: order,
             link_type: LinkType::ETHERNET,
             snap_len: 0,
             options: bytes.get(from..to).unwrap_or(&[]),
@@ -62,7 +63,7 @@ fn options(rt: HostRuntime) {
         equal(
             &rt,
             name,
-            &[interface.fcs_len(order), interface.time_resolution(order)],
+            &[interface.fcs_len(), interface.time_resolution()],
             &[fcs_len, resolution],
         );
     }
@@ -77,17 +78,17 @@ fn options_cut_at_each_byte(rt: HostRuntime) {
     ];
     for len in 0..17 {
         let interface = InterfaceDescription {
+            byte_order: ByteOrder::BigEndian,
             link_type: LinkType::ETHERNET,
             snap_len: 0,
             options: &options[..len],
         };
-        let order = ByteOrder::BigEndian;
         let fcs_len = if len < 13 { None } else { Some(4) };
         let name = if len < 5 { None } else { Some(b"e".as_slice()) };
         equal(
             &rt,
             "cut options",
-            &(interface.fcs_len(order), interface.option(order, 2)),
+            &(interface.fcs_len(), interface.option(2)),
             &(fcs_len, name),
         );
     }

@@ -8,7 +8,7 @@ use Rattle.ether_pcap.proofs.pcapng.interface_description.InterfaceDescription.h
 
 pub returns-clause-read_back : goal.returns-clause-read_back
 returns-clause-read_back c =
-    let order = order_of c.args.byte_order in
+    let order = order_of c.args.self.now.byte_order in
     let i = interface_view c.args.self.now in
     let front = bytes_of order 4 1 ++ bytes_of order 4 (interface_block_len i) in
     let value : c.four_words.result ≡ front ++ interface_head order i =
