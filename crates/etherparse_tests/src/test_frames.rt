@@ -1,7 +1,7 @@
 //! The bytes that tests of several modules read: made ones, and captured frames and worked examples that the tests of
 //! `ether_peel` read, too.
 
-pub use ether_peel_tests::test_frames::{
+pub use crate::peel::test_frames::{
     ARP_REQUEST_FRAME as ARP_REQUEST, CONFIDENTIALITY, COOKED_ARP_REQUEST, COOKED_LOOPBACK,
     COOKED_SPANNING_TREE, INTEGRITY, NAMED, SEALED, SPANNING_TREE, TAGGED_ARP_REQUEST,
     TWICE_TAGGED_ARP_REQUEST,

@@ -67,7 +67,7 @@ fn hash_of(packet: &ArpPacket) -> u64 {
     state.finish()
 }
 
-/// A packet, addresses of the sender and the target that are put in the place of its own, and the packet then.
+/// A packet, addresses of the sender and the target that are put in the place of its own, and the packet then, with its operation.
 struct Change {
     name: &'static str,
     before: &'static [u8],
@@ -76,7 +76,7 @@ struct Change {
     after: &'static [u8],
 }
 
-static CHANGES: [Change; 7] = [
+static CHANGES: [Change; 9] = [
     Change {
         name: "other hardware addresses",
         before: &REQUEST,
@@ -95,6 +95,16 @@ static CHANGES: [Change; 7] = [
         after: &[
             0, 1, 8, 0, 6, 7, 0, 1, 2, 0, 0, 0, 0, 1, 11, 12, 13, 14, 15, 16, 17, 0, 0, 0, 0, 0, 0,
             21, 22, 23, 24, 25, 26, 27,
+        ],
+    },
+    Change {
+        name: "protocol addresses of 16 bytes",
+        before: &REQUEST,
+        hardware: None,
+        protocol: Some([&[1; 16], &[2; 16]]),
+        after: &[
+            0, 1, 8, 0, 6, 16, 0, 1, 2, 0, 0, 0, 0, 1, 1, 1, 1, 1, 1, 1, 1, 1, 1, 1, 1, 1, 1, 1, 1,
+            1, 0, 0, 0, 0, 0, 0, 2, 2, 2, 2, 2, 2, 2, 2, 2, 2, 2, 2, 2, 2, 2, 2,
         ],
     },
     Change {
@@ -138,6 +148,13 @@ static CHANGES: [Change; 7] = [
         protocol: Some([&[10, 0, 0, 1], &[10, 0, 0, 2]]),
         after: &REQUEST,
     },
+    Change {
+        name: "the example, which is the reply",
+        before: &REQUEST,
+        hardware: Some([&[2, 0, 0, 0, 0, 2], &[2, 0, 0, 0, 0, 1]]),
+        protocol: Some([&[10, 0, 0, 2], &[10, 0, 0, 1]]),
+        after: &REPLY,
+    },
 ];
 
 /// Addresses that are set are those of the packet that is read from its bytes, and are hashed as these are.
@@ -151,8 +168,9 @@ fn other_addresses(rt: HostRuntime) -> Result<(), Fail> {
         if let Some(addresses) = change.hardware {
             packet.set_hw_addrs(addresses[0], addresses[1])?;
         }
-        let bytes = packet.to_bytes();
         let read = ArpPacket::from_slice(change.after)?;
+        packet.operation = read.operation;
+        let bytes = packet.to_bytes();
         equal(
             &rt,
             change.name,
@@ -160,52 +178,29 @@ fn other_addresses(rt: HostRuntime) -> Result<(), Fail> {
             &(change.after, hash_of(&read), &read),
         );
     }
-    let mut packet = ArpPacket::from_slice(&REQUEST)?;
-    packet.operation = ArpOperation::REPLY;
-    packet.set_hw_addrs(&[2, 0, 0, 0, 0, 2], &[2, 0, 0, 0, 0, 1])?;
-    packet.set_protocol_addrs(&[10, 0, 0, 2], &[10, 0, 0, 1])?;
-    let bytes = packet.to_bytes();
-    equal(
-        &rt,
-        "the example, which is the reply",
-        &bytes.as_slice(),
-        &REPLY.as_slice(),
-    );
     Ok(())
 }
 
+/// The greatest addresses, of the bytes 1 to 6.
+static GREATEST: [[u8; 255]; 6] = [[1; 255], [2; 255], [3; 255], [4; 255], [5; 255], [6; 255]];
+
 #[test]
 fn addresses_grow_and_shrink(rt: HostRuntime) -> Result<(), Fail> {
-    let mut packet = request([&[1; 255], &[2; 255], &[3; 255], &[4; 255]])?;
+    let [one, two, three, four, five, six] = &GREATEST;
+    let mut packet = request([one, two, three, four])?;
     let full = packet.packet_len();
     packet.set_hw_addrs(&[], &[])?;
+    let shrunk = packet.clone()?;
+    packet.set_hw_addrs(five, six)?;
     equal(
         &rt,
-        "no hardware addresses",
+        "the greatest ones, no hardware addresses, and the greatest ones again",
+        &(full, shrunk, packet),
         &(
-            full,
-            packet.packet_len(),
-            packet.sender_protocol_addr(),
-            packet.target_protocol_addr(),
+            1028,
+            request([&[], two, &[], four])?,
+            request([five, two, six, four])?,
         ),
-        &(1028, 518, [2; 255].as_slice(), [4; 255].as_slice()),
-    );
-    packet.set_hw_addrs(&[5; 255], &[6; 255])?;
-    let made = request([&[5; 255], &[2; 255], &[6; 255], &[4; 255]])?;
-    equal(
-        &rt,
-        "the greatest ones again",
-        &(packet.packet_len(), packet.to_bytes().len(), packet),
-        &(1028, 1028, made),
-    );
-    let mut packet = ArpPacket::from_slice(&REQUEST)?;
-    packet.set_protocol_addrs(&[1; 16], &[2; 16])?;
-    let made = request([&[2, 0, 0, 0, 0, 1], &[1; 16], &[0; 6], &[2; 16]])?;
-    equal(
-        &rt,
-        "protocol addresses of 16 bytes",
-        &(packet.protocol_addr_size(), packet.packet_len(), packet),
-        &(16, 52, made),
     );
     Ok(())
 }

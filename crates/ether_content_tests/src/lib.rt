@@ -1,0 +1,12 @@
+//! Tests of `ether_packet`, `ether_pcap`, `ether_filter` and `ether_content`, of what callers learn of the derived traits of their types,
+//! and of the examples. They are in a crate above them, so that each library is proved once.
+#![tactic(auto)]
+
+#[cfg(test)]
+mod examples;
+#[cfg(test)]
+mod filter;
+#[cfg(test)]
+mod packet;
+#[cfg(test)]
+mod pcap;

@@ -1,0 +1,3 @@
+//! Tests of `ether_pcap`, and what callers learn of the derived traits of its types.
+mod derived_traits;
+mod tests;

@@ -1,8 +1,0 @@
-//! Tests of `ether_filter`, and what callers learn of the derived traits of its types. They are in a crate above it, so that it is proved
-//! once.
-#![tactic(auto)]
-
-#[cfg(test)]
-mod derived_traits;
-#[cfg(test)]
-mod tests;

@@ -1,0 +1,387 @@
+//! Cuts and extensions of worked examples, by `summary`, `snap` and `missing`.
+use super::{equal, fault_at, is_refused, put};
+use crate::peel::plain::PlainRefusal;
+use crate::peel::test_frames::{NAMED, NESTED, PADDED_ARP, SECOND_TAG_CUT};
+use ether_peel::{Peel, PeelError, PeelFault, PeelUnit, RestKind, Start, Summary, snap, summary};
+use etherparse::err::{Layer, LenError};
+use etherparse::{EtherType, LenSource};
+use std::process::Abort;
+
+/// A start, and a list of bytes.
+type Worked = (Start, &'static [u8]);
+
+/// Lists that are accepted, and lists that are refused in each way.
+#[rattlefmt::skip]
+static WORKED: [Worked; 24] = [
+    // An Ethernet II header and one byte of IPv4.
+    (Start::Ethernet2, &[0xFF, 0xFF, 0xFF, 0xFF, 0xFF, 0xFF, 0x02, 0x00, 0x00, 0x00, 0x00, 0x01, 0x08, 0x00, 0x45]),
+    // Nothing.
+    (Start::Ethernet2, &[]),
+    // An Ethernet II header cut short.
+    (Start::Ethernet2, &[0xFF, 0xFF, 0xFF, 0xFF, 0xFF, 0xFF, 0x02, 0x00, 0x00, 0x00, 0x00, 0x01, 0x81]),
+    // A VLAN tag.
+    (Start::Ethernet2, &[0xFF, 0xFF, 0xFF, 0xFF, 0xFF, 0xFF, 0x02, 0x00, 0x00, 0x00, 0x00, 0x01, 0x81, 0x00, 0xB1, 0x23, 0x08, 0x00]),
+    // A second VLAN tag cut short.
+    (Start::Ethernet2, &[0xFF, 0xFF, 0xFF, 0xFF, 0xFF, 0xFF, 0x02, 0x00, 0x00, 0x00, 0x00, 0x01, 0x88, 0xA8, 0x00, 0x01, 0x81, 0x00, 0x00, 0x02]),
+    // A named MACsec payload cut short.
+    (Start::EtherType(EtherType::MACSEC), &[0x00, 0x06, 0x00, 0x00, 0x00, 0x01, 0x81, 0x00, 0xAA, 0xBB]),
+    // A VLAN tag in a closed MACsec window, and 2 bytes after it.
+    (Start::EtherType(EtherType::MACSEC), &[0x00, 0x06, 0x00, 0x00, 0x00, 0x01, 0x81, 0x00, 0xAA, 0xBB, 0xCC, 0xDD, 0xEE, 0xEE]),
+    // A VLAN tag cut short in a closed MACsec window.
+    (Start::EtherType(EtherType::MACSEC), &[0x00, 0x04, 0x00, 0x00, 0x00, 0x01, 0x81, 0x00, 0xAA, 0xBB, 0xCC, 0xDD]),
+    // A short length without room for the ether type.
+    (Start::EtherType(EtherType::MACSEC), &[0x00, 0x01, 0x00, 0x00, 0x00, 0x00]),
+    // A SecTag of version 1 cut short.
+    (Start::EtherType(EtherType::MACSEC), &[0x80, 0x00, 0x00, 0x00, 0x00]),
+    // A SecTag of version 1.
+    (Start::EtherType(EtherType::MACSEC), &[0x80, 0x00, 0x00, 0x00, 0x00, 0x00]),
+    // An encrypted payload of one byte, and one after it.
+    (Start::EtherType(EtherType::MACSEC), &[0x0C, 0x01, 0x00, 0x00, 0x00, 0x01, 0xAA, 0xBB]),
+    // A SecTag with an SCI and a payload of unknown length.
+    (Start::EtherType(EtherType::MACSEC), &[0x2C, 0xC0, 0x00, 0x00, 0x00, 0x01, 0x00, 0x11, 0x22, 0x33, 0x44, 0x55, 0x66, 0x77, 0x99]),
+    // A SecTag cut short in its ether type.
+    (Start::EtherType(EtherType::MACSEC), &[0x00, 0x06, 0x00, 0x00, 0x00, 0x01, 0x81]),
+    // A cooked capture of an 802.3 frame.
+    (Start::LinuxSll, &[0x00, 0x00, 0x00, 0x01, 0x00, 0xFF, 0x02, 0x00, 0x00, 0x00, 0x00, 0x01, 0x00, 0x00, 0x00, 0x01]),
+    // A cooked capture with an unknown packet type.
+    (Start::LinuxSll, &[0x00, 0x08, 0x00, 0x01, 0x00, 0xFF, 0x02, 0x00, 0x00, 0x00, 0x00, 0x01, 0x00, 0x00, 0x00, 0x01]),
+    // A cooked capture of a GRE tunnel.
+    (Start::LinuxSll, &[0x00, 0x00, 0x03, 0x0A, 0x00, 0x00, 0x00, 0x00, 0x00, 0x00, 0x00, 0x00, 0x00, 0x00, 0x08, 0x00]),
+    // A cooked capture of an unknown hardware type.
+    (Start::LinuxSll, &[0x00, 0x00, 0x01, 0x01, 0x00, 0x00, 0x00, 0x00, 0x00, 0x00, 0x00, 0x00, 0x00, 0x00, 0x08, 0x00]),
+    // An ARP packet cut short.
+    (Start::EtherType(EtherType::ARP), &[0x00, 0x01, 0x08, 0x00, 0x06, 0x04, 0x00, 0x01]),
+    // An ARP packet without addresses.
+    (Start::EtherType(EtherType::ARP), &[0x00, 0x01, 0x08, 0x00, 0x00, 0x00, 0x00, 0x01]),
+    // An ARP request in Ethernet II with padding.
+    (Start::Ethernet2, &[0xFF, 0xFF, 0xFF, 0xFF, 0xFF, 0xFF, 0x02, 0x00, 0x00, 0x00, 0x00, 0x01, 0x08, 0x06, 0x00, 0x01, 0x08, 0x00, 0x06, 0x04, 0x00, 0x01, 0x02, 0x00, 0x00, 0x00, 0x00, 0x01, 0x0A, 0x00, 0x00, 0x01, 0x00, 0x00, 0x00, 0x00, 0x00, 0x00, 0x0A, 0x00, 0x00, 0x02, 0x00, 0x00, 0x00, 0x00, 0x00, 0x00, 0x00, 0x00, 0x00, 0x00, 0x00, 0x00, 0x00, 0x00, 0x00, 0x00, 0x00, 0x00]),
+    // A frame with a check sequence cut short.
+    (Start::Ethernet2Fcs, &[0xFF, 0xFF, 0xFF, 0xFF, 0xFF, 0xFF, 0x02, 0x00, 0x00, 0x00, 0x00, 0x01, 0x08, 0x00, 0x11, 0x22, 0x33]),
+    // A frame with a check sequence.
+    (Start::Ethernet2Fcs, &[0xFF, 0xFF, 0xFF, 0xFF, 0xFF, 0xFF, 0x02, 0x00, 0x00, 0x00, 0x00, 0x01, 0x08, 0x00, 0x11, 0x22, 0x33, 0x44]),
+    // Nothing after the ether type of IPv4.
+    (Start::EtherType(EtherType::IPV4), &[]),
+];
+
+const MACSEC: Start = Start::EtherType(EtherType::MACSEC);
+
+const ARP: Start = Start::EtherType(EtherType::ARP);
+
+fn len_error(required_len: usize, len: usize, layer: Layer, at: usize) -> LenError {
+    LenError {
+        required_len,
+        len,
+        len_source: LenSource::Slice,
+        layer,
+        layer_start_offset: at,
+    }
+}
+
+/// The fault of a length in an open window.
+fn open(error: LenError) -> Option<PeelFault> {
+    Some(PeelFault {
+        offset: error.layer_start_offset,
+        error: PeelError::Len(error),
+        closed: false,
+    })
+}
+
+#[test]
+fn a_cut_is_the_summary_of_the_first_bytes(rt: HostRuntime) {
+    for &(start, list) in &WORKED {
+        for n in 0..=list.len() {
+            let (cut, first) = (snap(start, list, n), summary(start, &list[..n]));
+            assert!(rt; cut == first, "{n} bytes of {list:?}");
+        }
+    }
+}
+
+/// A cut in an ARP packet of `required_len` bytes that begins at `at`: `len` bytes are left.
+fn cut_arp(required_len: usize, len: usize, at: usize) -> Option<PeelFault> {
+    if len < 8 {
+        return open(len_error(8, len, Layer::Arp, at));
+    }
+    open(LenError {
+        len_source: LenSource::ArpAddrLengths,
+        ..len_error(required_len, len, Layer::Arp, at)
+    })
+}
+
+/// Every cut of a VLAN tag in a closed MACsec window.
+#[test]
+fn every_cut_of_a_closed_window(rt: HostRuntime) {
+    for n in 0..=14 {
+        let named = LenError {
+            len_source: LenSource::MacsecShortLength,
+            ..len_error(12, n, Layer::MacsecPacket, 0)
+        };
+        let (units, fault) = match n {
+            0..6 => (0, open(len_error(6, n, Layer::MacsecHeader, 0))),
+            6..8 => (0, open(len_error(8, n, Layer::MacsecHeader, 0))),
+            8..12 => (0, open(named)),
+            _ => (2, None),
+        };
+        let found = snap(MACSEC, &NAMED, n);
+        assert!(rt; found.units == units && found.fault == fault, "{n} bytes");
+    }
+}
+
+/// Every cut of a frame after the place at which an ARP packet of `required_len` bytes begins.
+fn cuts_of_arp(
+    rt: &impl Abort,
+    start: Start,
+    frame: &[u8],
+    at: usize,
+    before: usize,
+    required_len: usize,
+) {
+    for n in at..=frame.len() {
+        let found = snap(start, frame, n);
+        let len = n.saturating_sub(at);
+        let (units, fault) = if len < required_len {
+            (before, cut_arp(required_len, len, at))
+        } else {
+            (before.saturating_add(1), None)
+        };
+        let wanted = (units, fault, n);
+        assert!(rt;
+            (found.units, found.fault, found.rest_end) == wanted,
+            "{n} bytes"
+        );
+    }
+}
+
+/// Every cut of an ARP request with padding, and of the greatest ARP packet.
+#[test]
+fn every_cut_of_arp_packets(rt: HostRuntime) {
+    cuts_of_arp(&rt, Start::Ethernet2, &PADDED_ARP, 14, 1, 28);
+    let mut greatest = [0; 1030];
+    put(
+        &mut greatest,
+        0,
+        &[0x00, 0x01, 0x08, 0x00, 0xFF, 0xFF, 0x00, 0x01],
+    );
+    cuts_of_arp(&rt, ARP, &greatest, 0, 0, 1028);
+}
+
+/// Where the payload of each of four SecTags begins, and its length.
+static WINDOWS: [(usize, usize); 4] = [(8, 24), (16, 16), (24, 8), (32, 0)];
+
+#[test]
+fn closed_windows_in_one_another(rt: HostRuntime) {
+    let mut peel = Peel::new(MACSEC, &NESTED);
+    for &(start, len) in &WINDOWS {
+        let is_tag = matches!(peel.next(), Some(Ok(PeelUnit::Macsec(_))));
+        let found = (is_tag, peel.offset(), peel.rest().len(), peel.closed());
+        assert!(rt; found == (true, start, len, true), "at byte {start}");
+    }
+    let whole = Summary {
+        units: 4,
+        rest_start: 32,
+        rest_end: 32,
+        kind: RestKind::EtherType(EtherType(0x0800)),
+        fault: None,
+    };
+    equal(
+        &rt,
+        "no more",
+        &(peel.next().is_none(), summary(MACSEC, &NESTED)),
+        &(true, whole),
+    );
+}
+
+/// A byte of the nested tags, what is put in its place, the units before the fault, the window of that, and the bytes that it requires and
+/// that are there, or none if the ether type has no room.
+type Changed = (
+    &'static str,
+    usize,
+    u8,
+    usize,
+    (usize, usize),
+    Option<(usize, usize)>,
+);
+
+static CHANGED: [Changed; 3] = [
+    (
+        "a payload longer than the window",
+        25,
+        0x03,
+        3,
+        (24, 32),
+        Some((9, 8)),
+    ),
+    ("no room for the ether type", 25, 0x01, 3, (24, 32), None),
+    (
+        "a payload longer than a window in a window",
+        9,
+        0x11,
+        2,
+        (16, 31),
+        Some((16, 15)),
+    ),
+];
+
+/// The nested tags with another byte at a place are refused, alone and with bytes after them, by the same fault.
+#[test]
+fn bytes_after_a_closed_window_change_nothing(rt: HostRuntime) {
+    for &(name, place, byte, units, (start, end), lens) in &CHANGED {
+        let mut bytes = [0xFF; 1032];
+        put(&mut bytes, 0, &NESTED);
+        put(&mut bytes, place, &[byte]);
+        for len in [32, 33, 64, 1032] {
+            let refusal = match lens {
+                Some((required_len, len)) => {
+                    too_short!(
+                        required_len,
+                        len,
+                        LenSource::MacsecShortLength,
+                        Layer::MacsecPacket
+                    )
+                }
+                None => PlainRefusal::ShortLen,
+            };
+            let fault = fault_at(start, true, refusal);
+            equal(&rt, name, &fault.missing(), &None);
+            let kind = ether_type!(0x88E5);
+            let rest = bytes.get(start..end).unwrap_or(&[]);
+            is_refused(&rt, name, MACSEC, &bytes[..len], units, fault, rest, kind);
+        }
+    }
+}
+
+/// Two tags, and three bytes of the second one.
+const WITH_08: [u8; 21] = [
+    0xFF, 0xFF, 0xFF, 0xFF, 0xFF, 0xFF, 2, 0, 0, 0, 0, 1, 0x88, 0xA8, 0x00, 0x01, 0x81, 0x00, 0x00,
+    0x02, 0x08,
+];
+
+/// The first bytes of a frame, so many, and how many more are missing.
+#[rattlefmt::skip]
+static MISSING: [(&str, Start, &[u8], usize, Option<usize>); 11] = [
+    ("an Ethernet header", Start::Ethernet2, &[], 0, Some(14)),
+    ("a named payload", MACSEC, &NAMED, 10, Some(2)),
+    ("its last byte", MACSEC, &NAMED, 11, Some(1)),
+    ("nothing in a closed window", MACSEC, &[0x00, 0x04, 0, 0, 0, 1, 0x81, 0x00, 0xAA, 0xBB, 0xCC, 0xDD], 12, None),
+    ("a SecTag of version 1", MACSEC, &[0x80, 0, 0, 0, 0], 5, Some(1)),
+    ("nothing of a content", MACSEC, &[0x80, 0, 0, 0, 0, 0], 6, None),
+    ("the addresses of an ARP packet", ARP, &[0, 1, 8, 0, 6, 4, 0, 1], 8, Some(20)),
+    ("nothing before a check sequence", Start::Ethernet2Fcs, &PADDED_ARP, 17, None),
+    ("nothing of an accepted frame", Start::Ethernet2, &PADDED_ARP, 60, None),
+    ("the second of two tags", Start::Ethernet2, &SECOND_TAG_CUT, 20, Some(2)),
+    ("its last byte", Start::Ethernet2, &WITH_08, 21, Some(1)),
+];
+
+#[test]
+fn what_is_missing(rt: HostRuntime) {
+    for &(name, start, list, len, wanted) in &MISSING {
+        let found = summary(start, list.get(..len).unwrap_or(&[]));
+        let missing = found.fault.as_ref().and_then(|fault| fault.missing());
+        equal(&rt, name, &missing, &wanted);
+    }
+}
+
+/// A required length, a length, whether the window is closed, and what is missing.
+static LENS: [(&str, usize, usize, bool, Option<usize>); 4] = [
+    ("too many bytes", 3, 5, false, None),
+    ("just enough", 5, 5, false, None),
+    ("too few in a closed window", 5, 3, true, None),
+    ("too few", 5, 3, false, Some(2)),
+];
+
+#[test]
+fn what_is_missing_by_a_fault(rt: HostRuntime) {
+    for &(name, required_len, len, closed, wanted) in &LENS {
+        let fault = PeelFault {
+            offset: 0,
+            error: PeelError::Len(len_error(required_len, len, Layer::Arp, 0)),
+            closed,
+        };
+        equal(&rt, name, &fault.missing(), &wanted);
+    }
+}
+
+#[test]
+fn an_open_refusal_waits_for_its_length(rt: HostRuntime) {
+    let mut frame = [
+        0xFF, 0xFF, 0xFF, 0xFF, 0xFF, 0xFF, 2, 0, 0, 0, 0, 1, 0x88, 0xA8, 0x00, 0x01, 0x81, 0x00,
+        0x00, 0x02, 0x08, 0x00,
+    ];
+    let waiting = open(len_error(4, 3, Layer::VlanHeader, 18));
+    let found = summary(Start::Ethernet2, &frame[..21]).fault;
+    let first = summary(Start::Ethernet2, &frame);
+    frame[20] = 0x86;
+    let second = summary(Start::Ethernet2, &frame);
+    let whole = |number| Summary {
+        units: 3,
+        rest_start: 22,
+        rest_end: 22,
+        kind: RestKind::EtherType(EtherType(number)),
+        fault: None,
+    };
+    equal(
+        &rt,
+        "a tag",
+        &(found, first, second),
+        &(waiting, whole(0x0800), whole(0x8600)),
+    );
+}
+
+/// The fault after an extension by so many bytes: an open refusal counts the bytes.
+fn extended(fault: &PeelFault, added: usize) -> Option<PeelFault> {
+    match &fault.error {
+        PeelError::Len(error) if !fault.closed => open(LenError {
+            required_len: error.required_len,
+            len: error.len.saturating_add(added),
+            len_source: error.len_source,
+            layer: error.layer,
+            layer_start_offset: error.layer_start_offset,
+        }),
+        _ => None,
+    }
+}
+
+/// An extension by so many bytes keeps all that was found, but that an open refusal counts the bytes.
+fn keeps(before: &Summary, added: usize, after: &Summary) -> bool {
+    let is_kept = match &before.fault {
+        None => after.fault.is_none() && after.kind == before.kind,
+        Some(fault) => match extended(fault, added) {
+            None => after.fault == before.fault,
+            counted => after.fault == counted,
+        },
+    };
+    is_kept && after.units == before.units
+}
+
+/// Whether the length that a summary's fault names is there, so that nothing is said of longer lists.
+fn names_at_most(before: &Summary, len: usize) -> bool {
+    match &before.fault {
+        Some(
+            PeelFault {
+                offset,
+                error: PeelError::Len(error),
+                closed: false,
+            },
+        ) => offset.saturating_add(error.required_len) <= len,
+        _ => false,
+    }
+}
+
+#[test]
+fn extensions_keep_what_was_found(rt: HostRuntime) {
+    for &(start, list) in &WORKED {
+        if start == Start::Ethernet2Fcs || list.len() > 100 {
+            continue;
+        }
+        for byte in [0x00, 0xFF] {
+            let mut bytes = [byte; 1100];
+            bytes[..list.len()].copy_from_slice(list);
+            let before = summary(start, list);
+            for added in [1, 32, 1000] {
+                let len = list.len() + added;
+                let after = summary(start, &bytes[..len]);
+                let is_kept = names_at_most(&before, len) || keeps(&before, added, &after);
+                assert!(rt; is_kept, "{added} bytes after {list:?}");
+            }
+        }
+    }
+}

@@ -1,0 +1,129 @@
+//! What a walk that receives a frame piece by piece asks for, and a reader of a stream, which reads what the walk misses.
+use super::{equal, fault_at};
+use crate::peel::plain::PlainRefusal;
+use crate::peel::test_frames::{
+    ARP_REPLY_FRAME, CHECKED, COOKED_ARP_REQUEST, NAMED, NESTED, PADDED_ARP, SECOND_TAG_CUT, TAGGED,
+};
+use ether_peel::{Feed, Start, feed, summary};
+use etherparse::LenSource;
+use etherparse::err::Layer;
+use std::io;
+use std::io::Read;
+
+const ETH: Start = Start::Ethernet2;
+
+const MACSEC: Start = with_type!(0x88E5);
+
+const EXAMPLE: [u8; 19] = [
+    0xFF, 0xFF, 0xFF, 0xFF, 0xFF, 0xFF, 0x02, 0x00, 0x00, 0x00, 0x00, 0x01, 0x81, 0x00, 0xB1, 0x23,
+    0x08, 0x00, 0x45,
+];
+
+const SEC_TAG: [u8; 28] = [
+    0xFF, 0xFF, 0xFF, 0xFF, 0xFF, 0xFF, 0x02, 0x00, 0x00, 0x00, 0x00, 0x01, 0x88, 0xE5, 0x00, 0x06,
+    0x00, 0x00, 0x00, 0x01, 0x81, 0x00, 0xAA, 0xBB, 0xCC, 0xDD, 0xEE, 0xEE,
+];
+
+/// A tag cut short in a closed window.
+const CLOSED: [u8; 12] = [
+    0x00, 0x04, 0x00, 0x00, 0x00, 0x01, 0x81, 0x00, 0xAA, 0xBB, 0xCC, 0xDD,
+];
+
+const SLICE: LenSource = LenSource::Slice;
+
+/// A frame, how often and how many bytes are asked for, and the place, closedness and reason of the fault.
+type Row = (
+    &'static str,
+    Start,
+    &'static [u8],
+    usize,
+    usize,
+    Option<(usize, bool, PlainRefusal)>,
+);
+
+#[rattlefmt::skip]
+static ROWS: [Row; 11] = [
+    ("the example", ETH, &EXAMPLE, 2, 18, None),
+    // 14, 20, 22 and 26 bytes: the Ethernet header, the SecTag's first six bytes, its ether type, and the payload that it names
+    ("a SecTag with its payload", ETH, &SEC_TAG, 4, 26, None),
+    ("after the ether type of MACsec", MACSEC, &NAMED, 3, 12, None),
+    ("a tag that is cut short", ETH, &SECOND_TAG_CUT, 2, 18, Some((18, false, too_short!(4, 0, SLICE, Layer::VlanHeader)))),
+    ("an ARP request with padding", ETH, &PADDED_ARP, 3, 42, None),
+    ("a tag cut short in a closed window", MACSEC, &CLOSED, 3, 10, Some((8, true, too_short!(4, 2, LenSource::MacsecShortLength, Layer::VlanHeader)))),
+    ("nothing in a closed window", MACSEC, &NESTED, 3, 32, None),
+    ("a content that is refused", MACSEC, &[0x80, 0, 0, 0, 0, 0], 1, 6, Some((0, false, PlainRefusal::Version))),
+    ("a check sequence", Start::Ethernet2Fcs, &CHECKED, 0, 0, Some((0, true, too_short!(18, 0, SLICE, Layer::Ethernet2Header)))),
+    ("no byte of IPv4", with_type!(0x0800), &[], 0, 0, None),
+    ("no byte of Ethernet", ETH, &[], 0, 0, Some((0, false, too_short!(14, 0, SLICE, Layer::Ethernet2Header)))),
+];
+
+#[test]
+fn refusals_and_bytes(rt: HostRuntime) {
+    for &(name, start, frame, refusals, taken, fault) in &ROWS {
+        let expected = Feed {
+            refusals,
+            taken,
+            fault: fault.map(|(offset, closed, refusal)| fault_at(offset, closed, refusal)),
+        };
+        equal(&rt, name, &feed(start, frame), &expected);
+    }
+}
+
+/// Reads the headers of a frame to the front of `buffer`. Returns how many bytes that took.
+fn read_headers<R: Read>(stream: &mut R, start: Start, buffer: &mut [u8]) -> io::Result<usize> {
+    let mut len = 0;
+    for _ in 0..buffer.len() {
+        let Some((read, free)) = buffer.split_at_mut_checked(len) else {
+            break;
+        };
+        let Some(fault) = summary(start, read).fault else {
+            break;
+        };
+        let Some(missing) = fault.missing() else {
+            break;
+        };
+        let Some(part) = free.get_mut(..missing) else {
+            break;
+        };
+        stream.read_exact(part)?;
+        len += missing;
+    }
+    Ok(len)
+}
+
+/// A frame, and where its last unit ends.
+static STREAMS: [(&str, Start, &[u8], usize); 6] = [
+    ("a VLAN tag", Start::Ethernet2, &TAGGED, 18),
+    (
+        "an ARP request with padding",
+        Start::Ethernet2,
+        &PADDED_ARP,
+        42,
+    ),
+    (
+        "an ARP reply with padding",
+        Start::Ethernet2,
+        &ARP_REPLY_FRAME,
+        42,
+    ),
+    ("a cooked capture", Start::LinuxSll, &COOKED_ARP_REQUEST, 44),
+    ("a named payload", MACSEC, &NAMED, 12),
+    ("SecTags in one another", MACSEC, &NESTED, 32),
+];
+
+/// The bytes up to the end of the last unit, and no more.
+#[test]
+fn a_stream_is_read_up_to_the_last_unit(rt: HostRuntime) -> io::Result<()> {
+    for &(name, start, frame, len) in &STREAMS {
+        let mut buffer = [0; 64];
+        let mut stream = frame;
+        let read = read_headers(&mut stream, start, &mut buffer)?;
+        equal(
+            &rt,
+            name,
+            &(read, feed(start, frame).taken, Some(stream)),
+            &(len, len, frame.get(len..)),
+        );
+    }
+    Ok(())
+}
