@@ -4,7 +4,8 @@ at the first that fails.
 Each line of these is passed on. After each proof a line says how many minutes have passed and how many minutes of processor time
 it took; where the wrong bodies of a crate begin, how many have passed. The last line adds up what passed. With --table FILE the
 minutes of each part of each crate are written there as a table. Processor time is sampled each second, so the parts add up to a
-little less than the total, which the system counts. It is not said of a system without /proc.
+little less than the total, which the system counts. It is not said of a system without /proc. With --anew nothing is taken from what an
+earlier run on this machine has kept.
 """
 import argparse
 import collections
@@ -137,10 +138,12 @@ def table(clock, ends):
 def main():
     words = argparse.ArgumentParser(description=__doc__.split("\n")[0])
     words.add_argument("--table", metavar="FILE", help="where the table is written")
+    words.add_argument("--anew", action="store_true", help="prove and try all, also what an earlier run has kept")
     given = words.parse_args()
     os.chdir(TOP)
     clock, ends, counts, status = Clock(), [], [0, 0], 0
     for name, command in COMMANDS.items():
+        command = command + ["--anew"] * (given.anew and name == "crates")
         cpu, wall = spent(), clock.passed()
         with subprocess.Popen(command, stdin=subprocess.DEVNULL, stdout=subprocess.PIPE, text=True, errors="replace") as run:
             for line in run.stdout:
