@@ -1,100 +1,63 @@
 //! The extensions of a link, and payloads of both kinds.
-use super::{Protocol, equal, protocol_type};
+use super::{Protocol, equal, ipv4, protocol_type};
 use crate::test_frames::{NAMED, SEALED, TAG};
 use etherparse::{
     EtherPayloadSlice, EtherType, LenSource, LinkExtHeader, LinkExtSlice, LinuxSllPayloadSlice,
     LinuxSllProtocolType, MacsecHeader, MacsecSlice, SingleVlanHeader, SingleVlanSlice,
 };
+use std::process::Abort;
 use std::test::Fail;
 
-/// An extension in bytes, its length, and its payload, if that can be read.
-struct Ext {
-    name: &'static str,
-    bytes: &'static [u8],
-    is_vlan: bool,
+/// The extension has this header, and this payload.
+fn is_ext(
+    rt: &impl Abort,
+    name: &str,
+    view: &LinkExtSlice<'_>,
     len: usize,
-    payload: Option<EtherPayloadSlice<'static>>,
+    header: LinkExtHeader,
+    payload: Option<EtherPayloadSlice<'_>>,
+) {
+    equal(
+        rt,
+        name,
+        &(
+            view.header_len(),
+            view.to_header(),
+            header.header_len(),
+            view.ether_payload(),
+        ),
+        &(len, header, len, payload),
+    );
 }
-
-static EXTS: [Ext; 4] = [
-    Ext {
-        name: "a VLAN tag",
-        bytes: &TAG,
-        is_vlan: true,
-        len: 4,
-        payload: Some(EtherPayloadSlice {
-            ether_type: EtherType::IPV4,
-            len_source: LenSource::Slice,
-            payload: &[0x45],
-        }),
-    },
-    Ext {
-        name: "a SecTag",
-        bytes: &NAMED,
-        is_vlan: false,
-        len: 8,
-        payload: Some(EtherPayloadSlice {
-            ether_type: EtherType(0x8100),
-            len_source: LenSource::MacsecShortLength,
-            payload: &[0xAA, 0xBB, 0xCC, 0xDD],
-        }),
-    },
-    Ext {
-        name: "an encrypted payload",
-        bytes: &SEALED,
-        is_vlan: false,
-        len: 14,
-        payload: None,
-    },
-    Ext {
-        name: "the least SecTag",
-        bytes: &[0x0C, 0x00, 0, 0, 0, 1],
-        is_vlan: false,
-        len: 6,
-        payload: None,
-    },
-];
 
 #[test]
 fn extensions(rt: HostRuntime) -> Result<(), Fail> {
-    for ext in &EXTS {
-        let (view, header) = if ext.is_vlan {
-            (
-                LinkExtSlice::Vlan(SingleVlanSlice::from_slice(ext.bytes)?),
-                LinkExtHeader::Vlan(SingleVlanHeader::from_slice(ext.bytes)?.0),
-            )
-        } else {
-            (
-                LinkExtSlice::Macsec(MacsecSlice::from_slice(ext.bytes)?),
-                LinkExtHeader::Macsec(MacsecHeader::from_slice(ext.bytes)?),
-            )
-        };
-        equal(
-            &rt,
-            ext.name,
-            &(
-                view.header_len(),
-                view.to_header(),
-                header.header_len(),
-                view.ether_payload(),
-            ),
-            &(ext.len, header, ext.len, ext.payload),
-        );
-    }
-    Ok(())
-}
-
-#[test]
-fn shown_by_debug(rt: HostRuntime) -> Result<(), Fail> {
+    let vlan = LinkExtSlice::Vlan(SingleVlanSlice::from_slice(&TAG)?);
+    let header = SingleVlanHeader::from_bytes([0xB1, 0x23, 0x08, 0x00]);
+    let header = LinkExtHeader::Vlan(header);
+    is_ext(&rt, "a VLAN tag", &vlan, 4, header, Some(ipv4(&[0x45])));
+    let named = LinkExtSlice::Macsec(MacsecSlice::from_slice(&NAMED)?);
+    let header = LinkExtHeader::Macsec(MacsecHeader::from_slice(&NAMED)?);
+    let payload = EtherPayloadSlice {
+        ether_type: EtherType(0x8100),
+        len_source: LenSource::MacsecShortLength,
+        payload: &[0xAA, 0xBB, 0xCC, 0xDD],
+    };
+    is_ext(&rt, "a SecTag", &named, 8, header, Some(payload));
+    let sealed = LinkExtSlice::Macsec(MacsecSlice::from_slice(&SEALED)?);
     let header = LinkExtHeader::Macsec(MacsecHeader::from_slice(&SEALED)?);
-    let view = LinkExtSlice::Macsec(MacsecSlice::from_slice(&SEALED)?);
-    let shown = format!(in rt.alloc(); "{:?}", (header, view))?;
+    is_ext(&rt, "an encrypted payload", &sealed, 14, header, None);
+    let least = LinkExtHeader::Macsec(MacsecHeader::from_slice(&[0x0C, 0x00, 0, 0, 0, 1])?);
+    let shown = format!(in rt.alloc(); "{:?}", (header, sealed))?;
     equal(
         &rt,
-        "an encrypted payload",
-        &shown.as_str(),
-        &"(Macsec(MacsecHeader { ptype: Encrypted, endstation_id: false, scb: false, an: MacsecAn(0), short_len: MacsecShortLen(0), packet_nr: 1, sci: Some(4822678189205111) }), \
+        "the least SecTag, and by Debug",
+        &(least.header_len(), shown.as_str()),
+        &(
+            6,
+            "(Macsec(MacsecHeader { ptype: Encrypted, endstation_id: false, scb: false, an: MacsecAn(0), short_len: MacsecShortLen(0), packet_nr: 1, sci: Some(4822678189205111) }), \
 Macsec(MacsecSlice { header: MacsecHeaderSlice { slice: [44, 192, 0, 0, 0, 1, 0, 17, 34, 51, 68, 85, 102, 119] }, payload: Modified([153]) }))",
+        ),
     );
     Ok(())
 }
