@@ -30,8 +30,8 @@ ARTEFACTS = {
         "ether_peel/src/completing.rt": ["completion", "completion_limited"],
     },
     "The tool": {
-        "ether_tool/src/run.rt": ["run", "run_limited"],
-        "ether_tool/src/program.rt": ["program"],
+        "ether_text/src/tool/run.rt": ["run", "run_limited"],
+        "ether_text/src/tool/program.rt": ["program"],
     },
     "Filters": {
         "ether_filter/src/filter.rt": ["parse", "matches"],
@@ -123,14 +123,9 @@ ORDER = {
         ether_peel: Grammar/Demands Grammar/Completion Walker/Summary Walker/WriteBack Walker/Limits Walker/Feeding
     """,
     "The tool": """
-        ether_tool: Frame
+        ether_text: Tool/Frame
         ether_base: Texts/NumberText
-        ether_text: HexText Lines WalkText Verdict
-        ether_tool: Mode Command Answer
-        ether_text: Run
-        ether_tool: Run Outcome
-        ether_text: Arguments
-        ether_tool: Program
+        ether_text: HexText Lines WalkText Verdict Tool/Mode Tool/Command Tool/Answer Run Tool/Run Tool/Outcome Arguments Tool/Program
     """,
     "Filters": """
         ether_filter: Primitives Expressions Words Numerals Tokens Grammar Texts Refusals

@@ -8,3 +8,4 @@ pub mod InputReader
 pub mod Verdict
 pub mod Arguments
 pub mod Run
+pub mod Tool

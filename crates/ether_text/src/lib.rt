@@ -3,7 +3,7 @@
 //!
 //! [`write_walk`] writes the lines of the walk of `ether_peel`, and [`write_feed`] those of feeding it. Both write to
 //! an [`OutputBuffer`], which gathers the text for a writer and remembers whether the writer has failed. An
-//! [`InputReader`] does the same for a reader.
+//! [`InputReader`] does the same for a reader. [`tool`] reads lines of frames, and answers each.
 #![tactic(auto)]
 
 mod decimals;
@@ -14,6 +14,7 @@ mod output_buffer;
 mod output_fault;
 mod sink;
 mod source;
+pub mod tool;
 mod verdict;
 mod walk_lines;
 mod write_hex;

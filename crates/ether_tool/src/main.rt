@@ -4,19 +4,7 @@
 //! output, but that a stream failed, which `main` says on standard error.
 #![tactic(auto)]
 
-pub mod command;
-mod digit_table;
-pub mod laws;
-mod line_buffer;
-mod line_loop;
-pub mod mode;
-pub mod outcome;
-pub mod parse_frame;
-pub mod program;
-pub mod run;
-#[cfg(test)]
-mod tests;
-mod write_answer;
+pub use ether_text::tool::{command, laws, mode, outcome, parse_frame, program, run};
 
 use std::process::ExitCode;
 use std::{env, io};

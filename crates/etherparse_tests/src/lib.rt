@@ -1,5 +1,6 @@
-//! Tests of `etherparse` and of the libraries that it re-exports, by its public paths, of `ether_peel` and of `ether_sll2`, and
-//! what callers learn of the derived traits of their types. They are in a crate above them, so that each library is proved once.
+//! Tests of `etherparse` and of the libraries that it re-exports, by its public paths, of `ether_peel`, `ether_sll2` and
+//! `ether_text`, and what callers learn of the derived traits of their types. They are in a crate above them, so that each library is proved
+//! once.
 #![tactic(auto)]
 
 #[cfg(test)]
@@ -10,3 +11,5 @@ mod peel;
 mod test_frames;
 #[cfg(test)]
 mod tests;
+#[cfg(test)]
+mod text;

@@ -1,0 +1,138 @@
+//! A run: from a reader of lines to a writer of the text for each.
+ghost use Rattle.std.specs.Prelude.{◌≡◌, ◌⊎◌, [], true, IfErr};
+ghost use Rattle.ether_text.specs.InputReader.{StopsReading};
+ghost use Rattle.ether_text.specs.OutputBuffer.{contents_of, Marks};
+ghost use Rattle.ether_text.specs.Run.{IsEndless};
+ghost use Rattle.ether_text.specs.Tool.Command.{limited_to, unlimited};
+ghost use Rattle.ether_text.specs.Tool.Run.{AnswersSlice, HasRun, IfSettled, OnInput, OnStreamFault};
+
+use crate::tool::command::Command;
+use crate::tool::line_loop::LineLoop;
+use crate::tool::mode::Mode;
+use crate::tool::outcome::{ToolFault, Verdict};
+use crate::{InputReader, OutputBuffer, Sink, SliceSource, Source};
+use std::io::{Read, Write};
+
+/// The room for one read.
+const CHUNK_LEN: usize = 65536;
+
+/// Reads the input to its end, and writes the text for each line as soon as the line has ended.
+///
+/// A line is a frame of up to 2,048 bytes as digits of either case. At the first line that is no
+/// frame the run stops with [`ToolFault::BadLine`]. The text for the lines before it has been
+/// written and flushed, and nothing is written for the line itself. Any fault of the reader,
+/// an interruption too, is [`ToolFault::Input`], as is a reader that never ends: the text
+/// for the lines that had ended has been written, and is not flushed. Any fault of the writer,
+/// also at the closing flush, is [`ToolFault::Output`], and nothing is said of how much was
+/// written. After a fault neither is called again. No memory is taken.
+pub fn run<R: Read, W: Write>(
+    mode: Mode,
+    reader: &mut R,
+    writer: &mut W,
+) -> Result<Verdict, ToolFault>
+    ensures { HasRun (unlimited mode) (R.remaining reader.old) (R.remaining reader.new)
+        (W.contents writer.old) (W.contents writer.new) result }
+{
+    run_command(Command { mode, limit: None }, reader, writer)
+}
+
+/// Does as [`run`], but of each frame reads at most `limit` VLAN tags and SecTags.
+pub fn run_limited<R: Read, W: Write>(
+    mode: Mode,
+    limit: usize,
+    reader: &mut R,
+    writer: &mut W,
+) -> Result<Verdict, ToolFault>
+    ensures { HasRun (limited_to mode limit) (R.remaining reader.old) (R.remaining reader.new)
+        (W.contents writer.old) (W.contents writer.new) result }
+{
+    let limit = Some(limit);
+    run_command(Command { mode, limit }, reader, writer)
+}
+
+/// Does as [`run`] on the lines of a slice, or as [`run_limited`] if there is a limit.
+///
+/// No read can fail, so the outcome is never [`ToolFault::Input`].
+pub fn run_slice<W: Sink>(
+    mode: Mode,
+    limit: Option<usize>,
+    lines: &[u8],
+    writer: &mut W,
+) -> Result<Verdict, ToolFault>
+    ensures run { AnswersSlice (record { mode = mode; limit = limit }) W.can_fail lines.now
+        (W.contents writer.old) (W.contents writer.new) result }
+    ensures flushed { IfSettled result (W.is_flushed writer.new) }
+{
+    let mut source = SliceSource::new(lines);
+    run_command(Command { mode, limit }, &mut source, writer)
+}
+
+/// What [`run`], [`run_limited`] and [`run_slice`] do.
+pub(crate) fn run_command<R: Source, W: Sink>(
+    command: Command,
+    reader: &mut R,
+    writer: &mut W,
+) -> Result<Verdict, ToolFault>
+    ensures run { HasRun command (R.remaining reader.old) (R.remaining reader.new)
+        (W.contents writer.old) (W.contents writer.new) result }
+    ensures failed { IfErr result (λ fault. OnStreamFault fault
+        (R.can_fail ⊎ IsEndless (R.remaining reader.old) (R.remaining reader.new)) W.can_fail) }
+    ensures flushed { IfSettled result (W.is_flushed writer.new) }
+{
+    let mut input = InputReader::new(reader);
+    let mut out = OutputBuffer::new(writer);
+    answer_input(command, &mut input, &mut out)
+}
+
+/// Reads the input to its end, and writes the text and flushes it. After a fault of the
+/// reader or the writer neither is called again.
+fn answer_input<R: Source, W: Sink>(
+    command: Command,
+    input: &mut InputReader<'_, R>,
+    out: &mut OutputBuffer<'_, W>,
+) -> Result<Verdict, ToolFault>
+    ensures same_reader { input.new.inner.ghost_name ≡ input.old.inner.ghost_name }
+    ensures same_writer { out.new.writer.ghost_name ≡ out.old.writer.ghost_name }
+    ensures run { HasRun command (R.remaining input.old.inner.now) (R.remaining input.new.inner.now)
+        (contents_of W.contents out.old) (W.contents out.new.writer.now) result }
+    ensures failed { IfErr result
+        (λ fault. OnStreamFault fault (input.new.has_failed ≡ true) (out.new.has_failed ≡ true)) }
+    ensures cause { IfErr result (λ fault. OnInput fault (StopsReading R.remaining R.can_fail input.old input.new)) }
+    ensures marks { Marks W.can_fail out.old out.new }
+    ensures flushed { IfSettled result (W.is_flushed out.new.writer.now) }
+{
+    let outcome = read_lines(command, input, out);
+    if let Ok(_) | Err(ToolFault::BadLine(_)) = outcome {
+        out.flush()?;
+    }
+    outcome
+}
+
+/// Reads the input to its end, and gathers the text. What is gathered is written out before
+/// each read.
+fn read_lines<R: Source, W: Sink>(
+    command: Command,
+    input: &mut InputReader<'_, R>,
+    out: &mut OutputBuffer<'_, W>,
+) -> Result<Verdict, ToolFault>
+    ensures same_reader { input.new.inner.ghost_name ≡ input.old.inner.ghost_name }
+    ensures same_writer { out.new.writer.ghost_name ≡ out.old.writer.ghost_name }
+    ensures run { HasRun command (R.remaining input.old.inner.now) (R.remaining input.new.inner.now)
+        (contents_of W.contents out.old) (contents_of W.contents out.new) result }
+    ensures none_waits { IfErr result (λ fault. OnInput fault (out.new.waiting.items ≡ [])) }
+    ensures failed { IfErr result
+        (λ fault. OnStreamFault fault (input.new.has_failed ≡ true) (out.new.has_failed ≡ true)) }
+    ensures cause { IfErr result (λ fault. OnInput fault (StopsReading R.remaining R.can_fail input.old input.new)) }
+    ensures marks { Marks W.can_fail out.old out.new }
+{
+    let mut lines = LineLoop::new();
+    let mut chunk = [0; CHUNK_LEN];
+    loop {
+        out.write_out()?;
+        let count = input.read(&mut chunk, out)?;
+        if count == 0 {
+            return lines.finish(command, out);
+        }
+        lines.take_chunk(command, &chunk[..count], out)?;
+    }
+}

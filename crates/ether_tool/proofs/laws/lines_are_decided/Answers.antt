@@ -1,6 +1,0 @@
-use Rattle.ether_tool.proofs.ParseFrameLemmas.{frame_decided, frame_or_bad, one_frame}
-use Rattle.ether_tool.proofs.laws.lines_are_decided.Goals as goal
-
-pub returns : goal.returns
-returns c =
-    λ line. record { one_of_them = frame_decided line; never_both = frame_or_bad line; one_frame = one_frame line }
