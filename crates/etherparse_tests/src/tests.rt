@@ -29,15 +29,10 @@ mod texts;
 mod vlan;
 mod write_front;
 
+use crate::checks::equal;
 use etherparse::{
     EtherPayloadSlice, EtherType, LenSource, LinuxNonstandardEtherType, LinuxSllProtocolType,
 };
-use std::process::Abort;
-
-/// Fails if `found` isn't what is wanted of the row `name`.
-fn equal<R: Abort, T: PartialEq>(rt: &R, name: &str, found: &T, wanted: &T) {
-    assert!(rt; found == wanted, "{name}");
-}
 
 /// A payload of IPv4 up to the end of its slice.
 const fn ipv4(payload: &[u8]) -> EtherPayloadSlice<'_> {

@@ -3,7 +3,7 @@ use Rattle.std.specs.Prelude.{ℕ, ◌*◌, ◌^◌, List, [], ◌∷◌, Some, 
 use Rattle.ether_pcap.specs.Numbers.{LittleEndian}
 use Rattle.ether_pcap.specs.FileHeader.{FileHeaderValue, Nanoseconds}
 use Rattle.ether_pcap.specs.Capture.{PacketValue, time_of, Beginning, HasPackets}
-use Rattle.example_arp_generator.specs.Request.{IsRequest}
+use Rattle.example_frames.specs.Request.{IsRequest}
 
 -- times in nanoseconds, no packet cut below 256 KiB, Ethernet (1), no length of a check sequence
 abbrev pub header_of_capture : FileHeaderValue

@@ -8,7 +8,7 @@ ghost use Rattle.ether_pcap.specs.Writing.{WritesFileHeader};
 use ether_pcap::laws::written_files_are_read;
 use ether_pcap::{ByteOrder, FileHeader, LinkType, PcapRecord, TimestampResolution};
 use etherparse::VlanId;
-use example_arp_generator::{REQUEST_LEN, write_arp_request};
+use example_frames::arp_generator::{REQUEST_LEN, write_arp_request};
 use std::io;
 use std::io::Write;
 

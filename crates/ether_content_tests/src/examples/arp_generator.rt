@@ -1,7 +1,8 @@
 //! A request as it is on the wire, and a target that is too short.
+use crate::checks::{equal, put};
 use etherparse::VlanId;
 use etherparse::err::{Layer, SliceWriteSpaceError};
-use example_arp_generator::{REQUEST_LEN, write_arp_request};
+use example_frames::arp_generator::{REQUEST_LEN, write_arp_request};
 use std::test::Fail;
 
 /// An ARP request of the Linux kernel as it was captured, without the outer one of its two VLAN tags.
@@ -11,29 +12,29 @@ const REQUEST: [u8; REQUEST_LEN] = [
     0xC0, 0x00, 0x02, 0x01, 0x00, 0x00, 0x00, 0x00, 0x00, 0x00, 0xC0, 0x00, 0x02, 0x02,
 ];
 
+const TOO_SHORT: SliceWriteSpaceError = SliceWriteSpaceError {
+    required_len: 46,
+    len: 45,
+    layer: Layer::EtherPayload,
+    layer_start_offset: 0,
+};
+
+/// The room of a target, the answer, and the bytes that are written.
+static ROWS: [(&str, usize, Result<usize, SliceWriteSpaceError>, &[u8]); 2] = [
+    ("48 bytes of room", 48, Ok(46), &REQUEST),
+    ("45 bytes of room", 45, Err(TOO_SHORT), &[]),
+];
+
 #[test]
 fn of_a_generator_of_arp_requests(rt: HostRuntime) -> Result<(), Fail> {
-    let refused = SliceWriteSpaceError {
-        required_len: 46,
-        len: 45,
-        layer: Layer::EtherPayload,
-        layer_start_offset: 0,
-    };
-    for (room, wanted, front) in [
-        (48, Ok(46), REQUEST.as_slice()),
-        (45, Err(refused), [].as_slice()),
-    ] {
-        let mut target = [0xAA; 48];
-        let written = write_arp_request(
-            &mut target[..room.min(48)],
-            VlanId::try_new(100)?,
-            [0x02, 0x00, 0x5E, 0x10, 0x00, 0x01],
-            [192, 0, 2, 1],
-            [192, 0, 2, 2],
-        );
-        let mut after = [0xAA; 48];
-        after[..front.len().min(48)].copy_from_slice(&front[..front.len().min(48)]);
-        assert_eq!(rt; (written, target), (wanted, after), "{room} bytes of room");
+    let vlan_id = VlanId::try_new(100)?;
+    let sender_mac = [0x02, 0x00, 0x5E, 0x10, 0x00, 0x01];
+    for (name, room, wanted, front) in &ROWS {
+        let (mut target, mut after) = ([0xAA; 48], [0xAA; 48]);
+        let room = &mut target[..48.min(*room)];
+        let written = write_arp_request(room, vlan_id, sender_mac, [192, 0, 2, 1], [192, 0, 2, 2]);
+        put(&mut after, 0, front);
+        equal(&rt, name, &(&written, target), &(wanted, after));
     }
     Ok(())
 }

@@ -1,4 +1,5 @@
 //! The examples of the documentation. What a switch makes of captures is tested over the built program, in `tests/examples.py`.
+use crate::checks::equal;
 use etherparse::VlanId;
 use example_learning_switch::{Decision, Port, PortKind, Switch};
 use std::test::Fail;
@@ -28,7 +29,7 @@ fn of_a_learning_switch(rt: HostRuntime) {
         switch.forward(&trunk(1), &reply[..17]),
     ];
     let wanted = [Some(Decision::Flood), Some(Decision::Port(1)), None];
-    assert_eq!(rt; decisions, wanted);
+    equal(&rt, "a request and its reply", &decisions, &wanted);
 }
 
 #[test]
@@ -46,7 +47,11 @@ fn of_frames_that_leave(rt: HostRuntime) -> Result<(), Fail> {
     let untagged = [2, 0, 0, 0, 0, 1, 2, 0, 0, 0, 0, 2, 0x08, 0x06, 0];
     let back = Decision::Flood.send(&trunk(1), &trunk(1), &mut buffer);
     let sent = Decision::Flood.send(&trunk(1), &access, &mut buffer);
-    assert_eq!(rt; (back, sent), (None, Some(8)));
-    assert_eq!(rt; buffer[8..], *untagged.as_slice());
+    equal(
+        &rt,
+        "a frame for an access port",
+        &(back, sent, &buffer[8..]),
+        &(None, Some(8), untagged.as_slice()),
+    );
     Ok(())
 }

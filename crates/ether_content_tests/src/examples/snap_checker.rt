@@ -1,8 +1,9 @@
 //! Captures of frames that are cut before, at and after the end of their headers.
 use super::TAGGED;
+use crate::checks::equal;
 use ether_peel::Start;
 use etherparse::EtherType;
-use example_snap_checker::keeps_all_headers;
+use example_frames::snap_checker::keeps_all_headers;
 
 /// Captured with the link type LINUX_SLL: a broadcast ARP request.
 const COOKED_ARP_REQUEST: [u8; 44] = [
@@ -16,44 +17,30 @@ const TAG_IN_SEC_TAG: [u8; 14] = [
     0x00, 0x06, 0x00, 0x00, 0x00, 0x01, 0x81, 0x00, 0xAA, 0xBB, 0xCC, 0xDD, 0xEE, 0xEE,
 ];
 
+const MACSEC: Start = Start::EtherType(EtherType::MACSEC);
+
+const ETH: Start = Start::Ethernet2;
+
+#[rattlefmt::skip]
+static ROWS: [(&str, Start, &[u8], usize, bool); 8] = [
+    ("a tag", ETH, &TAGGED, 18, true),
+    ("a tag that is cut", ETH, &TAGGED, 17, false),
+    ("an ARP packet is a header", Start::LinuxSll, &COOKED_ARP_REQUEST, 44, true),
+    ("an ARP packet that is cut", Start::LinuxSll, &COOKED_ARP_REQUEST, 43, false),
+    ("a named payload is kept", MACSEC, &TAG_IN_SEC_TAG, 12, true),
+    ("a named payload that is cut", MACSEC, &TAG_IN_SEC_TAG, 11, false),
+    ("longer than the frame", ETH, &TAGGED, 65535, true),
+    ("no frame", ETH, &[], 0, true),
+];
+
 #[test]
 fn of_a_checker_of_snap_lengths(rt: HostRuntime) {
-    let macsec = Start::EtherType(EtherType::MACSEC);
-    let examples: [(&str, Start, &[u8], usize, bool); 8] = [
-        ("a tag", Start::Ethernet2, &TAGGED, 18, true),
-        ("a tag that is cut", Start::Ethernet2, &TAGGED, 17, false),
-        (
-            "an ARP packet is a header",
-            Start::LinuxSll,
-            &COOKED_ARP_REQUEST,
-            44,
-            true,
-        ),
-        (
-            "an ARP packet that is cut",
-            Start::LinuxSll,
-            &COOKED_ARP_REQUEST,
-            43,
-            false,
-        ),
-        ("a named payload is kept", macsec, &TAG_IN_SEC_TAG, 12, true),
-        (
-            "a named payload that is cut",
-            macsec,
-            &TAG_IN_SEC_TAG,
-            11,
-            false,
-        ),
-        (
-            "longer than the frame",
-            Start::Ethernet2,
-            &TAGGED,
-            65535,
-            true,
-        ),
-        ("no frame", Start::Ethernet2, &[], 0, true),
-    ];
-    for (name, start, frame, snap_len, keeps) in examples {
-        assert_eq!(rt; keeps_all_headers(start, frame, snap_len), keeps, "{name}");
+    for &(name, start, frame, snap_len, keeps) in &ROWS {
+        equal(
+            &rt,
+            name,
+            &keeps_all_headers(start, frame, snap_len),
+            &keeps,
+        );
     }
 }

@@ -10,21 +10,9 @@ mod replacing_arp;
 mod replacing_links;
 mod vlan_tags;
 
+use crate::checks::{equal, put};
 use etherparse::{LinkExtHeader, MacsecHeader, SingleVlanHeader};
-use std::process::Abort;
 use std::test::Fail;
-
-/// Fails if `found` isn't what is wanted of the row `name`.
-fn equal<R: Abort, T: PartialEq>(rt: &R, name: &str, found: &T, wanted: &T) {
-    assert!(rt; found == wanted, "{name}");
-}
-
-/// Puts bytes in the place of others, as many as have room.
-fn put(target: &mut [u8], place: usize, bytes: &[u8]) {
-    for (to, byte) in target.iter_mut().skip(place).zip(bytes) {
-        *to = *byte;
-    }
-}
 
 /// The bytes, and zeros after them.
 fn filled(bytes: &[u8]) -> [u8; 96] {

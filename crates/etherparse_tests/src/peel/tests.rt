@@ -111,6 +111,7 @@ mod texts;
 mod units;
 mod writing_back;
 
+use crate::checks::equal;
 use crate::peel::plain::{PlainHeader, PlainKind, PlainRefusal};
 use ether_peel::{Peel, PeelError, PeelFault, PeelUnit, RestKind, Start, Summary, summary};
 use etherparse::err::{Layer, LenError, linux_sll, macsec};
@@ -120,15 +121,10 @@ use etherparse::{
 use limited::{summed, walker};
 use std::process::Abort;
 
-/// Fails if `found` isn't what is wanted of the row `name`.
-fn equal<R: Abort, T: PartialEq>(rt: &R, name: &str, found: &T, wanted: &T) {
-    assert!(rt; found == wanted, "{name}");
-}
-
-/// Puts bytes in the place of others, as many as have room.
+/// Puts bytes in the place of others, if they have room.
 fn put(target: &mut [u8], place: usize, bytes: &[u8]) {
-    for (to, byte) in target.iter_mut().skip(place).zip(bytes) {
-        *to = *byte;
+    if let Some(to) = target.get_mut(place..place.saturating_add(bytes.len())) {
+        to.copy_from_slice(bytes);
     }
 }
 

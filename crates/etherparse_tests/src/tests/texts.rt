@@ -259,7 +259,7 @@ fn of_numbers(rt: HostRuntime) -> Result<(), Fail> {
         max_allowed: 4095,
         value_type: ValueType::VlanId,
     };
-    let shown = format!(in rt.alloc(); "{id} {pcp} {an} {len} {refused}")?;
+    let shown = format!(in rt.alloc(); "{id} {refused}")?;
     let numbers = (id, pcp, an, len, ArpOperation::REPLY, VERSION, PACKET_TYPE);
     let debug = format!(in rt.alloc(); "{numbers:?}")?;
     equal(
@@ -267,7 +267,7 @@ fn of_numbers(rt: HostRuntime) -> Result<(), Fail> {
         "by Display and by Debug",
         &(shown.as_str(), debug.as_str(), refused.clone()?),
         &(
-            "2 2 2 2 Error '4096' is too big to be a 'VLAN ID' (maximum allowed value is '4095')",
+            "2 Error '4096' is too big to be a 'VLAN ID' (maximum allowed value is '4095')",
             "(VlanId(2), VlanPcp(2), MacsecAn(2), MacsecShortLen(2), ArpOperation(2), Content(UnexpectedVersion), Content(UnsupportedPacketTypeField { packet_type: 8 }))",
             refused,
         ),

@@ -149,14 +149,12 @@ fn views_with_payloads(rt: HostRuntime) -> Result<(), Fail> {
                     view.payload_slice(),
                 ),
                 (view.payload().payload, view.payload().ether_type),
-                view.clone()? == view,
             ),
             &(
                 (5, true, 291),
                 (ether_type, 4, tag(ether_type)?),
                 (bytes, bytes.get(..4), rest),
                 (rest, ether_type),
-                true,
             ),
         );
     }

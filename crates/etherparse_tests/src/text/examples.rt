@@ -1,8 +1,8 @@
 //! The examples of `ether_text`, a fault of the writer, and what is shown of the types of both crates.
-use ether_text::tool::mode::{Mode, Usage};
-use ether_text::tool::outcome::ToolFault;
 use arrayvec::ArrayVec;
 use ether_peel::Start;
+use ether_text::tool::mode::{Mode, Usage};
+use ether_text::tool::outcome::ToolFault;
 use ether_text::{
     InputFault, InputReader, OutputBuffer, OutputFault, SliceSource, Source, Verdict,
     write_decimal, write_feed, write_walk,

@@ -1,9 +1,9 @@
 //! What no contract of `run` says: that each fault of the reader and of the writer is reported, and the calls that come before and after.
+use arrayvec::ArrayVec;
 use ether_text::tool::mode::Mode;
 use ether_text::tool::outcome::ToolFault;
 use ether_text::tool::outcome::Verdict::{self, AllAccepted, SomeRefused};
 use ether_text::tool::run::run;
-use arrayvec::ArrayVec;
 use etherparse::EtherType;
 use std::io;
 use std::io::{ErrorKind, Read, Write};

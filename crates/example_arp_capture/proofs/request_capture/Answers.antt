@@ -6,7 +6,7 @@ use Rattle.ether_pcap.specs.Numbers.{LittleEndian}
 use Rattle.ether_pcap.specs.Record.{RecordValue}
 use Rattle.ether_pcap.specs.Writing.{WritesFileHeader, WritesRecordHeader, WritesRecords, none, more}
 use Rattle.ether_pcap.specs.Capture.{PacketValue, time_of, Beginning, HasPackets}
-use Rattle.example_arp_generator.specs.Request.{IsRequest}
+use Rattle.example_frames.specs.Request.{IsRequest}
 use Rattle.example_arp_capture.specs.Capture.{header_of_capture, packet_at}
 use Rattle.example_arp_capture.proofs.request_capture.Goals as goal
 

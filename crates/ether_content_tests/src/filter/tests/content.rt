@@ -1,4 +1,5 @@
 //! What is walked of a captured packet, and the examples of `ether_content`.
+use crate::checks::equal;
 use ether_content::{Content, NoRoom, PacketEdit, edit_packet, headers_len, is_cut, selects};
 use ether_filter::Filter;
 use ether_pcap::{CapturedPacket, LinkType};
@@ -28,171 +29,148 @@ fn packet(
     }
 }
 
+const BYTES: [u8; 18] = [0xFF; 18];
+
+/// A link type, the length of a check sequence, the original length, the bytes, and the frame that they hold.
+type Framed = (
+    &'static str,
+    u16,
+    Option<u8>,
+    u32,
+    &'static [u8],
+    Option<(Start, usize)>,
+);
+
+#[rattlefmt::skip]
+static FRAMES: [Framed; 8] = [
+    ("Ethernet", 1, None, 18, &BYTES, Some((Start::Ethernet2, 18))),
+    ("with its check sequence", 1, Some(4), 18, &BYTES, Some((Start::Ethernet2Fcs, 18))),
+    ("cut within it", 1, Some(4), 20, &BYTES, Some((Start::Ethernet2, 16))),
+    ("cut before it", 1, Some(4), 60, &BYTES, Some((Start::Ethernet2, 18))),
+    ("of two bytes", 1, Some(2), 18, &BYTES, Some((Start::Ethernet2, 16))),
+    ("cooked capture v1", 113, None, 18, &BYTES, Some((Start::LinuxSll, 18))),
+    ("raw IP", 101, None, 18, &BYTES, None),
+    ("ARP in cooked capture v2", 276, None, 20, &LINUX_SLL2, Some((Start::EtherType(EtherType::ARP), 0))),
+];
+
 #[test]
-fn frames_by_link_type(rt: HostRuntime) -> Result<(), Fail> {
-    let bytes = [0xFF; 18];
-    let rows = [
-        (
-            "Ethernet",
-            packet(1, None, 18, &bytes),
-            Some((Start::Ethernet2, 18)),
-        ),
-        (
-            "with its check sequence",
-            packet(1, Some(4), 18, &bytes),
-            Some((Start::Ethernet2Fcs, 18)),
-        ),
-        (
-            "cut within it",
-            packet(1, Some(4), 20, &bytes),
-            Some((Start::Ethernet2, 16)),
-        ),
-        (
-            "cut before it",
-            packet(1, Some(4), 60, &bytes),
-            Some((Start::Ethernet2, 18)),
-        ),
-        (
-            "of two bytes",
-            packet(1, Some(2), 18, &bytes),
-            Some((Start::Ethernet2, 16)),
-        ),
-        (
-            "cooked capture v1",
-            packet(113, None, 18, &bytes),
-            Some((Start::LinuxSll, 18)),
-        ),
-        ("raw IP", packet(101, None, 18, &bytes), None),
-    ];
-    for (name, packet, wanted) in rows {
-        let found = Content::of(&packet)
-            .frame()
-            .map(|(start, frame)| (start, frame.len()));
-        assert_eq!(rt; (name, found), (name, wanted));
+fn frames_by_link_type(rt: HostRuntime) {
+    for &(name, link_type, fcs_len, original_len, bytes, wanted) in &FRAMES {
+        let frame = Content::of(&packet(link_type, fcs_len, original_len, bytes)).frame();
+        let found = match frame {
+            Some((start, frame)) => Some((start, frame.len())),
+            None => None,
+        };
+        equal(&rt, name, &found, &wanted);
     }
-    let arp = Content::of(&packet(276, None, 20, &LINUX_SLL2)).frame();
-    assert_eq!(rt;
-        arp.map(|(start, frame)| (start, frame.len())),
-        Some((Start::EtherType(EtherType::ARP), 0))
-    );
-    Ok(())
 }
 
 #[test]
-fn of_content(rt: HostRuntime) -> Result<(), Fail> {
+fn of_content(rt: HostRuntime) {
     let packet = packet(1, None, 60, &[0xFF; 14]);
-    assert_eq!(rt;
-        Content::of(&packet).frame(),
-        Some((Start::Ethernet2, [0xFF; 14].as_slice()))
+    equal(
+        &rt,
+        "the example",
+        &(Content::of(&packet).frame(), is_cut(&packet)),
+        &(Some((Start::Ethernet2, [0xFF; 14].as_slice())), true),
     );
-    assert!(rt; is_cut(&packet));
-    Ok(())
 }
+
+/// An Ethernet II header, VLAN 291 and two bytes of IPv4.
+const TAGGED: [u8; 20] = [
+    0xFF, 0xFF, 0xFF, 0xFF, 0xFF, 0xFF, 0x02, 0x00, 0x00, 0x00, 0x00, 0x01, 0x81, 0x00, 0xB1, 0x23,
+    0x08, 0x00, 0x45, 0x00,
+];
+
+static SELECTED: [(&[u8], bool); 2] = [(b"vlan 291 and cut", true), (b"arp", false)];
 
 #[test]
 fn of_selects(rt: HostRuntime) -> Result<(), Fail> {
-    let bytes = [
-        0xFF, 0xFF, 0xFF, 0xFF, 0xFF, 0xFF, 0x02, 0x00, 0x00, 0x00, 0x00, 0x01, 0x81, 0x00, // Ethernet II
-        0xB1, 0x23, 0x08, 0x00, // VLAN 291
-    ];
-    for (text, wanted) in [
-        (b"vlan 291 and cut".as_slice(), true),
-        (b"arp".as_slice(), false),
-    ] {
-        let selected = Filter::parse(text).map(|filter| selects(
-            &filter,
-            &packet(1, None, 60, &bytes),
-        ));
-        assert_eq!(rt; selected, Ok(wanted));
+    for &(text, wanted) in &SELECTED {
+        let filter = Filter::parse(text).ok().ok_or("an expression")?;
+        let found = selects(&filter, &packet(1, None, 60, &TAGGED[..18]));
+        equal(&rt, "the example", &found, &wanted);
     }
     Ok(())
 }
 
+/// A link type, the length of a check sequence, the original length, the bytes, and how many of them are headers.
+#[rattlefmt::skip]
+static HEADERS: [(&str, u16, Option<u8>, u32, &[u8], usize); 6] = [
+    ("a tag and a payload", 1, None, 60, &TAGGED, 18),
+    ("a tag cut short", 1, None, 60, &TAGGED_CUT, 14),
+    ("a check sequence", 1, Some(4), 18, &BYTES, 14),
+    ("cooked capture v2 without its ARP packet", 276, None, 60, &LINUX_SLL2, 20),
+    ("cooked capture v2 cut short", 276, None, 60, &BYTES, 0),
+    ("raw IP", 101, None, 60, &TAGGED, 0),
+];
+
+const TAGGED_CUT: [u8; 17] = [
+    0xFF, 0xFF, 0xFF, 0xFF, 0xFF, 0xFF, 0x02, 0x00, 0x00, 0x00, 0x00, 0x01, 0x81, 0x00, 0xB1, 0x23,
+    0x08,
+];
+
 #[test]
 fn of_headers_len(rt: HostRuntime) {
-    let tagged = [
-        0xFF, 0xFF, 0xFF, 0xFF, 0xFF, 0xFF, 0x02, 0x00, 0x00, 0x00, 0x00, 0x01, 0x81, 0x00, // Ethernet II
-        0xB1, 0x23, 0x08, 0x00, // VLAN 291
-        0x45, 0x00,
-    ];
-    for (name, packet, wanted) in [
-        ("a tag and a payload", packet(1, None, 60, &tagged), 18),
-        ("a tag cut short", packet(1, None, 60, &tagged[..17]), 14),
-        ("a check sequence", packet(1, Some(4), 18, &[0xFF; 18]), 14),
-        (
-            "cooked capture v2 without its ARP packet",
-            packet(276, None, 60, &LINUX_SLL2),
-            20,
-        ),
-        (
-            "cooked capture v2 cut short",
-            packet(276, None, 60, &LINUX_SLL2[..19]),
-            0,
-        ),
-        ("raw IP", packet(101, None, 60, &tagged), 0),
-    ] {
-        assert_eq!(rt; (name, headers_len(&packet)), (name, wanted));
+    for &(name, link_type, fcs_len, original_len, bytes, wanted) in &HEADERS {
+        let found = headers_len(&packet(link_type, fcs_len, original_len, bytes));
+        equal(&rt, name, &found, &wanted);
     }
 }
 
 /// Tests that a packet is edited to these bytes, and to this original length.
-fn is_edited(
-    edit: PacketEdit,
-    packet: &CapturedPacket<'_>,
-    original_len: u64,
-    bytes: &[u8],
-) -> bool {
+fn is_edited(edit: PacketEdit, original_len: u64, bytes: &[u8]) -> bool {
     let mut buffer = [0xEE; 24];
-    let Ok(Some(edited)) = edit_packet(edit, packet, &mut buffer) else {
+    let Ok(Some(edited)) = edit_packet(edit, &packet(1, None, 60, &TAGGED), &mut buffer) else {
         return false;
     };
-    match buffer.get(edited.start..edited.end) {
-        Some(found) => edited.original_len == original_len && found == bytes,
-        None => false,
-    }
+    let found = buffer.get(edited.start..edited.end);
+    (edited.original_len, found) == (original_len, Some(bytes))
 }
+
+const POPPED: [u8; 16] = [
+    0xFF, 0xFF, 0xFF, 0xFF, 0xFF, 0xFF, 0x02, 0x00, 0x00, 0x00, 0x00, 0x01, 0x08, 0x00, //
+    0x45, 0x00,
+];
+
+const PUSHED: [u8; 24] = [
+    0xFF, 0xFF, 0xFF, 0xFF, 0xFF, 0xFF, 0x02, 0x00, 0x00, 0x00, 0x00, 0x01, 0x88, 0xA8, //
+    0x00, 0x05, 0x81, 0x00, 0xB1, 0x23, 0x08, 0x00, //
+    0x45, 0x00,
+];
+
+/// VLAN 5 in place of VLAN 291.
+const OTHER: [u8; 20] = [
+    0xFF, 0xFF, 0xFF, 0xFF, 0xFF, 0xFF, 0x02, 0x00, 0x00, 0x00, 0x00, 0x01, 0x81, 0x00, //
+    0xB0, 0x05, 0x08, 0x00, //
+    0x45, 0x00,
+];
 
 #[test]
 fn of_edits(rt: HostRuntime) -> Result<(), Fail> {
-    let tagged = [
-        0xFF, 0xFF, 0xFF, 0xFF, 0xFF, 0xFF, 0x02, 0x00, 0x00, 0x00, 0x00, 0x01, 0x81, 0x00, // Ethernet II
-        0xB1, 0x23, 0x08, 0x00, // VLAN 291
-        0x45, 0x00,
-    ];
-    let popped = [
-        0xFF, 0xFF, 0xFF, 0xFF, 0xFF, 0xFF, 0x02, 0x00, 0x00, 0x00, 0x00, 0x01, 0x08, 0x00, //
-        0x45, 0x00,
-    ];
-    let pushed = [
-        0xFF, 0xFF, 0xFF, 0xFF, 0xFF, 0xFF, 0x02, 0x00, 0x00, 0x00, 0x00, 0x01, 0x88, 0xA8, //
-        0x00, 0x05, 0x81, 0x00, 0xB1, 0x23, 0x08, 0x00, //
-        0x45, 0x00,
-    ];
-    let other = [
-        0xFF, 0xFF, 0xFF, 0xFF, 0xFF, 0xFF, 0x02, 0x00, 0x00, 0x00, 0x00, 0x01, 0x81, 0x00, //
-        0xB0, 0x05, 0x08, 0x00, // VLAN 5
-        0x45, 0x00,
-    ];
-    let push = PacketEdit::PushVlan {
-        tpid: EtherType::PROVIDER_BRIDGING,
-        vlan_id: VlanId::try_new(5)?,
-    };
-    let set = PacketEdit::SetVlan {
-        from: VlanId::try_new(291)?,
-        to: VlanId::try_new(5)?,
-    };
-    let frame = packet(1, None, 60, &tagged);
-    let raw = packet(101, None, 60, &tagged);
-    assert!(rt; is_edited(PacketEdit::CutToHeaders, &frame, 60, &tagged[..18]));
-    assert!(rt; is_edited(PacketEdit::PopVlan, &frame, 56, &popped));
-    assert!(rt; is_edited(push, &frame, 64, &pushed));
-    assert!(rt; is_edited(set, &frame, 60, &other));
-    assert_eq!(rt;
-        edit_packet(PacketEdit::PopVlan, &raw, &mut [0; 24]),
-        Ok(None)
+    let (tpid, vlan_id) = (EtherType::PROVIDER_BRIDGING, VlanId::try_new(5)?);
+    let (push, from) = (
+        PacketEdit::PushVlan { tpid, vlan_id },
+        VlanId::try_new(291)?,
     );
-    assert_eq!(rt; edit_packet(push, &raw, &mut [0; 24]), Ok(None));
-    assert_eq!(rt; edit_packet(set, &raw, &mut [0; 24]), Ok(None));
-    assert_eq!(rt; edit_packet(push, &frame, &mut [0; 23]), Err(NoRoom));
+    let set = PacketEdit::SetVlan { from, to: vlan_id };
+    let are_edited = [
+        is_edited(PacketEdit::CutToHeaders, 60, &TAGGED[..18]),
+        is_edited(PacketEdit::PopVlan, 56, &POPPED),
+        is_edited(push, 64, &PUSHED),
+        is_edited(set, 60, &OTHER),
+    ];
+    equal(&rt, "each edit", &are_edited, &[true; 4]);
+    let raw = packet(101, None, 60, &TAGGED);
+    let unedited = [
+        edit_packet(PacketEdit::PopVlan, &raw, &mut [0; 24]),
+        edit_packet(push, &packet(1, None, 60, &TAGGED), &mut [0; 23]),
+    ];
+    equal(
+        &rt,
+        "no frame, and no room",
+        &unedited,
+        &[Ok(None), Err(NoRoom)],
+    );
     Ok(())
 }

@@ -35,42 +35,44 @@ fn matching(expression: &[u8]) -> Option<[bool; 6]> {
     Some(found)
 }
 
+const Y: bool = true;
+
+const N: bool = false;
+
+/// An expression, and which of the packets match.
+#[rattlefmt::skip]
+static MATCHING: [(&[u8], [bool; 6]); 24] = [
+    (b"vlan 5 or arp", [Y, Y, Y, Y, N, Y]),
+    (b"arp or vlan 5", [Y, Y, Y, Y, N, Y]),
+    (b"vlan 7 or vlan 5", [N, Y, Y, Y, N, Y]),
+    (b"vlan and arp", [N, Y, Y, N, N, N]),
+    (b"arp", [Y, Y, Y, N, N, N]),
+    (b"not vlan", [Y, N, N, N, Y, N]),
+    (b"!(vlan 5||arp)", [N, N, N, N, Y, N]),
+    (b"not not vlan 0x7", [N, N, Y, N, N, N]),
+    (b"outer vlan 5", [N, Y, N, Y, N, N]),
+    (b"outer vlan 100", [N, N, N, N, N, Y]),
+    (b"inner vlan 5", [N, N, N, N, N, Y]),
+    (b"inner vlan 100", [N, N, N, N, N, N]),
+    (b"ip", [N, N, N, Y, Y, Y]),
+    (b"ether proto 0x88a8", [N, N, N, N, N, Y]),
+    (b"ip6 or macsec or refused", [N, N, N, N, N, N]),
+    (b"ether src 02:00:5e:10:00:01", [Y, Y, Y, Y, Y, Y]),
+    (b"ether dst 02:00:5E:10:00:02", [N, N, N, Y, N, Y]),
+    (b"ether host 03:00:5e:10:00:02", [N, N, N, N, Y, N]),
+    (b"ether broadcast", [Y, Y, Y, N, N, N]),
+    (b"ether multicast", [Y, Y, Y, N, Y, N]),
+    (b"cut", [N, Y, Y, Y, N, Y]),
+    (b"less 64", [Y, Y, Y, N, Y, N]),
+    (b"greater 64", [N, Y, Y, Y, N, Y]),
+    (b"vlan 5 and (arp or ip) and not outer vlan 100", [N, Y, N, Y, N, N]),
+];
+
 #[test]
-fn of_six_packets(rt: HostRuntime) -> Result<(), Fail> {
-    let (y, n) = (true, false);
-    let examples: [(&[u8], [bool; 6]); 24] = [
-        (b"vlan 5 or arp", [y, y, y, y, n, y]),
-        (b"arp or vlan 5", [y, y, y, y, n, y]),
-        (b"vlan 7 or vlan 5", [n, y, y, y, n, y]),
-        (b"vlan and arp", [n, y, y, n, n, n]),
-        (b"arp", [y, y, y, n, n, n]),
-        (b"not vlan", [y, n, n, n, y, n]),
-        (b"!(vlan 5||arp)", [n, n, n, n, y, n]),
-        (b"not not vlan 0x7", [n, n, y, n, n, n]),
-        (b"outer vlan 5", [n, y, n, y, n, n]),
-        (b"outer vlan 100", [n, n, n, n, n, y]),
-        (b"inner vlan 5", [n, n, n, n, n, y]),
-        (b"inner vlan 100", [n, n, n, n, n, n]),
-        (b"ip", [n, n, n, y, y, y]),
-        (b"ether proto 0x88a8", [n, n, n, n, n, y]),
-        (b"ip6 or macsec or refused", [n, n, n, n, n, n]),
-        (b"ether src 02:00:5e:10:00:01", [y, y, y, y, y, y]),
-        (b"ether dst 02:00:5E:10:00:02", [n, n, n, y, n, y]),
-        (b"ether host 03:00:5e:10:00:02", [n, n, n, n, y, n]),
-        (b"ether broadcast", [y, y, y, n, n, n]),
-        (b"ether multicast", [y, y, y, n, y, n]),
-        (b"cut", [n, y, y, y, n, y]),
-        (b"less 64", [y, y, y, n, y, n]),
-        (b"greater 64", [n, y, y, y, n, y]),
-        (
-            b"vlan 5 and (arp or ip) and not outer vlan 100",
-            [n, y, n, y, n, n],
-        ),
-    ];
-    for (expression, wanted) in examples {
-        assert_eq!(rt; matching(expression), Some(wanted), "{expression:?}");
+fn of_six_packets(rt: HostRuntime) {
+    for &(expression, wanted) in &MATCHING {
+        assert!(rt; matching(expression) == Some(wanted), "{expression:?}");
     }
-    Ok(())
 }
 
 /// Four VLAN tags, 1 to 4, before IPv4.
@@ -88,66 +90,52 @@ const ENCRYPTED: &[u8] =
 /// A broadcast of IPv6 in Linux cooked capture v1, from Ethernet.
 const COOKED: &[u8] = b"\x00\x01\x00\x01\x00\x06\xFF\xFF\xFF\xFF\xFF\xFF\x00\x00\x86\xDD\x60";
 
+/// Less than the fourth tag, and less than the cooked header.
+const FOUR_TAGS_CUT: &[u8] =
+    b"\x02\x00\x5E\x10\x00\x02\x02\x00\x5E\x10\x00\x01\x81\x00\x00\x01\x81\x00\x00\x02\x81\x00\x00\x03\x81\x00\x00\x04\x08";
+
+const COOKED_CUT: &[u8] = b"\x00\x01\x00\x01\x00\x06\xFF\xFF\xFF\xFF\xFF\xFF\x00\x00\x86";
+
+const ETH: Start = Start::Ethernet2;
+
+const FCS: Start = Start::Ethernet2Fcs;
+
+const SLL: Start = Start::LinuxSll;
+
+const TAG: Start = Start::EtherType(EtherType::VLAN_TAGGED_FRAME);
+
+/// A start, a frame, an expression, and whether they match.
+#[rattlefmt::skip]
+static OTHER: [(Start, &[u8], &[u8], bool); 16] = [
+    (ETH, FOUR_TAGS, b"outer vlan 1 and inner vlan 4", true),
+    (ETH, FOUR_TAGS, b"vlan 3 and vlan 2", true),
+    (ETH, FOUR_TAGS, b"inner vlan 2 or inner vlan 3", false),
+    (ETH, FOUR_TAGS_CUT, b"refused and vlan 3", true),
+    (ETH, FOUR_TAGS_CUT, b"vlan 4 or ip", false),
+    (ETH, IN_SEC_TAG, b"macsec and vlan 9 and arp", true),
+    (ETH, IN_SEC_TAG, b"refused", true),
+    (ETH, ENCRYPTED, b"macsec", true),
+    (ETH, ENCRYPTED, b"vlan or arp or refused", false),
+    (SLL, COOKED, b"ip6", true),
+    (SLL, COOKED, b"ether broadcast or ether src ff:ff:ff:ff:ff:ff", false),
+    (SLL, COOKED_CUT, b"refused", true),
+    (TAG, b"\x00\x05\x08\x00\x45", b"vlan 5 and ip", true),
+    (TAG, b"\x00", b"ether proto 0x8100 and refused", true),
+    (TAG, b"\x00", b"vlan", false),
+    (FCS, FOUR_TAGS, b"vlan 3 and refused", true),
+];
+
 #[test]
 fn of_other_packets(rt: HostRuntime) -> Result<(), Fail> {
-    let tag = Start::EtherType(EtherType::VLAN_TAGGED_FRAME);
-    let examples: [(Start, &[u8], &[u8], bool); 16] = [
-        (
-            Start::Ethernet2,
-            FOUR_TAGS,
-            b"outer vlan 1 and inner vlan 4",
-            true,
-        ),
-        (Start::Ethernet2, FOUR_TAGS, b"vlan 3 and vlan 2", true),
-        (
-            Start::Ethernet2,
-            FOUR_TAGS,
-            b"inner vlan 2 or inner vlan 3",
-            false,
-        ),
-        (
-            Start::Ethernet2,
-            &FOUR_TAGS[..29],
-            b"refused and vlan 3",
-            true,
-        ),
-        (Start::Ethernet2, &FOUR_TAGS[..29], b"vlan 4 or ip", false),
-        (
-            Start::Ethernet2,
-            IN_SEC_TAG,
-            b"macsec and vlan 9 and arp",
-            true,
-        ),
-        (Start::Ethernet2, IN_SEC_TAG, b"refused", true),
-        (Start::Ethernet2, ENCRYPTED, b"macsec", true),
-        (
-            Start::Ethernet2,
-            ENCRYPTED,
-            b"vlan or arp or refused",
-            false,
-        ),
-        (Start::LinuxSll, COOKED, b"ip6", true),
-        (
-            Start::LinuxSll,
-            COOKED,
-            b"ether broadcast or ether src ff:ff:ff:ff:ff:ff",
-            false,
-        ),
-        (Start::LinuxSll, &COOKED[..15], b"refused", true),
-        (tag, b"\x00\x05\x08\x00\x45", b"vlan 5 and ip", true),
-        (tag, b"\x00", b"ether proto 0x8100 and refused", true),
-        (tag, b"\x00", b"vlan", false),
-        (Start::Ethernet2Fcs, FOUR_TAGS, b"vlan 3 and refused", true),
-    ];
-    for (start, frame, expression, wanted) in examples {
+    for &(start, frame, expression, wanted) in &OTHER {
         let packet = Packet {
             start,
             frame,
             captured_len: frame.len(),
             original_len: 60,
         };
-        let matches = Filter::parse(expression).map(|filter| filter.matches(&packet));
-        assert_eq!(rt; matches, Ok(wanted), "{expression:?}");
+        let filter = Filter::parse(expression).ok().ok_or("an expression")?;
+        assert!(rt; filter.matches(&packet) == wanted, "{expression:?}");
     }
     Ok(())
 }

@@ -5,11 +5,11 @@ use super::frames::{
     TAG_IN_SEC_TAG, TWICE_TAGGED_ARP_REQUEST,
 };
 use ether_packet::{PacketExt, PacketSlice, min_snap_len};
-use ether_peel::{PeelError, PeelFault, RestKind, Start, snap_limited};
+use ether_peel::{PeelError, PeelFault, RestKind, Start};
 use etherparse::err::{Layer, LenError};
 use etherparse::{
-    ArpOperation, ArpPacketSlice, DoubleVlanSlice, EtherPayloadSlice, EtherType, Ethernet2Slice,
-    LenSource, LinkExtSlice, LinkSlice, LinuxSllSlice, MacsecSlice, SingleVlanSlice, VlanSlice,
+    ArpPacketSlice, DoubleVlanSlice, EtherPayloadSlice, EtherType, Ethernet2Slice, LenSource,
+    LinkExtSlice, LinkSlice, LinuxSllSlice, MacsecSlice, SingleVlanSlice, VlanSlice,
 };
 use std::process::Abort;
 use std::test::Fail;
@@ -158,57 +158,29 @@ fn what_is_left(rt: HostRuntime) {
     }
 }
 
-/// Each cut has all headers of the whole exactly if it has the least length.
-fn cuts_keep(rt: &impl Abort, row: &Left) {
-    let (start, frame) = (row.start, row.frame);
-    let whole = snap_limited(start, frame, frame.len(), PacketSlice::LINK_EXTS_CAP);
-    for n in 0..=frame.len() {
-        let cut = snap_limited(start, frame, n, PacketSlice::LINK_EXTS_CAP);
-        equal(rt, row.name, &(cut.units == whole.units), &(row.least <= n));
-    }
-}
-
-#[test]
-fn cuts_keep_all_headers(rt: HostRuntime) {
-    for row in &ROWS {
-        cuts_keep(&rt, row);
-    }
-}
-
 #[test]
 fn headers_as_views(rt: HostRuntime) -> Result<(), Fail> {
     let frame = TWICE_TAGGED_ARP_REQUEST;
     let packet = PacketSlice::from_slice(Start::Ethernet2, &frame);
-    let outer = SingleVlanSlice::from_slice(&frame[14..])?;
-    let inner = SingleVlanSlice::from_slice(&frame[18..])?;
+    let tags = DoubleVlanSlice {
+        outer: SingleVlanSlice::from_slice(&frame[14..])?,
+        inner: SingleVlanSlice::from_slice(&frame[18..])?,
+    };
     let link = Ethernet2Slice::from_slice_without_fcs(&frame)?;
     let arp = ArpPacketSlice::from_slice(&frame[22..])?;
-    let first = PacketExt {
-        offset: 14,
-        slice: LinkExtSlice::Vlan(outer.clone()?),
-    };
-    let last = PacketExt {
-        offset: 18,
-        slice: LinkExtSlice::Vlan(inner.clone()?),
-    };
-    let operation = packet.arp().map(|arp| arp.operation());
-    let exts = packet.link_exts();
     equal(
         &rt,
         "a frame with two tags",
         &(
-            (packet.link(), packet.vlan(), packet.arp()),
-            (operation, packet.arp_offset()),
-            (exts.len(), exts.first(), exts.last()),
+            (packet.link(), packet.vlan()),
+            (packet.arp(), packet.arp_offset()),
         ),
         &(
             (
                 Some(LinkSlice::Ethernet2(link)),
-                Some(VlanSlice::DoubleVlan(DoubleVlanSlice { outer, inner })),
-                Some(arp),
+                Some(VlanSlice::DoubleVlan(tags)),
             ),
-            (Some(ArpOperation::REQUEST), Some(22)),
-            (2, Some(&first), Some(&last)),
+            (Some(arp), Some(22)),
         ),
     );
     Ok(())

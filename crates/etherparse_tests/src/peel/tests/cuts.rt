@@ -190,61 +190,43 @@ fn closed_windows_in_one_another(rt: HostRuntime) {
     );
 }
 
-/// A byte of the nested tags, what is put in its place, the units before the fault, the window of that, and the bytes that it requires and
-/// that are there, or none if the ether type has no room.
-type Changed = (
-    &'static str,
-    usize,
-    u8,
-    usize,
-    (usize, usize),
-    Option<(usize, usize)>,
-);
+/// A byte of the nested tags, what is put in its place, the units before the fault, the window of that, and why it is refused.
+type Changed = (&'static str, usize, u8, usize, (usize, usize), PlainRefusal);
 
+/// A payload longer than its window.
+macro_rules! longer {
+    ($required_len:expr, $len:expr $(,)?) => {
+        too_short!($required_len, $len, LenSource::MacsecShortLength, Layer::MacsecPacket)
+    };
+}
+
+#[rattlefmt::skip]
 static CHANGED: [Changed; 3] = [
-    (
-        "a payload longer than the window",
-        25,
-        0x03,
-        3,
-        (24, 32),
-        Some((9, 8)),
-    ),
-    ("no room for the ether type", 25, 0x01, 3, (24, 32), None),
-    (
-        "a payload longer than a window in a window",
-        9,
-        0x11,
-        2,
-        (16, 31),
-        Some((16, 15)),
-    ),
+    ("a payload longer than the window", 25, 0x03, 3, (24, 32), longer!(9, 8)),
+    ("no room for the ether type", 25, 0x01, 3, (24, 32), PlainRefusal::ShortLen),
+    ("a payload longer than a window in a window", 9, 0x11, 2, (16, 31), longer!(16, 15)),
 ];
 
 /// The nested tags with another byte at a place are refused, alone and with bytes after them, by the same fault.
 #[test]
 fn bytes_after_a_closed_window_change_nothing(rt: HostRuntime) {
-    for &(name, place, byte, units, (start, end), lens) in &CHANGED {
+    for &(name, place, byte, units, (start, end), refusal) in &CHANGED {
         let mut bytes = [0xFF; 1032];
         put(&mut bytes, 0, &NESTED);
         put(&mut bytes, place, &[byte]);
+        let rest = bytes.get(start..end).unwrap_or(&[]);
         for len in [32, 33, 64, 1032] {
-            let refusal = match lens {
-                Some((required_len, len)) => {
-                    too_short!(
-                        required_len,
-                        len,
-                        LenSource::MacsecShortLength,
-                        Layer::MacsecPacket
-                    )
-                }
-                None => PlainRefusal::ShortLen,
-            };
             let fault = fault_at(start, true, refusal);
-            equal(&rt, name, &fault.missing(), &None);
-            let kind = ether_type!(0x88E5);
-            let rest = bytes.get(start..end).unwrap_or(&[]);
-            is_refused(&rt, name, MACSEC, &bytes[..len], units, fault, rest, kind);
+            is_refused(
+                &rt,
+                name,
+                MACSEC,
+                &bytes[..len],
+                units,
+                fault,
+                rest,
+                ether_type!(0x88E5),
+            );
         }
     }
 }
@@ -324,64 +306,4 @@ fn an_open_refusal_waits_for_its_length(rt: HostRuntime) {
         &(found, first, second),
         &(waiting, whole(0x0800), whole(0x8600)),
     );
-}
-
-/// The fault after an extension by so many bytes: an open refusal counts the bytes.
-fn extended(fault: &PeelFault, added: usize) -> Option<PeelFault> {
-    match &fault.error {
-        PeelError::Len(error) if !fault.closed => open(LenError {
-            required_len: error.required_len,
-            len: error.len.saturating_add(added),
-            len_source: error.len_source,
-            layer: error.layer,
-            layer_start_offset: error.layer_start_offset,
-        }),
-        _ => None,
-    }
-}
-
-/// An extension by so many bytes keeps all that was found, but that an open refusal counts the bytes.
-fn keeps(before: &Summary, added: usize, after: &Summary) -> bool {
-    let is_kept = match &before.fault {
-        None => after.fault.is_none() && after.kind == before.kind,
-        Some(fault) => match extended(fault, added) {
-            None => after.fault == before.fault,
-            counted => after.fault == counted,
-        },
-    };
-    is_kept && after.units == before.units
-}
-
-/// Whether the length that a summary's fault names is there, so that nothing is said of longer lists.
-fn names_at_most(before: &Summary, len: usize) -> bool {
-    match &before.fault {
-        Some(
-            PeelFault {
-                offset,
-                error: PeelError::Len(error),
-                closed: false,
-            },
-        ) => offset.saturating_add(error.required_len) <= len,
-        _ => false,
-    }
-}
-
-#[test]
-fn extensions_keep_what_was_found(rt: HostRuntime) {
-    for &(start, list) in &WORKED {
-        if start == Start::Ethernet2Fcs || list.len() > 100 {
-            continue;
-        }
-        for byte in [0x00, 0xFF] {
-            let mut bytes = [byte; 1100];
-            bytes[..list.len()].copy_from_slice(list);
-            let before = summary(start, list);
-            for added in [1, 32, 1000] {
-                let len = list.len() + added;
-                let after = summary(start, &bytes[..len]);
-                let is_kept = names_at_most(&before, len) || keeps(&before, added, &after);
-                assert!(rt; is_kept, "{added} bytes after {list:?}");
-            }
-        }
-    }
 }

@@ -1,14 +1,10 @@
-//! What a walk that receives a frame piece by piece asks for, and a reader of a stream, which reads what the walk misses.
+//! What a walk that receives a frame piece by piece asks for.
 use super::{equal, fault_at};
 use crate::peel::plain::PlainRefusal;
-use crate::peel::test_frames::{
-    ARP_REPLY_FRAME, CHECKED, COOKED_ARP_REQUEST, NAMED, NESTED, PADDED_ARP, SECOND_TAG_CUT, TAGGED,
-};
-use ether_peel::{Feed, Start, feed, summary};
+use crate::peel::test_frames::{CHECKED, NAMED, NESTED, PADDED_ARP, SECOND_TAG_CUT};
+use ether_peel::{Feed, Start, feed};
 use etherparse::LenSource;
 use etherparse::err::Layer;
-use std::io;
-use std::io::Read;
 
 const ETH: Start = Start::Ethernet2;
 
@@ -67,63 +63,4 @@ fn refusals_and_bytes(rt: HostRuntime) {
         };
         equal(&rt, name, &feed(start, frame), &expected);
     }
-}
-
-/// Reads the headers of a frame to the front of `buffer`. Returns how many bytes that took.
-fn read_headers<R: Read>(stream: &mut R, start: Start, buffer: &mut [u8]) -> io::Result<usize> {
-    let mut len = 0;
-    for _ in 0..buffer.len() {
-        let Some((read, free)) = buffer.split_at_mut_checked(len) else {
-            break;
-        };
-        let Some(fault) = summary(start, read).fault else {
-            break;
-        };
-        let Some(missing) = fault.missing() else {
-            break;
-        };
-        let Some(part) = free.get_mut(..missing) else {
-            break;
-        };
-        stream.read_exact(part)?;
-        len += missing;
-    }
-    Ok(len)
-}
-
-/// A frame, and where its last unit ends.
-static STREAMS: [(&str, Start, &[u8], usize); 6] = [
-    ("a VLAN tag", Start::Ethernet2, &TAGGED, 18),
-    (
-        "an ARP request with padding",
-        Start::Ethernet2,
-        &PADDED_ARP,
-        42,
-    ),
-    (
-        "an ARP reply with padding",
-        Start::Ethernet2,
-        &ARP_REPLY_FRAME,
-        42,
-    ),
-    ("a cooked capture", Start::LinuxSll, &COOKED_ARP_REQUEST, 44),
-    ("a named payload", MACSEC, &NAMED, 12),
-    ("SecTags in one another", MACSEC, &NESTED, 32),
-];
-
-/// The bytes up to the end of the last unit, and no more.
-#[test]
-fn a_stream_is_read_up_to_the_last_unit(rt: HostRuntime) -> io::Result<()> {
-    for &(name, start, frame, len) in &STREAMS {
-        let mut buffer = [0; 64];
-        let mut stream = frame;
-        let read = read_headers(&mut stream, start, &mut buffer)?;
-        equal(
-            &rt,
-            name,
-            &(read, feed(start, frame).taken, Some(stream)),
-            &(len, len, frame.get(len..)),
-        );
-    }
-    Ok(())
 }

@@ -209,19 +209,3 @@ fn each_refusal_of_a_tag_in_a_named_payload(rt: HostRuntime) {
         is_refused(&rt, name, Start::Ethernet2, bytes, 2, fault, unit, kind);
     }
 }
-
-#[test]
-fn and_nothing_follows_them(rt: HostRuntime) {
-    let mut peel = Peel::new(Start::Ethernet2, &[]);
-    let is_refused = matches!(peel.next(), Some(Err(_)));
-    let mut is_over = true;
-    for _ in 0..1000 {
-        is_over = peel.next().is_none() && is_over;
-    }
-    equal(
-        &rt,
-        "no byte of Ethernet",
-        &[is_refused, is_over],
-        &[true; 2],
-    );
-}

@@ -5,10 +5,7 @@ use crate::peel::test_frames::{
     CHECKED, COOKED, COOKED_GRE, NAMED, PACKET, PADDED_ARP, SEALED, TAGGED,
 };
 use ether_peel::{Peel, PeelUnit, RestKind, Start};
-use etherparse::{
-    ArpOperation, EtherType, LinuxNonstandardEtherType, LinuxSllPacketType, LinuxSllProtocolType,
-    MacsecPType,
-};
+use etherparse::{ArpOperation, EtherType};
 
 const ETH: Start = Start::Ethernet2;
 
@@ -91,8 +88,30 @@ const COOKED_REQUEST: [u8; 44] = [
 
 const GRE: PlainKind = PlainKind::Gre(0x0800);
 
+/// A cooked capture with the protocol 0x0806 and a byte, on hardware of this number.
+macro_rules! cooked_on {
+    ($high:expr, $low:expr $(,)?) => {
+        [0, 4, $high, $low, 0, 6, 1, 2, 3, 4, 5, 6, 7, 8, 0x08, 0x06, 0x00]
+    };
+}
+
+const ON_NETLINK: [u8; 17] = cooked_on!(0x03, 0x38);
+
+const ON_GRE: [u8; 17] = cooked_on!(0x03, 0x0A);
+
+const ON_RADIOTAP: [u8; 17] = cooked_on!(0x03, 0x23);
+
+const ON_FRAME_RELAY: [u8; 17] = cooked_on!(0x03, 0x02);
+
+/// The header of such a capture.
+macro_rules! on {
+    ($hardware_type:expr $(,)?) => {
+        &[cooked!(4, $hardware_type, 6, 0x0102_0304_0506_0708, 0x0806)]
+    };
+}
+
 #[rattlefmt::skip]
-static WALKS: [Walk; 19] = [
+static WALKS: [Walk; 23] = [
     accepted!("a payload of another type is left", ETH, &PACKET, &[broadcast!(0x0800)], (14, 15), IPV4, false),
     accepted!("a VLAN tag", ETH, &TAGGED, &[broadcast!(0x8100), vlan!(5, 1, 0x123, 0x0800)], (18, 18), IPV4, false),
     accepted!("tags after 0x8100", with_type!(0x8100), &TAGS, BOTH_TAGS, (8, 9), ether_type!(0x86DD), false),
@@ -110,6 +129,10 @@ static WALKS: [Walk; 19] = [
     accepted!("an unnamed length in a closed window", MACSEC, &UNNAMED, &[readable!(12, 0x88E5), readable!(0, 0x0800)], (16, 18), IPV4, true),
     accepted!("a nonstandard number of a cooked capture", SLL, &COOKED, &[cooked!(0, 1, 255, 0x0200_0000_0001_0000, 1)], (16, 16), ether_type!(1), false),
     accepted!("a protocol of GRE is no ether type", SLL, &COOKED_GRE, &[cooked!(0, 778, 0, 0, 0x0800)], (16, 16), GRE, false),
+    accepted!("netlink", SLL, &ON_NETLINK, on!(824), (16, 17), PlainKind::Netlink(0x0806), false),
+    accepted!("GRE", SLL, &ON_GRE, on!(778), (16, 17), PlainKind::Gre(0x0806), false),
+    accepted!("radiotap", SLL, &ON_RADIOTAP, on!(803), (16, 17), PlainKind::Ignored(0x0806), false),
+    accepted!("frame relay", SLL, &ON_FRAME_RELAY, on!(770), (16, 17), PlainKind::Ignored(0x0806), false),
     accepted!("a cooked capture goes on with its ether type", SLL, &COOKED_REQUEST, &[cooked!(1, 1, 6, 0x0200_0000_0001_0000, 0x0806), ASKED], (44, 44), PlainKind::AfterArp, false),
     accepted!("the padding after an ARP packet", ETH, &PADDED_ARP, &[broadcast!(0x0806), ASKED], (42, 60), PlainKind::AfterArp, false),
 ];
@@ -136,68 +159,6 @@ fn of_an_ether_type_that_announces_nothing(rt: HostRuntime) {
             "nothing is announced",
             &mut peel,
             &(0, &PACKET, kind, false),
-        );
-    }
-}
-
-/// The first byte of a SecTag, and its payload type.
-static PAYLOAD_TYPES: [(&str, u8, MacsecPType); 3] = [
-    ("encrypted", 0x08, MacsecPType::EncryptedUnmodified),
-    ("changed", 0x04, MacsecPType::Modified),
-    ("encrypted and changed", 0x0C, MacsecPType::Encrypted),
-];
-
-#[test]
-fn as_views(rt: HostRuntime) {
-    for &(name, front, payload_type) in &PAYLOAD_TYPES {
-        let list = [front, 0x00, 0x00, 0x00, 0x00, 0x01, 0x81, 0x00];
-        let Some(Ok(PeelUnit::Macsec(packet))) = Peel::new(MACSEC, &list).next() else {
-            panic!(rt; "a SecTag");
-        };
-        equal(&rt, name, &packet.header.ptype(), &payload_type);
-    }
-    let Some(Ok(PeelUnit::LinuxSll(packet))) = Peel::new(SLL, &COOKED).next() else {
-        panic!(rt; "a cooked capture");
-    };
-    let dummy = LinuxNonstandardEtherType::N802_3;
-    equal(
-        &rt,
-        "a cooked capture",
-        &(
-            packet.packet_type(),
-            packet.protocol_type(),
-            packet.sender_address(),
-        ),
-        &(
-            LinuxSllPacketType::HOST,
-            LinuxSllProtocolType::LinuxNonstandardEtherType(dummy),
-            [2, 0, 0, 0, 0, 1, 0, 0].as_slice(),
-        ),
-    );
-}
-
-/// A hardware type, and what the protocol 0x0806 announces then.
-static HARDWARE_TYPES: [(&str, u16, PlainKind); 4] = [
-    ("netlink", 824, PlainKind::Netlink(0x0806)),
-    ("GRE", 778, PlainKind::Gre(0x0806)),
-    ("radiotap", 803, PlainKind::Ignored(0x0806)),
-    ("frame relay", 770, PlainKind::Ignored(0x0806)),
-];
-
-#[test]
-fn of_each_hardware_type_of_cooked_captures(rt: HostRuntime) {
-    for &(name, hardware_type, kind) in &HARDWARE_TYPES {
-        let [high, low] = hardware_type.to_be_bytes();
-        let list = [
-            0, 4, high, low, 0, 6, 1, 2, 3, 4, 5, 6, 7, 8, 0x08, 0x06, 0x00,
-        ];
-        let mut peel = Peel::new(SLL, &list);
-        let is_capture = matches!(peel.next(), Some(Ok(PeelUnit::LinuxSll(_))));
-        equal(
-            &rt,
-            name,
-            &(is_capture, peel.offset(), peel.kind()),
-            &(true, 16, kind_of(kind)),
         );
     }
 }

@@ -1,8 +1,6 @@
-//! A generator of ARP requests, as an example of a program over `ether_packet`. No call allocates memory.
-#![tactic(auto)]
-
+//! A generator of ARP requests, as an example of a program over `ether_packet`.
 ghost use Rattle.std.specs.Prelude.{◌≡◌, ◌≤◌, length, take, drop, IfOk, IfErr, OnErr};
-ghost use Rattle.example_arp_generator.specs.Request.{IsRequest, IsTooShort};
+ghost use Rattle.example_frames.specs.Request.{IsRequest, IsTooShort};
 
 use ether_packet::{BuildError, PacketBuilder, PacketContent};
 use etherparse::err::SliceWriteSpaceError;

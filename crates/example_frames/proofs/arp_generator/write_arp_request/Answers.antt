@@ -2,7 +2,7 @@ use Rattle.std.proofs.Common.{[], refl, subst, rules}
 use Rattle.etherparse.specs.Types.Layer.TheVariants as layers
 use Rattle.etherparse.specs.WriteFront.{IsRefusedSpace}
 use Rattle.ether_peel.specs.Grammar.Stack.{Accepted}
-use Rattle.example_arp_generator.proofs.write_arp_request.Goals as goal
+use Rattle.example_frames.proofs.arp_generator.write_arp_request.Goals as goal
 
 pub returns-in-Ok-clause-request : goal.returns-in-Ok-clause-request
 returns-in-Ok-clause-request c =

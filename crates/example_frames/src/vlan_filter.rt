@@ -1,12 +1,10 @@
-//! A filter of frames by VLAN and protocol, as an example of a program over `ether_packet`. No call allocates memory.
-#![tactic(auto)]
-
+//! A filter of frames by VLAN and protocol, as an example of a program over `ether_packet`.
 ghost use Rattle.std.specs.Prelude.{◌≡◌, ◌↔◌, List, IsTrue};
 ghost use Rattle.etherparse.specs.Header.{Header};
 ghost use Rattle.ether_peel.specs.Grammar.Stack.{Ending, last_expected, Walk};
 ghost use Rattle.ether_peel.specs.Walker.Start.{kind_shown};
 ghost use Rattle.ether_packet.specs.Packet.{packet_start, packet_headers};
-ghost use Rattle.example_vlan_filter.specs.Passes.{IsInVlan, IsIpv4OrArp};
+ghost use Rattle.example_frames.specs.Passes.{IsInVlan, IsIpv4OrArp};
 
 use ether_packet::PacketSlice;
 use ether_peel::{RestKind, Start};

@@ -4,7 +4,7 @@ use Rattle.std.proofs.lemmas.List.{take_all}
 use Rattle.ether_peel.specs.Grammar.Cuts.{reach}
 use Rattle.ether_peel.specs.Grammar.Stack.{Walk}
 use Rattle.ether_packet.specs.Packet.{packet_start, packet_headers}
-use Rattle.example_snap_checker.proofs.keeps_all_headers.Goals as goal
+use Rattle.example_frames.proofs.snap_checker.keeps_all_headers.Goals as goal
 
 pub returns-clause-same : goal.returns-clause-same
 returns-clause-same c without_fcs hs ks e f whole cut =

@@ -1,0 +1,6 @@
+//! A filter, a test of snap lengths and a generator, as examples of functions over `ether_packet`. No call allocates memory.
+#![tactic(auto)]
+
+pub mod arp_generator;
+pub mod snap_checker;
+pub mod vlan_filter;
