@@ -1,4 +1,5 @@
-//! The examples of `ether_text`, a fault of the writer, and what is shown of the types of both crates.
+//! The examples, a fault of the writer, and what is shown of the types.
+use crate::checks::equal;
 use arrayvec::ArrayVec;
 use ether_peel::Start;
 use ether_text::tool::mode::{Mode, Usage};
@@ -29,9 +30,11 @@ fn what_the_examples_write(rt: HostRuntime) {
         out.append(b" ");
     }
     let flushed = out.flush();
-    assert_eq!(rt;
-        (is_accepted, is_fed, flushed, written.as_slice()),
-        (
+    equal(
+        &rt,
+        "the examples",
+        &(is_accepted, is_fed, flushed, written.as_slice()),
+        &(
             true,
             true,
             Ok(()),
@@ -41,8 +44,8 @@ vlan 14 pcp 5 dei 1 vid 291 0x0800\n\
 rest 18 18 type 0x0800\n\
 feed refusals 2 taken 18\n\
 7 42 503 1024 1000000 20065010 18446744073709551615 "
-                .as_slice()
-        )
+                .as_slice(),
+        ),
     );
 }
 
@@ -69,21 +72,25 @@ fn what_the_examples_read_and_show(rt: HostRuntime) -> Result<(), Fail> {
     let mut waiting = OutputBuffer::new(&mut written);
     waiting.append(b"rest");
     let unread = InputReader::new(&mut left).read(&mut chunk, &waiting);
-    assert_eq!(rt;
-        (counts, of_slice, chunk, unread, left.len()),
-        (
+    equal(
+        &rt,
+        "three bytes, and none while text waits",
+        &(counts, of_slice, chunk, unread, left.len()),
+        &(
             [Ok(2), Ok(1), Ok(0)],
             [Ok(2), Ok(1), Ok(0)],
             [3, 2],
             Err(InputFault),
-            1
-        )
+            1,
+        ),
     );
     let verdict = Verdict::AllAccepted.with(false);
     let shown = format!(in rt.alloc(); "{InputFault} {OutputFault} {verdict:?}")?;
-    assert_eq!(rt;
-        shown.as_str(),
-        "The reader has failed. The writer has failed. SomeRefused"
+    equal(
+        &rt,
+        "the faults and a verdict",
+        &shown.as_str(),
+        &"The reader has failed. The writer has failed. SomeRefused",
     );
     Ok(())
 }
@@ -96,25 +103,25 @@ fn a_writer_that_is_full(rt: HostRuntime) {
     let before = out.check();
     let fault = out.write_out();
     out.append(b"14 ");
-    assert_eq!(rt;
-        (before, fault, out.check(), out.flush()),
-        (Ok(()), Err(OutputFault), Err(OutputFault), Err(OutputFault))
+    equal(
+        &rt,
+        "before and after a write",
+        &[before, fault, out.check(), out.flush()],
+        &[Ok(()), Err(OutputFault), Err(OutputFault), Err(OutputFault)],
     );
 }
 
+static FAULTS: [(ToolFault, &str); 3] = [
+    (ToolFault::BadLine(12), "line 12: bad line, BadLine(12)"),
+    (ToolFault::Input, "input failed, Input"),
+    (ToolFault::Output, "output failed, Output"),
+];
+
 #[test]
 fn shown_texts(rt: HostRuntime) -> Result<(), Fail> {
-    let faults = [
-        (ToolFault::BadLine(12), "line 12: bad line", "BadLine(12)"),
-        (ToolFault::Input, "input failed", "Input"),
-        (ToolFault::Output, "output failed", "Output"),
-    ];
-    for (fault, text, debug) in faults {
+    for (fault, wanted) in &FAULTS {
         let shown = format!(in rt.alloc(); "{fault}, {fault:?}")?;
-        assert_eq!(rt;
-            shown.as_str(),
-            format!(in rt.alloc(); "{text}, {debug}")?.as_str()
-        );
+        equal(&rt, wanted, &shown.as_str(), wanted);
     }
     let shown = format!(in rt.alloc();
         "{:?} {:?}",
@@ -126,10 +133,12 @@ fn shown_texts(rt: HostRuntime) -> Result<(), Fail> {
         ),
         [Mode::Eth, Mode::Fcs, Mode::Sll, Mode::Feed]
     )?;
-    assert_eq!(rt;
-        shown.as_str(),
-        "(AllAccepted, SomeRefused, EtherType(0x0806 (Address Resolution Protocol (ARP))), Usage) \
-[Eth, Fcs, Sll, Feed]"
+    equal(
+        &rt,
+        "verdicts and modes",
+        &shown.as_str(),
+        &"(AllAccepted, SomeRefused, EtherType(0x0806 (Address Resolution Protocol (ARP))), Usage) \
+[Eth, Fcs, Sll, Feed]",
     );
     Ok(())
 }

@@ -127,15 +127,15 @@ fn tells_a_fault_of_the_reader(rt: HostRuntime) {
         for step in [1, 2, 3, 4, 5, usize::MAX] {
             let mut whole = Source::new(input, step, 0);
             let outcome = run(*mode, &mut whole, &mut Sink::new(0));
-            assert_eq!(rt; &outcome, wanted, "{input:?} in {mode:?}");
+            assert!(rt; &outcome == wanted, "{mode:?}");
             for before in 0..whole.calls {
                 let fault = before + 1;
                 let mut source = Source::new(input, step, fault);
                 let outcome = run(*mode, &mut source, &mut Sink::new(0));
                 // there is no read after it
-                assert_eq!(rt;
-                    (outcome, source.calls),
-                    (Err(ToolFault::Input), fault),
+                let found = (outcome, source.calls);
+                assert!(rt;
+                    found == (Err(ToolFault::Input), fault),
                     "at read {fault} in {mode:?}"
                 );
             }
@@ -148,22 +148,16 @@ fn tells_a_fault_of_the_writer(rt: HostRuntime) {
     for (mode, input, wanted) in &LINES_OF_MODES {
         let mut whole = Sink::new(0);
         let outcome = run(*mode, &mut Source::new(input, 4, 0), &mut whole);
-        assert_eq!(rt;
-            (&outcome, whole.is_flushed),
-            (wanted, true),
-            "{input:?} in {mode:?}"
-        );
+        assert!(rt; &outcome == wanted && whole.is_flushed, "{mode:?}");
         // the last call is the flush, and there is no call after a fault
         for before in 0..whole.calls {
             let fault = before + 1;
             let mut sink = Sink::new(fault);
             let outcome = run(*mode, &mut Source::new(input, 4, 0), &mut sink);
             let is_whole = sink.taken.as_slice() == whole.taken.as_slice();
-            assert_eq!(rt;
-                (outcome, sink.calls, sink.is_flushed, is_whole),
-                (Err(ToolFault::Output), fault, false, fault == whole.calls),
-                "at call {fault} in {mode:?}"
-            );
+            let found = (outcome, sink.calls, sink.is_flushed, is_whole);
+            let wanted = (Err(ToolFault::Output), fault, false, fault == whole.calls);
+            assert!(rt; found == wanted, "at call {fault} in {mode:?}");
         }
     }
 }
