@@ -2,12 +2,12 @@
 use std::process::Abort;
 
 /// Fails if `found` isn't what is wanted of the row `name`.
-pub fn equal<R: Abort, T: PartialEq>(rt: &R, name: &str, found: &T, wanted: &T) {
+pub(crate) fn equal<R: Abort, T: PartialEq>(rt: &R, name: &str, found: &T, wanted: &T) {
     assert!(rt; found == wanted, "{name}");
 }
 
 /// Puts bytes in the place of others, if they have room.
-pub fn put(target: &mut [u8], place: usize, bytes: &[u8]) {
+pub(crate) fn put(target: &mut [u8], place: usize, bytes: &[u8]) {
     if let Some(to) = target.get_mut(place..place.saturating_add(bytes.len())) {
         to.copy_from_slice(bytes);
     }

@@ -2,6 +2,6 @@
 use std::process::Abort;
 
 /// Fails if `found` isn't what is wanted of the row `name`.
-pub fn equal<R: Abort, T: PartialEq>(rt: &R, name: &str, found: &T, wanted: &T) {
+pub(crate) fn equal<R: Abort, T: PartialEq>(rt: &R, name: &str, found: &T, wanted: &T) {
     assert!(rt; found == wanted, "{name}");
 }

@@ -170,7 +170,6 @@ fn views_of_headers(rt: HostRuntime) -> Result<(), Fail> {
             view.ether_type(),
             view.slice(),
             view.to_header(),
-            view.clone()? == view,
         ),
         &(
             [0xFF; 6],
@@ -178,7 +177,6 @@ fn views_of_headers(rt: HostRuntime) -> Result<(), Fail> {
             EtherType::IPV4,
             &FRAME[..14],
             HEADER,
-            true,
         ),
     );
     Ok(())
@@ -191,7 +189,7 @@ fn is_frame(
     view: &Ethernet2Slice<'_>,
     payload: &[u8],
     fcs: Option<[u8; 4]>,
-) -> Result<(), Fail> {
+) {
     equal(
         rt,
         name,
@@ -200,17 +198,14 @@ fn is_frame(
             (view.header_len(), view.fcs(), view.payload()),
             (view.destination(), view.source(), view.ether_type()),
             view.to_header(),
-            view.clone()? == *view,
         ),
         &(
             (FRAME.as_slice(), &FRAME[..14], payload),
             (14, fcs, ipv4(payload)),
             ([0xFF; 6], [2, 0, 0, 0, 0, 1], EtherType::IPV4),
             HEADER,
-            true,
         ),
     );
-    Ok(())
 }
 
 #[test]
@@ -218,8 +213,8 @@ fn views_of_frames(rt: HostRuntime) -> Result<(), Fail> {
     let with = Ethernet2Slice::from_slice_with_crc32_fcs(&FRAME)?;
     let without = Ethernet2Slice::from_slice_without_fcs(&FRAME)?;
     let fcs = Some([0x11, 0x22, 0x33, 0x44]);
-    is_frame(&rt, "with a check sequence", &with, &[], fcs)?;
-    is_frame(&rt, "without one", &without, &FRAME[14..], None)?;
+    is_frame(&rt, "with a check sequence", &with, &[], fcs);
+    is_frame(&rt, "without one", &without, &FRAME[14..], None);
     let payload = Ethernet2Slice::from_slice_without_fcs(&SPANNING_TREE)?.payload();
     equal(
         &rt,

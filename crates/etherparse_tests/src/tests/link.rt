@@ -81,12 +81,10 @@ fn is_link(
     header: &Option<LinkHeader>,
     ether_payload: &Option<EtherPayloadSlice<'_>>,
     sll_payload: &LinuxSllPayloadSlice<'_>,
-) -> Result<(), Fail> {
+) {
     equal(rt, name, &link.to_header(), header);
     equal(rt, name, &link.ether_payload(), ether_payload);
     equal(rt, name, &link.sll_payload(), sll_payload);
-    equal(rt, name, &link.clone()?, link);
-    Ok(())
 }
 
 #[test]
@@ -103,7 +101,7 @@ fn packets(rt: HostRuntime) -> Result<(), Fail> {
         &header,
         &Some(ipv4(payload)),
         &sll_payload,
-    )?;
+    );
     let outgoing = LinuxSllSlice::from_slice(&COOKED_OUTGOING)?;
     let header = Some(LinkHeader::LinuxSll(outgoing.to_header()));
     let link = LinkSlice::LinuxSll(outgoing);
@@ -115,7 +113,7 @@ fn packets(rt: HostRuntime) -> Result<(), Fail> {
         &header,
         &Some(ipv4(&[0x45])),
         &sll_payload,
-    )?;
+    );
     Ok(())
 }
 
@@ -135,11 +133,12 @@ fn a_packet_from_a_gre_tunnel(rt: HostRuntime) -> Result<(), Fail> {
         &header,
         &None,
         &sll_payload,
-    )
+    );
+    Ok(())
 }
 
 #[test]
-fn payloads(rt: HostRuntime) -> Result<(), Fail> {
+fn payloads(rt: HostRuntime) {
     let named = EtherPayloadSlice {
         ether_type: EtherType(0x8100),
         len_source: LenSource::MacsecShortLength,
@@ -158,7 +157,7 @@ fn payloads(rt: HostRuntime) -> Result<(), Fail> {
         &None,
         &Some(named),
         &VLAN,
-    )?;
+    );
     is_link(
         &rt,
         "of cooked capture",
@@ -166,7 +165,7 @@ fn payloads(rt: HostRuntime) -> Result<(), Fail> {
         &None,
         &Some(unnamed),
         &VLAN,
-    )
+    );
 }
 
 /// Equality tells the variants apart, and of packets the bytes.

@@ -121,13 +121,13 @@ fn is_view(
             (view.packet_type(), view.arp_hardware_type()),
             (view.sender_address_valid_length(), view.sender_address()),
             (view.sender_address_full(), view.protocol_type()),
-            (Some(view.slice()), view.to_header(), view.clone()? == view),
+            (Some(view.slice()), view.to_header()),
         ),
         &(
             (header.packet_type, header.arp_hrd_type),
             (header.sender_address_valid_length, address),
             (header.sender_address, header.protocol_type),
-            (packet.get(..16), *header, true),
+            (packet.get(..16), *header),
         ),
     );
     Ok(())
@@ -154,7 +154,7 @@ fn is_packet(
             (view.packet_type(), view.arp_hardware_type()),
             (view.sender_address_valid_length(), view.sender_address()),
             (view.sender_address_full(), view.protocol_type()),
-            (view.header_len(), view.to_header(), view.clone()? == view),
+            (view.header_len(), view.to_header()),
             (view.slice(), Some(view.header_slice())),
             (view.payload_slice(), view.payload()),
         ),
@@ -162,7 +162,7 @@ fn is_packet(
             (header.packet_type, header.arp_hrd_type),
             (header.sender_address_valid_length, address),
             (header.sender_address, header.protocol_type),
-            (16, *header, true),
+            (16, *header),
             (packet, packet.get(..16)),
             (rest, payload),
         ),

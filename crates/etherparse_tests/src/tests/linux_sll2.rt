@@ -188,7 +188,6 @@ fn packets(rt: HostRuntime) -> Result<(), Fail> {
 #[test]
 fn the_walk_of_the_example(rt: HostRuntime) -> Result<(), Fail> {
     let packet = LinuxSll2Slice::from_slice(&EXAMPLE)?;
-    let view = LinuxSll2HeaderSlice::from_slice(&EXAMPLE)?;
     let mut found = None;
     if let Some(start) = packet.start() {
         let mut peel = Peel::new(start, packet.payload_slice());
@@ -196,12 +195,7 @@ fn the_walk_of_the_example(rt: HostRuntime) -> Result<(), Fail> {
             found = Some((tag.vlan_identifier().value(), peel.offset()));
         }
     }
-    equal(
-        &rt,
-        "a tag, and clones",
-        &(found, packet.clone()? == packet, view.clone()? == view),
-        &(Some((291, 4)), true, true),
-    );
+    equal(&rt, "a tag", &found, &Some((291, 4)));
     Ok(())
 }
 

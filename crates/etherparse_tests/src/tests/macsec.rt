@@ -307,13 +307,13 @@ fn views_of_headers(rt: HostRuntime) -> Result<(), Fail> {
                     tag.sci(),
                 ),
                 (tag.header_len(), tag.expected_payload_len()),
-                (Some(tag.slice()), written.as_slice(), tag.clone()? == tag),
+                (Some(tag.slice()), written.as_slice()),
             ),
             &(
                 (row.tci_an, row.bits, row.ptype, row.ether_type),
                 row.numbers,
                 row.lens,
-                (row.bytes.get(..tag.header_len()), row.written, true),
+                (row.bytes.get(..tag.header_len()), row.written),
             ),
         );
     }
