@@ -5,7 +5,6 @@
 #![tactic(auto)]
 
 pub use ether_text::tool::{command, laws, mode, outcome, parse_frame, program, run};
-
 use std::process::ExitCode;
 use std::{env, io};
 

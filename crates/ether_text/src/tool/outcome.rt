@@ -3,8 +3,8 @@ ghost use Rattle.std.specs.Prelude.{◌≡◌};
 ghost use Rattle.std.specs.Option.{option_map};
 ghost use Rattle.ether_text.specs.Tool.Outcome.{exit_status, last_line_text, last_text, status_of_program};
 
-use crate::tool::mode::Usage;
 pub use crate::Verdict;
+use crate::tool::mode::Usage;
 use crate::{InputFault, OutputFault};
 use std::fmt;
 use thiserror::Error;

@@ -53,6 +53,16 @@ pub fn run_limited<R: Read, W: Write>(
 /// Does as [`run`] on the lines of a slice, or as [`run_limited`] if there is a limit.
 ///
 /// No read can fail, so the outcome is never [`ToolFault::Input`].
+///
+/// # Examples
+///
+/// ```
+/// let lines = b"ffffffffffff0200000000010800\n";
+/// let mut text = ArrayVec::<u8, 128>::new();
+/// let verdict = run_slice(Mode::Eth, None, lines, &mut text);
+/// assert_eq!(rt; verdict, Ok(Verdict::AllAccepted));
+/// assert_eq!(rt; text.as_slice(), b"ethernet2 0 ffffffffffff 020000000001 0x0800\nrest 14 14 type 0x0800\n");
+/// ```
 pub fn run_slice<W: Sink>(
     mode: Mode,
     limit: Option<usize>,

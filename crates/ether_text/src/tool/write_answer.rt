@@ -6,8 +6,8 @@ ghost use Rattle.ether_text.specs.Tool.Answer.{start_of_mode, Answers};
 
 use crate::tool::command::Command;
 use crate::tool::mode::Mode;
-use ether_peel::Start;
 use crate::{OutputBuffer, Sink, write_feed, write_walk};
+use ether_peel::Start;
 
 /// Writes the lines for a frame, and returns whether the frame is accepted.
 ///

@@ -4,6 +4,7 @@ use arrayvec::ArrayVec;
 use ether_peel::Start;
 use ether_text::tool::mode::{Mode, Usage};
 use ether_text::tool::outcome::ToolFault;
+use ether_text::tool::run::run_slice;
 use ether_text::{
     InputFault, InputReader, OutputBuffer, OutputFault, SliceSource, Source, Verdict,
     write_decimal, write_feed, write_walk,
@@ -93,6 +94,26 @@ fn what_the_examples_read_and_show(rt: HostRuntime) -> Result<(), Fail> {
         &"The reader has failed. The writer has failed. SomeRefused",
     );
     Ok(())
+}
+
+#[test]
+fn of_lines_in_memory(rt: HostRuntime) {
+    let mut text = ArrayVec::<u8, 128>::new();
+    let verdict = run_slice(
+        Mode::Eth,
+        None,
+        b"ffffffffffff0200000000010800\n",
+        &mut text,
+    );
+    equal(
+        &rt,
+        "the example",
+        &(verdict, text.as_slice()),
+        &(
+            Ok(Verdict::AllAccepted),
+            b"ethernet2 0 ffffffffffff 020000000001 0x0800\nrest 14 14 type 0x0800\n".as_slice(),
+        ),
+    );
 }
 
 #[test]
