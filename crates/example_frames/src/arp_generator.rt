@@ -1,4 +1,4 @@
-//! A generator of ARP requests, as an example of a program over `ether_packet`.
+//! A generator of ARP requests, as an example of a function over `ether_packet`.
 ghost use Rattle.std.specs.Prelude.{◌≡◌, ◌≤◌, length, take, drop, IfOk, IfErr, OnErr};
 ghost use Rattle.example_frames.specs.Request.{IsRequest, IsTooShort};
 

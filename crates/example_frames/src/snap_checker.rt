@@ -1,4 +1,4 @@
-//! A test of snap lengths, as an example of a program over `ether_packet`.
+//! A test of snap lengths, as an example of a function over `ether_packet`.
 ghost use Rattle.std.specs.Prelude.{◌≡◌, ◌↔◌, ◌≤◌, List, IsTrue, false, take};
 ghost use Rattle.etherparse.specs.Header.{Header};
 ghost use Rattle.ether_peel.specs.Grammar.Cuts.{reach};

@@ -1,4 +1,4 @@
-//! A filter of frames by VLAN and protocol, as an example of a program over `ether_packet`.
+//! A filter of frames by VLAN and protocol, as an example of a function over `ether_packet`.
 ghost use Rattle.std.specs.Prelude.{◌≡◌, ◌↔◌, List, IsTrue};
 ghost use Rattle.etherparse.specs.Header.{Header};
 ghost use Rattle.ether_peel.specs.Grammar.Stack.{Ending, last_expected, Walk};

@@ -181,6 +181,21 @@ fn other_addresses(rt: HostRuntime) -> Result<(), Fail> {
     Ok(())
 }
 
+/// Addresses that are set are those of the packet that is made of them.
+#[test]
+fn other_addresses_of_a_new_packet(rt: HostRuntime) -> Result<(), Fail> {
+    let mut packet = ArpPacket::from_slice(&REQUEST)?;
+    packet.set_hw_addrs(&[0xAA, 0xBB], &[0xCC, 0xDD])?;
+    let made = request([&[0xAA, 0xBB], &[10, 0, 0, 1], &[0xCC, 0xDD], &[10, 0, 0, 2]])?;
+    equal(
+        &rt,
+        "other hardware addresses",
+        &(hash_of(&packet), &packet),
+        &(hash_of(&made), &made),
+    );
+    Ok(())
+}
+
 /// The greatest addresses, of the bytes 1 to 6.
 static GREATEST: [[u8; 255]; 6] = [[1; 255], [2; 255], [3; 255], [4; 255], [5; 255], [6; 255]];
 
@@ -195,9 +210,13 @@ fn addresses_grow_and_shrink(rt: HostRuntime) -> Result<(), Fail> {
     equal(
         &rt,
         "the greatest ones, no hardware addresses, and the greatest ones again",
-        &(full, shrunk, packet),
         &(
-            1028,
+            [full, shrunk.packet_len(), packet.packet_len()],
+            shrunk,
+            packet,
+        ),
+        &(
+            [1028, 518, 1028],
             request([&[], two, &[], four])?,
             request([five, two, six, four])?,
         ),

@@ -129,17 +129,17 @@ fn slices_that_are_too_short(rt: HostRuntime) {
 
 #[test]
 fn written_to_slices(rt: HostRuntime) -> Result<(), Fail> {
-    let mut target = [0x55; 16];
+    let mut target = [0x55; 20];
     let rest = HEADER.write_to_slice(&mut target)?;
     let len = rest.len();
-    for byte in rest {
-        *byte = 0xAA;
+    if let Some(first) = rest.first_mut() {
+        *first = 0xAA;
     }
     equal(
         &rt,
         "the front, and the rest lent",
         &(len, &target[..14], &target[14..]),
-        &(2, &FRAME[..14], &[0xAA, 0xAA]),
+        &(6, &FRAME[..14], &[0xAA, 0x55, 0x55, 0x55, 0x55, 0x55]),
     );
     let mut target = [0x55; 13];
     let refused = SliceWriteSpaceError {

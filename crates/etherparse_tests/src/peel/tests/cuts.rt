@@ -115,14 +115,30 @@ fn every_cut_of_a_closed_window(rt: HostRuntime) {
             len_source: LenSource::MacsecShortLength,
             ..len_error(12, n, Layer::MacsecPacket, 0)
         };
-        let (units, fault) = match n {
-            0..6 => (0, open(len_error(6, n, Layer::MacsecHeader, 0))),
-            6..8 => (0, open(len_error(8, n, Layer::MacsecHeader, 0))),
-            8..12 => (0, open(named)),
-            _ => (2, None),
+        let (units, (rest_start, rest_end), number, fault) = match n {
+            0..6 => (
+                0,
+                (0, n),
+                0x88E5,
+                open(len_error(6, n, Layer::MacsecHeader, 0)),
+            ),
+            6..8 => (
+                0,
+                (0, n),
+                0x88E5,
+                open(len_error(8, n, Layer::MacsecHeader, 0)),
+            ),
+            8..12 => (0, (0, n), 0x88E5, open(named)),
+            _ => (2, (12, 12), 0xCCDD, None),
         };
-        let found = snap(MACSEC, &NAMED, n);
-        assert!(rt; found.units == units && found.fault == fault, "{n} bytes");
+        let wanted = Summary {
+            units,
+            rest_start,
+            rest_end,
+            kind: RestKind::EtherType(EtherType(number)),
+            fault,
+        };
+        assert!(rt; snap(MACSEC, &NAMED, n) == wanted, "{n} bytes");
     }
 }
 
@@ -136,18 +152,23 @@ fn cuts_of_arp(
     required_len: usize,
 ) {
     for n in at..=frame.len() {
-        let found = snap(start, frame, n);
+        let (cut, first) = (snap(start, frame, n), summary(start, &frame[..n]));
         let len = n.saturating_sub(at);
-        let (units, fault) = if len < required_len {
-            (before, cut_arp(required_len, len, at))
+        let (units, rest_start, kind, fault) = if len < required_len {
+            let kind = RestKind::EtherType(EtherType::ARP);
+            (before, at, kind, cut_arp(required_len, len, at))
         } else {
-            (before.saturating_add(1), None)
+            let end = at.saturating_add(required_len);
+            (before.saturating_add(1), end, RestKind::AfterArp, None)
         };
-        let wanted = (units, fault, n);
-        assert!(rt;
-            (found.units, found.fault, found.rest_end) == wanted,
-            "{n} bytes"
-        );
+        let wanted = Summary {
+            units,
+            rest_start,
+            rest_end: n,
+            kind,
+            fault,
+        };
+        assert!(rt; cut == wanted && cut == first, "{n} bytes");
     }
 }
 

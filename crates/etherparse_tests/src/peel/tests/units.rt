@@ -4,7 +4,7 @@ use crate::peel::plain::{PlainHeader, PlainKind};
 use crate::peel::test_frames::{
     CHECKED, COOKED, COOKED_GRE, NAMED, PACKET, PADDED_ARP, SEALED, TAGGED,
 };
-use ether_peel::{Peel, PeelUnit, RestKind, Start};
+use ether_peel::{Peel, PeelUnit, RestKind, Start, Summary, summary};
 use etherparse::{ArpOperation, EtherType};
 
 const ETH: Start = Start::Ethernet2;
@@ -202,5 +202,13 @@ fn of_arp_packets_of_the_greatest_and_the_least_size(rt: HostRuntime) {
             ),
         );
         ends(&rt, name, &mut peel, &(len, &[], RestKind::AfterArp, false));
+        let whole = Summary {
+            units: 1,
+            rest_start: len,
+            rest_end: len,
+            kind: RestKind::AfterArp,
+            fault: None,
+        };
+        equal(&rt, name, &summary(with_type!(0x0806), list), &whole);
     }
 }
