@@ -123,12 +123,12 @@ def table(clock, ends):
     minutes = clock.minutes()
     with open(f"{TOP}/crates.txt", encoding="utf-8") as file:
         crates = [line.split(":")[0].split()[0] for line in file if line.strip() and not line.startswith("#")]
-    rows = [["Crate", *PARTS, "all"]]
+    rows = [["Crate", *PARTS]]
     for crate in crates:
         row = [minutes[crate, part] for part in PARTS]
-        rows.append([crate, *(f"{it:.1f}" if it else "" for it in row), f"{sum(row):.1f}"])
+        rows.append([crate, *(f"{it:.1f}" if it else "" for it in row)])
     sums = [sum(minutes[crate, part] for crate in crates) for part in PARTS]
-    rows.append(["sum", *(f"{it:.1f}" for it in sums), f"{sum(sums):.1f}"])
+    rows.append(["sum", *(f"{it:.1f}" for it in sums)])
     widths = [max(len(row[at]) for row in rows) for at in range(len(rows[0]))]
     lines = ["    " + "  ".join(it.ljust(width) for it, width in zip(row, widths)).rstrip() for row in rows]
     lines += ["", *(f"{name}: {cpu:.1f} CPU minutes, {wall:.1f} minutes" for name, cpu, wall in ends)]
