@@ -63,7 +63,7 @@ ARTEFACTS = {
         "ether_pcap/src/pcapng/section_header.rt": ["to_bytes"],
         "ether_pcap/src/pcapng/interface_description.rt": ["header_to_bytes", "trailer_to_bytes", "nanosecond_options"],
         "ether_pcap/src/pcapng/enhanced_packet.rt": ["header_to_bytes", "trailer_to_bytes"],
-        "ether_pcap/src/capture/capture_reader.rt": ["edit_unit"],
+        "ether_pcap/src/capture/capture_reader.rt": ["edit_unit", "copy_unit", "copies_packet"],
         "ether_pcap/src/laws.rt": ["written_files_are_read", "written_sections_are_read", "copies_are_read"],
     },
     "Captured packets": {
@@ -71,7 +71,7 @@ ARTEFACTS = {
         "ether_content/src/selecting.rt": ["selects"],
         "ether_content/src/headers.rt": ["headers_len"],
         "ether_content/src/editing.rt": ["edit_packet"],
-        "ether_content/src/laws.rt": ["edits_are_one", "edits_are_some"],
+        "ether_content/src/laws.rt": ["edits_are_one", "edits_are_some", "edits_grow"],
     },
     "Captures": {
         "ether_capture/src/run.rt": ["run"],
@@ -144,7 +144,7 @@ ORDER = {
         ether_pcap: Numbers FileHeader Record Block Section Options Bodies Capture CaptureReading Views PcapngViews CaptureViews
     """,
     "Captures written": """
-        ether_pcap: Writing WritingBlocks Editing Copies Views PcapngViews
+        ether_pcap: Capture Writing WritingBlocks Editing CopiedUnits Copies Views PcapngViews
     """,
     "Captured packets": """
         ether_sll2: LinuxSll2

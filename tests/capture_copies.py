@@ -7,8 +7,8 @@ import tempfile
 from dataclasses import dataclass
 
 from captures import (
-    CLASSIC, COOKED, CUT_PACKET, ETHERNET, FAILED, OBSOLETE, SECTIONS, SECTION_HEADER, SELECTED, SIX, UNKNOWN,
-    WITH_FCS, classic, cooked, frame, interface, joined, long_record, record_is_cut, secrets,
+    CLASSIC, COOKED, CUT_PACKET, ETHERNET, FAILED, OBSOLETE, SECTIONS, SECTION_HEADER, SELECTED, SIX, TAGGED_V2, UNKNOWN,
+    WITH_FCS, block, classic, cooked, frame, interface, joined, long_record, record_is_cut, secrets,
 )
 from programs import on_a_full_disk, run_until_a_fault
 
@@ -130,13 +130,15 @@ COPIES += [
     Copy("a simple packet that is left out", [POP, "--select", "not vlan 291"], SECTIONS, BEFORE_SIMPLE + SECOND_SECTION),
 ]
 
-# The same captures with a VLAN tag more after the header of a link.
+# The same captures with a VLAN tag more after the header of a link, and a snap length that is 4 greater if there is one.
 PUSH = "--push-vlan"
-PUSHED_CLASSIC = CLASSIC[:24] + joined(
+RAISED_HEADER = CLASSIC[:16] + joined("00010003 00000001")
+PUSHED_CLASSIC = RAISED_HEADER + joined(
     "6553f100 0001e240 00000017 00000040", "ffffffffffff 3aeeb62ff6d7 8100 0005 88a8 0001 8100 00",
     "6553f101 00000005 00000032 00000032", "ffffffffffff 3aeeb62ff6d7 8100 0005 8100 b123 0800",
     "4500001c00010000400100000a0900020a0900010800f7fd00010001")
-PUSHED_WITH_FCS = WITH_FCS[:24] + joined(
+PUSHED_WITH_FCS = WITH_FCS[:16] + joined(
+    "03000100 01000024",
     "01000000 02000000 18000000 18000000", "020000000001 020000000002 88a8 0fff 88b5 0102 e9c0cdc8",
     "01000000 ffc99a3b 16000000 18000000", "020000000001 020000000002 88a8 0fff 88b5 0102 e9c0")
 PUSHED_LONG_PACKET = SECTION_HEADER + ETHERNET + joined(
@@ -149,14 +151,13 @@ COPIES += [
     Copy("a tag more in frames with a check sequence", [PUSH, "0x88a8:4095"], WITH_FCS, PUSHED_WITH_FCS),
     Copy("a tag more in a packet with options", [PUSH, "0x9100:0"], LONG_PACKET, PUSHED_LONG_PACKET),
     Copy("the tag that was taken off a cooked capture", [PUSH, "0x8100:291"], POPPED_COOKED, TAGGED_COOKED.replace(b"\xb1\x23", b"\x01\x23")),
-    Copy("a tag more in no frame", [PUSH, "0x8100:5"], cooked("8100 0000 00000003 0001 04 06 0200000000010000 b123 0800 45"),
-         cooked("8100 0000 00000003 0001 04 06 0200000000010000 b123 0800 45")),
+    Copy("a tag more in no frame", [PUSH, "0x8100:5"], TAGGED_V2, RAISED_HEADER[:20] + TAGGED_V2[20:]),
     Copy("a tag more in a simple packet", [PUSH, "0x8100:5"], NO_PACKETS + SIMPLE, NO_PACKETS, f"byte {len(NO_PACKETS)}: {NOT_EDITED}", 3),
-    Copy("a packet that would be too long", [PUSH, "0x8100:5"], FULL, FULL[:24], f"byte 24: {NOT_EDITED}", 3),
+    Copy("a packet that would be too long", [PUSH, "0x8100:5"], FULL, RAISED_HEADER, f"byte 24: {NOT_EDITED}", 3),
     Copy("a packet that is as long as it may be", [PUSH, "0x8100:5"], classic(FULL[40:-4]),
-         classic(FULL[40:52] + joined("8100 0005") + FULL[52:-4])),
+         RAISED_HEADER + classic(FULL[40:52] + joined("8100 0005") + FULL[52:-4])[24:]),
     Copy("an original length that has no room for four bytes more", [PUSH, "0x8100:5"], CLASSIC[:36] + joined("fffffffc") + CLASSIC[40:59],
-         CLASSIC[:24], f"byte 24: {NOT_EDITED}", 3),
+         RAISED_HEADER, f"byte 24: {NOT_EDITED}", 3),
 ]
 
 # The same captures, and frames with several tags, with another identifier in the outermost tag that has the old one.
@@ -201,6 +202,42 @@ COPIES += [
     Copy("another identifier in a simple packet", [SET, "291:5"], SECTIONS, BEFORE_SIMPLE, f"byte {len(BEFORE_SIMPLE)}: {NOT_EDITED}", 3),
 ]
 
+# A section whose header says its length, with a snap length of 96, 16 and none, and custom blocks that may be copied and that may not; then its
+# copy with what is true of that: the section length of -1, which is none, and the raised snap lengths.
+MAY_BE_COPIED = block(0x0000_0BAD, "d97e0000 01020304")
+NOT_TO_BE_COPIED = block(0x4000_0BAD, "d97e0000 01020304")
+SNAPPED = block(1, "01000000 60000000", "02000400 65746830 00000000") + block(1, "65000000 10000000") + block(1, "01000000 00000000")
+RAISED = block(1, "01000000 64000000", "02000400 65746830 00000000") + block(1, "65000000 14000000") + block(1, "01000000 00000000")
+ARP_PACKET = frame(6, "00000000")
+IP_PACKET = block(6, "01000000 240a0600 40222018 10000000 3c000000", "4500003c" + 12 * "00")
+ALL_BLOCKS = SNAPPED + MAY_BE_COPIED + ARP_PACKET + NOT_TO_BE_COPIED + IP_PACKET
+KEPT_BLOCKS = SNAPPED + MAY_BE_COPIED + ARP_PACKET + IP_PACKET
+PUSHED_PACKET = block(6, "00000000 240a0600 40222018 18000000 18000000", "020000000001 020000000002 8100 0005 88b5 0102 e9c0cdc8")
+
+
+def section(length, *blocks):
+    """A section of these blocks, whose header gives this length."""
+    return block(0x0A0D_0D0A, "4d3c2b1a 01000000", length.to_bytes(8, "little", signed=True).hex()) + b"".join(blocks)
+
+
+KNOWN_LENGTH = section(len(ALL_BLOCKS), ALL_BLOCKS)
+BEGUN = section(-1, RAISED)
+CUT_SIMPLE = block(3, "28000000", "4500 0028" + 12 * "00")
+RAW = section(-1, block(1, "65000000 10000000"))
+COPIES += [
+    Copy("a section with its length and all blocks", [], KNOWN_LENGTH, KNOWN_LENGTH),
+    Copy("all packets by a filter", ["--select", "not arp or arp"], KNOWN_LENGTH, section(-1, SNAPPED, MAY_BE_COPIED, ARP_PACKET)),
+    Copy("a section up to a packet", ["-c", "1"], KNOWN_LENGTH, section(-1, SNAPPED, MAY_BE_COPIED, ARP_PACKET)),
+    Copy("a section in which no packet is edited", [POP], KNOWN_LENGTH, section(-1, KEPT_BLOCKS)),
+    Copy("raised snap lengths", [PUSH, "0x8100:5"], KNOWN_LENGTH, section(-1, RAISED, MAY_BE_COPIED, PUSHED_PACKET, IP_PACKET)),
+    Copy("the greatest snap length", [PUSH, "0x8100:5"], CLASSIC[:16] + joined("fffffffe") + CLASSIC[20:24], CLASSIC[:16] + joined("ffffffff 00000001")),
+    Copy("no snap length", [PUSH, "0x8100:5"], CLASSIC[:16] + joined("00000000") + CLASSIC[20:24], CLASSIC[:16] + joined("00000000 00000001")),
+    Copy("a simple packet that was cut, where no snap length is raised", [POP], RAW + CUT_SIMPLE, RAW + CUT_SIMPLE),
+    Copy("one where it is", [PUSH, "0x8100:5"], RAW + CUT_SIMPLE, section(-1, block(1, "65000000 14000000")), f"byte {len(RAW)}: {NOT_EDITED}", 3),
+    Copy("one that was not cut", [PUSH, "0x8100:5"], RAW + block(3, "08000000 4500000800000000"),
+         section(-1, block(1, "65000000 14000000"), block(3, "08000000 4500000800000000"))),
+]
+
 
 def copied(program, words, capture, **how):
     """What the program writes, what it says on standard error, and its status."""
@@ -241,6 +278,15 @@ def copies(program):
     return tried
 
 
+def long_copy_in_pieces(program):
+    """How many seconds of processor time a copy of a block of 15 MiB takes that comes in pieces of 4 KiB, by the second."""
+    large = secrets(15 << 20, 15 << 20)
+    before = resource.getrusage(resource.RUSAGE_CHILDREN)
+    found = copied_in_pieces(program, ["--write"], large, 4096)
+    after = resource.getrusage(resource.RUSAGE_CHILDREN)
+    return [("a block of 15 MiB in pieces of 4 KiB", (found, after.ru_utime - before.ru_utime < 3), ((large, "", 0), True))]
+
+
 def copies_that_fail(program):
     """Copies to a full disk and to a reader that has gone, without standard error, and from a reader that fails."""
     gone, end = os.pipe()
@@ -250,12 +296,11 @@ def copies_that_fail(program):
     silent = subprocess.run([program, "--write"], input=CLASSIC[:120], stdout=subprocess.PIPE, preexec_fn=lambda: os.close(2), check=False)
     limit = lambda: resource.setrlimit(resource.RLIMIT_AS, (6 << 20, 6 << 20))  # noqa: E731
     large = secrets(16_777_216, 16_777_216)
-    text = SECTION_HEADER.replace(b"\xff", b"\0") + ETHERNET  # no byte above 127
     return [
         ("a copy to a full disk", on_a_full_disk(program, ["--write"], CLASSIC), FAILED),
         ("a copy that nobody reads", (done.stderr.decode(), done.returncode), FAILED),
         ("a copy without standard error", (silent.stdout, silent.returncode), (CLASSIC[:59], 3)),
         ("a copy without memory", copied(program, ["--write"], large, preexec_fn=limit), (large[:96], "out of memory\n", 5)),
-        ("a copy of a reader that fails", run_until_a_fault(program, ["--write", "--select", "arp"], text + CUT_PACKET + CUT_PACKET[:20]),
-         (text.decode(), 4)),
+        ("a copy of a reader that fails", run_until_a_fault(program, ["--write", "--select", "arp"], SECTION_HEADER + ETHERNET + CUT_PACKET + CUT_PACKET[:20]),
+         ((SECTION_HEADER + ETHERNET).decode("latin-1"), 4)),
     ]

@@ -17,7 +17,7 @@ from captures import (
     ONE_LINES, OUTER, SECTIONS, SECTION_HEADER, SECTION_LINES, SELECTED, SIX, TAGGED_V2, V2_LINE, WITH_FCS, block,
     classic, cooked, cooked_lines, frame, interface, joined, long_record, plain, record_is_cut, secrets,
 )
-from capture_copies import copied, copies, copies_that_fail
+from capture_copies import copied, copies, copies_that_fail, long_copy_in_pieces
 from capture_files import several
 from programs import count, on_a_full_disk, run, run_in_pieces, run_until_a_fault, without_memory
 
@@ -320,6 +320,7 @@ def main():
     tried += several(program)
     tried += copies(program)
     tried += copies_that_fail(program)
+    tried += long_copy_in_pieces(program)
     tried += wrong_words_alone(program)
     help_text, status = run(program, ["--help"], CLASSIC)
     tried.append(("the usage", (help_text[: len(USAGE)], status), (USAGE, 0)))

@@ -30,14 +30,14 @@ def run_in_pieces(program, words, given, step):
 
 
 def run_until_a_fault(program, words, given):
-    """The same of a reader that fails after these bytes."""
+    """The same of a reader that fails after these bytes. Each byte that is printed is one character."""
     ours, theirs = socket.socketpair()
     theirs.send(b"unread")  # so that closing our end is a fault of theirs
     ours.sendall(given)
     with subprocess.Popen([program, *words], stdin=theirs, stdout=subprocess.PIPE, stderr=subprocess.DEVNULL) as child:
         theirs.close()
         ours.close()
-        text = child.stdout.read().decode()
+        text = child.stdout.read().decode("latin-1")
     return text, child.returncode
 
 

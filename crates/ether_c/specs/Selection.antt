@@ -20,6 +20,7 @@ packet_value c = record {
   interface = None;
   original_len = c.original_len;
   link_type = c.link_type;
+  snap_len = 0;
   fcs_len = marked c.has_fcs_len c.fcs_len;
   packet = c.packet.now;
 }

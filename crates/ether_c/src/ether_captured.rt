@@ -73,6 +73,7 @@ impl<'a> EtherCaptured<'a> {
             interface: None,
             original_len: self.original_len,
             link_type: LinkType(self.link_type),
+            snap_len: 0,
             fcs_len: (self.has_fcs_len != 0).then_some(self.fcs_len),
             packet: self.packet,
         }

@@ -6,19 +6,20 @@ use Rattle.std.proofs.lemmas.List.Sums.{sum_by-append}
 use Rattle.std.specs.List.{sum_by}
 use Rattle.ether_filter.specs.Expressions.{Expression}
 use Rattle.ether_pcap.specs.Capture.{PacketValue, Expectation, Begins}
+use Rattle.ether_pcap.specs.CopiedUnits.{ModeValue, other_unit, packet_after}
 use Rattle.ether_pcap.specs.Copies.{Selected, none, one_kept, one_left}
 use Rattle.ether_pcap.proofs.CaptureLocality.{unit_alone}
 use Rattle.ether_pcap.proofs.PacketUnits.{same_after}
 use Rattle.ether_content.specs.Editing.{EditValue}
 use Rattle.ether_text.specs.Verdict.{verdict_of, verdict_with}
 use Rattle.ether_capture.specs.Answering.{AreAnswered, AreListed}
-use Rattle.ether_capture.specs.Copying.{CopyGoesOn}
+use Rattle.ether_capture.specs.Copying.{CopiesOn}
 use Rattle.ether_capture.specs.FrameLines.{AnswersPacket, skip_count}
 use Rattle.ether_capture.specs.Packets.{capture_start, counted}
 use Rattle.ether_capture.specs.Progress.{Made, IsUnitOf, Writes, writes_unit, writes_nothing, writes_packet, Makes, other_text}
 use Rattle.ether_capture.specs.Task.{FormValue, Lines, Copy, IsChosen, packets_before}
 use Rattle.ether_capture.specs.declared.task.LineOptions.{LineOptions}
-use Rattle.ether_capture.proofs.CopiesLemmas.{CopyGoesOn-start, CopyGoesOn-unit, CopyGoesOn-kept, CopyGoesOn-left, edited_as_said}
+use Rattle.ether_capture.proofs.CopiesLemmas.{CopiesOn-start, CopiesOn-unit, CopiesOn-kept, CopiesOn-left, unit_there}
 
 and_true : (b : Bool) → (true && b) ≡ (b && true)
 and_true true = refl
@@ -156,29 +157,30 @@ answered_more select options packets kept front text all x y p own more accepted
 }
 
 -- the copy of a unit
-copied_more : (select : Option Expression) (edit : Option EditValue) (packets kept : List PacketValue)
+copied_more : (mode : ModeValue) (select : Option Expression) (edit : Option EditValue) (packets kept : List PacketValue)
     (front copy : List ℕ) (all : Bool) (x y : Expectation) (buffered : List ℕ) (len : ℕ) (packet : Option PacketValue)
     (own more : List ℕ) (text : Option (List ℕ))
     → len ≤ length buffered → Begins buffered x len packet y → own ≡ take len buffered
-    → Selected (IsChosen select) packets kept → Made select (Copy edit) packets kept front copy all x
-    → text ≡ Some more → Writes select edit y own packet text
-    → MadeMore select (Copy edit) packets kept packet (front ++ take len buffered) (copy ++ more) (all && true) y
-copied_more select edit packets kept front copy all x y buffered len packet own more text within begins unit_is selected
-    made is writes_unit =
-    let same : take len buffered ≡ more = sym unit_is ∙ some_text own more is in
+    → Selected (IsChosen select) packets kept → Made select (Copy mode edit) packets kept front copy all x
+    → text ≡ Some more → Writes mode select edit y own packet text
+    → MadeMore select (Copy mode edit) packets kept packet (front ++ take len buffered) (copy ++ more) (all && true) y
+copied_more mode select edit packets kept front copy all x y buffered len packet own more text within begins unit_is
+    selected made is writes_unit =
+    let same : other_unit mode y (take len buffered) ≡ more =
+    ap (other_unit mode y) (sym unit_is) ∙ some_text (other_unit mode y own) more is in
     record {
       kept = kept;
       more = refl;
       selected = selected;
       made = (
-        λ to edits.
-            subst (λ (l : List ℕ). CopyGoesOn select to (front ++ take len buffered) (copy ++ l) kept y) same
-            (CopyGoesOn-unit select edit to edits front copy kept x y buffered len within begins (made.0 to edits)),
-        ap (λ (b : Bool). b && true) made.1,
+        made.0,
+        subst (λ (l : List ℕ). CopiesOn mode select edit (front ++ take len buffered) (copy ++ l) kept made.0 y) same
+            (CopiesOn-unit mode select edit front copy kept made.0 x y buffered len within begins made.1),
+        ap (λ (b : Bool). b && true) made.2,
       );
     }
-copied_more select edit packets kept front copy all x y buffered len packet own more text within begins unit_is selected
-    made is (writes_nothing p not_chosen) =
+copied_more mode select edit packets kept front copy all x y buffered len packet own more text within begins unit_is
+    selected made is (writes_nothing p not_chosen) =
     let same : copy ≡ copy ++ more =
     sym (append-nil copy) ∙ ap (λ (l : List ℕ). copy ++ l) (some_text [] more is) in
     record {
@@ -186,40 +188,39 @@ copied_more select edit packets kept front copy all x y buffered len packet own 
       more = inr (not_chosen, refl);
       selected = left-push select packets kept p not_chosen selected;
       made = (
-        λ to edits.
-            subst (λ (l : List ℕ). CopyGoesOn select to (front ++ take len buffered) l kept y) same
-            (CopyGoesOn-left select edit to edits front copy kept p x y buffered len within begins not_chosen
-            (made.0 to edits)),
-        ap (λ (b : Bool). b && true) made.1,
+        made.0,
+        subst (λ (l : List ℕ). CopiesOn mode select edit (front ++ take len buffered) l kept made.0 y) same
+            (CopiesOn-left mode select edit front copy kept made.0 p x y buffered len within begins not_chosen made.1),
+        ap (λ (b : Bool). b && true) made.2,
       );
     }
-copied_more select edit packets kept front copy all x y buffered len packet own more text within begins unit_is selected
-    made is (writes_packet p o _ chosen edited e) =
+copied_more mode select edit packets kept front copy all x y buffered len packet own more text within begins unit_is
+    selected made is (writes_packet p o _ chosen edits e) =
     record {
       kept = kept ++ p ∷ [];
       more = inl (chosen, refl);
       selected = chosen-push select packets kept p chosen selected;
       made = (
-        λ to edits.
-            CopyGoesOn-kept select edit to edits front copy more kept p x y buffered len within begins chosen
-            (edited_as_said edit to y x own (take len buffered) p o (Some more) edits edited
-            (same_after buffered x y len p begins) unit_is (e ∙ is))
-            (made.0 to edits),
-        ap (λ (b : Bool). b && true) made.1,
+        made.0 ++ packet_after mode p o ∷ [],
+        CopiesOn-kept mode select edit front copy more kept made.0 p o x y buffered len within begins chosen edits
+            (unit_there mode y x own (take len buffered) p o (Some more) (same_after buffered x y len p begins) unit_is
+            (e ∙ is))
+            made.1,
+        ap (λ (b : Bool). b && true) made.2,
       );
     }
 
 -- the text of a unit that is no packet
 pub other_made : (select : Option Expression) (form : FormValue) (x : Expectation) (number : ℕ) (unit : List ℕ)
-    → Makes select form x number unit None true (Some (other_text form unit))
+    → Makes select form x number unit None true (Some (other_text form x unit))
 other_made select (Lines options) x number unit = (refl, refl)
-other_made select (Copy edit) x number unit = (writes_unit, refl)
+other_made select (Copy mode edit) x number unit = (writes_unit, refl)
 
 -- .. and of a packet that is not chosen
 pub left_made : (select : Option Expression) (form : FormValue) (x : Expectation) (number : ℕ) (unit : List ℕ)
     (p : PacketValue) → ¬ (IsChosen select p) → Makes select form x number unit (Some p) true (Some [])
 left_made select (Lines options) x number unit p not_chosen = ([], inr (not_chosen, refl, refl), refl)
-left_made select (Copy edit) x number unit p not_chosen = (writes_nothing p not_chosen, refl)
+left_made select (Copy mode edit) x number unit p not_chosen = (writes_nothing p not_chosen, refl)
 
 -- what is made of a unit
 pub made_more : (select : Option Expression) (form : FormValue) (packets kept : List PacketValue) (front text : List ℕ)
@@ -249,29 +250,36 @@ made_more select (Lines options) packets kept front text all x y buffered len nu
     answered_more select options packets kept front text all x y p (take len buffered) more accepted selected made
     (subst (λ (n : ℕ). AnswersPacket select options n p more accepted) is
     (subst (λ (l : List ℕ). AnswersPacket select options number p l accepted) same answers))
-made_more select (Copy edit) packets kept front text all x y buffered len number packet own more accepted within begins
+made_more select (Copy mode edit) packets kept front text all x y buffered len number packet own more accepted within begins
     unit_is is selected made makes =
     subst
     (λ (b : Bool).
-    MadeMore select (Copy edit) packets kept packet (front ++ take len buffered) (text ++ more) (all && b) y)
+    MadeMore select (Copy mode edit) packets kept packet (front ++ take len buffered) (text ++ more) (all && b) y)
     (sym makes.1)
-    (copied_more select edit packets kept front text all x y buffered len packet own more (Some more) within begins
+    (copied_more mode select edit packets kept front text all x y buffered len packet own more (Some more) within begins
     unit_is selected made refl makes.0)
 
 -- nothing is made yet
 pub made_start : (select : Option Expression) (form : FormValue) → Made select form [] [] [] [] true capture_start
 made_start select (Lines options) = (refl, refl)
-made_start select (Copy edit) = (λ to edits. CopyGoesOn-start select edit to edits, refl)
+made_start select (Copy mode edit) = ([], CopiesOn-start mode select edit, refl)
 
--- a unit that was read has this packet
-pub packet_of_unit : (buffered : List ℕ) (x y : Expectation) (len : ℕ) (packet : Option PacketValue)
-    → len ≤ length buffered → Begins buffered x len packet y → IsUnitOf y (take len buffered) packet
-packet_of_unit buffered x y len None within begins = tt
-packet_of_unit buffered x y len (Some p) within begins =
+-- a unit that was read, by its own bytes
+own_unit : (buffered : List ℕ) (x y : Expectation) (len : ℕ) (packet : Option PacketValue)
+    → len ≤ length buffered → Begins buffered x len packet y
+    → Begins (take len buffered) x (length (take len buffered)) packet y
+own_unit buffered x y len packet within begins =
     let front = take len buffered in
     let long : length front ≡ len = length-take-le len buffered within in
-    let whole = subst (λ (l : List ℕ). Begins l x len (Some p) y) (sym (take-append-drop len buffered)) begins in
-    let alone = unit_alone front (drop len buffered) x y len (Some p) (omega (arith, long)) whole in
-    let same = same_after buffered x y len p begins in
-    subst (λ (z : Expectation). Begins front z (length front) (Some p) y) (sym same)
-    (subst (λ (k : ℕ). Begins front x k (Some p) y) (sym long) alone)
+    let whole = subst (λ (l : List ℕ). Begins l x len packet y) (sym (take-append-drop len buffered)) begins in
+    subst (λ (k : ℕ). Begins front x k packet y) (sym long)
+    (unit_alone front (drop len buffered) x y len packet (omega (arith, long)) whole)
+
+-- .. has this packet
+pub packet_of_unit : (buffered : List ℕ) (x y : Expectation) (len : ℕ) (packet : Option PacketValue)
+    → len ≤ length buffered → Begins buffered x len packet y → IsUnitOf y (take len buffered) packet
+packet_of_unit buffered x y len None within begins = (x, own_unit buffered x y len None within begins)
+packet_of_unit buffered x y len (Some p) within begins =
+    let front = take len buffered in
+    subst (λ (z : Expectation). Begins front z (length front) (Some p) y) (sym (same_after buffered x y len p begins))
+    (own_unit buffered x y len (Some p) within begins)

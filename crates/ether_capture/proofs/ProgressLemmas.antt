@@ -6,7 +6,8 @@ use Rattle.std.specs.Io.KnownBytes.{Appends}
 use Rattle.ether_filter.specs.Expressions.{Expression}
 use Rattle.ether_pcap.specs.Capture.{PacketValue, Expectation, HasBegun, Begins}
 use Rattle.ether_pcap.specs.Copies.{Selected, none}
-use Rattle.ether_pcap.specs.Editing.{EditedValue, unit_after}
+use Rattle.ether_pcap.specs.Editing.{EditedValue}
+use Rattle.ether_pcap.specs.CopiedUnits.{ModeValue, other_unit, unit_after}
 use Rattle.ether_pcap.proofs.PacketUnits.{begun, same_after}
 use Rattle.ether_content.specs.Editing.{EditValue}
 use Rattle.ether_text.specs.OutputBuffer.{contents_of, WritesOut}
@@ -24,7 +25,7 @@ use Rattle.ether_capture.specs.declared.outcome.RunFault.{RunFault}
 use Rattle.ether_capture.specs.declared.outcome.RunFault.TheVariants as faults
 use Rattle.ether_capture.specs.declared.progress.Progress.{Progress}
 use Rattle.ether_capture.specs.declared.task.LineOptions.{LineOptions}
-use Rattle.ether_capture.proofs.CopiesLemmas.{edited_as_said}
+use Rattle.ether_capture.proofs.CopiesLemmas.{unit_there}
 use Rattle.ether_capture.proofs.PacketsLemmas.{GoesOn-start, GoesOn-unit, GoesOn-packet}
 use Rattle.ether_capture.proofs.MadeLemmas.{verdict_with-verdict_of, skipped-push, some_none, front_after, front_len, with_packet, KeptMore, made_more, made_start, packet_of_unit}
 
@@ -320,37 +321,39 @@ module _ {W : Type 0} (task : TaskValue) (contents : W → Option (List ℕ)) wh
 
 -- ---- a packet that can't be edited
 
-module _ {W : Type 0} (select : Option Expression) (count : Option ℕ) (edit : Option EditValue)
+module _ {W : Type 0} (mode : ModeValue) (select : Option Expression) (count : Option ℕ) (edit : Option EditValue)
     (contents : W → Option (List ℕ)) (held : Option (List ℕ)) where
   abbrev Copying : (input buffered : List ℕ) → (at : Progress) → (out : OutputBuffer W) → Type 0
-  Copying = Reached (record { select = select; count = count; form = Copy edit }) contents held
+  Copying = Reached (record { select = select; count = count; form = Copy mode edit }) contents held
 
   packet_stops : (input buffered : List ℕ) (old : Progress) (from to : OutputBuffer W)
       (x : Expectation) (len : ℕ) (p : PacketValue) (o : Option EditedValue) (own : List ℕ) (offset : ℕ)
       → Begins buffered old.reader len (Some p) old.reader → IsChosen select p → EditsIf edit p o
-      → x ≡ old.reader → own ≡ take len buffered → unit_after x p o own ≡ None
+      → x ≡ old.reader → own ≡ take len buffered → unit_after mode x p o own ≡ None
       → offset ≡ old.offset → to ≡ from
       → old.left ≢ Some 0
-      → Copying input buffered old from → Unedited select count edit contents held input offset to
+      → Copying input buffered old from → Unedited mode select count edit contents held input offset to
   packet_stops input buffered old from to x len p o own offset begins copied is same unit_is no_copy at same_out some
       so_far =
       record {
         front = so_far.front;
         copy = so_far.text;
         kept = so_far.kept;
+        edited = so_far.made.0;
         buffered = buffered;
         expected = old.reader;
         len = len;
         packet = p;
-        parts = so_far.made.0;
+        to = o;
+        parts = so_far.made.1;
         begins = begins;
         copied = copied;
-        not_written = λ edit_to edits.
-            edited_as_said edit edit_to x old.reader own (take len buffered) p o None edits is same unit_is no_copy;
+        edits = is;
+        not_written = unit_there mode x old.reader own (take len buffered) p o None same unit_is no_copy;
         place = so_far.place;
         is_offset = at ∙ so_far.is_offset;
         fewer =
-            Reached-fewer (record { select = select; count = count; form = Copy edit }) contents held input buffered old
+            Reached-fewer (record { select = select; count = count; form = Copy mode edit }) contents held input buffered old
             from some so_far;
         written =
             subst (λ (out : OutputBuffer W). Appends held (contents_of contents out) so_far.text) (sym same_out)
@@ -361,11 +364,11 @@ module _ {W : Type 0} (select : Option Expression) (count : Option ℕ) (edit : 
       (from to : OutputBuffer W) (len : ℕ) (packet : Option PacketValue) (own : List ℕ) (offset : ℕ)
       (text : Option (List ℕ))
       → Begins buffered old.reader len packet y → x ≡ y → own ≡ take len buffered → text ≡ None
-      → Writes select edit x own packet text → offset ≡ old.offset → to ≡ from
+      → Writes mode select edit x own packet text → offset ≡ old.offset → to ≡ from
       → old.left ≢ Some 0
-      → Copying input buffered old from → Unedited select count edit contents held input offset to
+      → Copying input buffered old from → Unedited mode select count edit contents held input offset to
   unwritten_unit input buffered old x y from to len packet own offset text begins at unit_is no_copy writes_unit place
-      same_out some so_far = absurd (some_none own no_copy)
+      same_out some so_far = absurd (some_none (other_unit mode x own) no_copy)
   unwritten_unit input buffered old x y from to len packet own offset text begins at unit_is no_copy
       (writes_nothing p not_copied) place same_out some so_far = absurd (some_none [] no_copy)
   unwritten_unit input buffered old x y from to len packet own offset text begins at unit_is no_copy
@@ -393,9 +396,9 @@ module _ {W : Type 0} (select : Option Expression) (count : Option ℕ) (content
   Reached-stopped (Lines options) held input buffered old y from to len packet own offset some begins unit_is stops
       so_far =
       no_lines select options y (counted (old.count + 1)) own packet stops.accepted stops.not_made
-  Reached-stopped (Copy edit) held input buffered old y from to len packet own offset some begins unit_is stops
+  Reached-stopped (Copy mode edit) held input buffered old y from to len packet own offset some begins unit_is stops
       so_far =
-      unwritten_unit select count edit contents held input buffered old y y from to len packet own offset None begins
+      unwritten_unit mode select count edit contents held input buffered old y y from to len packet own offset None begins
       refl
       unit_is refl stops.not_made.0 stops.is_offset stops.same_out some so_far
 

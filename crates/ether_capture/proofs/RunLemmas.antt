@@ -10,7 +10,6 @@ use Rattle.ether_pcap.specs.Section as section_rows
 use Rattle.ether_pcap.specs.Capture.{PacketValue, Expectation, HasBegun, CaptureRefusal, Refuses, file_header_refused, file_record_refused, first_section_refused, section_refused, block_refused, body_refused, required_len, IsEnd, HasPackets}
 use Rattle.ether_pcap.specs.CaptureViews.{capture_refusal_view}
 use Rattle.ether_pcap.specs.Copies.{CopyFault, Refused, NotEdited}
-use Rattle.ether_pcap.specs.Editing.{EditedValue}
 use Rattle.ether_pcap.proofs.CaptureLengths.{required_above, unit_within}
 use Rattle.ether_pcap.proofs.CaptureLocality.{refusal_local}
 use Rattle.ether_pcap.specs.declared.capture.capture_error.CaptureError.{CaptureError}
@@ -21,7 +20,7 @@ use Rattle.ether_text.proofs.KnownBytesLemmas.{Appends-then, Consumes-kept}
 use Rattle.ether_text.specs.Run.{IsLeft, BreaksOffAfter, IsEndless}
 use Rattle.ether_text.proofs.RunLemmas.{IsLeft-left_of, IsLeft-end, Consumes-nothing, answers_flushed, stops_flushed, breaks_flushed, answers_slice, stops_slice, breaks_slice, no_endless_slice}
 use Rattle.ether_content.specs.Editing.{EditValue}
-use Rattle.ether_capture.specs.Copying.{IsCopyTo}
+use Rattle.ether_capture.specs.Copying.{IsCopy}
 use Rattle.ether_capture.specs.Counting.{HasCounted, IfRead}
 use Rattle.ether_capture.specs.FrameLines.{skip_count}
 use Rattle.ether_capture.specs.Packets.{capture_start, counted, GoesOn, HasFewer}
@@ -106,10 +105,6 @@ refused_nothing bytes x r e (body_refused most order interfaces b s other begins
 
 module _ (select : Option Expression) (bytes front text : List ℕ) (packets kept : List PacketValue) (all : Bool)
     (x : Expectation) (count : Option ℕ) (go : GoesOn front packets x) where
-  abbrev IsCopyBy : (edit : Option EditValue) → (to : PacketValue → Option EditedValue) → (bytes copy rest : List ℕ)
-      → Option CopyFault → Type 0
-  IsCopyBy edit to bytes copy rest fault = IsCopyTo to select edit bytes copy rest fault
-
   -- it ends after a unit
   completed : (form : FormValue) → bytes ≡ front → HasBegun x → Made select form packets kept front text all x
       → Completes select form packets bytes
@@ -123,13 +118,13 @@ module _ (select : Option Expression) (bytes front text : List ℕ) (packets kep
     answered = made;
     is_text = refl;
   }
-  completed (Copy edit) is begun made = record {
-    is_copy = λ to edits.
-        subst (λ (l : List ℕ). IsCopyBy edit to l (text ++ []) [] None) (sym is)
-        (subst (λ (l : List ℕ). IsCopyBy edit to front l [] None) (sym (append-nil text))
-        (is_copy select edit to edits front text kept [] None
-        (copied_to_end select edit to edits front text kept x begun (made.0 to edits))));
-    accepted = made.1;
+  completed (Copy mode edit) is begun made = record {
+    is_copy =
+        subst (λ (l : List ℕ). IsCopy mode select edit l (text ++ []) [] None) (sym is)
+        (subst (λ (l : List ℕ). IsCopy mode select edit front l [] None) (sym (append-nil text))
+        (is_copy mode select edit front text kept made.0 [] None
+        (copied_to_end mode select edit front text kept made.0 x begun made.1)));
+    accepted = made.2;
   }
 
   -- .. or at a refusal of all that is left
@@ -150,15 +145,15 @@ module _ (select : Option Expression) (bytes front text : List ℕ) (packets kep
     fewer = fewer;
     answered = made;
   }
-  stopped (Copy edit) rest offset error place at more refused fewer made =
+  stopped (Copy mode edit) rest offset error place at more refused fewer made =
       let reason = capture_refusal_view error in
       record {
         front = front;
         rest = rest;
-        is_copy = λ to edits.
-            subst (λ (l : List ℕ). IsCopyBy edit to l text rest (Some (Refused reason))) (sym place)
-            (is_copy select edit to edits (front ++ rest) text kept rest (Some (Refused reason))
-            (copied_to_refusal select edit to edits front text kept x rest reason more refused (made.0 to edits)));
+        is_copy =
+            subst (λ (l : List ℕ). IsCopy mode select edit l text rest (Some (Refused reason))) (sym place)
+            (is_copy mode select edit (front ++ rest) text kept made.0 rest (Some (Refused reason))
+            (copied_to_refusal mode select edit front text kept made.0 x rest reason more refused made.1));
         place = place;
         is_offset = at;
         fewer = fewer;
@@ -181,19 +176,19 @@ module _ (select : Option Expression) (bytes front text : List ℕ) (packets kep
     fewer = fewer;
     answered = made;
   }
-  broken Needs (Copy edit) rest reason place refused unfinished fewer made = record {
+  broken Needs (Copy mode edit) rest reason place refused unfinished fewer made = record {
     kept = kept;
+    edited = made.0;
     front = front;
     rest = rest;
     expected = x;
     reason = reason;
-    parts = made.0;
+    parts = made.1;
     place = place;
     begun = refused;
     unfinished = unfinished;
     fewer = fewer;
-    is_read = λ some to edits.
-        read_so_far select edit to edits front text kept x rest reason refused (made.0 to edits) some;
+    is_read = λ some. read_so_far mode select edit front text kept made.0 x rest reason refused made.1 some;
   }
 
 -- what is counted is said of the outcomes that count
@@ -436,7 +431,7 @@ module _ {W : Type 0} (task : TaskValue) (contents : W → Option (List ℕ)) wh
         → HasRunOver (record task { form = form }) [] before after held (contents_of contents out) (Err
         (faults.NotEdited offset))
     at_packet (Lines options) input offset out read s = absurd s
-    at_packet (Copy edit) input offset out read s =
+    at_packet (Copy mode edit) input offset out read s =
         let left : List ℕ = unwrap_or after [] in
         let place = ap (λ (l : List ℕ). l ++ left) s.place ∙ append_assoc s.front s.buffered left in
         record {
@@ -450,17 +445,17 @@ module _ {W : Type 0} (task : TaskValue) (contents : W → Option (List ℕ)) wh
             record {
               front = s.front;
               rest = s.buffered ++ left;
-              is_copy = λ to edits.
-                  subst (λ (l : List ℕ). IsCopyTo to task.select edit l s.copy (s.buffered ++ left) (Some
+              is_copy =
+                  subst (λ (l : List ℕ). IsCopy mode task.select edit l s.copy (s.buffered ++ left) (Some
                   (NotEdited s.packet)))
                   (sym place)
-                  (is_copy task.select edit to edits (s.front ++ (s.buffered ++ left)) s.copy s.kept
+                  (is_copy mode task.select edit (s.front ++ (s.buffered ++ left)) s.copy s.kept s.edited
                   (s.buffered ++ left)
                   (Some (NotEdited s.packet))
-                  (copied_to_packet task.select edit to edits s.front s.copy s.kept s.expected s.buffered left s.len
-                  s.packet
+                  (copied_to_packet mode task.select edit s.front s.copy s.kept s.edited s.expected s.buffered left s.len
+                  s.packet s.to
                   (unit_within s.buffered s.expected s.expected s.len (Some s.packet) s.begins) s.begins s.copied
-                  (s.not_written to edits) (s.parts to edits)));
+                  s.edits s.not_written s.parts));
               place = place;
               is_offset = s.is_offset;
               fewer = s.fewer;

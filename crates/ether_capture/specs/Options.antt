@@ -15,6 +15,8 @@ use Rattle.ether_filter.specs.declared.filter_error.FilterError.{FilterError}
 use Rattle.ether_content.specs.Editing.{EditValue, CutToHeaders, PopVlan}
 use Rattle.ether_content.specs.EditingViews.{edit_view}
 use Rattle.ether_capture.specs.Tags.{IsTagEdit}
+use Rattle.ether_pcap.specs.CopiedUnits.{ModeValue, Exact, Changed}
+use Rattle.ether_capture.specs.Copying.{growth_if}
 use Rattle.ether_capture.specs.Task.{TaskValue, FormValue, Lines, Copy, task_view}
 use Rattle.ether_capture.specs.declared.options.Asked.{Asked}
 use Rattle.ether_capture.specs.declared.options.Listing.{Listing}
@@ -152,9 +154,13 @@ clashes a = if a.write then a.plain || (is_some a.limit || are_several a.files) 
 abbrev pub options_of : AskedValue → LineOptions
 options_of a = record { is_plain = a.plain; limit = a.limit; before = None }
 
+-- a copy is exact if all packets are copied, and none is edited; else it is another capture, in which packets may have grown
+abbrev pub mode_of : AskedValue → ModeValue
+mode_of a = if is_some a.text || (is_some a.count || is_some a.edit) then Changed (growth_if a.edit) else Exact
+
 -- lines are asked for, or a copy
 abbrev pub form_of : AskedValue → FormValue
-form_of a = if a.write then Copy a.edit else Lines (options_of a)
+form_of a = if a.write then Copy (mode_of a) a.edit else Lines (options_of a)
 
 -- what is asked for, with these files
 abbrev pub request_for : AskedValue → (select : Option Expression) → (files : List Text) → RequestValue

@@ -6,7 +6,8 @@ use Rattle.ether_filter.specs.Expressions.{Expression}
 use Rattle.ether_pcap.specs.Capture.{PacketValue, Expectation, HasBegun, Begins, Refuses}
 use Rattle.ether_pcap.specs.CaptureViews.{capture_refusal_view}
 use Rattle.ether_pcap.specs.Copies.{Selected}
-use Rattle.ether_pcap.specs.Editing.{EditedValue, unit_after}
+use Rattle.ether_pcap.specs.Editing.{EditedValue, edited_unit}
+use Rattle.ether_pcap.specs.CopiedUnits.{ModeValue, other_unit, unit_after}
 use Rattle.ether_pcap.specs.declared.capture.capture_error.CaptureError.{CaptureError}
 use Rattle.ether_content.specs.Editing.{EditValue}
 use Rattle.ether_text.specs.OutputBuffer.{contents_of, Takes}
@@ -14,7 +15,7 @@ use Rattle.ether_text.specs.Verdict.{verdict_of, verdict_with}
 use Rattle.ether_text.specs.declared.output_buffer.OutputBuffer.{OutputBuffer}
 use Rattle.ether_text.specs.declared.verdict.Verdict.TheVariants.{AllAccepted}
 use Rattle.ether_capture.specs.Answering.{AreListed}
-use Rattle.ether_capture.specs.Copying.{EditsTo, EditsIf, CopiesOn}
+use Rattle.ether_capture.specs.Copying.{EditsIf, CopiesOn}
 use Rattle.ether_capture.specs.declared.counts.PacketCounts.{PacketCounts}
 use Rattle.ether_capture.specs.FrameLines.{AnswersPacket, skip_count, totals_line_after}
 use Rattle.ether_capture.specs.Packets.{capture_start, counted, GoesOn, HasFewer, EndsAtCount, IsLeftOf}
@@ -30,7 +31,8 @@ use Rattle.ether_capture.specs.declared.task.LineOptions.{LineOptions}
 abbrev pub Made : (select : Option Expression) → FormValue → (packets kept : List PacketValue) → (front text : List ℕ) → (all : Bool)
     → Expectation → Type 0
 Made select (Lines options) packets kept front text all x = AreListed select options packets text all
-Made select (Copy edit) packets kept front text all x = CopiesOn select edit front text kept x × (all ≡ true)
+Made select (Copy mode edit) packets kept front text all x =
+    (edited : List PacketValue) × CopiesOn mode select edit front text kept edited x × (all ≡ true)
 
 -- Of the input the units before the buffered bytes are taken.
 pub record Reached {W : Type 0} (task : TaskValue) (contents : W → Option (List ℕ)) (held : Option (List ℕ)) (input buffered : List ℕ)
@@ -68,9 +70,9 @@ counts_at at = record { number = at.count; skipped = at.skipped; left = at.left 
 
 -- ---- one unit
 
--- a unit has this packet, if it has one
+-- the unit that was read last, with this packet if it has one
 abbrev pub IsUnitOf : Expectation → (unit : List ℕ) → Option PacketValue → Type 0
-IsUnitOf x unit None = ⊤
+IsUnitOf x unit None = (before : Expectation) × Begins unit before (length unit) None x
 IsUnitOf x unit (Some p) = Begins unit x (length unit) (Some p) x
 
 -- the lines of a packet of this number, if there is a packet
@@ -81,23 +83,23 @@ Answers select options number (Some p) accepted text =
     (lines : List ℕ) × AnswersPacket select options number p lines accepted × (text ≡ Some lines)
 
 -- The copy of a unit, by its packet if it has one: nothing if that is not chosen, none if it is to be edited and can't be.
-pub data Writes (select : Option Expression) (edit : Option EditValue) (x : Expectation) (unit : List ℕ)
+pub data Writes (mode : ModeValue) (select : Option Expression) (edit : Option EditValue) (x : Expectation) (unit : List ℕ)
     : Option PacketValue → Option (List ℕ) → Type 0 where
-  writes_unit : Writes select edit x unit None (Some unit)
-  writes_nothing : (p : PacketValue) → ¬ (IsChosen select p) → Writes select edit x unit (Some p) (Some [])
+  writes_unit : Writes mode select edit x unit None (Some (other_unit mode x unit))
+  writes_nothing : (p : PacketValue) → ¬ (IsChosen select p) → Writes mode select edit x unit (Some p) (Some [])
   writes_packet : (p : PacketValue) (o : Option EditedValue) (text : Option (List ℕ)) → IsChosen select p → EditsIf edit p o
-      → unit_after x p o unit ≡ text → Writes select edit x unit (Some p) text
+      → unit_after mode x p o unit ≡ text → Writes mode select edit x unit (Some p) text
 
 -- the text that is made of a unit, or none
 abbrev pub Makes : (select : Option Expression) → FormValue → Expectation → (number : ℕ) → (unit : List ℕ) → Option PacketValue
     → (accepted : Bool) → Option (List ℕ) → Type 0
 Makes select (Lines options) x number unit packet accepted text = Answers select options number packet accepted text
-Makes select (Copy edit) x number unit packet accepted text = Writes select edit x unit packet text × (accepted ≡ true)
+Makes select (Copy mode edit) x number unit packet accepted text = Writes mode select edit x unit packet text × (accepted ≡ true)
 
 -- what is written for a unit that is no packet
-abbrev pub other_text : FormValue → (unit : List ℕ) → List ℕ
-other_text (Lines options) unit = []
-other_text (Copy edit) unit = unit
+abbrev pub other_text : FormValue → Expectation → (unit : List ℕ) → List ℕ
+other_text (Lines options) x unit = []
+other_text (Copy mode edit) x unit = other_unit mode x unit
 
 -- one packet less is left if this one is chosen
 abbrev pub LeavesLess : (select : Option Expression) → PacketValue → (old new : Option ℕ) → Type 0
@@ -139,28 +141,28 @@ pub record MakesText {W : Type 0} (select : Option Expression) (form : FormValue
   pub taken : Takes contents can_fail from text to
 
 -- the unit of a packet is appended, edited if there is an edit
-pub record WritesPacket {W : Type 0} (edit : Option EditValue) (x : Expectation) (unit : List ℕ) (p : PacketValue)
+pub record WritesPacket {W : Type 0} (mode : ModeValue) (edit : Option EditValue) (x : Expectation) (unit : List ℕ) (p : PacketValue)
     (contents : W → Option (List ℕ)) (can_fail : Type 0) (from to : OutputBuffer W) : Type 0 where
   pub edited : Option EditedValue
   pub edits : EditsIf edit p edited
   pub copy : List ℕ
-  pub is_copy : unit_after x p edited unit ≡ Some copy
+  pub is_copy : unit_after mode x p edited unit ≡ Some copy
   pub taken : Takes contents can_fail from copy to
 
 -- .. or can't be edited
-abbrev pub IsUneditable : (edit : Option EditValue) → Expectation → (unit : List ℕ) → PacketValue → Type 0
-IsUneditable edit x unit p = (o : Option EditedValue) × EditsIf edit p o × (unit_after x p o unit ≡ None)
+abbrev pub IsUneditable : ModeValue → (edit : Option EditValue) → Expectation → (unit : List ℕ) → PacketValue → Type 0
+IsUneditable mode edit x unit p = (o : Option EditedValue) × EditsIf edit p o × (unit_after mode x p o unit ≡ None)
 
 -- the unit of a packet is appended as edited
 abbrev pub AppendsEdited : {W : Type 0} → Expectation → (unit : List ℕ) → EditedValue → (contents : W → Option (List ℕ)) → (can_fail : Type 0)
     → (from to : OutputBuffer W) → Type 0
 AppendsEdited x unit e contents can_fail from to =
     (p : PacketValue) → Begins unit x (length unit) (Some p) x
-    → (copy : List ℕ) × (unit_after x p (Some e) unit ≡ Some copy) × Takes contents can_fail from copy to
+    → (copy : List ℕ) × (edited_unit x (length p.packet) e unit ≡ Some copy) × Takes contents can_fail from copy to
 
 -- .. or can't be
 abbrev pub AppendsNone : Expectation → (unit : List ℕ) → EditedValue → Type 0
-AppendsNone x unit e = (p : PacketValue) → Begins unit x (length unit) (Some p) x → unit_after x p (Some e) unit ≡ None
+AppendsNone x unit e = (p : PacketValue) → Begins unit x (length unit) (Some p) x → edited_unit x (length p.packet) e unit ≡ None
 
 -- ---- the units that are buffered
 
@@ -181,20 +183,22 @@ IsTakingFault faults.Output = ⊤
 IsTakingFault _ = ⊥
 
 -- Of the input the units before a packet are taken that is to be edited and can't be; it is at this place.
-pub record Unedited {W : Type 0} (select : Option Expression) (count : Option ℕ) (edit : Option EditValue) (contents : W → Option (List ℕ))
+pub record Unedited {W : Type 0} (mode : ModeValue) (select : Option Expression) (count : Option ℕ) (edit : Option EditValue) (contents : W → Option (List ℕ))
     (held : Option (List ℕ)) (input : List ℕ) (offset : ℕ) (out : OutputBuffer W) : Type 0 where
   pub front : List ℕ
   pub copy : List ℕ
   pub kept : List PacketValue
+  pub edited : List PacketValue
   pub buffered : List ℕ
   pub expected : Expectation
   pub len : ℕ
   pub packet : PacketValue
-  pub parts : CopiesOn select edit front copy kept expected
+  pub to : Option EditedValue
+  pub parts : CopiesOn mode select edit front copy kept edited expected
   pub begins : Begins buffered expected len (Some packet) expected
   pub copied : IsChosen select packet
-  pub not_written : (to : PacketValue → Option EditedValue) → EditsTo edit to
-      → unit_after expected packet (to packet) (take len buffered) ≡ None
+  pub edits : EditsIf edit packet to
+  pub not_written : unit_after mode expected packet to (take len buffered) ≡ None
   pub place : input ≡ front ++ buffered
   pub is_offset : offset ≡ counted (length front)
   pub fewer : HasFewer select count front
@@ -204,7 +208,7 @@ pub record Unedited {W : Type 0} (select : Option Expression) (count : Option �
 abbrev pub UneditedIn : {W : Type 0} → (select : Option Expression) → (count : Option ℕ) → FormValue → (contents : W → Option (List ℕ)) → (held : Option (List ℕ))
     → (input : List ℕ) → (offset : ℕ) → (out : OutputBuffer W) → Type 0
 UneditedIn select count (Lines options) contents held input offset out = ⊥
-UneditedIn select count (Copy edit) contents held input offset out = Unedited select count edit contents held input offset out
+UneditedIn select count (Copy mode edit) contents held input offset out = Unedited mode select count edit contents held input offset out
 
 -- .. after these bytes were buffered
 abbrev pub StopsAfter : {W : Type 0} → (task : TaskValue) → (contents : W → Option (List ℕ)) → (buffered : List ℕ) → (old : Progress)
@@ -226,4 +230,4 @@ pub record TakesUnits {W : Type 0} (task : TaskValue) (contents : W → Option (
 -- what is written after all units
 abbrev pub last_lines : FormValue → (count skipped : ℕ) → List ℕ
 last_lines (Lines options) count skipped = totals_line_after options.before options.is_plain count skipped
-last_lines (Copy edit) count skipped = []
+last_lines (Copy mode edit) count skipped = []

@@ -20,7 +20,7 @@ use Rattle.ether_capture.specs.declared.outcome.RunFault.TheVariants.{Capture, N
 -- this is made of a whole capture with these packets, and all says that each is accepted
 abbrev pub Completes : (select : Option Expression) → FormValue → List PacketValue → (bytes text : List ℕ) → (all : Bool) → Type 0
 Completes select (Lines options) packets bytes text all = AnswersCapture select options packets bytes text all
-Completes select (Copy edit) packets bytes text all = CopiesCapture select edit bytes text all
+Completes select (Copy mode edit) packets bytes text all = CopiesCapture mode select edit bytes text all
 
 -- .. and it has fewer packets that are chosen than are asked for at most
 abbrev pub CompletesAll : (task : TaskValue) → List PacketValue → (bytes text : List ℕ) → (all : Bool) → Type 0
@@ -41,19 +41,19 @@ pub record ReachesCount (task : TaskValue) (packets : List PacketValue) (verdict
 abbrev pub StopsAtFault : (select : Option Expression) → (count : Option ℕ) → FormValue → List PacketValue → CaptureFault → (bytes text : List ℕ)
     → Type 0
 StopsAtFault select count (Lines options) packets fault bytes text = AnswersToFault select count options packets fault bytes text
-StopsAtFault select count (Copy edit) packets fault bytes text =
-    CopiesToFault select count edit (Refused (capture_refusal_view fault.error)) fault.offset bytes text
+StopsAtFault select count (Copy mode edit) packets fault bytes text =
+    CopiesToFault mode select count edit (Refused (capture_refusal_view fault.error)) fault.offset bytes text
 
 -- .. up to a packet at this place that is to be edited, and can't be
 abbrev pub StopsAtPacket : (select : Option Expression) → (count : Option ℕ) → FormValue → (offset : ℕ) → (bytes text : List ℕ) → Type 0
 StopsAtPacket select count (Lines options) offset bytes text = ⊥
-StopsAtPacket select count (Copy edit) offset bytes text = CopiesToPacket select count edit offset bytes text
+StopsAtPacket select count (Copy mode edit) offset bytes text = CopiesToPacket mode select count edit offset bytes text
 
 -- .. up to bytes that are not a whole unit; this holds of how many it needs at least
 abbrev pub EndsInUnit : (Needs : Option ℕ → Type 0) → (select : Option Expression) → (count : Option ℕ) → FormValue → List PacketValue
     → (bytes text : List ℕ) → Type 0
 EndsInUnit Needs select count (Lines options) packets bytes text = AnswersToUnit Needs select count options packets bytes text
-EndsInUnit Needs select count (Copy edit) packets bytes text = CopiesToUnit Needs select count edit bytes text
+EndsInUnit Needs select count (Copy mode edit) packets bytes text = CopiesToUnit Needs mode select count edit bytes text
 
 -- this many bytes are needed, and more than there was memory for at first
 abbrev pub NeedsMemory : Option ℕ → Type 0

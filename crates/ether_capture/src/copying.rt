@@ -2,6 +2,7 @@
 ghost use Rattle.std.specs.Prelude.{◌≡◌, ◌≤◌, IfSome, IfNone, IsTrue, IsFalse, length, Some, None, true};
 ghost use Rattle.std.specs.Option.{option_map};
 ghost use Rattle.ether_pcap.specs.CaptureViews.{captured_packet_view};
+ghost use Rattle.ether_pcap.specs.CopiedUnits.{copied_bytes, copy_mode_view, other_unit};
 ghost use Rattle.ether_pcap.specs.Editing.{unit_bytes, padding_of};
 ghost use Rattle.ether_content.specs.EditingViews.{edit_view, edited_view};
 ghost use Rattle.ether_text.specs.OutputBuffer.{Takes};
@@ -10,13 +11,44 @@ ghost use Rattle.ether_capture.specs.Progress.{AppendsEdited, AppendsNone, IsUne
 use crate::edit_buffer::EditBuffer;
 use crate::interface_buffer::InterfaceBuffer;
 use ether_content::{EditedPacket, PacketEdit};
-use ether_pcap::{CaptureReader, CapturedPacket, EditedUnit};
+use ether_pcap::{CaptureReader, CapturedPacket, CopiedUnit, CopyMode, EditedUnit};
 use ether_text::{OutputBuffer, Sink};
+
+/// Writes what a copy has of a unit without a packet.
+pub fn write_other<W: Sink>(
+    reader: &CaptureReader<InterfaceBuffer>,
+    mode: CopyMode,
+    unit: &[u8],
+    out: &mut OutputBuffer<'_, W>,
+)
+    requires { IsUnitOf reader.now unit.now None }
+    ensures { Takes W.contents W.can_fail out.old (other_unit (copy_mode_view mode) reader.now unit.now) out.new }
+{
+    match reader.copy_unit(mode, unit) {
+        CopiedUnit::Same(unit) => out.append(unit),
+        CopiedUnit::LeftOut => {}
+        CopiedUnit::SnapLen {
+            front,
+            snap_len,
+            rest,
+        } => {
+            out.append(front);
+            out.append(&snap_len);
+            out.append(rest);
+        }
+        CopiedUnit::SectionLen { front, rest } => {
+            out.append(front);
+            out.append(&[0xFF; 8]);
+            out.append(rest);
+        }
+    }
+}
 
 /// Writes the unit of a packet, edited if there is an edit for it. Returns `false` and writes nothing if it can't be.
 #[inline(never)]
 pub fn write_packet<W: Sink>(
     reader: &CaptureReader<InterfaceBuffer>,
+    mode: CopyMode,
     edit: Option<PacketEdit>,
     edits: &mut EditBuffer,
     unit: &[u8],
@@ -24,14 +56,15 @@ pub fn write_packet<W: Sink>(
     out: &mut OutputBuffer<'_, W>,
 ) -> bool
     requires { IsUnitOf reader.now unit.now (Some (captured_packet_view packet.now)) }
-    ensures written { IsTrue result → WritesPacket (option_map edit_view edit) reader.now unit.now
+    ensures written { IsTrue result → WritesPacket (copy_mode_view mode) (option_map edit_view edit) reader.now unit.now
         (captured_packet_view packet.now) W.contents W.can_fail out.old out.new }
-    ensures not_written { IsFalse result → IsUneditable (option_map edit_view edit) reader.now unit.now
+    ensures not_written { IsFalse result → IsUneditable (copy_mode_view mode) (option_map edit_view edit) reader.now unit.now
         (captured_packet_view packet.now) }
     ensures same_out { IsFalse result → out.new ≡ out.old }
 {
     match edits.edit(edit, packet) {
         Some(edited) => write_edited(reader, edits, unit, &edited, out),
+        None if !reader.copies_packet(mode, unit, packet) => false,
         None => {
             out.append(unit);
             true

@@ -102,6 +102,9 @@ impl InputBuffer {
         ensures start { self.new.start ≡ 0 }
         ensures room { room self.new ≡ room self.old }
     {
+        if self.start == 0 {
+            return;
+        }
         let (start, end) = (self.start, self.end);
         self.bytes.as_mut_slice().copy_within(start..end, 0);
         self.start = 0;

@@ -4,8 +4,10 @@ ghost use Rattle.std.specs.Int.NonZero.{non_zero_usize_get};
 ghost use Rattle.std.specs.Option.{option_map};
 ghost use Rattle.clap.specs.Words.{all_of, app_of, first_of, found_of, rows_of, rule_of};
 ghost use Rattle.ether_content.specs.Editing.{EditValue};
+ghost use Rattle.ether_pcap.specs.CopiedUnits.{copy_mode_view};
 ghost use Rattle.ether_content.specs.EditingViews.{edit_view};
-ghost use Rattle.ether_capture.specs.Options.{Asks, IsCount, IsEdit, IsIfAny, IsLimit, IsOneEdit, IsRequestOf, IsSelection, KindNames, NamesRequest, RefusesAsked, RefusesKind, RefusesRows, RefusesSelection, RefusesWords, are_several, asked_view, capture_app, clashes, count_rule, file_rule, flag_rule, form_of, is_set, option_rule, options_of, request_view};
+ghost use Rattle.ether_capture.specs.Copying.{growth_if};
+ghost use Rattle.ether_capture.specs.Options.{Asks, IsCount, IsEdit, IsIfAny, IsLimit, IsOneEdit, IsRequestOf, IsSelection, KindNames, NamesRequest, RefusesAsked, RefusesKind, RefusesRows, RefusesSelection, RefusesWords, are_several, asked_view, capture_app, clashes, count_rule, file_rule, flag_rule, form_of, is_set, mode_of, option_rule, options_of, request_view};
 ghost use Rattle.ether_capture.specs.Tags.{IsTagEdit, tag_word};
 ghost use Rattle.ether_capture.specs.Task.{form_view};
 
@@ -15,6 +17,7 @@ use clap::error::ErrorKind;
 use clap::{Arg, ArgAction, ArgMatches, Command};
 use ether_content::PacketEdit;
 use ether_filter::{Filter, FilterError};
+use ether_pcap::CopyMode;
 use std::alloc::{AllocError, Global};
 use std::num::NonZeroUsize;
 
@@ -233,9 +236,35 @@ impl<'a> Asked<'a> {
         ensures { form_view result ≡ form_of (asked_view self.now) }
     {
         if self.is_copy {
-            Form::Copy { edit: self.edit }
+            Form::Copy {
+                mode: self.mode(),
+                edit: self.edit,
+            }
         } else {
             Form::Lines(self.options())
+        }
+    }
+
+    /// A copy is exact if all packets are copied, and none is edited.
+    fn mode(&self) -> CopyMode
+        ensures { copy_mode_view result ≡ mode_of (asked_view self.now) }
+    {
+        if self.text.is_some() || self.count.is_some() || self.edit.is_some() {
+            CopyMode::Changed {
+                raise: self.growth(),
+            }
+        } else {
+            CopyMode::Exact
+        }
+    }
+
+    /// By how many bytes the edit lets a packet grow, if there is one.
+    fn growth(&self) -> u32
+        ensures { result ≡ growth_if (asked_view self.now).edit }
+    {
+        match self.edit {
+            Some(edit) => edit.growth(),
+            None => 0,
         }
     }
 

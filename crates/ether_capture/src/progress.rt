@@ -11,7 +11,7 @@ ghost use Rattle.ether_capture.specs.Packets.{counted};
 ghost use Rattle.ether_capture.specs.Progress.{Counts, counts_at, IsStart, IsTakingFault, IsUnitOf, last_lines, Makes, MakesText, OnNotEdited, OnOutput, other_text, StopsAfter, StopsUnwritten, TakesUnit, TakesUnits};
 ghost use Rattle.ether_capture.specs.Task.{form_view, task_view};
 
-use crate::copying::write_packet;
+use crate::copying::{write_other, write_packet};
 use crate::counts::PacketCounts;
 use crate::edit_buffer::EditBuffer;
 use crate::frame_lines::{is_skipped, write_lines, write_totals_of};
@@ -157,7 +157,7 @@ impl Progress {
         ensures same_out { IfNone result (out.new ≡ out.old) }
     {
         let Some(packet) = packet else {
-            write_other(task.form, unit, out);
+            self.write_other(task.form, unit, out);
             return Some(true);
         };
         if !task.chooses(packet) {
@@ -165,13 +165,24 @@ impl Progress {
         }
         match task.form {
             Form::Lines(options) => { Some(write_lines(options, &self.count, packet, out)) }
-            Form::Copy { edit } => {
-                if write_packet(&self.reader, edit, edits, unit, packet, out) {
+            Form::Copy { mode, edit } => {
+                if write_packet(&self.reader, mode, edit, edits, unit, packet, out) {
                     Some(true)
                 } else {
                     None
                 }
             }
+        }
+    }
+
+    /// Writes what a copy has of a unit without a packet, if a copy is made.
+    #[inline(always)]
+    fn write_other<W: Sink>(&self, form: Form, unit: &[u8], out: &mut OutputBuffer<'_, W>)
+        requires { IsUnitOf self.now.reader unit.now None }
+        ensures { Takes W.contents W.can_fail out.old (other_text (form_view form) self.now.reader unit.now) out.new }
+    {
+        if let Form::Copy { mode, .. } = form {
+            write_other(&self.reader, mode, unit, out);
         }
     }
 
@@ -244,13 +255,4 @@ fn skipped_after(skipped: usize, packet: &CapturedPacket<'_>) -> usize
         return skipped.saturating_add(1);
     }
     skipped
-}
-
-/// Writes a unit that is no packet, if a copy is made.
-fn write_other<W: Sink>(form: Form, unit: &[u8], out: &mut OutputBuffer<'_, W>)
-    ensures { Takes W.contents W.can_fail out.old (other_text (form_view form) unit.now) out.new }
-{
-    if let Form::Copy { .. } = form {
-        out.append(unit);
-    }
 }

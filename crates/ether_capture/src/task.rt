@@ -5,7 +5,7 @@ ghost use Rattle.ether_capture.specs.Task.{is_copy, packets_before, task_view, I
 
 use ether_content::{PacketEdit, selects};
 use ether_filter::Filter;
-use ether_pcap::CapturedPacket;
+use ether_pcap::{CapturedPacket, CopyMode};
 use std::num::NonZeroUsize;
 
 /// What is made of a capture, and for which packets.
@@ -26,6 +26,8 @@ pub enum Form {
     Lines(LineOptions),
     /// A copy of the capture with these packets alone.
     Copy {
+        /// Whether it is exact, or another capture.
+        mode: CopyMode,
         /// How each packet is edited, if it is.
         edit: Option<PacketEdit>,
     },

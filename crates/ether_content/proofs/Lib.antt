@@ -5,3 +5,4 @@ pub mod EditingLemmas
 pub mod SettingLemmas
 pub mod EditsOne
 pub mod EditsSome
+pub mod Growth

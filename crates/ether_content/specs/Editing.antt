@@ -104,6 +104,11 @@ pub data Edits : EditValue → PacketValue → Option EditedValue → Type 0 whe
   sets : (p : PacketValue) (old new : ℕ) (e : EditedValue) → Sets old new p e → Edits (SetVlan old new) p (Some e)
   not_set : (p : PacketValue) (old new : ℕ) → Stays (λ frame hs. LacksVlan hs old) p → Edits (SetVlan old new) p None
 
+-- how many bytes a packet has more at most
+abbrev pub growth : EditValue → ℕ
+growth (PushVlan tpid id) = 4
+growth edit = 0
+
 -- identifiers that a tag gets have 12 bits
 abbrev pub FitsEdit : EditValue → Type 0
 FitsEdit (PushVlan tpid id) = id < 4096
@@ -114,6 +119,10 @@ FitsEdit edit = ⊤
 abbrev pub EditsAreSome : Type 0
 EditsAreSome =
     (edit : EditValue) (p : PacketValue) → FitsEdit edit → IsBytes p.packet → (o : Option EditedValue) × Edits edit p o
+
+-- A packet that is edited has no more bytes than its growth allows.
+abbrev pub EditsGrow : Type 0
+EditsGrow = (edit : EditValue) (p : PacketValue) (e : EditedValue) → Edits edit p (Some e) → length e.packet ≤ length p.packet + growth edit
 
 -- A packet is edited to one value.
 abbrev pub EditsAreOne : Type 0

@@ -5,7 +5,7 @@ ghost use Rattle.ether_peel.specs.Walker.Start.{next_of};
 ghost use Rattle.ether_pcap.specs.CaptureViews.{captured_packet_view};
 ghost use Rattle.ether_content.specs.Content.{content_of};
 ghost use Rattle.ether_content.specs.Content as contents;
-ghost use Rattle.ether_content.specs.Editing.{CutToHeaders, PopVlan, PushVlan, SetVlan, Edits};
+ghost use Rattle.ether_content.specs.Editing.{CutToHeaders, PopVlan, PushVlan, SetVlan, Edits, growth};
 ghost use Rattle.ether_content.specs.EditingViews.{edit_view, edited_view};
 
 use crate::content::Content;
@@ -38,6 +38,18 @@ pub enum PacketEdit {
         /// The identifier that it gets.
         to: VlanId,
     },
+}
+
+impl PacketEdit {
+    /// How many bytes a packet has more at most: by so many [`CopyMode::Changed`](ether_pcap::CopyMode::Changed) raises snap lengths.
+    pub fn growth(self) -> u32
+        ensures { result ≡ growth (edit_view self) }
+    {
+        match self {
+            PacketEdit::PushVlan { .. } => 4,
+            _ => 0,
+        }
+    }
 }
 
 /// A packet that was edited.
@@ -73,6 +85,7 @@ const FREE: usize = 4;
 ///     interface: None,
 ///     original_len: 60,
 ///     link_type: LinkType::ETHERNET,
+///     snap_len: 262_144,
 ///     fcs_len: None,
 ///     packet: &[
 ///         0xFF, 0xFF, 0xFF, 0xFF, 0xFF, 0xFF, 0x02, 0x00, 0x00, 0x00, 0x00, 0x01, 0x81, 0x00, // Ethernet II

@@ -1,5 +1,5 @@
 //! The laws on the headers and the edits of a captured packet. Each is the contract of a function that does nothing.
-ghost use Rattle.ether_content.specs.Editing.{EditsAreOne, EditsAreSome};
+ghost use Rattle.ether_content.specs.Editing.{EditsAreOne, EditsAreSome, EditsGrow};
 ghost use Rattle.ether_content.specs.Headers.{HeadersTakeOne};
 
 /// The headers of any packet take a number of bytes, and only one.
@@ -15,4 +15,9 @@ pub fn edits_are_one()
 /// Each packet is edited to some value, or stays.
 pub fn edits_are_some()
     ensures { EditsAreSome }
+{}
+
+/// A packet that is edited has no more bytes than before, or four more where a VLAN tag is put in.
+pub fn edits_grow()
+    ensures { EditsGrow }
 {}

@@ -1,173 +1,200 @@
 -- Any bytes have one copy.
-use Rattle.std.proofs.Common.{◌≡◌, ◌⊎◌, ℕ, zero, suc, ◌≤◌, Bool, List, [], ◌∷◌, ◌++◌, length, drop, length-drop, refl, sym, ap, subst, ◌∙◌, arith, inl, inr, Some, None}
-use Rattle.std.specs.Prelude.{Option, IsTrue, take, unwrap_or}
+use Rattle.std.proofs.Common.{◌≡◌, ◌⊎◌, ℕ, zero, suc, ◌≤◌, List, [], ◌∷◌, ◌++◌, length, drop, length-drop, refl, sym, ap, subst, ◌∙◌, arith, inl, inr, Some, None}
+use Rattle.std.specs.Prelude.{Option, Bool, IsTrue, take, unwrap_or}
 use Rattle.ether_base.specs.Bytes.{IsBytes}
 use Rattle.ether_base.proofs.SubLists.{IsBytes-drop}
 use Rattle.ether_pcap.specs.Capture.{PacketValue, Expectation, CaptureRefusal, Begins, Refuses, IsEnd}
-use Rattle.ether_pcap.specs.Editing.{EditedValue, unit_after}
-use Rattle.ether_pcap.specs.Copies.{CopyFault, Refused, NotEdited, Copies, ended, refused, not_edited, unit, keeps, leaves, Copy}
+use Rattle.ether_pcap.specs.Editing.{EditedValue}
+use Rattle.ether_pcap.specs.CopiedUnits.{ModeValue, other_unit, unit_after, packet_after}
+use Rattle.ether_pcap.specs.Copies.{CopyFault, Refused, NotEdited, Copies, ended, refused, not_edited, unit, keeps, leaves, EditsOnce, Copy}
 use Rattle.ether_pcap.proofs.CaptureLengths.{unit_within, unit_some}
 use Rattle.ether_pcap.proofs.CapturesOne.{unit_one, unit_apart, unit_refusal_one}
 use Rattle.ether_pcap.proofs.PacketUnits.{same_packet}
 use Rattle.ether_pcap.proofs.PacketsOne.{none_at_end}
 
-module _ (Keeps : PacketValue → Type 0) (edit : PacketValue → Option EditedValue) where
-  -- a unit, which has this front of the bytes, what is copied of it, and what is copied after it
-  abbrev Joined : Expectation → Option PacketValue → (front others : List ℕ) → (ps : List PacketValue)
-      → (copy : List ℕ) → (kept : List PacketValue) → Type 0
-  Joined x None front others ps copy kept = (copy ≡ front ++ others) × (kept ≡ ps)
-  Joined x (Some p) front others ps copy kept =
-      (Keeps p × (u : List ℕ) × (unit_after x p (edit p) front ≡ Some u) × (copy ≡ u ++ others)
-      × (kept ≡ p ∷ ps))
-      ⊎ (¬ (Keeps p) × (copy ≡ others) × (kept ≡ ps))
+module _ (mode : ModeValue) (Keeps : PacketValue → Type 0) (Edits : PacketValue → Option EditedValue → Type 0)
+    (once : EditsOnce Edits) where
+  -- what is copied, and with which packets
+  record Result : Type 0 where
+    copy : List ℕ
+    kept : List PacketValue
+    edited : List PacketValue
 
-  data Step (x : Expectation) (bytes : List ℕ) : (copy : List ℕ) → (kept : List PacketValue) → (rest : List ℕ)
-      → Option CopyFault → Type 0 where
-    end : IsEnd x bytes → Step x bytes [] [] [] None
-    refusal : (r : CaptureRefusal) → ¬ (IsEnd x bytes) → Refuses bytes x r → Step x bytes [] [] bytes (Some (Refused r))
-    stuck : (len : ℕ) (p : PacketValue) (y : Expectation) → Begins bytes x len (Some p) y → Keeps p
-        → unit_after x p (edit p) (take len bytes) ≡ None → Step x bytes [] [] bytes (Some (NotEdited p))
-    further : (len : ℕ) (p : Option PacketValue) (y : Expectation) (others copy : List ℕ) (ps kept : List PacketValue)
-        (rest : List ℕ) (fault : Option CopyFault)
-        → Begins bytes x len p y → Copies Keeps edit y (drop len bytes) others ps rest fault
-        → Joined x p (take len bytes) others ps copy kept → Step x bytes copy kept rest fault
+  -- a unit, which has this front of the bytes, and what is copied of it before these
+  abbrev Joined : (x y : Expectation) → Option PacketValue → (front : List ℕ) → (others all : Result) → Type 0
+  Joined x y None front others all =
+      all ≡ record others { copy = other_unit mode y front ++ others.copy }
+  Joined x y (Some p) front others all =
+      (Keeps p × (o : Option EditedValue) × (u : List ℕ) × Edits p o × (unit_after mode x p o front ≡ Some u)
+      × (all ≡ record { copy = u ++ others.copy; kept = p ∷ others.kept; edited = packet_after mode p o ∷ others.edited }))
+      ⊎ (¬ (Keeps p) × (all ≡ others))
 
-  first_step : (x : Expectation) (bytes copy : List ℕ) (kept : List PacketValue) (rest : List ℕ)
-      (fault : Option CopyFault) → Copies Keeps edit x bytes copy kept rest fault → Step x bytes copy kept rest fault
-  first_step x bytes copy kept rest fault (ended _ _ is) = end is
-  first_step x bytes copy kept rest fault (refused _ _ r more is) = refusal r more is
-  first_step x bytes copy kept rest fault (not_edited _ y _ len p begins is no_front) = stuck len p y begins is no_front
-  first_step x bytes copy kept rest fault (unit _ y _ others len _ _ _ begins copies) =
-      further len None y others _ kept kept rest fault begins copies (refl, refl)
-  first_step x bytes copy kept rest fault (keeps _ y _ front others len p ps _ _ begins is fits copies) =
-      further len (Some p) y others _ ps _ rest fault begins copies (inl (is, front, fits, refl, refl))
-  first_step x bytes copy kept rest fault (leaves _ y _ _ len p _ _ _ begins not_kept copies) =
-      further len (Some p) y copy _ kept _ rest fault begins copies (inr (not_kept, refl, refl))
+  abbrev Copied : Expectation → (bytes : List ℕ) → Result → (rest : List ℕ) → Option CopyFault → Type 0
+  Copied x bytes r rest fault = Copies mode Keeps Edits x bytes r.copy r.kept r.edited rest fault
 
-  same_front : (u v : List ℕ) (o : Option (List ℕ)) → o ≡ Some u → o ≡ Some v → u ≡ v
-  same_front u v o e f = ap (λ (z : Option (List ℕ)). unwrap_or z u) (sym e ∙ f)
+  abbrev nothing : Result
+  nothing = record { copy = []; kept = []; edited = [] }
 
-  same_joined : (x : Expectation) (p : Option PacketValue) (front others more copy other : List ℕ)
-      (ps qs kept left : List PacketValue)
-      → others ≡ more → ps ≡ qs → Joined x p front others ps copy kept → Joined x p front more qs other left
-      → (copy ≡ other) × (kept ≡ left)
-  same_joined x None front others more copy other ps qs kept left e f (a, b) (c, d) =
-      (a ∙ ap (λ (l : List ℕ). front ++ l) e ∙ sym c, b ∙ f ∙ sym d)
-  same_joined x (Some p) front others more copy other ps qs kept left e f (inl (is, u, g, a, b))
-      (inl (is2, v, h, c, d)) =
-      let same = same_front u v (unit_after x p (edit p) front) g h in (
-        a ∙ ap (λ (l : List ℕ). l ++ others) same ∙ ap (λ (l : List ℕ). v ++ l) e ∙ sym c,
-        b ∙ ap (λ (l : List PacketValue). p ∷ l) f ∙ sym d,
+  data Step (x : Expectation) (bytes : List ℕ) : Result → (rest : List ℕ) → Option CopyFault → Type 0 where
+    end : IsEnd x bytes → Step x bytes nothing [] None
+    refusal : (r : CaptureRefusal) → ¬ (IsEnd x bytes) → Refuses bytes x r → Step x bytes nothing bytes (Some (Refused r))
+    stuck : (len : ℕ) (p : PacketValue) (o : Option EditedValue) (y : Expectation) → Begins bytes x len (Some p) y
+        → Keeps p → Edits p o → unit_after mode x p o (take len bytes) ≡ None
+        → Step x bytes nothing bytes (Some (NotEdited p))
+    further : (len : ℕ) (p : Option PacketValue) (y : Expectation) (others all : Result) (rest : List ℕ)
+        (fault : Option CopyFault)
+        → Begins bytes x len p y → Copied y (drop len bytes) others rest fault
+        → Joined x y p (take len bytes) others all → Step x bytes all rest fault
+
+  abbrev result : (copy : List ℕ) → (kept edited : List PacketValue) → Result
+  result copy kept edited = record { copy = copy; kept = kept; edited = edited }
+
+  first_step : (x : Expectation) (bytes copy : List ℕ) (kept edited : List PacketValue) (rest : List ℕ)
+      (fault : Option CopyFault)
+      → Copies mode Keeps Edits x bytes copy kept edited rest fault → Step x bytes (result copy kept edited) rest fault
+  first_step x bytes copy kept edited rest fault (ended _ _ is) = end is
+  first_step x bytes copy kept edited rest fault (refused _ _ r more is) = refusal r more is
+  first_step x bytes copy kept edited rest fault (not_edited _ y _ len p o begins is edits no_front) =
+      stuck len p o y begins is edits no_front
+  first_step x bytes copy kept edited rest fault (unit _ y _ others len _ _ _ _ begins copies) =
+      further len None y (result others kept edited) (result _ kept edited) rest fault begins copies refl
+  first_step x bytes copy kept edited rest fault (keeps _ y _ front others len p o ps qs _ _ begins is edits fits copies) =
+      further len (Some p) y (result others ps qs) (result _ _ _) rest fault begins copies
+      (inl (is, o, front, edits, fits, refl))
+  first_step x bytes copy kept edited rest fault (leaves _ y _ _ len p _ _ _ _ begins not_kept copies) =
+      further len (Some p) y (result copy kept edited) (result copy kept edited) rest fault begins copies
+      (inr (not_kept, refl))
+
+  same_front : (x : Expectation) (p : PacketValue) (front u v : List ℕ) (o q : Option EditedValue) → Edits p o
+      → Edits p q → unit_after mode x p o front ≡ Some u → unit_after mode x p q front ≡ Some v → (o ≡ q) × (u ≡ v)
+  same_front x p front u v o q edits edits2 e f =
+      let same = once.one p o q edits edits2 in (
+        same,
+        ap (λ (z : Option (List ℕ)). unwrap_or z u)
+            (sym e ∙ ap (λ (r : Option EditedValue). unit_after mode x p r front) same ∙ f),
       )
-  same_joined x (Some p) front others more copy other ps qs kept left e f (inl (is, u, g, a, b))
-      (inr (not_kept, c, d)) =
+
+  same_joined : (x y : Expectation) (p : Option PacketValue) (front : List ℕ) (others more all other : Result)
+      → others ≡ more → Joined x y p front others all → Joined x y p front more other → all ≡ other
+  same_joined x y None front others more all other e a b =
+      a ∙ ap (λ (r : Result). record r { copy = other_unit mode y front ++ r.copy }) e ∙ sym b
+  same_joined x y (Some p) front others more all other e (inl (is, o, u, edits, g, a)) (inl (is2, q, v, edits2, h, b)) =
+      let same = same_front x p front u v o q edits edits2 g h in
+      a
+      ∙ ap (λ (r : Result). record { copy = u ++ r.copy; kept = p ∷ r.kept; edited = packet_after mode p o ∷ r.edited }) e
+      ∙ ap (λ (l : List ℕ). record { copy = l ++ more.copy; kept = p ∷ more.kept; edited = packet_after mode p o ∷ more.edited })
+      same.1
+      ∙ ap (λ (r : Option EditedValue). record { copy = v ++ more.copy; kept = p ∷ more.kept; edited = packet_after mode p r ∷ more.edited })
+      same.0
+      ∙ sym b
+  same_joined x y (Some p) front others more all other e (inl (is, o, u, edits, g, a)) (inr (not_kept, b)) =
       absurd (not_kept is)
-  same_joined x (Some p) front others more copy other ps qs kept left e f (inr (not_kept, a, b))
-      (inl (is, u, g, c, d)) =
+  same_joined x y (Some p) front others more all other e (inr (not_kept, a)) (inl (is, o, u, edits, g, b)) =
       absurd (not_kept is)
-  same_joined x (Some p) front others more copy other ps qs kept left e f (inr (not_kept, a, b)) (inr (no2, c, d)) =
-      (a ∙ e ∙ sym c, b ∙ f ∙ sym d)
+  same_joined x y (Some p) front others more all other e (inr (not_kept, a)) (inr (no2, b)) = a ∙ e ∙ sym b
 
   -- a packet that can't be edited is not copied
-  stuck_apart : (x y z : Expectation) (bytes others copy : List ℕ) (len n : ℕ) (p : PacketValue)
-      (q : Option PacketValue) (ps kept : List PacketValue)
-      → IsBytes bytes → Begins bytes x len (Some p) y → Keeps p
-      → unit_after x p (edit p) (take len bytes) ≡ None → Begins bytes x n q z
-      → Joined x q (take n bytes) others ps copy kept → ⊥
-  stuck_apart x y z bytes others copy len n p q ps kept ok begins is no_front begins2 joined =
+  stuck_apart : (x y z : Expectation) (bytes : List ℕ) (others all : Result) (len n : ℕ) (p : PacketValue)
+      (o : Option EditedValue) (q : Option PacketValue)
+      → IsBytes bytes → Begins bytes x len (Some p) y → Keeps p → Edits p o
+      → unit_after mode x p o (take len bytes) ≡ None → Begins bytes x n q z
+      → Joined x z q (take n bytes) others all → ⊥
+  stuck_apart x y z bytes others all len n p o q ok begins is edits no_front begins2 joined =
       let e = unit_one bytes x y z len n (Some p) q ok begins begins2 in
-      let here : Joined x (Some p) (take len bytes) others ps copy kept =
-      subst (λ (k : ℕ). Joined x (Some p) (take k bytes) others ps copy kept) (sym e.0)
-      (subst (λ (o : Option PacketValue). Joined x o (take n bytes) others ps copy kept) (sym e.1) joined) in
+      let here : Joined x z (Some p) (take len bytes) others all =
+      subst (λ (k : ℕ). Joined x z (Some p) (take k bytes) others all) (sym e.0)
+      (subst (λ (r : Option PacketValue). Joined x z r (take n bytes) others all) (sym e.1) joined) in
       no_joint here
     where
-      no_joint : Joined x (Some p) (take len bytes) others ps copy kept → ⊥
-      no_joint (inl (is2, u, g, a, b)) = let f : None ≡ Some u = sym no_front ∙ g in absurd cc
-      no_joint (inr (not_kept, a, b)) = not_kept is
+      no_joint : Joined x z (Some p) (take len bytes) others all → ⊥
+      no_joint (inl (is2, r, u, edits2, g, a)) =
+          let same = once.one p o r edits edits2 in
+          let f : None ≡ Some u =
+          sym no_front ∙ ap (λ (s : Option EditedValue). unit_after mode x p s (take len bytes)) same ∙ g in
+          absurd cc
+      no_joint (inr (not_kept, a)) = not_kept is
 
-  abbrev Same : (copy other : List ℕ) (kept left : List PacketValue) (rest rest2 : List ℕ)
-      (fault fault2 : Option CopyFault) → Type 0
-  Same copy other kept left rest rest2 fault fault2 =
-      (copy ≡ other) × (kept ≡ left) × (rest ≡ rest2) × (fault ≡ fault2)
+  abbrev Same : (all other : Result) (rest rest2 : List ℕ) (fault fault2 : Option CopyFault) → Type 0
+  Same all other rest rest2 fault fault2 = (all ≡ other) × (rest ≡ rest2) × (fault ≡ fault2)
 
-  one_step : (fuel : ℕ) (x : Expectation) (bytes copy other : List ℕ) (kept left : List PacketValue)
-      (rest rest2 : List ℕ) (fault fault2 : Option CopyFault) → length bytes ≤ fuel → IsBytes bytes
-      → Step x bytes copy kept rest fault → Step x bytes other left rest2 fault2
-      → Same copy other kept left rest rest2 fault fault2
-  one_step fuel x bytes copy other kept left rest rest2 fault fault2 le ok (end is) (end is2) = (refl, refl, refl, refl)
-  one_step fuel x bytes copy other kept left rest rest2 fault fault2 le ok (end is) (refusal r more refuses) =
-      absurd (more is)
-  one_step fuel x bytes copy other kept left rest rest2 fault fault2 le ok (end is) (stuck n q z begins kept2 none) =
+  one_step : (fuel : ℕ) (x : Expectation) (bytes : List ℕ) (all other : Result) (rest rest2 : List ℕ)
+      (fault fault2 : Option CopyFault) → length bytes ≤ fuel → IsBytes bytes
+      → Step x bytes all rest fault → Step x bytes other rest2 fault2 → Same all other rest rest2 fault fault2
+  one_step fuel x bytes all other rest rest2 fault fault2 le ok (end is) (end is2) = (refl, refl, refl)
+  one_step fuel x bytes all other rest rest2 fault fault2 le ok (end is) (refusal r more refuses) = absurd (more is)
+  one_step fuel x bytes all other rest rest2 fault fault2 le ok (end is) (stuck n q o z begins kept2 edits none) =
       absurd (none_at_end x z bytes n (Some q) is begins)
-  one_step fuel x bytes copy other kept left rest rest2 fault fault2 le ok (end is)
-      (further n q z _ _ _ _ _ _ begins copies joined) =
+  one_step fuel x bytes all other rest rest2 fault fault2 le ok (end is) (further n q z _ _ _ _ begins copies joined) =
       absurd (none_at_end x z bytes n q is begins)
-  one_step fuel x bytes copy other kept left rest rest2 fault fault2 le ok (refusal r more refuses) (end is) =
-      absurd (more is)
-  one_step fuel x bytes copy other kept left rest rest2 fault fault2 le ok (refusal r more refuses)
-      (refusal s more2 refuses2) = (
-        refl,
-        refl,
-        refl,
-        ap (λ (t : CaptureRefusal). Some (Refused t))
-            (unit_refusal_one bytes x r s ok refuses refuses2),
-      )
-  one_step fuel x bytes copy other kept left rest rest2 fault fault2 le ok (refusal r more refuses)
-      (stuck n q z begins kept2 none) =
+  one_step fuel x bytes all other rest rest2 fault fault2 le ok (refusal r more refuses) (end is) = absurd (more is)
+  one_step fuel x bytes all other rest rest2 fault fault2 le ok (refusal r more refuses) (refusal s more2 refuses2) =
+      (refl, refl, ap (λ (t : CaptureRefusal). Some (Refused t)) (unit_refusal_one bytes x r s ok refuses refuses2))
+  one_step fuel x bytes all other rest rest2 fault fault2 le ok (refusal r more refuses)
+      (stuck n q o z begins kept2 edits none) =
       absurd (unit_apart bytes x z n (Some q) r ok begins refuses)
-  one_step fuel x bytes copy other kept left rest rest2 fault fault2 le ok (refusal r more refuses)
-      (further n q z _ _ _ _ _ _ begins copies joined) =
+  one_step fuel x bytes all other rest rest2 fault fault2 le ok (refusal r more refuses)
+      (further n q z _ _ _ _ begins copies joined) =
       absurd (unit_apart bytes x z n q r ok begins refuses)
-  one_step fuel x bytes copy other kept left rest rest2 fault fault2 le ok (stuck n q z begins kept1 none) (end is) =
+  one_step fuel x bytes all other rest rest2 fault fault2 le ok (stuck n q o z begins kept1 edits none) (end is) =
       absurd (none_at_end x z bytes n (Some q) is begins)
-  one_step fuel x bytes copy other kept left rest rest2 fault fault2 le ok (stuck n q z begins kept1 none)
+  one_step fuel x bytes all other rest rest2 fault fault2 le ok (stuck n q o z begins kept1 edits none)
       (refusal r more refuses) =
       absurd (unit_apart bytes x z n (Some q) r ok begins refuses)
-  one_step fuel x bytes copy other kept left rest rest2 fault fault2 le ok (stuck n q z begins kept1 none)
-      (stuck m p y begins2 kept2 none2) =
+  one_step fuel x bytes all other rest rest2 fault fault2 le ok (stuck n q o z begins kept1 edits none)
+      (stuck m p r y begins2 kept2 edits2 none2) =
       let e = unit_one bytes x z y n m (Some q) (Some p) ok begins begins2 in
-      (refl, refl, refl, ap (λ (t : PacketValue). Some (NotEdited t)) (same_packet q p e.1))
-  one_step fuel x bytes copy other kept left rest rest2 fault fault2 le ok (stuck n q z begins kept1 none)
-      (further m p y _ _ _ _ _ _ begins2 copies joined) =
-      absurd (stuck_apart x z y bytes _ _ n m q p _ _ ok begins kept1 none begins2 joined)
-  one_step fuel x bytes copy other kept left rest rest2 fault fault2 le ok
-      (further n q z _ _ _ _ _ _ begins copies joined) (end is) =
+      (refl, refl, ap (λ (t : PacketValue). Some (NotEdited t)) (same_packet q p e.1))
+  one_step fuel x bytes all other rest rest2 fault fault2 le ok (stuck n q o z begins kept1 edits none)
+      (further m p y _ _ _ _ begins2 copies joined) =
+      absurd (stuck_apart x z y bytes _ _ n m q o p ok begins kept1 edits none begins2 joined)
+  one_step fuel x bytes all other rest rest2 fault fault2 le ok (further n q z _ _ _ _ begins copies joined) (end is) =
       absurd (none_at_end x z bytes n q is begins)
-  one_step fuel x bytes copy other kept left rest rest2 fault fault2 le ok
-      (further n q z _ _ _ _ _ _ begins copies joined) (refusal r more refuses) =
+  one_step fuel x bytes all other rest rest2 fault fault2 le ok (further n q z _ _ _ _ begins copies joined)
+      (refusal r more refuses) =
       absurd (unit_apart bytes x z n q r ok begins refuses)
-  one_step fuel x bytes copy other kept left rest rest2 fault fault2 le ok
-      (further n q z _ _ _ _ _ _ begins copies joined) (stuck m p y begins2 kept2 none) =
-      absurd (stuck_apart x y z bytes _ _ m n p q _ _ ok begins2 kept2 none begins joined)
-  one_step zero x bytes copy other kept left rest rest2 fault fault2 le ok
-      (further n q z _ _ _ _ _ _ begins copies joined) (further m p y _ _ _ _ _ _ begins2 copies2 joined2) =
+  one_step fuel x bytes all other rest rest2 fault fault2 le ok (further n q z _ _ _ _ begins copies joined)
+      (stuck m p o y begins2 kept2 edits none) =
+      absurd (stuck_apart x y z bytes _ _ m n p o q ok begins2 kept2 edits none begins joined)
+  one_step zero x bytes all other rest rest2 fault fault2 le ok (further n q z _ _ _ _ begins copies joined)
+      (further m p y _ _ _ _ begins2 copies2 joined2) =
       absurd (omega (arith, le, unit_some bytes x z n q begins, unit_within bytes x z n q begins))
-  one_step (suc fuel) x bytes copy other kept left rest rest2 fault fault2 le ok
-      (further n q z others _ ps _ _ _ begins copies joined) (further m p y more _ qs _ _ _ begins2 copies2 joined2) =
+  one_step (suc fuel) x bytes all other rest rest2 fault fault2 le ok (further n q z others _ _ _ begins copies joined)
+      (further m p y more _ _ _ begins2 copies2 joined2) =
       let e = unit_one bytes x z y n m q p ok begins begins2 in
       let l = length-drop n bytes in
       let a = unit_some bytes x z n q begins in
       let b = unit_within bytes x z n q begins in
       let copies3 =
-      subst (λ (k : ℕ). Copies Keeps edit z (drop k bytes) more qs rest2 fault2) (sym e.0)
-      (subst (λ (w : Expectation). Copies Keeps edit w (drop m bytes) more qs rest2 fault2) (sym e.2) copies2) in
+      subst (λ (k : ℕ). Copied z (drop k bytes) more rest2 fault2) (sym e.0)
+      (subst (λ (w : Expectation). Copied w (drop m bytes) more rest2 fault2) (sym e.2) copies2) in
       let joined3 =
-      subst (λ (k : ℕ). Joined x q (take k bytes) more qs other left) (sym e.0)
-      (subst (λ (o : Option PacketValue). Joined x o (take m bytes) more qs other left) (sym e.1) joined2) in
+      subst (λ (k : ℕ). Joined x z q (take k bytes) more other) (sym e.0)
+      (subst (λ (r : Option PacketValue). Joined x z r (take m bytes) more other) (sym e.1)
+      (subst (λ (w : Expectation). Joined x w p (take m bytes) more other) (sym e.2) joined2)) in
       let s =
-      one_step fuel z (drop n bytes) others more ps qs rest rest2 fault fault2 (omega (arith, l, le, a, b))
+      one_step fuel z (drop n bytes) others more rest rest2 fault fault2 (omega (arith, l, le, a, b))
       (IsBytes-drop n bytes ok)
-      (first_step z (drop n bytes) others ps rest fault copies)
-      (first_step z (drop n bytes) more qs rest2 fault2 copies3) in
-      let t = same_joined x q (take n bytes) others more copy other ps qs kept left s.0 s.1 joined joined3 in
-      (t.0, t.1, s.2, s.3)
+      (first_step z (drop n bytes) others.copy others.kept others.edited rest fault copies)
+      (first_step z (drop n bytes) more.copy more.kept more.edited rest2 fault2 copies3) in
+      (same_joined x z q (take n bytes) others more all other s.0 joined joined3, s.1, s.2)
 
-pub one_copy : (test : PacketValue → Bool) (edit : PacketValue → Option EditedValue) (x : Expectation) (bytes : List ℕ)
-    (c d : Copy test edit x bytes)
-    → IsBytes bytes → (c.copy ≡ d.copy) × (c.kept ≡ d.kept) × (c.rest ≡ d.rest) × (c.fault ≡ d.fault)
-one_copy test edit x bytes c d ok =
+pub one_copy : (mode : ModeValue) (test : PacketValue → Bool) (edits : PacketValue → Option EditedValue → Bool)
+    (x : Expectation) (bytes : List ℕ) (c d : Copy mode test edits x bytes)
+    → IsBytes bytes → EditsOnce (λ p o. IsTrue (edits p o))
+    → (c.copy ≡ d.copy) × (c.kept ≡ d.kept) × (c.edited ≡ d.edited) × (c.rest ≡ d.rest) × (c.fault ≡ d.fault)
+one_copy mode test edits x bytes c d ok once =
     let Keeps = λ (p : PacketValue). IsTrue (test p) in
-    one_step Keeps edit (length bytes) x bytes c.copy d.copy c.kept d.kept c.rest d.rest c.fault d.fault (omega arith)
-    ok
-    (first_step Keeps edit x bytes c.copy c.kept c.rest c.fault c.copies)
-    (first_step Keeps edit x bytes d.copy d.kept d.rest d.fault d.copies)
+    let Edits = λ (p : PacketValue) (o : Option EditedValue). IsTrue (edits p o) in
+    let of = result mode Keeps Edits once in
+    let step = first_step mode Keeps Edits once x bytes in
+    let s =
+    one_step mode Keeps Edits once (length bytes) x bytes (of c.copy c.kept c.edited) (of d.copy d.kept d.edited) c.rest
+    d.rest c.fault d.fault (omega arith) ok
+    (step c.copy c.kept c.edited c.rest c.fault c.copies)
+    (step d.copy d.kept d.edited d.rest d.fault d.copies) in (
+      ap (λ (r : Result mode Keeps Edits once). r.copy) s.0,
+      ap (λ (r : Result mode Keeps Edits once). r.kept) s.0,
+      ap (λ (r : Result mode Keeps Edits once). r.edited) s.0,
+      s.1,
+      s.2,
+    )

@@ -12,7 +12,7 @@ use Rattle.ether_pcap.specs.Section.{HasSectionType}
 use Rattle.ether_pcap.specs.FileHeader.{FileHeaderValue}
 use Rattle.ether_pcap.specs.Bodies.{EnhancedPacketValue}
 use Rattle.ether_pcap.specs.Capture.{PacketValue, packet_on, simple_packet_on, CaptureInterfaceValue, Expectation, Beginning, Records, Blocks, BlockKind, EnhancedPacket, SimplePacket, InterfaceDescription, Other, kind_of_block, IsBody, Begins, file_record, block}
-use Rattle.ether_pcap.specs.Editing.{EditedValue, edited_record, edited_body, block_bytes, edited_block, unit_with, is_too_long, edited_unit, edited_packet, unit_after, packet_after, unit_bytes, EditsUnit, HasEditedPacket}
+use Rattle.ether_pcap.specs.Editing.{EditedValue, edited_record, edited_body, block_bytes, edited_block, unit_with, is_too_long, edited_unit, edited_packet, unit_bytes, EditsUnit, HasEditedPacket}
 use Rattle.ether_pcap.specs.declared.capture.edited_unit.EditedUnit.{EditedUnit}
 use Rattle.ether_pcap.proofs.CaptureLocality.{unit_local}
 use Rattle.ether_pcap.proofs.EditUnits.{length-edited_front, length-edited_body, length-block_bytes, block_bytes-type, record_edited, body_edited, block_begins}
@@ -49,10 +49,10 @@ not_too_long : (e : EditedValue) → length e.packet ≤ 262144 → e.original_l
 not_too_long e small four = rw (le-ltb 262144 (length e.packet) small, le-ltb 4294967295 e.original_len four) refl
 
 -- a unit that is edited has room for the packet
-record Fits (x : Expectation) (m : ℕ) (e : EditedValue) (unit new : List ℕ) : Type 0 where
-  small : length e.packet ≤ 262144
-  four : e.original_len ≤ 4294967295
-  is : unit_with x m e unit ≡ Some new
+pub record Fits (x : Expectation) (m : ℕ) (e : EditedValue) (unit new : List ℕ) : Type 0 where
+  pub small : length e.packet ≤ 262144
+  pub four : e.original_len ≤ 4294967295
+  pub is : unit_with x m e unit ≡ Some new
 
 pub unit_fits : (x : Expectation) (m : ℕ) (e : EditedValue) (unit : List ℕ) → length e.packet ≤ 262144
     → e.original_len ≤ 4294967295 → edited_unit x m e unit ≡ unit_with x m e unit
@@ -74,7 +74,7 @@ unit_too_long x m e unit why =
     none : is_too_long e ≡ true → edited_unit x m e unit ≡ None
     none long = ap (λ (b : Bool). if b then None else unit_with x m e unit) long
 
-fits_if : (x : Expectation) (m : ℕ) (e : EditedValue) (unit new : List ℕ) → edited_unit x m e unit ≡ Some new
+pub fits_if : (x : Expectation) (m : ℕ) (e : EditedValue) (unit new : List ℕ) → edited_unit x m e unit ≡ Some new
     → Fits x m e unit new
 fits_if x m e unit new is =
     elim (room_of e) [
@@ -222,13 +222,10 @@ unit_begins (Blocks most order interfaces) u new p e begins room =
     block_edited most order interfaces u p e found.0 found.1 room.small room.four new room.is
 
 -- the unit of a packet that is edited is one of the edited packet
-pub edited_begins : (x : Expectation) (u new : List ℕ) (p : PacketValue) (o : Option EditedValue)
-    → Begins u x (length u) (Some p) x → unit_after x p o u ≡ Some new
-    → Begins new x (length new) (Some (packet_after p o)) x
-edited_begins x u new p None begins is =
-    subst (λ (l : List ℕ). Begins l x (length l) (Some p) x) (same_bytes u new is) begins
-edited_begins x u new p (Some e) begins is =
-    unit_begins x u new p e begins (fits_if x (length p.packet) e u new is)
+pub edited_begins : (x : Expectation) (u new : List ℕ) (p : PacketValue) (e : EditedValue)
+    → Begins u x (length u) (Some p) x → edited_unit x (length p.packet) e u ≡ Some new
+    → Begins new x (length new) (Some (edited_packet e p)) x
+edited_begins x u new p e begins is = unit_begins x u new p e begins (fits_if x (length p.packet) e u new is)
 
 has_edited : (x : Expectation) (unit : List ℕ) (e : EditedValue) (result : Option EditedUnit) (p : PacketValue)
     → Begins unit x (length unit) (Some p) x
@@ -238,7 +235,7 @@ has_edited : (x : Expectation) (unit : List ℕ) (e : EditedValue) (result : Opt
 has_edited x unit e None p begins is = tt
 has_edited x unit e (Some u) p begins is = λ more.
     unit_local (unit_bytes u) more x x (length (unit_bytes u)) (Some (edited_packet e p))
-    (edited_begins x unit (unit_bytes u) p (Some e) begins (sym is))
+    (edited_begins x unit (unit_bytes u) p e begins (sym is))
 
 pub has_edited_packet : (x : Expectation) (unit : List ℕ) (e : EditedValue) (result : Option EditedUnit)
     → EditsUnit x unit e result → HasEditedPacket x unit e result
@@ -246,7 +243,7 @@ has_edited_packet x unit e result edits p begins = has_edited x unit e result p 
 
 -- ---- a packet that can't be edited
 
-abbrev Why : PacketValue → EditedValue → Type 0
+abbrev pub Why : PacketValue → EditedValue → Type 0
 Why p e = (p.time ≡ None) ⊎ (length p.packet < length e.packet) ⊎ (4294967295 < e.original_len)
 
 longer_body : (order : Order) (m : ℕ) (e : EditedValue) (body : List ℕ) → 20 + m ≤ length body
@@ -295,14 +292,11 @@ why_unit (Blocks most order interfaces) u p e begins is =
     (ap kind_of_block (sym b.begins.block_type)) b.body)
     is
 
-pub not_written : (x : Expectation) (u : List ℕ) (p : PacketValue) (o : Option EditedValue)
-    → Begins u x (length u) (Some p) x → unit_after x p o u ≡ None
-    → (e : EditedValue) × (o ≡ Some e) × (edited_unit x (length p.packet) e u ≡ None) × Why p e
-not_written x u p None begins is = let bad : Some u ≡ None = is in absurd cc
-not_written x u p (Some e) begins is =
+pub why_not_edited : (x : Expectation) (u : List ℕ) (p : PacketValue) (e : EditedValue)
+    → Begins u x (length u) (Some p) x → edited_unit x (length p.packet) e u ≡ None → Why p e
+why_not_edited x u p e begins is =
     elim (room_of e) [
-      | long_packet long ↦ (e, refl, is, inr (inl (omega (arith, long, packet_room x u p begins))))
-      | long_original small long ↦ (e, refl, is, inr (inr long))
-      | fits small four ↦
-          (e, refl, is, why_unit x u p e begins (sym (unit_fits x (length p.packet) e u small four) ∙ is))
+      | long_packet long ↦ inr (inl (omega (arith, long, packet_room x u p begins)))
+      | long_original small long ↦ inr (inr long)
+      | fits small four ↦ why_unit x u p e begins (sym (unit_fits x (length p.packet) e u small four) ∙ is)
     ]

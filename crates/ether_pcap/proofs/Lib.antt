@@ -20,6 +20,8 @@ pub mod CopiesOne
 pub mod EditUnits
 pub mod PacketUnits
 pub mod EditPackets
+pub mod WithBytes
+pub mod CopiedUnits
 mod EditedBlocks
 pub mod WrittenBlocks
 mod WrittenSections

@@ -2,6 +2,8 @@
 use Rattle.std.proofs.Common.{◌≡◌, ℕ, ◌+◌, ◌-◌, ◌≤◌, List, length, refl, sym, ap, subst, ◌∙◌, arith, inl, inr, Some, None}
 use Rattle.std.specs.Prelude.{Option, unwrap_or, slice_range}
 use Rattle.std.proofs.lemmas.Bool.{cases_eq, ne_eqb}
+use Rattle.ether_base.specs.Bytes.{IsBytes}
+use Rattle.ether_base.proofs.SubLists.{IsBytes-part}
 use Rattle.ether_pcap.specs.Numbers.{Order, field}
 use Rattle.ether_pcap.specs.Record.{RecordValue, BeginsRecord, record_len}
 use Rattle.ether_pcap.specs.Block.{BlockValue, IsTotalLen, BeginsBlock}
@@ -181,6 +183,40 @@ packet_room (Records h) u p begins =
 packet_room (Blocks m order interfaces) u p begins =
     let b = (block_of_unit u (Blocks m order interfaces) (length u) m order interfaces p begins).0 in
     few_in_body (kind_of_block b.value.block_type) m order interfaces b.value.body p b.body
+
+-- the captured bytes of a packet
+bytes_in_body : (kind : BlockKind) (most : ℕ) (order : Order) (before after : List CaptureInterfaceValue)
+    (body : List ℕ) (packet : Option PacketValue) (p : PacketValue) → packet ≡ Some p → IsBytes body
+    → IsBody kind most order before body packet after → IsBytes p.packet
+bytes_in_body InterfaceDescription most order before after body packet p e ok (i, d, lt, f, g) =
+    let bad : None ≡ Some p = sym f ∙ e in absurd cc
+bytes_in_body SimplePacket most order before after body packet p e ok (i, v, at, is, f, g) =
+    let same : p ≡ simple_packet_on i v = same_packet p (simple_packet_on i v) (sym e ∙ f) in
+    subst (λ (q : PacketValue). IsBytes q.packet) (sym same)
+    (subst IsBytes is.packet (IsBytes-part 4 (4 + length v.packet) body ok))
+bytes_in_body (EnhancedPacket n) most order before after body packet p e ok (i, v, o, is, at, has, f, g) =
+    let same : p ≡ packet_on order i v o = same_packet p (packet_on order i v o) (sym e ∙ f) in
+    subst (λ (q : PacketValue). IsBytes q.packet) (sym same)
+    (subst IsBytes is.packet (IsBytes-part 20 (20 + length v.packet) body ok))
+bytes_in_body Other most order before after body packet p e ok (f, g) =
+    let bad : None ≡ Some p = sym f ∙ e in absurd cc
+
+bytes_if : (bytes : List ℕ) (x y : Expectation) (len : ℕ) (packet : Option PacketValue) (p : PacketValue)
+    → packet ≡ Some p → IsBytes bytes → Begins bytes x len packet y → IsBytes p.packet
+bytes_if bytes x y len packet p e ok (file_header m h other is) = absurd cc
+bytes_if bytes x y len packet p e ok (file_record h r is) =
+    let same : p ≡ packet_of_record h r = same_packet p (packet_of_record h r) (sym e) in
+    subst (λ (q : PacketValue). IsBytes q.packet) (sym same)
+    (subst IsBytes is.packet (IsBytes-part 16 (16 + length r.packet) bytes ok))
+bytes_if bytes x y len packet p e ok (first_section m order b is) = absurd cc
+bytes_if bytes x y len packet p e ok (section m order next interfaces b is) = absurd cc
+bytes_if bytes x y len packet p e ok (block m order interfaces after q b other begins is) =
+    bytes_in_body (kind_of_block b.block_type) m order interfaces after b.body q p e
+    (subst IsBytes begins.body (IsBytes-part 8 (8 + length b.body) bytes ok)) is
+
+pub packet_bytes : (bytes : List ℕ) (x y : Expectation) (len : ℕ) (p : PacketValue) → IsBytes bytes
+    → Begins bytes x len (Some p) y → IsBytes p.packet
+packet_bytes bytes x y len p ok begins = bytes_if bytes x y len (Some p) p refl ok begins
 
 -- ---- a block whose packet is edited
 

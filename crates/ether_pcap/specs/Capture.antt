@@ -1,6 +1,6 @@
 -- A capture file of either format, from its beginning to its end: the file header and the records of a classic file, or the blocks
 -- of a pcapng file (draft-ietf-opsawg-pcap, section 3; draft-ietf-opsawg-pcapng, section 3).
-use Rattle.std.specs.Prelude.{◌≡◌, ℕ, ⊤, ◌+◌, ◌-◌, ◌*◌, ◌/◌, ◌%◌, ◌^◌, ◌<◌, ◌≤◌, List, [], ◌∷◌, ◌++◌, length, drop, Option, Some, None, unwrap_or, nat_lt, nat_eq, if◌then◌else◌}
+use Rattle.std.specs.Prelude.{◌≡◌, ◌⊎◌, ℕ, ⊤, ◌+◌, ◌-◌, ◌*◌, ◌/◌, ◌%◌, ◌^◌, ◌<◌, ◌≤◌, List, [], ◌∷◌, ◌++◌, length, drop, Option, Some, None, unwrap_or, nat_lt, nat_eq, if◌then◌else◌}
 use Rattle.std.specs.Option.{option_map}
 use Rattle.ether_pcap.specs.Numbers.{Order}
 use Rattle.ether_pcap.specs.FileHeader.{FileHeaderValue, IsFileHeader, FileRefusal, RefusesFile}
@@ -24,13 +24,14 @@ pub record TimeValue : Type 0 where
 abbrev pub time_of : (nanoseconds : ℕ) → TimeValue
 time_of n = record { seconds = n / 10 ^ 9; nanoseconds = n % 10 ^ 9 }
 
--- a captured packet: its time and the number of its interface if the file gives them, its length before it was cut, the link type and
--- the length of the frame check sequence that the file gives for it, and its captured bytes
+-- a captured packet: its time and the number of its interface if the file gives them, its length before it was cut, the link type, the
+-- snap length and the length of the frame check sequence that the file gives for it, and its captured bytes
 pub record PacketValue : Type 0 where
   pub time : Option TimeValue
   pub interface : Option ℕ
   pub original_len : ℕ
   pub link_type : ℕ
+  pub snap_len : ℕ
   pub fcs_len : Option ℕ
   pub packet : List ℕ
 
@@ -40,9 +41,15 @@ packet_of_record h r = record {
   interface = None;
   original_len = r.original_len;
   link_type = h.link_type;
+  snap_len = h.snap_len;
   fcs_len = h.fcs_len;
   packet = r.packet;
 }
+
+-- .. with as many captured bytes as the snap length allows (draft-ietf-opsawg-pcap, section 4; draft-ietf-opsawg-pcapng, section 4.2), where 0
+-- is no limit
+abbrev pub IsWithinSnap : PacketValue → Type 0
+IsWithinSnap p = (p.snap_len ≡ 0) ⊎ (length p.packet ≤ p.snap_len)
 
 -- ---- interfaces of a section
 
@@ -129,13 +136,14 @@ packet_on order i p options = record {
   interface = Some p.interface;
   original_len = p.original_len;
   link_type = i.link_type;
+  snap_len = i.snap_len;
   fcs_len = fcs_of (fcs_in_flags (number_of order 4 (value_of 2 options))) i.fcs_len;
   packet = p.packet;
 }
 
 -- what is said of a packet by its simple block, which has no time, and the first interface (4.4)
 abbrev pub simple_packet_on : CaptureInterfaceValue → SimplePacketValue → PacketValue
-simple_packet_on i p = record { time = None; interface = Some 0; original_len = p.original_len; link_type = i.link_type; fcs_len = i.fcs_len; packet = p.packet }
+simple_packet_on i p = record { time = None; interface = Some 0; original_len = p.original_len; link_type = i.link_type; snap_len = i.snap_len; fcs_len = i.fcs_len; packet = p.packet }
 
 -- what is read of a block, by its type; a packet, whose interface has so many bytes, is an enhanced packet or an obsolete packet block
 pub data BlockKind : Type 0 where

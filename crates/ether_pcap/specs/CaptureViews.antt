@@ -21,6 +21,7 @@ captured_packet_view p = record {
   interface = p.interface;
   original_len = p.original_len;
   link_type = p.link_type.0;
+  snap_len = p.snap_len;
   fcs_len = p.fcs_len;
   packet = p.packet.now;
 }

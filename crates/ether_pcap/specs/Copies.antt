@@ -1,32 +1,35 @@
--- A copy of a capture file of either format without some of its packets, in which those that are kept may be edited. All else is copied byte
--- for byte: each packet that isn't edited, and each unit that is no packet.
-use Rattle.std.specs.Prelude.{◌≡◌, ◌≢◌, ◌⊎◌, ℕ, ◌<◌, List, [], ◌∷◌, ◌++◌, length, map, take, drop, Bool, IsTrue, Option, Some, None, ⊤}
+-- A copy of a capture file of either format without some of its packets, in which those that are kept may be edited. Each packet that isn't
+-- edited is copied byte for byte, and so is each unit that is no packet, unless the copy is another capture.
+use Rattle.std.specs.Prelude.{◌≡◌, ◌≢◌, ◌⊎◌, ℕ, ◌+◌, ◌<◌, ◌≤◌, List, [], ◌∷◌, ◌++◌, length, take, drop, Bool, IsTrue, Option, Some, None, All, ⊤}
 use Rattle.ether_base.specs.Bytes.{IsBytes}
-use Rattle.ether_pcap.specs.Capture.{PacketValue, Expectation, Beginning, CaptureRefusal, Begins, Refuses, HasBegun, IsEnd, HasPackets}
-use Rattle.ether_pcap.specs.Editing.{EditedValue, edited_unit, unit_after, packet_after}
+use Rattle.ether_pcap.specs.Capture.{PacketValue, IsWithinSnap, Expectation, Beginning, CaptureRefusal, Begins, Refuses, HasBegun, IsEnd, HasPackets}
+use Rattle.ether_pcap.specs.Editing.{EditedValue}
+use Rattle.ether_pcap.specs.CopiedUnits.{ModeValue, Exact, Changed, expected_in, other_unit, unit_after, packet_after}
 
 -- why a copy ends before the file: what is left is refused, or begins with a packet that is to be edited and can't be
 pub data CopyFault : Type 0 where
   Refused : CaptureRefusal → CopyFault
   NotEdited : PacketValue → CopyFault
 
--- From a place of a file on, where this is expected, these bytes are copied, with these packets, each edited if there is an edit for it; what is
--- left after the last unit is nothing, or why the copy ends there.
-pub data Copies (Keeps : PacketValue → Type 0) (edit : PacketValue → Option EditedValue) : Expectation → (bytes copy : List ℕ) → (kept : List PacketValue) → (rest : List ℕ) → Option CopyFault → Type 0 where
-  ended : (x : Expectation) (bytes : List ℕ) → IsEnd x bytes → Copies Keeps edit x bytes [] [] [] None
-  refused : (x : Expectation) (bytes : List ℕ) (r : CaptureRefusal) → ¬ (IsEnd x bytes) → Refuses bytes x r → Copies Keeps edit x bytes [] [] bytes (Some (Refused r))
-  not_edited : (x y : Expectation) (bytes : List ℕ) (len : ℕ) (p : PacketValue)
-      → Begins bytes x len (Some p) y → Keeps p → unit_after x p (edit p) (take len bytes) ≡ None
-      → Copies Keeps edit x bytes [] [] bytes (Some (NotEdited p))
-  unit : (x y : Expectation) (bytes copy : List ℕ) (len : ℕ) (kept : List PacketValue) (rest : List ℕ) (fault : Option CopyFault)
-      → Begins bytes x len None y → Copies Keeps edit y (drop len bytes) copy kept rest fault
-      → Copies Keeps edit x bytes (take len bytes ++ copy) kept rest fault
-  keeps : (x y : Expectation) (bytes front copy : List ℕ) (len : ℕ) (p : PacketValue) (kept : List PacketValue) (rest : List ℕ) (fault : Option CopyFault)
-      → Begins bytes x len (Some p) y → Keeps p → unit_after x p (edit p) (take len bytes) ≡ Some front
-      → Copies Keeps edit y (drop len bytes) copy kept rest fault → Copies Keeps edit x bytes (front ++ copy) (p ∷ kept) rest fault
-  leaves : (x y : Expectation) (bytes copy : List ℕ) (len : ℕ) (p : PacketValue) (kept : List PacketValue) (rest : List ℕ) (fault : Option CopyFault)
-      → Begins bytes x len (Some p) y → ¬ (Keeps p) → Copies Keeps edit y (drop len bytes) copy kept rest fault
-      → Copies Keeps edit x bytes copy kept rest fault
+-- From a place of a file on, where this is expected, these bytes are copied, with these packets, each to what it is edited to; what is left
+-- after the last unit is nothing, or why the copy ends there.
+pub data Copies (mode : ModeValue) (Keeps : PacketValue → Type 0) (Edits : PacketValue → Option EditedValue → Type 0)
+    : Expectation → (bytes copy : List ℕ) → (kept edited : List PacketValue) → (rest : List ℕ) → Option CopyFault → Type 0 where
+  ended : (x : Expectation) (bytes : List ℕ) → IsEnd x bytes → Copies mode Keeps Edits x bytes [] [] [] [] None
+  refused : (x : Expectation) (bytes : List ℕ) (r : CaptureRefusal) → ¬ (IsEnd x bytes) → Refuses bytes x r → Copies mode Keeps Edits x bytes [] [] [] bytes (Some (Refused r))
+  not_edited : (x y : Expectation) (bytes : List ℕ) (len : ℕ) (p : PacketValue) (o : Option EditedValue)
+      → Begins bytes x len (Some p) y → Keeps p → Edits p o → unit_after mode x p o (take len bytes) ≡ None
+      → Copies mode Keeps Edits x bytes [] [] [] bytes (Some (NotEdited p))
+  unit : (x y : Expectation) (bytes copy : List ℕ) (len : ℕ) (kept edited : List PacketValue) (rest : List ℕ) (fault : Option CopyFault)
+      → Begins bytes x len None y → Copies mode Keeps Edits y (drop len bytes) copy kept edited rest fault
+      → Copies mode Keeps Edits x bytes (other_unit mode y (take len bytes) ++ copy) kept edited rest fault
+  keeps : (x y : Expectation) (bytes front copy : List ℕ) (len : ℕ) (p : PacketValue) (o : Option EditedValue) (kept edited : List PacketValue) (rest : List ℕ) (fault : Option CopyFault)
+      → Begins bytes x len (Some p) y → Keeps p → Edits p o → unit_after mode x p o (take len bytes) ≡ Some front
+      → Copies mode Keeps Edits y (drop len bytes) copy kept edited rest fault
+      → Copies mode Keeps Edits x bytes (front ++ copy) (p ∷ kept) (packet_after mode p o ∷ edited) rest fault
+  leaves : (x y : Expectation) (bytes copy : List ℕ) (len : ℕ) (p : PacketValue) (kept edited : List PacketValue) (rest : List ℕ) (fault : Option CopyFault)
+      → Begins bytes x len (Some p) y → ¬ (Keeps p) → Copies mode Keeps Edits y (drop len bytes) copy kept edited rest fault
+      → Copies mode Keeps Edits x bytes copy kept edited rest fault
 
 -- those of the packets that are kept, in order
 pub data Selected (Keeps : PacketValue → Type 0) : (packets kept : List PacketValue) → Type 0 where
@@ -34,20 +37,30 @@ pub data Selected (Keeps : PacketValue → Type 0) : (packets kept : List Packet
   one_kept : (p : PacketValue) (packets kept : List PacketValue) → Keeps p → Selected Keeps packets kept → Selected Keeps (p ∷ packets) (p ∷ kept)
   one_left : (p : PacketValue) (packets kept : List PacketValue) → ¬ (Keeps p) → Selected Keeps packets kept → Selected Keeps (p ∷ packets) kept
 
--- the packets as they are edited
-abbrev pub edited_all : (edit : PacketValue → Option EditedValue) → List PacketValue → List PacketValue
-edited_all edit packets = map (λ (p : PacketValue). packet_after p (edit p)) packets
+-- these are what the packets are edited to
+pub data AreEdited (mode : ModeValue) (Edits : PacketValue → Option EditedValue → Type 0) : (kept edited : List PacketValue) → Type 0 where
+  none_edited : AreEdited mode Edits [] []
+  one_edited : (p : PacketValue) (o : Option EditedValue) (kept edited : List PacketValue) → Edits p o → AreEdited mode Edits kept edited
+      → AreEdited mode Edits (p ∷ kept) (packet_after mode p o ∷ edited)
 
 -- no packet is edited
-abbrev pub EditsNone : (edit : PacketValue → Option EditedValue) → Type 0
-EditsNone edit = (p : PacketValue) → edit p ≡ None
+abbrev pub EditsNone : (Edits : PacketValue → Option EditedValue → Type 0) → Type 0
+EditsNone Edits = (p : PacketValue) (o : Option EditedValue) → Edits p o → o ≡ None
+
+-- no edit gives a packet more than so many bytes besides those that it has
+abbrev pub EditsWithin : (raise : ℕ) → (Edits : PacketValue → Option EditedValue → Type 0) → Type 0
+EditsWithin raise Edits = (p : PacketValue) (e : EditedValue) → Edits p (Some e) → length e.packet ≤ length p.packet + raise
+
+-- each packet is edited to something, or stays, and to one thing alone
+pub record EditsOnce (Edits : PacketValue → Option EditedValue → Type 0) : Type 0 where
+  pub some : (p : PacketValue) → IsBytes p.packet → (o : Option EditedValue) × Edits p o
+  pub one : (p : PacketValue) (o q : Option EditedValue) → Edits p o → Edits p q → o ≡ q
 
 -- ---- the laws
 
--- What a copy that is read from there on has: these packets, as they are edited, and nothing else. At the beginning of a file that is so unless
--- nothing was copied.
-abbrev pub IsRead : (edit : PacketValue → Option EditedValue) → Expectation → (copy : List ℕ) → (kept : List PacketValue) → Type 0
-IsRead edit x copy kept = HasBegun x ⊎ (copy ≢ []) → HasPackets x copy (edited_all edit kept) [] None
+-- What a copy that is read from there on has: these packets, and nothing else. At the beginning of a file that is so unless nothing was copied.
+abbrev pub IsRead : ModeValue → Expectation → (copy : List ℕ) → (edited : List PacketValue) → Type 0
+IsRead mode x copy edited = HasBegun x ⊎ (copy ≢ []) → HasPackets (expected_in mode x) copy edited [] None
 
 -- all packets from a place on, up to what is left; if it begins with one that can't be edited, further ones follow that
 abbrev pub HasPacketsTo : Expectation → (bytes : List ℕ) → List PacketValue → (rest : List ℕ) → Option CopyFault → Type 0
@@ -62,47 +75,55 @@ pub record HasSource (Keeps : PacketValue → Type 0) (x : Expectation) (bytes :
   pub has : HasPacketsTo x bytes packets rest fault
   pub selected : Selected Keeps packets kept
 
--- What is left begins with a packet that is kept, and is not edited: it has no time, as a simple packet; or it would be longer, or its original
+-- What is left begins with a packet that is kept, and can't be copied: it has no time, as a simple packet; or it would be longer, or its original
 -- length have more than four bytes.
-pub record IsNotEdited (Keeps : PacketValue → Type 0) (edit : PacketValue → Option EditedValue) (rest : List ℕ) (p : PacketValue) : Type 0 where
+pub record IsNotEdited (mode : ModeValue) (Keeps : PacketValue → Type 0) (Edits : PacketValue → Option EditedValue → Type 0) (rest : List ℕ) (p : PacketValue) : Type 0 where
   pub expected : Expectation
   pub len : ℕ
+  pub edited : Option EditedValue
   pub begins : Begins rest expected len (Some p) expected
   pub kept : Keeps p
-  pub edited : EditedValue
-  pub is_edit : edit p ≡ Some edited
-  pub not_written : edited_unit expected (length p.packet) edited (take len rest) ≡ None
-  pub why : (p.time ≡ None) ⊎ (length p.packet < length edited.packet) ⊎ (4294967295 < edited.original_len)
+  pub edits : Edits p edited
+  pub not_written : unit_after mode expected p edited (take len rest) ≡ None
+  pub why : (p.time ≡ None) ⊎ ((e : EditedValue) × (edited ≡ Some e) × ((length p.packet < length e.packet) ⊎ (4294967295 < e.original_len)))
 
--- a copy by a test of packets
-abbrev pub CopiesBy : (test : PacketValue → Bool) → (edit : PacketValue → Option EditedValue) → Expectation → (bytes copy : List ℕ) → (kept : List PacketValue) → (rest : List ℕ) → Option CopyFault → Type 0
-CopiesBy test edit = Copies (λ p. IsTrue (test p)) edit
+-- a copy by tests of packets, and of what they are edited to
+abbrev pub CopiesBy : ModeValue → (test : PacketValue → Bool) → (edits : PacketValue → Option EditedValue → Bool) → Expectation → (bytes copy : List ℕ) → (kept edited : List PacketValue) → (rest : List ℕ) → Option CopyFault → Type 0
+CopiesBy mode test edits = Copies mode (λ p. IsTrue (test p)) (λ p o. IsTrue (edits p o))
 
--- A copy is a file whose packets are those of the file that are kept, in order, each edited. If nothing of a file is copied, it is refused at its
--- beginning. Where no packet is edited, each is as it was, and a copy with all packets is the file itself, up to what is left.
+-- A copy is a file whose packets are those of the file that are kept, in order, each as it is edited. If nothing of a file is copied, it is
+-- refused at its beginning. In a copy that is another capture snap lengths are still bounds, if they are raised by as many bytes as an edit gives a
+-- packet. Where no packet is edited, an exact copy with all packets is the file itself, up to what is left.
 pub record CopiesAreRead : Type 0 where
-  pub read : (test : PacketValue → Bool) (edit : PacketValue → Option EditedValue) (x : Expectation) (bytes copy : List ℕ) (kept : List PacketValue) (rest : List ℕ) (fault : Option CopyFault)
-      → CopiesBy test edit x bytes copy kept rest fault → IsRead edit x copy kept
-  pub source : (test : PacketValue → Bool) (edit : PacketValue → Option EditedValue) (x : Expectation) (bytes copy : List ℕ) (kept : List PacketValue) (rest : List ℕ) (fault : Option CopyFault)
-      → CopiesBy test edit x bytes copy kept rest fault → HasSource (λ p. IsTrue (test p)) x bytes kept rest fault
-  pub nothing : (most : ℕ) (test : PacketValue → Bool) (edit : PacketValue → Option EditedValue) (bytes : List ℕ) (kept : List PacketValue) (rest : List ℕ) (fault : Option CopyFault)
-      → CopiesBy test edit (Beginning most) bytes [] kept rest fault → (kept ≡ []) × (rest ≡ bytes) × (fault ≢ None)
-  pub stopped : (test : PacketValue → Bool) (edit : PacketValue → Option EditedValue) (x : Expectation) (bytes copy : List ℕ) (kept : List PacketValue) (rest : List ℕ) (p : PacketValue)
-      → CopiesBy test edit x bytes copy kept rest (Some (NotEdited p)) → IsNotEdited (λ q. IsTrue (test q)) edit rest p
-  pub unedited : (edit : PacketValue → Option EditedValue) (kept : List PacketValue) → EditsNone edit → edited_all edit kept ≡ kept
-  pub all : (edit : PacketValue → Option EditedValue) (x : Expectation) (bytes copy : List ℕ) (kept : List PacketValue) (rest : List ℕ) (fault : Option CopyFault)
-      → EditsNone edit → Copies (λ p. ⊤) edit x bytes copy kept rest fault → copy ++ rest ≡ bytes
+  pub read : (mode : ModeValue) (test : PacketValue → Bool) (edits : PacketValue → Option EditedValue → Bool) (x : Expectation) (bytes copy : List ℕ) (kept edited : List PacketValue) (rest : List ℕ) (fault : Option CopyFault)
+      → CopiesBy mode test edits x bytes copy kept edited rest fault → IsRead mode x copy edited
+  pub are_edited : (mode : ModeValue) (test : PacketValue → Bool) (edits : PacketValue → Option EditedValue → Bool) (x : Expectation) (bytes copy : List ℕ) (kept edited : List PacketValue) (rest : List ℕ) (fault : Option CopyFault)
+      → CopiesBy mode test edits x bytes copy kept edited rest fault → AreEdited mode (λ p o. IsTrue (edits p o)) kept edited
+  pub source : (mode : ModeValue) (test : PacketValue → Bool) (edits : PacketValue → Option EditedValue → Bool) (x : Expectation) (bytes copy : List ℕ) (kept edited : List PacketValue) (rest : List ℕ) (fault : Option CopyFault)
+      → CopiesBy mode test edits x bytes copy kept edited rest fault → HasSource (λ p. IsTrue (test p)) x bytes kept rest fault
+  pub nothing : (mode : ModeValue) (most : ℕ) (test : PacketValue → Bool) (edits : PacketValue → Option EditedValue → Bool) (bytes : List ℕ) (kept edited : List PacketValue) (rest : List ℕ) (fault : Option CopyFault)
+      → CopiesBy mode test edits (Beginning most) bytes [] kept edited rest fault → (kept ≡ []) × (rest ≡ bytes) × (fault ≢ None)
+  pub stopped : (mode : ModeValue) (test : PacketValue → Bool) (edits : PacketValue → Option EditedValue → Bool) (x : Expectation) (bytes copy : List ℕ) (kept edited : List PacketValue) (rest : List ℕ) (p : PacketValue)
+      → CopiesBy mode test edits x bytes copy kept edited rest (Some (NotEdited p)) → IsNotEdited mode (λ q. IsTrue (test q)) (λ q o. IsTrue (edits q o)) rest p
+  pub within : (raise : ℕ) (test : PacketValue → Bool) (edits : PacketValue → Option EditedValue → Bool) (x : Expectation) (bytes copy : List ℕ) (kept edited : List PacketValue) (rest : List ℕ) (fault : Option CopyFault)
+      → CopiesBy (Changed raise) test edits x bytes copy kept edited rest fault → EditsWithin raise (λ p o. IsTrue (edits p o)) → All IsWithinSnap kept → All IsWithinSnap edited
+  pub unedited : (edits : PacketValue → Option EditedValue → Bool) (kept edited : List PacketValue) → EditsNone (λ p o. IsTrue (edits p o))
+      → AreEdited Exact (λ p o. IsTrue (edits p o)) kept edited → edited ≡ kept
+  pub all : (edits : PacketValue → Option EditedValue → Bool) (x : Expectation) (bytes copy : List ℕ) (kept edited : List PacketValue) (rest : List ℕ) (fault : Option CopyFault)
+      → EditsNone (λ p o. IsTrue (edits p o)) → Copies Exact (λ p. ⊤) (λ p o. IsTrue (edits p o)) x bytes copy kept edited rest fault → copy ++ rest ≡ bytes
 
--- the copy of bytes by a test
-pub record Copy (test : PacketValue → Bool) (edit : PacketValue → Option EditedValue) (x : Expectation) (bytes : List ℕ) : Type 0 where
+-- the copy of bytes
+pub record Copy (mode : ModeValue) (test : PacketValue → Bool) (edits : PacketValue → Option EditedValue → Bool) (x : Expectation) (bytes : List ℕ) : Type 0 where
   pub copy : List ℕ
   pub kept : List PacketValue
+  pub edited : List PacketValue
   pub rest : List ℕ
   pub fault : Option CopyFault
-  pub copies : CopiesBy test edit x bytes copy kept rest fault
+  pub copies : CopiesBy mode test edits x bytes copy kept edited rest fault
 
 -- any bytes have a copy, and only one
 pub record CopiesAreOne : Type 0 where
-  pub some : (test : PacketValue → Bool) (edit : PacketValue → Option EditedValue) (x : Expectation) (bytes : List ℕ) → Copy test edit x bytes
-  pub one : (test : PacketValue → Bool) (edit : PacketValue → Option EditedValue) (x : Expectation) (bytes : List ℕ) (c d : Copy test edit x bytes) → IsBytes bytes
-      → (c.copy ≡ d.copy) × (c.kept ≡ d.kept) × (c.rest ≡ d.rest) × (c.fault ≡ d.fault)
+  pub some : (mode : ModeValue) (test : PacketValue → Bool) (edits : PacketValue → Option EditedValue → Bool) (x : Expectation) (bytes : List ℕ) → IsBytes bytes → EditsOnce (λ p o. IsTrue (edits p o))
+      → Copy mode test edits x bytes
+  pub one : (mode : ModeValue) (test : PacketValue → Bool) (edits : PacketValue → Option EditedValue → Bool) (x : Expectation) (bytes : List ℕ) (c d : Copy mode test edits x bytes) → IsBytes bytes
+      → EditsOnce (λ p o. IsTrue (edits p o)) → (c.copy ≡ d.copy) × (c.kept ≡ d.kept) × (c.edited ≡ d.edited) × (c.rest ≡ d.rest) × (c.fault ≡ d.fault)

@@ -55,19 +55,9 @@ is_too_long e = if nat_lt max_captured_len (length e.packet) then true else nat_
 abbrev pub edited_unit : Expectation → (m : ℕ) → EditedValue → List ℕ → Option (List ℕ)
 edited_unit x m e unit = if is_too_long e then None else unit_with x m e unit
 
--- the packet that it has then: time, interface, link type and the length of the frame check sequence stay
+-- the packet that it has then: all else stays
 abbrev pub edited_packet : EditedValue → PacketValue → PacketValue
 edited_packet e p = record p { original_len = e.original_len; packet = e.packet }
-
--- ---- if there is an edit
-
-abbrev pub unit_after : Expectation → PacketValue → Option EditedValue → List ℕ → Option (List ℕ)
-unit_after x p None unit = Some unit
-unit_after x p (Some e) unit = edited_unit x (length p.packet) e unit
-
-abbrev pub packet_after : PacketValue → Option EditedValue → PacketValue
-packet_after p None = p
-packet_after p (Some e) = edited_packet e p
 
 -- ---- what a call returns
 

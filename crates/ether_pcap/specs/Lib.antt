@@ -17,6 +17,7 @@ pub mod CaptureViews
 pub mod CaptureTexts
 pub mod CaptureReading
 pub mod CaptureLaws
-pub mod Copies
 pub mod Editing
+pub mod CopiedUnits
+pub mod Copies
 pub mod WritingBlocks

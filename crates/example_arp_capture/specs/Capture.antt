@@ -11,7 +11,7 @@ header_of_capture = record { order = LittleEndian; resolution = Nanoseconds; sna
 
 -- on Ethernet (1), without a check sequence, not cut
 abbrev pub packet_at : (seconds : ℕ) → List ℕ → PacketValue
-packet_at seconds frame = record { time = Some (time_of (seconds * 10 ^ 9)); interface = None; original_len = 46; link_type = 1; fcs_len = None; packet = frame }
+packet_at seconds frame = record { time = Some (time_of (seconds * 10 ^ 9)); interface = None; original_len = 46; link_type = 1; snap_len = 262144; fcs_len = None; packet = frame }
 
 -- The file has exactly one packet, which is the request, and nothing else, for a reader of as many interfaces as you like.
 pub record IsCaptureOfRequest (seconds vlan_id : ℕ) (mac ipv4 target bytes : List ℕ) : Type 0 where

@@ -23,7 +23,7 @@ returns-in_default-clause-some g c =
     g.W.Sink.contents g.W.Sink.can_fail c.args.out.now true c.write_other.new.out)
     (sym c.in_default.is)
     (record {
-      text = other_text form unit;
+      text = other_text form self.reader unit;
       makes = other_made task.filter form self.reader (counted (self.count + 1)) unit;
       taken = c.write_other.ensures;
     })

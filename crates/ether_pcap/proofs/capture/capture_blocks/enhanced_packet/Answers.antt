@@ -30,6 +30,7 @@ returns-clause-packet c most =
             interface = Some p.interface;
             original_len = p.original_len;
             link_type = i.link_type;
+            snap_len = i.snap_len;
             fcs_len = fcs k;
             packet = p.packet;
           })),

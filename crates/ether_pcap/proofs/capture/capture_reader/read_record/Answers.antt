@@ -15,6 +15,7 @@ returns-clause-unit c =
       interface = None;
       original_len = r.original_len;
       link_type = h.link_type;
+      snap_len = h.snap_len;
       fcs_len = h.fcs_len;
       packet = r.packet;
     }
@@ -24,6 +25,7 @@ returns-clause-unit c =
       interface = None;
       original_len = r.original_len;
       link_type = h.link_type;
+      snap_len = h.snap_len;
       fcs_len = h.fcs_len;
       packet = r.packet;
     } in
