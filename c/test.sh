@@ -132,9 +132,13 @@ callers_in_python() {
     else
         echo "left out: the package compared with scapy, since no Python with scapy was found"
     fi
+    # each word is one argument, or none
+    run "Python and other processes" "$python" tests/pools.py "$work/package" $dask
 }
 
 sh link.sh "${cc:-$kit_linker}" "$library" "$work/libetherpeel.so.3"
+dask=
+if [ -n "$python" ]; then dask=$(python_with dask.distributed "$python" /usr/bin/python3); fi
 if [ -n "$cc" ]; then callers_in_c; fi
 if [ -n "$python" ]; then callers_in_python; fi
 if [ -n "$cc" ] && [ -n "$python" ]; then

@@ -17,7 +17,7 @@ def start_of_link_type(link_type: int) -> Optional[Start]:
 
 
 class Captured(NamedTuple):
-    """A packet of a capture file."""
+    """A packet of a capture file. It is pickled with a copy of its bytes."""
 
     packet: memoryview
     """The bytes that were captured, where they are in the file."""
@@ -37,6 +37,17 @@ class Captured(NamedTuple):
         if start == Start.ETHERNET2 and self.fcs_len == 4 and len(self.packet) == self.original_len:
             return Start.ETHERNET2_FCS
         return start
+
+    def __copy__(self) -> Captured:
+        return self
+
+    def __reduce__(self):
+        return _unpickled, (type(self), bytes(self.packet), *self[1:])
+
+
+def _unpickled(kind, content, *others):
+    """A tuple that begins with a view, which has been pickled as bytes."""
+    return kind(memoryview(content), *others)
 
 
 class CaptureError(Error):
@@ -94,7 +105,8 @@ def _captured(view, at, packets, error):
 
 
 class Frame(NamedTuple):
-    """What is walked of a packet of a capture, as in `walk(frame.bytes, frame.start, ether_type=frame.ether_type)`."""
+    """What is walked of a packet of a capture, as in `walk(frame.bytes, frame.start, ether_type=frame.ether_type)`. It is pickled
+    with a copy of its bytes."""
 
     bytes: memoryview
     """The bytes that are walked, where they are in the packet."""
@@ -103,6 +115,12 @@ class Frame(NamedTuple):
     start: Start
     ether_type: Optional[int]
     """What announces the frame, of `Start.ETHER_TYPE`, else None."""
+
+    def __copy__(self) -> Frame:
+        return self
+
+    def __reduce__(self):
+        return _unpickled, (type(self), bytes(self.bytes), *self[1:])
 
 
 def captured_frame(packet: Captured) -> Optional[Frame]:

@@ -1,4 +1,5 @@
 """The shared library by ctypes: structs and calls as etherpeel.h has them, and memory that is lent to a call."""
+import copyreg
 import ctypes as C
 import os
 from enum import IntEnum
@@ -34,7 +35,22 @@ class Status(IntEnum):
 
 
 class Error(ValueError):
-    """What an error of this package is."""
+    """The base class of this package's errors. Two errors are equal if they have the same type, text and fields. An error can be
+    pickled, so a worker process can raise it to its caller."""
+
+    def __reduce__(self):
+        return copyreg.__newobj__, (type(self), *self.args), vars(self) or None
+
+    def __eq__(self, other: object) -> bool:
+        return isinstance(other, Error) and _content(self) == _content(other)
+
+    def __hash__(self) -> int:
+        return hash((type(self), self.args))
+
+
+def _content(error):
+    """The type, text and fields of an error, without the notes that a handler adds to it."""
+    return type(error), error.args, {name: value for name, value in vars(error).items() if name != "__notes__"}
 
 
 def struct(name, /, **fields):

@@ -1,0 +1,190 @@
+"""Tests that packets and errors of the package pass from one process to another: pools.py FOLDER [DASK], where FOLDER has the
+package and DASK is a Python that has dask.distributed. The last line is 'N passed, M failed'.
+
+All go through pickle and copy, and through workers of multiprocessing, of concurrent.futures and of dask. Each pool is in a process of
+its own with a time limit, for a pool that can't read what a worker sends may wait for ever.
+"""
+import concurrent.futures
+import copy
+import multiprocessing
+import os
+import pickle
+import signal
+import subprocess
+import sys
+import tempfile
+
+sys.path[:0] = sys.argv[1:2]  # a server of forks has no words, but PYTHONPATH
+import etherpeel
+from checks import ADDRESSES, TAGGED, check, counts
+from etherpeel import Difference, FaultKind, FilterErrorKind, Status
+
+SECONDS = 60
+# a classic file with two packets, of one byte and of none; its last record header begins at byte 41 and has 16 bytes
+CAPTURE = bytes.fromhex("a1b2c3d4 00020004 00000000 00000000 0000ffff 00000001"
+                        "00000001 00000002 00000001 00000001 ff 00000003 00000004 00000000 00000009")
+LINK, TAG = etherpeel.Ethernet2(b"\xff" * 6, ADDRESSES[6:], 0x0800), etherpeel.Vlan(1)
+
+
+class OwnError(etherpeel.CaptureError):
+    """An error that a caller derives, with other words than the package's."""
+
+    def __init__(self, path):
+        super().__init__("cut", 41, 16)
+        self.path = path
+
+
+def own_error():
+    raise OwnError("f.pcap")
+
+
+# calls that raise each kind of error, with its fields
+ERRORS = [
+    (etherpeel.Error, lambda: etherpeel.write_back_into(bytearray(1), TAGGED), {}),
+    (etherpeel.TagError, lambda: etherpeel.pop_vlan(bytearray(3)), {"status": Status.NO_LINK}),
+    (etherpeel.ReplaceError, lambda: etherpeel.replace_link_ext(bytearray(TAGGED), 1, TAG),
+     {"status": Status.NO_TAG, "tags": 1, "difference": None}),
+    (etherpeel.ReplaceError, lambda: etherpeel.replace_link(bytearray(TAGGED), LINK),
+     {"status": Status.DIFFERS, "tags": None, "difference": Difference.ETHER_TYPE}),
+    (etherpeel.BuildError, lambda: etherpeel.build([LINK, LINK], b"", 0x0800), {"status": Status.BAD_KIND, "index": 1}),
+    (etherpeel.Refused, lambda: etherpeel.walk(TAGGED[:16]),
+     {"fault": etherpeel.summary(TAGGED[:16]).fault, "units": etherpeel.walk(TAGGED[:16], limit=0)}),
+    (etherpeel.FilterError, lambda: etherpeel.select("vlan 4096", []),
+     {"offset": 5, "kind": FilterErrorKind.NUMBER, "greatest": 4095}),
+    (etherpeel.LinuxSll2Error, lambda: etherpeel.linux_sll2(b""), {"status": Status.SHORT, "packet_type": None}),
+    (etherpeel.CaptureError, lambda: list(etherpeel.capture(CAPTURE[:50])), {"offset": 41, "needed": 16}),
+    (OwnError, own_error, {"offset": 41, "needed": 16, "path": "f.pcap"}),
+]
+
+
+def error_of(call):
+    try:
+        call()
+    except etherpeel.Error as error:
+        return error
+    raise AssertionError("no error")
+
+
+def copies(thing):
+    """Copies of a thing by each way to make one, with the name of the way; None in place of one that can't be made."""
+    ways = {f"pickle {protocol}": lambda protocol=protocol: pickle.loads(pickle.dumps(thing, protocol))
+            for protocol in range(pickle.HIGHEST_PROTOCOL + 1)}
+    ways.update({"copy": lambda: copy.copy(thing), "deepcopy": lambda: copy.deepcopy(thing)})
+    for name, way in ways.items():
+        try:
+            yield name, way()
+        except Exception as error:
+            print(f"{type(thing).__name__}: {name}: {error!r}")
+            yield name, None
+
+
+def errors():
+    made = [error_of(call) for _, call, _ in ERRORS]
+    for (kind, call, fields), error in zip(ERRORS, made):
+        for way, it in copies(error):
+            found = it and (type(it), str(it), {name: getattr(it, name) for name in fields})
+            check(f"{kind.__name__}, {way}", found, (kind, str(error), fields))
+            check(f"{kind.__name__}, equal, {way}", (it == error, it != error, hash(it) == hash(error)), (True, False, True))
+        check(f"{kind.__name__}, made again", error_of(call) == error, True)
+    check("different errors", [[one == other for other in made] for one in made],
+          [[one is other for other in made] for one in made])
+    check("no error of the package", made[0] == ValueError(*made[0].args), False)
+    first, second = (etherpeel.CaptureError("text", 1, needed) for needed in (2, 3))
+    check("another field", first == second, False)
+    first.__notes__ = ["a note"]
+    check("a note", [it and (it == etherpeel.CaptureError("text", 1, 2), it.__notes__) for _, it in copies(first)], [(True, ["a note"])] * 8)
+
+
+def results_of_calls():
+    whole = list(etherpeel.capture(CAPTURE))
+    for name, memory in (("bytes", CAPTURE), ("bytearray", bytearray(CAPTURE)), ("view", memoryview(b"!" + CAPTURE)[1:])):
+        for packet in etherpeel.capture(memory):
+            for way, it in copies(packet):
+                check(f"a packet in {name}, {way}", it and (type(it), type(it.packet), it), (type(packet), memoryview, packet))
+    with tempfile.NamedTemporaryFile() as file:
+        file.write(CAPTURE)
+        file.flush()
+        mapped = list(etherpeel.capture(open(file.name, "rb")))
+        for way, it in copies(mapped[0]):
+            check(f"a packet of a mapped file, {way}", it, whole[0])
+    check("a copy is the packet", copy.copy(whole[0]) is whole[0], True)
+    frame = etherpeel.captured_frame(whole[0])
+    for way, it in copies(frame):
+        check(f"a frame, {way}", it and (type(it), type(it.bytes), it), (etherpeel.Frame, memoryview, frame))
+    packet = etherpeel.packet(TAGGED[:16])
+    for way, it in copies(packet):
+        check(f"results, {way}", (it, it and it.summary.fault.kind is FaultKind.LENGTH), (packet, True))
+
+
+# ---- pools, each in a process of its own
+
+def read(content):
+    """The packets of a capture. It runs in a worker."""
+    return list(etherpeel.capture(content))
+
+
+def by_multiprocessing(method):
+    with multiprocessing.get_context(method).Pool(2) as pool:
+        return results(lambda content: pool.apply_async(read, (content,)).get())
+
+
+def by_futures(method):
+    with concurrent.futures.ProcessPoolExecutor(2, multiprocessing.get_context(method)) as pool:
+        return results(lambda content: pool.submit(read, content).result())
+
+
+def by_dask(_):
+    from dask.distributed import Client
+    with Client(n_workers=2, dashboard_address=None) as client:
+        return results(lambda content: client.submit(read, content).result())
+
+
+def results(call):
+    """What workers raise of a cut capture, and return of a whole one."""
+    error = error_of(lambda: call(CAPTURE[:50]))
+    whole = [bytes(packet.packet) for packet in call(CAPTURE)]
+    return f"{type(error).__name__} {error.offset} {error.needed} {whole}"
+
+
+POOLS = {"multiprocessing": by_multiprocessing, "futures": by_futures, "dask": by_dask}
+
+
+def in_time(python, *words):
+    """The last line that this file prints with these words, or why there is none."""
+    with tempfile.TemporaryFile() as output:
+        ran = subprocess.Popen([python, os.path.abspath(__file__), sys.argv[1], *words], env={**os.environ, "PYTHONPATH": sys.argv[1]},
+                               stdin=subprocess.DEVNULL, stdout=output, stderr=subprocess.STDOUT, start_new_session=True)
+        try:
+            ran.wait(SECONDS)
+        except subprocess.TimeoutExpired:
+            return f"no end after {SECONDS} seconds"
+        finally:
+            try:
+                os.killpg(ran.pid, signal.SIGKILL)
+            except ProcessLookupError:
+                pass
+            ran.wait()
+        output.seek(0)
+        return output.read().decode().rstrip("\n").split("\n")[-1]
+
+
+def main():
+    errors()
+    results_of_calls()
+    dask = sys.argv[2:]
+    expected = "CaptureError 41 16 [b'\\xff', b'']"
+    for method in multiprocessing.get_all_start_methods():
+        for pool in ("multiprocessing", "futures"):
+            check(f"{pool}, {method}", in_time(sys.executable, pool, method), expected)
+    if dask:
+        check("dask", in_time(*dask, "dask", "-"), expected)
+    else:
+        print("left out: the workers of dask, since no Python with dask.distributed was found")
+    print(f"{counts[True]} passed, {counts[False]} failed")
+
+
+if __name__ == "__main__":
+    if len(sys.argv) == 4:
+        print(POOLS[sys.argv[2]](sys.argv[3]))
+    else:
+        main()
