@@ -12,6 +12,7 @@ sys.path.insert(0, sys.argv[1])
 import etherpeel
 from checks import ADDRESSES, ARP, TAGGED, check, counts, raised
 from compared import drawn_frames, drawn_packets, fronts, short_lists
+from sources import sources
 from etherpeel import Difference, FaultKind, FieldName, FilterErrorKind, Layer, LenSource, RestKind, Start, Status, _library
 
 
@@ -351,6 +352,7 @@ worked_examples()
 buffers()
 packets()
 captures()
+sources(CLASSIC, [b"\xff", b""])
 frames_of_captures()
 filters()
 fields()

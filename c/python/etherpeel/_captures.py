@@ -2,8 +2,10 @@
 from __future__ import annotations
 
 import ctypes as C
+import io
 import mmap
-from typing import BinaryIO, Iterable, Iterator, List, NamedTuple, Optional, Union
+import os
+from typing import Iterable, Iterator, List, NamedTuple, Optional, Protocol, Union
 
 from . import _library
 from ._library import Error, Status, filled, lent, lib, number, required, text
@@ -61,16 +63,26 @@ class CaptureError(Error):
         """How many bytes it needs at least, if the file ends within it; else 0."""
 
 
-def capture(source: Union[Buffer, BinaryIO]) -> Iterator[Captured]:
-    """The packets of a classic pcap or pcapng file, which is in memory or open for reading.
+class Readable(Protocol):
+    """A file that is open for reading bytes."""
 
-        with open("f.pcap", "rb") as file:
-            for packet in etherpeel.capture(file):
-                if packet.start:
-                    print(etherpeel.packet(packet.packet, packet.start).vlan_ids)
+    def read(self) -> bytes: ...
 
-    Raises `CaptureError` after the last packet if the file can't be read to its end. A file is mapped into memory if it can
-    be, and else read at once; each packet takes 40 bytes besides.
+
+def capture(source: Union[str, os.PathLike[str], Readable, Buffer]) -> Iterator[Captured]:
+    """The packets of a classic pcap or pcapng file. The source is a path, a file that is open for reading, or the bytes of a file.
+
+        for packet in etherpeel.capture("f.pcap"):
+            frame = etherpeel.captured_frame(packet)
+            if frame:
+                print(etherpeel.packet(frame.bytes, frame.start, ether_type=frame.ether_type).vlan_ids)
+
+    Raises `CaptureError` after the last packet if the file can't be read to its end. Each packet takes 40 bytes of memory.
+
+    A file on disk is mapped into memory, an open one from its position on. Every other source is read at once by its `read()`: pipes,
+    and compressed files that `gzip.open`, `bz2.open` or `lzma.open` opens. If a mapped file is truncated while its packets are in
+    use, the system kills the process (SIGBUS). So read a file that another program may truncate, as `tcpdump -W` does:
+    `capture(file.read())`.
     """
     view = _memory(source)
     with lent(view) as (at, length):
@@ -84,14 +96,26 @@ def capture(source: Union[Buffer, BinaryIO]) -> Iterator[Captured]:
 
 
 def _memory(source):
-    """A view of the bytes of what is in memory, or of a file from where it is on."""
-    if not hasattr(source, "read") or isinstance(source, mmap.mmap):
-        return memoryview(source).cast("B")
-    try:
-        where = source.tell()
-        return memoryview(mmap.mmap(source.fileno(), 0, access=mmap.ACCESS_READ))[where:]
-    except (OSError, ValueError, AttributeError):
-        return memoryview(source.read())
+    """A view of the bytes of a source."""
+    if isinstance(source, (str, os.PathLike)):
+        with open(source, "rb") as file:
+            return _content(file)
+    if hasattr(source, "read") and not isinstance(source, mmap.mmap):
+        return _content(getattr(source, "buffer", source))
+    return memoryview(source).cast("B")
+
+
+def _content(file):
+    """A view of the bytes of an open file from its position on. Only a plain file has the bytes that its descriptor names: a
+    compressed one has a descriptor too."""
+    raw = file.raw if type(file) in (io.BufferedReader, io.BufferedRandom) else file
+    if type(raw) is io.FileIO:
+        try:
+            where = file.tell()
+            return memoryview(mmap.mmap(file.fileno(), 0, access=mmap.ACCESS_READ))[where:]
+        except (OSError, ValueError):
+            pass  # a pipe, or an empty file
+    return memoryview(file.read())
 
 
 def _captured(view, at, packets, error):
