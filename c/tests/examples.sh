@@ -27,7 +27,8 @@ VLAN 291: 2 packets'
 check vlans.c "$("$work/vlans" examples/sample.pcap)" "$vlans_lines"
 check vlans.py "$(PYTHONPATH=$work/package "$python" examples/vlans.py examples/sample.pcap)" "$vlans_lines"
 head -c 100 examples/sample.pcap > "$work/cut.pcap"
-cut_text='At byte 59: A record of a pcap file needs 58 byte(s); only 41 are available.'
-check vlans.c "$("$work/vlans" "$work/cut.pcap" 2>&1 > /dev/null)" "$cut_text"
-check vlans.py "$(PYTHONPATH=$work/package "$python" examples/vlans.py "$work/cut.pcap" 2>&1 > /dev/null)" "$cut_text"
+cut_text="$work/cut.pcap: At byte 59: A record of a pcap file needs 58 byte(s); only 41 are available.
+status 1"
+check vlans.c "$("$work/vlans" "$work/cut.pcap" 2>&1 > /dev/null; echo "status $?")" "$cut_text"
+check vlans.py "$(PYTHONPATH=$work/package "$python" examples/vlans.py "$work/cut.pcap" 2>&1 > /dev/null; echo "status $?")" "$cut_text"
 echo "$passed passed, $failed failed"
