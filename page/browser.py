@@ -117,8 +117,9 @@ class Page:
 
     def press(self, key):
         codes = {"ArrowDown": 40, "ArrowUp": 38, "PageDown": 34, "Home": 36, "End": 35, "Tab": 9, "Enter": 13}
+        text = {"text": "\r"} if key == "Enter" else {}
         for kind in ["keyDown", "keyUp"]:
-            self.call("Input.dispatchKeyEvent", type=kind, key=key, code=key, windowsVirtualKeyCode=codes[key])
+            self.call("Input.dispatchKeyEvent", type=kind, key=key, code=key, windowsVirtualKeyCode=codes[key], **text)
 
     def write(self, text):
         self.call("Input.insertText", text=text)

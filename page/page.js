@@ -116,10 +116,8 @@ class Page {
   // ---- what comes in
 
   listen() {
+    $("open").addEventListener("click", () => $("file").click());
     $("file").addEventListener("change", () => this.openFile($("file").files[0]));
-    $("open").addEventListener("keydown", (event) => {
-      if (event.key === "Enter" || event.key === " ") { event.preventDefault(); $("file").click(); }
-    });
     $("input").addEventListener("submit", (event) => { event.preventDefault(); this.openDigits(); });
     $("digits").addEventListener("input", () => this.openDigits());
     $("start").addEventListener("change", () => { if ($("digits").value) this.openDigits(); });

@@ -230,6 +230,36 @@ def test_input(page):
     check("no digits", "hexadecimal" in page.evaluate("document.querySelector('#notice').innerText"))
 
 
+def accessible(page):
+    """The roles and names of what the accessibility tree has."""
+    nodes = page.call("Accessibility.getFullAXTree")["nodes"]
+    return [(node["role"]["value"], node.get("name", {}).get("value", "")) for node in nodes if not node["ignored"]]
+
+
+def test_accessible(page, folder):
+    """The controls in the accessibility tree, as a screen reader has them."""
+    page.open(INDEX)
+    found = accessible(page)
+    for control in [("button", "Open a capture"), ("combobox", "What the frame begins with"), ("textbox", "A frame as hexadecimal digits")]:
+        check(f"the {control[0]} {control[1]}", control in found, found)
+    page.call("Page.setInterceptFileChooserDialog", enabled=True)
+    for what, press in [("the keyboard", lambda: (page.press("Tab"), page.press("Enter"))), ("the mouse", lambda: page.click("#open"))]:
+        before, is_asked, end = len(page.events), False, time.monotonic() + 10
+        press()
+        while not is_asked and time.monotonic() < end:
+            page.evaluate("new Promise(done => setTimeout(done, 20))")
+            is_asked = any(event.get("method") == "Page.fileChooserOpened" for event in page.events[before:])
+        check(f"the first control asks for a file by {what}", is_asked, page.evaluate("document.activeElement.outerHTML"))
+    page.call("Page.setInterceptFileChooserDialog", enabled=False)
+    drop(page, folder, "accessible.pcap", classic(PACKETS))
+    found = accessible(page)
+    for control in [("listbox", "Packets"), ("region", "Headers"), ("region", "Bytes"), ("textbox", "An expression that selects packets"),
+                    ("link", "link to this frame")]:
+        check(f"the {control[0]} {control[1]}", control in found, found)
+    rows = [name for role, name in found if role == "option"][-3:]
+    check("the packets", rows == [" ".join(row[:1] + row[2:]) for row in ROWS], rows)
+
+
 def test_many(page, folder):
     """100,000 packets: the first row is there within a second."""
     data = classic(PACKETS[:1] * 50_000 + PACKETS[1:2] * 50_000)
@@ -349,7 +379,8 @@ def main():
     else:
         with Page() as page, tempfile.TemporaryDirectory() as folder:
             test_examples(page)
-            for test in [test_captures, test_links, test_keys_and_marks, test_selection, test_many, test_narrow, test_against_tshark]:
+            for test in [test_captures, test_links, test_keys_and_marks, test_selection, test_accessible, test_many, test_narrow,
+                         test_against_tshark]:
                 test(page, folder)
             for test in [test_input, test_old_browser, test_silence]:
                 test(page)
