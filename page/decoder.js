@@ -26,9 +26,11 @@ class Decoder {
     this.clear();
   }
 
-  // ---- memory: small structs in the scratch, files and arrays after it, one after the other
+  // ---- memory: small structs in the scratch, after it the capture that is open, and then a frame alone and arrays
 
   clear() {
+    this.count = 0;
+    this.captureEnd = this.begin;
     this.end = this.begin;
     this.grow(this.end);
   }
@@ -92,6 +94,7 @@ class Decoder {
     this.calls.etherpeel_capture(...file, BigInt(this.packets), BigInt(this.count), BigInt(count), BigInt(end));
     const fault = this.text((...target) => this.calls.etherpeel_capture_fault_text(...file, ...target));
     this.matches = this.place(this.count);
+    this.captureEnd = this.end;
     return { count: this.count, isWhole: status === DONE, needed, fault };
   }
 
@@ -141,9 +144,9 @@ class Decoder {
 
   // ---- frames
 
-  // a frame alone
+  // a frame alone, beside the capture
   openFrame(bytes, start, etherType) {
-    this.clear();
+    this.end = this.captureEnd;
     return { at: this.put(bytes), len: bytes.length, offset: 0, start, etherType };
   }
 

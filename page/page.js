@@ -2,6 +2,8 @@
 
 const ROW_HEIGHT = 28;
 const MOST_HEIGHT = 8_000_000;
+// `#eth:` and digits, as the words of the page's links
+const FRAME_ADDRESS = /^#(eth|fcs|sll|type-[0-9a-fA-F]{4}):([0-9a-fA-F]*)$/;
 
 const $ = (id) => document.getElementById(id);
 
@@ -33,6 +35,7 @@ class PacketList {
     this.list = $("list");
     this.indices = [];
     this.chosen = 0;
+    this.isMarked = true;
     this.list.addEventListener("scroll", () => this.draw());
     this.list.addEventListener("keydown", (event) => this.key(event));
     this.list.addEventListener("click", (event) => {
@@ -80,13 +83,14 @@ class PacketList {
       element("span", { className: "length", textContent: isCut ? `${packet.len} of ${packet.originalLen}` : packet.len }),
       element("span", { className: "line", textContent: text }));
     node.dataset.row = at;
-    node.setAttribute("aria-selected", at === this.chosen);
+    node.setAttribute("aria-selected", this.isMarked && at === this.chosen);
     return node;
   }
 
   choose(at) {
     if (!this.indices.length) return;
     this.chosen = Math.max(0, Math.min(at, this.indices.length - 1));
+    this.isMarked = true;
     const seen = this.visible();
     const hidden = Math.max(1, this.indices.length - seen);
     const way = $("height").offsetHeight - this.list.clientHeight;
@@ -94,6 +98,12 @@ class PacketList {
     if (this.chosen >= this.first + seen) this.list.scrollTop = (this.chosen - seen + 1) / hidden * way;
     this.draw();
     this.onChosen(this.indices[this.chosen]);
+  }
+
+  // while a frame alone is shown, no packet is selected
+  unmark() {
+    this.isMarked = false;
+    this.draw();
   }
 
   key(event) {
@@ -108,7 +118,8 @@ class Page {
   constructor(decoder) {
     this.decoder = decoder;
     this.frame = new FrameView(decoder);
-    this.list = new PacketList(decoder, (index) => this.showPacket(index));
+    this.list = new PacketList(decoder, (index) => this.choosePacket(index));
+    this.name = "";
     this.listen();
     this.readAddress();
   }
@@ -123,7 +134,7 @@ class Page {
     $("start").addEventListener("change", () => { if ($("digits").value) this.openDigits(); });
     $("selection").addEventListener("submit", (event) => { event.preventDefault(); this.select(); });
     $("expression").addEventListener("input", () => this.select());
-    window.addEventListener("hashchange", () => this.readAddress());
+    window.addEventListener("hashchange", () => { this.readAddress(); if (!location.hash) $("list").focus(); });
     document.addEventListener("dragover", (event) => event.preventDefault());
     document.addEventListener("drop", (event) => {
       event.preventDefault();
@@ -131,18 +142,26 @@ class Page {
     });
   }
 
-  // `#eth:` and digits, as the words of the page's links
+  // the frame of the address, or else the capture
   readAddress() {
-    const told = /^#(eth|fcs|sll|type-[0-9a-fA-F]{4}):([0-9a-fA-F]*)$/.exec(location.hash);
-    if (!told || this.address === location.hash) return;
+    const told = FRAME_ADDRESS.exec(location.hash);
+    if (!told) return this.showCapture();
     $("digits").value = told[2];
     this.openFrame(told[1].toLowerCase(), told[2]);
   }
 
+  // Sets the address: that of a frame, or "". The browser's Back leads from a frame to the capture, and from the capture to a frame,
+  // but not through each digit of a frame that is typed.
+  setAddress(address) {
+    const isFrame = FRAME_ADDRESS.test(location.hash);
+    if (location.hash === address || !(isFrame || address)) return;
+    history[isFrame && address ? "replaceState" : "pushState"](null, "", address || location.pathname + location.search);
+  }
+
   openDigits() {
     const text = $("digits").value.replace(/[\s:.-]/g, "").replace(/^0x/i, "");
-    if (!text) return;
-    this.openFrame($("start").value, text);
+    if (text) this.openFrame($("start").value, text);
+    else this.showCapture();
   }
 
   openFrame(word, text) {
@@ -152,40 +171,69 @@ class Page {
     const bytes = Uint8Array.from(text.match(/../g) ?? [], (pair) => parseInt(pair, 16));
     const [start, etherType] = word.startsWith("type-") ? [STARTS.type, parseInt(word.slice(5), 16)] : [STARTS[word], 0];
     const frame = this.decoder.openFrame(bytes, start, etherType);
-    this.address = `#${word}:${text}`;
-    if (location.hash !== this.address) history.replaceState(null, "", this.address);
+    this.setAddress(`#${word}:${text}`);
     if ([...$("start").options].some((option) => option.value === word)) $("start").value = word;
     this.notice("");
-    this.toggle({ frame: true });
-    this.showFrame(frame, frame, [count(frame.len, "byte")]);
+    this.toggle("frame");
+    this.list.unmark();
+    const len = count(frame.len, "byte");
+    const read = this.showFrame(frame, frame, ["Frame", len]);
+    this.title(`Frame of ${len}: ${line(read)}`, this.name);
+    if (this.name) $("about").append(" · ", element("a", { href: "#", textContent: `back to ${this.name}` }));
   }
 
   async openFile(file) {
     if (!file) return;
+    const tell = (error) => this.notice(`${file.name} could not be read: ${error.message}`);
+    const buffer = await file.arrayBuffer().catch(tell);
+    if (!buffer) return;
+    this.name = "";
+    this.list.show([]);
     let found;
     try {
-      found = this.decoder.openCapture(new Uint8Array(await file.arrayBuffer()));
+      found = this.decoder.openCapture(new Uint8Array(buffer));
     } catch (error) {
-      return this.notice(`${file.name} could not be read: ${error.message}`);
+      this.showCapture();
+      return tell(error);
     }
-    this.name = file.name;
-    history.replaceState(null, "", location.pathname + location.search);
-    this.address = "";
-    $("digits").value = "";
     $("expression").value = "";
-    document.title = `${file.name} · Packet headers`;
-    this.notice(found.count ? "" : `${file.name} has no packets. ${found.fault}`);
     $("ending").hidden = found.isWhole;
     $("ending").textContent = found.fault;
-    this.toggle({ packets: found.count > 0, frame: found.count > 0, selection: found.count > 0, empty: found.count === 0 });
-    this.select();
+    if (found.count) {
+      this.name = file.name;
+      this.toggle("frame");
+      return this.select();
+    }
+    this.showCapture();
+    this.title(file.name);
+    this.notice(`${file.name} has no packets. ${found.fault}`);
   }
 
   // ---- what is shown
 
+  // the capture that is open, with the packet that was chosen last; without one what the page is for
+  showCapture() {
+    if (this.list.indices.length) return this.list.choose(this.list.chosen);
+    this.leaveFrame();
+    this.toggle(this.name ? "" : "empty");
+    this.title(this.name);
+  }
+
+  leaveFrame() {
+    this.setAddress("");
+    $("digits").value = "";
+    this.notice("");
+  }
+
+  // one part of the page or none, beside the packets of the capture that is open
   toggle(shown) {
-    for (const id of ["empty", "packets", "frame", "selection"]) $(id).hidden = !shown[id];
-    document.body.classList.toggle("capture", Boolean(shown.packets));
+    for (const id of ["empty", "frame"]) $(id).hidden = id !== shown;
+    for (const id of ["packets", "selection"]) $(id).hidden = !this.name;
+    document.body.classList.toggle("capture", Boolean(this.name));
+  }
+
+  title(...parts) {
+    document.title = [...parts.filter(Boolean), "Packet headers"].join(" · ");
   }
 
   notice(text) {
@@ -204,24 +252,30 @@ class Page {
     const all = count(this.decoder.count, "packet");
     $("selected").textContent = expression ? `${found.selected.length.toLocaleString("en")} of ${all}` : all;
     this.list.show(found.selected);
-    $("frame").hidden = !found.selected.length;
-    this.list.choose(0);
+    this.showCapture();
   }
 
-  showPacket(index) {
+  choosePacket(index) {
+    this.leaveFrame();
+    this.toggle("frame");
     const packet = this.decoder.packet(index);
-    const about = [`Packet ${(index + 1).toLocaleString("en")}`, dayAndTime(packet).join(" "), count(packet.len, "byte")];
+    const number = (index + 1).toLocaleString("en");
+    const about = [`Packet ${number}`, dayAndTime(packet).join(" "), count(packet.len, "byte")];
     if (packet.len < packet.originalLen) about.push(`cut from ${count(packet.originalLen, "byte")}`);
     const frame = this.decoder.frameOf(index);
     about.push(LINK_TYPES[packet.linkType] ?? `link type ${packet.linkType}`);
     this.showFrame(frame, packet, about);
+    this.title(`${this.name}, packet ${number}`);
+    if (frame) $("about").append(" · ", this.link(frame));
   }
 
+  // shows a frame, and returns its headers
   showFrame(frame, packet, about) {
+    const read = readHeaders(this.decoder, frame, packet);
     $("about").replaceChildren(about.join(" · "));
-    this.frame.show(readHeaders(this.decoder, frame, packet));
+    this.frame.show(read);
     if (packet.linkType !== undefined && !(packet.linkType in LINK_TYPES)) $("about").append(" · headers of this link type are not read");
-    if (frame && this.name && !this.address) $("about").append(" · ", this.link(frame));
+    return read;
   }
 
   // the frame's own address

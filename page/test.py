@@ -230,6 +230,105 @@ def test_input(page):
     check("no digits", "hexadecimal" in page.evaluate("document.querySelector('#notice').innerText"))
 
 
+ADDRESS = "location.hash"
+CLICK_LINK = "document.querySelector('#about a').click()"
+ROWS_AND_CHOSEN = "[document.querySelectorAll('.row').length, [...document.querySelectorAll('.row[aria-selected=true]')].map(row => row.dataset.row)]"
+
+
+def state(page):
+    """What the page shows: how many rows with those that are selected, the headers' names, the title and the address."""
+    return [page.evaluate(ROWS_AND_CHOSEN), [header[0] for header in tree(page)], page.evaluate("document.title"), page.evaluate(ADDRESS)]
+
+
+def go(page, action, *words):
+    """Does what changes the page's address, and waits until the page has seen it."""
+    page.evaluate("window.gone = new Promise(done => { addEventListener('hashchange', () => setTimeout(done), {once: true}); setTimeout(done, 10000); }); 0")
+    action(*words)
+    page.evaluate("window.gone")
+
+
+def back(page, steps=-1):
+    """The browser's Back, or Forward."""
+    go(page, page.evaluate, f"history.go({steps})")
+
+
+def type_digits(page, text):
+    """Types into the field for a frame, a digit at a time."""
+    page.evaluate("document.querySelector('#digits').focus()")
+    for digit in text:
+        page.write(digit)
+
+
+def test_beside(page, folder):
+    """A frame is shown beside the capture that is open, and Back leads to the packet that was chosen."""
+    page.open(INDEX)
+    drop(page, folder, "beside.pcap", classic(PACKETS))
+    page.click(".row:nth-child(2)")
+    packet = [[3, ["1"]], ["Ethernet II"], "beside.pcap, packet 2 · Packet headers", ""]
+    check("a packet", state(page) == packet, state(page))
+    type_digits(page, CUT[0])
+    check("one digit", state(page) == packet, state(page))
+    type_digits(page, CUT[1:])
+    frame = [[3, []], ["Ethernet II"], "Frame of 15 bytes: not read further · beside.pcap · Packet headers", f"#eth:{CUT}"]
+    check("a typed frame", state(page) == frame, state(page))
+    back(page)
+    check("Back from a typed frame", state(page) == packet, state(page))
+    check("Back empties the field", page.evaluate("document.querySelector('#digits').value") == "")
+    back(page, 1)
+    check("Forward to it", state(page) == frame, state(page))
+    go(page, page.evaluate, CLICK_LINK)
+    check("back to the capture", state(page) == packet, state(page))
+    check("the list has the focus", page.evaluate("document.activeElement.id") == "list", page.evaluate("document.activeElement.id"))
+    page.press("ArrowUp")
+    first = [[3, ["0"]], ["Ethernet II", "VLAN tag", "ARP"], "beside.pcap, packet 1 · Packet headers", ""]
+    check("another packet", state(page) == first, state(page))
+    go(page, page.evaluate, CLICK_LINK)
+    linked = [[3, []], first[1], "Frame of 46 bytes: VLAN 291 › ARP · beside.pcap · Packet headers", f"#eth:{ARP_IN_VLAN}"]
+    check("the link to a frame", state(page) == linked, state(page))
+    page.click(".row:nth-child(3)")
+    third = [[3, ["2"]], ["Ethernet II", "VLAN tag"], "beside.pcap, packet 3 · Packet headers", ""]
+    check("a packet after a frame", state(page) == third, state(page))
+    back(page)
+    check("Back to the frame", state(page) == linked, state(page))
+    back(page)
+    check("Back to the capture", state(page) == third, state(page))
+
+
+def test_beside_selection(page, folder):
+    """A frame beside packets that are selected, and another capture after it."""
+    page.open(f"{INDEX}#eth:{IPV4}")
+    alone = [[0, []], ["Ethernet II"], "Frame of 16 bytes: IPv4 · Packet headers", f"#eth:{IPV4}"]
+    check("a frame alone", state(page) == alone, state(page))
+    drop(page, folder, "first.pcap", classic(PACKETS))
+    page.evaluate("document.querySelector('#expression').focus()")
+    page.write("cut")
+    type_digits(page, CUT)
+    check("beside a selection", page.evaluate("[...document.querySelectorAll('.row .number')].map(cell => cell.textContent)") == ["2", "3"])
+    back(page)
+    selected = [[2, ["0"]], ["Ethernet II"], "first.pcap, packet 2 · Packet headers", ""]
+    check("Back to a selection", state(page) == selected, state(page))
+    page.evaluate("document.querySelector('#expression').value = ''; document.querySelector('#expression').focus()")
+    page.write("ip6")
+    none, is_hidden = [[0, []], "first.pcap · Packet headers"], "document.querySelector('#frame').hidden"
+    check("none selected", state(page)[0::2] == none and page.evaluate(is_hidden), state(page))
+    type_digits(page, CUT)
+    check("a frame beside none", state(page)[0] == [0, []] and not page.evaluate(is_hidden), state(page))
+    back(page)
+    check("Back to none", state(page)[0::2] == none and page.evaluate(is_hidden), state(page))
+    type_digits(page, CUT)
+    drop(page, folder, "second.pcap", classic(PACKETS[1:2]))
+    second = [[1, ["0"]], ["Ethernet II"], "second.pcap, packet 1 · Packet headers", ""]
+    check("another capture", state(page) == second, state(page))
+    back(page)
+    before = [[1, []], ["Ethernet II"], "Frame of 15 bytes: not read further · second.pcap · Packet headers", f"#eth:{CUT}"]
+    check("Back to the frame before it", state(page) == before, state(page))
+    page.evaluate("document.querySelector('#digits').value = ''; document.querySelector('#digits').dispatchEvent(new Event('input'))")
+    check("an empty field", state(page) == second, state(page))
+    drop(page, folder, "none.pcap", b"no capture")
+    parts = page.evaluate("[...document.querySelectorAll('main section')].map(part => part.hidden)")
+    check("no capture", state(page)[2:] == ["none.pcap · Packet headers", ""] and parts == [False, True, True], (state(page), parts))
+
+
 def accessible(page):
     """The roles and names of what the accessibility tree has."""
     nodes = page.call("Accessibility.getFullAXTree")["nodes"]
@@ -253,8 +352,8 @@ def test_accessible(page, folder):
     page.call("Page.setInterceptFileChooserDialog", enabled=False)
     drop(page, folder, "accessible.pcap", classic(PACKETS))
     found = accessible(page)
-    for control in [("listbox", "Packets"), ("region", "Headers"), ("region", "Bytes"), ("textbox", "An expression that selects packets"),
-                    ("link", "link to this frame")]:
+    for control in [("RootWebArea", "accessible.pcap, packet 1 · Packet headers"), ("listbox", "Packets"), ("region", "Headers"), ("region", "Bytes"),
+                    ("textbox", "An expression that selects packets"), ("link", "link to this frame")]:
         check(f"the {control[0]} {control[1]}", control in found, found)
     rows = [name for role, name in found if role == "option"][-3:]
     check("the packets", rows == [" ".join(row[:1] + row[2:]) for row in ROWS], rows)
@@ -345,7 +444,7 @@ def test_against_tshark(page, folder):
 
 
 def pictures(page, target, folder):
-    states = {"empty": "", "fault": EXAMPLES[3][1], "capture": None}
+    states = {"empty": "", "fault": EXAMPLES[3][1], "capture": None, "beside": None}
     os.makedirs(target, exist_ok=True)
     for width, height, size in [(1280, 800, "wide"), (320, 720, "narrow")]:
         page.resize(width, height)
@@ -356,6 +455,8 @@ def pictures(page, target, folder):
                 if address is None:
                     drop(page, folder, "capture.pcap", classic(PACKETS * 20))
                     page.point("#headers details:nth-child(2) li:nth-child(3)")
+                if state == "beside":
+                    type_digits(page, CUT)
                 page.picture(f"{target}/{state}-{scheme}-{size}.png")
 
 
@@ -379,8 +480,8 @@ def main():
     else:
         with Page() as page, tempfile.TemporaryDirectory() as folder:
             test_examples(page)
-            for test in [test_captures, test_links, test_keys_and_marks, test_selection, test_accessible, test_many, test_narrow,
-                         test_against_tshark]:
+            for test in [test_captures, test_links, test_keys_and_marks, test_selection, test_beside, test_beside_selection, test_accessible,
+                         test_many, test_narrow, test_against_tshark]:
                 test(page, folder)
             for test in [test_input, test_old_browser, test_silence]:
                 test(page)
