@@ -119,7 +119,8 @@ class FrameView {
       className: kinds[index], textContent: byte.toString(16).padStart(2, "0"),
     }));
     this.cells.forEach((cell, index) => { cell.dataset.at = index; });
-    this.dump.replaceChildren(...this.cells);
+    this.dump.replaceChildren();
+    this.cells.forEach((cell) => this.dump.append(cell));
     if (this.shownLen < this.read.len) {
       const more = element("button", { type: "button", textContent: `Show all ${count(this.read.len, "byte")}` });
       more.addEventListener("click", () => { this.shownLen = this.read.len; this.showBytes(); });

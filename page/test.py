@@ -242,7 +242,10 @@ def state(page):
 
 def go(page, action, *words):
     """Does what changes the page's address, and waits until the page has seen it."""
-    page.evaluate("window.gone = new Promise(done => { addEventListener('hashchange', () => setTimeout(done), {once: true}); setTimeout(done, 10000); }); 0")
+    page.evaluate("""window.gone = new Promise(done => {
+        addEventListener('hashchange', () => setTimeout(done), {once: true});
+        setTimeout(done, 10000);
+    }); 0""")
     action(*words)
     page.evaluate("window.gone")
 
@@ -384,6 +387,15 @@ def test_many(page, folder):
     print(f"page: 100,000 packets: first row after {took:.0f} ms, selected after {(time.monotonic() - begin) * 1000:.0f} ms")
 
 
+def test_long(page, folder):
+    """All bytes of a long packet."""
+    page.open(INDEX)
+    drop(page, folder, "long.pcap", classic([(1700000000, bytes.fromhex(IPV4) + bytes(200_000), 200_016)]))
+    page.evaluate("document.querySelector('#dump button').click()")
+    shown = page.evaluate("[document.querySelectorAll('#dump span').length, document.querySelector('#dump button') === null]")
+    check("a long packet", shown == [200_016, True], shown)
+
+
 def test_old_browser(page):
     told = page.call("Page.addScriptToEvaluateOnNewDocument",
                      source="WebAssembly.instantiate = () => Promise.reject(new WebAssembly.CompileError('memory64'));")
@@ -481,7 +493,7 @@ def main():
         with Page() as page, tempfile.TemporaryDirectory() as folder:
             test_examples(page)
             for test in [test_captures, test_links, test_keys_and_marks, test_selection, test_beside, test_beside_selection, test_accessible,
-                         test_many, test_narrow, test_against_tshark]:
+                         test_many, test_long, test_narrow, test_against_tshark]:
                 test(page, folder)
             for test in [test_input, test_old_browser, test_silence]:
                 test(page)
