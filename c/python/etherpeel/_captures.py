@@ -33,8 +33,9 @@ class Captured(NamedTuple):
 
     @property
     def start(self) -> Optional[Start]:
-        """What the packet begins with, None if the walk does not begin with that. An Ethernet frame that was not cut has a
-        frame check sequence if the file gives it 4 bytes."""
+        """What the packet begins with, None if the walk does not begin with that, as with a header of Linux cooked capture v2:
+        `captured_frame` knows this one too. An Ethernet frame that was not cut has a frame check sequence if the file gives it
+        4 bytes."""
         start = start_of_link_type(self.link_type)
         if start == Start.ETHERNET2 and self.fcs_len == 4 and len(self.packet) == self.original_len:
             return Start.ETHERNET2_FCS
