@@ -11,14 +11,19 @@
 #include <sys/stat.h>
 #include <unistd.h>
 
-/* The bytes of a file, NULL if it can't be mapped: errno says why. */
-static const uint8_t *mapped(const char *path, size_t *len) {
+/* The bytes of a file, NULL if it can't be mapped, with the reason. */
+static const uint8_t *mapped(const char *path, size_t *len, const char **reason) {
     struct stat about;
     const int file = open(path, O_RDONLY);
-    if (file < 0 || fstat(file, &about) != 0) return NULL;
-    *len = (size_t)about.st_size;
-    if (*len == 0) return (const uint8_t *)""; /* mmap refuses an empty file */
-    void *bytes = mmap(NULL, *len, PROT_READ, MAP_PRIVATE, file, 0);
+    void *bytes = MAP_FAILED;
+    if (file >= 0 && fstat(file, &about) == 0) {
+        *len = (size_t)about.st_size;
+        *reason = "not a file on disk";
+        if (!S_ISREG(about.st_mode)) return NULL;
+        if (*len == 0) return (const uint8_t *)""; /* mmap refuses an empty file */
+        bytes = mmap(NULL, *len, PROT_READ, MAP_PRIVATE, file, 0);
+    }
+    *reason = strerror(errno);
     return bytes == MAP_FAILED ? NULL : bytes;
 }
 
@@ -36,13 +41,14 @@ int main(int argc, char **argv) {
     static size_t counts[4096];
     etherpeel_capture_end end;
     size_t len, found;
+    const char *reason;
     if (argc != 2) {
         fprintf(stderr, "usage: vlans f.pcap\n");
         return 2;
     }
-    const uint8_t *file = mapped(argv[1], &len);
+    const uint8_t *file = mapped(argv[1], &len, &reason);
     if (file == NULL) {
-        fprintf(stderr, "%s: %s\n", argv[1], strerror(errno));
+        fprintf(stderr, "%s: %s\n", argv[1], reason);
         return 1;
     }
     etherpeel_capture(file, len, NULL, 0, &found, &end);

@@ -126,6 +126,8 @@ def main():
     with tempfile.TemporaryDirectory() as where:
         them = list(files(where))
         told = [line for it in them for line in compared(*it)]
+        check("a folder", [ran(vlans, where), ran(sys.executable, f"{EXAMPLES}/vlans.py", where)],
+              [(1, [], [f"{where}: {reason}"]) for reason in ("not a file on disk", "Is a directory")])
         check("usage", [ran(vlans), ran(sys.executable, f"{EXAMPLES}/vlans.py")],
               [(2, [], ["usage: vlans f.pcap"]), (2, [], ["usage: vlans.py f.pcap"])])
         if dask:
