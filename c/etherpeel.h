@@ -252,7 +252,9 @@ enum etherpeel_filter_error_kind {
     /* The text ends before the `)` of a `(`. */
     ETHERPEEL_FILTER_UNCLOSED = 9,
     /* There are more than 192 words. */
-    ETHERPEEL_FILTER_TOO_LONG = 10
+    ETHERPEEL_FILTER_TOO_LONG = 10,
+    /* After `vlan`: a number that is not greater than `greatest`, `and`, `or`, `)` or the end of the text is expected. */
+    ETHERPEEL_FILTER_VLAN_ID_OR_OPERATOR = 11
 };
 
 /* The name of a field, in the words of the standard of its header. */
@@ -487,7 +489,7 @@ typedef struct etherpeel_linux_sll2_header {
 typedef struct etherpeel_filter_error {
     size_t offset; /* where the first word that fits nothing begins, or the length of the text */
     uint32_t kind; /* enum etherpeel_filter_error_kind */
-    uint32_t greatest; /* the greatest number that fits, of ETHERPEEL_FILTER_NUMBER, else 0 */
+    uint32_t greatest; /* the greatest number that fits, 0 if none does */
 } etherpeel_filter_error;
 
 /* Why a header is not replaced. */

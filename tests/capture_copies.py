@@ -88,7 +88,7 @@ COPIES += [
     Copy("headers of the packets that match", [CUT, "--select", "not refused"], CLASSIC, CLASSIC[:24] + CUT_CLASSIC[58:]),
     Copy("a packet with options", [CUT], LONG_PACKET, CUT_LONG_PACKET),
     Copy("a simple packet that can't be cut", [CUT], NO_PACKETS + CUT_PACKET + LONG_SIMPLE + CUT_PACKET, NO_PACKETS + CUT_PACKET,
-         f"byte {len(NO_PACKETS) + 48}: This packet can't be edited: its block has no number of captured bytes, or it would be too long.\n", 3),
+         f"byte {len(NO_PACKETS) + 48}: This packet can't be written: its block has no number of captured bytes, or it would be too long.\n", 3),
     Copy("one that is left out", [CUT, "--select", "refused"], NO_PACKETS + LONG_SIMPLE + CUT_PACKET, NO_PACKETS + CUT_PACKET),
     Copy("one that is not reached", [CUT, "-c", "1"], NO_PACKETS + CUT_PACKET + LONG_SIMPLE, NO_PACKETS + CUT_PACKET),
 ]
@@ -115,7 +115,7 @@ TAGGED_OBSOLETE = SECTION_HEADER + ETHERNET + joined(
 POPPED_OBSOLETE = SECTION_HEADER + ETHERNET + joined(
     "02000000 30000000 0000 0007 240a0600 40222018 0e000000 0e000000 ffffffffffff 3aeeb62ff6d7 0800 0000 30000000")
 BEFORE_SIMPLE = SECTIONS[:SECTIONS.index(SIMPLE)]
-NOT_EDITED = "This packet can't be edited: its block has no number of captured bytes, or it would be too long.\n"
+NOT_EDITED = "This packet can't be written: its block has no number of captured bytes, or it would be too long.\n"
 COPIES += [
     Copy("a tag less in a classic file", [POP], CLASSIC, POPPED_CLASSIC),
     Copy("a tag less in the packets that match", [POP, "--select", "vlan 291"], CLASSIC, CLASSIC[:24] + POPPED_CLASSIC[55:]),

@@ -5,6 +5,7 @@
 PROGRAM is the built program. The captures were written by hand and checked with tshark. The last line is 'N passed, M failed'.
 """
 
+import bz2
 import gzip
 import os
 import subprocess
@@ -57,6 +58,10 @@ CASES = [
     Case("another magic number", [], CLASSIC[4:], "byte 0: The magic number 0x00020004 is not that of a pcap file.\n", 3),
     Case("a packed capture", [], gzip.compress(CLASSIC, mtime=0),
          "byte 0: The magic number 0x1F8B0800 is not that of a pcap file. This looks like gzip: zcat unpacks it.\n", 3),
+    Case("a capture packed by bzip2", [], bz2.compress(CLASSIC),
+         "byte 0: The magic number 0x425A6839 is not that of a pcap file. This looks like bzip2: bzcat unpacks it.\n", 3),
+    Case("one packed by lz4", [], joined("04224d18") + CLASSIC,
+         "byte 0: The magic number 0x04224D18 is not that of a pcap file. This looks like lz4: lz4cat unpacks it.\n", 3),
     Case("a variant of pcap", [], joined("a1b2cd34") + CLASSIC[4:],
          "byte 0: The magic number 0xA1B2CD34 is not that of a pcap file. This is a variant of pcap: editcap converts it.\n", 3),
     Case("an older version", [], joined("a1b2c3d4 0002 0003") + CLASSIC[8:],
@@ -175,6 +180,7 @@ CASES += [
     Case("netlink, which no filter selects", ["--select", "not arp"], cooked("0010 0000 00000002 0338 04 00 0000000000000000 14000000"),
          "total frames 1 skipped 0\n", 0),
     Case("no expression", ["--select", "vlan 4096"], CLASSIC, "--select: At byte 5: expected a number up to 4095.\n", 2),
+    Case("a word after vlan", ["--select", "vlan abc"], CLASSIC, "--select: At byte 5: expected a number up to 4095, `and`, `or`, `)` or the end.\n", 2),
     Case("and beside or", ["--select", "arp and ip or vlan"], CLASSIC,
          "--select: At byte 11: `and` and `or` can be mixed only with parentheses.\n", 2),
     Case("options in another order", ["--select", "refused", "--plain"], CLASSIC, plain(FIRST_LINES), 1),

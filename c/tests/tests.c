@@ -707,6 +707,8 @@ static void selecting(void) {
     CHECK(error.offset == 5 && error.kind == ETHERPEEL_FILTER_NUMBER && error.greatest == 4095);
     CHECK(etherpeel_select("vlan and", 8, &p, 1, matches, 2, &error) == ETHERPEEL_BAD_FILTER);
     CHECK(error.offset == 8 && error.kind == ETHERPEEL_FILTER_OPERAND && error.greatest == 0);
+    CHECK(etherpeel_select("vlan abc", 8, &p, 1, matches, 2, &error) == ETHERPEEL_BAD_FILTER);
+    CHECK(error.offset == 5 && error.kind == ETHERPEEL_FILTER_VLAN_ID_OR_OPERATOR && error.greatest == 4095);
     CHECK(etherpeel_select("vlan", 4, &p, 1, matches, 0, &error) == ETHERPEEL_NO_ROOM);
     CHECK(etherpeel_select(NULL, 0, NULL, 0, NULL, 0, &error) == ETHERPEEL_BAD_FILTER);
     CHECK(matches[0] == 9 && matches[1] == 9 && error.offset == 0);

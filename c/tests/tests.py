@@ -179,6 +179,8 @@ def filters():
     check("cut file", raised(next, found), etherpeel.CaptureError)
     for expression, expected in (("vlan 4096", (5, FilterErrorKind.NUMBER, 4095, "At byte 5: expected a number up to 4095.")),
                                  ("vlan and", (8, FilterErrorKind.OPERAND, None, "At byte 8: expected a primitive, `not` or `(`.")),
+                                 ("vlan abc", (5, FilterErrorKind.VLAN_ID_OR_OPERATOR, 4095,
+                                               "At byte 5: expected a number up to 4095, `and`, `or`, `)` or the end.")),
                                  ("", (0, FilterErrorKind.OPERAND, None, "At byte 0: expected a primitive, `not` or `(`."))):
         try:
             etherpeel.select(expression, packets)

@@ -202,7 +202,7 @@ def select(expression: str, packets: Iterable[Captured]) -> Iterator[Captured]:
     if lib.etherpeel_select(words, len(words), None, 0, None, 0, C.byref(error)) == Status.BAD_FILTER:
         kind = FilterErrorKind(error.kind)
         raise FilterError(text(lib.etherpeel_filter_error_text, words, len(words)), error.offset, kind,
-                          error.greatest if kind == FilterErrorKind.NUMBER else None)
+                          error.greatest if kind in (FilterErrorKind.NUMBER, FilterErrorKind.VLAN_ID_OR_OPERATOR) else None)
     return filter(lambda packet: _is_selected(words, packet), packets)
 
 

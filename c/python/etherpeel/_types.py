@@ -125,6 +125,8 @@ class FilterErrorKind(IntEnum):
     """The text ends before the `)` of a `(`."""
     TOO_LONG = 10
     """There are more than 192 words."""
+    VLAN_ID_OR_OPERATOR = 11
+    """After `vlan`: a number that is not greater than `greatest`, `and`, `or`, `)` or the end of the text is expected."""
 
 
 class FieldName(IntEnum):
@@ -447,7 +449,7 @@ class FilterError(Error):
         """Where the first word that fits nothing begins, or the length of the text, in bytes."""
         self.kind = kind
         self.greatest = greatest
-        """The greatest number that fits, of `FilterErrorKind.NUMBER`."""
+        """The greatest number that fits, of `FilterErrorKind.NUMBER` and `VLAN_ID_OR_OPERATOR`, else None."""
 
 
 class LinuxSll2Error(Error):

@@ -30,10 +30,12 @@ filter_error_number kinds.MixedOperators = 7
 filter_error_number kinds.Unopened = 8
 filter_error_number kinds.Unclosed = 9
 filter_error_number kinds.TooLong = 10
+filter_error_number kinds.ExpectedVlanIdOrOperator = 11
 
 -- the greatest number that is expected, 0 if none is
 abbrev pub greatest_expected : FilterErrorKind → ℕ
 greatest_expected (kinds.ExpectedNumber most) = most
+greatest_expected kinds.ExpectedVlanIdOrOperator = 4095
 greatest_expected _ = 0
 
 abbrev pub c_filter_error : FilterError → EtherFilterError

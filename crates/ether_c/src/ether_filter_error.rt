@@ -51,6 +51,7 @@ fn kind_number(kind: FilterErrorKind) -> u32
         FilterErrorKind::Unopened => 8,
         FilterErrorKind::Unclosed => 9,
         FilterErrorKind::TooLong => 10,
+        FilterErrorKind::ExpectedVlanIdOrOperator => 11,
     }
 }
 
@@ -60,6 +61,7 @@ fn greatest_expected(kind: FilterErrorKind) -> u32
 {
     match kind {
         FilterErrorKind::ExpectedNumber(most) => most,
+        FilterErrorKind::ExpectedVlanIdOrOperator => 4095,
         _ => 0,
     }
 }

@@ -38,14 +38,16 @@ usage_text = codes "usage: ether_capture [[--plain] [--limit N] | --write [--cut
 abbrev pub memory_text : List ℕ
 memory_text = codes "out of memory"
 
--- what reads a file with these first four bytes: gzip (RFC 1952), zstd (RFC 8878), xz, and the variant of pcap with longer records
+-- what reads a file with these first four bytes: gzip (RFC 1952), zstd (RFC 8878), xz, bzip2, lz4, and the variant of pcap with longer records
 abbrev pub magic_hint_text : ℕ → List ℕ
 magic_hint_text n =
     if nat_eq (n / 2 ^ 16) 8075 then codes " This looks like gzip: zcat unpacks it."
     else (if nat_eq n 682962941 then codes " This looks like zstd: zstdcat unpacks it."
     else (if nat_eq n 4248271448 then codes " This looks like xz: xzcat unpacks it."
+    else (if nat_eq (n / 2 ^ 8) 4348520 then codes " This looks like bzip2: bzcat unpacks it."
+    else (if nat_eq n 69356824 then codes " This looks like lz4: lz4cat unpacks it."
     else (if nat_eq n 2712849716 then codes " This is a variant of pcap: editcap converts it."
-    else (if nat_eq n 885895841 then codes " This is a variant of pcap: editcap converts it." else []))))
+    else (if nat_eq n 885895841 then codes " This is a variant of pcap: editcap converts it." else []))))))
 
 abbrev pub hint_text : CaptureError → List ℕ
 hint_text (errors.File (file_errors.Magic n)) = magic_hint_text n
@@ -57,10 +59,10 @@ fault_line_text fault = codes "byte " ++ (decimal fault.offset ++ (codes ": " ++
 
 abbrev pub not_edited_text : (offset : ℕ) → List ℕ
 not_edited_text offset =
-    codes "byte " ++ (decimal offset ++ (codes ": " ++ codes "This packet can't be edited: its block has no number of captured bytes, or it would be too long."))
+    codes "byte " ++ (decimal offset ++ (codes ": " ++ codes "This packet can't be written: its block has no number of captured bytes, or it would be too long."))
 
 abbrev pub help_text : List ℕ
-help_text = codes "usage: ether_capture [[--plain] [--limit N] | --write [--cut-to-headers | --pop-vlan | --push-vlan TPID:ID | --set-vlan A:B]] [--select EXPR] [-c N] [FILE]..\n\nPrints the link-layer headers of each packet of captures, pcap or pcapng: of each FILE, or of standard input.\n\n  --plain           leave out the lines of packets and the totals\n  --limit N         read N VLAN tags and SecTags of each packet at most\n  --select EXPR     only packets that match EXPR, in words of pcap-filter(7), as 'vlan 5 or arp'\n  -c N              end with the N-th of these packets, of all files together\n  --write           write the capture itself, of one FILE at most, without the other packets; faults go to standard error\n  --cut-to-headers  with --write, cut each packet where its link-layer headers end\n  --pop-vlan        with --write, take the VLAN tag after the link's header off each frame\n  --push-vlan TPID:ID\n                    with --write, put a VLAN tag after the link's header, as 0x8100:5\n  --set-vlan A:B    with --write, give the outermost VLAN tag with identifier A identifier B\n  -h, --help        print this text\n  -V, --version     print the version"
+help_text = codes "usage: ether_capture [[--plain] [--limit N] | --write [--cut-to-headers | --pop-vlan | --push-vlan TPID:ID | --set-vlan A:B]] [--select EXPR] [-c N] [FILE]..\n\nPrints the link-layer headers of each packet of captures, pcap or pcapng: of each FILE, or of standard input.\n\n  --plain           leave out the lines of packets and the totals\n  --limit N         read N VLAN tags and SecTags of each packet at most\n  --select EXPR     only packets that match EXPR, as 'vlan 5 or arp'\n  -c N              end with the N-th of these packets, of all files together\n  --write           write the capture itself, of one FILE at most, without the other packets; faults go to standard error\n  --cut-to-headers  with --write, cut each packet where its link-layer headers end\n  --pop-vlan        with --write, take the VLAN tag after the link's header off each frame\n  --push-vlan TPID:ID\n                    with --write, put a VLAN tag after the link's header, as 0x8100:5\n  --set-vlan A:B    with --write, give the outermost VLAN tag with identifier A identifier B\n  -h, --help        print this text\n  -V, --version     print the version\n\nEXPR has these primitives, with not, and, or and parentheses:\n\n  vlan [ID], outer vlan ID, inner vlan ID, macsec, arp, ip, ip6\n  ether proto TYPE, ether src ADDR, ether dst ADDR, ether host ADDR\n  ether broadcast, ether multicast, less N, greater N, cut, refused\n\nEach says something of all headers of a packet: arp is true after any tags, too."
 
 abbrev pub version_text : List ℕ
 version_text = codes "ether_capture 1.0"

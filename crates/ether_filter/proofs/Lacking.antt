@@ -1,5 +1,5 @@
 -- What is missing where a word or the end doesn't fit.
-use Rattle.std.proofs.Common.{◌≡◌, ℕ, ◌+◌, ◌<◌, ◌≤◌, List, [], ◌∷◌, ◌++◌, refl, ap, subst, ◌∙◌, inl, inr, nat_lt, arith}
+use Rattle.std.proofs.Common.{◌≡◌, ℕ, ◌+◌, ◌<◌, ◌≤◌, List, [], ◌∷◌, ◌++◌, refl, sym, ap, subst, ◌∙◌, inl, inr, nat_lt, arith}
 use Rattle.std.specs.Prelude.{Ok, Err, Option, Some, None, ◌⊎◌}
 use Rattle.std.proofs.lemmas.Bool.{cases_lt, le-ltb, lt-ltb, ltb-false}
 use Rattle.ether_filter.specs.declared.node.Operator.{Operator}
@@ -36,7 +36,10 @@ kind_after (Some t) = kinds.ExpectedOperator
 
 abbrev pub kind_after_vlan : Option Token → FilterErrorKind
 kind_after_vlan (Some (tokens.Number n)) = kinds.ExpectedNumber 4095
-kind_after_vlan next = kind_after next
+kind_after_vlan None = kinds.Unclosed
+kind_after_vlan (Some (tokens.Join operator)) = kinds.MixedOperators
+kind_after_vlan (Some tokens.Close) = kinds.Unopened
+kind_after_vlan (Some t) = kinds.ExpectedVlanIdOrOperator
 
 -- by what is awaited, and what comes
 abbrev pub kind_at : Awaited → Option Token → FilterErrorKind
@@ -90,7 +93,9 @@ id_kind : (s : State) (t : Token) (kind : FilterErrorKind) → s.awaited ≡ awa
     → kind ≡ kind_after_vlan (Some t)
 id_kind s (tokens.Number n) kind a is = stepped_kind s (next_step (awaits.Number numbers.VlanId) (tokens.Number n))
     kind is ∙ ap kind_of a
-id_kind s t kind a is = operator_kind (completed s primitives.Vlan) t kind is
+id_kind s (tokens.Join operator) kind a is = operator_kind (completed s primitives.Vlan) (tokens.Join operator) kind is
+id_kind s tokens.Close kind a is = operator_kind (completed s primitives.Vlan) tokens.Close kind is
+id_kind s t kind a is = cc
 
 taken_kind_at : (a : Awaited) (ns : List Node) (p : List Pending) (t : Token) (kind : FilterErrorKind)
     → taken_where a (record { nodes = ns; pending = p; awaited = a }) t ≡ Err kind → kind ≡ kind_at a (Some t)
@@ -159,7 +164,7 @@ after_lacks ts None after none = rows.unclosed after
 after_lacks ts (Some (tokens.Join operator)) after none = rows.mixed operator after
 after_lacks ts (Some tokens.Close) after none = rows.unopened after
 after_lacks ts (Some (tokens.Number n)) after none = rows.no_number n after none
-after_lacks ts (Some t) after none = rows.operator t after tt
+after_lacks ts (Some t) after none = rows.operator t after none tt
 
 vlan_lacks : (ts : List Token) (next : Option Token) → IsAfterOperand ts → Fits ts (tokens.Number (Some 4095))
     → Lacks ts next (kind_after_vlan next)
@@ -167,7 +172,7 @@ vlan_lacks ts None after fits = rows.unclosed after
 vlan_lacks ts (Some (tokens.Join operator)) after fits = rows.mixed operator after
 vlan_lacks ts (Some tokens.Close) after fits = rows.unopened after
 vlan_lacks ts (Some (tokens.Number n)) after fits = rows.vlan_id n after fits
-vlan_lacks ts (Some t) after fits = rows.operator t after tt
+vlan_lacks ts (Some t) after fits = rows.id_or_operator t after fits tt
 
 -- a number up to the greatest one is taken, and no other
 number_taken : (of : Numbered) (s : State) (n : ℕ) → n ≤ most_of of
@@ -312,12 +317,21 @@ plain next same a either = elim either [
   | inr vlan ↦ rw vlan same
 ]
 
-other_row : (t : Token) → IsOther t → (a : Awaited) → (a ≡ awaits.Operator) ⊎ (a ≡ awaits.VlanId)
-    → kinds.ExpectedOperator ≡ kind_at a (Some t)
-other_row (tokens.Join operator) other a either = absurd other
-other_row tokens.Close other a either = absurd other
-other_row (tokens.Number n) other a either = absurd other
-other_row t other a either = plain (Some t) refl a either
+-- .. and what is no operator, another one, and another after `vlan`
+other_kind : (t : Token) → IsOther t
+    → (kind_after (Some t) ≡ kinds.ExpectedOperator) × (kind_after_vlan (Some t) ≡ kinds.ExpectedVlanIdOrOperator)
+other_kind (tokens.Join operator) other = absurd other
+other_kind tokens.Close other = absurd other
+other_kind (tokens.Number n) other = absurd other
+other_kind t other = (refl, refl)
+
+id_or_operator_row : (a : Awaited) (s : State) (operator : Operator) (t : Token) → IsOther t
+    → Takes a s (tokens.Join operator) → Takes a s (tokens.Number (Some 4095))
+    → kinds.ExpectedVlanIdOrOperator ≡ kind_at a (Some t)
+id_or_operator_row awaits.VlanId s operator t other at number = sym (other_kind t other).1
+id_or_operator_row awaits.Operator s operator t other at (u, is) = absurd cc
+id_or_operator_row awaits.Operand s operator t other (u, is) number = absurd cc
+id_or_operator_row a s operator t other (u, is) number = absurd cc
 
 -- the tokens that fit are taken
 takes : (ts : List Token) (s : State) (t : Token) → Reaches ts s → Fits ts t → Takes s.awaited s t
@@ -360,8 +374,14 @@ row_kind ts s next kind reaches (rows.no_number n after none) =
     after_row s.awaited s after.operator (Some (tokens.Number n))
     (takes ts s (tokens.Join after.operator) reaches after.fits)
     (untaken ts s (tokens.Number (Some 4095)) reaches none)
-row_kind ts s next kind reaches (rows.operator t after other) = other_row t other s.awaited
-    (after_at ts s reaches after)
+row_kind ts s next kind reaches (rows.operator t after none other) =
+    sym (other_kind t other).0
+    ∙ after_row s.awaited s after.operator (Some t) (takes ts s (tokens.Join after.operator) reaches after.fits)
+    (untaken ts s (tokens.Number (Some 4095)) reaches none)
+row_kind ts s next kind reaches (rows.id_or_operator t after fits other) =
+    id_or_operator_row s.awaited s after.operator t other
+    (takes ts s (tokens.Join after.operator) reaches after.fits)
+    (takes ts s (tokens.Number (Some 4095)) reaches fits)
 row_kind ts s next kind reaches (rows.mixed operator after) = plain (Some (tokens.Join operator)) refl s.awaited
     (after_at ts s reaches after)
 row_kind ts s next kind reaches (rows.unopened after) = plain (Some tokens.Close) refl s.awaited

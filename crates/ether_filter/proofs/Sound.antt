@@ -364,7 +364,11 @@ id_was : (p : List Pending) (ns : List Node) (ts : List Token) (t : Token) → W
 id_was p ns ts (tokens.Number n) w = within_was awaits.VlanId p ns ts (tokens.Number n)
     (next_step (awaits.Number numbers.VlanId) (tokens.Number n)) w
     (λ words b. next_means (awaits.Number numbers.VlanId) (tokens.Number n) words b)
-id_was p ns ts t w = operator_was (closed (ns ++ nodes.Test primitives.Vlan ∷ []) p) ts t (vlan_follows p ns ts w)
+id_was p ns ts (tokens.Join operator) w =
+    operator_was (closed (ns ++ nodes.Test primitives.Vlan ∷ []) p) ts (tokens.Join operator) (vlan_follows p ns ts w)
+id_was p ns ts tokens.Close w =
+    operator_was (closed (ns ++ nodes.Test primitives.Vlan ∷ []) p) ts tokens.Close (vlan_follows p ns ts w)
+id_was p ns ts t w = tt
 
 pub taken_was : (a : Awaited) (p : List Pending) (ns : List Node) (ts : List Token) (t : Token) → WasRead a p ns ts
     → Goes (taken_where a (record { nodes = ns; pending = p; awaited = a }) t) (ts ++ t ∷ [])

@@ -8,6 +8,7 @@ use Rattle.ether_filter.specs.declared.filter_error.FilterErrorKind.TheVariants 
 abbrev pub kind_text : FilterErrorKind → List ℕ
 kind_text kinds.ExpectedOperand = codes "expected a primitive, `not` or `(`."
 kind_text kinds.ExpectedOperator = codes "expected `and`, `or`, `)` or the end."
+kind_text kinds.ExpectedVlanIdOrOperator = codes "expected a number up to 4095, `and`, `or`, `)` or the end."
 kind_text kinds.ExpectedVlan = codes "expected `vlan`."
 kind_text kinds.ExpectedEtherWord = codes "expected `proto`, `src`, `dst`, `host`, `broadcast` or `multicast`."
 kind_text kinds.ExpectedAddress = codes "expected an address, as 02:00:5e:10:00:01."

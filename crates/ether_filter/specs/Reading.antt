@@ -86,7 +86,9 @@ operand_taken s token = stepped s (first_step token)
 
 abbrev pub id_taken : State → Token → Outcome
 id_taken s (tokens.Number n) = stepped s (next_step (awaits.Number numbers.VlanId) (tokens.Number n))
-id_taken s token = operator_taken (completed s primitives.Vlan) token
+id_taken s (tokens.Join operator) = operator_taken (completed s primitives.Vlan) (tokens.Join operator)
+id_taken s tokens.Close = operator_taken (completed s primitives.Vlan) tokens.Close
+id_taken s _ = Err kinds.ExpectedVlanIdOrOperator
 
 abbrev pub taken_where : Awaited → State → Token → Outcome
 taken_where awaits.Operand s token = operand_taken s token

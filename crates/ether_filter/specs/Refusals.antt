@@ -45,7 +45,8 @@ pub data Lacks (ts : List Token) : Option Token → FilterErrorKind → Type 0 w
       → Lacks ts next (kinds.ExpectedNumber most)
   vlan_id : (n : Option ℕ) → IsAfterOperand ts → Fits ts (tokens.Number (Some 4095)) → Lacks ts (Some (tokens.Number n)) (kinds.ExpectedNumber 4095)
   no_number : (n : Option ℕ) → IsAfterOperand ts → (Fits ts (tokens.Number (Some 4095)) → ⊥) → Lacks ts (Some (tokens.Number n)) kinds.ExpectedOperator
-  operator : (t : Token) → IsAfterOperand ts → IsOther t → Lacks ts (Some t) kinds.ExpectedOperator
+  operator : (t : Token) → IsAfterOperand ts → (Fits ts (tokens.Number (Some 4095)) → ⊥) → IsOther t → Lacks ts (Some t) kinds.ExpectedOperator
+  id_or_operator : (t : Token) → IsAfterOperand ts → Fits ts (tokens.Number (Some 4095)) → IsOther t → Lacks ts (Some t) kinds.ExpectedVlanIdOrOperator
   mixed : (operator : Operator) → IsAfterOperand ts → Lacks ts (Some (tokens.Join operator)) kinds.MixedOperators
   unopened : IsAfterOperand ts → Lacks ts (Some tokens.Close) kinds.Unopened
   unclosed : IsAfterOperand ts → Lacks ts None kinds.Unclosed
