@@ -27,6 +27,13 @@ for file in mixed small; do
     python3 "$here/../tool/race.py" "$work/$file.pcap" "$@" 2> /dev/null
 done
 
+echo "-- a block of 15 MiB in pieces of 4 KiB"
+set -- "write=$program --write" "plain=$program --plain"
+if command -v tcpdump > /dev/null 2>&1; then
+    set -- "$@" "copy=$(command -v tcpdump) -r - -w /dev/null"
+fi
+python3 "$here/pieces.py" "$@"
+
 if command -v valgrind > /dev/null 2>&1; then
     python3 "$here/make.py" "$work" 10 > "$work/counts"
     for file in mixed small; do

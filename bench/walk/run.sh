@@ -15,7 +15,9 @@ rt lib > "$room/lib.log" 2>&1 || { tail -n 30 "$room/lib.log"; exit 1; }
 gcc -O3 -march=x86-64-v2 -Wall -Wextra -o "$room/walk" "$here/walk.c" out/libwalk_bench.a
 
 count() {
-    valgrind --tool=callgrind --callgrind-out-file=/dev/null --toggle-collect="$1" "$room/walk" "$2" "$3" 2>&1 | awk '/Collected/ {print $4 / 4096}'
+    frames=4096
+    [ "$2" != 6 ] || frames=64
+    valgrind --tool=callgrind --callgrind-out-file=/dev/null --toggle-collect="$1" "$room/walk" "$2" "$3" 2>&1 | awk -v frames="$frames" '/Collected/ {print $4 / frames}'
 }
 
 for set in 0 1 2 3 4 5 6; do

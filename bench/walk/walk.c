@@ -114,21 +114,21 @@ int main(int argc, char **argv) {
   static const char *names[] = {"mixed", "plain", "one to three tags", "one or two SecTags", "ARP", "cut short", "500 tags"};
   static const over calls[] = {port_walks, port_limited_walks, port_summaries, hand_walks, hand_summaries, port_feeds};
   int timed = argc > 2 && !strcmp(argv[1], "time"), bad = 0;
-  enum { COUNT = 4096 };
+  enum { COUNT = 4096, STACK_COUNT = 64 }; /* a walk through 500 tags takes as long as a hundred others */
   u8 *bytes = malloc(COUNT * (size_t)STACK_LEN);
   u32 *ends = malloc(COUNT * sizeof *ends);
   if (argc < 3) return 2;
   for (int set = MIXED; set <= STACKS; set++) {
     char name[64];
-    size_t len = 0;
-    for (int i = 0; i < COUNT; i++) { len += frame(bytes + len, set); ends[i] = (u32)len; }
-    if (!timed && set == atoi(argv[1])) return calls[atoi(argv[2])](bytes, len, ends, COUNT) == 1;
+    size_t len = 0, count = set == STACKS ? STACK_COUNT : COUNT;
+    for (size_t i = 0; i < count; i++) { len += frame(bytes + len, set); ends[i] = (u32)len; }
+    if (!timed && set == atoi(argv[1])) return calls[atoi(argv[2])](bytes, len, ends, count) == 1;
     if (!timed) continue;
-    bad += race(names[set], port_walks, hand_walks, bytes, len, ends, COUNT, atoi(argv[2]));
+    bad += race(names[set], port_walks, hand_walks, bytes, len, ends, count, atoi(argv[2]));
     snprintf(name, sizeof name, "%s, limit", names[set]);
-    bad += race(name, port_limited_walks, hand_walks, bytes, len, ends, COUNT, atoi(argv[2]));
+    bad += race(name, port_limited_walks, hand_walks, bytes, len, ends, count, atoi(argv[2]));
     snprintf(name, sizeof name, "%s, summary", names[set]);
-    bad += race(name, port_summaries, hand_summaries, bytes, len, ends, COUNT, atoi(argv[2]));
+    bad += race(name, port_summaries, hand_summaries, bytes, len, ends, count, atoi(argv[2]));
   }
   return bad != 0;
 }
