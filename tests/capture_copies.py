@@ -7,7 +7,7 @@ import tempfile
 from dataclasses import dataclass
 
 from captures import (
-    CLASSIC, COOKED, CUT_PACKET, ETHERNET, FAILED, OBSOLETE, SECTIONS, SECTION_HEADER, SELECTED, SIX, TAGGED_V2, UNKNOWN,
+    CLASSIC, COOKED, CUT_PACKET, DISK_IS_FULL, ETHERNET, NOT_READ, NO_FILE, OBSOLETE, SECTIONS, SECTION_HEADER, SELECTED, SIX, TAGGED_V2, UNKNOWN,
     WITH_FCS, block, classic, cooked, frame, interface, joined, long_record, record_is_cut, secrets,
 )
 from programs import on_a_full_disk, run_until_a_fault
@@ -50,7 +50,7 @@ COPIES += [
     Copy("another magic number", [], CLASSIC[4:], b"", "byte 0: The magic number 0x00020004 is not that of a pcap file.\n", 3),
     Copy("a long block with another length", [], secrets(100_000, 99_996), secrets(100_000, 99_996)[:96],
          "byte 96: A block of a pcapng file begins with length 100000 and ends with 99996.\n", 3),
-    Copy("a file that is not there", ["no/such.pcap"], CLASSIC, b"", "no/such.pcap: can't be opened\n" + FAILED[0], 4),
+    Copy("a file that is not there", ["no/such.pcap"], CLASSIC, b"", "no/such.pcap" + NO_FILE + NOT_READ, 4),
     Copy("no expression", ["--select", "vlan 4096"], CLASSIC, b"", "--select: At byte 5: expected a number up to 4095.\n", 2),
 ]
 
@@ -297,8 +297,8 @@ def copies_that_fail(program):
     limit = lambda: resource.setrlimit(resource.RLIMIT_AS, (6 << 20, 6 << 20))  # noqa: E731
     large = secrets(16_777_216, 16_777_216)
     return [
-        ("a copy to a full disk", on_a_full_disk(program, ["--write"], CLASSIC), FAILED),
-        ("a copy that nobody reads", (done.stderr.decode(), done.returncode), FAILED),
+        ("a copy to a full disk", on_a_full_disk(program, ["--write"], CLASSIC), DISK_IS_FULL),
+        ("a copy that nobody reads", (done.stderr.decode(), done.returncode), ("", 4)),
         ("a copy without standard error", (silent.stdout, silent.returncode), (CLASSIC[:59], 3)),
         ("a copy without memory", copied(program, ["--write"], large, preexec_fn=limit), (large[:96], "out of memory\n", 5)),
         ("a copy of a reader that fails", run_until_a_fault(program, ["--write", "--select", "arp"], SECTION_HEADER + ETHERNET + CUT_PACKET + CUT_PACKET[:20]),

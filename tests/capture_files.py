@@ -6,7 +6,7 @@ import subprocess
 import tempfile
 
 from captures import (
-    CLASSIC, CLASSIC_LINES, DOUBLE, FAILED, FCS_LINES, FIRST_LINES, ONE_LINES, SECTIONS, SECTION_LINES, SIX, TAGGED_V2,
+    CLASSIC, CLASSIC_LINES, DISK_IS_FULL, DOUBLE, FCS_LINES, FIRST_LINES, IS_FOLDER, NO_FILE, ONE_LINES, SECTIONS, SECTION_LINES, SIX, TAGGED_V2,
     V2_LINE, WITH_FCS, classic, plain, record_is_cut, secrets,
 )
 from programs import on_a_full_disk, run, without_memory
@@ -43,13 +43,13 @@ SEVERAL_FILES = [
     ("no frame that is refused", ["fcs.pcap", "none.pcap", "fcs.pcap"], part(FCS_LINES, 0) + part(FCS_LINES, 2) + totals(4, 0), 0),
     ("no packet", ["none.pcap", "none.pcap"], totals(0, 0), 0),
     ("a file that is not there", ["one.pcap", "no.pcap", "two.pcapng"],
-     part(CLASSIC_LINES, 0) + "no.pcap: can't be opened\n" + part(SECTION_LINES, 2) + totals(6, 1), 4),
-    ("no file that is there", ["--plain", "no.pcap", ""], "no.pcap: can't be opened\n: can't be opened\n", 4),
-    ("a folder", [os.curdir, "fcs.pcap"], ".: can't be read\n" + FCS_LINES, 4),
+     part(CLASSIC_LINES, 0) + "no.pcap" + NO_FILE + part(SECTION_LINES, 2) + totals(6, 1), 4),
+    ("no file that is there", ["--plain", "no.pcap", ""], "no.pcap" + NO_FILE + NO_FILE, 4),
+    ("a folder", [os.curdir, "fcs.pcap"], "." + IS_FOLDER + FCS_LINES, 4),
     ("a fault in the first", ["cut.pcap", "one.pcap"], FIRST_LINES + CUT_FAULT + part(CLASSIC_LINES, 1) + totals(3, 0), 3),
     ("a fault in the last", ["--plain", "one.pcap", "cut.pcap"], plain(CLASSIC_LINES) + plain(FIRST_LINES) + CUT_FAULT, 3),
     ("faults, and a file that is not there", ["empty", "no.pcap", "cut.pcap"],
-     EMPTY_FAULT + "no.pcap: can't be opened\n" + FIRST_LINES + CUT_FAULT + totals(1, 0), 4),
+     EMPTY_FAULT + "no.pcap" + NO_FILE + FIRST_LINES + CUT_FAULT + totals(1, 0), 4),
     ("a packed capture", ["packed.gz", "fcs.pcap"],
      "packed.gz: byte 0: The magic number 0x1F8B0800 is not that of a pcap file. This looks like gzip: zcat unpacks it.\n" + FCS_LINES, 3),
     ("packets of two files", ["-c", "3", "one.pcap", "two.pcapng"], part(CLASSIC_LINES, 0) + THIRD + totals(3, 0), 1),
@@ -79,15 +79,15 @@ def several(program):
         try:
             tried = [(f"several files: {name}", run(program, words, CLASSIC), (text, status)) for name, words, text, status in SEVERAL_FILES]
             found = without_memory(program, b"", ["no", "large", "fcs.pcap"])
-            wanted = "no: can't be opened\n" + ONE_LINES + "large: out of memory\n" + part(FCS_LINES, 1) + totals(3, 0), 5
+            wanted = "no" + NO_FILE + ONE_LINES + "large: out of memory\n" + part(FCS_LINES, 1) + totals(3, 0), 5
             tried.append(("several files, no memory for a block", found, wanted))
             for words in (["one.pcap", "two.pcapng"], ["no", "none.pcap"], ["--plain", "no", "none.pcap"]):
-                tried.append((f"several files, a full disk, {words}", on_a_full_disk(program, words, b""), FAILED))
+                tried.append((f"several files, a full disk, {words}", on_a_full_disk(program, words, b""), DISK_IS_FULL))
             gone, end = os.pipe()
             os.close(gone)
             with os.fdopen(end, "wb") as out:
                 done = subprocess.run([program, "one.pcap", "no", "two.pcapng"], stdin=subprocess.DEVNULL, stdout=out, stderr=subprocess.PIPE, check=False)
-            tried.append(("several files that nobody reads", (done.stderr.decode(), done.returncode), FAILED))
+            tried.append(("several files that nobody reads", (done.stderr.decode(), done.returncode), ("", 4)))
         finally:
             os.chdir(here)
     return tried

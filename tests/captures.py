@@ -1,6 +1,9 @@
 """Captures that the tests of `ether_capture` read, and what it prints of them. They were written by hand and checked with tshark."""
 
-FAILED = ("ether_capture: input or output failed\n", 4)
+DISK_IS_FULL = ("ether_capture: standard output: No space left on device (os error 28)\n", 4)
+NOT_READ = "ether_capture: a file can't be read\n"
+NO_FILE = ": can't be opened: there is no such file\n"
+IS_FOLDER = ": can't be opened: it is a folder\n"
 
 
 def joined(*parts):

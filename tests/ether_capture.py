@@ -14,8 +14,8 @@ import tempfile
 from dataclasses import dataclass
 
 from captures import (
-    CLASSIC, CLASSIC_LINES, CUT_PACKET, DOUBLE, ENHANCED, FAILED, FCS_LINES, FIRST_LINES, INNER, MACS, OBSOLETE,
-    ONE_LINES, OUTER, SECTIONS, SECTION_HEADER, SECTION_LINES, SELECTED, SIX, TAGGED_V2, V2_LINE, WITH_FCS, block,
+    CLASSIC, CLASSIC_LINES, CUT_PACKET, DISK_IS_FULL, DOUBLE, ENHANCED, FCS_LINES, FIRST_LINES, INNER, IS_FOLDER, MACS, NO_FILE, NOT_READ,
+    OBSOLETE, ONE_LINES, OUTER, SECTIONS, SECTION_HEADER, SECTION_LINES, SELECTED, SIX, TAGGED_V2, V2_LINE, WITH_FCS, block,
     classic, cooked, cooked_lines, frame, interface, joined, long_record, plain, record_is_cut, secrets,
 )
 from capture_copies import copied, copies, copies_that_fail, long_copy_in_pieces
@@ -47,9 +47,9 @@ CASES = [
     Case("two sections", [], SECTIONS, SECTION_LINES, 1),
     Case("no packet", [], CLASSIC[:24], "total frames 0 skipped 0\n", 0),
     Case("the walks of no packet", ["--plain"], CLASSIC[:24], "", 0),
-    Case("a file that is not there", ["no/such.pcap"], CLASSIC, "no/such.pcap: can't be opened\n", 4),
-    Case("no name", [""], CLASSIC, ": can't be opened\n", 4),
-    Case("a folder", [os.curdir], CLASSIC, "", 4),
+    Case("a file that is not there", ["no/such.pcap"], CLASSIC, "no/such.pcap" + NO_FILE, 4),
+    Case("no name", [""], CLASSIC, NO_FILE, 4),
+    Case("a folder", [os.curdir], CLASSIC, "." + IS_FOLDER, 4),
     Case("the version", ["--version"], CLASSIC, "ether_capture 1.0\n", 0),
     Case("a word that is no text", [b"\xff"], CLASSIC, "", 4),
     Case("a record that is cut", [], CLASSIC[:120], FIRST_LINES + record_is_cut(59, 62, 61), 3),
@@ -298,6 +298,39 @@ def before_the_end(program, words, given):
     return text, status
 
 
+def run_on_a_folder(program):
+    """What is said where standard input is a folder."""
+    here = os.open(os.curdir, os.O_RDONLY)
+    try:
+        return subprocess.run([program], stdin=here, capture_output=True, check=False)
+    finally:
+        os.close(here)
+
+
+def run_forbidden(program):
+    """What is printed of a file that may not be read. Root may read each, so the program runs as another there."""
+    with tempfile.NamedTemporaryFile() as file:
+        os.chmod(file.name, 0)
+        other = {"user": 65_534} if os.getuid() == 0 else {}
+        done = subprocess.run([program, file.name], capture_output=True, check=False, **other)
+        return done.stdout.decode().replace(file.name, "FILE"), done.stderr.decode()
+
+
+def reasons(program):
+    """What standard error says of a program with status 4, and the line of a file that is forbidden."""
+    done = {tuple(words): subprocess.run([program, *words], input=CLASSIC, capture_output=True, check=False).stderr.decode()
+            for words in ([b"caf\xe9.pcap"], ["no/such.pcap"], ["no/such.pcap", "no"])}
+    head = subprocess.run(f"'{program}' | head -n 1", shell=True, input=CLASSIC * 2000, capture_output=True, check=False)
+    return [
+        ("a name that is not UTF-8", done[(b"caf\xe9.pcap",)], "ether_capture: an argument is not UTF-8\n"),
+        ("the stream of a file that is not there", done[("no/such.pcap",)], NOT_READ),
+        ("that of two", done[("no/such.pcap", "no")], NOT_READ),
+        ("the first line alone", (head.stdout.decode(), head.stderr.decode()), (CLASSIC_LINES[:CLASSIC_LINES.index("\n") + 1], "")),
+        ("a folder as the input", run_on_a_folder(program).stderr.decode(), "ether_capture: standard input: Is a directory (os error 21)\n"),
+        ("a file that may not be read", run_forbidden(program), ("FILE: can't be opened: permission denied\n", NOT_READ)),
+    ]
+
+
 def main():
     program = os.path.realpath(sys.argv[1])
     tried = [(case.name, run(program, case.words, case.capture), (case.text, case.status)) for case in CASES]
@@ -324,6 +357,7 @@ def main():
     tried += [(name, copied(program, words, CLASSIC), (b"", USAGE, 2)) for name, words in WRONG]
     tried += selections(program)
     tried += several(program)
+    tried += reasons(program)
     tried += copies(program)
     tried += copies_that_fail(program)
     tried += long_copy_in_pieces(program)
@@ -335,7 +369,7 @@ def main():
     tried += [(f"one packet by {words}", run(program, words, CLASSIC), one) for words in (["-c1"], ["-c=1"])]
     tried.append(("no memory for a block", without_memory(program, secrets(16_777_216, 16_777_216)), (ONE_LINES + "out of memory\n", 5)))
     for words in ([], ["--plain"], ["--help"], ["no/such.pcap"]):
-        tried.append((f"a full disk, {words}", on_a_full_disk(program, words, CLASSIC), FAILED))
+        tried.append((f"a full disk, {words}", on_a_full_disk(program, words, CLASSIC), DISK_IS_FULL))
     return count(tried)
 
 

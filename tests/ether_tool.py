@@ -13,7 +13,7 @@ from dataclasses import dataclass
 
 from programs import count, run, run_in_pieces, run_until_a_fault, on_a_full_disk
 
-FAILED = ("ether_tool: input or output failed\n", 4)
+DISK_IS_FULL = ("ether_tool: standard output: No space left on device (os error 28)\n", 4)
 USAGE = "usage: ether_tool eth | fcs | sll | type XXXX | feed [limit N]\n"
 
 
@@ -480,7 +480,7 @@ def main():
         found = run_until_a_fault(program, ["eth"], MIXED.lines[:length].encode())
         tried.append((f"a reader that fails after {length} bytes", found, ("".join(whole_lines(length)), 4)))
     for words in (["eth"], ["feed"], ["ether"]):
-        tried.append((f"a full disk, {words}", on_a_full_disk(program, words, TAGGED.encode()), FAILED))
+        tried.append((f"a full disk, {words}", on_a_full_disk(program, words, TAGGED.encode()), DISK_IS_FULL))
     return count(tried)
 
 

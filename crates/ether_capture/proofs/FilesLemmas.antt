@@ -15,6 +15,7 @@ use Rattle.ether_capture.specs.Outcome.{last_bytes, status_of_file, text_of_file
 use Rattle.ether_capture.specs.Packets.{counted, IsLeftOf}
 use Rattle.ether_capture.specs.Run.{HasNoMemory, OnStreamFault}
 use Rattle.ether_capture.specs.Task.{TaskValue}
+use Rattle.ether_capture.specs.declared.captures.OpenFault.{OpenFault}
 use Rattle.ether_capture.specs.declared.counts.PacketCounts.{PacketCounts}
 use Rattle.ether_capture.specs.declared.files.Tally.{Tally}
 use Rattle.ether_capture.specs.declared.outcome.FileEnd.{FileEnd}
@@ -26,13 +27,13 @@ use Rattle.ether_capture.specs.declared.outcome.RunFault.TheVariants as faults
 abbrev pub names_in : {A : Type 0} → IntoIter (Bor (List ℕ)) A → List (List ℕ)
 names_in files = map (λ s. s.now) (into_iter_items files)
 
-module _ (has : List ℕ → Option (List ℕ) → Type 0) (can_refuse can_read can_write : Type 0) where
+module _ (has : List ℕ → Option (List ℕ) → Type 0) (can_refuse : OpenFault → Type 0) (can_read can_write : Type 0) where
   -- how many packets were read is known of each end but that of a failed output, since lines edit no packet
   counts_known : (l : ListingValue) (at : Tally) (name : List ℕ) (packets : List PacketValue)
       (held holds : Option (List ℕ)) (end : FileEnd) {P : Type 0}
       → HasEnded has can_refuse can_read can_write (next_task l at) name packets held holds end
       → IfFileRead end P → end ≢ ends.Read (Err faults.Output) → P
-  counts_known l at name packets held holds ends.NotOpened ended known going = known
+  counts_known l at name packets held holds (ends.NotOpened fault) ended known going = known
   counts_known l at name packets held holds (ends.Read (Ok verdict)) ended known going = known
   counts_known l at name packets held holds (ends.Read (Err (faults.Capture fault))) ended known going = known
   counts_known l at name packets held holds (ends.Read (Err (faults.NotEdited offset)))

@@ -30,7 +30,7 @@ IfRead outcome P = P
 
 -- .. or of a file that can't be opened
 abbrev pub IfFileRead : FileEnd → Type 0 → Type 0
-IfFileRead ends.NotOpened P = P
+IfFileRead (ends.NotOpened fault) P = P
 IfFileRead (ends.Read end) P = IfRead end P
 
 -- what a run has read and written, and how many packets it found

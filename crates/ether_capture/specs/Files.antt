@@ -13,6 +13,7 @@ use Rattle.ether_capture.specs.Outcome.{last_bytes, status_of_file, text_of_file
 use Rattle.ether_capture.specs.Packets.{counted, IsLeftOf}
 use Rattle.ether_capture.specs.Run.{HasRunOver, HasNoMemory, OnStreamFault}
 use Rattle.ether_capture.specs.Task.{TaskValue, Lines, IsChosen}
+use Rattle.ether_capture.specs.declared.captures.OpenFault.{OpenFault}
 use Rattle.ether_capture.specs.declared.files.Tally.{Tally}
 use Rattle.ether_capture.specs.declared.outcome.FileEnd.{FileEnd}
 use Rattle.ether_capture.specs.declared.outcome.FileEnd.TheVariants as ends
@@ -37,16 +38,16 @@ pub record IsTallied (select : Option Expression) (at : Tally) (packets : List P
 
 -- A run over the capture of this name has found these packets. Or it can't be opened, or there was no memory to begin with: then none is found, and
 -- nothing is written.
-abbrev pub HasEnded : (has : List ℕ → Option (List ℕ) → Type 0) (can_refuse can_read can_write : Type 0) → (task : TaskValue) → (name : List ℕ)
+abbrev pub HasEnded : (has : List ℕ → Option (List ℕ) → Type 0) (can_refuse : OpenFault → Type 0) (can_read can_write : Type 0) → (task : TaskValue) → (name : List ℕ)
     → List PacketValue → (held holds : Option (List ℕ)) → FileEnd → Type 0
-HasEnded has can_refuse can_read can_write task name packets held holds ends.NotOpened = can_refuse × (packets ≡ []) × (holds ≡ held)
+HasEnded has can_refuse can_read can_write task name packets held holds (ends.NotOpened fault) = can_refuse fault × (packets ≡ []) × (holds ≡ held)
 HasEnded has can_refuse can_read can_write task name packets held holds (ends.Read end) =
     (before after : Option (List ℕ)) × has name before
     × (HasRunOver task packets before after held holds end ⊎ ((packets ≡ []) × HasNoMemory before after held holds end))
     × IfErr end (λ fault. OnStreamFault fault (can_read ⊎ IsEndless before after) can_write)
 
 -- A capture was read, and the line that says why it was not read to its end is written, if there is one.
-pub record ReadsFile (has : List ℕ → Option (List ℕ) → Type 0) (can_refuse can_read can_write : Type 0) (l : ListingValue) (name : List ℕ)
+pub record ReadsFile (has : List ℕ → Option (List ℕ) → Type 0) (can_refuse : OpenFault → Type 0) (can_read can_write : Type 0) (l : ListingValue) (name : List ℕ)
     (at : Tally) (held : Option (List ℕ)) (next : Tally) (holds : Option (List ℕ)) : Type 0 where
   pub packets : List PacketValue
   pub end : FileEnd
@@ -57,7 +58,7 @@ pub record ReadsFile (has : List ℕ → Option (List ℕ) → Type 0) (can_refu
   pub tallied : IsTallied l.select at packets end next
 
 -- Captures were read one after the other: the last one, too, or until no packet more is asked for.
-pub data ReadsFiles (has : List ℕ → Option (List ℕ) → Type 0) (can_refuse can_read can_write : Type 0) (l : ListingValue)
+pub data ReadsFiles (has : List ℕ → Option (List ℕ) → Type 0) (can_refuse : OpenFault → Type 0) (can_read can_write : Type 0) (l : ListingValue)
     : (names : List (List ℕ)) → (at : Tally) → (held : Option (List ℕ)) → (last : Tally) → (holds : Option (List ℕ)) → Type 0 where
   no_more : (at : Tally) (held : Option (List ℕ)) → ReadsFiles has can_refuse can_read can_write l [] at held at held
   enough : (names : List (List ℕ)) (at : Tally) (held : Option (List ℕ)) → at.left ≡ Some 0
@@ -68,7 +69,7 @@ pub data ReadsFiles (has : List ℕ → Option (List ℕ) → Type 0) (can_refus
       → ReadsFiles has can_refuse can_read can_write l (name ∷ names) at held last holds
 
 -- .. and the line of the totals of all of them is written. Of a fault of the writer nothing is said.
-abbrev pub HasListed : (has : List ℕ → Option (List ℕ) → Type 0) (can_refuse can_read can_write : Type 0) → (l : ListingValue)
+abbrev pub HasListed : (has : List ℕ → Option (List ℕ) → Type 0) (can_refuse : OpenFault → Type 0) (can_read can_write : Type 0) → (l : ListingValue)
     → (held holds : Option (List ℕ)) → Result ℕ OutputFault → Type 0
 HasListed has can_refuse can_read can_write l held holds (Ok status) =
     (last : Tally) × (mid : Option (List ℕ)) × ReadsFiles has can_refuse can_read can_write l l.files (nothing_read l.count) held last mid

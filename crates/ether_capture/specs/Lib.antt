@@ -11,5 +11,6 @@ pub mod Outcome
 pub mod Progress
 pub mod Program
 pub mod Tags
+pub mod Captures
 pub mod Counting
 pub mod Files

@@ -9,6 +9,8 @@ use Rattle.ether_filter.specs.ErrorTexts.{filter_error_text}
 use Rattle.ether_filter.specs.declared.filter_error.FilterError.{FilterError}
 use Rattle.ether_text.specs.declared.verdict.Verdict.{Verdict}
 use Rattle.ether_text.specs.declared.verdict.Verdict.TheVariants.{AllAccepted, SomeRefused}
+use Rattle.ether_capture.specs.declared.captures.OpenFault.{OpenFault}
+use Rattle.ether_capture.specs.declared.captures.OpenFault.TheVariants as open_faults
 use Rattle.ether_capture.specs.declared.outcome.Outcome.{Outcome}
 use Rattle.ether_capture.specs.declared.outcome.Outcome.TheVariants as outcomes
 use Rattle.ether_pcap.specs.declared.capture.capture_fault.CaptureFault.{CaptureFault}
@@ -67,8 +69,15 @@ help_text = codes "usage: ether_capture [[--plain] [--limit N] | --write [--cut-
 abbrev pub version_text : List ℕ
 version_text = codes "ether_capture 1.0"
 
-abbrev pub not_opened_text : (name : List ℕ) → List ℕ
-not_opened_text name = name ++ codes ": can't be opened"
+-- why a capture can't be opened
+abbrev pub open_fault_text : OpenFault → List ℕ
+open_fault_text open_faults.NotFound = codes ": there is no such file"
+open_fault_text open_faults.PermissionDenied = codes ": permission denied"
+open_fault_text open_faults.IsADirectory = codes ": it is a folder"
+open_fault_text open_faults.Other = []
+
+abbrev pub not_opened_text : (name : List ℕ) → OpenFault → List ℕ
+not_opened_text name fault = name ++ (codes ": can't be opened" ++ open_fault_text fault)
 
 -- why the text of a filter is no expression
 abbrev pub no_filter_text : FilterError → List ℕ
@@ -87,7 +96,7 @@ named_text name reason = name ++ (codes ": " ++ reason)
 
 -- what is printed after a capture, one of several, without its line feed
 abbrev pub text_of_file : (name : List ℕ) → FileEnd → Option (List ℕ)
-text_of_file name ends.NotOpened = Some (not_opened_text name)
+text_of_file name (ends.NotOpened fault) = Some (not_opened_text name fault)
 text_of_file name (ends.Read (Ok verdict)) = None
 text_of_file name (ends.Read (Err (Capture fault))) = Some (named_text name (fault_line_text fault))
 text_of_file name (ends.Read (Err (NotEdited offset))) = Some (named_text name (not_edited_text offset))
@@ -97,7 +106,7 @@ text_of_file name (ends.Read (Err Memory)) = Some (named_text name memory_text)
 
 -- its exit status
 abbrev pub status_of_file : FileEnd → ℕ
-status_of_file ends.NotOpened = exit_status (Err Input)
+status_of_file (ends.NotOpened fault) = exit_status (Err Input)
 status_of_file (ends.Read end) = exit_status end
 
 -- what is printed after a run
@@ -109,6 +118,12 @@ last_text_of_run (Err Input) = None
 last_text_of_run (Err Output) = None
 last_text_of_run (Err Memory) = Some memory_text
 
+-- .. of the only file, which is named where it can't be read
+abbrev pub last_text_of_named : (name : List ℕ) → Result Verdict RunFault → Option (List ℕ)
+last_text_of_named name (Ok verdict) = None
+last_text_of_named name (Err Input) = Some (named_text name (codes "can't be read"))
+last_text_of_named name end = last_text_of_run end
+
 -- a line with its line feed, if there is one
 abbrev pub last_bytes : Option (List ℕ) → List ℕ
 last_bytes None = []
@@ -118,7 +133,8 @@ last_bytes (Some text) = text ++ codes "\n"
 abbrev pub last_text : Outcome → Option (List ℕ)
 last_text (outcomes.Run copy end) = last_text_of_run end
 last_text (outcomes.Files end) = None
-last_text (outcomes.NotOpened copy name) = Some (not_opened_text name.now)
+last_text (outcomes.File copy name end) = last_text_of_named name.now end
+last_text (outcomes.NotOpened copy name fault) = Some (not_opened_text name.now fault)
 last_text (outcomes.NoFilter copy error) = Some (no_filter_text error)
 last_text outcomes.Help = Some help_text
 last_text outcomes.Version = Some version_text
@@ -129,7 +145,8 @@ last_text outcomes.NoMemory = Some memory_text
 abbrev pub is_message : Outcome → Bool
 is_message (outcomes.Run copy end) = copy
 is_message (outcomes.Files end) = false
-is_message (outcomes.NotOpened copy name) = copy
+is_message (outcomes.File copy name end) = copy
+is_message (outcomes.NotOpened copy name fault) = copy
 is_message (outcomes.NoFilter copy error) = copy
 is_message outcomes.Help = false
 is_message outcomes.Version = false
@@ -141,7 +158,8 @@ abbrev pub status_of_outcome : Outcome → ℕ
 status_of_outcome (outcomes.Run copy end) = exit_status end
 status_of_outcome (outcomes.Files (Ok status)) = status
 status_of_outcome (outcomes.Files (Err fault)) = exit_status (Err Output)
-status_of_outcome (outcomes.NotOpened copy name) = exit_status (Err Input)
+status_of_outcome (outcomes.File copy name end) = exit_status end
+status_of_outcome (outcomes.NotOpened copy name fault) = exit_status (Err Input)
 status_of_outcome (outcomes.NoFilter copy error) = 2
 status_of_outcome outcomes.Help = 0
 status_of_outcome outcomes.Version = 0
@@ -155,7 +173,7 @@ status_of_program outcome printed = if printed || is_message outcome then status
 abbrev pub last_line_text : LastLine → List ℕ
 last_line_text (last_lines.Stopped reason) = reason_text reason
 last_line_text (last_lines.Named name reason) = named_text name.now (reason_text reason)
-last_line_text (last_lines.NotOpened name) = not_opened_text name.now
+last_line_text (last_lines.NotOpened name fault) = not_opened_text name.now fault
 last_line_text last_lines.Help = help_text
 last_line_text last_lines.Version = version_text
 last_line_text last_lines.Usage = usage_text

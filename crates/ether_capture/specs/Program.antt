@@ -11,6 +11,7 @@ use Rattle.ether_capture.specs.Files.{HasListed}
 use Rattle.ether_capture.specs.Run.{HasRun, HasNoMemory, OnStreamFault}
 use Rattle.ether_capture.specs.Task.{TaskValue, is_copy}
 use Rattle.ether_capture.specs.Outcome.{last_bytes, last_text, is_message, status_of_program}
+use Rattle.ether_capture.specs.declared.captures.OpenFault.{OpenFault}
 use Rattle.ether_capture.specs.declared.outcome.Outcome.{Outcome}
 use Rattle.ether_capture.specs.declared.outcome.Outcome.TheVariants as outcomes
 use Rattle.ether_capture.specs.declared.outcome.RunFault.{RunFault}
@@ -29,17 +30,18 @@ pub record HasRead (can_read can_write : Type 0) (task : TaskValue) (before afte
   pub failed : IfErr end (λ fault. OnStreamFault fault (can_read ⊎ IsEndless before after) can_write)
 
 -- The capture of this name was read; or it can't be opened, and nothing is written.
-abbrev pub HasRunFile : (has : List ℕ → Option (List ℕ) → Type 0) (can_refuse can_read can_write : Type 0) → (task : TaskValue) → (name : List ℕ)
+abbrev pub HasRunFile : (has : List ℕ → Option (List ℕ) → Type 0) (can_refuse : OpenFault → Type 0) (can_read can_write : Type 0) → (task : TaskValue) → (name : List ℕ)
     → (held holds : Option (List ℕ)) → Outcome → Type 0
-HasRunFile has can_refuse can_read can_write task name held holds (outcomes.Run copy end) =
-    (copy ≡ is_copy task.form)
+HasRunFile has can_refuse can_read can_write task name held holds (outcomes.File copy named end) =
+    (copy ≡ is_copy task.form) × (named.now ≡ name)
     × ((before after : Option (List ℕ)) × has name before × HasRead can_read can_write task before after held holds end)
-HasRunFile has can_refuse can_read can_write task name held holds (outcomes.NotOpened copy named) =
-    (copy ≡ is_copy task.form) × (named.now ≡ name) × can_refuse × (holds ≡ held)
+HasRunFile has can_refuse can_read can_write task name held holds (outcomes.NotOpened copy named fault) =
+    (copy ≡ is_copy task.form) × (named.now ≡ name) × can_refuse fault × (holds ≡ held)
 HasRunFile has can_refuse can_read can_write task name held holds outcome = ⊥
 
 -- What is asked for was done. Standard input is read only if no file is named.
-abbrev pub HasAnswered : (has : List ℕ → Option (List ℕ) → Type 0) (can_fail can_refuse can_read can_write : Type 0) → RequestValue
+abbrev pub HasAnswered : (has : List ℕ → Option (List ℕ) → Type 0) (can_fail : Type 0) (can_refuse : OpenFault → Type 0)
+    (can_read can_write : Type 0) → RequestValue
     → (before after held holds : Option (List ℕ)) → Outcome → Type 0
 HasAnswered has can_fail can_refuse can_read can_write (Run task None) before after held holds (outcomes.Run copy end) =
     (copy ≡ is_copy task.form) × HasRead can_fail can_write task before after held holds end
@@ -53,7 +55,8 @@ HasAnswered has can_fail can_refuse can_read can_write request before after held
 
 -- The arguments ask for something, and it was done. Or they are wrong, or can't be read, which is a fault of the input, or memory for them was
 -- refused: then nothing is read or written.
-abbrev pub HasObeyed : (has : List ℕ → Option (List ℕ) → Type 0) (can_fail can_refuse can_read can_write : Type 0) → Option (List (List ℕ))
+abbrev pub HasObeyed : (has : List ℕ → Option (List ℕ) → Type 0) (can_fail : Type 0) (can_refuse : OpenFault → Type 0)
+    (can_read can_write : Type 0) → Option (List (List ℕ))
     → (before after held holds : Option (List ℕ)) → Outcome → Type 0
 HasObeyed has can_fail can_refuse can_read can_write None before after held holds outcome =
     (outcome ≡ outcomes.Run false (Err Input)) × (after ≡ before) × (holds ≡ held)
@@ -79,7 +82,7 @@ PrintsApart true outcome held holds told tells printed = PrintsLast outcome told
 -- The program has done what the words ask for, has printed the last line, and ends with the status of its outcome. has relates names to the
 -- bytes of their captures; the others hold if reading standard input, opening a capture, or reading it fails. The writer of messages told this,
 -- and tells that.
-pub record HasServed (has : List ℕ → Option (List ℕ) → Type 0) (can_fail can_refuse can_read : Type 0) (words : Option (List (List ℕ)))
+pub record HasServed (has : List ℕ → Option (List ℕ) → Type 0) (can_fail : Type 0) (can_refuse : OpenFault → Type 0) (can_read : Type 0) (words : Option (List (List ℕ)))
     (before after held holds told tells : Option (List ℕ)) (status : ℕ) : Type 0 where
   pub outcome : Outcome
   pub printed : Bool

@@ -191,7 +191,7 @@ fn end_of_file<C: Captures, W: Sink>(
             let (end, counts) = run_input(task, alloc, &mut input, writer);
             (FileEnd::Read(end), counts)
         }
-        Err(_) => (FileEnd::NotOpened, PacketCounts::none(task)),
+        Err(fault) => (FileEnd::NotOpened(fault), PacketCounts::none(task)),
     }
 }
 

@@ -24,21 +24,32 @@ pub mod run;
 mod tags;
 pub mod task;
 
+use ether_text::{Noted, tell_failure};
 use std::process::ExitCode;
 use std::{env, io};
 
 /// The program on the standard streams.
 fn main(rt: HostRuntime) -> ExitCode {
+    let args = env::args(&rt);
+    let unread = args.as_ref().err().copied();
+    let mut input = Noted::new(rt.reader());
+    let mut output = Noted::new(io::writer(&rt));
     let status = program::program(
-        env::args(&rt),
+        args,
         rt.alloc(),
         &rt,
-        &mut rt.reader(),
-        &mut io::writer(&rt),
+        &mut input,
+        &mut output,
         &mut rt.stderr(),
     );
     if status == 4 {
-        let _ = eprintln!(rt; "ether_capture: input or output failed");
+        tell_failure(
+            "ether_capture",
+            unread,
+            input.error(),
+            output.error(),
+            &mut rt.stderr(),
+        );
     }
     ExitCode::from(status)
 }

@@ -1,8 +1,9 @@
 //! How the program ends: what a run found or why it stopped, the exit status of each, and the last line.
 ghost use Rattle.std.specs.Prelude.{◌≡◌};
 ghost use Rattle.std.specs.Option.{option_map};
-ghost use Rattle.ether_capture.specs.Outcome.{exit_status, hint_text, is_message, magic_hint_text, last_line_text, last_text, last_text_of_run, status_of_file, status_of_program, text_of_file};
+ghost use Rattle.ether_capture.specs.Outcome.{exit_status, hint_text, is_message, magic_hint_text, last_line_text, last_text, last_text_of_named, last_text_of_run, open_fault_text, status_of_file, status_of_program, text_of_file};
 
+use crate::captures::OpenFault;
 use ether_filter::FilterError;
 use ether_pcap::{CaptureError, CaptureFault, FileHeaderError};
 use ether_text::{InputFault, OutputFault, Verdict};
@@ -99,11 +100,20 @@ pub fn status_of(outcome: &Result<Verdict, RunFault>) -> u8
 /// How the program has answered its arguments.
 #[derive(Debug, Drop)]
 pub enum Outcome<'a> {
-    /// A run was begun.
+    /// Standard input was read, or the arguments can't be.
     Run {
         /// Whether a copy was asked for.
         is_copy: bool,
         /// How it ended.
+        end: Result<Verdict, RunFault>,
+    },
+    /// The only file was read.
+    File {
+        /// Whether a copy was asked for.
+        is_copy: bool,
+        /// Its name.
+        name: &'a str,
+        /// How the run ended.
         end: Result<Verdict, RunFault>,
     },
     /// Several captures were read: the greatest exit status of these, unless the output failed.
@@ -114,6 +124,8 @@ pub enum Outcome<'a> {
         is_copy: bool,
         /// Its name.
         name: &'a str,
+        /// Why it can't.
+        fault: OpenFault,
     },
     /// The text of the filter is no expression.
     NoFilter {
@@ -181,6 +193,18 @@ impl fmt::Display for Reason<'_> {
     }
 }
 
+/// Why a capture can't be opened, as it follows the words that say so.
+fn reason_not_opened(fault: OpenFault) -> &'static str
+    ensures { result.now ≡ open_fault_text fault }
+{
+    match fault {
+        OpenFault::NotFound => ": there is no such file",
+        OpenFault::PermissionDenied => ": permission denied",
+        OpenFault::IsADirectory => ": it is a folder",
+        OpenFault::Other => "",
+    }
+}
+
 /// A line that the program prints after the lines of a capture, or in their place.
 #[derive(Clone, Copy, Debug)]
 pub enum LastLine<'a> {
@@ -189,7 +213,7 @@ pub enum LastLine<'a> {
     /// Nor was that of this name, one of several.
     Named(&'a str, Reason<'a>),
     /// The file of this name can't be opened.
-    NotOpened(&'a str),
+    NotOpened(&'a str, OpenFault),
     /// How the program is used.
     Help,
     /// The version.
@@ -210,7 +234,10 @@ impl fmt::Display for LastLine<'_> {
         match self {
             LastLine::Stopped(reason) => write!(f, "{reason}"),
             LastLine::Named(name, reason) => write!(f, "{name}: {reason}"),
-            LastLine::NotOpened(name) => write!(f, "{name}: can't be opened"),
+            LastLine::NotOpened(name, fault) => {
+                let reason = reason_not_opened(*fault);
+                write!(f, "{name}: can't be opened{reason}")
+            }
             LastLine::Help => write!(f, "{HELP}"),
             LastLine::Version => write!(f, "{VERSION}"),
             LastLine::Usage => write!(f, "{USAGE}"),
@@ -226,7 +253,8 @@ pub fn last_line<'a>(outcome: &'a Outcome<'_>) -> Option<LastLine<'a>>
     match outcome {
         Outcome::Run { end, .. } => last_line_of_run(end),
         Outcome::Files(_) => None,
-        Outcome::NotOpened { name, .. } => Some(LastLine::NotOpened(name)),
+        Outcome::File { name, end, .. } => last_line_of_named(name, end),
+        Outcome::NotOpened { name, fault, .. } => Some(LastLine::NotOpened(name, *fault)),
         Outcome::NoFilter { error, .. } => Some(LastLine::NoFilter(error)),
         Outcome::Help => Some(LastLine::Help),
         Outcome::Version => Some(LastLine::Version),
@@ -247,11 +275,24 @@ fn last_line_of_run(outcome: &Result<Verdict, RunFault>) -> Option<LastLine<'_>>
     }
 }
 
+/// The line that is printed after a run over the only file, if there is one.
+fn last_line_of_named<'a>(
+    name: &'a str,
+    outcome: &'a Result<Verdict, RunFault>,
+) -> Option<LastLine<'a>>
+    ensures { option_map last_line_text result ≡ last_text_of_named name.now outcome.now }
+{
+    match outcome {
+        Err(RunFault::Input) => Some(LastLine::Named(name, Reason::Input)),
+        _ => last_line_of_run(outcome),
+    }
+}
+
 /// How a capture, one of several, has ended.
 #[derive(Debug, Drop)]
 pub enum FileEnd {
     /// Its file can't be opened.
-    NotOpened,
+    NotOpened(OpenFault),
     /// It was read: how its run ended.
     Read(Result<Verdict, RunFault>),
 }
@@ -261,7 +302,7 @@ pub fn line_of_file<'a>(name: &'a str, end: &'a FileEnd) -> Option<LastLine<'a>>
     ensures { option_map last_line_text result ≡ text_of_file name.now end.now }
 {
     match end {
-        FileEnd::NotOpened => Some(LastLine::NotOpened(name)),
+        FileEnd::NotOpened(fault) => Some(LastLine::NotOpened(name, *fault)),
         FileEnd::Read(Err(RunFault::Capture(fault))) => Some(LastLine::Named(
             name,
             Reason::Fault(fault),
@@ -281,7 +322,7 @@ pub fn status_of_file(end: &FileEnd) -> u8
     ensures { result ≡ status_of_file end.now }
 {
     match end {
-        FileEnd::NotOpened => status_of(&Err(RunFault::Input)),
+        FileEnd::NotOpened(_) => status_of(&Err(RunFault::Input)),
         FileEnd::Read(end) => status_of(end),
     }
 }
@@ -293,6 +334,7 @@ pub fn is_message(outcome: &Outcome<'_>) -> bool
 {
     match outcome {
         Outcome::Run { is_copy, .. }
+        | Outcome::File { is_copy, .. }
         | Outcome::NotOpened { is_copy, .. }
         | Outcome::NoFilter { is_copy, .. } => *is_copy,
         Outcome::Files(_) | Outcome::Help | Outcome::Version => false,
@@ -309,7 +351,7 @@ pub fn program_status(outcome: &Outcome<'_>, is_printed: bool) -> u8
         return status_of(&Err(RunFault::Output));
     }
     match outcome {
-        Outcome::Run { end, .. } => status_of(end),
+        Outcome::Run { end, .. } | Outcome::File { end, .. } => status_of(end),
         Outcome::Files(Ok(status)) => *status,
         Outcome::Files(Err(_)) => status_of(&Err(RunFault::Output)),
         Outcome::NotOpened { .. } => status_of(&Err(RunFault::Input)),

@@ -89,11 +89,16 @@ fn run_file<'a, C: Captures, W: Sink>(
 {
     let is_copy = task.is_copy();
     match captures.open_named(name) {
-        Ok(mut input) => Outcome::Run {
+        Ok(mut input) => Outcome::File {
             is_copy,
+            name,
             end: run_input(task, alloc, &mut input, writer).0,
         },
-        Err(_) => Outcome::NotOpened { is_copy, name },
+        Err(fault) => Outcome::NotOpened {
+            is_copy,
+            name,
+            fault,
+        },
     }
 }
 

@@ -5,14 +5,25 @@
 #![tactic(auto)]
 
 pub use ether_text::tool::{command, laws, mode, outcome, parse_frame, program, run};
+use ether_text::{Noted, tell_failure};
 use std::process::ExitCode;
 use std::{env, io};
 
 /// The program on the standard streams.
 fn main(rt: HostRuntime) -> ExitCode {
-    let status = program::program(env::args(&rt), &mut rt.reader(), &mut io::writer(&rt));
+    let args = env::args(&rt);
+    let unread = args.as_ref().err().copied();
+    let mut input = Noted::new(rt.reader());
+    let mut output = Noted::new(io::writer(&rt));
+    let status = program::program(args, &mut input, &mut output);
     if status == 4 {
-        let _ = eprintln!(rt; "ether_tool: input or output failed");
+        tell_failure(
+            "ether_tool",
+            unread,
+            input.error(),
+            output.error(),
+            &mut rt.stderr(),
+        );
     }
     ExitCode::from(status)
 }

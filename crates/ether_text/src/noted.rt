@@ -1,0 +1,105 @@
+//! Streams that keep the error of a call that failed.
+ghost use Rattle.std.specs.Prelude.{◌≡◌, None, Some, IfErr, IfSome, OnOk};
+ghost use Rattle.std.specs.IoError.{error_kind};
+ghost use Rattle.std.specs.declared.io.ErrorKind.TheVariants.{BrokenPipe};
+
+use std::io;
+use std::io::{ErrorKind, Read, Write};
+
+/// A reader or writer, and the error of the last call on it that failed.
+///
+/// A run says only that a stream has failed. This says why.
+///
+/// ```
+/// let noted = Noted::new(SliceSource::new(&[1, 2, 3]));
+/// assert!(rt; noted.error().is_none());
+/// ```
+#[derive(Drop)]
+pub struct Noted<T> {
+    stream: T,
+    error: Option<io::Error>,
+}
+
+impl<T> Noted<T> {
+    /// The stream, of which no call has failed.
+    pub fn new(stream: T) -> Self
+        ensures stream { result.stream ≡ stream }
+        ensures error { result.error ≡ None }
+    {
+        Noted {
+            stream,
+            error: None,
+        }
+    }
+
+    /// The error of the last call that failed, if one has.
+    pub fn error(&self) -> Option<io::Error>
+        ensures { result ≡ self.now.error }
+    {
+        self.error
+    }
+}
+
+/// Keeps the error of a call, if it has failed, and returns what the call did.
+fn note<V>(answer: io::Result<V>, error: &mut Option<io::Error>) -> io::Result<V>
+    ensures same { result ≡ answer }
+    ensures noted { IfErr result (λ e. error.new ≡ Some e) }
+    ensures kept { OnOk result (error.new ≡ error.old) }
+{
+    match answer {
+        Ok(value) => Ok(value),
+        Err(e) => {
+            *error = Some(e);
+            Err(e)
+        }
+    }
+}
+
+impl<R: Read> Read for Noted<R> {
+    ghost remaining = { λ noted. R.Read.remaining noted.stream };
+
+    fn read(&mut self, buf: &mut [u8]) -> io::Result<usize> {
+        note(self.stream.read(buf), &mut self.error)
+    }
+}
+
+impl<W: Write> Write for Noted<W> {
+    ghost contents = { λ noted. W.Write.contents noted.stream };
+
+    fn write(&mut self, buf: &[u8]) -> io::Result<usize> {
+        note(self.stream.write(buf), &mut self.error)
+    }
+
+    fn flush(&mut self) -> io::Result<()> {
+        note(self.stream.flush(), &mut self.error)
+    }
+
+    fn write_all(&mut self, buf: &[u8]) -> io::Result<()> {
+        note(self.stream.write_all(buf), &mut self.error)
+    }
+}
+
+/// Says in one line which stream of a program failed, or its arguments, and why; or if none of these did, that a file can't be read.
+///
+/// Nothing is said where nobody reads the output any more, since who closed it knows.
+pub fn tell_failure<M: Write>(
+    program: &str,
+    args: Option<io::Error>,
+    input: Option<io::Error>,
+    output: Option<io::Error>,
+    messages: &mut M,
+)
+    ensures { IfSome output (λ error. error_kind error ≡ BrokenPipe → M.contents messages.new ≡ M.contents messages.old) }
+{
+    let told = match (args, input, output) {
+        (_, _, Some(error)) if error.kind() == ErrorKind::BrokenPipe => Ok(()),
+        (_, _, Some(error)) => writeln!(messages, "{program}: standard output: {error}"),
+        (Some(error), _, _) if error.kind() == ErrorKind::InvalidData => {
+            writeln!(messages, "{program}: an argument is not UTF-8")
+        }
+        (Some(error), _, _) => writeln!(messages, "{program}: the arguments: {error}"),
+        (_, Some(error), _) => writeln!(messages, "{program}: standard input: {error}"),
+        _ => writeln!(messages, "{program}: a file can't be read"),
+    };
+    let _ = told;
+}
