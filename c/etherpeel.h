@@ -925,8 +925,10 @@ uint32_t etherpeel_capture_fault_text(const uint8_t *file, size_t len, char *tex
  * Sets *frame by the link type of a packet that etherpeel_capture gave. Of Ethernet that is the
  * packet: with its frame check sequence if the file says that it has one of four bytes and it was
  * not cut, else without those bytes. Of Linux cooked capture v1 it is the packet without a frame
- * check sequence. Of v2 it is the payload, after a header of 20 bytes, if the header can be read
- * and an ether type announces the payload.
+ * check sequence; but the payload, after a header of 16 bytes, if the walk would refuse the header
+ * only for its hardware type, as 772 of the loopback device. The protocol is then the ether type.
+ * Of v2 it is the payload, after a header of 20 bytes, if the header can be read and an ether type
+ * announces the payload.
  * Returns ETHERPEEL_DONE; or ETHERPEEL_UNKNOWN_START if nothing of the packet is walked, and then
  * *frame stays as it was. It must be initialized, and may be all 0.
  * Overlap: *frame must not overlap *packet or its bytes, which it points into. Every number is in

@@ -7,8 +7,8 @@ import tempfile
 from dataclasses import dataclass
 
 from captures import (
-    CLASSIC, COOKED, CUT_PACKET, DISK_IS_FULL, ETHERNET, NOT_READ, NO_FILE, OBSOLETE, SECTIONS, SECTION_HEADER, SELECTED, SIX, TAGGED_V2, UNKNOWN,
-    WITH_FCS, block, classic, cooked, frame, interface, joined, long_record, record_is_cut, secrets,
+    CLASSIC, COOKED, CUT_PACKET, DISK_IS_FULL, ETHERNET, LOOPBACK_V1, NOT_READ, NO_FILE, OBSOLETE, SECTIONS, SECTION_HEADER, SELECTED, SIX,
+    TAGGED_V1, TAGGED_V2, UNKNOWN, WITH_FCS, block, classic, cooked, frame, interface, joined, long_record, record_is_cut, secrets,
 )
 from programs import on_a_full_disk, run_until_a_fault
 
@@ -81,7 +81,11 @@ LONG_PACKET = SECTION_HEADER + ETHERNET + joined(
     "06000000 4c000000 00000000 240a0600 40222018 13000000 2e000000 ffffffffffff 3aeeb62ff6d7 8100 b123 0800 45 00", OPTIONS, "4c000000")
 CUT_LONG_PACKET = SECTION_HEADER + ETHERNET + joined(
     "06000000 4c000000 00000000 240a0600 40222018 12000000 2e000000 ffffffffffff 3aeeb62ff6d7 8100 b123 0800 00 00", OPTIONS, "4c000000")
+CUT_LOOPBACK = LOOPBACK_V1[:24] + joined("6553f100 00000000 00000010 00000011", "0000 0304 0006 0000000000000000 0800")
+CUT_TAGGED_V1 = TAGGED_V1[:24] + joined("6553f100 00000000 00000014 00000015", "0004 0200 0000 0000000000000000 8100 b123 0800")
 COPIES += [
+    Copy("headers of the loopback device in cooked capture v1", [CUT], LOOPBACK_V1, CUT_LOOPBACK),
+    Copy("a tag after hardware type 512", [CUT], TAGGED_V1, CUT_TAGGED_V1),
     Copy("headers of a classic file", [CUT], CLASSIC, CUT_CLASSIC),
     Copy("headers of frames with a check sequence", [CUT], WITH_FCS, CUT_WITH_FCS),
     Copy("headers of two sections", [CUT], SECTIONS, CUT_SECTIONS),
@@ -124,6 +128,7 @@ COPIES += [
     Copy("a tag less in a packet with options", [POP], LONG_PACKET, POPPED_LONG_PACKET),
     Copy("a tag less in a cooked capture", [POP], TAGGED_COOKED, POPPED_COOKED),
     Copy("a tag less in an obsolete packet block", [POP], TAGGED_OBSOLETE, POPPED_OBSOLETE),
+    Copy("cooked capture v1 of hardware type 512 stays", [POP], TAGGED_V1, TAGGED_V1),
     Copy("cooked capture v2 stays", [POP], cooked("8100 0000 00000003 0001 04 06 0200000000010000 b123 0800 45"),
          cooked("8100 0000 00000003 0001 04 06 0200000000010000 b123 0800 45")),
     Copy("a tag of a simple packet", [POP], SECTIONS, BEFORE_SIMPLE, f"byte {len(BEFORE_SIMPLE)}: {NOT_EDITED}", 3),
@@ -197,6 +202,7 @@ COPIES += [
     Copy("a cut tag keeps its identifier", [SET, "5:6"], CUT_TAGS, CUT_TAGS),
     Copy("a whole tag before a cut one", [SET, "7:0"], CUT_TAGS, CUT_TAGS[:-6] + joined("0000 8100 0005")),
     Copy("an identifier that no tag has", [SET, "7:5"], SECTIONS, SECTIONS),
+    Copy("an identifier after hardware type 512 stays", [SET, "291:5"], TAGGED_V1, TAGGED_V1),
     Copy("an identifier in cooked capture v2 stays", [SET, "291:5"], cooked("8100 0000 00000003 0001 04 06 0200000000010000 b123 0800 45"),
          cooked("8100 0000 00000003 0001 04 06 0200000000010000 b123 0800 45")),
     Copy("another identifier in a simple packet", [SET, "291:5"], SECTIONS, BEFORE_SIMPLE, f"byte {len(BEFORE_SIMPLE)}: {NOT_EDITED}", 3),

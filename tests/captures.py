@@ -119,15 +119,18 @@ def long_record(len_, captured):
     return CLASSIC[:24] + bytes(8) + len_.to_bytes(4, "big") + bytes(4) + bytes(captured)
 
 
-def cooked(packet):
-    """A classic capture of one packet of Linux cooked capture v2."""
+COOKED_LINKS = {1: 113, 2: 276}
+
+
+def cooked(packet, version=2):
+    """A classic capture of one packet of Linux cooked capture."""
     packet = joined(packet)
     length = len(packet).to_bytes(4, "big")
-    return CLASSIC[:20] + joined("00000114") + joined("6553f100 00000000") + length + length + packet
+    return CLASSIC[:20] + COOKED_LINKS[version].to_bytes(4, "big") + joined("6553f100 00000000") + length + length + packet
 
 
-def cooked_lines(captured, lines):
-    return (f"frame 1 time 1700000000.000000000 link 276 captured {captured} original {captured}\n{lines}"
+def cooked_lines(captured, lines, version=2):
+    return (f"frame 1 time 1700000000.000000000 link {COOKED_LINKS[version]} captured {captured} original {captured}\n{lines}"
             "total frames 1 skipped 0\n")
 
 
@@ -148,5 +151,9 @@ SELECTED = {
 
 DOUBLE = "frame 1 time 1700000000.000000000 link 1 captured 23 original 23\nethernet2 0 ffffffffffff 020000000001 0x88A8\n"
 OUTER, INNER = "vlan 14 pcp 0 dei 0 vid 100 0x8100\n", "vlan 18 pcp 0 dei 0 vid 5 0x0800\n"
+# What `tshark -i any` writes of the loopback device, and a tag on a link of PPP: packet type, hardware type, address length, address, protocol type.
+LOOPBACK_V1 = cooked("0000 0304 0006 0000000000000000 0800 45", 1)
+TAGGED_V1 = cooked("0004 0200 0000 0000000000000000 8100 b123 0800 45", 1)
+V1_LINE = "linux_sll 0 packet 4 hw 512 alen 0 addr 0000000000000000 0x8100\n"
 TAGGED_V2 = cooked("8100 0000 00000003 0001 04 06 0200000000010000 b123 0800 45")
 V2_LINE = "linux_sll2 0 packet 4 hw 1 if 3 alen 6 addr 0200000000010000 0x8100\n"

@@ -14,8 +14,8 @@ import tempfile
 from dataclasses import dataclass
 
 from captures import (
-    CLASSIC, CLASSIC_LINES, CUT_PACKET, DISK_IS_FULL, DOUBLE, ENHANCED, FCS_LINES, FIRST_LINES, INNER, IS_FOLDER, MACS, NO_FILE, NOT_READ,
-    OBSOLETE, ONE_LINES, OUTER, SECTIONS, SECTION_HEADER, SECTION_LINES, SELECTED, SIX, TAGGED_V2, V2_LINE, WITH_FCS, block,
+    CLASSIC, CLASSIC_LINES, CUT_PACKET, DISK_IS_FULL, DOUBLE, ENHANCED, FCS_LINES, FIRST_LINES, INNER, IS_FOLDER, LOOPBACK_V1, MACS, NO_FILE,
+    NOT_READ, OBSOLETE, ONE_LINES, OUTER, SECTIONS, SECTION_HEADER, SECTION_LINES, SELECTED, SIX, TAGGED_V1, TAGGED_V2, V1_LINE, V2_LINE, WITH_FCS, block,
     classic, cooked, cooked_lines, frame, interface, joined, long_record, plain, record_is_cut, secrets,
 )
 from capture_copies import copied, copies, copies_that_fail, long_copy_in_pieces
@@ -155,6 +155,31 @@ CASES += [
          cooked_lines(19, "fault 0 open length 20 19 slice\n"), 1),
     Case("packet type 8", [], cooked("0800 0000 00000001 0304 08 06 0000000000000000"),
          cooked_lines(20, "fault 0 open content sll_packet_type 8\n"), 1),
+]
+
+
+# Cooked capture v1 on links whose hardware types give protocol numbers no meaning of their own: 772 the loopback device, 512 PPP. tshark shows the
+# same fields.
+V1_TAG = "vlan 16 pcp 5 dei 1 vid 291 0x0800\nrest 20 21 type 0x0800\n"
+CASES += [
+    Case("the loopback device in cooked capture v1", [], LOOPBACK_V1,
+         cooked_lines(17, "linux_sll 0 packet 0 hw 772 alen 6 addr 0000000000000000 0x0800\nrest 16 17 type 0x0800\n", 1), 0),
+    Case("its walk alone", ["--plain"], LOOPBACK_V1,
+         "linux_sll 0 packet 0 hw 772 alen 6 addr 0000000000000000 0x0800\nrest 16 17 type 0x0800\n", 0),
+    Case("a tag after hardware type 512", [], TAGGED_V1, cooked_lines(21, V1_LINE + V1_TAG, 1), 0),
+    Case("a tag cut short after it", [], cooked("0004 0200 0000 0000000000000000 8100 b123", 1),
+         cooked_lines(18, V1_LINE + "fault 16 open length 4 2 slice\n", 1), 1),
+    Case("no tag after it", ["--limit", "0"], TAGGED_V1, cooked_lines(21, V1_LINE + "rest 16 21 type 0x8100\n", 1), 0),
+    Case("a filter after it", ["--select", "vlan 291"], TAGGED_V1, cooked_lines(21, V1_LINE + V1_TAG, 1), 0),
+    Case("a filter that selects no tag", ["--select", "vlan 5"], TAGGED_V1, "total frames 1 skipped 0\n", 0),
+    Case("a number that is no ether type", [], cooked("0000 0304 0006 0000000000000000 0004 aa", 1),
+         cooked_lines(17, "linux_sll 0 packet 0 hw 772 alen 6 addr 0000000000000000 0x0004\nrest 16 17 type 0x0004\n", 1), 0),
+    Case("packet type 8 of hardware type 772", [], cooked("0008 0304 0006 0000000000000000 0800 45", 1),
+         cooked_lines(17, "fault 0 open content sll_packet_type 8\n", 1), 1),
+    Case("a header of hardware type 772 that is cut", [], cooked("0000 0304 0006 0000000000000000 08", 1),
+         cooked_lines(15, "fault 0 open length 16 15 slice\n", 1), 1),
+    Case("netlink in cooked capture v1", [], cooked("0004 0338 0000 0000000000000000 0010 14000000", 1),
+         cooked_lines(20, "linux_sll 0 packet 4 hw 824 alen 0 addr 0000000000000000 0x0010\nrest 16 20 sll netlink 0x0010\n", 1), 0),
 ]
 
 

@@ -15,7 +15,7 @@ import tempfile
 import time
 from shutil import which
 
-from captures import block, classic, joined
+from captures import TAGGED_V1, block, classic, cooked, joined
 from programs import count
 
 PUSH = ["--write", "--push-vlan", "0x8100:5"]
@@ -101,6 +101,31 @@ def sections(program):
     ]
 
 
+# Packet type, hardware type, address length, address, protocol type and payload: the loopback device, PPP, a tunnel of IPv4 in IPv4, a link without
+# a hardware type, and VLAN tags on PPP.
+COOKED_PACKETS = [
+    "0000 0304 0006 0000000000000000 0800 4500", "0004 0200 0000 0000000000000000 0800 4500", "0001 0300 0004 7f00000100000000 86dd 6000",
+    "0004 fffe 0000 0000000000000000 0806" + 28 * "00", "0004 0200 0000 0000000000000000 88a8 0064 8100 b123 0800 4500",
+]
+HEADER = re.compile(r"linux_sll 0 packet (\d+) hw (\d+) alen (\d+) addr [0-9a-f]{16} 0x([0-9A-F]{4})")
+
+
+def cooked_headers(program):
+    """Headers of cooked capture v1 whose hardware types give protocol numbers no meaning of their own, and the tags after them."""
+    capture = TAGGED_V1 + b"".join(cooked(it, 1)[24:] for it in COOKED_PACKETS)
+    lines, said, status = copied(program, ["--plain"], capture)
+    found = []
+    for line in lines.decode().splitlines():
+        told = HEADER.fullmatch(line)
+        if told:
+            found.append([*told.groups()[:3], f"0x{told[4].lower()}", []])
+        elif line.startswith("vlan"):
+            found[-1][-1].append(line.split()[line.split().index("vid") + 1])
+    read, read_status = tshark_fields(capture, "sll.pkttype", "sll.hatype", "sll.halen", "sll.etype", "ieee8021ad.id", "vlan.id")
+    shown = [[*it[:4], [tag for tag in it[4:] if tag]] for it in read]
+    return [("headers of cooked capture v1", (found, said, status), (shown, "", read_status))]
+
+
 def captured(words, seconds=10):
     """What dumpcap captures of the loopback device while datagrams cross it, or nothing if it may not."""
     with tempfile.NamedTemporaryFile() as file:
@@ -134,7 +159,7 @@ def live(program):
 def main():
     program = os.path.realpath(sys.argv[1])
     tried = []
-    for needed, tests in (("tcpdump", snap_lengths), ("tshark", sections), ("dumpcap", live)):
+    for needed, tests in (("tcpdump", snap_lengths), ("tshark", sections), ("tshark", cooked_headers), ("dumpcap", live)):
         missing = [it for it in {needed, "tcpdump"} if not which(it)]
         if missing:
             print(f"left out: {tests.__name__.replace('_', ' ')}, since there is no {' and no '.join(missing)}")

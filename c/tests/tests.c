@@ -628,6 +628,9 @@ static void captures_that_end_early(void) {
 
 /* ---- packets that a filter selects ---- */
 
+/* a cooked capture v1 of the loopback device, hardware type 772, with a VLAN tag */
+static const uint8_t COOKED_LOOPBACK[] = {0, 0, 0x03, 0x04, 0,    6,    0,    0,    0,    0,   0,
+                                          0, 0, 0,    0x81, 0x00, 0xB1, 0x23, 0x08, 0x00, 0x45};
 /* a cooked capture v2 with the VLAN tag of TAGGED, and one of a GRE tunnel */
 static const uint8_t COOKED_V2[] = {0x81, 0x00, 0, 0, 0, 0, 0, 3,    0,    1,    4,    6,   2,
                                     0,    0,    0, 0, 1, 0, 0, 0xB1, 0x23, 0x08, 0x00, 0x45};
@@ -667,6 +670,10 @@ static void captured_frames(void) {
     CHECK(is_frame(p, 0, sizeof CHECKED - 2, ETHERPEEL_START_ETHERNET2, 0));
     p.link_type = 113;
     CHECK(is_frame(p, 0, sizeof CHECKED - 2, ETHERPEEL_START_LINUX_SLL, 0));
+    p = captured_of(COOKED_LOOPBACK, sizeof COOKED_LOOPBACK, 113);
+    CHECK(is_frame(p, 16, 5, ETHERPEEL_START_ETHER_TYPE, 0x8100));
+    p.packet_len = 15;
+    CHECK(is_frame(p, 0, 15, ETHERPEEL_START_LINUX_SLL, 0));
     p = captured_of(COOKED_V2, sizeof COOKED_V2, 276);
     CHECK(is_frame(p, 20, 5, ETHERPEEL_START_ETHER_TYPE, 0x8100));
     p.packet_len = 19;

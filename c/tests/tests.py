@@ -141,6 +141,8 @@ def captures():
         check("no capture", raised(list, etherpeel.capture(file)), etherpeel.CaptureError)
 
 
+# of cooked capture v1 on the loopback device, hardware type 772, with TAGGED's VLAN tag
+COOKED_LOOPBACK = bytes.fromhex("0000 0304 0006 0000000000000000 8100 b1230800 45")
 # of cooked capture v2, from interface 3: sent by us, on Ethernet, with TAGGED's VLAN tag; and of a GRE tunnel
 COOKED_V2 = bytes.fromhex("8100 beef 00000003 0001 04 06 0200000000010000 b1230800 45")
 COOKED_V2_GRE = bytes.fromhex("0800 0000 00000001 030a 00 00 0000000000000000")
@@ -158,6 +160,8 @@ def frames_of_captures():
     check("check sequence", frame(TAGGED, 1, 4), (TAGGED, 0, Start.ETHERNET2_FCS, None))
     check("short check sequence", frame(TAGGED, 1, 2), (TAGGED[:-2], 0, Start.ETHERNET2, None))
     check("cooked", frame(COOKED_V2, 113), (COOKED_V2, 0, Start.LINUX_SLL, None))
+    check("loopback", frame(COOKED_LOOPBACK, 113), (COOKED_LOOPBACK[16:], 16, Start.ETHER_TYPE, 0x8100))
+    check("loopback, cut", frame(COOKED_LOOPBACK[:15], 113), (COOKED_LOOPBACK[:15], 0, Start.LINUX_SLL, None))
     check("cooked v2", frame(COOKED_V2, 276), (COOKED_V2[20:], 20, Start.ETHER_TYPE, 0x8100))
     check("not walked", [frame(*words) for words in ((COOKED_V2_GRE, 276), (COOKED_V2[:19], 276), (TAGGED, 105), (b"", 105))], [None] * 4)
     check("no bytes", frame(b"", 1), (b"", 0, Start.ETHERNET2, None))

@@ -152,8 +152,9 @@ def captured_frame(packet: Captured) -> Optional[Frame]:
     """What is walked of a packet of a capture, by its link type; None if nothing is.
 
     Of Ethernet that is the packet: with its frame check sequence if the file says that it has one of four bytes and it was
-    not cut, else without those bytes. Of Linux cooked capture v1 it is the packet without a frame check sequence. Of v2 it is
-    the payload, after a header of 20 bytes, if the header can be read and an ether type announces the payload.
+    not cut, else without those bytes. Of Linux cooked capture v1 it is the packet without a frame check sequence; but the
+    payload, after a header of 16 bytes, if the walk would refuse the header only for its hardware type, as 772 of the loopback
+    device. Of v2 it is the payload, after a header of 20 bytes, if the header can be read and an ether type announces it.
     """
     frame = _library.Frame()
     with lent(packet.packet) as (at, length):

@@ -4,7 +4,7 @@ use Rattle.ether_peel.specs.Grammar.Expectation.{Next}
 use Rattle.ether_peel.specs.Walker.Start.{next_of}
 use Rattle.ether_peel.specs.declared.start.Start.{Start}
 use Rattle.ether_peel.specs.declared.start.Start.TheVariants as starts
-use Rattle.ether_content.specs.Content.{ContentValue, LinuxSll2, IsWalked}
+use Rattle.ether_content.specs.Content.{ContentValue, LinuxSll, LinuxSll2, IsWalked}
 use Rattle.ether_c.specs.declared.ether_frame.EtherFrame.{EtherFrame}
 use Rattle.ether_c.specs.Numbers.{start_numbered, done, unknown_start}
 
@@ -13,8 +13,10 @@ abbrev pub first_ether_type : Start → ℕ
 first_ether_type (starts.EtherType t) = t.0
 first_ether_type _ = 0
 
--- where a frame begins in its packet: the payload of cooked capture v2 after a header of twenty bytes
+-- where a frame begins in its packet: the payload of cooked capture v1 that is no frame after a header of sixteen bytes, and that of v2
+-- after one of twenty
 abbrev pub frame_offset : ContentValue → ℕ
+frame_offset (LinuxSll s payload) = 16
 frame_offset (LinuxSll2 bytes) = 20
 frame_offset _ = 0
 

@@ -6,7 +6,7 @@ ghost use Rattle.ether_content.specs.ContentViews.{content_view};
 ghost use Rattle.ether_c.specs.CapturedFrame.{HoldsFrame, frame_offset, first_ether_type};
 ghost use Rattle.ether_c.specs.Numbers.{start_numbered};
 
-use ether_content::Content;
+use ether_content::{Content, CookedHeader};
 use ether_peel::Start;
 use ether_sll2::LinuxSll2Header;
 
@@ -50,6 +50,7 @@ fn offset_of(content: Content<'_>) -> usize
     ensures { result ≡ frame_offset (content_view content.entry) }
 {
     match content {
+        Content::LinuxSll(..) => CookedHeader::LEN,
         Content::LinuxSll2(_) => LinuxSll2Header::LEN,
         Content::Frame(..) | Content::Unknown => 0,
     }

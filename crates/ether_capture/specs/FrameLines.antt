@@ -1,10 +1,12 @@
 -- The lines of a captured packet: one for the packet itself, and those of the walk through its headers.
 use Rattle.std.specs.Prelude.{◌≡◌, ℕ, ◌+◌, ◌/◌, ◌%◌, ◌^◌, ◌⊎◌, List, [], ◌∷◌, ◌++◌, length, codes, Bool, true, false, Option, Some, None, if◌then◌else◌}
 use Rattle.std.specs.Fmt.{decimal}
-use Rattle.ether_content.specs.Content.{ContentValue, Frame, LinuxSll2, Unknown, content_of, is_cut, is_unknown}
+use Rattle.ether_base.specs.Formats.LinuxSll.{LinuxSllValue}
+use Rattle.ether_peel.specs.Grammar.Expectation.{EtherType}
+use Rattle.ether_content.specs.Content.{ContentValue, Frame, LinuxSll, LinuxSll2, Unknown, content_of, is_cut, is_unknown}
 use Rattle.ether_filter.specs.Expressions.{Expression}
-use Rattle.ether_text.specs.Lines.{spaced}
-use Rattle.ether_text.specs.WalkText.{AnswersWalk}
+use Rattle.ether_text.specs.Lines.{spaced, linux_sll_text}
+use Rattle.ether_text.specs.WalkText.{AnswersWalk, AnswersWalkAfter}
 use Rattle.ether_pcap.specs.Capture.{PacketValue, TimeValue}
 use Rattle.ether_capture.specs.LinuxSll2Lines.{AnswersLinuxSll2}
 use Rattle.ether_capture.specs.Task.{IsChosen}
@@ -47,9 +49,16 @@ packet_line_if false number p = packet_line number p
 
 -- ---- all lines of a packet
 
+-- of cooked capture v1 that is no frame: the line of the header, and those of the walk of the payload
+pub record AnswersLinuxSll (limit : Option ℕ) (s : LinuxSllValue) (payload text : List ℕ) (accepted : Bool) : Type 0 where
+  pub lines : List ℕ
+  pub walk : AnswersWalkAfter 16 (record { next = EtherType s.protocol; limit = limit }) payload lines accepted
+  pub whole : text ≡ (linux_sll_text 0 s ++ codes "\n") ++ lines
+
 -- the lines of the walk, with a limit or without; a packet that is skipped has none
 abbrev pub AnswersContent : (limit : Option ℕ) → ContentValue → (text : List ℕ) → (accepted : Bool) → Type 0
 AnswersContent limit (Frame next bytes) text accepted = AnswersWalk (record { next = next; limit = limit }) bytes text accepted
+AnswersContent limit (LinuxSll s payload) text accepted = AnswersLinuxSll limit s payload text accepted
 AnswersContent limit (LinuxSll2 bytes) text accepted = AnswersLinuxSll2 limit bytes text accepted
 AnswersContent limit Unknown text accepted = (text ≡ []) × (accepted ≡ true)
 

@@ -8,10 +8,12 @@ ghost use Rattle.ether_text.specs.OutputBuffer.{Takes, TakesAnswer};
 ghost use Rattle.ether_capture.specs.FrameLines.{is_skipped, nine_digits, time_text, mark, packet_line_if, HasLines, totals_line_if, totals_line_after};
 ghost use Rattle.ether_capture.specs.Packets.{counted};
 
+use crate::linux_sll_lines::write_linux_sll;
 use crate::linux_sll2_lines::write_linux_sll2;
 use crate::task::LineOptions;
-use ether_content::{Content, is_cut};
+use ether_content::{Content, CookedHeader, is_cut};
 use ether_pcap::{CapturedPacket, Timestamp};
+use ether_peel::Start;
 use ether_text::{OutputBuffer, Sink, eight_digits, write_decimal, write_walk_after};
 
 /// Writes the line of a packet unless only those of walks are asked for, and the lines of the walk through its headers. Returns whether the
@@ -32,6 +34,14 @@ pub fn write_lines<W: Sink>(
     write_packet_line(options.is_plain, count, packet, content, out);
     let (header_len, start, bytes) = match content {
         Content::Frame(start, bytes) => (0, start, bytes),
+        Content::LinuxSll(header, payload) => {
+            write_linux_sll(&header, out);
+            (
+                CookedHeader::LEN as u8,
+                Start::EtherType(header.protocol),
+                payload,
+            )
+        }
         Content::LinuxSll2(bytes) => match write_linux_sll2(bytes, out) {
             Ok((start, payload)) => (20, start, payload),
             Err(accepted) => return accepted,

@@ -16,6 +16,7 @@ pub mod input_buffer;
 pub mod interface_buffer;
 pub mod line_sink;
 mod linux_sll2_lines;
+mod linux_sll_lines;
 pub mod options;
 pub mod outcome;
 pub mod program;

@@ -34,6 +34,7 @@ pub walked_once : (c : ContentValue) (next other : Next) (list bytes : List ℕ)
     → IsWalked c other bytes
     → (next ≡ other) × (list ≡ bytes)
 walked_once c next other list bytes (content.frame _ _) (content.frame _ _) = (refl, refl)
+walked_once c next other list bytes (content.cooked _ _) (content.cooked _ _) = (refl, refl)
 walked_once c next other list bytes (content.payload _ n a e) (content.payload _ m b f) =
     let same : n ≡ m = cc in (ap EtherType same, refl)
 

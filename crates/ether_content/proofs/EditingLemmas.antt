@@ -1,70 +1,84 @@
 -- What an edit makes of the frame of a captured packet.
-use Rattle.std.proofs.Common.{◌≡◌, ℕ, ◌+◌, ◌-◌, ◌≤◌, List, [], ◌∷◌, ◌++◌, length, take, drop, Bool, true, false, None, refl, sym, ap, subst, ◌∙◌, arith, inl, inr, append-nil, length-append, length-drop}
+use Rattle.std.proofs.Common.{◌≡◌, ℕ, zero, suc, ◌+◌, ◌-◌, ◌≤◌, List, [], ◌∷◌, ◌++◌, length, take, drop, Bool, true, false, None, refl, sym, ap, subst, ◌∙◌, arith, inl, inr, append-nil, length-append, length-drop}
 use Rattle.std.specs.Prelude.{◌≢◌, slice_range, max, nat_lt, nat_eq, not, ◌&&◌, if◌then◌else◌}
 use borrow.Rule.Slice.PartMut.{put_mid, post_of}
 use Rattle.std.proofs.lemmas.Bool.{cases_lt, lt-ltb, le-ltb}
 use Rattle.std.proofs.lemmas.List.{length-take-le, take-take, take_all, take_at, drop-drop, drop-append-le}
 use Rattle.std.proofs.Math.Seq.{take-append-add}
 use Rattle.ether_base.specs.Bytes.{IsBytes}
-use Rattle.ether_base.proofs.SubLists.{part_join, rest_of_part}
-use Rattle.etherparse.specs.Header.{Header}
+use Rattle.ether_base.proofs.Numbers.{IsBytes-append, IsBytes-spelled}
+use Rattle.ether_base.proofs.SubLists.{IsBytes-take, IsBytes-drop, IsBytes-part, part_join, rest_of_part}
+use Rattle.etherparse.specs.Bytes.{spelled}
+use Rattle.etherparse.specs.Header.{Header, header_len}
+use Rattle.etherparse.specs.Header as headers
+use Rattle.etherparse.specs.LinuxSll.{linux_sll_of}
 use Rattle.etherparse.specs.Kind as kinds
-use Rattle.etherparse.specs.Vlan.{VlanValue}
+use Rattle.etherparse.specs.Vlan.{VlanValue, vlan_bytes}
 use Rattle.ether_peel.specs.Grammar.Expectation.{Next, Start}
+use Rattle.ether_peel.specs.Grammar.Places.{moved_ending}
 use Rattle.ether_peel.specs.Grammar.Stack.{Ending, Walk, whole}
 use Rattle.ether_peel.proofs.Grammar.Stacks.{some_stack}
 use Rattle.ether_peel.specs.Walker.Start.{start_of, next_of}
 use Rattle.ether_peel.specs.declared.start.Start.{Start as PeelStart}
-use Rattle.ether_packet.specs.TypedLink.{with_type}
+use Rattle.ether_packet.specs.TypedLink.{with_type, type_of_link}
 use Rattle.ether_packet.specs.Popping.{IsPopped, RefusesPop}
-use Rattle.ether_packet.specs.Pushing.{IsPushed, RefusesPush}
+use Rattle.ether_packet.specs.Pushing.{IsPushed, RefusesPush, pushed_bytes}
 use Rattle.ether_packet.specs.declared.tag_error.TagError.{TagError}
 use Rattle.ether_packet.proofs.TypedLinks.{means_whole_list, len_kept, link_least}
 use Rattle.ether_pcap.proofs.EditUnits.{part_past}
 use Rattle.ether_pcap.specs.Capture.{PacketValue}
 use Rattle.ether_pcap.specs.Editing.{EditedValue, edited_packet}
-use Rattle.ether_content.specs.Content.{ContentValue, Frame, LinuxSll2, Unknown, content_of, is_cut, fcs_len, has_fcs, without_fcs}
+use Rattle.ether_content.specs.Content.{ContentValue, Frame, LinuxSll, LinuxSll2, Unknown, content_of, is_cut, fcs_len, has_fcs, has_other_hardware, without_fcs}
 use Rattle.ether_content.specs.ContentViews.{content_view}
 use Rattle.ether_content.specs.Editing.{PopVlan, PushVlan, Edits, with_frame, frame_start, Pops, Pushes, tag_with, after_free, refused, not_popped, not_pushed}
 use Rattle.ether_content.specs.declared.content.Content.{Content}
 use Rattle.ether_content.specs.declared.content.Content.TheVariants as contents
+use Rattle.ether_content.proofs.CookedLemmas.{walked_usual, written_bytes}
 
 -- ---- the frame of a packet
 
--- what is walked, by the link type, whether a whole check sequence is there, all bytes, and those without it
-abbrev pub content_by : (ethernet cooked cooked2 fcs : Bool) → (all without : List ℕ) → ContentValue
-content_by ethernet cooked cooked2 fcs all without =
+-- what is walked, by the link type, whether a packet of cooked capture v1 is no frame, whether a whole check sequence is there, all bytes,
+-- and those without it
+abbrev pub content_by : (ethernet cooked other cooked2 fcs : Bool) → (all without : List ℕ) → ContentValue
+content_by ethernet cooked other cooked2 fcs all without =
     if ethernet then (if fcs then Frame (Start kinds.Ethernet2Fcs) all else Frame (Start kinds.Ethernet2) without)
-    else (if cooked then Frame (Start kinds.LinuxSll) without else (if cooked2 then LinuxSll2 without else Unknown))
+    else (if cooked
+    then (if other then LinuxSll (linux_sll_of without) (slice_range without 16 (length without))
+    else Frame (Start kinds.LinuxSll) without)
+    else (if cooked2 then LinuxSll2 without else Unknown))
 
 pub framed : (start next : Next) (bytes frame : List ℕ) → Frame start bytes ≡ Frame next frame
     → (start ≡ next) × (bytes ≡ frame)
 framed start next bytes frame is = let a : start ≡ next = cc in let b : bytes ≡ frame = cc in (a, b)
 
 -- what is so of all bytes, and of those without a check sequence, is so of a frame
-frame_by : (a b c d : Bool) (all without : List ℕ) (next : Next) (frame : List ℕ) (P : List ℕ → Type 0)
-    → content_by a b c d all without ≡ Frame next frame → P all → P without → P frame
-frame_by true b c true all without next frame P is p q = subst P (framed _ next all frame is).1 p
-frame_by true b c false all without next frame P is p q = subst P (framed _ next without frame is).1 q
-frame_by false true c d all without next frame P is p q = subst P (framed _ next without frame is).1 q
-frame_by false false true d all without next frame P is p q = absurd cc
-frame_by false false false d all without next frame P is p q = absurd cc
+frame_by : (a b o c d : Bool) (all without : List ℕ) (next : Next) (frame : List ℕ) (P : List ℕ → Type 0)
+    → content_by a b o c d all without ≡ Frame next frame → P all → P without → P frame
+frame_by true b o c true all without next frame P is p q = subst P (framed _ next all frame is).1 p
+frame_by true b o c false all without next frame P is p q = subst P (framed _ next without frame is).1 q
+frame_by false true true c d all without next frame P is p q = absurd cc
+frame_by false true false c d all without next frame P is p q = subst P (framed _ next without frame is).1 q
+frame_by false false o true d all without next frame P is p q = absurd cc
+frame_by false false o false d all without next frame P is p q = absurd cc
 
 -- another frame in its place
-frame_after : (a b c d : Bool) (all without all2 without2 : List ℕ) (next : Next) (frame new : List ℕ)
-    → content_by a b c d all without ≡ Frame next frame → (all ≡ frame → all2 ≡ new)
-    → (without ≡ frame → without2 ≡ new) → content_by a b c d all2 without2 ≡ Frame next new
-frame_after true b c true all without all2 without2 next frame new is f g =
+frame_after : (a b o o2 c d : Bool) (all without all2 without2 : List ℕ) (next : Next) (frame new : List ℕ)
+    → content_by a b o c d all without ≡ Frame next frame → (all ≡ frame → all2 ≡ new)
+    → (without ≡ frame → without2 ≡ new) → (without ≡ frame → Start kinds.LinuxSll ≡ next → o2 ≡ false)
+    → content_by a b o2 c d all2 without2 ≡ Frame next new
+frame_after true b o o2 c true all without all2 without2 next frame new is f g usual =
     let s = framed _ next all frame is in
     ap (λ (n : Next). Frame n all2) s.0 ∙ ap (Frame next) (f s.1)
-frame_after true b c false all without all2 without2 next frame new is f g =
+frame_after true b o o2 c false all without all2 without2 next frame new is f g usual =
     let s = framed _ next without frame is in
     ap (λ (n : Next). Frame n without2) s.0 ∙ ap (Frame next) (g s.1)
-frame_after false true c d all without all2 without2 next frame new is f g =
+frame_after false true true o2 c d all without all2 without2 next frame new is f g usual = absurd cc
+frame_after false true false o2 c d all without all2 without2 next frame new is f g usual =
     let s = framed _ next without frame is in
-    ap (λ (n : Next). Frame n without2) s.0 ∙ ap (Frame next) (g s.1)
-frame_after false false true d all without all2 without2 next frame new is f g = absurd cc
-frame_after false false false d all without all2 without2 next frame new is f g = absurd cc
+    ap (λ (b : Bool). content_by false true b c d all2 without2) (usual s.1 s.0)
+    ∙ ap (λ (n : Next). Frame n without2) s.0 ∙ ap (Frame next) (g s.1)
+frame_after false false o o2 true d all without all2 without2 next frame new is f g usual = absurd cc
+frame_after false false o o2 false d all without all2 without2 next frame new is f g usual = absurd cc
 
 -- the front of a list
 abbrev IsFront : (list front : List ℕ) → Type 0
@@ -83,8 +97,9 @@ front_taken n list =
 pub frame_front : (p : PacketValue) (next : Next) (frame : List ℕ) → content_of p ≡ Frame next frame
     → (length frame ≤ length p.packet) × (take (length frame) p.packet ≡ frame)
 frame_front p next frame is =
-    frame_by (nat_eq p.link_type 1) (nat_eq p.link_type 113) (nat_eq p.link_type 276) (has_fcs p) p.packet
-    (without_fcs p) next frame (IsFront p.packet) is (omega arith, take_all (length p.packet) p.packet (omega arith))
+    frame_by (nat_eq p.link_type 1) (nat_eq p.link_type 113) (has_other_hardware (without_fcs p))
+    (nat_eq p.link_type 276) (has_fcs p) p.packet (without_fcs p) next frame (IsFront p.packet) is
+    (omega arith, take_all (length p.packet) p.packet (omega arith))
     (front_taken (max p.original_len (length p.packet) - fcs_len p) p.packet)
 
 -- ---- the content of a packet with another frame
@@ -99,8 +114,9 @@ pub record KeepsEnd (p : PacketValue) (frame new : List ℕ) (original_len : ℕ
 
 pub content_after : (p : PacketValue) (next : Next) (frame new : List ℕ) (original_len : ℕ)
     → content_of p ≡ Frame next frame → KeepsEnd p frame new original_len
+    → (Start kinds.LinuxSll ≡ next → has_other_hardware new ≡ false)
     → content_of (edited_packet (with_frame p frame new original_len) p) ≡ Frame next new
-content_after p next frame new original_len is keeps =
+content_after p next frame new original_len is keeps usual =
     let rest = drop (length frame) p.packet in
     let packet = new ++ rest in
     let q = edited_packet (with_frame p frame new original_len) p in
@@ -128,9 +144,11 @@ content_after p next frame new original_len is keeps =
     ] in
     let cooked = nat_eq p.link_type 113 in
     let cooked2 = nat_eq p.link_type 276 in
-    ap (λ (b : Bool). content_by (nat_eq p.link_type 1) cooked cooked2 b packet (without_fcs q)) fcs
-    ∙ frame_after (nat_eq p.link_type 1) cooked cooked2 (has_fcs p) p.packet (without_fcs p) packet (without_fcs q)
-    next frame new is whole part
+    let other = has_other_hardware (without_fcs q) in
+    ap (λ (b : Bool). content_by (nat_eq p.link_type 1) cooked other cooked2 b packet (without_fcs q)) fcs
+    ∙ frame_after (nat_eq p.link_type 1) cooked (has_other_hardware (without_fcs p)) other cooked2 (has_fcs p) p.packet
+    (without_fcs p) packet (without_fcs q) next frame new is whole part
+    (λ same begins. ap has_other_hardware (part same) ∙ usual begins)
   where
     no_items : (list : List ℕ) → length list ≡ 0 → list ≡ []
     no_items [] e = refl
@@ -218,6 +236,15 @@ popped_room next frame hs e tag new is =
     let least = link_least is.link is.begins.is_link in
     omega (arith, m.whole, len, least)
 
+pub popped_usual : (next : Next) (frame : List ℕ) (hs : List Header) (e : Ending) (tag : VlanValue) (new : List ℕ)
+    → IsBytes frame → IsPopped (frame_start next) frame hs e tag new → Start kinds.LinuxSll ≡ next
+    → has_other_hardware (drop 4 new) ≡ false
+popped_usual next frame hs e tag new ok is =
+    let m = header_len is.link - 2 in
+    let bytes = subst IsBytes (sym is.bytes) (written_bytes frame (take m frame) 4 ok (IsBytes-take m frame ok)) in
+    walked_usual next (drop 4 new) (with_type is.link tag.ether_type) is.later
+    (moved_ending (header_len is.link + 4) (header_len is.link) e) (IsBytes-drop 4 new bytes) is.walk
+
 pub record PopDone (p : PacketValue) (after : List ℕ) : Type 0 where
   pub pops : Pops p (record { original_len = p.original_len - 4; packet = slice_range after 8 (4 + length p.packet) })
   pub least : 8 ≤ 4 + length p.packet
@@ -262,7 +289,8 @@ pop_done p start frame buffer new tag ok is room there len popped =
             is = edited_is;
             content =
                 ap (λ (e : EditedValue). content_of (edited_packet e p)) edited_is
-                ∙ content_after p (next_of start) frame (drop 4 new) (p.original_len - 4) is keeps;
+                ∙ content_after p (next_of start) frame (drop 4 new) (p.original_len - 4) is keeps
+                (popped_usual (next_of start) frame some.0 some.1 tag new ok is_popped);
           };
       least = omega (arith, front.0, same, shorter, least);
     }
@@ -271,6 +299,7 @@ pub not_framed : (c : Content) → ((start : PeelStart) → (bytes : _) → c �
     → (next : Next) (frame : List ℕ) → content_view c ≢ Frame next frame
 not_framed (contents.Frame start bytes) not next frame is = not start bytes refl
 not_framed (contents.LinuxSll2 bytes) not next frame is = absurd cc
+not_framed (contents.LinuxSll header payload) not next frame is = absurd cc
 not_framed contents.Unknown not next frame is = absurd cc
 
 pub pop_refused : (p : PacketValue) (start : PeelStart) (frame buffer : List ℕ) (error : TagError) → IsBytes frame
@@ -363,6 +392,33 @@ linked_room next frame hs e tag tpid new walk is =
     let least = link_least is.link is.begins.is_link in
     omega (arith, m.whole, least)
 
+free_bytes : (frame : List ℕ) → IsBytes frame → IsBytes (after_free frame)
+free_bytes frame ok zero = omega arith
+free_bytes frame ok (suc zero) = omega arith
+free_bytes frame ok (suc (suc zero)) = omega arith
+free_bytes frame ok (suc (suc (suc zero))) = omega arith
+free_bytes frame ok (suc (suc (suc (suc i)))) = ok i
+
+pub pushed_usual : (next : Next) (frame : List ℕ) (hs : List Header) (e : Ending) (tag : VlanValue) (tpid : ℕ)
+    (new : List ℕ)
+    → IsBytes frame → IsPushed (frame_start next) (after_free frame) hs e tag tpid new
+    → Start kinds.LinuxSll ≡ next → has_other_hardware new ≡ false
+pushed_usual next frame hs e tag tpid new ok is =
+    let n = header_len is.link + 2 in
+    let old = free_bytes frame ok in
+    let front = slice_range (after_free frame) 4 n in
+    let four = pushed_bytes tpid tag in
+    let four_bytes =
+    IsBytes-append (spelled 2 tpid) (slice_range (vlan_bytes tag) 0 2) (IsBytes-spelled 2 tpid)
+    (IsBytes-part 0 2 (vlan_bytes tag) (IsBytes-spelled 4 _)) in
+    let bytes =
+    subst IsBytes (sym is.bytes)
+    (written_bytes (after_free frame) (front ++ four) 0 old
+    (IsBytes-append front four (IsBytes-part 4 n (after_free frame) old) four_bytes)) in
+    let inner = headers.Vlan (record tag { ether_type = type_of_link is.link }) in
+    walked_usual next new (with_type is.link tpid) (inner ∷ is.later)
+    (moved_ending (header_len is.link) (header_len is.link + 4) e) bytes is.walk
+
 pub record PushDone (tpid id : ℕ) (p : PacketValue) (after : List ℕ) : Type 0 where
   pub pushes : Pushes tpid id p
       (record { original_len = p.original_len + 4; packet = slice_range after 0 (4 + length p.packet) })
@@ -405,7 +461,8 @@ push_done p start frame buffer new tpid id ok is room free there len pushed =
             is = edited_is;
             content =
                 ap (λ (e : EditedValue). content_of (edited_packet e p)) edited_is
-                ∙ content_after p (next_of start) frame new (p.original_len + 4) is keeps;
+                ∙ content_after p (next_of start) frame new (p.original_len + 4) is keeps
+                (pushed_usual (next_of start) frame some.0 some.1 (tag_with id) tpid new ok is_pushed);
           };
     }
 

@@ -15,11 +15,11 @@ use Rattle.ether_peel.specs.declared.start.Start.TheVariants as starts
 use Rattle.ether_packet.proofs.TagChanges.{Popped, popped_or_not, Pushed, pushed_or_not, set_found, found_or_not}
 use Rattle.ether_pcap.specs.Capture.{PacketValue}
 use Rattle.ether_pcap.specs.Editing.{EditedValue}
-use Rattle.ether_content.specs.Content.{ContentValue, Frame, content_of, fcs_len, has_fcs, without_fcs}
+use Rattle.ether_content.specs.Content.{ContentValue, Frame, content_of, fcs_len, has_fcs, has_other_hardware, without_fcs}
 use Rattle.ether_content.specs.Editing.{EditValue, CutToHeaders, PopVlan, PushVlan, SetVlan, Edits, EditsAreSome, IsFrame, with_frame, tag_with, after_free, no_frame, refused, cuts, not_cut, pops, not_popped, pushes, not_pushed, sets, not_set}
-use Rattle.ether_content.proofs.EditingLemmas.{content_by, content_after, frame_front, keeps_end_less, keeps_end_more, popped_room}
+use Rattle.ether_content.proofs.EditingLemmas.{content_by, content_after, frame_front, keeps_end_less, keeps_end_more, popped_room, popped_usual, pushed_usual}
 use Rattle.ether_content.proofs.HeadersLemmas.{takes_some}
-use Rattle.ether_content.proofs.SettingLemmas.{keeps_end_same}
+use Rattle.ether_content.proofs.SettingLemmas.{keeps_end_same, set_usual}
 
 -- ---- a packet is a frame, or it is none
 
@@ -32,21 +32,22 @@ record Framed (c : ContentValue) : Type 0 where
 abbrev Unframed : ContentValue → Type 0
 Unframed c = (next : Next) (frame : List ℕ) → c ≢ Frame next frame
 
-framed_by : (a b c d : Bool) (all without : List ℕ) → IsBytes all → IsBytes without
-    → Framed (content_by a b c d all without) ⊎ Unframed (content_by a b c d all without)
-framed_by true b c true all without x y =
+framed_by : (a b o c d : Bool) (all without : List ℕ) → IsBytes all → IsBytes without
+    → Framed (content_by a b o c d all without) ⊎ Unframed (content_by a b o c d all without)
+framed_by true b o c true all without x y =
     inl (record { start = starts.Ethernet2Fcs; frame = all; is = refl; ok = x })
-framed_by true b c false all without x y =
+framed_by true b o c false all without x y =
     inl (record { start = starts.Ethernet2; frame = without; is = refl; ok = y })
-framed_by false true c d all without x y =
+framed_by false true true c d all without x y = inr (λ next frame is. absurd cc)
+framed_by false true false c d all without x y =
     inl (record { start = starts.LinuxSll; frame = without; is = refl; ok = y })
-framed_by false false true d all without x y = inr (λ next frame is. absurd cc)
-framed_by false false false d all without x y = inr (λ next frame is. absurd cc)
+framed_by false false o true d all without x y = inr (λ next frame is. absurd cc)
+framed_by false false o false d all without x y = inr (λ next frame is. absurd cc)
 
 framed_or_not : (p : PacketValue) → IsBytes p.packet → Framed (content_of p) ⊎ Unframed (content_of p)
 framed_or_not p ok =
-    framed_by (nat_eq p.link_type 1) (nat_eq p.link_type 113) (nat_eq p.link_type 276) (has_fcs p) p.packet
-    (without_fcs p) ok (IsBytes-take (max p.original_len (length p.packet) - fcs_len p) p.packet ok)
+    framed_by (nat_eq p.link_type 1) (nat_eq p.link_type 113) (has_other_hardware (without_fcs p))
+    (nat_eq p.link_type 276) (has_fcs p) p.packet (without_fcs p) ok (IsBytes-take (max p.original_len (length p.packet) - fcs_len p) p.packet ok)
 
 -- the walk of a frame
 record Walked (p : PacketValue) : Type 0 where
@@ -104,7 +105,8 @@ popped p w t =
         is = refl;
         content =
             content_after p (next_of w.start) w.frame new (p.original_len - 4) w.is.content
-            (keeps_end_less p w.frame new (omega (arith, least, less, len)) front.0);
+            (keeps_end_less p w.frame new (omega (arith, least, less, len)) front.0)
+            (popped_usual (next_of w.start) w.frame w.headers w.ending t.tag t.new w.ok t.is);
       }),
     )
 
@@ -139,7 +141,8 @@ pushed p tpid id w t =
         is = refl;
         content =
             content_after p (next_of w.start) w.frame t.new (p.original_len + 4) w.is.content
-            (keeps_end_more p w.frame t.new (omega (arith, len)) (omega (arith, least)) front.0);
+            (keeps_end_more p w.frame t.new (omega (arith, len)) (omega (arith, least)) front.0)
+            (pushed_usual (next_of w.start) w.frame w.headers w.ending (tag_with id) tpid t.new w.ok t.is);
       }),
     )
 
@@ -186,7 +189,8 @@ some_set p old new lt ok =
                     is = refl;
                     content =
                         content_after p (next_of w.start) w.frame s.new p.original_len w.is.content
-                        (keeps_end_same p w.frame s.new s.len front.0);
+                        (keeps_end_same p w.frame s.new s.len front.0)
+                        (set_usual (next_of w.start) w.frame w.headers w.ending t.0 new s.new w.ok s.is);
                   }),
                 )
             | inr lacks ↦ (None, not_set p old new (refused (next_of w.start) w.frame w.headers w.ending w.is lacks))

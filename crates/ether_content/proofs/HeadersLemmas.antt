@@ -5,6 +5,7 @@ use Rattle.etherparse.specs.Header.{Header}
 use Rattle.ether_base.specs.Bytes.{IsBytes}
 use Rattle.ether_base.proofs.SubLists.{IsBytes-take, IsBytes-part, length-part_min}
 use Rattle.etherparse.specs.Kind as kinds
+use Rattle.ether_base.specs.Formats.LinuxSll.{LinuxSllValue, linux_sll_of}
 use Rattle.ether_base.specs.Formats.LinuxSllProtocolType.{told_ether_type}
 use Rattle.ether_peel.specs.Grammar.Cuts.{reach}
 use Rattle.ether_peel.specs.Grammar.Expectation.{Next, Start, EtherType, Expectation}
@@ -13,7 +14,7 @@ use Rattle.ether_peel.proofs.Grammar.Stacks.{some_stack, one_stack}
 use Rattle.ether_sll2.specs.LinuxSll2.{AcceptsLinuxSll2, protocol_of_header}
 use Rattle.ether_sll2.proofs.LinuxSll2Laws.{rows_apart}
 use Rattle.ether_pcap.specs.Capture.{PacketValue}
-use Rattle.ether_content.specs.Content.{ContentValue, Frame, LinuxSll2, IsWalked, content_of, fcs_len, has_fcs, without_fcs}
+use Rattle.ether_content.specs.Content.{ContentValue, Frame, LinuxSll, LinuxSll2, IsWalked, content_of, cooked_content, fcs_len, has_fcs, has_other_hardware, without_fcs}
 use Rattle.ether_content.specs.Content as content
 use Rattle.ether_content.specs.Headers.{Reaches, HeadersTake, HeadersTakeOne}
 use Rattle.ether_content.specs.Headers as takes
@@ -44,6 +45,8 @@ accepted bytes frame next (content.payload _ n a e) = a
 
 pub takes_one : (c : ContentValue) (n m : ℕ) → HeadersTake c n → HeadersTake c m → n ≡ m
 takes_one c n m (takes.frame next bytes _ r) (takes.frame _ _ _ s) = reaches_one next bytes n m r s
+takes_one c n m (takes.cooked s payload a r) (takes.cooked _ _ b t) =
+    ap (λ k. 16 + k) (reaches_one (EtherType s.protocol) payload a b r t)
 takes_one c n m (takes.payload next bytes frame a w r) (takes.payload other _ others b v s) =
     let same = walked_once (LinuxSll2 bytes) next other frame others w v in
     ap (λ k. 20 + k)
@@ -81,6 +84,17 @@ some_reach next frame ok =
 some_frame : (next : Next) (frame : List ℕ) → IsBytes frame → Takes (Frame next frame)
 some_frame next frame ok = let r = some_reach next frame ok in (r.0, takes.frame next frame r.0 r.1)
 
+some_cooked : (s : LinuxSllValue) (payload : List ℕ) → IsBytes payload → Takes (LinuxSll s payload)
+some_cooked s payload ok =
+    let r = some_reach (EtherType s.protocol) payload ok in
+    (16 + r.0, takes.cooked s payload r.0 r.1)
+
+some_linux_sll : (bytes : List ℕ) → IsBytes bytes → Takes (cooked_content bytes)
+some_linux_sll bytes ok =
+    some_if (has_other_hardware bytes) _ _
+    (some_cooked (linux_sll_of bytes) (slice_range bytes 16 (length bytes)) (IsBytes-part 16 (length bytes) bytes ok))
+    (some_frame (Start kinds.LinuxSll) bytes ok)
+
 some_payload : (bytes : List ℕ) (o : Option ℕ) → IsBytes bytes → AcceptsLinuxSll2 bytes
     → told_ether_type (protocol_of_header bytes) ≡ o → Takes (LinuxSll2 bytes)
 some_payload bytes None ok a e = (20, takes.header bytes a e)
@@ -102,7 +116,7 @@ takes_some p ok =
     some_if (nat_eq p.link_type 1) _ _
     (some_if (has_fcs p) _ _ (some_frame (Start kinds.Ethernet2Fcs) p.packet ok)
     (some_frame (Start kinds.Ethernet2) (without_fcs p) part))
-    (some_if (nat_eq p.link_type 113) _ _ (some_frame (Start kinds.LinuxSll) (without_fcs p) part)
+    (some_if (nat_eq p.link_type 113) _ _ (some_linux_sll (without_fcs p) part)
     (some_if (nat_eq p.link_type 276) _ _ (some_linux_sll2 (without_fcs p) part) (0, takes.unknown)))
 
 -- ---- a payload of cooked capture v2

@@ -1,5 +1,6 @@
 pub mod SelectingLemmas
 pub mod ContentLemmas
+pub mod CookedLemmas
 pub mod HeadersLemmas
 pub mod EditingLemmas
 pub mod SettingLemmas

@@ -5,10 +5,11 @@ ghost use Rattle.ether_sll2.specs.LinuxSll2.{AcceptsLinuxSll2, protocol_of_heade
 ghost use Rattle.ether_pcap.specs.CaptureViews.{captured_packet_view};
 ghost use Rattle.ether_peel.specs.Walker.Start.{next_of};
 ghost use Rattle.ether_peel.specs.Grammar.Expectation.{Next};
-ghost use Rattle.ether_content.specs.Content.{IsWalked, content_of, fcs_len, has_fcs, is_cut, is_unknown, without_fcs};
+ghost use Rattle.ether_content.specs.Content.{IsWalked, content_of, cooked_content, fcs_len, has_fcs, is_cut, is_unknown, without_fcs};
 ghost use Rattle.ether_content.specs.Content as contents;
 ghost use Rattle.ether_content.specs.ContentViews.{content_view};
 
+use crate::cooked::{CookedHeader, cooked_header};
 use ether_pcap::{CapturedPacket, LinkType};
 use ether_peel::Start;
 use ether_sll2::LinuxSll2Slice;
@@ -35,6 +36,9 @@ const FCS_LEN: usize = 4;
 pub enum Content<'a> {
     /// A frame, with what it begins with. It has a frame check sequence only if that says so.
     Frame(Start, &'a [u8]),
+    /// A packet of Linux cooked capture v1 whose hardware type, other than that of Ethernet, gives protocol numbers no meaning of their own:
+    /// its header, and its payload, which is walked by the protocol as an ether type.
+    LinuxSll(CookedHeader, &'a [u8]),
     /// A packet of Linux cooked capture v2.
     LinuxSll2(&'a [u8]),
     /// Nothing: the walk knows no such link type.
@@ -57,7 +61,7 @@ impl<'a> Content<'a> {
             return Content::Frame(Start::Ethernet2, without_fcs(packet));
         }
         if packet.link_type == LinkType::LINUX_SLL {
-            return Content::Frame(Start::LinuxSll, without_fcs(packet));
+            return cooked_content(without_fcs(packet));
         }
         if packet.link_type == LinkType::LINUX_SLL2 {
             return Content::LinuxSll2(without_fcs(packet));
@@ -73,17 +77,30 @@ impl<'a> Content<'a> {
         matches!(self, Content::Unknown)
     }
 
-    /// The frame, with what it begins with. Of cooked capture v2 that is the payload, if the header can be read and an ether type
-    /// announces it.
+    /// The frame, with what it begins with. Of a packet of cooked capture v1 that is no frame it is the payload, and of v2 too, if the
+    /// header can be read and an ether type announces it.
     pub fn frame(self) -> Option<(Start, &'a [u8])>
         ensures some { IfSome result (λ frame. IsWalked (content_view self.entry) (next_of frame.0) frame.1.now) }
         ensures none { result ≡ None → (next : Next) (bytes : List ℕ) → IsWalked (content_view self.entry) next bytes → ⊥ }
     {
         match self {
             Content::Frame(start, bytes) => Some((start, bytes)),
+            Content::LinuxSll(header, payload) => {
+                Some((Start::EtherType(header.protocol), payload))
+            }
             Content::LinuxSll2(bytes) => payload_of(bytes),
             Content::Unknown => None,
         }
+    }
+}
+
+/// What is walked of a packet of cooked capture v1.
+fn cooked_content(bytes: &[u8]) -> Content<'_>
+    ensures { content_view result ≡ cooked_content bytes.now }
+{
+    match cooked_header(bytes) {
+        Some(header) => Content::LinuxSll(header, &bytes[CookedHeader::LEN..]),
+        None => Content::Frame(Start::LinuxSll, bytes),
     }
 }
 

@@ -7,6 +7,7 @@ ghost use Rattle.ether_content.specs.Headers.{HeadersTake, Reaches};
 ghost use Rattle.ether_peel.specs.Walker.Start.{next_of};
 
 use crate::content::{Content, payload_of};
+use crate::cooked::CookedHeader;
 use ether_packet::min_snap_len;
 use ether_pcap::CapturedPacket;
 use ether_peel::Start;
@@ -38,6 +39,9 @@ pub fn headers_len(packet: &CapturedPacket<'_>) -> usize
 {
     match Content::of(packet) {
         Content::Frame(start, frame) => frame_len(start, frame),
+        Content::LinuxSll(header, payload) => {
+            CookedHeader::LEN + frame_len(Start::EtherType(header.protocol), payload)
+        }
         Content::LinuxSll2(bytes) => linux_sll2_len(bytes),
         Content::Unknown => 0,
     }

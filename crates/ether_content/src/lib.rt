@@ -3,12 +3,14 @@
 #![tactic(auto)]
 
 mod content;
+mod cooked;
 mod editing;
 mod headers;
 pub mod laws;
 mod selecting;
 
 pub use content::{Content, is_cut, without_fcs};
+pub use cooked::CookedHeader;
 pub use editing::{EditedPacket, NoRoom, PacketEdit, edit_packet};
 pub use headers::headers_len;
 pub use selecting::selects;

@@ -9,11 +9,13 @@ use Rattle.ether_text.specs.OutputBuffer.{Takes}
 use Rattle.ether_text.specs.WalkText.{AnswersWalkAfter}
 use Rattle.ether_text.specs.declared.output_buffer.OutputBuffer.{OutputBuffer}
 use Rattle.ether_text.proofs.OutputBufferLemmas.{Takes-then}
+use Rattle.ether_text.specs.Lines.{linux_sll_text}
 use Rattle.ether_content.specs.Content.{ContentValue}
+use Rattle.ether_content.specs.ContentViews.{cooked_view}
 use Rattle.ether_capture.specs.FrameLines.{AnswersContent, packet_line_if}
 use Rattle.ether_capture.specs.Packets.{counted}
 use Rattle.ether_capture.specs.LinuxSll2Lines.{AnswersPayload, linux_sll2_text, read}
-use Rattle.ether_capture.proofs.frame_lines.write_lines.Goals.{in-Frame, in-LinuxSll2+in-Ok}
+use Rattle.ether_capture.proofs.frame_lines.write_lines.Goals.{in-Frame, in-LinuxSll, in-LinuxSll2+in-Ok}
 use Rattle.ether_capture.proofs.frame_lines.write_lines.Goals as goal
 
 pub returns-in-Err : goal.returns-in-Err
@@ -78,6 +80,31 @@ returns g c =
                 Takes-then c.write_packet_line.ensures
                 (subst (λ (out : OutputBuffer g.row.W.Denot). Takes contents can_fail out walk.text new) w.out-is
                 walk.taken);
+          }
+      | in-LinuxSll w ↦
+          let is = rw w.in-LinuxSll.is at c.of-content.ensures in
+          let s = cooked_view w.in-LinuxSll.header in
+          let payload = w.in-LinuxSll.payload.now in
+          let first = linux_sll_text 0 s ++ codes "\n" in
+          let answers =
+          subst
+          (λ (t : ℕ × Start × Bor (List ℕ)).
+          AnswersWalkAfter t.0 (start_with t.1 limit) t.2.now walk.text accepted)
+          w.header_len-is walk.answers in
+          record {
+            text = line ++ (first ++ walk.text);
+            answers =
+                record {
+                  lines = first ++ walk.text;
+                  content =
+                      subst (λ (f : ContentValue). AnswersContent limit f (first ++ walk.text) accepted) is
+                      (record { lines = walk.text; walk = answers; whole = refl });
+                  whole = refl;
+                };
+            taken = Takes-then c.write_packet_line.ensures
+                (Takes-then w.write_linux_sll.ensures
+                (subst (λ (out : OutputBuffer g.row.W.Denot). Takes contents can_fail out walk.text new) w.out-is
+                walk.taken));
           }
       | in-LinuxSll2+in-Ok w ↦
           let is = rw w.in-LinuxSll2.is at c.of-content.ensures in
