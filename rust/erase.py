@@ -1,0 +1,177 @@
+#!/usr/bin/env python3
+"""Erases the proofs from the proved sources, and writes what is left as a crate of plain Rust.
+
+    python3 rust/erase.py [FOLDER]
+
+reads `crates/*/src` and writes `src` and `tests` of the crate in FOLDER, or of `rust/etherpeel`. Each rule deletes, or
+respells one exact form (`erasing/rules.py`). What is not known (`erasing/known.py`) is refused with its file and line,
+and then nothing is written.
+"""
+import os
+import sys
+
+sys.dont_write_bytecode = True
+from erasing import check, docs, rules, testing  # noqa: E402
+from erasing.tokens import Refused, joined, lex  # noqa: E402
+
+HERE = os.path.dirname(os.path.abspath(__file__))
+CRATES = os.path.join(os.path.dirname(HERE), "crates")
+NAME = "etherpeel"
+FACADE = "etherparse"  # the root of the result
+INNER = ["ether_base", "ether_tags", "ether_sll", "ether_arp"]  # hidden modules: the facade has their public names
+# Public modules.
+OUTER = ["ether_peel", "ether_sll2", "ether_packet", "ether_filter", "ether_pcap", "ether_content"]
+LIBRARIES = [*INNER, FACADE, *OUTER]
+# The crates of tests, each with the examples that it tests.
+TESTS = {"etherparse_tests": [], "ether_content_tests": ["example_frames", "example_learning_switch"]}
+EXAMPLES = [example for examples in TESTS.values() for example in examples]
+# Modules that are left out: laws, what is proved and never run, and the tests of a crate that is not in the result.
+LEFT_OUT = {"laws", "derived_traits", "text"}
+
+ROOT = """#![doc = include_str!("../README.md")]
+#![no_std]
+#![forbid(unsafe_code)]
+
+//! # Headers and views
+//!
+"""
+TEST_ROOT = """
+// Assertions no longer take the runtime, what is left out no longer uses what others have, and the forms are those of
+// the sources.
+#![allow(clippy::all, dead_code, unused_imports, unused_variables)]
+
+#[path = "../kit/mod.rs"]
+mod kit;
+"""
+
+
+def sources(crate):
+    """Each source of a crate that is not left out: its path below `src`, and its text."""
+    top = os.path.join(CRATES, crate, "src")
+    for folder, _, names in sorted(os.walk(top)):
+        for path in (os.path.relpath(os.path.join(folder, name), top) for name in sorted(names)):
+            if not LEFT_OUT & set(path[:-3].split("/")):
+                with open(os.path.join(top, path), encoding="utf-8") as file:
+                    yield path, file.read()
+
+
+def library_path(crate, word):
+    """What stands in the place of the first word of a path in the library, if another does."""
+    if word == "crate":
+        return None if crate == FACADE else f"crate::{crate}"
+    if word in LIBRARIES:
+        return "crate" if word == FACADE else f"crate::{word}"
+    return "core" if word == "std" else None
+
+
+def test_path(crate, word):
+    """The same in a test, where an example is a module."""
+    if word == "crate":
+        return None if crate in TESTS else f"crate::{crate}"
+    if word in LIBRARIES:
+        return NAME if word == FACADE else f"{NAME}::{word}"
+    return f"crate::{word}" if word in EXAMPLES else None
+
+
+def public_modules(texts, path):
+    """The public modules on the way to a file of a crate."""
+    parts = path[:-3].split("/") if path != "lib.rt" else []
+    for i, part in enumerate(parts):
+        above = "/".join(parts[:i]) + ".rt" if i else "lib.rt"
+        if f"pub mod {part};" not in texts[above]:
+            return
+        yield "::".join(parts[:i + 1])
+
+
+def imports_of(crate, path, texts):
+    """What the examples of a file import: the root, the modules up to its crate's, and the public ones around it."""
+    below = [name for name in OUTER if crate in LIBRARIES and LIBRARIES.index(name) <= LIBRARIES.index(crate)]
+    around = [f"{NAME}::{crate}::{module}" for module in public_modules(texts, path)]
+    return [NAME, *(f"{NAME}::{name}" for name in below), *around]
+
+
+def erase(text, crate, names, imports=()):
+    """The text of a source without its proofs."""
+    tokens = lex(text)
+    for token in tokens:
+        begin = token.line - token.before.count("\n")
+        module = "" if crate == FACADE else crate
+        token.before = docs.documentation(token.before, begin, module, imports, names)
+    for rule in rules.RULES if crate in LIBRARIES else testing.RULES:
+        rule(tokens)
+    rules.paths(tokens, crate, library_path if crate in LIBRARIES else test_path)
+    check.check(tokens, names)
+    return joined(tokens)
+
+
+def place(crate, path):
+    """The path of a source in the result."""
+    stem = path[:-3] if path != "lib.rt" else ""
+    if crate == FACADE:
+        return "src/lib.rs"
+    if crate in TESTS:
+        return f"tests/{crate}/{stem or 'main'}.rs"
+    above = "src" if crate in LIBRARIES else "tests/" + next(test for test in TESTS if crate in TESTS[test])
+    return f"{above}/{crate}/{stem}.rs" if stem else f"{above}/{crate}.rs"
+
+
+def rooted(crate, text):
+    """A root of the result: that of a crate, with attributes, and with the crates that become its modules."""
+    lines = text.split("\n")
+    end = next(i for i, line in enumerate(lines) if not line.startswith("//!"))
+    if crate == FACADE:
+        modules = [f"#[doc(hidden)]\npub mod {name};" for name in INNER] + [f"pub mod {name};" for name in OUTER]
+        return ROOT + "\n".join([*lines[:end], "", *modules, *lines[end:]])
+    modules = "".join(f"mod {name};\n" for name in TESTS[crate])
+    return "\n".join([*lines[:end], TEST_ROOT + modules, *lines[end + 1:]])
+
+
+def made(crates, known_too, tests):
+    """The files that are made of crates, each with its path in the result; what is refused has None for its path."""
+    texts = {crate: dict(sources(crate)) for crate in crates}
+    own = check.names_in(text for files in texts.values() for text in files.values())
+    names = check.Names(own | known_too | {*LIBRARIES, *EXAMPLES, NAME}, tests)
+    for crate, files in texts.items():
+        for path, text in files.items():
+            try:
+                erased = erase(text, crate, names, imports_of(crate, path, files))
+                is_root = path == "lib.rt" and crate in [FACADE, *TESTS]
+                yield place(crate, path), rooted(crate, erased) if is_root else erased
+            except Refused as refused:
+                yield None, f"crates/{crate}/src/{path}:{refused.line}: {refused.what}"
+
+
+def result():
+    """The files of the result, or SystemExit with all that was refused."""
+    found = list(made(LIBRARIES, set(), False))
+    known = check.names_in(text for crate in LIBRARIES for _, text in sources(crate))
+    for test, examples in TESTS.items():
+        found += made([test, *examples], known, True)
+    if refused := [text for path, text in found if path is None]:
+        sys.exit("\n".join(refused))
+    return dict(found)
+
+
+def stale(folder, files):
+    """The Rust files in the folders of the result that are not made, but for those by hand."""
+    for top in ("src", *(f"tests/{test}" for test in TESTS)):
+        for at, _, names in os.walk(os.path.join(folder, top)):
+            for name in names:
+                if (path := os.path.relpath(os.path.join(at, name), folder)) not in files:
+                    yield path
+
+
+def main():
+    folder = sys.argv[1] if len(sys.argv) > 1 else os.path.join(HERE, NAME)
+    files = result()
+    for path in list(stale(folder, files)):
+        os.remove(os.path.join(folder, path))
+    for path, text in files.items():
+        os.makedirs(os.path.dirname(os.path.join(folder, path)), exist_ok=True)
+        with open(os.path.join(folder, path), "w", encoding="utf-8") as file:
+            file.write(text)
+    print(f"{len(files)} files, {sum(text.count(chr(10)) for text in files.values())} lines")
+
+
+if __name__ == "__main__":
+    main()

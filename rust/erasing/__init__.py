@@ -1,0 +1,1 @@
+"""The parts of erase.py: tokens, rules, and what is known."""

@@ -1,0 +1,191 @@
+"""What is left over when the rules are done has to be known, token by token."""
+from . import known
+from .tokens import CLOSING, Refused, closing, lex, opening
+
+DECLARING = set("fn struct enum trait type const static mod macro_rules".split())
+
+
+def declared(tokens):
+    """The names that a source declares: items, generic types, variants of enumerations, and closures with a name."""
+    names = set()
+    for i, token in enumerate(tokens[:-1]):
+        if token.kind != "word":
+            continue
+        if token.text in DECLARING:
+            names.add(tokens[i + 1 + (tokens[i + 1].text == "!")].text)
+        if token.text == "let" and [t.text for t in tokens[i + 2:i + 4]] == ["=", "|"]:
+            names.add(tokens[i + 1].text)
+        if token.text in ("fn", "struct", "enum", "impl", "trait", "type"):
+            names |= generics(tokens, i + 1 + (token.text != "impl"))
+        if token.text == "enum":
+            names |= variants(tokens, i)
+    return names
+
+
+def generics(tokens, i):
+    """The types and constants between the angle brackets at `i`, if they open there."""
+    names, depth = set(), 0
+    while i < len(tokens) and (depth or tokens[i].text == "<"):
+        depth += (tokens[i].text == "<") - (tokens[i].text == ">")
+        if depth == 1 and tokens[i].kind == "word" and tokens[i - 1].text in ("<", ",", "const"):
+            names.add(tokens[i].text)
+        i += 1
+    return names
+
+
+def variants(tokens, i):
+    """The variants of the enumeration whose keyword is at `i`."""
+    names = set()
+    while tokens[i].text != "{":
+        i += 1
+    j, end = i + 1, closing(tokens, i)
+    while j < end:
+        if tokens[j].text == "#":
+            j = closing(tokens, j + 1) + 1
+            continue
+        names.add(tokens[j].text)
+        while j < end and tokens[j].text != ",":
+            j = closing(tokens, j) + 1 if tokens[j].text in ("(", "{", "[") else j + 1
+        j += 1
+    return names
+
+
+class Names:
+    """What a file may use: the names of the sources, and what is known."""
+
+    def __init__(self, own, tests=False):
+        self.words = {"rt", "macro_rules"} if tests else set()
+        self.own = own | known.NAMES | (known.TEST_NAMES if tests else set())
+        self.paths = known.PATHS | (known.TEST_PATHS if tests else set())
+        self.heads = {path.split("::")[0] for path in self.paths} | known.TYPES
+        self.methods = known.METHODS | own | (known.TEST_METHODS if tests else set())
+        self.macros = {**known.MACROS, **(dict.fromkeys(own, "") if tests else {})}
+
+    def check_path(self, segments, line):
+        path = "::".join(segments)
+        if segments[0] in self.heads:
+            if path not in self.paths:
+                raise Refused(line, f"an unknown path {path}")
+        elif not segments[0] in self.own | {"crate", "self", "Self", "super"}:
+            raise Refused(line, f"an unknown path {path}")
+        elif unknown := [s for s in segments[1:] if s not in self.own | known.GIVEN | {"self", "super"}]:
+            raise Refused(line, f"an unknown path {path}: {unknown[0]} is declared nowhere")
+
+
+def path_at(tokens, i):
+    """The paths that begin at the word `i`, each with its segments, and the place after them."""
+    segments = [tokens[i].text]
+    i += 1
+    while tokens[i].text == "::":
+        if tokens[i + 1].text == "<":
+            i = after_angles(tokens, i + 1)
+        elif tokens[i + 1].text == "{":
+            return [segments + rest for rest in tree_at(tokens, i + 1)], closing(tokens, i + 1) + 1
+        elif tokens[i + 1].kind == "word":
+            segments.append(tokens[i + 1].text)
+            i += 2
+        else:
+            raise Refused(tokens[i].line, f"a path with {tokens[i + 1].text}")
+    return [segments], i
+
+
+def tree_at(tokens, i):
+    """What the braces of a `use` name, each as its segments."""
+    end = closing(tokens, i)
+    i += 1
+    while i < end:
+        if tokens[i].kind != "word":
+            raise Refused(tokens[i].line, f"an import of {tokens[i].text}")
+        found, after = path_at(tokens, i)
+        yield from ([] if one == ["self"] else one for one in found)
+        i = after + 1 + 2 * (tokens[after].text == "as")
+
+
+def after_angles(tokens, i):
+    depth = 0
+    while True:
+        depth += (tokens[i].text == "<") - (tokens[i].text == ">")
+        i += 1
+        if not depth:
+            return i
+
+
+def check_word(tokens, i, names):
+    """Refuses a word that is neither known nor declared, where it stands."""
+    token, before, after = tokens[i], tokens[i - 1].text if i else "", tokens[i + 1].text
+    word = token.text
+    if word in known.REFUSED - names.words - names.own:
+        raise Refused(token.line, f"the word {word}")
+    if word in known.KEYWORDS or before in ("::", "fn", "'") or before == "." and after not in ("(", "::"):
+        if word == "fn" and tokens[i + 1].kind != "word":
+            raise Refused(token.line, "the type of a function")
+    elif after == "!" and tokens[i + 2].text in ("(", "[", "{"):
+        start = names.macros.get(word)
+        call = "".join(t.text for t in tokens[i + 2:i + 6])
+        if start is None or not call.startswith(start):
+            raise Refused(token.line, f"the macro {word}! as {word}!{call}")
+    elif before == ".":
+        if word not in names.methods:
+            raise Refused(token.line, f"an unknown method {word}")
+    elif after == "::":
+        for segments in path_at(tokens, i)[0]:
+            names.check_path(segments, token.line)
+    elif (word[0].isupper() or after == "(") and word not in names.own:
+        raise Refused(token.line, f"an unknown name {word}")
+
+
+def check_range(tokens, i):
+    """Refuses a range without an end, but as an index: in Rattle it ends below the top of its type."""
+    before, after = tokens[i - 1], tokens[i + 1]
+    from_value = before.kind in ("word", "number", "char") or before.text in (")", "]")
+    if from_value and (after.text in CLOSING or after.text in (",", ";", "{", "=>", ".")):
+        j = i - 1
+        while j >= 0 and tokens[j].text not in ("(", "[", "{"):
+            j = opening(tokens, j) - 1 if tokens[j].text in (")", "]", "}") else j - 1
+        if tokens[j].text != "[" and tokens[j - 1].text != "get":
+            raise Refused(tokens[i].line, "a range without an end")
+    if before.text == "," and after.text not in CLOSING:
+        j = i + 1
+        while tokens[j].text not in CLOSING:
+            if tokens[j].text == "[":
+                raise Refused(tokens[i].line, "the other fields of a value at an index")
+            j += 1
+
+
+def check_attribute(tokens, i):
+    end = closing(tokens, i + 1) if tokens[i + 1].text == "[" else i + 1
+    text = "".join(t.text for t in tokens[i:end + 1])
+    if not text.startswith("#[derive(") and text not in known.ATTRIBUTES:
+        raise Refused(tokens[i].line, f"the attribute {text}")
+
+
+def check(tokens, names):
+    """Refuses what is not known."""
+    for i, token in enumerate(tokens[:-1]):
+        if token.kind in ("ghost", "clause"):
+            raise Refused(token.line, f"a {token.kind} that no rule deletes: {token.text[:60]}")
+        if token.kind == "mark" and token.text not in known.MARKS:
+            raise Refused(token.line, f"the mark {token.text}")
+        if token.text == "pub" and tokens[i + 1].text == "(" and tokens[i + 2].text != "crate":
+            raise Refused(token.line, "a visibility other than pub and pub(crate)")
+        if token.text == "#":
+            check_attribute(tokens, i)
+        elif token.text in ("..", "..="):
+            check_range(tokens, i)
+        elif token.text == "::" and (i == 0 or tokens[i - 1].kind != "word" and tokens[i - 1].text != ">"):
+            raise Refused(token.line, "a path that begins with ::")
+        elif token.kind == "word" and not inside_attribute(tokens, i):
+            check_word(tokens, i, names)
+
+
+def inside_attribute(tokens, i):
+    """Whether the word at `i` stands in an attribute, which is checked whole."""
+    j = i
+    while j > 0 and tokens[j].text not in (";", "{", "}", "#"):
+        j -= 1
+    return tokens[j].text == "#" and tokens[j + 1].text == "[" and closing(tokens, j + 1) > i
+
+
+def names_in(texts):
+    """The names that the sources declare."""
+    return set().union(*(declared(lex(text)) for text in texts))

@@ -1,0 +1,80 @@
+"""The documentation: examples become programs of Rust, and paths in links those of the one crate."""
+import re
+
+from .check import check
+from .rules import clones
+from .tokens import Refused, closing, joined, lex
+
+LINE = re.compile(r"( *)(//[/!])(?: (.*)|)$")
+# An example is shown and not run if it uses one of these without declaring it: bytes that its text describes, and a
+# function whose error is not an `Error`, so that `?` can't pass it on.
+ASSUMED = set("request reply payload edit_packet".split())
+
+
+def runtimes(tokens):
+    """An assertion takes the runtime, so that it may fail; a text takes an allocator, and is then a `Result`."""
+    for i in range(len(tokens) - 4, -1, -1):
+        here = [t.text for t in tokens[i:i + 8]]
+        if here[:4] == ["!", "(", "rt", ";"]:
+            tokens[i + 4].before = tokens[i + 4].before.lstrip(" ")
+            del tokens[i + 2:i + 4]
+        elif here == ["!", "(", "in", "rt", ".", "alloc", "(", ")"] and tokens[i + 8].text == ";":
+            last = closing(tokens, i + 1)
+            if tokens[last + 1].text != "?":
+                raise Refused(tokens[i].line, "a text whose Result is not passed on by ?")
+            del tokens[last + 1]
+            tokens[i + 9].before = tokens[i + 9].before.lstrip(" ")
+            del tokens[i + 2:i + 9]
+
+
+def assumes(tokens):
+    """Whether an example uses a name of `ASSUMED` that it does not declare."""
+    let = {tokens[i + 1 + (tokens[i + 1].text == "mut")].text for i, t in enumerate(tokens[:-1]) if t.text == "let"}
+    used = {t.text for i, t in enumerate(tokens[:-1]) if tokens[i - 1].text == "&" or tokens[i + 1].text == "("}
+    return bool(used & (ASSUMED - let))
+
+
+def example(code, line, imports, names):
+    """What follows the fence of an example, and its lines. It imports all public names, and `?` passes on any error."""
+    tokens = lex("\n".join(code), line)
+    runtimes(tokens)
+    clones(tokens)
+    check(tokens, names)
+    body = joined(tokens).split("\n")
+    if assumes(tokens):
+        return "ignore", body
+    head = [f"# use {path}::*;" for path in imports]
+    head += ["# use arrayvec::ArrayVec;"] * any(t.text == "ArrayVec" for t in tokens)
+    if any(t.text in ("?", "return") for t in tokens):
+        return "", [*head, "# fn main() -> Result<(), Box<dyn std::error::Error>> {", *body, "# Ok(())", "# }"]
+    return "", [*head, *body]
+
+
+def link_paths(text, module):
+    """In a link `crate::` is the module of the crate, and the path of a crate begins in the one crate."""
+    text = re.sub(r"((?:\]\(|\[`))crate::", rf"\1crate::{module}::" if module else r"\1crate::", text)
+    return re.sub(r"(\]\()(?=ether_\w+::)", r"\1crate::", text)
+
+
+def documentation(before, line, module, imports, names):
+    """The comments before a token, with their examples and links."""
+    out, code, fence = [], [], None
+    for at, text in enumerate(before.split("\n")):
+        m = LINE.match(text)
+        rest = m[3] or "" if m else ""
+        if m and rest.startswith("```"):
+            if fence == "```":
+                kind, lines = example(code, line + at - len(code), imports, names)
+                out[-1] += kind
+                out += [f"{m[1]}{m[2]} {it}".rstrip() for it in lines]
+            fence, code = (rest, []) if fence is None else (None, [])
+            if fence not in (None, "```", "```text"):
+                raise Refused(line + at, f"the fence {rest}")
+            out.append(text)
+        elif m and fence == "```":
+            code.append(rest)
+        else:
+            out.append(link_paths(text, module) if m and fence is None else text)
+    if fence:
+        raise Refused(line, "an example without an end")
+    return "\n".join(out)

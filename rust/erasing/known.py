@@ -1,0 +1,56 @@
+"""What may be left when the proofs are gone: it means the same in Rattle as in Rust. What is not here is refused."""
+
+KEYWORDS = set(
+    """as break const crate else enum false fn for if impl in let loop match mod mut pub return self Self static struct
+    super trait true type use while""".split()
+)
+# Keywords of either language, and types that no source uses: floating point, and numbers with a sign.
+REFUSED = set(
+    """abstract async await become box do dyn extern final gen macro macro_rules move override priv ref try typeof union
+    unsafe unsized virtual where yield ghost requires ensures Drop Model prove prove_eq prove_ne rt
+    i8 i16 i32 i64 i128 isize f32 f64""".split()
+)
+TYPES = set("u8 u16 u32 u64 u128 usize bool str char".split())
+MARKS = set(", ( ) :: { } : ; . & [ ] < > = => -> # + ! .. ..= * | ? - % / $ @".split())
+
+# A macro, and how its call begins. Those that tests declare are known there, too.
+MACROS = {
+    "matches": "(", "unreachable": "()", "write": "(f,", "assert": "(", "assert_eq": "(", "panic": "(", "format": "(",
+}
+ATTRIBUTES = ["#[inline]", "#[inline(always)]", "#[inline(never)]", "#[rustfmt::skip]", "#[test]"]
+DERIVES = set("Clone Copy PartialEq Eq PartialOrd Ord Hash Debug Default".split())
+
+# Names of Rust that need no path.
+NAMES = set(
+    """Some None Ok Err Option Result Iterator From TryFrom Into Default Clone Copy PartialEq Eq PartialOrd Ord Hash
+    Debug Display Error Item Write Formatter Hasher ArrayVec Range Ipv4Addr""".split()
+)
+# Paths of Rust and of the crate arrayvec, whole.
+PATHS = set(
+    """arrayvec::ArrayVec core::error::Error core::fmt core::fmt::Debug core::fmt::Display core::fmt::Write
+    core::hash::Hash core::hash::Hasher core::net::Ipv4Addr core::ops::Range
+    fmt::Debug fmt::Display fmt::Formatter fmt::Result fmt::Write ArrayVec::new Ipv4Addr::new char::from
+    u16::from u32::from u64::from u128::from usize::from u32::try_from u32::MAX usize::MAX
+    u16::from_be_bytes u32::from_be_bytes u64::from_be_bytes
+    u16::from_le_bytes u32::from_le_bytes u64::from_le_bytes""".split()
+)
+# Last segments that a derive or a trait of Rust gives to a type of the sources.
+GIVEN = set("default from try_from".split())
+METHODS = set(
+    """and_then as_mut_slice as_ref as_slice as_str clear clone contains copied copy_from_slice copy_within debug_struct
+    field finish first_chunk first_chunk_mut fmt get hash is_empty is_err is_full is_none is_ok is_some iter last_chunk
+    len map max min next ok or overflowing_add pop pow push rev saturating_sub split_first split_last then_some
+    to_be_bytes to_digit to_le_bytes truncate try_extend_from_slice unwrap unwrap_or write_str""".split()
+)
+
+# What tests use besides: they have std, and `tests/kit` of the result stands in for the runtime.
+TEST_NAMES = set("Vec Fail Abort HostRuntime AllocError Global DefaultHasher Ordering drop".split())
+TEST_PATHS = set(
+    """std::cmp::Ordering std::error::Error std::fmt std::hash::DefaultHasher std::hash::Hash std::hash::Hasher
+    std::net::Ipv4Addr std::ops::Range Vec::new usize::saturating_add u8::from DefaultHasher::new
+    Ordering::Less Ordering::Equal Ordering::Greater""".split()
+)
+TEST_METHODS = set(
+    """all alloc any count enumerate err find first_mut get_mut into iter_mut last map_err ok_or saturating_add
+    skip split_at split_at_mut starts_with zip""".split()
+)

@@ -1,0 +1,168 @@
+"""The rules. Each deletes, or respells one exact form, in the tokens of one file; RULES has their order."""
+from .known import DERIVES
+from .tokens import Refused, closing, cut, drop, head_end, indent, item_start, lex, opening, places, respell, tidy
+
+
+def ghost_items(tokens):
+    """A ghost item is read by the prover alone: an import, a field, or a definition in an `impl`. It is deleted."""
+    for i in range(len(tokens) - 1, -1, -1):
+        if tokens[i].kind == "ghost":
+            cut(tokens, i, i + 1)
+
+
+def models(tokens):
+    """An `impl Model for T` says what a `T` stands for in contracts. It is deleted; all its members were ghost."""
+    for i, _ in places(tokens, "impl"):
+        end = head_end(tokens, i)
+        if any(t.text == "Model" for t in tokens[i:end]):
+            if tokens[end].text != "{" or tokens[end + 1].text != "}":
+                raise Refused(tokens[i].line, "an impl of Model with more than ghost members")
+            cut(tokens, item_start(tokens, i), end + 2)
+    for i, end in places(tokens, "use std::marker::Model;"):
+        cut(tokens, i, end)
+
+
+def laws(tokens):
+    """The module `laws` has functions that do nothing, whose contracts are theorems. It is left out."""
+    for i, end in places(tokens, "mod laws;"):
+        cut(tokens, item_start(tokens, i), end)
+
+
+def is_public(tokens, start):
+    """Whether a function is `pub`, or one of a trait that is."""
+    if tokens[start].text == "pub":
+        return tokens[start + 1].text != "("
+    brace = enclosing(tokens, start)
+    head = [t.text for t in tokens[max(0, brace - 8):brace]]
+    return "trait" in head and head[head.index("trait") - 1] == "pub"
+
+
+def enclosing(tokens, i):
+    """The place of the brace around the token at `i`; -1 if there is none."""
+    j = i - 1
+    while j >= 0 and tokens[j].text != "{":
+        j = opening(tokens, j) - 1 if tokens[j].text in ("}", ")", "]") else j - 1
+    return j
+
+
+def contract(clauses, lead):
+    """The clauses of a function as lines of its documentation, in a block that is folded."""
+    lines = []
+    for clause in clauses:
+        first, *more = clause.text.split("\n")
+        margin = len(indent(clause))
+        lines += [first, *(line[margin:] if not line[:margin].strip() else line.lstrip() for line in more)]
+    needs = any(clause.text.startswith("requires") for clause in clauses)
+    said = ["", "The caller has to meet each `requires`: else the call may panic, or return something else."] * needs
+    block = ["", "<details><summary>Contract</summary>", *said, "", "```text", *lines, "```", "", "</details>"]
+    return "".join(f"/// {line}".rstrip() + f"\n{lead}" for line in block)
+
+
+def contracts(tokens):
+    """The clauses of a function are deleted. Those of a public one are kept in its documentation."""
+    for i in range(len(tokens) - 1, -1, -1):
+        if tokens[i].text != "fn" or tokens[i].kind != "word":
+            continue
+        end = head_end(tokens, i)
+        clauses = [t for t in tokens[i:end] if t.kind == "clause"]
+        if not clauses:
+            continue
+        start = item_start(tokens, i)
+        tokens[end].before = " " if tokens[end].text == "{" else ""
+        if is_public(tokens, start):
+            tokens[start].before += contract(clauses, indent(tokens[start]))
+        tokens[i:end] = [t for t in tokens[i:end] if t.kind != "clause"]
+        tidy(tokens, head_end(tokens, i) + 1)
+
+
+def tactics(tokens):
+    """`#[tactic(..)]` tells the prover how to search. It is deleted."""
+    for i, end in places(tokens, "#[tactic("):
+        drop(tokens, i, closing(tokens, i + 1) + 1)
+    for i, end in places(tokens, "#![tactic("):
+        cut(tokens, i, closing(tokens, i + 2) + 1)
+
+
+def layout_skips(tokens):
+    """`rattlefmt` lays out the sources as `rustfmt` does."""
+    for i, end in places(tokens, "#[rattlefmt::skip]"):
+        respell(tokens, i, end, "#[rustfmt::skip]")
+
+
+def dropping(tokens):
+    """Values may be dropped by a derive or a bound `Drop`. In Rust all may: derive and bound are deleted."""
+    for i, end in places(tokens, "#[derive("):
+        last = closing(tokens, end - 1)
+        derives = [t.text for t in tokens[end:last] if t.text != ","]
+        for name in derives:
+            if name not in DERIVES | {"Drop"}:
+                raise Refused(tokens[i].line, f"a derive of {name}")
+        left = ", ".join(name for name in derives if name != "Drop")
+        if left:
+            respell(tokens, i, last + 2, f"#[derive({left})]")
+        else:
+            drop(tokens, i, last + 2)
+    for pattern in ("+ Drop", ": Drop {"):
+        for i, end in places(tokens, pattern):
+            del tokens[i:i + 2]
+
+
+def formatters(tokens):
+    """A formatter of Rattle is generic in its writer."""
+    wide = "fn fmt<W: fmt::Write>(&self, f: &mut fmt::Formatter<W>) -> fmt::Result"
+    for i, end in places(tokens, wide):
+        respell(tokens, i, end, "fn fmt(&self, f: &mut fmt::Formatter<'_>) -> fmt::Result")
+
+
+def clones(tokens):
+    """`clone` returns a `Result`, since it may allocate, and here always `Ok`. In Rust it returns the value."""
+    for i, end in places(tokens, "fn clone(&self) -> Result<Self, AllocError>"):
+        last = closing(tokens, end)
+        if [t.text for t in tokens[end + 1:end + 3]] != ["Ok", "("] or closing(tokens, end + 2) != last - 1:
+            raise Refused(tokens[i].line, "a clone whose body is not Ok(..)")
+        del tokens[last - 1]
+        drop(tokens, end + 1, end + 3)
+        respell(tokens, i, end, "fn clone(&self) -> Self")
+    for i, end in places(tokens, ".clone()"):
+        if tokens[end].text != "?":
+            raise Refused(tokens[i].line, "a clone() without ?")
+        del tokens[end]
+    for i, end in places(tokens, "use std::alloc::AllocError;"):
+        cut(tokens, i, end)
+
+
+def proved_constants(tokens):
+    """What is proved of a constant is asserted when the result is compiled."""
+    for i, end in places(tokens, "const _: () = prove!("):
+        respell(tokens, i, end, "const _: () = assert!(")
+
+
+def inline_hints(tokens):
+    """`#[inline]` stands before each function with a body but `fmt`. Rattle compiles all crates as one module, and so
+    inlines across crates; cargo does so only where this says it may. It changes no result."""
+    for i in range(len(tokens) - 1, -1, -1):
+        if tokens[i].text != "fn" or tokens[i + 1].text == "fmt" or tokens[head_end(tokens, i)].text != "{":
+            continue
+        start = item_start(tokens, i)
+        if "inline" not in [t.text for t in tokens[start:i]]:
+            lead = indent(tokens[start])
+            new = lex("#[inline]")[:-1]
+            new[0].before, tokens[start].before = tokens[start].before, "\n" + lead
+            tokens[start:start] = new
+
+
+def paths(tokens, crate, spelled):
+    """Each crate is a module of one crate, the facade is its root, and `std` is `core`. `spelled` says what the first
+    word of a path becomes."""
+    for i in range(len(tokens) - 2, -1, -1):
+        if tokens[i].kind != "word" or tokens[i + 1].text != "::" or i and tokens[i - 1].text == "::":
+            continue
+        there = spelled(crate, tokens[i].text)
+        if there:
+            respell(tokens, i, i + 1, there)
+
+
+RULES = [
+    *(ghost_items, models, laws, contracts, tactics, layout_skips, dropping, formatters, clones),
+    *(proved_constants, inline_hints),
+]

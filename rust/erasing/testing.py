@@ -1,0 +1,59 @@
+"""The rules for the tests of the libraries, which are passed a runtime and may allocate."""
+from .docs import runtimes
+from .rules import clones, contracts, dropping, formatters, ghost_items, layout_skips, laws, models, tactics
+from .tokens import Refused, closing, cut, drop, item_start, places, respell
+
+
+def left_out(tokens):
+    """The modules `derived_traits` are proved and never run; `text` tests a crate that the result does not have."""
+    for name in ("derived_traits", "text"):
+        for i, end in places(tokens, f"mod {name};"):
+            cut(tokens, item_start(tokens, i), end)
+
+
+def test_modules(tokens):
+    """All of these files are tests."""
+    for i, end in places(tokens, "#[cfg(test)]"):
+        drop(tokens, i, end)
+
+
+def test_functions(tokens):
+    """A test is passed the runtime. In Rust it is passed nothing, and makes what stands in for it."""
+    for i, end in places(tokens, "(rt: HostRuntime)"):
+        start = item_start(tokens, i - 2)
+        if tokens[start].text != "#" or tokens[start + 2].text != "test":
+            raise Refused(tokens[i].line, "a function that is passed the runtime and is no test")
+        body = next(k for k in range(end, len(tokens)) if tokens[k].text == "{")
+        respell(tokens, body + 1, body + 1, "let rt = crate::kit::HostRuntime;")
+        tokens[body + 1].before = "\n    "
+        respell(tokens, i, end, "()")
+
+
+def kit_names(tokens):
+    """What the tests take of the runtime is in `tests/kit` of the result."""
+    for old in ("std::test", "std::process", "std::alloc"):
+        for i, end in places(tokens, f"use {old}::"):
+            respell(tokens, i, end, "use crate::kit::")
+
+
+def allocating(tokens):
+    """A text or a list is passed an allocator, and its growth returns a `Result`."""
+    for i, end in places(tokens, "!(in alloc;"):
+        last = closing(tokens, i + 1)
+        if tokens[last + 1].text != "?":
+            raise Refused(tokens[i].line, "a text whose Result is not passed on by ?")
+        del tokens[last + 1]
+        tokens[end].before = tokens[end].before.lstrip(" ")
+        del tokens[i + 2:end]
+    for i, end in places(tokens, "Vec::new(alloc)"):
+        respell(tokens, i, end, "Vec::new()")
+    for i, end in places(tokens, ".push("):
+        last = closing(tokens, end - 1)
+        if tokens[last + 1].text == "?":
+            del tokens[last + 1]
+
+
+RULES = [
+    *(ghost_items, models, laws, contracts, left_out, test_modules, test_functions, kit_names, runtimes, allocating),
+    *(tactics, layout_skips, dropping, formatters, clones),
+]

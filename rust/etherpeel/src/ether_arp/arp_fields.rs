@@ -1,0 +1,256 @@
+//! The fields of an ARP packet in the bytes that begin with it (RFC 826, "Packet format"): hardware type, protocol type,
+//! the two sizes and the operation in eight bytes, then the addresses of the sender and those of the target.
+
+use crate::ether_base::big_endian::u16_of;
+use crate::ether_base::err::{Layer, LenError};
+use crate::ether_base::slice_len::too_short;
+use crate::ether_base::{ArpHardwareId, ArpOperation, EtherType, LenSource};
+use core::ops::Range;
+
+/// The bytes of the hardware type.
+const HARDWARE_TYPE: Range<usize> = 0..2;
+
+/// The bytes of the protocol type.
+const PROTOCOL_TYPE: Range<usize> = 2..4;
+
+/// The byte with the size of a hardware address.
+const HARDWARE_SIZE: usize = 4;
+
+/// The byte with the size of a protocol address.
+const PROTOCOL_SIZE: usize = 5;
+
+/// The bytes of the operation.
+const OPERATION: Range<usize> = 6..8;
+
+/// The length of the part before the addresses.
+const FRONT_LEN: usize = 8;
+
+/// The bytes of the packet that a slice begins with.
+///
+/// <details><summary>Contract</summary>
+///
+/// ```text
+/// ensures bytes { IfOk result
+///     (λ packet. packet.now ≡ slice_range slice.now 0 (arp_len (arp_front_in slice.now))) }
+/// ensures begins { IfOk result (λ _. BeginsWithArp slice.now) }
+/// ensures refused { IfErr result (IsRefusedLen slice.now kinds.Arp) }
+/// ensures short { IfErr result (λ e. length slice.now < e.required_len) }
+/// ```
+///
+/// </details>
+#[inline]
+pub fn packet(slice: &[u8]) -> Result<&[u8], LenError> {
+    if slice.len() < FRONT_LEN {
+        return Err(too_short(FRONT_LEN, slice.len(), LenSource::Slice, Layer::Arp));
+    }
+    let required_len = packet_len(slice);
+    if slice.len() < required_len {
+        return Err(too_short(
+            required_len,
+            slice.len(),
+            LenSource::ArpAddrLengths,
+            Layer::Arp,
+        ));
+    }
+    Ok(&slice[..required_len])
+}
+
+/// The length of the packet by its sizes.
+#[inline]
+fn packet_len(packet: &[u8]) -> usize {
+    FRONT_LEN + 2 * usize::from(hw_addr_size(packet)) + 2 * usize::from(proto_addr_size(packet))
+}
+
+/// The hardware type.
+///
+/// <details><summary>Contract</summary>
+///
+/// The caller has to meet each `requires`: else the call may panic, or return something else.
+///
+/// ```text
+/// requires { 8 ≤ length packet.now }
+/// ensures { result.0 ≡ (arp_front_in packet.now).hardware_type }
+/// ```
+///
+/// </details>
+#[inline]
+pub fn hw_addr_type(packet: &[u8]) -> ArpHardwareId {
+    ArpHardwareId(u16_at(packet, HARDWARE_TYPE))
+}
+
+/// The protocol type.
+///
+/// <details><summary>Contract</summary>
+///
+/// The caller has to meet each `requires`: else the call may panic, or return something else.
+///
+/// ```text
+/// requires { 8 ≤ length packet.now }
+/// ensures { result.0 ≡ (arp_front_in packet.now).protocol_type }
+/// ```
+///
+/// </details>
+#[inline]
+pub fn proto_addr_type(packet: &[u8]) -> EtherType {
+    EtherType(u16_at(packet, PROTOCOL_TYPE))
+}
+
+/// The size of a hardware address.
+///
+/// <details><summary>Contract</summary>
+///
+/// The caller has to meet each `requires`: else the call may panic, or return something else.
+///
+/// ```text
+/// requires { 8 ≤ length packet.now }
+/// ensures { result ≡ (arp_front_in packet.now).hardware_size }
+/// ```
+///
+/// </details>
+#[inline]
+pub fn hw_addr_size(packet: &[u8]) -> u8 {
+    packet[HARDWARE_SIZE]
+}
+
+/// The size of a protocol address.
+///
+/// <details><summary>Contract</summary>
+///
+/// The caller has to meet each `requires`: else the call may panic, or return something else.
+///
+/// ```text
+/// requires { 8 ≤ length packet.now }
+/// ensures { result ≡ (arp_front_in packet.now).protocol_size }
+/// ```
+///
+/// </details>
+#[inline]
+pub fn proto_addr_size(packet: &[u8]) -> u8 {
+    packet[PROTOCOL_SIZE]
+}
+
+/// The operation.
+///
+/// <details><summary>Contract</summary>
+///
+/// The caller has to meet each `requires`: else the call may panic, or return something else.
+///
+/// ```text
+/// requires { 8 ≤ length packet.now }
+/// ensures { result.0 ≡ (arp_front_in packet.now).operation }
+/// ```
+///
+/// </details>
+#[inline]
+pub fn operation(packet: &[u8]) -> ArpOperation {
+    ArpOperation(u16_at(packet, OPERATION))
+}
+
+/// The sender's hardware address.
+///
+/// <details><summary>Contract</summary>
+///
+/// The caller has to meet each `requires`: else the call may panic, or return something else.
+///
+/// ```text
+/// requires { BeginsWithArp packet.now }
+/// ensures address { result.now ≡ (arp_of packet.now).sender_hardware }
+/// ensures len { length result.now ≡ (arp_front_in packet.now).hardware_size }
+/// ensures fits { length result.now ≤ 255 }
+/// ```
+///
+/// </details>
+#[inline]
+pub fn sender_hw_addr(packet: &[u8]) -> &[u8] {
+    let hardware = usize::from(hw_addr_size(packet));
+    &packet[FRONT_LEN..FRONT_LEN + hardware]
+}
+
+/// The sender's protocol address.
+///
+/// <details><summary>Contract</summary>
+///
+/// The caller has to meet each `requires`: else the call may panic, or return something else.
+///
+/// ```text
+/// requires { BeginsWithArp packet.now }
+/// ensures address { result.now ≡ (arp_of packet.now).sender_protocol }
+/// ensures len { length result.now ≡ (arp_front_in packet.now).protocol_size }
+/// ensures fits { length result.now ≤ 255 }
+/// ```
+///
+/// </details>
+#[inline]
+pub fn sender_protocol_addr(packet: &[u8]) -> &[u8] {
+    let start = FRONT_LEN + usize::from(hw_addr_size(packet));
+    &packet[start..start + usize::from(proto_addr_size(packet))]
+}
+
+/// The target's hardware address.
+///
+/// <details><summary>Contract</summary>
+///
+/// The caller has to meet each `requires`: else the call may panic, or return something else.
+///
+/// ```text
+/// requires { BeginsWithArp packet.now }
+/// ensures address { result.now ≡ (arp_of packet.now).target_hardware }
+/// ensures len { length result.now ≡ (arp_front_in packet.now).hardware_size }
+/// ensures fits { length result.now ≤ 255 }
+/// ```
+///
+/// </details>
+#[inline]
+pub fn target_hw_addr(packet: &[u8]) -> &[u8] {
+    let hardware = usize::from(hw_addr_size(packet));
+    let start = FRONT_LEN + hardware + usize::from(proto_addr_size(packet));
+    &packet[start..start + hardware]
+}
+
+/// The target's protocol address.
+///
+/// <details><summary>Contract</summary>
+///
+/// The caller has to meet each `requires`: else the call may panic, or return something else.
+///
+/// ```text
+/// requires { BeginsWithArp packet.now }
+/// ensures address { result.now ≡ (arp_of packet.now).target_protocol }
+/// ensures len { length result.now ≡ (arp_front_in packet.now).protocol_size }
+/// ensures fits { length result.now ≤ 255 }
+/// ```
+///
+/// </details>
+#[inline]
+pub fn target_protocol_addr(packet: &[u8]) -> &[u8] {
+    let protocol = usize::from(proto_addr_size(packet));
+    let start = FRONT_LEN + 2 * usize::from(hw_addr_size(packet)) + protocol;
+    &packet[start..start + protocol]
+}
+
+/// The four addresses, if nothing follows them.
+///
+/// <details><summary>Contract</summary>
+///
+/// The caller has to meet each `requires`: else the call may panic, or return something else.
+///
+/// ```text
+/// requires { HoldsArp packet.now }
+/// ensures addrs { result.now ≡ drop 8 packet.now }
+/// ensures len { length result.now
+///     ≡ 2 * (arp_front_in packet.now).hardware_size
+///     + 2 * (arp_front_in packet.now).protocol_size }
+/// ```
+///
+/// </details>
+#[inline]
+pub fn addrs(packet: &[u8]) -> &[u8] {
+    &packet[FRONT_LEN..]
+}
+
+/// The number in a field of two bytes.
+#[inline]
+fn u16_at(packet: &[u8], field: Range<usize>) -> u16 {
+    let at = field.start;
+    u16_of([packet[at], packet[at + 1]])
+}

@@ -1,0 +1,40 @@
+//! The part of an ARP packet before its addresses, as it is written (RFC 826, "Packet format").
+
+/// The bytes before the addresses.
+///
+/// <details><summary>Contract</summary>
+///
+/// ```text
+/// ensures { let front : ArpFront = record {
+///   hardware_type = hw_addr_type;
+///   protocol_type = proto_addr_type;
+///   hardware_size = hw_addr_size;
+///   protocol_size = proto_addr_size;
+///   operation = operation;
+/// } in
+///     (result ≡ spelled 8 (arp_front_number front)) × FitsArpFront front }
+/// ```
+///
+/// </details>
+#[inline]
+pub fn front_bytes(
+    hw_addr_type: u16,
+    proto_addr_type: u16,
+    hw_addr_size: u8,
+    proto_addr_size: u8,
+    operation: u16,
+) -> [u8; 8] {
+    let h = hw_addr_type.to_be_bytes();
+    let p = proto_addr_type.to_be_bytes();
+    let o = operation.to_be_bytes();
+    [
+        h[0],
+        h[1],
+        p[0],
+        p[1],
+        hw_addr_size,
+        proto_addr_size,
+        o[0],
+        o[1],
+    ]
+}

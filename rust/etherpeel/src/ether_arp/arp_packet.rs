@@ -1,0 +1,475 @@
+//! ARP packets as values.
+
+use crate::ether_arp::{ArpEthIpv4Packet, ArpPacketSlice, arp_addrs, arp_front};
+use arrayvec::ArrayVec;
+use crate::ether_base::err::LenError;
+use crate::ether_base::err::arp::{ArpEthIpv4FromError, ArpHwAddrError, ArpNewError, ArpProtoAddrError};
+use crate::ether_base::{ArpHardwareId, ArpOperation, EtherType};
+use core::fmt;
+use core::hash::{Hash, Hasher};
+
+/// The greatest length of an address, whose size is a byte.
+const MAX_ADDR_LEN: usize = 255;
+
+/// A packet of the Address Resolution Protocol (RFC 826): it asks which hardware address belongs to a protocol address, or
+/// answers.
+///
+/// The two hardware addresses have one length, at most 255 bytes, and so have the two protocol addresses. Equality and
+/// hashing are of what the packet says: types, sizes, operation and addresses.
+///
+/// The answer to a request for 10.0.0.2:
+///
+/// ```ignore
+/// let mut packet = ArpPacket::from_slice(&request)?;
+/// packet.operation = ArpOperation::REPLY;
+/// packet.set_hw_addrs(&[2, 0, 0, 0, 0, 2], &[2, 0, 0, 0, 0, 1])?;
+/// packet.set_protocol_addrs(&[10, 0, 0, 2], &[10, 0, 0, 1])?;
+/// assert_eq!(packet.to_bytes().as_slice(), &reply);
+/// ```
+pub struct ArpPacket {
+    /// What kind of link the hardware addresses belong to.
+    pub hw_addr_type: ArpHardwareId,
+    /// The protocol that the protocol addresses belong to, as an ether type.
+    pub proto_addr_type: EtherType,
+    /// The operation: a request, a reply or another.
+    pub operation: ArpOperation,
+    hw_addr_size: u8,
+    protocol_addr_size: u8,
+    /// The addresses as they are on the wire: the sender's, hardware before protocol, then the target's.
+    addrs: ArrayVec<u8, 1020>,
+}
+
+impl ArpPacket {
+    /// The greatest length of a packet in bytes: with four addresses of 255 bytes.
+    pub const MAX_LEN: usize = 1028;
+
+    /// A packet with the given types, operation and addresses.
+    ///
+    /// Refused are, in this order: hardware addresses of two lengths, protocol addresses of two lengths, hardware
+    /// addresses of more than 255 bytes, protocol addresses of more than 255 bytes.
+    #[inline]
+    pub fn new(
+        hw_addr_type: ArpHardwareId,
+        proto_addr_type: EtherType,
+        operation: ArpOperation,
+        sender_hw_addr: &[u8],
+        sender_protocol_addr: &[u8],
+        target_hw_addr: &[u8],
+        target_protocol_addr: &[u8],
+    ) -> Result<ArpPacket, ArpNewError> {
+        if sender_hw_addr.len() != target_hw_addr.len() {
+            return Err(ArpNewError::HwAddr(ArpHwAddrError::LenNonMatching(
+                sender_hw_addr.len(),
+                target_hw_addr.len(),
+            )));
+        }
+        if sender_protocol_addr.len() != target_protocol_addr.len() {
+            return Err(ArpNewError::ProtoAddr(ArpProtoAddrError::LenNonMatching(
+                sender_protocol_addr.len(),
+                target_protocol_addr.len(),
+            )));
+        }
+        if sender_hw_addr.len() > MAX_ADDR_LEN {
+            return Err(ArpNewError::HwAddr(ArpHwAddrError::LenTooBig(sender_hw_addr.len())));
+        }
+        if sender_protocol_addr.len() > MAX_ADDR_LEN {
+            return Err(ArpNewError::ProtoAddr(ArpProtoAddrError::LenTooBig(
+                sender_protocol_addr.len(),
+            )));
+        }
+        Ok(ArpPacket::holding(
+            hw_addr_type,
+            proto_addr_type,
+            operation,
+            sender_hw_addr,
+            sender_protocol_addr,
+            target_hw_addr,
+            target_protocol_addr,
+        ))
+    }
+
+    /// The packet of addresses that are known to fit.
+    #[inline]
+    pub(crate) fn holding(
+        hw_addr_type: ArpHardwareId,
+        proto_addr_type: EtherType,
+        operation: ArpOperation,
+        sender_hw_addr: &[u8],
+        sender_protocol_addr: &[u8],
+        target_hw_addr: &[u8],
+        target_protocol_addr: &[u8],
+    ) -> ArpPacket {
+        let mut addrs = ArrayVec::new();
+        arp_addrs::append(&mut addrs, sender_hw_addr);
+        arp_addrs::append(&mut addrs, sender_protocol_addr);
+        arp_addrs::append(&mut addrs, target_hw_addr);
+        arp_addrs::append(&mut addrs, target_protocol_addr);
+        ArpPacket {
+            hw_addr_type,
+            proto_addr_type,
+            operation,
+            hw_addr_size: sender_hw_addr.len() as u8,
+            protocol_addr_size: sender_protocol_addr.len() as u8,
+            addrs,
+        }
+    }
+
+    /// The packet of addresses that already follow one another.
+    #[inline]
+    pub(crate) fn packed(
+        hw_addr_type: ArpHardwareId,
+        proto_addr_type: EtherType,
+        operation: ArpOperation,
+        hw_addr_size: u8,
+        protocol_addr_size: u8,
+        addrs: &[u8],
+    ) -> ArpPacket {
+        let mut list = ArrayVec::new();
+        arp_addrs::append(&mut list, addrs);
+        ArpPacket {
+            hw_addr_type,
+            proto_addr_type,
+            operation,
+            hw_addr_size,
+            protocol_addr_size,
+            addrs: list,
+        }
+    }
+
+    /// The packet that a slice begins with, refused as by [`ArpPacketSlice::from_slice`]. What follows it is ignored.
+    ///
+    /// <details><summary>Contract</summary>
+    ///
+    /// ```text
+    /// ensures accepted { IfOk result (λ p. Accepts sources.Slice slice.now kinds.Arp) }
+    /// ensures value { IfOk result (λ p. Means slice.now (headers.Arp p)) }
+    /// ensures refused { IfErr result (IsRefusedLen slice.now kinds.Arp) }
+    /// ensures short { IfErr result (λ e. length slice.now < e.required_len) }
+    /// ```
+    ///
+    /// </details>
+    #[inline]
+    pub fn from_slice(slice: &[u8]) -> Result<ArpPacket, LenError> {
+        Ok(ArpPacketSlice::from_slice(slice)?.to_packet())
+    }
+
+    /// The size of a hardware address in bytes.
+    ///
+    /// <details><summary>Contract</summary>
+    ///
+    /// ```text
+    /// ensures sender { result ≡ length self.now.sender_hardware }
+    /// ensures target { result ≡ length self.now.target_hardware }
+    /// ```
+    ///
+    /// </details>
+    #[inline]
+    pub fn hw_addr_size(&self) -> u8 {
+        self.hw_addr_size
+    }
+
+    /// The size of a protocol address in bytes.
+    ///
+    /// <details><summary>Contract</summary>
+    ///
+    /// ```text
+    /// ensures sender { result ≡ length self.now.sender_protocol }
+    /// ensures target { result ≡ length self.now.target_protocol }
+    /// ```
+    ///
+    /// </details>
+    #[inline]
+    pub fn protocol_addr_size(&self) -> u8 {
+        self.protocol_addr_size
+    }
+
+    /// The hardware address of the sender.
+    ///
+    /// <details><summary>Contract</summary>
+    ///
+    /// ```text
+    /// ensures { result.now ≡ self.now.sender_hardware }
+    /// ```
+    ///
+    /// </details>
+    #[inline]
+    pub fn sender_hw_addr(&self) -> &[u8] {
+        &self.addrs[..usize::from(self.hw_addr_size)]
+    }
+
+    /// The protocol address of the sender.
+    ///
+    /// <details><summary>Contract</summary>
+    ///
+    /// ```text
+    /// ensures { result.now ≡ self.now.sender_protocol }
+    /// ```
+    ///
+    /// </details>
+    #[inline]
+    pub fn sender_protocol_addr(&self) -> &[u8] {
+        let start = usize::from(self.hw_addr_size);
+        &self.addrs[start..start + usize::from(self.protocol_addr_size)]
+    }
+
+    /// The hardware address of the target, which a request does not know.
+    ///
+    /// <details><summary>Contract</summary>
+    ///
+    /// ```text
+    /// ensures { result.now ≡ self.now.target_hardware }
+    /// ```
+    ///
+    /// </details>
+    #[inline]
+    pub fn target_hw_addr(&self) -> &[u8] {
+        let hardware = usize::from(self.hw_addr_size);
+        let start = hardware + usize::from(self.protocol_addr_size);
+        &self.addrs[start..start + hardware]
+    }
+
+    /// The protocol address of the target.
+    ///
+    /// <details><summary>Contract</summary>
+    ///
+    /// ```text
+    /// ensures { result.now ≡ self.now.target_protocol }
+    /// ```
+    ///
+    /// </details>
+    #[inline]
+    pub fn target_protocol_addr(&self) -> &[u8] {
+        let hardware = usize::from(self.hw_addr_size);
+        let start = hardware + usize::from(self.protocol_addr_size) + hardware;
+        &self.addrs[start..]
+    }
+
+    /// Replaces both hardware addresses, and with them their size.
+    ///
+    /// Refused are addresses of two lengths, then addresses of more than 255 bytes. The packet is then as it was.
+    #[inline]
+    pub fn set_hw_addrs(
+        &mut self,
+        sender_hw_addr: &[u8],
+        target_hw_addr: &[u8],
+    ) -> Result<(), ArpHwAddrError> {
+        let len = sender_hw_addr.len();
+        if len != target_hw_addr.len() {
+            return Err(ArpHwAddrError::LenNonMatching(len, target_hw_addr.len()));
+        }
+        if len > MAX_ADDR_LEN {
+            return Err(ArpHwAddrError::LenTooBig(len));
+        }
+        let hardware = usize::from(self.hw_addr_size);
+        let protocol = usize::from(self.protocol_addr_size);
+        arp_addrs::replace_both(
+            &mut self.addrs,
+            0,
+            hardware,
+            protocol,
+            sender_hw_addr,
+            target_hw_addr,
+        );
+        self.hw_addr_size = len as u8;
+        Ok(())
+    }
+
+    /// Replaces both protocol addresses, and with them their size.
+    ///
+    /// Refused are addresses of two lengths, then addresses of more than 255 bytes. The packet is then as it was.
+    #[inline]
+    pub fn set_protocol_addrs(
+        &mut self,
+        sender_protocol_addr: &[u8],
+        target_protocol_addr: &[u8],
+    ) -> Result<(), ArpProtoAddrError> {
+        let len = sender_protocol_addr.len();
+        if len != target_protocol_addr.len() {
+            return Err(ArpProtoAddrError::LenNonMatching(len, target_protocol_addr.len()));
+        }
+        if len > MAX_ADDR_LEN {
+            return Err(ArpProtoAddrError::LenTooBig(len));
+        }
+        let hardware = usize::from(self.hw_addr_size);
+        let protocol = usize::from(self.protocol_addr_size);
+        arp_addrs::replace_both(
+            &mut self.addrs,
+            hardware,
+            protocol,
+            hardware,
+            sender_protocol_addr,
+            target_protocol_addr,
+        );
+        self.protocol_addr_size = len as u8;
+        Ok(())
+    }
+
+    /// The length of the packet in bytes, 8 to [`ArpPacket::MAX_LEN`].
+    ///
+    /// <details><summary>Contract</summary>
+    ///
+    /// ```text
+    /// ensures value { result ≡ arp_len (arp_front_of self.now) }
+    /// ensures bound { result ≤ 1028 }
+    /// ```
+    ///
+    /// </details>
+    #[inline]
+    pub fn packet_len(&self) -> usize {
+        8 + 2 * usize::from(self.hw_addr_size()) + 2 * usize::from(self.protocol_addr_size())
+    }
+
+    /// The packet as it is on the wire, numbers in network byte order: [`ArpPacket::packet_len`] bytes.
+    ///
+    /// Read again, whatever follows them, they are this packet.
+    ///
+    /// <details><summary>Contract</summary>
+    ///
+    /// ```text
+    /// ensures value { result.items ≡ arp_bytes self.now }
+    /// ensures len { length result.items ≡ arp_len (arp_front_of self.now) }
+    /// ensures fits { FitsArp self.now }
+    /// ensures accepted { (more : List ℕ)
+    ///     → Accepts sources.Slice (result.items ++ more) kinds.Arp }
+    /// ensures read { (more : List ℕ) → Means (result.items ++ more) (headers.Arp self.now) }
+    /// ```
+    ///
+    /// </details>
+    #[inline]
+    pub fn to_bytes(&self) -> ArrayVec<u8, 1028> {
+        self.spelled()
+    }
+
+    /// The bytes of the packet, whose numbers have room in them.
+    #[inline]
+    fn spelled(&self) -> ArrayVec<u8, 1028> {
+        let mut bytes = ArrayVec::new();
+        arp_addrs::append(&mut bytes, &self.front());
+        arp_addrs::append(&mut bytes, self.addrs.as_slice());
+        bytes
+    }
+
+    /// The bytes before the addresses.
+    #[inline]
+    fn front(&self) -> [u8; 8] {
+        arp_front::front_bytes(
+            self.hw_addr_type.0,
+            self.proto_addr_type.0,
+            self.hw_addr_size,
+            self.protocol_addr_size,
+            self.operation.0,
+        )
+    }
+
+    /// Whether another packet has the same four addresses. Equal lists are of one length, so that the sizes of the hardware
+    /// addresses decide those of the protocol addresses.
+    #[inline]
+    fn has_same_addrs(&self, other: &ArpPacket) -> bool {
+        self.hw_addr_size == other.hw_addr_size && self.addrs == other.addrs
+    }
+
+    /// The packet as one of Ethernet and IPv4.
+    ///
+    /// Refused are, in this order: another hardware type than Ethernet's, another protocol type than that of IPv4,
+    /// hardware addresses that have not 6 bytes, protocol addresses that have not 4.
+    #[inline]
+    pub fn try_eth_ipv4(&self) -> Result<ArpEthIpv4Packet, ArpEthIpv4FromError> {
+        if self.hw_addr_type != ArpHardwareId::ETHERNET {
+            return Err(ArpEthIpv4FromError::NonMatchingHwType(self.hw_addr_type));
+        }
+        if self.proto_addr_type != EtherType::IPV4 {
+            return Err(ArpEthIpv4FromError::NonMatchingProtocolType(self.proto_addr_type));
+        }
+        let hw_addr_size = self.hw_addr_size();
+        if hw_addr_size != 6 {
+            return Err(ArpEthIpv4FromError::NonMatchingHwAddrSize(hw_addr_size));
+        }
+        let protocol_addr_size = self.protocol_addr_size();
+        if protocol_addr_size != 4 {
+            return Err(ArpEthIpv4FromError::NonMatchingProtoAddrSize(protocol_addr_size));
+        }
+        Ok(ArpEthIpv4Packet {
+            operation: self.operation,
+            sender_mac: six(self.sender_hw_addr()),
+            sender_ipv4: four(self.sender_protocol_addr()),
+            target_mac: six(self.target_hw_addr()),
+            target_ipv4: four(self.target_protocol_addr()),
+        })
+    }
+}
+
+/// An address of six bytes.
+#[inline]
+fn six(address: &[u8]) -> [u8; 6] {
+    [
+        address[0], address[1], address[2], address[3], address[4], address[5],
+    ]
+}
+
+/// An address of four bytes.
+#[inline]
+fn four(address: &[u8]) -> [u8; 4] {
+    [address[0], address[1], address[2], address[3]]
+}
+
+impl From<ArpEthIpv4Packet> for ArpPacket {
+    #[inline]
+    fn from(packet: ArpEthIpv4Packet) -> ArpPacket {
+        packet.to_arp_packet()
+    }
+}
+
+impl Clone for ArpPacket {
+    #[inline]
+    fn clone(&self) -> Self {
+        ArpPacket {
+            hw_addr_type: self.hw_addr_type,
+            proto_addr_type: self.proto_addr_type,
+            operation: self.operation,
+            hw_addr_size: self.hw_addr_size,
+            protocol_addr_size: self.protocol_addr_size,
+            addrs: self.addrs.clone(),
+        }
+    }
+}
+
+impl PartialEq for ArpPacket {
+    #[inline]
+    fn eq(&self, other: &ArpPacket) -> bool {
+        self.hw_addr_type == other.hw_addr_type
+            && self.proto_addr_type == other.proto_addr_type
+            && self.operation == other.operation
+            && self.has_same_addrs(other)
+    }
+}
+
+impl Eq for ArpPacket {}
+
+impl Hash for ArpPacket {
+    #[inline]
+    fn hash<H: Hasher>(&self, state: &mut H) {
+        self.hw_addr_type.hash(state);
+        self.proto_addr_type.hash(state);
+        self.operation.hash(state);
+        self.sender_hw_addr().hash(state);
+        self.sender_protocol_addr().hash(state);
+        self.target_hw_addr().hash(state);
+        self.target_protocol_addr().hash(state);
+    }
+}
+
+impl fmt::Debug for ArpPacket {
+    fn fmt(&self, f: &mut fmt::Formatter<'_>) -> fmt::Result {
+        f.debug_struct("ArpPacket")
+            .field("hw_addr_type", &self.hw_addr_type)
+            .field("proto_addr_type", &self.proto_addr_type)
+            .field("hw_addr_size", &self.hw_addr_size())
+            .field("proto_addr_size", &self.protocol_addr_size())
+            .field("operation", &self.operation)
+            .field("sender_hw_addr", &self.sender_hw_addr())
+            .field("sender_protocol_addr", &self.sender_protocol_addr())
+            .field("target_hw_addr", &self.target_hw_addr())
+            .field("target_protocol_addr", &self.target_protocol_addr())
+            .finish()
+    }
+}

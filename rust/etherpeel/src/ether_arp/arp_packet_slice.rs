@@ -1,0 +1,228 @@
+//! A view of an ARP packet.
+
+use crate::ether_arp::{ArpPacket, arp_fields};
+use crate::ether_base::err::LenError;
+use crate::ether_base::{ArpHardwareId, ArpOperation, EtherType};
+
+/// An ARP packet in the bytes of a frame (RFC 826): 8 to 1028 bytes, without what follows it, as the padding of a short
+/// frame.
+///
+/// Two views are equal if their bytes are. A request in a short Ethernet frame that is filled up:
+///
+/// ```ignore
+/// let packet = ArpPacketSlice::from_slice(&payload)?; // 28 bytes of the packet and 18 of padding
+/// assert_eq!(packet.operation(), ArpOperation::REQUEST);
+/// assert_eq!(packet.target_protocol_addr(), [10, 0, 0, 2].as_slice());
+/// assert_eq!(packet.slice().len(), 28);
+/// ```
+#[derive(Debug)]
+pub struct ArpPacketSlice<'a> {
+    slice: &'a [u8],
+}
+
+impl<'a> ArpPacketSlice<'a> {
+    /// The packet that a slice begins with. Refused are fewer than 8 bytes, and fewer bytes than the sizes of the
+    /// addresses say. What follows the packet is no part of the view.
+    ///
+    /// <details><summary>Contract</summary>
+    ///
+    /// ```text
+    /// ensures bytes { IfOk result
+    ///     (λ p. p ≡ slice_range slice.now 0 (arp_len (arp_front_in slice.now))) }
+    /// ensures accepted { IfOk result (λ p. Accepts sources.Slice slice.now kinds.Arp) }
+    /// ensures value { IfOk result (λ p. Means slice.now (headers.Arp (arp_of p))) }
+    /// ensures refused { IfErr result (IsRefusedLen slice.now kinds.Arp) }
+    /// ensures short { IfErr result (λ e. length slice.now < e.required_len) }
+    /// ```
+    ///
+    /// </details>
+    #[inline]
+    pub fn from_slice(slice: &'a [u8]) -> Result<ArpPacketSlice<'a>, LenError> {
+        Ok(ArpPacketSlice {
+            slice: arp_fields::packet(slice)?,
+        })
+    }
+
+    /// The bytes of the packet.
+    ///
+    /// <details><summary>Contract</summary>
+    ///
+    /// ```text
+    /// ensures bytes { result.now ≡ self.now }
+    /// ensures len { length result.now ≡ arp_len (arp_front_in self.now) }
+    /// ```
+    ///
+    /// </details>
+    #[inline]
+    pub fn slice(&self) -> &'a [u8] {
+        self.slice
+    }
+
+    /// The hardware type: what kind of link the hardware addresses belong to.
+    ///
+    /// <details><summary>Contract</summary>
+    ///
+    /// ```text
+    /// ensures { result.0 ≡ (arp_of self.now).hardware_type }
+    /// ```
+    ///
+    /// </details>
+    #[inline]
+    pub fn hw_addr_type(&self) -> ArpHardwareId {
+        arp_fields::hw_addr_type(self.slice)
+    }
+
+    /// The protocol type: the protocol that the protocol addresses belong to, as an ether type.
+    ///
+    /// <details><summary>Contract</summary>
+    ///
+    /// ```text
+    /// ensures { result.0 ≡ (arp_of self.now).protocol_type }
+    /// ```
+    ///
+    /// </details>
+    #[inline]
+    pub fn proto_addr_type(&self) -> EtherType {
+        arp_fields::proto_addr_type(self.slice)
+    }
+
+    /// The size of a hardware address in bytes.
+    ///
+    /// <details><summary>Contract</summary>
+    ///
+    /// ```text
+    /// ensures front { result ≡ (arp_front_in self.now).hardware_size }
+    /// ensures sender { result ≡ length (arp_of self.now).sender_hardware }
+    /// ensures target { result ≡ length (arp_of self.now).target_hardware }
+    /// ```
+    ///
+    /// </details>
+    #[inline]
+    pub fn hw_addr_size(&self) -> u8 {
+        arp_fields::hw_addr_size(self.slice)
+    }
+
+    /// The size of a protocol address in bytes.
+    ///
+    /// <details><summary>Contract</summary>
+    ///
+    /// ```text
+    /// ensures front { result ≡ (arp_front_in self.now).protocol_size }
+    /// ensures sender { result ≡ length (arp_of self.now).sender_protocol }
+    /// ensures target { result ≡ length (arp_of self.now).target_protocol }
+    /// ```
+    ///
+    /// </details>
+    #[inline]
+    pub fn proto_addr_size(&self) -> u8 {
+        arp_fields::proto_addr_size(self.slice)
+    }
+
+    /// The operation: a request, a reply or another.
+    ///
+    /// <details><summary>Contract</summary>
+    ///
+    /// ```text
+    /// ensures { result.0 ≡ (arp_of self.now).operation }
+    /// ```
+    ///
+    /// </details>
+    #[inline]
+    pub fn operation(&self) -> ArpOperation {
+        arp_fields::operation(self.slice)
+    }
+
+    /// The hardware address of the sender.
+    ///
+    /// <details><summary>Contract</summary>
+    ///
+    /// ```text
+    /// ensures { result.now ≡ (arp_of self.now).sender_hardware }
+    /// ```
+    ///
+    /// </details>
+    #[inline]
+    pub fn sender_hw_addr(&self) -> &[u8] {
+        arp_fields::sender_hw_addr(self.slice)
+    }
+
+    /// The protocol address of the sender.
+    ///
+    /// <details><summary>Contract</summary>
+    ///
+    /// ```text
+    /// ensures { result.now ≡ (arp_of self.now).sender_protocol }
+    /// ```
+    ///
+    /// </details>
+    #[inline]
+    pub fn sender_protocol_addr(&self) -> &[u8] {
+        arp_fields::sender_protocol_addr(self.slice)
+    }
+
+    /// The hardware address of the target, which a request does not know.
+    ///
+    /// <details><summary>Contract</summary>
+    ///
+    /// ```text
+    /// ensures { result.now ≡ (arp_of self.now).target_hardware }
+    /// ```
+    ///
+    /// </details>
+    #[inline]
+    pub fn target_hw_addr(&self) -> &[u8] {
+        arp_fields::target_hw_addr(self.slice)
+    }
+
+    /// The protocol address of the target.
+    ///
+    /// <details><summary>Contract</summary>
+    ///
+    /// ```text
+    /// ensures { result.now ≡ (arp_of self.now).target_protocol }
+    /// ```
+    ///
+    /// </details>
+    #[inline]
+    pub fn target_protocol_addr(&self) -> &[u8] {
+        arp_fields::target_protocol_addr(self.slice)
+    }
+
+    /// The packet as a value of its own.
+    ///
+    /// <details><summary>Contract</summary>
+    ///
+    /// ```text
+    /// ensures { result ≡ arp_of self.now }
+    /// ```
+    ///
+    /// </details>
+    #[inline]
+    pub fn to_packet(&self) -> ArpPacket {
+        let bytes = self.slice;
+        ArpPacket::packed(
+            arp_fields::hw_addr_type(bytes),
+            arp_fields::proto_addr_type(bytes),
+            arp_fields::operation(bytes),
+            arp_fields::hw_addr_size(bytes),
+            arp_fields::proto_addr_size(bytes),
+            arp_fields::addrs(bytes),
+        )
+    }
+}
+
+impl<'a> Clone for ArpPacketSlice<'a> {
+    #[inline]
+    fn clone(&self) -> Self {
+        ArpPacketSlice { slice: self.slice }
+    }
+}
+
+impl<'a> PartialEq for ArpPacketSlice<'a> {
+    #[inline]
+    fn eq(&self, other: &ArpPacketSlice<'a>) -> bool {
+        self.slice == other.slice
+    }
+}
+
+impl<'a> Eq for ArpPacketSlice<'a> {}

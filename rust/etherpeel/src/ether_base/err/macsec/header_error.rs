@@ -1,0 +1,41 @@
+//! Field values of a MACsec SecTag that are not allowed.
+
+use core::error::Error;
+use core::fmt;
+
+/// A field of a MACsec SecTag (IEEE 802.1AE) has a value that is not allowed.
+///
+/// ```
+/// # use etherpeel::*;
+/// # use etherpeel::ether_base::err::*;
+/// # use etherpeel::ether_base::err::macsec::*;
+/// let error = HeaderError::UnexpectedVersion;
+/// assert_eq!(
+///     format!("{error}").as_str(),
+///     "MACsec Header Error: Encountered '1' as MACsec version in the MACsec SecTag header (must be '0')."
+/// );
+/// ```
+#[derive(Clone, Copy, PartialEq, Eq, Hash, Debug)]
+pub enum HeaderError {
+    /// The version bit V is 1.
+    UnexpectedVersion,
+    /// The short length of an unmodified payload is 1, which has no room for its ether type.
+    InvalidUnmodifiedShortLen,
+}
+
+impl fmt::Display for HeaderError {
+    fn fmt(&self, f: &mut fmt::Formatter<'_>) -> fmt::Result {
+        match self {
+            HeaderError::UnexpectedVersion => write!(
+                f,
+                "MACsec Header Error: Encountered '1' as MACsec version in the MACsec SecTag header (must be '0')."
+            ),
+            HeaderError::InvalidUnmodifiedShortLen => write!(
+                f,
+                "MACsec Header Error: Encountered '1' as MACsec short len in an unmodified packet (must be '0' or '2' or greater)."
+            ),
+        }
+    }
+}
+
+impl Error for HeaderError {}

@@ -1,0 +1,51 @@
+//! Why a header can't be read from a slice, whatever its format.
+
+use crate::ether_base::err::LenError;
+use core::error::Error;
+use core::fmt::{self, Display};
+
+/// Why a header can't be read from a slice.
+///
+/// Each format gives it a name of its own, with the format's error of contents: `err::linux_sll::HeaderSliceError` and
+/// `err::macsec::HeaderSliceError`. `Display` gives the text of the error within.
+#[derive(Clone, Copy, PartialEq, Eq, Hash, Debug)]
+pub enum HeaderSliceError<E> {
+    /// The slice is too short.
+    Len(LenError),
+    /// The contents are not allowed.
+    Content(E),
+}
+
+impl<E> HeaderSliceError<E> {
+    /// The error with the header's start moved by `offset` bytes: for a caller that passed on the tail of a slice, and
+    /// reports places in the whole. An error of the contents names no place, and stays as it is.
+    ///
+    /// <details><summary>Contract</summary>
+    ///
+    /// The caller has to meet each `requires`: else the call may panic, or return something else.
+    ///
+    /// ```text
+    /// requires { FitsMoved offset self }
+    /// ensures { result ≡ moved offset self }
+    /// ```
+    ///
+    /// </details>
+    #[inline]
+    pub fn add_slice_offset(self, offset: usize) -> HeaderSliceError<E> {
+        match self {
+            HeaderSliceError::Len(error) => HeaderSliceError::Len(error.add_offset(offset)),
+            HeaderSliceError::Content(error) => HeaderSliceError::Content(error),
+        }
+    }
+}
+
+impl<E: Display> Display for HeaderSliceError<E> {
+    fn fmt(&self, f: &mut fmt::Formatter<'_>) -> fmt::Result {
+        match self {
+            HeaderSliceError::Len(error) => error.fmt(f),
+            HeaderSliceError::Content(error) => error.fmt(f),
+        }
+    }
+}
+
+impl<E: Error> Error for HeaderSliceError<E> {}

@@ -1,0 +1,12 @@
+//! What is walked of a captured packet, by its link type, how long its headers are, which packets a filter selects, and what an edit makes
+//! of a packet. No call allocates memory.
+
+mod content;
+mod editing;
+mod headers;
+mod selecting;
+
+pub use content::{Content, is_cut, without_fcs};
+pub use editing::{EditedPacket, NoRoom, PacketEdit, edit_packet};
+pub use headers::headers_len;
+pub use selecting::selects;

@@ -1,0 +1,154 @@
+//! What is walked of a captured packet.
+
+use crate::ether_pcap::{CapturedPacket, LinkType};
+use crate::ether_peel::Start;
+use crate::ether_sll2::LinuxSll2Slice;
+
+/// The length in bytes of the frame check sequence of Ethernet.
+const FCS_LEN: usize = 4;
+
+/// What is walked of a packet.
+///
+/// ```
+/// # use etherpeel::*;
+/// # use etherpeel::ether_peel::*;
+/// # use etherpeel::ether_sll2::*;
+/// # use etherpeel::ether_packet::*;
+/// # use etherpeel::ether_filter::*;
+/// # use etherpeel::ether_pcap::*;
+/// # use etherpeel::ether_content::*;
+/// let packet = CapturedPacket {
+///     time: None,
+///     interface: None,
+///     original_len: 60,
+///     link_type: LinkType::ETHERNET,
+///     fcs_len: None,
+///     packet: &[0xFF; 14],
+/// };
+/// assert_eq!(Content::of(&packet).frame(), Some((Start::Ethernet2, [0xFF; 14].as_slice())));
+/// assert!(is_cut(&packet));
+/// ```
+#[derive(Clone, Copy, Debug)]
+pub enum Content<'a> {
+    /// A frame, with what it begins with. It has a frame check sequence only if that says so.
+    Frame(Start, &'a [u8]),
+    /// A packet of Linux cooked capture v2.
+    LinuxSll2(&'a [u8]),
+    /// Nothing: the walk knows no such link type.
+    Unknown,
+}
+
+impl<'a> Content<'a> {
+    /// What is walked of a packet, by its link type.
+    ///
+    /// A frame check sequence whose length the capture gives is left out. Only one of four bytes, of an Ethernet frame that was not
+    /// cut, stays.
+    #[inline(always)]
+    pub fn of(packet: &CapturedPacket<'a>) -> Content<'a> {
+        if packet.link_type == LinkType::ETHERNET {
+            if has_fcs(packet) {
+                return Content::Frame(Start::Ethernet2Fcs, packet.packet);
+            }
+            return Content::Frame(Start::Ethernet2, without_fcs(packet));
+        }
+        if packet.link_type == LinkType::LINUX_SLL {
+            return Content::Frame(Start::LinuxSll, without_fcs(packet));
+        }
+        if packet.link_type == LinkType::LINUX_SLL2 {
+            return Content::LinuxSll2(without_fcs(packet));
+        }
+        Content::Unknown
+    }
+
+    /// Returns `true` if nothing is walked.
+    #[inline(always)]
+    pub fn is_unknown(self) -> bool {
+        matches!(self, Content::Unknown)
+    }
+
+    /// The frame, with what it begins with. Of cooked capture v2 that is the payload, if the header can be read and an ether type
+    /// announces it.
+    ///
+    /// <details><summary>Contract</summary>
+    ///
+    /// ```text
+    /// ensures some { IfSome result (λ frame. IsWalked (content_view self.entry) (next_of frame.0) frame.1.now) }
+    /// ensures none { result ≡ None → (next : Next) (bytes : List ℕ) → IsWalked (content_view self.entry) next bytes → ⊥ }
+    /// ```
+    ///
+    /// </details>
+    #[inline]
+    pub fn frame(self) -> Option<(Start, &'a [u8])> {
+        match self {
+            Content::Frame(start, bytes) => Some((start, bytes)),
+            Content::LinuxSll2(bytes) => payload_of(bytes),
+            Content::Unknown => None,
+        }
+    }
+}
+
+/// What the payload of a packet of cooked capture v2 begins with, and the payload.
+#[inline]
+pub(crate) fn payload_of(bytes: &[u8]) -> Option<(Start, &[u8])> {
+    let Ok(packet) = LinuxSll2Slice::from_slice(bytes) else {
+        return None;
+    };
+    match packet.start() {
+        Some(start) => Some((start, packet.payload_slice())),
+        None => None,
+    }
+}
+
+/// Returns `true` if bytes of the packet were not captured.
+#[inline(always)]
+pub fn is_cut(packet: &CapturedPacket<'_>) -> bool {
+    packet.packet.len() < packet.original_len as usize
+}
+
+/// The length of the frame check sequence at the end of the packet before it was cut.
+#[inline]
+fn fcs_len(packet: &CapturedPacket<'_>) -> usize {
+    usize::from(packet.fcs_len.unwrap_or(0))
+}
+
+/// Whether the whole frame check sequence of Ethernet is there.
+#[inline]
+fn has_fcs(packet: &CapturedPacket<'_>) -> bool {
+    !is_cut(packet) && fcs_len(packet) == FCS_LEN
+}
+
+/// The captured bytes without those of the frame check sequence, whose length the capture gives.
+///
+/// ```
+/// # use etherpeel::*;
+/// # use etherpeel::ether_peel::*;
+/// # use etherpeel::ether_sll2::*;
+/// # use etherpeel::ether_packet::*;
+/// # use etherpeel::ether_filter::*;
+/// # use etherpeel::ether_pcap::*;
+/// # use etherpeel::ether_content::*;
+/// let packet = CapturedPacket {
+///     time: None,
+///     interface: None,
+///     original_len: 18,
+///     link_type: LinkType::ETHERNET,
+///     fcs_len: Some(4),
+///     packet: &[0xFF; 16],
+/// };
+/// assert_eq!(without_fcs(&packet), [0xFF; 14].as_slice());
+/// ```
+///
+/// <details><summary>Contract</summary>
+///
+/// ```text
+/// ensures { result.now ≡ without_fcs (captured_packet_view packet.now) }
+/// ```
+///
+/// </details>
+#[inline]
+pub fn without_fcs<'a>(packet: &CapturedPacket<'a>) -> &'a [u8] {
+    let captured_len = packet.packet.len();
+    let whole_len = captured_len.max(packet.original_len as usize);
+    let end = whole_len.saturating_sub(fcs_len(packet));
+    &packet.packet[..end.min(captured_len)]
+}

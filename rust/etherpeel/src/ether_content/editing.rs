@@ -1,0 +1,241 @@
+//! What a captured packet is edited to.
+
+use crate::ether_content::content::Content;
+use crate::ether_content::headers::headers_len;
+use crate::ether_packet::{pop_vlan, push_vlan, replace_vlan_id};
+use crate::ether_pcap::CapturedPacket;
+use crate::ether_peel::Start;
+use crate::{EtherType, SingleVlanHeader, VlanId, VlanPcp};
+
+/// An edit of captured packets.
+#[derive(Clone, Copy, PartialEq, Eq, Debug)]
+pub enum PacketEdit {
+    /// A packet is cut where its headers end, as [`headers_len`] says.
+    CutToHeaders,
+    /// The VLAN tag after the header of a frame's link is taken off, as [`pop_vlan`](crate::ether_packet::pop_vlan) does it.
+    PopVlan,
+    /// A VLAN tag of priority 0 is put in there, as [`push_vlan`](crate::ether_packet::push_vlan) does it. The TPID announces it: 0x8100, 0x88A8 or
+    /// 0x9100. With another one packets stay as they are.
+    PushVlan {
+        /// The ether type that announces the tag.
+        tpid: EtherType,
+        /// The identifier of the tag.
+        vlan_id: VlanId,
+    },
+    /// The outermost VLAN tag of a frame with one identifier gets another one, as
+    /// [`replace_vlan_id`](crate::ether_packet::replace_vlan_id) does it.
+    SetVlan {
+        /// The identifier that the tag has.
+        from: VlanId,
+        /// The identifier that it gets.
+        to: VlanId,
+    },
+}
+
+/// A packet that was edited.
+#[derive(Clone, Copy, PartialEq, Eq, Debug)]
+pub struct EditedPacket {
+    /// Where its captured bytes begin in the buffer.
+    pub start: usize,
+    /// Where they end.
+    pub end: usize,
+    /// How many bytes it has without being cut.
+    pub original_len: u64,
+}
+
+/// A buffer has too few bytes for a packet that is to be edited.
+#[derive(Clone, Copy, PartialEq, Eq, Debug)]
+pub struct NoRoom;
+
+/// How many bytes a buffer has to have more than a packet that is edited in it.
+const FREE: usize = 4;
+
+/// Edits a packet, with a buffer for the bytes that it has then. Returns `None` if it stays as it is.
+///
+/// A packet stays that has no more bytes than its headers take, or is no frame of Ethernet or of cooked capture v1 with a VLAN tag to be
+/// taken off or changed, or a link to put one in after. What was captured of a frame check sequence stays, and doesn't fit the new frame.
+///
+/// # Errors
+///
+/// The buffer has fewer than four bytes more than were captured of the packet.
+///
+/// ```ignore
+/// let packet = CapturedPacket {
+///     time: None,
+///     interface: None,
+///     original_len: 60,
+///     link_type: LinkType::ETHERNET,
+///     fcs_len: None,
+///     packet: &[
+///         0xFF, 0xFF, 0xFF, 0xFF, 0xFF, 0xFF, 0x02, 0x00, 0x00, 0x00, 0x00, 0x01, 0x81, 0x00, // Ethernet II
+///         0xB1, 0x23, 0x08, 0x00, // VLAN 291
+///         0x45, 0x00,
+///     ],
+/// };
+/// let mut buffer = [0; 24];
+/// let edited = edit_packet(PacketEdit::PopVlan, &packet, &mut buffer)?;
+/// assert_eq!(edited, Some(EditedPacket { start: 8, end: 24, original_len: 56 }));
+/// assert_eq!(buffer[8..], [
+///     0xFF, 0xFF, 0xFF, 0xFF, 0xFF, 0xFF, 0x02, 0x00, 0x00, 0x00, 0x00, 0x01, 0x08, 0x00, // Ethernet II
+///     0x45, 0x00,
+/// ]);
+/// ```
+///
+/// <details><summary>Contract</summary>
+///
+/// ```text
+/// ensures ok { IfOk result (λ edited. Edits (edit_view edit) (captured_packet_view packet.now)
+///     (option_map (edited_view buffer.new) edited)) }
+/// ensures within { IfOk result (λ edited. IfSome edited (λ e. (e.start ≤ e.end) × (e.end ≤ length buffer.new))) }
+/// ensures len { length buffer.new ≡ length buffer.old }
+/// ensures room { OnOk result (length packet.now.packet.now + 4 ≤ length buffer.old) }
+/// ensures no_room { OnErr result (length buffer.old < length packet.now.packet.now + 4) }
+/// ```
+///
+/// </details>
+#[inline]
+pub fn edit_packet(
+    edit: PacketEdit,
+    packet: &CapturedPacket<'_>,
+    buffer: &mut [u8],
+) -> Result<Option<EditedPacket>, NoRoom> {
+    if buffer.len() < FREE || buffer.len() - FREE < packet.packet.len() {
+        return Err(NoRoom);
+    }
+    match edit {
+        PacketEdit::CutToHeaders => Ok(cut_to_headers(packet, buffer)),
+        PacketEdit::PopVlan => Ok(pop(packet, buffer)),
+        PacketEdit::PushVlan { tpid, vlan_id } => Ok(push(tpid, vlan_id, packet, buffer)),
+        PacketEdit::SetVlan { from, to } => Ok(set(from, to, packet, buffer)),
+    }
+}
+
+/// Cuts a packet where its headers end.
+#[inline]
+fn cut_to_headers(packet: &CapturedPacket<'_>, buffer: &mut [u8]) -> Option<EditedPacket> {
+    let len = headers_len(packet);
+    if packet.packet.len() <= len {
+        return None;
+    }
+    let end = FREE + len;
+    put_between(buffer, FREE, end, &packet.packet[..len]);
+    Some(EditedPacket {
+        start: FREE,
+        end,
+        original_len: u64::from(packet.original_len),
+    })
+}
+
+/// Takes off the VLAN tag after the header of a frame's link.
+#[inline]
+fn pop(packet: &CapturedPacket<'_>, buffer: &mut [u8]) -> Option<EditedPacket> {
+    match Content::of(packet) {
+        Content::Frame(start, frame) => pop_frame(start, frame, packet, buffer),
+        _ => None,
+    }
+}
+
+/// Takes off the VLAN tag of the frame that a packet is.
+#[inline]
+fn pop_frame(
+    start: Start,
+    frame: &[u8],
+    packet: &CapturedPacket<'_>,
+    buffer: &mut [u8],
+) -> Option<EditedPacket> {
+    let end = FREE + packet.packet.len();
+    put_between(buffer, FREE, end, packet.packet);
+    match pop_vlan(start, &mut buffer[FREE..FREE + frame.len()]) {
+        Ok(_) => Some(EditedPacket {
+            start: FREE + 4,
+            end,
+            original_len: u64::from(packet.original_len).saturating_sub(4),
+        }),
+        Err(_) => None,
+    }
+}
+
+/// Puts in a VLAN tag after the header of a frame's link.
+#[inline]
+fn push(
+    tpid: EtherType,
+    vlan_id: VlanId,
+    packet: &CapturedPacket<'_>,
+    buffer: &mut [u8],
+) -> Option<EditedPacket> {
+    match Content::of(packet) {
+        Content::Frame(start, frame) => push_frame(tpid, vlan_id, start, frame, packet, buffer),
+        _ => None,
+    }
+}
+
+/// Puts a VLAN tag into the frame that a packet is.
+#[inline]
+fn push_frame(
+    tpid: EtherType,
+    vlan_id: VlanId,
+    start: Start,
+    frame: &[u8],
+    packet: &CapturedPacket<'_>,
+    buffer: &mut [u8],
+) -> Option<EditedPacket> {
+    let end = FREE + packet.packet.len();
+    put_between(buffer, 0, FREE, &[0; FREE]);
+    put_between(buffer, FREE, end, packet.packet);
+    let tag = SingleVlanHeader {
+        pcp: VlanPcp::ZERO,
+        drop_eligible_indicator: false,
+        vlan_id,
+        ether_type: EtherType(0),
+    };
+    match push_vlan(start, &mut buffer[..FREE + frame.len()], tag, tpid) {
+        Ok(()) => Some(EditedPacket {
+            start: 0,
+            end,
+            original_len: u64::from(packet.original_len) + 4,
+        }),
+        Err(_) => None,
+    }
+}
+
+/// Gives the outermost VLAN tag of a frame with an identifier another one.
+#[inline]
+fn set(
+    from: VlanId,
+    to: VlanId,
+    packet: &CapturedPacket<'_>,
+    buffer: &mut [u8],
+) -> Option<EditedPacket> {
+    match Content::of(packet) {
+        Content::Frame(start, frame) => set_in_frame(from, to, start, frame, packet, buffer),
+        _ => None,
+    }
+}
+
+/// Gives a VLAN tag of the frame that a packet is another identifier.
+#[inline]
+fn set_in_frame(
+    from: VlanId,
+    to: VlanId,
+    start: Start,
+    frame: &[u8],
+    packet: &CapturedPacket<'_>,
+    buffer: &mut [u8],
+) -> Option<EditedPacket> {
+    let end = FREE + packet.packet.len();
+    put_between(buffer, FREE, end, packet.packet);
+    match replace_vlan_id(start, &mut buffer[FREE..FREE + frame.len()], from, to) {
+        Some(_) => Some(EditedPacket {
+            start: FREE,
+            end,
+            original_len: u64::from(packet.original_len),
+        }),
+        None => None,
+    }
+}
+
+/// Writes bytes between two places of a buffer. Those before them stay.
+#[inline]
+fn put_between(buffer: &mut [u8], start: usize, end: usize, bytes: &[u8]) {
+    buffer[start..end].copy_from_slice(bytes);
+}

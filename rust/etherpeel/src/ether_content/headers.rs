@@ -1,0 +1,69 @@
+//! How many bytes of a captured packet its headers take.
+
+use crate::ether_content::content::{Content, payload_of};
+use crate::ether_packet::min_snap_len;
+use crate::ether_pcap::CapturedPacket;
+use crate::ether_peel::Start;
+use crate::ether_sll2::{LinuxSll2Header, LinuxSll2Slice};
+
+/// How many bytes of a packet its link-layer headers take, with the payloads whose lengths they name: cut to so many bytes, it keeps all
+/// headers.
+///
+/// A header that is refused does not count, and a packet whose link type the walk does not know has none.
+///
+/// ```
+/// # use etherpeel::*;
+/// # use etherpeel::ether_peel::*;
+/// # use etherpeel::ether_sll2::*;
+/// # use etherpeel::ether_packet::*;
+/// # use etherpeel::ether_filter::*;
+/// # use etherpeel::ether_pcap::*;
+/// # use etherpeel::ether_content::*;
+/// let packet = CapturedPacket {
+///     time: None,
+///     interface: None,
+///     original_len: 60,
+///     link_type: LinkType::ETHERNET,
+///     fcs_len: None,
+///     packet: &[
+///         0xFF, 0xFF, 0xFF, 0xFF, 0xFF, 0xFF, 0x02, 0x00, 0x00, 0x00, 0x00, 0x01, 0x81, 0x00, // Ethernet II
+///         0xB1, 0x23, 0x08, 0x00, // VLAN 291
+///         0x45, 0x00,
+///     ],
+/// };
+/// assert_eq!(headers_len(&packet), 18);
+/// ```
+///
+/// <details><summary>Contract</summary>
+///
+/// ```text
+/// ensures { HeadersTake (content_of (captured_packet_view packet.now)) result }
+/// ```
+///
+/// </details>
+#[inline]
+pub fn headers_len(packet: &CapturedPacket<'_>) -> usize {
+    match Content::of(packet) {
+        Content::Frame(start, frame) => frame_len(start, frame),
+        Content::LinuxSll2(bytes) => linux_sll2_len(bytes),
+        Content::Unknown => 0,
+    }
+}
+
+/// How far the headers of a frame reach.
+#[inline]
+fn frame_len(start: Start, frame: &[u8]) -> usize {
+    min_snap_len(start, frame)
+}
+
+/// How many bytes of a packet of cooked capture v2 its headers take.
+#[inline]
+fn linux_sll2_len(bytes: &[u8]) -> usize {
+    match LinuxSll2Slice::from_slice(bytes) {
+        Ok(_) => match payload_of(bytes) {
+            Some((start, payload)) => LinuxSll2Header::LEN + frame_len(start, payload),
+            None => LinuxSll2Header::LEN,
+        },
+        Err(_) => 0,
+    }
+}

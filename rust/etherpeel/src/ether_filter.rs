@@ -1,0 +1,19 @@
+//! Filters of packets: expressions in the words of pcap-filter(7), and whether a packet matches. No call allocates memory.
+
+mod awaited;
+mod fields;
+mod filter;
+mod filter_error;
+mod matching;
+mod node;
+mod numeral;
+mod packet;
+mod primitive;
+mod reading;
+mod token;
+mod words;
+
+pub use filter::Filter;
+pub use filter_error::{FilterError, FilterErrorKind};
+pub use numeral::number_of;
+pub use packet::Packet;

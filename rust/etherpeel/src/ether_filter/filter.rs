@@ -1,0 +1,176 @@
+//! A filter.
+
+use crate::ether_filter::filter_error::{FilterError, FilterErrorKind};
+use crate::ether_filter::matching::matches_primitive;
+use crate::ether_filter::node::{Node, Operator};
+use crate::ether_filter::packet::Packet;
+use crate::ether_filter::reading::Reading;
+use crate::ether_filter::token::token_of;
+use crate::ether_filter::words::next_word;
+use arrayvec::ArrayVec;
+
+/// The greatest number of words of an expression.
+pub(crate) const MAX_WORDS: usize = 192;
+
+/// A filter of packets: an expression in words of pcap-filter(7).
+///
+/// An expression is one primitive, or several of them with `not` (or `!`), `and` (`&&`), `or` (`||`) and parentheses. `not` takes
+/// what comes directly after it: one primitive, one group in parentheses, or another `not`. `and` and `or` can be mixed
+/// only with parentheses, since readers disagree on what they mean without.
+///
+/// | Primitive | A packet matches if |
+/// |---|---|
+/// | `vlan` | it has a VLAN tag |
+/// | `vlan N` | one of its VLAN tags has the identifier `N` |
+/// | `outer vlan N` | its first VLAN tag has the identifier `N` |
+/// | `inner vlan N` | it has two or more VLAN tags, and the last one has the identifier `N` |
+/// | `macsec` | it has a MACsec SecTag |
+/// | `ether proto N` | the ether type `N` is announced, by what it begins with or by one of its headers |
+/// | `arp`, `ip`, `ip6` | the same for 0x0806, 0x0800, 0x86DD |
+/// | `ether src A`, `ether dst A`, `ether host A` | its Ethernet II header has the address `A` as source, destination, or either |
+/// | `ether broadcast`, `ether multicast` | its Ethernet II header has the broadcast address, or that of any group, as destination |
+/// | `refused` | one of its headers is refused: cut short or malformed |
+/// | `cut` | fewer bytes were captured than were on the wire |
+/// | `less N`, `greater N` | it had at most, or at least, `N` bytes on the wire |
+///
+/// Each speaks of the whole packet, whatever other words the expression has. All VLAN tags and SecTags are read, and nothing of an
+/// encrypted or modified payload.
+///
+/// A number is decimal, without leading zeros, or hexadecimal after `0x`. An address is six pairs of hexadecimal digits with colons
+/// between them. Blanks, `(`, `)` and `!` separate words.
+///
+/// No call allocates memory.
+///
+/// ```
+/// # use etherpeel::*;
+/// # use etherpeel::ether_peel::*;
+/// # use etherpeel::ether_sll2::*;
+/// # use etherpeel::ether_packet::*;
+/// # use etherpeel::ether_filter::*;
+/// let tagged_arp = [
+///     0xFF, 0xFF, 0xFF, 0xFF, 0xFF, 0xFF, 0x02, 0x00, 0x00, 0x00, 0x00, 0x01, 0x81, 0x00, // Ethernet II
+///     0x00, 0x05, 0x08, 0x06, // VLAN
+/// ];
+/// let packet = Packet {
+///     start: Start::Ethernet2,
+///     frame: &tagged_arp,
+///     captured_len: 18,
+///     original_len: 64,
+/// };
+/// for (text, wanted) in [
+///     (b"vlan 5 and arp".as_slice(), true),
+///     (b"not (vlan 5 or cut)".as_slice(), false),
+/// ] {
+///     let matches = Filter::parse(text).map(|filter| filter.matches(&packet));
+///     assert_eq!(matches, Ok(wanted));
+/// }
+/// ```
+#[derive(Debug)]
+pub struct Filter {
+    /// The nodes of the expression, each after its operands.
+    nodes: ArrayVec<Node, MAX_WORDS>,
+}
+
+impl Filter {
+    /// The greatest number of words of an expression. One of up to 64 primitives and operators that has no more parentheses than it
+    /// needs has fewer.
+    pub const MAX_WORDS: usize = MAX_WORDS;
+
+    /// The filter that a text means, or why it means none, and where: at the first word that fits nothing after those before it.
+    ///
+    /// See [`Filter`] for the words.
+    ///
+    /// <details><summary>Contract</summary>
+    ///
+    /// ```text
+    /// ensures ok { IfOk result (IsExpressionOf text.now) }
+    /// ensures err { IfErr result (RefusesText text.now) }
+    /// ```
+    ///
+    /// </details>
+    #[inline]
+    pub fn parse(text: &[u8]) -> Result<Filter, FilterError> {
+        match read(text) {
+            Ok(nodes) => Ok(Filter { nodes }),
+            Err(error) => Err(error),
+        }
+    }
+
+    /// Returns `true` if a packet matches.
+    ///
+    /// Each primitive that asks for headers takes a walk of its own through the frame.
+    ///
+    /// <details><summary>Contract</summary>
+    ///
+    /// ```text
+    /// ensures { (hs : List Header) (e : Ending) → Walk (start_of packet.now.start) packet.now.frame.now hs e
+    ///     → IsTrue result ↔ Holds self.now (walked packet.now hs e) }
+    /// ```
+    ///
+    /// </details>
+    #[inline]
+    pub fn matches(&self, packet: &Packet<'_>) -> bool {
+        let mut truths = ArrayVec::new();
+        for node in self.nodes.as_slice() {
+            take_node(&mut truths, *node, packet);
+        }
+        truths.pop().unwrap_or(false)
+    }
+}
+
+/// Puts the truth of an expression in the place of those of its operands.
+#[inline]
+fn take_node(truths: &mut ArrayVec<bool, MAX_WORDS>, node: Node, packet: &Packet<'_>) {
+    match node {
+        Node::Test(primitive) => truths.push(matches_primitive(primitive, packet)),
+        Node::Not => {
+            if let Some(truth) = truths.pop() {
+                truths.push(!truth);
+            }
+        }
+        Node::Join(operator) => {
+            let right = truths.pop();
+            let left = truths.pop();
+            if let (Some(left), Some(right)) = (left, right) {
+                truths.push(joined(operator, left, right));
+            }
+        }
+    }
+}
+
+/// The truth of two operands that are joined.
+#[inline]
+fn joined(operator: Operator, left: bool, right: bool) -> bool {
+    match operator {
+        Operator::And => left && right,
+        Operator::Or => left || right,
+    }
+}
+
+/// The nodes of the expression that a text means.
+#[inline]
+fn read(text: &[u8]) -> Result<ArrayVec<Node, MAX_WORDS>, FilterError> {
+    let mut reading = Reading::new();
+    let mut count = 0;
+    let mut at = 0;
+    while let Some(word) = next_word(text, at) {
+        let offset = word.start;
+        if count == MAX_WORDS {
+            let kind = FilterErrorKind::TooLong;
+            return Err(FilterError { offset, kind });
+        }
+        match reading.take(token_of(&text[word.start..word.end])) {
+            Ok(()) => {}
+            Err(kind) => return Err(FilterError { offset, kind }),
+        }
+        count += 1;
+        at = word.end;
+    }
+    match reading.finish() {
+        Ok(nodes) => Ok(nodes),
+        Err(kind) => Err(FilterError {
+            offset: text.len(),
+            kind,
+        }),
+    }
+}

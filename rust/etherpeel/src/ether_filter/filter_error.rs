@@ -1,0 +1,95 @@
+//! Why a text is no expression.
+
+use core::error::Error;
+use core::fmt;
+
+/// Why a text is no expression, and where.
+///
+/// ```
+/// # use etherpeel::*;
+/// # use etherpeel::ether_peel::*;
+/// # use etherpeel::ether_sll2::*;
+/// # use etherpeel::ether_packet::*;
+/// # use etherpeel::ether_filter::*;
+/// # fn main() -> Result<(), Box<dyn std::error::Error>> {
+/// let Err(error) = Filter::parse(b"vlan 4096") else {
+///     return Ok(());
+/// };
+/// assert_eq!(error.offset, 5);
+/// assert_eq!(error.kind, FilterErrorKind::ExpectedNumber(4095));
+/// assert_eq!(
+///     format!("{error}").as_str(),
+///     "At byte 5: expected a number up to 4095."
+/// );
+/// # Ok(())
+/// # }
+/// ```
+#[derive(Clone, Copy, PartialEq, Eq, Debug)]
+pub struct FilterError {
+    /// Where the first word that fits nothing begins, in bytes. It's the length of the text if words are missing at its end.
+    pub offset: usize,
+    /// What is expected there, or why the word doesn't fit.
+    pub kind: FilterErrorKind,
+}
+
+/// What is expected at a place of an expression, or why a word doesn't fit there.
+#[derive(Clone, Copy, PartialEq, Eq, Debug)]
+pub enum FilterErrorKind {
+    /// A primitive, `not` or `(` is expected.
+    ExpectedOperand,
+    /// `and`, `or`, `)` or the end of the text is expected.
+    ExpectedOperator,
+    /// `vlan` is expected.
+    ExpectedVlan,
+    /// `proto`, `src`, `dst`, `host`, `broadcast` or `multicast` is expected.
+    ExpectedEtherWord,
+    /// An address is expected, in the form `xx:xx:xx:xx:xx:xx`.
+    ExpectedAddress,
+    /// A number that is not greater than this one is expected.
+    ExpectedNumber(u32),
+    /// `and` and `or` are mixed without parentheses.
+    MixedOperators,
+    /// There is no `(` for a `)`.
+    Unopened,
+    /// The text ends before the `)` of a `(`.
+    Unclosed,
+    /// There are more words than [`Filter::MAX_WORDS`](crate::ether_filter::Filter::MAX_WORDS).
+    TooLong,
+}
+
+impl fmt::Display for FilterErrorKind {
+    fn fmt(&self, f: &mut fmt::Formatter<'_>) -> fmt::Result {
+        match self {
+            FilterErrorKind::ExpectedOperand => {
+                f.write_str("expected a primitive, `not` or `(`.")
+            }
+            FilterErrorKind::ExpectedOperator => {
+                f.write_str("expected `and`, `or`, `)` or the end.")
+            }
+            FilterErrorKind::ExpectedVlan => f.write_str("expected `vlan`."),
+            FilterErrorKind::ExpectedEtherWord => f.write_str(
+                "expected `proto`, `src`, `dst`, `host`, `broadcast` or `multicast`.",
+            ),
+            FilterErrorKind::ExpectedAddress => {
+                f.write_str("expected an address, as 02:00:5e:10:00:01.")
+            }
+            FilterErrorKind::ExpectedNumber(most) => {
+                write!(f, "expected a number up to {most}.")
+            }
+            FilterErrorKind::MixedOperators => {
+                f.write_str("`and` and `or` can be mixed only with parentheses.")
+            }
+            FilterErrorKind::Unopened => f.write_str("there is no `(` for this `)`."),
+            FilterErrorKind::Unclosed => f.write_str("a `(` is not closed."),
+            FilterErrorKind::TooLong => f.write_str("an expression has at most 192 words."),
+        }
+    }
+}
+
+impl fmt::Display for FilterError {
+    fn fmt(&self, f: &mut fmt::Formatter<'_>) -> fmt::Result {
+        write!(f, "At byte {}: {}", self.offset, self.kind)
+    }
+}
+
+impl Error for FilterError {}

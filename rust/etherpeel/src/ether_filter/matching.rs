@@ -1,0 +1,133 @@
+//! Whether a primitive matches a packet.
+
+use crate::ether_filter::fields::{Fields, announced_type, read_fields};
+use crate::ether_filter::packet::Packet;
+use crate::ether_filter::primitive::Primitive;
+use crate::ether_peel::{Peel, Start};
+
+/// The broadcast address.
+const BROADCAST: u64 = 0xFFFF_FFFF_FFFF;
+
+/// Whether a primitive matches a packet.
+#[inline]
+pub(crate) fn matches_primitive(primitive: Primitive, packet: &Packet<'_>) -> bool {
+    match primitive {
+        Primitive::Cut => packet.captured_len < packet.original_len as usize,
+        Primitive::Less(len) => packet.original_len <= len,
+        Primitive::Greater(len) => packet.original_len >= len,
+        _ => is_found(primitive, packet.start, packet.frame),
+    }
+}
+
+/// Whether a primitive is found in a walk.
+#[inline]
+fn is_found(primitive: Primitive, start: Start, frame: &[u8]) -> bool {
+    let mut peel = Peel::new(start, frame);
+    let mut found = found_first(primitive, announced_type(peel.kind()));
+    let mut tagged = false;
+    loop {
+        match peel.next() {
+            Some(Ok(unit)) => {
+                let fields = read_fields(&unit);
+                found = found_after(
+                    primitive,
+                    found,
+                    tagged,
+                    fields,
+                    announced_type(peel.kind()),
+                );
+                tagged |= is_tagged(fields);
+            }
+            Some(Err(_)) => return found_at_fault(primitive, found),
+            None => return found,
+        }
+    }
+}
+
+/// Whether a primitive is found before the first header, by the ether type that is announced.
+#[inline]
+fn found_first(primitive: Primitive, announced: Option<u16>) -> bool {
+    match primitive {
+        Primitive::EtherType(number) => announced == Some(number),
+        _ => false,
+    }
+}
+
+/// Whether a primitive is found after one more header, by whether it was found before, and whether a VLAN tag was.
+#[inline]
+fn found_after(
+    primitive: Primitive,
+    found: bool,
+    tagged: bool,
+    fields: Fields,
+    announced: Option<u16>,
+) -> bool {
+    match (primitive, fields) {
+        (Primitive::OuterVlan(wanted), Fields::Tag(id)) => {
+            if tagged { found } else { wanted == id }
+        }
+        (Primitive::InnerVlan(wanted), Fields::Tag(id)) => tagged && wanted == id,
+        _ => found || is_shown(primitive, fields, announced),
+    }
+}
+
+/// Whether a primitive is found if the walk is refused, by whether it was found before.
+#[inline]
+fn found_at_fault(primitive: Primitive, found: bool) -> bool {
+    match primitive {
+        Primitive::Refused => true,
+        _ => found,
+    }
+}
+
+/// Whether these are the fields of a VLAN tag.
+#[inline]
+fn is_tagged(fields: Fields) -> bool {
+    matches!(fields, Fields::Tag(_))
+}
+
+/// Whether one header shows a primitive.
+#[inline]
+fn is_shown(primitive: Primitive, fields: Fields, announced: Option<u16>) -> bool {
+    if let Primitive::EtherType(number) = primitive {
+        return announced == Some(number);
+    }
+    match fields {
+        Fields::Link {
+            destination,
+            source,
+        } => is_shown_by_link(primitive, destination, source),
+        Fields::Tag(id) => is_shown_by_tag(primitive, id),
+        Fields::SecTag => matches!(primitive, Primitive::Macsec),
+        Fields::Other => false,
+    }
+}
+
+/// Whether the addresses of a link show a primitive.
+#[inline]
+fn is_shown_by_link(primitive: Primitive, destination: u64, source: u64) -> bool {
+    match primitive {
+        Primitive::Source(address) => address == source,
+        Primitive::Destination(address) => address == destination,
+        Primitive::Host(address) => address == source || address == destination,
+        Primitive::Broadcast => destination == BROADCAST,
+        Primitive::Multicast => is_group(destination),
+        _ => false,
+    }
+}
+
+/// Whether the identifier of a VLAN tag shows a primitive.
+#[inline]
+fn is_shown_by_tag(primitive: Primitive, id: u16) -> bool {
+    match primitive {
+        Primitive::Vlan => true,
+        Primitive::VlanId(wanted) => wanted == id,
+        _ => false,
+    }
+}
+
+/// Whether an address is that of a group.
+#[inline]
+fn is_group(address: u64) -> bool {
+    address / (1 << 40) % 2 == 1
+}

@@ -1,0 +1,85 @@
+//! Numbers and addresses as words.
+
+/// A number from which on numbers are not told apart while digits are read.
+const CAP: u64 = 1 << 48;
+
+/// The number that a word writes, in hexadecimal digits after `0x`, or in decimal digits without a leading zero. `None` if it writes
+/// none, and `Some(None)` if the number has more than 32 bits.
+///
+/// ```
+/// # use etherpeel::*;
+/// # use etherpeel::ether_peel::*;
+/// # use etherpeel::ether_sll2::*;
+/// # use etherpeel::ether_packet::*;
+/// # use etherpeel::ether_filter::*;
+/// assert_eq!(number_of(b"0x88A8"), Some(Some(34984)));
+/// assert_eq!(number_of(b"4294967296"), Some(None));
+/// assert_eq!(number_of(b"07"), None);
+/// ```
+///
+/// <details><summary>Contract</summary>
+///
+/// ```text
+/// ensures { result ≡ number_in word.now }
+/// ```
+///
+/// </details>
+#[inline]
+pub fn number_of(word: &[u8]) -> Option<Option<u32>> {
+    let number = if word.len() > 1 && word[0] == b'0' {
+        if word[1] != b'x' {
+            return None;
+        }
+        digits_of(&word[2..], 16)
+    } else {
+        digits_of(word, 10)
+    };
+    match number {
+        Some(number) => Some(u32::try_from(number).ok()),
+        None => None,
+    }
+}
+
+/// The address that a word writes, in six pairs of hexadecimal digits with colons between them, as one number.
+#[inline]
+pub(crate) fn address_of(word: &[u8]) -> Option<u64> {
+    if word.len() != 17 {
+        return None;
+    }
+    if !has_colons(word) {
+        return None;
+    }
+    let digits = [
+        word[0], word[1], word[3], word[4], word[6], word[7], word[9], word[10], word[12],
+        word[13], word[15], word[16],
+    ];
+    digits_of(&digits, 16)
+}
+
+/// Whether colons are where an address has them.
+#[inline]
+fn has_colons(word: &[u8]) -> bool {
+    word[2] == b':' && word[5] == b':' && word[8] == b':' && word[11] == b':' && word[14] == b':'
+}
+
+/// The number that digits write, or the cap if that is less. `None` if there is no digit, or something else.
+#[inline]
+fn digits_of(digits: &[u8], radix: u32) -> Option<u64> {
+    if digits.is_empty() {
+        return None;
+    }
+    let mut number = 0;
+    for digit in digits {
+        let Some(digit) = char::from(*digit).to_digit(radix) else {
+            return None;
+        };
+        number = appended(number, radix, digit);
+    }
+    Some(number)
+}
+
+/// The number with one more digit, or the cap if that is less.
+#[inline]
+fn appended(number: u64, radix: u32, digit: u32) -> u64 {
+    (number * u64::from(radix) + u64::from(digit)).min(CAP)
+}

@@ -1,0 +1,216 @@
+//! An expression that is read word after word.
+
+use crate::ether_filter::awaited::{Awaited, Numbered, Step, first_step, kind_of, next_step};
+use crate::ether_filter::filter::MAX_WORDS;
+use crate::ether_filter::filter_error::FilterErrorKind;
+use crate::ether_filter::node::{Node, Operator};
+use crate::ether_filter::primitive::Primitive;
+use crate::ether_filter::token::Token;
+use arrayvec::ArrayVec;
+
+/// What is open in an expression that is read.
+#[derive(Clone, Copy)]
+pub(crate) enum Pending {
+    /// A parenthesis.
+    Open,
+    /// A negation, before its operand.
+    Not,
+    /// An operator, after its left operand.
+    Join(Operator),
+}
+
+impl Default for Pending {
+    #[inline]
+    fn default() -> Pending {
+        Pending::Open
+    }
+}
+
+/// An expression that is read.
+pub(crate) struct Reading {
+    /// The nodes of what is whole.
+    nodes: ArrayVec<Node, MAX_WORDS>,
+    /// What is open, the innermost last.
+    pending: ArrayVec<Pending, MAX_WORDS>,
+    awaited: Awaited,
+}
+
+impl Reading {
+    /// Nothing is read yet.
+    ///
+    /// <details><summary>Contract</summary>
+    ///
+    /// ```text
+    /// ensures { state_of result ≡ begun }
+    /// ```
+    ///
+    /// </details>
+    #[inline]
+    pub fn new() -> Reading {
+        Reading {
+            nodes: ArrayVec::new(),
+            pending: ArrayVec::new(),
+            awaited: Awaited::Operand,
+        }
+    }
+
+    /// Takes one word more.
+    ///
+    /// <details><summary>Contract</summary>
+    ///
+    /// The caller has to meet each `requires`: else the call may panic, or return something else.
+    ///
+    /// ```text
+    /// requires { size_of (state_of self.old) < MAX_WORDS }
+    /// ensures { MatchResult result (λ _. taken (state_of self.old) token ≡ Ok (state_of self.new))
+    ///     (λ kind. taken (state_of self.old) token ≡ Err kind) }
+    /// ```
+    ///
+    /// </details>
+    #[inline]
+    pub fn take(&mut self, token: Token) -> Result<(), FilterErrorKind> {
+        match self.awaited {
+            Awaited::Operand => match token {
+                Token::Not => {
+                    self.pending.push(Pending::Not);
+                    Ok(())
+                }
+                Token::Open => {
+                    self.pending.push(Pending::Open);
+                    Ok(())
+                }
+                _ => self.step(first_step(token)),
+            },
+            Awaited::Operator => self.take_operator(token),
+            Awaited::VlanId => match token {
+                Token::Number(_) => {
+                    self.step(next_step(Awaited::Number(Numbered::VlanId), token))
+                }
+                _ => {
+                    self.complete(Primitive::Vlan);
+                    self.take_operator(token)
+                }
+            },
+            awaited => self.step(next_step(awaited, token)),
+        }
+    }
+
+    /// Takes what a word makes of a primitive.
+    #[inline]
+    fn step(&mut self, step: Step) -> Result<(), FilterErrorKind> {
+        match step {
+            Step::Done(primitive) => self.complete(primitive),
+            Step::More(awaited) => self.awaited = awaited,
+            Step::Fails => return Err(kind_of(self.awaited)),
+        }
+        Ok(())
+    }
+
+    /// Takes a primitive, which is an operand.
+    #[inline]
+    fn complete(&mut self, primitive: Primitive) {
+        self.nodes.push(Node::Test(primitive));
+        self.close();
+    }
+
+    /// Ends the negations of an operand.
+    #[inline]
+    fn close(&mut self) {
+        while let Some(last) = self.pending.pop() {
+            if !matches!(last, Pending::Not) {
+                self.pending.push(last);
+                break;
+            }
+            self.nodes.push(Node::Not);
+        }
+        self.awaited = Awaited::Operator;
+    }
+
+    /// Takes a word after an operand.
+    #[inline]
+    fn take_operator(&mut self, token: Token) -> Result<(), FilterErrorKind> {
+        match token {
+            Token::Join(operator) => self.join(operator),
+            Token::Close => self.close_group(),
+            _ => Err(FilterErrorKind::ExpectedOperator),
+        }
+    }
+
+    /// Takes an operator.
+    #[inline]
+    fn join(&mut self, operator: Operator) -> Result<(), FilterErrorKind> {
+        match self.pending.pop() {
+            Some(Pending::Join(last)) => {
+                if differ(last, operator) {
+                    return Err(FilterErrorKind::MixedOperators);
+                }
+                self.nodes.push(Node::Join(last));
+            }
+            Some(open) => self.pending.push(open),
+            None => {}
+        }
+        self.pending.push(Pending::Join(operator));
+        self.awaited = Awaited::Operand;
+        Ok(())
+    }
+
+    /// Takes a closing parenthesis.
+    #[inline]
+    fn close_group(&mut self) -> Result<(), FilterErrorKind> {
+        self.settle();
+        match self.pending.pop() {
+            Some(Pending::Open) => {
+                self.close();
+                Ok(())
+            }
+            _ => Err(FilterErrorKind::Unopened),
+        }
+    }
+
+    /// Ends the operands that an operator joins.
+    #[inline]
+    fn settle(&mut self) {
+        match self.pending.pop() {
+            Some(Pending::Join(operator)) => self.nodes.push(Node::Join(operator)),
+            Some(open) => self.pending.push(open),
+            None => {}
+        }
+    }
+
+    /// The nodes of the expression, if all of it is read.
+    ///
+    /// <details><summary>Contract</summary>
+    ///
+    /// The caller has to meet each `requires`: else the call may panic, or return something else.
+    ///
+    /// ```text
+    /// requires { size_of (state_of self) ≤ MAX_WORDS }
+    /// ensures { MatchResult result (λ ns. ended (state_of self) ≡ Ok ns.items)
+    ///     (λ kind. ended (state_of self) ≡ Err kind) }
+    /// ```
+    ///
+    /// </details>
+    #[inline]
+    pub fn finish(mut self) -> Result<ArrayVec<Node, MAX_WORDS>, FilterErrorKind> {
+        match self.awaited {
+            Awaited::Operator => {}
+            Awaited::VlanId => self.complete(Primitive::Vlan),
+            awaited => return Err(kind_of(awaited)),
+        }
+        self.settle();
+        if self.pending.is_empty() {
+            Ok(self.nodes)
+        } else {
+            Err(FilterErrorKind::Unclosed)
+        }
+    }
+}
+
+/// Whether these are two operators.
+#[inline]
+fn differ(first: Operator, second: Operator) -> bool {
+    matches!(
+        (first, second),
+        (Operator::And, Operator::Or) | (Operator::Or, Operator::And)
+    )
+}

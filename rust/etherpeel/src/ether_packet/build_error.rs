@@ -1,0 +1,49 @@
+//! Why a packet is not written.
+
+use crate::ArpHardwareId;
+use crate::err::SliceWriteSpaceError;
+use core::error::Error;
+use core::fmt;
+
+/// Why a packet is not written. The target is then as it was.
+///
+/// ```
+/// # use etherpeel::*;
+/// # use etherpeel::ether_peel::*;
+/// # use etherpeel::ether_sll2::*;
+/// # use etherpeel::ether_packet::*;
+/// assert_eq!(
+///     format!("{}", BuildError::Sealed(1)).as_str(),
+///     "A header follows the SecTag at index 1, whose payload is encrypted or changed."
+/// );
+/// ```
+#[derive(Clone, Copy, PartialEq, Eq, Debug)]
+pub enum BuildError {
+    /// The header of cooked capture has this hardware type, which is not that of Ethernet, so no ether type can follow.
+    HardwareType(ArpHardwareId),
+    /// A header follows the SecTag at this index of the extensions, whose payload is encrypted or changed.
+    Sealed(usize),
+    /// The target is too short for the packet.
+    Space(SliceWriteSpaceError),
+}
+
+impl fmt::Display for BuildError {
+    fn fmt(&self, f: &mut fmt::Formatter<'_>) -> fmt::Result {
+        match self {
+            BuildError::HardwareType(hardware_type) => {
+                let number = hardware_type.0;
+                write!(
+                    f,
+                    "No ether type can follow a header of cooked capture of hardware type {number}."
+                )
+            }
+            BuildError::Sealed(index) => write!(
+                f,
+                "A header follows the SecTag at index {index}, whose payload is encrypted or changed."
+            ),
+            BuildError::Space(error) => error.fmt(f),
+        }
+    }
+}
+
+impl Error for BuildError {}

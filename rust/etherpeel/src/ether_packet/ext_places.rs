@@ -1,0 +1,86 @@
+//! Where the VLAN tags and SecTags of a packet lie in its frame.
+
+use core::fmt;
+
+/// A window of a frame: where it starts, and its bytes.
+#[derive(Clone, Copy)]
+pub(crate) struct FrameWindow<'a> {
+    pub start: usize,
+    pub bytes: &'a [u8],
+}
+
+/// Shows the number of the bytes, which are shown with the frame.
+impl fmt::Debug for FrameWindow<'_> {
+    fn fmt(&self, f: &mut fmt::Formatter<'_>) -> fmt::Result {
+        f.debug_struct("FrameWindow")
+            .field("start", &self.start)
+            .field("len", &self.bytes.len())
+            .finish()
+    }
+}
+
+/// Which link extension a tag is.
+#[derive(Clone, Copy, Debug)]
+pub(crate) enum ExtKind {
+    Vlan,
+    Macsec,
+}
+
+/// A tag, and the window in which it was read.
+#[derive(Clone, Copy, Debug)]
+pub(crate) struct ExtPlace<'a> {
+    pub kind: ExtKind,
+    pub place: FrameWindow<'a>,
+}
+
+/// Up to three tags in order. Three fields take fewer instructions than a list, whose unused places are filled.
+#[derive(Debug)]
+pub(crate) struct ExtPlaces<'a> {
+    first: Option<ExtPlace<'a>>,
+    second: Option<ExtPlace<'a>>,
+    third: Option<ExtPlace<'a>>,
+}
+
+impl<'a> ExtPlaces<'a> {
+    /// No tags.
+    #[inline(always)]
+    pub fn new() -> ExtPlaces<'a> {
+        ExtPlaces {
+            first: None,
+            second: None,
+            third: None,
+        }
+    }
+
+    /// Adds a tag after the others.
+    #[inline(always)]
+    pub fn push(&mut self, tag: ExtPlace<'a>) {
+        match self.len() {
+            0 => self.first = Some(tag),
+            1 => self.second = Some(tag),
+            _ => self.third = Some(tag),
+        }
+    }
+
+    /// The tag at an index.
+    #[inline(always)]
+    pub fn get(&self, index: usize) -> Option<ExtPlace<'a>> {
+        match index {
+            0 => self.first,
+            1 => self.second,
+            2 => self.third,
+            _ => None,
+        }
+    }
+
+    /// How many tags there are.
+    #[inline(always)]
+    pub fn len(&self) -> usize {
+        match (&self.first, &self.second, &self.third) {
+            (None, _, _) => 0,
+            (_, None, _) => 1,
+            (_, _, None) => 2,
+            _ => 3,
+        }
+    }
+}

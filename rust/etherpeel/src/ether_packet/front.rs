@@ -1,0 +1,109 @@
+//! How a frame begins: the header of its link, and the VLAN tag directly after it.
+
+use crate::ether_packet::popping::require_tag;
+use crate::ether_packet::typed_link::chunk_at;
+use crate::ether_peel::Start;
+use crate::{Ethernet2Header, Ethernet2Slice, LinuxSllHeader, SingleVlanHeader};
+
+/// How an Ethernet II frame begins.
+#[derive(Clone, Copy, Debug)]
+pub struct EthernetFront {
+    /// The header of Ethernet II.
+    pub link: Ethernet2Header,
+    /// The VLAN tag directly after it.
+    pub vlan: Option<SingleVlanHeader>,
+}
+
+/// The header of an Ethernet II frame without a frame check sequence, and the VLAN tag directly after it.
+///
+/// What a switch or a load balancer looks at. What follows isn't read. `None` if the frame has fewer than 14 bytes. A
+/// tag that is cut short is none.
+///
+/// # Examples
+///
+/// ```
+/// # use etherpeel::*;
+/// # use etherpeel::ether_peel::*;
+/// # use etherpeel::ether_sll2::*;
+/// # use etherpeel::ether_packet::*;
+/// let frame = [
+///     0xFF, 0xFF, 0xFF, 0xFF, 0xFF, 0xFF, 0x02, 0x00, 0x00, 0x00, 0x00, 0x01, 0x81, 0x00, // Ethernet II
+///     0xB1, 0x23, 0x08, 0x00, // VLAN
+///     0x45,
+/// ];
+/// match ethernet_front(&frame) {
+///     Some(front) => {
+///         assert_eq!(front.link.source, [2, 0, 0, 0, 0, 1]);
+///         assert_eq!(front.vlan, Some(SingleVlanHeader::from_bytes([0xB1, 0x23, 0x08, 0x00])));
+///     }
+///     None => panic!("no header"),
+/// }
+/// ```
+///
+/// <details><summary>Contract</summary>
+///
+/// ```text
+/// ensures link { (hs : List Header) (e : Ending) → Walk (start_of Start.Ethernet2) frame.now hs e
+///     → first_ethernet2 hs ≡ option_map (λ f. ethernet2_view f.link) result }
+/// ensures ether_type { (hs : List Header) (e : Ending) → Walk (start_of Start.Ethernet2) frame.now hs e
+///     → link_type hs ≡ option_map (λ f. f.link.ether_type.0) result }
+/// ensures vlan { (hs : List Header) (e : Ending) → Walk (start_of Start.Ethernet2) frame.now hs e
+///     → outer_tag hs ≡ option_and_then (λ f. option_map vlan_view f.vlan) result }
+/// ```
+///
+/// </details>
+#[inline]
+pub fn ethernet_front(frame: &[u8]) -> Option<EthernetFront> {
+    match Ethernet2Slice::from_slice_without_fcs(frame) {
+        Ok(slice) => Some(EthernetFront {
+            link: slice.to_header(),
+            vlan: outer_vlan(Start::Ethernet2, frame),
+        }),
+        Err(_) => None,
+    }
+}
+
+/// The VLAN tag directly after the header of a link, which [`pop_vlan`](crate::ether_packet::pop_vlan) takes off.
+///
+/// `None` if that refuses the frame.
+///
+/// # Examples
+///
+/// ```
+/// # use etherpeel::*;
+/// # use etherpeel::ether_peel::*;
+/// # use etherpeel::ether_sll2::*;
+/// # use etherpeel::ether_packet::*;
+/// let frame = [
+///     0xFF, 0xFF, 0xFF, 0xFF, 0xFF, 0xFF, 0x02, 0x00, 0x00, 0x00, 0x00, 0x01, 0x81, 0x00, // Ethernet II
+///     0xB1, 0x23, 0x08, 0x00, // VLAN
+/// ];
+/// let tag = outer_vlan(Start::Ethernet2, &frame);
+/// assert_eq!(tag, Some(SingleVlanHeader::from_bytes([0xB1, 0x23, 0x08, 0x00])));
+/// assert_eq!(outer_vlan(Start::Ethernet2, &frame[..17]), None);
+/// ```
+///
+/// <details><summary>Contract</summary>
+///
+/// ```text
+/// ensures { (hs : List Header) (e : Ending) → Walk (start_of start) frame.now hs e
+///     → outer_tag hs ≡ option_map vlan_view result }
+/// ```
+///
+/// </details>
+#[inline]
+pub fn outer_vlan(start: Start, frame: &[u8]) -> Option<SingleVlanHeader> {
+    match require_tag(start, frame) {
+        Ok(()) => Some(SingleVlanHeader::from_bytes(chunk_at::<4>(frame, link_len(start)))),
+        Err(_) => None,
+    }
+}
+
+/// The length of the header of a link, from a start that has one.
+#[inline]
+fn link_len(start: Start) -> usize {
+    match start {
+        Start::LinuxSll => LinuxSllHeader::LEN,
+        _ => Ethernet2Header::LEN,
+    }
+}

@@ -1,0 +1,373 @@
+//! The headers of a packet, read in one call.
+
+use crate::ether_packet::ext_places::FrameWindow;
+use crate::ether_packet::packet_units::PacketUnits;
+use crate::ether_packet::{PacketExt, PacketParts};
+use arrayvec::ArrayVec;
+use crate::ether_peel::{Peel, PeelFault, RestKind, Start};
+use crate::{
+    ArpPacketSlice, DoubleVlanSlice, EtherPayloadSlice, EtherType, LinkSlice, MacsecSlice,
+    SingleVlanHeader, VlanId, VlanSlice,
+};
+
+/// How many VLAN tags and SecTags a packet holds at most.
+const LINK_EXTS_CAP: usize = 3;
+
+/// The link-layer headers of a frame, what is left after them, and the fault if one of them is refused.
+///
+/// A packet keeps where its headers are. Each getter returns a view that borrows the frame, without walking through the
+/// frame again. After a fault the headers before it stay. At most [`LINK_EXTS_CAP`](Self::LINK_EXTS_CAP) VLAN tags and SecTags are
+/// read; tags beyond them are the rest.
+///
+/// ```
+/// # use etherpeel::*;
+/// # use etherpeel::ether_peel::*;
+/// # use etherpeel::ether_sll2::*;
+/// # use etherpeel::ether_packet::*;
+/// let frame = [
+///     0xFF, 0xFF, 0xFF, 0xFF, 0xFF, 0xFF, 0x02, 0x00, 0x00, 0x00, 0x00, 0x01, 0x88, 0xA8, // Ethernet II
+///     0x00, 0x0A, 0x81, 0x00, // VLAN
+///     0x00, 0x64, 0x08, 0x00, // VLAN
+///     0x45,
+/// ];
+/// let packet = PacketSlice::from_slice(Start::Ethernet2, &frame);
+/// let ids = packet.vlan_ids();
+/// assert_eq!(ids.len(), 2);
+/// assert_eq!(ids[0].value(), 10);
+/// assert_eq!(ids[1].value(), 100);
+/// assert!(packet.is_complete());
+/// assert_eq!(packet.rest_kind, RestKind::EtherType(EtherType::IPV4));
+/// assert_eq!(packet.rest, [0x45].as_slice());
+/// ```
+#[derive(Debug)]
+pub struct PacketSlice<'a> {
+    read: PacketUnits<'a>,
+    /// The bytes of the window left to read: after a fault, of the window in which it came.
+    pub rest: &'a [u8],
+    /// Where the rest starts, in bytes from the start of the frame.
+    pub rest_offset: usize,
+    /// What the rest is announced as: after a fault, what was expected there.
+    pub rest_kind: RestKind,
+    /// Why the next header is refused, if it is.
+    pub fault: Option<PeelFault>,
+}
+
+impl<'a> PacketSlice<'a> {
+    /// How many VLAN tags and SecTags a packet holds at most.
+    pub const LINK_EXTS_CAP: usize = LINK_EXTS_CAP;
+
+    /// The headers of a frame, which are those of the walk of [`Peel::with_limit`] with
+    /// [`LINK_EXTS_CAP`](Self::LINK_EXTS_CAP) as its limit.
+    ///
+    /// A frame that is refused is no error here: the headers before the fault are there, and `fault` says why the next
+    /// one is refused.
+    #[inline(always)]
+    pub fn from_slice(start: Start, bytes: &'a [u8]) -> PacketSlice<'a> {
+        let mut peel = Peel::with_limit(start, bytes, LINK_EXTS_CAP);
+        let mut read = PacketUnits::new(bytes);
+        let mut fault = None;
+        // The walk ends before the count. With `loop`, and a `return` for each end, this takes a fifth more instructions.
+        for _count in 0..bytes.len() + 1 {
+            let place = place_of(&peel);
+            match peel.next() {
+                Some(Ok(unit)) => read.add(&unit, place),
+                Some(Err(error)) => {
+                    fault = Some(error);
+                    break;
+                }
+                None => break,
+            }
+        }
+        PacketSlice::ended(read, &peel, fault)
+    }
+
+    /// The headers that were read, and what the walk leaves.
+    #[inline(always)]
+    fn ended(read: PacketUnits<'a>, peel: &Peel<'a>, fault: Option<PeelFault>) -> PacketSlice<'a> {
+        PacketSlice {
+            read,
+            rest: peel.rest(),
+            rest_offset: peel.offset(),
+            rest_kind: peel.kind(),
+            fault,
+        }
+    }
+
+    /// The header that the frame begins with, of Ethernet II or Linux cooked capture v1, and its payload.
+    ///
+    /// `None` if the header is refused, or if the frame begins with what an ether type announces.
+    #[inline(always)]
+    pub fn link(&self) -> Option<LinkSlice<'a>> {
+        self.read.link()
+    }
+
+    /// The number of VLAN tags and SecTags.
+    #[inline(always)]
+    pub fn link_ext_count(&self) -> usize {
+        self.read.ext_count()
+    }
+
+    /// The VLAN tag or SecTag at an index, counted from the outermost one; `None` if there are not so many.
+    #[inline(always)]
+    pub fn link_ext(&self, index: usize) -> Option<PacketExt<'a>> {
+        self.read.ext(index)
+    }
+
+    /// The VLAN tags and SecTags, the outermost first.
+    ///
+    /// ```
+    /// # use etherpeel::*;
+    /// # use etherpeel::ether_peel::*;
+    /// # use etherpeel::ether_sll2::*;
+    /// # use etherpeel::ether_packet::*;
+    /// let tags = [
+    ///     0x00, 0x0A, 0x81, 0x00, // VLAN
+    ///     0x00, 0x64, 0x08, 0x00, // VLAN
+    /// ];
+    /// let packet = PacketSlice::from_slice(Start::EtherType(EtherType::PROVIDER_BRIDGING), &tags);
+    /// let exts = packet.link_exts();
+    /// assert_eq!(exts.len(), 2);
+    /// assert_eq!(exts[1].offset, 4);
+    /// ```
+    ///
+    /// <details><summary>Contract</summary>
+    ///
+    /// ```text
+    /// ensures { ViewsExts (exts_of self.now.read.units) result.items }
+    /// ```
+    ///
+    /// </details>
+    #[inline]
+    pub fn link_exts(&self) -> ArrayVec<PacketExt<'a>, LINK_EXTS_CAP> {
+        let mut exts = ArrayVec::new();
+        for index in 0..self.read.ext_count() {
+            if let Some(ext) = self.read.ext(index) {
+                exts.push(ext);
+            }
+        }
+        exts
+    }
+
+    /// The ARP packet, without what follows it.
+    #[inline(always)]
+    pub fn arp(&self) -> Option<ArpPacketSlice<'a>> {
+        self.read.arp()
+    }
+
+    /// Where the ARP packet starts, in bytes from the start of the frame.
+    #[inline(always)]
+    pub fn arp_offset(&self) -> Option<usize> {
+        self.read.arp_offset()
+    }
+
+    /// The first VLAN tag with its payload, or the first two if there are several; `None` without a VLAN tag.
+    ///
+    /// SecTags are passed over.
+    ///
+    /// <details><summary>Contract</summary>
+    ///
+    /// ```text
+    /// ensures { result ≡ first_tags (vlans_of self.now.read.units) }
+    /// ```
+    ///
+    /// </details>
+    #[inline]
+    pub fn vlan(&self) -> Option<VlanSlice<'a>> {
+        let mut first = None;
+        for index in 0..self.read.ext_count() {
+            if let Some(tag) = self.read.tag(index) {
+                match first {
+                    None => first = Some(tag),
+                    Some(outer) => {
+                        let inner = tag;
+                        return Some(VlanSlice::DoubleVlan(DoubleVlanSlice { outer, inner }));
+                    }
+                }
+            }
+        }
+        match first {
+            Some(tag) => Some(VlanSlice::SingleVlan(tag)),
+            None => None,
+        }
+    }
+
+    /// The VLAN identifiers of the VLAN tags, the outermost first.
+    ///
+    /// <details><summary>Contract</summary>
+    ///
+    /// ```text
+    /// ensures { result.items ≡ vlan_ids_of (packet_headers self.now) }
+    /// ```
+    ///
+    /// </details>
+    #[inline]
+    pub fn vlan_ids(&self) -> ArrayVec<VlanId, LINK_EXTS_CAP> {
+        let mut ids = ArrayVec::new();
+        for index in 0..self.read.ext_count() {
+            if let Some(tag) = self.read.tag(index) {
+                ids.push(tag.vlan_identifier());
+            }
+        }
+        ids
+    }
+
+    /// The first VLAN tag, with its index among the tags, which is the one that [`replace_link_ext`](crate::ether_packet::replace_link_ext)
+    /// takes; `None` without a VLAN tag.
+    ///
+    /// ```
+    /// # use etherpeel::*;
+    /// # use etherpeel::ether_peel::*;
+    /// # use etherpeel::ether_sll2::*;
+    /// # use etherpeel::ether_packet::*;
+    /// let tags = [
+    ///     0x00, 0x0A, 0x81, 0x00, // VLAN
+    ///     0x00, 0x64, 0x08, 0x00, // VLAN
+    /// ];
+    /// let packet = PacketSlice::from_slice(Start::EtherType(EtherType::PROVIDER_BRIDGING), &tags);
+    /// match packet.outermost_vlan() {
+    ///     Some((index, tag)) => {
+    ///         assert_eq!(index, 0);
+    ///         assert_eq!(tag.vlan_id.value(), 10);
+    ///     }
+    ///     None => panic!("no tag"),
+    /// }
+    /// ```
+    ///
+    /// <details><summary>Contract</summary>
+    ///
+    /// ```text
+    /// ensures { MatchOption result (vlan_ids_of (packet_headers self.now) ≡ [])
+    ///     (λ found. IsOutermost (packet_headers self.now) found.0 (vlan_view found.1)) }
+    /// ```
+    ///
+    /// </details>
+    #[inline]
+    pub fn outermost_vlan(&self) -> Option<(usize, SingleVlanHeader)> {
+        for index in 0..self.read.ext_count() {
+            if let Some(tag) = self.read.tag(index) {
+                return Some((index, tag.to_header()));
+            }
+        }
+        None
+    }
+
+    /// The first SecTag with its payload; `None` without a SecTag.
+    ///
+    /// <details><summary>Contract</summary>
+    ///
+    /// ```text
+    /// ensures { ViewsSecTagIf (slice_get (sec_tags_of self.now.read.units) 0) result }
+    /// ```
+    ///
+    /// </details>
+    #[inline]
+    pub fn macsec(&self) -> Option<MacsecSlice<'a>> {
+        for index in 0..self.read.ext_count() {
+            if let Some(packet) = self.read.sec_tag(index) {
+                return Some(packet);
+            }
+        }
+        None
+    }
+
+    /// The payload of the last VLAN tag or SecTag, or of the link's header without a tag, and its ether type.
+    ///
+    /// `None` if it has no ether type, as after a SecTag whose payload is encrypted or changed, or if there is no header
+    /// before it. An ARP packet is part of the payload.
+    ///
+    /// <details><summary>Contract</summary>
+    ///
+    /// ```text
+    /// ensures { HoldsPayload (link_of self.now.read.units) (last_ext self.now.read.units) result }
+    /// ```
+    ///
+    /// </details>
+    #[inline]
+    pub fn ether_payload(&self) -> Option<EtherPayloadSlice<'a>> {
+        match self.read.ext(self.read.ext_count().saturating_sub(1)) {
+            Some(ext) => ext.slice.ether_payload(),
+            None => match self.read.link() {
+                Some(link) => link.ether_payload(),
+                None => None,
+            },
+        }
+    }
+
+    /// The headers as values that can be changed and written, with what follows them.
+    ///
+    /// `None` if the header of the link is refused, or if the frame begins with what an ether type announces. After a fault the
+    /// parts are the headers before it and the bytes of the window in which it came.
+    ///
+    /// <details><summary>Contract</summary>
+    ///
+    /// ```text
+    /// ensures { MatchOption result (has_link (packet_headers self.now) ≡ false)
+    ///     (λ parts. ArePartsOf parts self.now) }
+    /// ```
+    ///
+    /// </details>
+    #[inline]
+    pub fn to_parts(&self) -> Option<PacketParts<'a>> {
+        let ether_type = match self.rest_kind {
+            RestKind::EtherType(ether_type) => ether_type,
+            _ => EtherType(0),
+        };
+        self.read.to_parts(ether_type, self.rest)
+    }
+
+    /// Whether no header is refused. What follows the headers may still be cut short.
+    ///
+    /// <details><summary>Contract</summary>
+    ///
+    /// ```text
+    /// ensures value { IsTrue result ↔ (self.now.fault ≡ None) }
+    /// ensures accepted { TellsAccepted self.now result }
+    /// ```
+    ///
+    /// </details>
+    #[inline]
+    pub fn is_complete(&self) -> bool {
+        self.fault.is_none()
+    }
+
+    /// The least snap length that keeps all headers: a frame that is cut to it still has them, and one that is cut
+    /// shorter lacks one.
+    ///
+    /// The payload whose length a SecTag names counts, since the tag is refused without it. A frame check sequence does
+    /// not count: a frame that is cut has lost it, and is read as one without.
+    ///
+    /// ```
+    /// # use etherpeel::*;
+    /// # use etherpeel::ether_peel::*;
+    /// # use etherpeel::ether_sll2::*;
+    /// # use etherpeel::ether_packet::*;
+    /// let frame = [
+    ///     0xFF, 0xFF, 0xFF, 0xFF, 0xFF, 0xFF, 0x02, 0x00, 0x00, 0x00, 0x00, 0x01, 0x81, 0x00, // Ethernet II
+    ///     0xB1, 0x23, 0x08, 0x00, // VLAN
+    ///     0x45,
+    /// ];
+    /// assert_eq!(PacketSlice::from_slice(Start::Ethernet2, &frame).min_snap_len(), 18);
+    /// ```
+    ///
+    /// <details><summary>Contract</summary>
+    ///
+    /// ```text
+    /// ensures value { result ≡ reach 0 (packet_headers self.now) }
+    /// ensures least { SnapsAt self.now result }
+    /// ```
+    ///
+    /// </details>
+    #[inline]
+    pub fn min_snap_len(&self) -> usize {
+        self.read.min_snap_len()
+    }
+}
+
+/// The window left to read.
+#[inline(always)]
+fn place_of<'a>(peel: &Peel<'a>) -> FrameWindow<'a> {
+    FrameWindow {
+        start: peel.offset(),
+        bytes: peel.rest(),
+    }
+}

@@ -1,0 +1,338 @@
+//! The headers of a packet, kept as windows of the frame: a view is made when it is asked for.
+
+use crate::ether_packet::ext_places::{ExtKind, ExtPlace, ExtPlaces, FrameWindow};
+use crate::ether_packet::{PacketExt, PacketParts};
+use crate::ether_peel::PeelUnit;
+use crate::{
+    ArpPacket, ArpPacketSlice, EtherType, Ethernet2Header, Ethernet2Slice, LinkExtHeader,
+    LinkExtSlice, LinkHeader, LinkSlice, LinuxSllHeader, LinuxSllSlice, MacsecSlice,
+    SingleVlanHeader, SingleVlanSlice,
+};
+
+/// The header of a link that a frame begins with, if it has one.
+#[derive(Clone, Copy, Debug)]
+enum LinkKind {
+    Missing,
+    Ethernet2,
+    Ethernet2Fcs,
+    LinuxSll,
+}
+
+/// The headers that were read of a frame, each with the window in which it was read.
+#[derive(Debug)]
+pub(crate) struct PacketUnits<'a> {
+    frame: &'a [u8],
+    link: LinkKind,
+    exts: ExtPlaces<'a>,
+    arp: Option<FrameWindow<'a>>,
+}
+
+impl<'a> PacketUnits<'a> {
+    /// No headers.
+    #[inline(always)]
+    pub fn new(frame: &'a [u8]) -> PacketUnits<'a> {
+        PacketUnits {
+            frame,
+            link: LinkKind::Missing,
+            exts: ExtPlaces::new(),
+            arp: None,
+        }
+    }
+
+    /// Adds a header that was read in a window.
+    #[inline(always)]
+    pub fn add(&mut self, unit: &PeelUnit<'a>, place: FrameWindow<'a>) {
+        match unit {
+            PeelUnit::Ethernet2(slice) => self.link = frame_place(slice),
+            PeelUnit::LinuxSll(_) => self.link = LinkKind::LinuxSll,
+            PeelUnit::Vlan(_) => self.add_ext(ExtKind::Vlan, place),
+            PeelUnit::Macsec(_) => self.add_ext(ExtKind::Macsec, place),
+            PeelUnit::Arp(_) => self.arp = Some(place),
+        }
+    }
+
+    /// Adds a VLAN tag or SecTag.
+    #[inline(always)]
+    fn add_ext(&mut self, kind: ExtKind, place: FrameWindow<'a>) {
+        self.exts.push(ExtPlace { kind, place });
+    }
+
+    /// The link's header with its payload.
+    #[inline(always)]
+    pub fn link(&self) -> Option<LinkSlice<'a>> {
+        match self.link {
+            LinkKind::Missing => None,
+            LinkKind::Ethernet2 => Some(LinkSlice::Ethernet2(frame_of(self.frame))),
+            LinkKind::Ethernet2Fcs => Some(LinkSlice::Ethernet2(frame_with_fcs_of(self.frame))),
+            LinkKind::LinuxSll => Some(LinkSlice::LinuxSll(linux_sll_slice(self.frame))),
+        }
+    }
+
+    /// How many VLAN tags and SecTags there are.
+    #[inline(always)]
+    pub fn ext_count(&self) -> usize {
+        self.exts.len()
+    }
+
+    /// The VLAN tag or SecTag at an index. A branch for each index takes fewer instructions than one that selects the place.
+    #[inline(always)]
+    pub fn ext(&self, index: usize) -> Option<PacketExt<'a>> {
+        match index {
+            0 => self.ext_at(0),
+            1 => self.ext_at(1),
+            2 => self.ext_at(2),
+            _ => self.ext_at(index),
+        }
+    }
+
+    /// The same.
+    #[inline(always)]
+    fn ext_at(&self, index: usize) -> Option<PacketExt<'a>> {
+        match self.exts.get(index) {
+            Some(ext) => Some(ext_of(ext)),
+            None => None,
+        }
+    }
+
+    /// The VLAN tag or SecTag at an index, if it is a VLAN tag.
+    #[inline(always)]
+    pub fn tag(&self, index: usize) -> Option<SingleVlanSlice<'a>> {
+        match self.ext(index) {
+            Some(
+                PacketExt {
+                    slice: LinkExtSlice::Vlan(tag),
+                    ..
+                },
+            ) => Some(tag),
+            _ => None,
+        }
+    }
+
+    /// The VLAN tag or SecTag at an index, if it is a SecTag.
+    #[inline(always)]
+    pub fn sec_tag(&self, index: usize) -> Option<MacsecSlice<'a>> {
+        match self.ext(index) {
+            Some(
+                PacketExt {
+                    slice: LinkExtSlice::Macsec(packet),
+                    ..
+                },
+            ) => Some(packet),
+            _ => None,
+        }
+    }
+
+    /// The ARP packet.
+    #[inline(always)]
+    pub fn arp(&self) -> Option<ArpPacketSlice<'a>> {
+        match self.arp {
+            Some(place) => Some(arp_slice(place.bytes)),
+            None => None,
+        }
+    }
+
+    /// Where the ARP packet starts.
+    #[inline(always)]
+    pub fn arp_offset(&self) -> Option<usize> {
+        match self.arp {
+            Some(place) => Some(place.start),
+            None => None,
+        }
+    }
+
+    /// The headers as values, before a rest that an ether type announces; `None` without a link's header.
+    ///
+    /// <details><summary>Contract</summary>
+    ///
+    /// ```text
+    /// ensures { MatchOption result (has_link (map header_of self.now.units) ≡ false)
+    ///     (λ p. HaveHeaders p (map header_of self.now.units) × (p.ether_type ≡ ether_type) × (p.rest.now ≡ rest.now)) }
+    /// ```
+    ///
+    /// </details>
+    #[inline]
+    pub fn to_parts(&self, ether_type: EtherType, rest: &'a [u8]) -> Option<PacketParts<'a>> {
+        let Some(link) = link_header(self.link, self.frame) else {
+            return None;
+        };
+        Some(PacketParts {
+            link,
+            tags: [self.ext_header(0), self.ext_header(1), self.ext_header(2)],
+            tag_count: self.ext_count(),
+            arp: arp_packet(self.arp),
+            ether_type,
+            rest,
+        })
+    }
+
+    /// The VLAN tag or SecTag at an index as a value, or any if there are not so many.
+    #[inline]
+    fn ext_header(&self, index: usize) -> LinkExtHeader {
+        match self.ext(index) {
+            Some(ext) => ext.slice.to_header(),
+            None => LinkExtHeader::Vlan(SingleVlanHeader::default()),
+        }
+    }
+
+    /// How far the headers reach, with the payloads whose length a SecTag names.
+    ///
+    /// <details><summary>Contract</summary>
+    ///
+    /// ```text
+    /// ensures { result ≡ reach 0 (map header_of self.now.units) }
+    /// ```
+    ///
+    /// </details>
+    #[inline]
+    pub fn min_snap_len(&self) -> usize {
+        let (at, end) = tags_reach(self.link, &self.exts);
+        match self.arp {
+            Some(place) => {
+                let packet = arp_slice(place.bytes);
+                end.max(at + packet.slice().len())
+            }
+            None => end,
+        }
+    }
+}
+
+/// The header of a link as a value.
+#[inline]
+fn link_header(link: LinkKind, frame: &[u8]) -> Option<LinkHeader> {
+    match link {
+        LinkKind::Missing => None,
+        LinkKind::Ethernet2 => Some(LinkHeader::Ethernet2(frame_of(frame).to_header())),
+        LinkKind::Ethernet2Fcs => Some(LinkHeader::Ethernet2(frame_with_fcs_of(frame).to_header())),
+        LinkKind::LinuxSll => Some(LinkHeader::LinuxSll(linux_sll_slice(frame).to_header())),
+    }
+}
+
+/// The ARP packet as a value.
+#[inline]
+fn arp_packet(arp: Option<FrameWindow<'_>>) -> Option<ArpPacket> {
+    match arp {
+        Some(place) => Some(arp_slice(place.bytes).to_packet()),
+        None => None,
+    }
+}
+
+/// Where the headers of a link and of tags end, and how far they reach.
+#[inline]
+fn tags_reach(link: LinkKind, exts: &ExtPlaces<'_>) -> (usize, usize) {
+    let mut at = link_len(link);
+    let mut end = at;
+    for index in 0..exts.len() {
+        if let Some(ext) = exts.get(index) {
+            let slice = ext_of(ext).slice;
+            at += ext_len(&slice);
+            end = end.max(at + named_len(&slice));
+        }
+    }
+    (at, end)
+}
+
+/// The length of the link's header, 0 if there is none.
+#[inline]
+fn link_len(link: LinkKind) -> usize {
+    match link {
+        LinkKind::Missing => 0,
+        LinkKind::Ethernet2 | LinkKind::Ethernet2Fcs => Ethernet2Header::LEN,
+        LinkKind::LinuxSll => LinuxSllHeader::LEN,
+    }
+}
+
+/// The length of a tag.
+#[inline]
+fn ext_len(ext: &LinkExtSlice<'_>) -> usize {
+    match ext {
+        LinkExtSlice::Vlan(tag) => tag.header_len(),
+        LinkExtSlice::Macsec(packet) => packet.header.header_len(),
+    }
+}
+
+/// The length of the payload that a SecTag names, 0 if none is named.
+#[inline]
+fn named_len(ext: &LinkExtSlice<'_>) -> usize {
+    match ext {
+        LinkExtSlice::Vlan(_) => 0,
+        LinkExtSlice::Macsec(packet) => packet.header.expected_payload_len().unwrap_or(0),
+    }
+}
+
+/// Whether a frame has a frame check sequence.
+#[inline(always)]
+fn frame_place(slice: &Ethernet2Slice<'_>) -> LinkKind {
+    if slice.fcs().is_some() {
+        LinkKind::Ethernet2Fcs
+    } else {
+        LinkKind::Ethernet2
+    }
+}
+
+/// An Ethernet II frame that was read before.
+#[inline(always)]
+fn frame_of(bytes: &[u8]) -> Ethernet2Slice<'_> {
+    match Ethernet2Slice::from_slice_without_fcs(bytes) {
+        Ok(slice) => slice,
+        Err(_) => unreachable!(),
+    }
+}
+
+/// An Ethernet II frame with a frame check sequence that was read before.
+#[inline(always)]
+fn frame_with_fcs_of(bytes: &[u8]) -> Ethernet2Slice<'_> {
+    match Ethernet2Slice::from_slice_with_crc32_fcs(bytes) {
+        Ok(slice) => slice,
+        Err(_) => unreachable!(),
+    }
+}
+
+/// A cooked capture that was read before.
+#[inline(always)]
+fn linux_sll_slice(bytes: &[u8]) -> LinuxSllSlice<'_> {
+    match LinuxSllSlice::from_slice(bytes) {
+        Ok(slice) => slice,
+        Err(_) => unreachable!(),
+    }
+}
+
+/// A VLAN tag or SecTag that was read before.
+#[inline(always)]
+fn ext_of<'a>(ext: ExtPlace<'a>) -> PacketExt<'a> {
+    let bytes = ext.place.bytes;
+    let slice = match ext.kind {
+        ExtKind::Vlan => LinkExtSlice::Vlan(tag_of(bytes)),
+        ExtKind::Macsec => LinkExtSlice::Macsec(sec_tag_of(bytes)),
+    };
+    PacketExt {
+        offset: ext.place.start,
+        slice,
+    }
+}
+
+/// A VLAN tag that was read before.
+#[inline(always)]
+fn tag_of(bytes: &[u8]) -> SingleVlanSlice<'_> {
+    match SingleVlanSlice::from_slice(bytes) {
+        Ok(slice) => slice,
+        Err(_) => unreachable!(),
+    }
+}
+
+/// A SecTag that was read before.
+#[inline(always)]
+fn sec_tag_of(bytes: &[u8]) -> MacsecSlice<'_> {
+    match MacsecSlice::from_slice(bytes) {
+        Ok(slice) => slice,
+        Err(_) => unreachable!(),
+    }
+}
+
+/// An ARP packet that was read before.
+#[inline(always)]
+fn arp_slice(bytes: &[u8]) -> ArpPacketSlice<'_> {
+    match ArpPacketSlice::from_slice(bytes) {
+        Ok(slice) => slice,
+        Err(_) => unreachable!(),
+    }
+}

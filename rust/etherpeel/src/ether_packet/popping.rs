@@ -1,0 +1,98 @@
+//! VLAN tags that are taken off in place.
+
+use crate::ether_packet::TagError;
+use crate::ether_packet::packet_builder::put_at;
+use crate::ether_packet::typed_link::{announces_vlan, chunk_at, typed_link};
+use crate::ether_peel::Start;
+use crate::SingleVlanHeader;
+
+/// Takes off the VLAN tag after the header of a link, in place, and returns it: the frame is then `frame[4..]`.
+///
+/// Only the 12 bytes of the addresses are moved, or the 14 bytes of a cooked capture before its protocol type, so the time
+/// does not depend on the length of the frame. The ether type of the tag becomes that of the link's header. All later headers
+/// and the payload stay where they are, also if a later header is refused. A frame check sequence and an integrity check
+/// value stay as they were, and don't fit the new frame.
+///
+/// # Errors
+///
+/// The frame then stays as it was:
+///
+/// - [`TagError::NoLink`]: the frame begins with what an ether type announces, or the header of its link is refused.
+/// - [`TagError::HardwareType`]: the header of cooked capture has this hardware type, which is not that of Ethernet.
+/// - [`TagError::NoVlan`]: the ether type of the link announces no VLAN tag.
+/// - [`TagError::CutVlan`]: it does, but fewer than 4 bytes follow, not counting a frame check sequence.
+///
+/// # Examples
+///
+/// ```
+/// # use etherpeel::*;
+/// # use etherpeel::ether_peel::*;
+/// # use etherpeel::ether_sll2::*;
+/// # use etherpeel::ether_packet::*;
+/// # fn main() -> Result<(), Box<dyn std::error::Error>> {
+/// let mut frame = [
+///     0xFF, 0xFF, 0xFF, 0xFF, 0xFF, 0xFF, 0x02, 0x00, 0x00, 0x00, 0x00, 0x01, 0x81, 0x00, // Ethernet II
+///     0xB1, 0x23, 0x08, 0x00, // VLAN
+///     0x45,
+/// ];
+/// let tag = pop_vlan(Start::Ethernet2, &mut frame)?;
+/// assert_eq!(tag, SingleVlanHeader::from_bytes([0xB1, 0x23, 0x08, 0x00]));
+/// assert_eq!(frame[4..], [
+///     0xFF, 0xFF, 0xFF, 0xFF, 0xFF, 0xFF, 0x02, 0x00, 0x00, 0x00, 0x00, 0x01, 0x08, 0x00, // Ethernet II
+///     0x45,
+/// ]);
+/// # Ok(())
+/// # }
+/// ```
+///
+/// <details><summary>Contract</summary>
+///
+/// ```text
+/// ensures ok { IfOk result (λ tag. (hs : List Header) (e : Ending)
+///     → Walk (start_of start) frame.old hs e
+///     → IsPopped (start_of start) frame.old hs e (vlan_view tag) frame.new) }
+/// ensures tag { IfOk result (λ tag. (hs : List Header) (e : Ending)
+///     → Walk (start_of start) frame.old hs e → outer_tag hs ≡ Some (vlan_view tag)) }
+/// ensures none { OnErr result ((hs : List Header) (e : Ending)
+///     → Walk (start_of start) frame.old hs e → outer_tag hs ≡ None) }
+/// ensures refused { IfErr result (λ error. (hs : List Header) (e : Ending)
+///     → Walk (start_of start) frame.old hs e → RefusesPop hs error) }
+/// ensures kept { OnErr result (frame.new ≡ frame.old) }
+/// ```
+///
+/// </details>
+#[inline]
+pub fn pop_vlan(start: Start, frame: &mut [u8]) -> Result<SingleVlanHeader, TagError> {
+    match start {
+        Start::LinuxSll => {
+            require_tag(start, frame)?;
+            Ok(take_off::<14>(frame))
+        }
+        _ => {
+            require_tag(start, frame)?;
+            Ok(take_off::<12>(frame))
+        }
+    }
+}
+
+/// Requires that a VLAN tag follows the header of a link.
+#[inline(always)]
+pub(crate) fn require_tag(start: Start, frame: &[u8]) -> Result<(), TagError> {
+    let link = typed_link(start, frame)?;
+    if !announces_vlan(link.ether_type) {
+        return Err(TagError::NoVlan);
+    }
+    if link.payload_len < SingleVlanHeader::LEN {
+        return Err(TagError::CutVlan);
+    }
+    Ok(())
+}
+
+/// Returns the tag after the header of a link whose type is at `N`, and moves the bytes before the type over it.
+#[inline(always)]
+fn take_off<const N: usize>(frame: &mut [u8]) -> SingleVlanHeader {
+    let tag = SingleVlanHeader::from_bytes(chunk_at::<4>(frame, N + 2));
+    let front = chunk_at::<N>(frame, 0);
+    put_at(frame, 4, front);
+    tag
+}

@@ -1,0 +1,113 @@
+//! VLAN tags that are put in in place.
+
+use crate::ether_packet::TagError;
+use crate::ether_packet::packet_builder::put_at;
+use crate::ether_packet::typed_link::{announces_vlan, chunk_at, typed_link};
+use crate::ether_peel::Start;
+use crate::{EtherType, SingleVlanHeader};
+
+/// Puts a VLAN tag after the header of a link, in place: the frame is `buffer[4..]` before the call and the whole buffer after it.
+///
+/// The TPID is the ether type that announces the tag: 0x8100 ([`EtherType::VLAN_TAGGED_FRAME`]), 0x88A8
+/// ([`EtherType::PROVIDER_BRIDGING`]) or 0x9100 ([`EtherType::VLAN_DOUBLE_TAGGED_FRAME`]). It becomes the ether type of the
+/// link's header, whose own one becomes that of the tag: `tag.ether_type` is ignored. So [`pop_vlan`](crate::ether_packet::pop_vlan) takes
+/// off what was put in, and its result may be put in again.
+///
+/// Only the 12 bytes of the addresses are moved, or the 14 bytes of a cooked capture before its protocol type, so the time
+/// does not depend on the length of the frame. All later headers and the payload stay where they are, also if a later header
+/// is refused. A frame check sequence and an integrity check value stay as they were, and don't fit the new frame.
+///
+/// # Errors
+///
+/// The buffer then stays as it was. The first of these that applies is returned:
+///
+/// - [`TagError::Tpid`]: the TPID, which the error names, is none of the three.
+/// - [`TagError::NoRoom`]: the buffer has fewer than 4 bytes.
+/// - [`TagError::NoLink`]: the frame begins with what an ether type announces, or the header of its link is refused.
+/// - [`TagError::HardwareType`]: the header of cooked capture has this hardware type, which is not that of Ethernet.
+///
+/// # Examples
+///
+/// ```
+/// # use etherpeel::*;
+/// # use etherpeel::ether_peel::*;
+/// # use etherpeel::ether_sll2::*;
+/// # use etherpeel::ether_packet::*;
+/// # fn main() -> Result<(), Box<dyn std::error::Error>> {
+/// let mut buffer = [
+///     0x00, 0x00, 0x00, 0x00, // free
+///     0xFF, 0xFF, 0xFF, 0xFF, 0xFF, 0xFF, 0x02, 0x00, 0x00, 0x00, 0x00, 0x01, 0x08, 0x00, // Ethernet II
+///     0x45,
+/// ];
+/// let tag = SingleVlanHeader {
+///     vlan_id: VlanId::try_new(0x123)?,
+///     ..SingleVlanHeader::default()
+/// };
+/// push_vlan(Start::Ethernet2, &mut buffer, tag, EtherType::VLAN_TAGGED_FRAME)?;
+/// assert_eq!(buffer, [
+///     0xFF, 0xFF, 0xFF, 0xFF, 0xFF, 0xFF, 0x02, 0x00, 0x00, 0x00, 0x00, 0x01, 0x81, 0x00, // Ethernet II
+///     0x01, 0x23, 0x08, 0x00, // VLAN
+///     0x45,
+/// ]);
+/// # Ok(())
+/// # }
+/// ```
+///
+/// <details><summary>Contract</summary>
+///
+/// ```text
+/// ensures ok { IfOk result (λ _. (hs : List Header) (e : Ending)
+///     → Walk (start_of start) (drop 4 buffer.old) hs e
+///     → IsPushed (start_of start) buffer.old hs e (vlan_view tag) tpid.0 buffer.new) }
+/// ensures untyped { is_vlan_ether_type tpid.0 ≡ true → 4 ≤ length buffer.old
+///     → OnErr result ((hs : List Header) (e : Ending)
+///     → Walk (start_of start) (drop 4 buffer.old) hs e → link_type hs ≡ None) }
+/// ensures refused { IfErr result (λ error. (hs : List Header) (e : Ending)
+///     → Walk (start_of start) (drop 4 buffer.old) hs e
+///     → RefusesPush buffer.old hs tpid.0 error) }
+/// ensures kept { OnErr result (buffer.new ≡ buffer.old) }
+/// ```
+///
+/// </details>
+#[inline]
+pub fn push_vlan(
+    start: Start,
+    buffer: &mut [u8],
+    tag: SingleVlanHeader,
+    tpid: EtherType,
+) -> Result<(), TagError> {
+    match start {
+        Start::LinuxSll => {
+            require_link(start, buffer, tpid)?;
+            put_in::<14>(buffer, tag, tpid);
+        }
+        _ => {
+            require_link(start, buffer, tpid)?;
+            put_in::<12>(buffer, tag, tpid);
+        }
+    }
+    Ok(())
+}
+
+/// Requires that four bytes of a buffer are free before the header of a link, and that the ether type announces a VLAN tag.
+#[inline(always)]
+fn require_link(start: Start, buffer: &[u8], tpid: EtherType) -> Result<(), TagError> {
+    if !announces_vlan(tpid) {
+        return Err(TagError::Tpid(tpid));
+    }
+    if buffer.len() < SingleVlanHeader::LEN {
+        return Err(TagError::NoRoom);
+    }
+    typed_link(start, &buffer[SingleVlanHeader::LEN..])?;
+    Ok(())
+}
+
+/// Moves the `N` bytes of a link before its type to the front, and puts four bytes after them.
+#[inline(always)]
+fn put_in<const N: usize>(buffer: &mut [u8], tag: SingleVlanHeader, tpid: EtherType) {
+    let front = chunk_at::<N>(buffer, 4);
+    let tpid = tpid.0.to_be_bytes();
+    let control = tag.to_bytes();
+    put_at(buffer, 0, front);
+    put_at(buffer, N, [tpid[0], tpid[1], control[0], control[1]]);
+}

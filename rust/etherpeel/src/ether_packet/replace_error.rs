@@ -1,0 +1,51 @@
+//! Why a header is not replaced.
+
+use crate::ether_packet::Difference;
+use core::error::Error;
+use core::fmt;
+
+/// Why a header is not replaced. The frame is then as it was.
+///
+/// ```
+/// # use etherpeel::*;
+/// # use etherpeel::ether_peel::*;
+/// # use etherpeel::ether_sll2::*;
+/// # use etherpeel::ether_packet::*;
+/// assert_eq!(
+///     format!("{}", ReplaceError::NoLinkExt(1)).as_str(),
+///     "There is no VLAN tag or SecTag at this index: the frame has 1."
+/// );
+/// ```
+#[derive(Clone, Copy, PartialEq, Eq, Debug)]
+pub enum ReplaceError {
+    /// The frame does not begin with the header of a link.
+    NoLink,
+    /// There is no VLAN tag or SecTag at the index. The frame has this many.
+    NoLinkExt(u8),
+    /// The frame has no ARP packet.
+    NoArp,
+    /// The header differs from the one in the frame in this: it is of another kind, says something else about what follows
+    /// it, or has addresses of other lengths.
+    SaysOther(Difference),
+}
+
+impl fmt::Display for ReplaceError {
+    fn fmt(&self, f: &mut fmt::Formatter<'_>) -> fmt::Result {
+        match self {
+            ReplaceError::NoLink => {
+                f.write_str("The frame does not begin with the header of a link.")
+            }
+            ReplaceError::NoLinkExt(count) => write!(
+                f,
+                "There is no VLAN tag or SecTag at this index: the frame has {count}."
+            ),
+            ReplaceError::NoArp => f.write_str("The frame has no ARP packet."),
+            ReplaceError::SaysOther(difference) => write!(
+                f,
+                "The header in the frame is another one in this: {difference}."
+            ),
+        }
+    }
+}
+
+impl Error for ReplaceError {}

@@ -1,0 +1,357 @@
+//! VLAN tags that are changed in place.
+
+use crate::ether_packet::packet_builder::put_at;
+use crate::ether_packet::typed_link::announces_vlan;
+use crate::ether_packet::{PacketSlice, TagError};
+use crate::ether_peel::{Peel, PeelUnit, Start};
+use crate::{EtherType, LinkExtHeader, SingleVlanHeader, VlanId, VlanPcp};
+
+/// A VLAN tag of a frame, and where it starts.
+#[derive(Clone, Copy)]
+struct PlacedVlan {
+    at: usize,
+    tag: SingleVlanHeader,
+}
+
+/// A VLAN tag of a frame, and its index among VLAN tags and SecTags.
+#[derive(Clone, Copy)]
+struct IndexedVlan {
+    index: usize,
+    placed: PlacedVlan,
+}
+
+/// The index of the outermost VLAN tag with an identifier; `None` if no VLAN tag of the frame has it.
+///
+/// The index counts VLAN tags and SecTags, the outermost first. There may be any number of them; [`PacketSlice::link_exts`] and
+/// [`set_vlan_id`] know the first three.
+///
+/// # Examples
+///
+/// ```
+/// # use etherpeel::*;
+/// # use etherpeel::ether_peel::*;
+/// # use etherpeel::ether_sll2::*;
+/// # use etherpeel::ether_packet::*;
+/// # fn main() -> Result<(), Box<dyn std::error::Error>> {
+/// let frame = [
+///     0xFF, 0xFF, 0xFF, 0xFF, 0xFF, 0xFF, 0x02, 0x00, 0x00, 0x00, 0x00, 0x01, 0x88, 0xA8, // Ethernet II
+///     0x00, 0x64, 0x81, 0x00, // VLAN 100
+///     0xB0, 0x05, 0x08, 0x00, // VLAN 5
+///     0x45,
+/// ];
+/// assert_eq!(find_vlan(Start::Ethernet2, &frame, VlanId::try_new(5)?), Some(1));
+/// assert_eq!(find_vlan(Start::Ethernet2, &frame, VlanId::try_new(2)?), None);
+/// # Ok(())
+/// # }
+/// ```
+///
+/// <details><summary>Contract</summary>
+///
+/// ```text
+/// ensures some { IfSome result (λ index. (hs : List Header) (e : Ending)
+///     → Walk (start_of start) frame.now hs e → FindsVlan hs vlan_id index) }
+/// ensures none { IfNone result ((hs : List Header) (e : Ending)
+///     → Walk (start_of start) frame.now hs e → LacksVlan hs vlan_id) }
+/// ```
+///
+/// </details>
+#[inline]
+pub fn find_vlan(start: Start, frame: &[u8], vlan_id: VlanId) -> Option<usize> {
+    let found = outermost_with(start, frame, vlan_id)?;
+    Some(found.index)
+}
+
+/// Gives the outermost VLAN tag with an identifier another identifier, in place, and returns its index; `None` if no VLAN tag of
+/// the frame has it, and the frame then stays as it was.
+///
+/// The index is that of [`find_vlan`]. Priority code point and drop eligible indicator of the tag, all other headers and the
+/// payload stay as they were. A frame check sequence and an integrity check value stay as they were, and don't fit the new
+/// bytes.
+///
+/// # Examples
+///
+/// ```
+/// # use etherpeel::*;
+/// # use etherpeel::ether_peel::*;
+/// # use etherpeel::ether_sll2::*;
+/// # use etherpeel::ether_packet::*;
+/// # fn main() -> Result<(), Box<dyn std::error::Error>> {
+/// let mut frame = [
+///     0xFF, 0xFF, 0xFF, 0xFF, 0xFF, 0xFF, 0x02, 0x00, 0x00, 0x00, 0x00, 0x01, 0x88, 0xA8, // Ethernet II
+///     0x00, 0x64, 0x81, 0x00, // VLAN 100
+///     0xB0, 0x05, 0x08, 0x00, // VLAN 5
+///     0x45,
+/// ];
+/// let index = replace_vlan_id(Start::Ethernet2, &mut frame, VlanId::try_new(5)?, VlanId::try_new(0xABC)?);
+/// assert_eq!(index, Some(1));
+/// assert_eq!(frame[14..], [0x00, 0x64, 0x81, 0x00, 0xBA, 0xBC, 0x08, 0x00, 0x45]);
+/// # Ok(())
+/// # }
+/// ```
+///
+/// <details><summary>Contract</summary>
+///
+/// ```text
+/// ensures some { IfSome result (λ index. (hs : List Header) (e : Ending)
+///     → Walk (start_of start) frame.old hs e
+///     → FindsVlan hs from index
+///     × SetsTag (start_of start) frame.old hs e index (λ tag. record tag { vid = to }) frame.new) }
+/// ensures none { IfNone result ((hs : List Header) (e : Ending)
+///     → Walk (start_of start) frame.old hs e → LacksVlan hs from) }
+/// ensures kept { IfNone result (frame.new ≡ frame.old) }
+/// ```
+///
+/// </details>
+#[inline]
+pub fn replace_vlan_id(start: Start, frame: &mut [u8], from: VlanId, to: VlanId) -> Option<usize> {
+    let IndexedVlan { index, placed } = outermost_with(start, frame, from)?;
+    let tag = SingleVlanHeader {
+        vlan_id: to,
+        ..placed.tag
+    };
+    put_at(frame, placed.at, tag.to_bytes());
+    Some(index)
+}
+
+/// Sets the identifier of a VLAN tag of a frame in place.
+///
+/// The index counts VLAN tags and SecTags as [`PacketSlice::link_exts`] returns them, the outermost first. All other headers
+/// and the payload stay as they were. A frame check sequence and an integrity check value stay as they were, and don't fit the
+/// new bytes.
+///
+/// # Errors
+///
+/// The frame then stays as it was:
+///
+/// - [`TagError::NoLinkExt`]: there is no tag at the index. It names how many there are.
+/// - [`TagError::NoVlan`]: there is a SecTag at the index.
+///
+/// # Examples
+///
+/// ```
+/// # use etherpeel::*;
+/// # use etherpeel::ether_peel::*;
+/// # use etherpeel::ether_sll2::*;
+/// # use etherpeel::ether_packet::*;
+/// # fn main() -> Result<(), Box<dyn std::error::Error>> {
+/// let mut frame = [
+///     0xFF, 0xFF, 0xFF, 0xFF, 0xFF, 0xFF, 0x02, 0x00, 0x00, 0x00, 0x00, 0x01, 0x81, 0x00, // Ethernet II
+///     0xB1, 0x23, 0x08, 0x00, // VLAN
+///     0x45,
+/// ];
+/// set_vlan_id(Start::Ethernet2, &mut frame, 0, VlanId::try_new(0x456)?)?;
+/// assert_eq!(frame[14..], [0xB4, 0x56, 0x08, 0x00, 0x45]);
+/// # Ok(())
+/// # }
+/// ```
+///
+/// <details><summary>Contract</summary>
+///
+/// ```text
+/// ensures ok { IfOk result (λ _. (hs : List Header) (e : Ending)
+///     → Walk (packet_start start) frame.old hs e
+///     → SetsTag (packet_start start) frame.old hs e index
+///     (λ tag. record tag { vid = vlan_id }) frame.new) }
+/// ensures refused { IfErr result (λ error. (hs : List Header) (e : Ending)
+///     → Walk (packet_start start) frame.old hs e → RefusesTag hs index error) }
+/// ensures kept { OnErr result (frame.new ≡ frame.old) }
+/// ```
+///
+/// </details>
+#[inline]
+pub fn set_vlan_id(
+    start: Start,
+    frame: &mut [u8],
+    index: usize,
+    vlan_id: VlanId,
+) -> Result<(), TagError> {
+    let found = vlan_at(start, frame, index)?;
+    let tag = SingleVlanHeader {
+        vlan_id,
+        ..found.tag
+    };
+    put_at(frame, found.at, tag.to_bytes());
+    Ok(())
+}
+
+/// Sets the whole tag control information of a VLAN tag of a frame in place: priority code point, drop eligible indicator and
+/// identifier.
+///
+/// The same as [`set_vlan_id`] but for the two fields more. The ether type of what follows the tag stays.
+///
+/// # Errors
+///
+/// Those of [`set_vlan_id`].
+///
+/// # Examples
+///
+/// ```
+/// # use etherpeel::*;
+/// # use etherpeel::ether_peel::*;
+/// # use etherpeel::ether_sll2::*;
+/// # use etherpeel::ether_packet::*;
+/// # fn main() -> Result<(), Box<dyn std::error::Error>> {
+/// let mut frame = [
+///     0xFF, 0xFF, 0xFF, 0xFF, 0xFF, 0xFF, 0x02, 0x00, 0x00, 0x00, 0x00, 0x01, 0x81, 0x00, // Ethernet II
+///     0xB1, 0x23, 0x08, 0x00, // VLAN
+///     0x45,
+/// ];
+/// let pcp = VlanPcp::try_new(3)?;
+/// set_vlan_tag(Start::Ethernet2, &mut frame, 0, pcp, false, VlanId::try_new(0x456)?)?;
+/// assert_eq!(frame[14..], [0x64, 0x56, 0x08, 0x00, 0x45]);
+/// # Ok(())
+/// # }
+/// ```
+///
+/// <details><summary>Contract</summary>
+///
+/// ```text
+/// ensures ok { IfOk result (λ _. (hs : List Header) (e : Ending)
+///     → Walk (packet_start start) frame.old hs e
+///     → SetsTag (packet_start start) frame.old hs e index
+///     (λ tag. record tag { pcp = pcp; dei = bit drop_eligible_indicator; vid = vlan_id })
+///     frame.new) }
+/// ensures refused { IfErr result (λ error. (hs : List Header) (e : Ending)
+///     → Walk (packet_start start) frame.old hs e → RefusesTag hs index error) }
+/// ensures kept { OnErr result (frame.new ≡ frame.old) }
+/// ```
+///
+/// </details>
+#[inline]
+pub fn set_vlan_tag(
+    start: Start,
+    frame: &mut [u8],
+    index: usize,
+    pcp: VlanPcp,
+    drop_eligible_indicator: bool,
+    vlan_id: VlanId,
+) -> Result<(), TagError> {
+    let found = vlan_at(start, frame, index)?;
+    let tag = SingleVlanHeader {
+        pcp,
+        drop_eligible_indicator,
+        vlan_id,
+        ether_type: found.tag.ether_type,
+    };
+    put_at(frame, found.at, tag.to_bytes());
+    Ok(())
+}
+
+/// Sets the ether type that announces a VLAN tag of a frame (TPID), in place, to 0x8100, 0x88A8 or 0x9100.
+///
+/// It is the ether type of the header before the tag: of the link, or of another VLAN tag or SecTag. The index counts VLAN
+/// tags and SecTags as [`PacketSlice::link_exts`] returns them, the outermost first. All other headers and the payload stay as
+/// they were. A frame check sequence and an integrity check value stay as they were, and don't fit the new bytes.
+///
+/// # Errors
+///
+/// The frame then stays as it was. The first of these that applies is returned:
+///
+/// - [`TagError::Tpid`]: the TPID, which the error names, is none of the three.
+/// - [`TagError::NoLinkExt`]: there is no tag at the index. It names how many there are.
+/// - [`TagError::NoVlan`]: there is a SecTag at the index.
+/// - [`TagError::Unannounced`]: the frame begins with the tag, as from [`Start::EtherType`].
+///
+/// # Examples
+///
+/// ```
+/// # use etherpeel::*;
+/// # use etherpeel::ether_peel::*;
+/// # use etherpeel::ether_sll2::*;
+/// # use etherpeel::ether_packet::*;
+/// # fn main() -> Result<(), Box<dyn std::error::Error>> {
+/// let mut frame = [
+///     0xFF, 0xFF, 0xFF, 0xFF, 0xFF, 0xFF, 0x02, 0x00, 0x00, 0x00, 0x00, 0x01, 0x81, 0x00, // Ethernet II
+///     0xB1, 0x23, 0x08, 0x00, // VLAN
+///     0x45,
+/// ];
+/// set_tpid(Start::Ethernet2, &mut frame, 0, EtherType::PROVIDER_BRIDGING)?;
+/// assert_eq!(frame[12..], [0x88, 0xA8, 0xB1, 0x23, 0x08, 0x00, 0x45]);
+/// # Ok(())
+/// # }
+/// ```
+///
+/// <details><summary>Contract</summary>
+///
+/// ```text
+/// ensures ok { IfOk result (λ _. (hs : List Header) (e : Ending)
+///     → Walk (packet_start start) frame.old hs e
+///     → SetsTpid (packet_start start) frame.old hs e index tpid.0 frame.new) }
+/// ensures refused { IfErr result (λ error. (hs : List Header) (e : Ending)
+///     → Walk (packet_start start) frame.old hs e → RefusesTpid hs index tpid.0 error) }
+/// ensures kept { OnErr result (frame.new ≡ frame.old) }
+/// ```
+///
+/// </details>
+#[inline]
+pub fn set_tpid(
+    start: Start,
+    frame: &mut [u8],
+    index: usize,
+    tpid: EtherType,
+) -> Result<(), TagError> {
+    if !announces_vlan(tpid) {
+        return Err(TagError::Tpid(tpid));
+    }
+    let found = vlan_at(start, frame, index)?;
+    if found.at < 2 {
+        return Err(TagError::Unannounced);
+    }
+    put_at(frame, found.at - 2, tpid.0.to_be_bytes());
+    Ok(())
+}
+
+/// The VLAN tag at an index of the tags.
+#[inline]
+fn vlan_at(start: Start, frame: &[u8], index: usize) -> Result<PlacedVlan, TagError> {
+    let packet = PacketSlice::from_slice(start, frame);
+    match packet.link_ext(index) {
+        None => Err(TagError::NoLinkExt(packet.link_ext_count() as u8)),
+        Some(ext) => match ext.slice.to_header() {
+            LinkExtHeader::Vlan(tag) => Ok(PlacedVlan {
+                at: ext.offset,
+                tag,
+            }),
+            LinkExtHeader::Macsec(_) => Err(TagError::NoVlan),
+        },
+    }
+}
+
+/// The outermost VLAN tag with an identifier.
+#[inline]
+fn outermost_with(start: Start, frame: &[u8], vlan_id: VlanId) -> Option<IndexedVlan> {
+    let mut peel = Peel::new(start, frame);
+    let mut index = 0;
+    loop {
+        let at = peel.offset();
+        match peel.next() {
+            Some(Ok(unit)) => match tag_with(&unit, vlan_id) {
+                Some(tag) => {
+                    let placed = PlacedVlan { at, tag };
+                    return Some(IndexedVlan { index, placed });
+                }
+                None => index += ext_count(&unit),
+            },
+            Some(Err(_)) => return None,
+            None => return None,
+        }
+    }
+}
+
+/// The VLAN tag that a unit is, if it has an identifier.
+#[inline(always)]
+fn tag_with(unit: &PeelUnit<'_>, vlan_id: VlanId) -> Option<SingleVlanHeader> {
+    match unit {
+        PeelUnit::Vlan(tag) if tag.vlan_identifier() == vlan_id => Some(tag.to_header()),
+        _ => None,
+    }
+}
+
+/// How many VLAN tags and SecTags a unit is.
+#[inline(always)]
+fn ext_count(unit: &PeelUnit<'_>) -> usize {
+    match unit {
+        PeelUnit::Vlan(_) | PeelUnit::Macsec(_) => 1,
+        _ => 0,
+    }
+}

@@ -1,0 +1,62 @@
+//! How many bytes of a frame its headers take.
+
+use crate::ether_peel::{Peel, PeelUnit, Start};
+
+/// How many bytes of a frame its headers take, with the payloads whose lengths they name: the least snap length that keeps all of
+/// them. There may be any number of headers; [`PacketSlice::min_snap_len`](crate::ether_packet::PacketSlice::min_snap_len) counts those of a packet.
+///
+/// A frame check sequence is not counted, nor is a header that is refused.
+///
+/// ```
+/// # use etherpeel::*;
+/// # use etherpeel::ether_peel::*;
+/// # use etherpeel::ether_sll2::*;
+/// # use etherpeel::ether_packet::*;
+/// let frame = [
+///     0xFF, 0xFF, 0xFF, 0xFF, 0xFF, 0xFF, 0x02, 0x00, 0x00, 0x00, 0x00, 0x01, 0x81, 0x00, // Ethernet II
+///     0xB1, 0x23, 0x08, 0x00, // VLAN
+///     0x45, 0x00,
+/// ];
+/// assert_eq!(min_snap_len(Start::Ethernet2, &frame), 18);
+/// ```
+///
+/// <details><summary>Contract</summary>
+///
+/// ```text
+/// ensures value { (hs : List Header) (e : Ending) → Walk (start_of start) frame.now hs e
+///     → result ≡ reach 0 hs }
+/// ensures least { has_fcs (start_of start) ≡ false → (hs : List Header) (e : Ending)
+///     → Walk (start_of start) frame.now hs e → IsLeastSnap (start_of start) frame.now hs result }
+/// ensures within { result ≤ length frame.now }
+/// ```
+///
+/// </details>
+#[inline]
+pub fn min_snap_len(start: Start, frame: &[u8]) -> usize {
+    reached(start, frame)
+}
+
+/// Where the headers of a frame end, with the payloads whose lengths they name.
+#[inline(always)]
+fn reached(start: Start, frame: &[u8]) -> usize {
+    let mut peel = Peel::new(start, frame);
+    let mut len = 0;
+    loop {
+        match peel.next() {
+            Some(Ok(unit)) => len = unit_end(&unit, &peel).max(len),
+            Some(Err(_)) => return len,
+            None => return len,
+        }
+    }
+}
+
+/// Where the unit ends that a walk has just returned, with its payload if it names that one's length.
+#[inline(always)]
+fn unit_end(unit: &PeelUnit<'_>, peel: &Peel<'_>) -> usize {
+    match unit {
+        PeelUnit::Macsec(packet) if packet.header.expected_payload_len().is_some() => {
+            peel.offset() + peel.rest().len()
+        }
+        _ => peel.offset(),
+    }
+}

@@ -1,0 +1,24 @@
+//! Capture files of the classic pcap format and of pcapng, read from lists of bytes, edited unit by unit, and written. No call allocates memory.
+
+mod byte_order;
+pub mod capture;
+pub mod classic;
+mod hex_digits;
+mod link_type;
+pub mod pcapng;
+mod words;
+
+pub use byte_order::ByteOrder;
+pub use capture::{
+    CaptureError, CaptureFault, CaptureInterface, CapturePackets, CaptureReader, CaptureUnit,
+    CapturedPacket, EditedUnit, InterfaceTable, Timestamp,
+};
+pub use classic::{
+    FileHeader, FileHeaderError, PcapRecord, PcapRecords, RecordError, RecordFault,
+    TimestampResolution,
+};
+pub use link_type::LinkType;
+pub use pcapng::{
+    BlockError, BodyError, EnhancedPacket, InterfaceDescription, PcapngBlock, SectionError,
+    SectionHeader, SimplePacket,
+};

@@ -1,0 +1,129 @@
+//! The order of the bytes of each number in a capture file.
+
+use crate::ether_base::big_endian::u64_of;
+
+/// The order of the bytes of each number in a capture file: that of the machine that wrote it.
+///
+/// ```
+/// # use etherpeel::*;
+/// # use etherpeel::ether_peel::*;
+/// # use etherpeel::ether_sll2::*;
+/// # use etherpeel::ether_packet::*;
+/// # use etherpeel::ether_filter::*;
+/// # use etherpeel::ether_pcap::*;
+/// assert_eq!(ByteOrder::BigEndian.u16_of([0x02, 0x01]), 513);
+/// assert_eq!(ByteOrder::LittleEndian.u16_of([0x02, 0x01]), 258);
+/// assert_eq!(ByteOrder::LittleEndian.bytes_of_u16(258), [0x02, 0x01]);
+/// ```
+#[derive(Clone, Copy, PartialEq, Eq, Debug)]
+pub enum ByteOrder {
+    /// The most significant byte comes first.
+    BigEndian,
+    /// The least significant byte comes first.
+    LittleEndian,
+}
+
+impl ByteOrder {
+    /// The number of two bytes in this order.
+    ///
+    /// <details><summary>Contract</summary>
+    ///
+    /// ```text
+    /// ensures { result ≡ number_in (order_of self) bytes }
+    /// ```
+    ///
+    /// </details>
+    #[inline]
+    pub fn u16_of(self, bytes: [u8; 2]) -> u16 {
+        match self {
+            ByteOrder::BigEndian => u16::from_be_bytes(bytes),
+            ByteOrder::LittleEndian => u16::from_le_bytes(bytes),
+        }
+    }
+
+    /// The number of four bytes in this order.
+    ///
+    /// <details><summary>Contract</summary>
+    ///
+    /// ```text
+    /// ensures { result ≡ number_in (order_of self) bytes }
+    /// ```
+    ///
+    /// </details>
+    #[inline]
+    pub fn u32_of(self, bytes: [u8; 4]) -> u32 {
+        match self {
+            ByteOrder::BigEndian => u32::from_be_bytes(bytes),
+            ByteOrder::LittleEndian => u32::from_le_bytes(bytes),
+        }
+    }
+
+    /// The number of eight bytes in this order.
+    ///
+    /// <details><summary>Contract</summary>
+    ///
+    /// ```text
+    /// ensures { result ≡ number_in (order_of self) bytes }
+    /// ```
+    ///
+    /// </details>
+    #[inline]
+    pub fn u64_of(self, bytes: [u8; 8]) -> u64 {
+        match self {
+            ByteOrder::BigEndian => u64_of(bytes),
+            ByteOrder::LittleEndian => u64_from_low(bytes),
+        }
+    }
+
+    /// The bytes of a number of 16 bits in this order.
+    ///
+    /// <details><summary>Contract</summary>
+    ///
+    /// ```text
+    /// ensures { number_in (order_of self) result ≡ number }
+    /// ```
+    ///
+    /// </details>
+    #[inline]
+    pub fn bytes_of_u16(self, number: u16) -> [u8; 2] {
+        match self {
+            ByteOrder::BigEndian => number.to_be_bytes(),
+            ByteOrder::LittleEndian => number.to_le_bytes(),
+        }
+    }
+
+    /// The bytes of a number of 32 bits in this order.
+    ///
+    /// <details><summary>Contract</summary>
+    ///
+    /// ```text
+    /// ensures { number_in (order_of self) result ≡ number }
+    /// ```
+    ///
+    /// </details>
+    #[inline]
+    pub fn bytes_of_u32(self, number: u32) -> [u8; 4] {
+        match self {
+            ByteOrder::BigEndian => number.to_be_bytes(),
+            ByteOrder::LittleEndian => number.to_le_bytes(),
+        }
+    }
+
+    /// The number in the two bytes at a place.
+    #[inline]
+    pub(crate) fn u16_at(self, bytes: &[u8], at: usize) -> u16 {
+        self.u16_of([bytes[at], bytes[at + 1]])
+    }
+
+    /// The number in the four bytes at a place.
+    #[inline]
+    pub(crate) fn u32_at(self, bytes: &[u8], at: usize) -> u32 {
+        self.u32_of([bytes[at], bytes[at + 1], bytes[at + 2], bytes[at + 3]])
+    }
+}
+
+/// The number of eight bytes, the least significant one first.
+#[inline]
+fn u64_from_low(bytes: [u8; 8]) -> u64 {
+    u64::from_le_bytes(bytes)
+}

@@ -1,0 +1,27 @@
+//! Capture files of either format, unit by unit or packet by packet.
+//!
+//! A [`CaptureReader`] reads one unit, a header, record or block, from whatever bytes there are. [`CapturePackets`] iterates over the packets
+//! of a whole file.
+mod capture_blocks;
+mod capture_error;
+mod capture_fault;
+mod capture_interface;
+mod capture_packets;
+mod capture_reader;
+mod capture_unit;
+mod captured_packet;
+mod edited_unit;
+mod editing;
+mod interface_table;
+mod timestamp;
+
+pub use capture_error::CaptureError;
+pub use capture_fault::CaptureFault;
+pub use capture_interface::CaptureInterface;
+pub use capture_packets::CapturePackets;
+pub use capture_reader::CaptureReader;
+pub use capture_unit::CaptureUnit;
+pub use captured_packet::CapturedPacket;
+pub use edited_unit::EditedUnit;
+pub use interface_table::InterfaceTable;
+pub use timestamp::Timestamp;

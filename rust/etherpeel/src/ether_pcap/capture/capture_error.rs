@@ -1,0 +1,93 @@
+//! Why a unit of a capture file can't be read.
+
+use crate::ether_pcap::{BlockError, BodyError, FileHeaderError, RecordError, SectionError};
+use core::error::Error;
+use core::fmt;
+
+/// Why a unit of a capture file can't be read.
+///
+/// ```
+/// # use etherpeel::*;
+/// # use etherpeel::ether_peel::*;
+/// # use etherpeel::ether_sll2::*;
+/// # use etherpeel::ether_packet::*;
+/// # use etherpeel::ether_filter::*;
+/// # use etherpeel::ether_pcap::*;
+/// # use etherpeel::ether_pcap::capture::*;
+/// let error = CaptureError::Record(RecordError::Len {
+///     required_len: 76,
+///     len: 20,
+/// });
+/// assert_eq!(error.required_len(), Some(76));
+/// assert_eq!(
+///     format!("{}", CaptureError::NoInterface(3)).as_str(),
+///     "A packet of a pcapng file names interface 3, which its section does not describe."
+/// );
+/// ```
+#[derive(Clone, Copy, PartialEq, Eq, Debug)]
+pub enum CaptureError {
+    /// The file begins neither with the header of a classic file nor with the type of a section header.
+    File(FileHeaderError),
+    /// A record of a classic file can't be read.
+    Record(RecordError),
+    /// A section header can't be read.
+    Section(SectionError),
+    /// Another block can't be read.
+    Block(BlockError),
+    /// The body of an interface description or of a packet can't be read.
+    Body(BodyError),
+    /// A packet names this interface, counted from 0, which its section does not describe before it. A simple packet is one of
+    /// interface 0.
+    NoInterface(u32),
+    /// A section describes more interfaces than the [`InterfaceTable`](crate::ether_pcap::InterfaceTable) of the reader has room for.
+    TooManyInterfaces,
+}
+
+impl CaptureError {
+    /// How many bytes the unit needs at least, if it was refused because the bytes end within it. The error is final if this is
+    /// `None`: the unit is refused with more bytes too.
+    ///
+    /// <details><summary>Contract</summary>
+    ///
+    /// ```text
+    /// ensures { result ≡ required_len_of (capture_refusal_view self.now) }
+    /// ```
+    ///
+    /// </details>
+    #[inline]
+    pub fn required_len(&self) -> Option<usize> {
+        match self {
+            CaptureError::File(FileHeaderError::Len { required_len, .. }) => Some(*required_len),
+            CaptureError::Record(RecordError::Len { required_len, .. }) => Some(*required_len),
+            CaptureError::Section(SectionError::Len { required_len, .. }) => Some(*required_len),
+            CaptureError::Section(SectionError::Block(BlockError::Len { required_len, .. })) => {
+                Some(*required_len)
+            }
+            CaptureError::Block(BlockError::Len { required_len, .. }) => Some(*required_len),
+            _ => None,
+        }
+    }
+}
+
+impl fmt::Display for CaptureError {
+    fn fmt(&self, f: &mut fmt::Formatter<'_>) -> fmt::Result {
+        match self {
+            CaptureError::File(error) => error.fmt(f),
+            CaptureError::Record(error) => error.fmt(f),
+            CaptureError::Section(error) => error.fmt(f),
+            CaptureError::Block(error) => error.fmt(f),
+            CaptureError::Body(error) => error.fmt(f),
+            CaptureError::NoInterface(number) => write!(
+                f,
+                "A packet of a pcapng file names interface {number}, which its section does not describe."
+            ),
+            CaptureError::TooManyInterfaces => {
+                f.write_str(
+                    "A section of a pcapng file describes more interfaces than this reader keeps.",
+                )
+            }
+        }
+    }
+}
+
+impl Error for CaptureError {}

@@ -1,0 +1,131 @@
+//! The packets of a capture file, one after the other.
+
+use crate::ether_pcap::{
+    CaptureFault, CaptureInterface, CaptureReader, CaptureUnit, CapturedPacket, InterfaceTable,
+};
+use arrayvec::ArrayVec;
+
+/// The interfaces of a section, in 96 KiB.
+type Interfaces = ArrayVec<CaptureInterface, MAX_INTERFACES>;
+
+/// How many interfaces a section may describe.
+const MAX_INTERFACES: usize = 4_096;
+
+/// The packets of a capture file of either format that is in memory, one after the other, and then the fault if there is one.
+///
+/// ```
+/// # use etherpeel::*;
+/// # use etherpeel::ether_peel::*;
+/// # use etherpeel::ether_sll2::*;
+/// # use etherpeel::ether_packet::*;
+/// # use etherpeel::ether_filter::*;
+/// # use etherpeel::ether_pcap::*;
+/// # use etherpeel::ether_pcap::capture::*;
+/// let file = [
+///     0xA1, 0xB2, 0xC3, 0xD4, 0x00, 0x02, 0x00, 0x04, 0x00, 0x00, 0x00, 0x00, // file header
+///     0x00, 0x00, 0x00, 0x00, 0x00, 0x00, 0xFF, 0xFF, 0x00, 0x00, 0x00, 0x01, //
+///     0x00, 0x00, 0x00, 0x01, 0x00, 0x00, 0x00, 0x02, 0x00, 0x00, 0x00, 0x01, 0x00, 0x00, 0x00, 0x01, // record
+///     0xFF,
+/// ];
+/// let mut packets = CapturePackets::from_slice(&file);
+/// while let Some(Ok(packet)) = packets.next() {
+///     assert_eq!(packet.packet, [0xFF].as_slice());
+/// }
+/// assert_eq!(packets.offset(), 41);
+/// ```
+pub struct CapturePackets<'a> {
+    reader: CaptureReader<Interfaces>,
+    rest: &'a [u8],
+    offset: usize,
+    is_over: bool,
+}
+
+impl<'a> CapturePackets<'a> {
+    /// How many interfaces a section may describe, 4,096.
+    pub const MAX_INTERFACES: usize = MAX_INTERFACES;
+
+    /// The packets of a file, from the first one on.
+    ///
+    /// <details><summary>Contract</summary>
+    ///
+    /// ```text
+    /// ensures { result ≡ start slice.now }
+    /// ```
+    ///
+    /// </details>
+    #[inline]
+    pub fn from_slice(slice: &'a [u8]) -> CapturePackets<'a> {
+        CapturePackets {
+            reader: CaptureReader::new(ArrayVec::new()),
+            rest: slice,
+            offset: 0,
+            is_over: false,
+        }
+    }
+
+    /// The bytes that are left to read: after a fault, from the start of what can't be read.
+    ///
+    /// <details><summary>Contract</summary>
+    ///
+    /// ```text
+    /// ensures { result.now ≡ self.now.rest }
+    /// ```
+    ///
+    /// </details>
+    #[inline]
+    pub fn rest(&self) -> &'a [u8] {
+        self.rest
+    }
+
+    /// The place of the bytes that are left to read, from the start of the file.
+    ///
+    /// <details><summary>Contract</summary>
+    ///
+    /// ```text
+    /// ensures { result ≡ self.now.offset }
+    /// ```
+    ///
+    /// </details>
+    #[inline]
+    pub fn offset(&self) -> usize {
+        self.offset
+    }
+}
+
+impl<'a> Iterator for CapturePackets<'a> {
+    type Item = Result<CapturedPacket<'a>, CaptureFault>;
+
+    /// The next packet, the fault that ends the file, or `None` if nothing is left to read or the fault was returned.
+    #[inline]
+    fn next(&mut self) -> Option<Result<CapturedPacket<'a>, CaptureFault>> {
+        if self.is_over {
+            return None;
+        }
+        while !is_at_end(&self.reader, self.rest) {
+            match self.reader.read(self.rest) {
+                Ok(unit) => {
+                    let CaptureUnit { len, packet } = unit;
+                    self.rest = &self.rest[len..];
+                    self.offset += len;
+                    if let Some(packet) = packet {
+                        return Some(Ok(packet));
+                    }
+                }
+                Err(error) => {
+                    self.is_over = true;
+                    return Some(Err(CaptureFault {
+                        offset: self.offset,
+                        error,
+                    }));
+                }
+            }
+        }
+        None
+    }
+}
+
+/// Tests that a file has begun, and that nothing of it is left.
+#[inline]
+fn is_at_end<T: InterfaceTable>(reader: &CaptureReader<T>, rest: &[u8]) -> bool {
+    rest.is_empty() && reader.has_begun()
+}

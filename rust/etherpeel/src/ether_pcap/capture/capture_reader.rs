@@ -1,0 +1,226 @@
+//! A reader of capture files of either format, one unit at a time.
+
+use crate::ether_pcap::capture::capture_blocks::read_block;
+use crate::ether_pcap::capture::editing::{edited_block, edited_record};
+use crate::ether_pcap::{
+    ByteOrder, CaptureError, CaptureUnit, CapturedPacket, EditedUnit, FileHeader, InterfaceTable,
+    PcapRecord, PcapngBlock, SectionHeader, Timestamp,
+};
+
+/// What was read of a file.
+#[derive(Clone, Copy)]
+pub(crate) enum Progress {
+    /// Nothing.
+    Nothing,
+    /// The header of a classic file.
+    Classic(FileHeader),
+    /// A section header of a pcapng file, in this byte order.
+    Section(ByteOrder),
+}
+
+/// A reader of capture files of the classic pcap format and of pcapng, one unit at a time.
+///
+/// It keeps what it needs of the file header, or of the section header and the interfaces of the section, and no bytes: a program
+/// can read a file through a buffer of its own. The first bytes say which format it is. A section may describe as many interfaces as
+/// `T` has room for.
+///
+/// ```
+/// # use etherpeel::*;
+/// # use etherpeel::ether_peel::*;
+/// # use etherpeel::ether_sll2::*;
+/// # use etherpeel::ether_packet::*;
+/// # use etherpeel::ether_filter::*;
+/// # use etherpeel::ether_pcap::*;
+/// # use etherpeel::ether_pcap::capture::*;
+/// # use arrayvec::ArrayVec;
+/// # fn main() -> Result<(), Box<dyn std::error::Error>> {
+/// let file = [
+///     0xA1, 0xB2, 0xC3, 0xD4, 0x00, 0x02, 0x00, 0x04, 0x00, 0x00, 0x00, 0x00, // file header
+///     0x00, 0x00, 0x00, 0x00, 0x00, 0x00, 0xFF, 0xFF, 0x00, 0x00, 0x00, 0x01, //
+///     0x00, 0x00, 0x00, 0x01, 0x00, 0x00, 0x00, 0x02, 0x00, 0x00, 0x00, 0x01, 0x00, 0x00, 0x00, 0x01, // record
+///     0xFF,
+/// ];
+/// let mut reader = CaptureReader::new(ArrayVec::<CaptureInterface, 16>::new());
+/// let header = reader.read(&file)?;
+/// assert_eq!(header.len, 24);
+/// assert_eq!(header.packet, None);
+/// let record = reader.read(&file[24..])?;
+/// assert_eq!(record.len, 17);
+/// if let Some(packet) = record.packet {
+///     let time = Timestamp {
+///         seconds: 1,
+///         nanoseconds: 2_000,
+///     };
+///     assert_eq!(packet.time, Some(time));
+///     assert_eq!(packet.packet, [0xFF].as_slice());
+/// }
+/// # Ok(())
+/// # }
+/// ```
+pub struct CaptureReader<T: InterfaceTable> {
+    progress: Progress,
+    interfaces: T,
+}
+
+impl<T: InterfaceTable> CaptureReader<T> {
+    /// A reader that has read nothing yet, and keeps interfaces in this table.
+    ///
+    /// <details><summary>Contract</summary>
+    ///
+    /// ```text
+    /// ensures { result ≡ Beginning T.most }
+    /// ```
+    ///
+    /// </details>
+    #[inline]
+    pub fn new(interfaces: T) -> CaptureReader<T> {
+        CaptureReader {
+            progress: Progress::Nothing,
+            interfaces,
+        }
+    }
+
+    /// Tests that a unit was read. If nothing is left to read then, the file has ended where a file may end.
+    ///
+    /// <details><summary>Contract</summary>
+    ///
+    /// ```text
+    /// ensures { IsTrue result ↔ HasBegun self.now }
+    /// ```
+    ///
+    /// </details>
+    #[inline]
+    pub fn has_begun(&self) -> bool {
+        !matches!(self.progress, Progress::Nothing)
+    }
+
+    /// Reads the unit at the front of a slice. Bytes after it are not read.
+    ///
+    /// At the beginning a file whose first four bytes are the type of a section header is one of pcapng, and any other a classic
+    /// one. In a section a further section header begins another, which describes interfaces of its own. Blocks of other types than
+    /// interface descriptions, simple packets, enhanced packets and the obsolete packet blocks are units without a packet.
+    ///
+    /// # Errors
+    ///
+    /// The reader is as it was then. If the slice ends within the unit, [`CaptureError::required_len`] says how many bytes it needs at
+    /// least, more than the slice has: the unit can be read again with so many. Otherwise, the file can't be read on.
+    #[inline(always)]
+    pub fn read<'a>(&mut self, bytes: &'a [u8]) -> Result<CaptureUnit<'a>, CaptureError> {
+        self.read_unit(bytes)
+    }
+
+    /// The unit of a packet with these captured bytes and this original length in place of its own.
+    ///
+    /// `unit` has exactly the bytes of the unit that this reader read last. The captured and the original length change, and in a block
+    /// also both total lengths and the padding, which is then of zeros. Time, interface and options stay.
+    ///
+    /// Returns `None` for a simple packet, whose block gives no captured length; if there are more than
+    /// [`PcapRecord::MAX_CAPTURED_LEN`] bytes, or the original length has more than 32 bits; and if the block would be longer than
+    /// [`PcapngBlock::MAX_LEN`]. Of a unit that is no packet nothing is claimed.
+    ///
+    /// ```
+    /// # use etherpeel::*;
+    /// # use etherpeel::ether_peel::*;
+    /// # use etherpeel::ether_sll2::*;
+    /// # use etherpeel::ether_packet::*;
+    /// # use etherpeel::ether_filter::*;
+    /// # use etherpeel::ether_pcap::*;
+    /// # use etherpeel::ether_pcap::capture::*;
+    /// # use arrayvec::ArrayVec;
+    /// # fn main() -> Result<(), Box<dyn std::error::Error>> {
+    /// let file = [
+    ///     0xA1, 0xB2, 0xC3, 0xD4, 0x00, 0x02, 0x00, 0x04, 0x00, 0x00, 0x00, 0x00, // file header
+    ///     0x00, 0x00, 0x00, 0x00, 0x00, 0x00, 0xFF, 0xFF, 0x00, 0x00, 0x00, 0x01, //
+    ///     0x00, 0x00, 0x00, 0x01, 0x00, 0x00, 0x00, 0x02, 0x00, 0x00, 0x00, 0x03, 0x00, 0x00, 0x00, 0x3C, // record
+    ///     0xAA, 0xBB, 0xCC,
+    /// ];
+    /// let mut reader = CaptureReader::new(ArrayVec::<CaptureInterface, 16>::new());
+    /// let header_len = reader.read(&file)?.len;
+    /// let record_len = reader.read(&file[header_len..])?.len;
+    /// let unit = &file[header_len..header_len + record_len];
+    /// let header = [
+    ///     0x00, 0x00, 0x00, 0x01, 0x00, 0x00, 0x00, 0x02, 0x00, 0x00, 0x00, 0x02, 0x00, 0x00, 0x00, 0x3B,
+    /// ];
+    /// let packet = &[0xAA, 0xCC];
+    /// assert_eq!(reader.edit_unit(unit, packet, 59), Some(EditedUnit::Record { header, packet }));
+    /// # Ok(())
+    /// # }
+    /// ```
+    #[inline]
+    pub fn edit_unit<'a>(
+        &self,
+        unit: &'a [u8],
+        packet: &'a [u8],
+        original_len: u64,
+    ) -> Option<EditedUnit<'a>> {
+        if packet.len() > PcapRecord::MAX_CAPTURED_LEN as usize
+            || original_len > u64::from(u32::MAX)
+        {
+            return None;
+        }
+        let original_len = original_len as u32;
+        match self.progress {
+            Progress::Nothing => None,
+            Progress::Classic(header) => edited_record(&header, unit, packet, original_len),
+            Progress::Section(byte_order) => edited_block(byte_order, unit, packet, original_len),
+        }
+    }
+
+    /// The unit at the front of a slice.
+    #[inline(always)]
+    fn read_unit<'a>(&mut self, bytes: &'a [u8]) -> Result<CaptureUnit<'a>, CaptureError> {
+        if let Progress::Classic(header) = self.progress {
+            return read_record(&header, bytes);
+        }
+        if begins_section(bytes) {
+            let section = match SectionHeader::from_slice(bytes) {
+                Ok(section) => section,
+                Err(error) => return Err(CaptureError::Section(error)),
+            };
+            let byte_order = section.byte_order;
+            let len = section.block.block_len();
+            self.progress = Progress::Section(byte_order);
+            self.interfaces.remove_all();
+            return Ok(CaptureUnit { len, packet: None });
+        }
+        if let Progress::Section(byte_order) = self.progress {
+            return read_block(byte_order, &mut self.interfaces, bytes);
+        }
+        let header = match FileHeader::from_slice(bytes) {
+            Ok(header) => header,
+            Err(error) => return Err(CaptureError::File(error)),
+        };
+        self.progress = Progress::Classic(header);
+        Ok(CaptureUnit {
+            len: FileHeader::LEN,
+            packet: None,
+        })
+    }
+}
+
+/// Tests that a slice begins with the type of a section header.
+#[inline]
+fn begins_section(bytes: &[u8]) -> bool {
+    bytes.len() >= 4 && ByteOrder::BigEndian.u32_at(bytes, 0) == PcapngBlock::SECTION_HEADER
+}
+
+/// The record at the front of a slice.
+#[inline]
+fn read_record<'a>(header: &FileHeader, bytes: &'a [u8]) -> Result<CaptureUnit<'a>, CaptureError> {
+    let record = match PcapRecord::from_slice(header, bytes) {
+        Ok(record) => record,
+        Err(error) => return Err(CaptureError::Record(error)),
+    };
+    let time = Timestamp::from_nanoseconds(record.nanoseconds(header.resolution));
+    Ok(CaptureUnit {
+        len: record.record_len(),
+        packet: Some(CapturedPacket {
+            time: Some(time),
+            interface: None,
+            original_len: record.original_len,
+            link_type: header.link_type,
+            fcs_len: header.fcs_len,
+            packet: record.packet,
+        }),
+    })
+}

@@ -1,0 +1,136 @@
+//! The records of a file, one after the other.
+
+use crate::ether_pcap::{FileHeader, FileHeaderError, PcapRecord, RecordFault};
+
+/// The records of a classic pcap file that is in memory, one after the other, and then the fault if there is one.
+///
+/// ```
+/// # use etherpeel::*;
+/// # use etherpeel::ether_peel::*;
+/// # use etherpeel::ether_sll2::*;
+/// # use etherpeel::ether_packet::*;
+/// # use etherpeel::ether_filter::*;
+/// # use etherpeel::ether_pcap::*;
+/// # use etherpeel::ether_pcap::classic::*;
+/// # fn main() -> Result<(), Box<dyn std::error::Error>> {
+/// let file = [
+///     0xA1, 0xB2, 0xC3, 0xD4, 0x00, 0x02, 0x00, 0x04, 0x00, 0x00, 0x00, 0x00, // file header
+///     0x00, 0x00, 0x00, 0x00, 0x00, 0x00, 0xFF, 0xFF, 0x00, 0x00, 0x00, 0x01, //
+///     0x00, 0x00, 0x00, 0x01, 0x00, 0x00, 0x00, 0x02, 0x00, 0x00, 0x00, 0x01, 0x00, 0x00, 0x00, 0x01, // record
+///     0xFF,
+/// ];
+/// let mut records = PcapRecords::from_slice(&file)?;
+/// assert_eq!(records.header().link_type, LinkType::ETHERNET);
+/// while let Some(Ok(record)) = records.next() {
+///     assert_eq!(record.packet, [0xFF].as_slice());
+/// }
+/// assert_eq!(records.offset(), 41);
+/// # Ok(())
+/// # }
+/// ```
+#[derive(Debug)]
+pub struct PcapRecords<'a> {
+    header: FileHeader,
+    rest: &'a [u8],
+    offset: usize,
+    is_over: bool,
+}
+
+impl<'a> PcapRecords<'a> {
+    /// The records of a file, from the first one on.
+    ///
+    /// # Errors
+    ///
+    /// As [`FileHeader::from_slice`].
+    ///
+    /// <details><summary>Contract</summary>
+    ///
+    /// ```text
+    /// ensures header { IfOk result (λ r. IsFileHeader slice.now (file_header_view r.header)) }
+    /// ensures rest { IfOk result (λ r. r.rest ≡ drop 24 slice.now) }
+    /// ensures offset { IfOk result (λ r. r.offset ≡ 24) }
+    /// ensures over { IfOk result (λ r. r.over ≡ false) }
+    /// ensures refused { IfErr result (λ e. RefusesFile slice.now (file_refusal_view e)) }
+    /// ```
+    ///
+    /// </details>
+    #[inline]
+    pub fn from_slice(slice: &'a [u8]) -> Result<PcapRecords<'a>, FileHeaderError> {
+        let header = FileHeader::from_slice(slice)?;
+        Ok(PcapRecords {
+            header,
+            rest: &slice[FileHeader::LEN..],
+            offset: FileHeader::LEN,
+            is_over: false,
+        })
+    }
+
+    /// The header of the file.
+    ///
+    /// <details><summary>Contract</summary>
+    ///
+    /// ```text
+    /// ensures { result ≡ self.now.header }
+    /// ```
+    ///
+    /// </details>
+    #[inline]
+    pub fn header(&self) -> FileHeader {
+        self.header
+    }
+
+    /// The bytes that are left to read: after a fault, from the start of the record that can't be read.
+    ///
+    /// <details><summary>Contract</summary>
+    ///
+    /// ```text
+    /// ensures { result.now ≡ self.now.rest }
+    /// ```
+    ///
+    /// </details>
+    #[inline]
+    pub fn rest(&self) -> &'a [u8] {
+        self.rest
+    }
+
+    /// The place of the bytes that are left to read, from the start of the file.
+    ///
+    /// <details><summary>Contract</summary>
+    ///
+    /// ```text
+    /// ensures { result ≡ self.now.offset }
+    /// ```
+    ///
+    /// </details>
+    #[inline]
+    pub fn offset(&self) -> usize {
+        self.offset
+    }
+}
+
+impl<'a> Iterator for PcapRecords<'a> {
+    type Item = Result<PcapRecord<'a>, RecordFault>;
+
+    /// The next record, the fault that ends the file, or `None` if nothing is left to read or the fault was returned.
+    #[inline]
+    fn next(&mut self) -> Option<Result<PcapRecord<'a>, RecordFault>> {
+        if self.is_over || self.rest.is_empty() {
+            return None;
+        }
+        match PcapRecord::from_slice(&self.header, self.rest) {
+            Ok(record) => {
+                let len = record.record_len();
+                self.rest = &self.rest[len..];
+                self.offset += len;
+                Some(Ok(record))
+            }
+            Err(error) => {
+                self.is_over = true;
+                Some(Err(RecordFault {
+                    offset: self.offset,
+                    error,
+                }))
+            }
+        }
+    }
+}

@@ -1,0 +1,59 @@
+//! The resolution of the timestamps of a file.
+
+/// The resolution of a file's timestamps: what the second number of each counts. The magic number at the start of the
+/// file says it.
+///
+/// ```
+/// # use etherpeel::*;
+/// # use etherpeel::ether_peel::*;
+/// # use etherpeel::ether_sll2::*;
+/// # use etherpeel::ether_packet::*;
+/// # use etherpeel::ether_filter::*;
+/// # use etherpeel::ether_pcap::*;
+/// # use etherpeel::ether_pcap::classic::*;
+/// assert_eq!(TimestampResolution::of_magic(0xA1B2_3C4D), Some(TimestampResolution::Nanoseconds));
+/// ```
+#[derive(Clone, Copy, PartialEq, Eq, Debug)]
+pub enum TimestampResolution {
+    /// Microseconds, with the magic number 0xA1B2C3D4.
+    Microseconds,
+    /// Nanoseconds, with the magic number 0xA1B23C4D.
+    Nanoseconds,
+}
+
+impl TimestampResolution {
+    /// The resolution of a file with this magic number. Returns `None` if it is no magic number of the format.
+    ///
+    /// <details><summary>Contract</summary>
+    ///
+    /// ```text
+    /// ensures { MatchOption result ((r : Resolution) → magic ≢ magic_of r) (λ resolution. magic ≡ magic_of (resolution_of resolution)) }
+    /// ```
+    ///
+    /// </details>
+    #[inline]
+    pub fn of_magic(magic: u32) -> Option<TimestampResolution> {
+        match magic {
+            0xA1B2_C3D4 => Some(TimestampResolution::Microseconds),
+            0xA1B2_3C4D => Some(TimestampResolution::Nanoseconds),
+            _ => None,
+        }
+    }
+
+    /// The magic number of a file with this resolution.
+    ///
+    /// <details><summary>Contract</summary>
+    ///
+    /// ```text
+    /// ensures { result ≡ magic_of (resolution_of self) }
+    /// ```
+    ///
+    /// </details>
+    #[inline]
+    pub fn magic(self) -> u32 {
+        match self {
+            TimestampResolution::Microseconds => 0xA1B2_C3D4,
+            TimestampResolution::Nanoseconds => 0xA1B2_3C4D,
+        }
+    }
+}

@@ -1,0 +1,16 @@
+//! What each packet of a capture begins with.
+
+/// What each packet of a capture begins with (`LINKTYPE_` of the tcpdump group). Any number is one.
+#[derive(Clone, Copy, PartialEq, Eq, Debug)]
+pub struct LinkType(pub u16);
+
+impl LinkType {
+    /// Ethernet II or IEEE 802.3 (`LINKTYPE_ETHERNET`).
+    pub const ETHERNET: LinkType = LinkType(1);
+
+    /// Linux cooked capture v1 (`LINKTYPE_LINUX_SLL`).
+    pub const LINUX_SLL: LinkType = LinkType(113);
+
+    /// Linux cooked capture v2 (`LINKTYPE_LINUX_SLL2`), which `tcpdump -i any` writes.
+    pub const LINUX_SLL2: LinkType = LinkType(276);
+}

@@ -1,0 +1,59 @@
+//! Why a slice does not begin with a block of a pcapng file.
+
+use core::error::Error;
+use core::fmt;
+
+/// Why a slice does not begin with a block of a pcapng file.
+///
+/// ```
+/// # use etherpeel::*;
+/// # use etherpeel::ether_peel::*;
+/// # use etherpeel::ether_sll2::*;
+/// # use etherpeel::ether_packet::*;
+/// # use etherpeel::ether_filter::*;
+/// # use etherpeel::ether_pcap::*;
+/// # use etherpeel::ether_pcap::pcapng::*;
+/// assert_eq!(
+///     format!("{}", BlockError::TotalLen(13)).as_str(),
+///     "A block of a pcapng file cannot have 13 byte(s)."
+/// );
+/// ```
+#[derive(Clone, Copy, PartialEq, Eq, Debug)]
+pub enum BlockError {
+    /// The slice is too short.
+    Len {
+        /// The length of the block in bytes; if the slice has fewer than the 12 bytes that every block has, 12.
+        required_len: usize,
+        /// The length of the slice.
+        len: usize,
+    },
+    /// The block's length is below 12 or above 16 MiB, or no multiple of 4.
+    TotalLen(u32),
+    /// The block ends with another length than it begins with.
+    Trailer {
+        /// The length at its beginning.
+        total_len: u32,
+        /// The length at its end.
+        trailer: u32,
+    },
+}
+
+impl fmt::Display for BlockError {
+    fn fmt(&self, f: &mut fmt::Formatter<'_>) -> fmt::Result {
+        match self {
+            BlockError::Len { required_len, len } => write!(
+                f,
+                "A block of a pcapng file needs {required_len} byte(s); only {len} are available."
+            ),
+            BlockError::TotalLen(len) => {
+                write!(f, "A block of a pcapng file cannot have {len} byte(s).")
+            }
+            BlockError::Trailer { total_len, trailer } => write!(
+                f,
+                "A block of a pcapng file begins with length {total_len} and ends with {trailer}."
+            ),
+        }
+    }
+}
+
+impl Error for BlockError {}

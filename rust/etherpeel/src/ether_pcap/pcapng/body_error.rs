@@ -1,0 +1,50 @@
+//! Why the body of a block can't be read.
+
+use core::error::Error;
+use core::fmt;
+
+/// Why the body of a block of a pcapng file can't be read.
+///
+/// ```
+/// # use etherpeel::*;
+/// # use etherpeel::ether_peel::*;
+/// # use etherpeel::ether_sll2::*;
+/// # use etherpeel::ether_packet::*;
+/// # use etherpeel::ether_filter::*;
+/// # use etherpeel::ether_pcap::*;
+/// # use etherpeel::ether_pcap::pcapng::*;
+/// assert_eq!(
+///     format!("{}", BodyError::CapturedLen(262_145)).as_str(),
+///     "A block of a pcapng file cannot have 262145 captured byte(s), the maximum is 262144."
+/// );
+/// ```
+#[derive(Clone, Copy, PartialEq, Eq, Debug)]
+pub enum BodyError {
+    /// The body is too short for its fields, or for its captured bytes.
+    Len {
+        /// The length that is required.
+        required_len: usize,
+        /// The length of the body.
+        len: usize,
+    },
+    /// The block names this many captured bytes, more than
+    /// [`PcapRecord::MAX_CAPTURED_LEN`](crate::ether_pcap::PcapRecord::MAX_CAPTURED_LEN).
+    CapturedLen(u32),
+}
+
+impl fmt::Display for BodyError {
+    fn fmt(&self, f: &mut fmt::Formatter<'_>) -> fmt::Result {
+        match self {
+            BodyError::Len { required_len, len } => write!(
+                f,
+                "The body of a pcapng block needs {required_len} byte(s); it has {len}."
+            ),
+            BodyError::CapturedLen(len) => write!(
+                f,
+                "A block of a pcapng file cannot have {len} captured byte(s), the maximum is 262144."
+            ),
+        }
+    }
+}
+
+impl Error for BodyError {}

@@ -1,0 +1,256 @@
+//! The body of an enhanced packet.
+
+use crate::ether_pcap::pcapng::pcapng_option::{bytes_from, u32_option};
+use crate::ether_pcap::words::{four_words, len_word, seven_words, word};
+use crate::ether_pcap::{BodyError, ByteOrder, PcapRecord, PcapngBlock};
+
+/// The code of the option with flags, `epb_flags` of an enhanced packet and `pack_flags` of the obsolete packet block.
+const FLAGS: u16 = 2;
+
+/// A view of the body of an enhanced packet (draft-ietf-opsawg-pcapng, section 4.3): a packet that was captured on one of several
+/// interfaces.
+///
+/// ```text
+///  0           4           8           12             16             20
+///  +-----------+-----------+-----------+--------------+--------------+-- ..
+///  | interface |   time,   |   time,   | captured len | original len | packet
+///  |           | high half | low half  |              |              |
+///  +-----------+-----------+-----------+--------------+--------------+-- ..
+/// ```
+///
+/// ```
+/// # use etherpeel::*;
+/// # use etherpeel::ether_peel::*;
+/// # use etherpeel::ether_sll2::*;
+/// # use etherpeel::ether_packet::*;
+/// # use etherpeel::ether_filter::*;
+/// # use etherpeel::ether_pcap::*;
+/// # use etherpeel::ether_pcap::pcapng::*;
+/// # fn main() -> Result<(), Box<dyn std::error::Error>> {
+/// let body = [
+///     0x00, 0x00, 0x00, 0x00, 0x00, 0x00, 0x00, 0x01, 0x00, 0x00, 0x00, 0x02, //
+///     0x00, 0x00, 0x00, 0x02, 0x00, 0x00, 0x00, 0x3C, 0xFF, 0xFF, 0x00, 0x00, //
+/// ];
+/// let packet = EnhancedPacket::from_body(ByteOrder::BigEndian, &body)?;
+/// assert_eq!(packet.time, 4_294_967_298);
+/// assert_eq!(packet.original_len, 60);
+/// assert_eq!(packet.packet, [0xFF, 0xFF].as_slice());
+/// # Ok(())
+/// # }
+/// ```
+#[derive(Clone, Copy, PartialEq, Eq, Debug)]
+pub struct EnhancedPacket<'a> {
+    /// The interface, counted from 0 in the order of the section's interface descriptions.
+    pub interface: u32,
+    /// The time of the capture since the beginning of 1970, UTC: in microseconds if no option of the interface says otherwise.
+    pub time: u64,
+    /// How many bytes the packet had before it was cut.
+    pub original_len: u32,
+    /// The bytes that were captured of the packet.
+    pub packet: &'a [u8],
+    /// The bytes of the options.
+    pub options: &'a [u8],
+}
+
+impl<'a> EnhancedPacket<'a> {
+    /// Reads the body of a block of type [`PcapngBlock::ENHANCED_PACKET`](crate::ether_pcap::PcapngBlock::ENHANCED_PACKET).
+    ///
+    /// # Errors
+    ///
+    /// The first of these that holds:
+    ///
+    /// - `BodyError::Len`: the body has fewer than 20 bytes. `required_len` is 20, `len` the body's length.
+    /// - `BodyError::CapturedLen`: the number of captured bytes, which the error names, is above 262,144.
+    /// - `BodyError::Len`: the body ends within the packet. `required_len` is 20 more than the number of captured bytes.
+    ///
+    /// <details><summary>Contract</summary>
+    ///
+    /// ```text
+    /// ensures packet { IfOk result (λ p. IsEnhancedPacket 4 (order_of byte_order) body.now (enhanced_packet_view p)) }
+    /// ensures refused { IfErr result (λ e. RefusesEnhancedPacket (order_of byte_order) body.now (body_refusal_view e)) }
+    /// ```
+    ///
+    /// </details>
+    #[inline]
+    pub fn from_body(byte_order: ByteOrder, body: &'a [u8]) -> Result<EnhancedPacket<'a>, BodyError> {
+        packet_of_body(byte_order, true, body)
+    }
+
+    /// Reads the body of a block of type [`PcapngBlock::PACKET`](crate::ether_pcap::PcapngBlock::PACKET), which is obsolete (appendix A): its
+    /// first four bytes are a number of two bytes for the interface, and the number of packets that were dropped before this one.
+    ///
+    /// # Errors
+    ///
+    /// Those of [`from_body`](Self::from_body).
+    ///
+    /// <details><summary>Contract</summary>
+    ///
+    /// ```text
+    /// ensures packet { IfOk result (λ p. IsEnhancedPacket 2 (order_of byte_order) body.now (enhanced_packet_view p)) }
+    /// ensures refused { IfErr result (λ e. RefusesEnhancedPacket (order_of byte_order) body.now (body_refusal_view e)) }
+    /// ```
+    ///
+    /// </details>
+    #[inline]
+    pub fn from_obsolete_body(
+        byte_order: ByteOrder,
+        body: &'a [u8],
+    ) -> Result<EnhancedPacket<'a>, BodyError> {
+        packet_of_body(byte_order, false, body)
+    }
+
+    /// How many zeros follow the packet in its block.
+    ///
+    /// <details><summary>Contract</summary>
+    ///
+    /// ```text
+    /// ensures { let n = length self.now.packet.now in result ≡ padded n - n }
+    /// ```
+    ///
+    /// </details>
+    #[inline]
+    pub fn padding_len(&self) -> usize {
+        (self.packet.len() + 3) / 4 * 4 - self.packet.len()
+    }
+
+    /// The length of the block, modulo 2^32.
+    #[inline]
+    fn block_len(&self) -> u32 {
+        let padded_len = (self.packet.len() + 3) / 4 * 4;
+        ((32 + padded_len % 0x1_0000_0000 + self.options.len() % 0x1_0000_0000)
+            % 0x1_0000_0000) as u32
+    }
+
+    /// The front of an enhanced packet block: its type and length, interface, time, captured and original length. The bytes of `packet`
+    /// follow, [`padding_len`](Self::padding_len) zeros, those of `options`, whose number should be a multiple of 4, and then
+    /// [`trailer_to_bytes`](Self::trailer_to_bytes).
+    ///
+    /// A packet of more than [`PcapRecord::MAX_CAPTURED_LEN`] bytes is not read back, nor a block of more than
+    /// [`PcapngBlock::MAX_LEN`](crate::ether_pcap::PcapngBlock::MAX_LEN); a length of 4 GiB or more is written modulo 2^32.
+    ///
+    /// ```
+    /// # use etherpeel::*;
+    /// # use etherpeel::ether_peel::*;
+    /// # use etherpeel::ether_sll2::*;
+    /// # use etherpeel::ether_packet::*;
+    /// # use etherpeel::ether_filter::*;
+    /// # use etherpeel::ether_pcap::*;
+    /// # use etherpeel::ether_pcap::pcapng::*;
+    /// let packet = EnhancedPacket {
+    ///     interface: 0,
+    ///     time: 4_294_967_298,
+    ///     original_len: 60,
+    ///     packet: &[0xFF, 0xFF],
+    ///     options: &[],
+    /// };
+    /// let header = [
+    ///     0x00, 0x00, 0x00, 0x06, 0x00, 0x00, 0x00, 0x24, 0x00, 0x00, 0x00, 0x00, //
+    ///     0x00, 0x00, 0x00, 0x01, 0x00, 0x00, 0x00, 0x02, 0x00, 0x00, 0x00, 0x02, 0x00, 0x00, 0x00, 0x3C, //
+    /// ];
+    /// assert_eq!(packet.header_to_bytes(ByteOrder::BigEndian), header);
+    /// assert_eq!(packet.padding_len(), 2);
+    /// assert_eq!(packet.trailer_to_bytes(ByteOrder::BigEndian), [0x00, 0x00, 0x00, 0x24]);
+    /// ```
+    ///
+    /// <details><summary>Contract</summary>
+    ///
+    /// ```text
+    /// ensures value { let order = order_of byte_order in let p = enhanced_packet_view self.now in
+    ///     result ≡ bytes_of order 4 6 ++ bytes_of order 4 (packet_block_len p) ++ packet_head order p }
+    /// ensures read_back { PacketIsRead (order_of byte_order) result (enhanced_packet_view self.now) }
+    /// ```
+    ///
+    /// </details>
+    #[inline]
+    pub fn header_to_bytes(&self, byte_order: ByteOrder) -> [u8; 28] {
+        seven_words(
+            four_words(
+                word(byte_order, PcapngBlock::ENHANCED_PACKET),
+                word(byte_order, self.block_len()),
+                word(byte_order, self.interface),
+                word(byte_order, (self.time / 0x1_0000_0000) as u32),
+            ),
+            word(byte_order, (self.time % 0x1_0000_0000) as u32),
+            len_word(byte_order, self.packet.len()),
+            word(byte_order, self.original_len),
+        )
+    }
+
+    /// The end of an enhanced packet block with this packet: its length.
+    ///
+    /// <details><summary>Contract</summary>
+    ///
+    /// ```text
+    /// ensures { result ≡ bytes_of (order_of byte_order) 4 (packet_block_len (enhanced_packet_view self.now)) }
+    /// ```
+    ///
+    /// </details>
+    #[inline]
+    pub fn trailer_to_bytes(&self, byte_order: ByteOrder) -> [u8; 4] {
+        word(byte_order, self.block_len())
+    }
+
+    /// The length in bytes of the frame check sequence at the end of the packet before it was cut, if the option with flags gives it.
+    ///
+    /// <details><summary>Contract</summary>
+    ///
+    /// ```text
+    /// ensures { (all : List OptionValue) → HasOptions (order_of byte_order) self.now.options.now all
+    ///     → result ≡ fcs_in_flags (number_of (order_of byte_order) 4 (value_of 2 all)) }
+    /// ```
+    ///
+    /// </details>
+    #[inline]
+    pub fn fcs_len(&self, byte_order: ByteOrder) -> Option<u8> {
+        let flags = u32_option(byte_order, self.options, FLAGS)?;
+        match (flags >> 5) % 16 {
+            0 => None,
+            len => Some(len as u8),
+        }
+    }
+}
+
+/// The packet in a body whose interface has four bytes if `is_enhanced`, and else two.
+#[inline]
+pub(crate) fn packet_of_body<'a>(
+    byte_order: ByteOrder,
+    is_enhanced: bool,
+    body: &'a [u8],
+) -> Result<EnhancedPacket<'a>, BodyError> {
+    if body.len() < 20 {
+        return Err(BodyError::Len {
+            required_len: 20,
+            len: body.len(),
+        });
+    }
+    let captured_len = byte_order.u32_at(body, 12);
+    if captured_len > PcapRecord::MAX_CAPTURED_LEN {
+        return Err(BodyError::CapturedLen(captured_len));
+    }
+    let end = 20 + captured_len as usize;
+    if body.len() < end {
+        return Err(BodyError::Len {
+            required_len: end,
+            len: body.len(),
+        });
+    }
+    let upper = u64::from(byte_order.u32_at(body, 4));
+    let lower = u64::from(byte_order.u32_at(body, 8));
+    Ok(EnhancedPacket {
+        interface: interface_number(byte_order, is_enhanced, body),
+        time: upper * 0x1_0000_0000 + lower,
+        original_len: byte_order.u32_at(body, 16),
+        packet: &body[20..end],
+        options: bytes_from(body, 20 + (captured_len as usize + 3) / 4 * 4),
+    })
+}
+
+/// The number at the front of a body: four bytes if `is_enhanced`, and else two.
+#[inline]
+fn interface_number(byte_order: ByteOrder, is_enhanced: bool, body: &[u8]) -> u32 {
+    if is_enhanced {
+        byte_order.u32_at(body, 0)
+    } else {
+        u32::from(byte_order.u16_at(body, 0))
+    }
+}

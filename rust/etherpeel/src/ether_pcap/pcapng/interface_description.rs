@@ -1,0 +1,238 @@
+//! The body of an interface description.
+
+use crate::ether_pcap::pcapng::pcapng_option::{option_value, u64_option};
+use crate::ether_pcap::words::{four_words, half_words, len_word, three_words, word};
+use crate::ether_pcap::{BodyError, ByteOrder, LinkType, PcapngBlock};
+
+/// The code of the option with the resolution of times, `if_tsresol`.
+const TIME_RESOLUTION: u16 = 9;
+
+/// The code of the option with the length of the frame check sequence, `if_fcslen`.
+const FCS_LEN: u16 = 13;
+
+/// The code of the option with the offset of times, `if_tsoffset`.
+const TIME_OFFSET: u16 = 14;
+
+/// A view of the body of an interface description (draft-ietf-opsawg-pcapng, section 4.2): on what packets were captured.
+///
+/// ```text
+///  0           2          4          8
+///  +-----------+----------+----------+-- ..
+///  | link type | reserved | snap len | options
+///  +-----------+----------+----------+-- ..
+/// ```
+///
+/// The interfaces of a section are counted from 0 in the order of their blocks.
+///
+/// ```
+/// # use etherpeel::*;
+/// # use etherpeel::ether_peel::*;
+/// # use etherpeel::ether_sll2::*;
+/// # use etherpeel::ether_packet::*;
+/// # use etherpeel::ether_filter::*;
+/// # use etherpeel::ether_pcap::*;
+/// # use etherpeel::ether_pcap::pcapng::*;
+/// # fn main() -> Result<(), Box<dyn std::error::Error>> {
+/// let body = [
+///     0x00, 0x01, 0x00, 0x00, 0x00, 0x04, 0x00, 0x00, // link type, snap length
+///     0x00, 0x0D, 0x00, 0x01, 0x04, 0x00, 0x00, 0x00, // if_fcslen
+/// ];
+/// let interface = InterfaceDescription::from_body(ByteOrder::BigEndian, &body)?;
+/// assert_eq!(interface.link_type, LinkType::ETHERNET);
+/// assert_eq!(interface.snap_len, 262_144);
+/// assert_eq!(interface.fcs_len(), Some(4));
+/// # Ok(())
+/// # }
+/// ```
+#[derive(Clone, Copy, PartialEq, Eq, Debug)]
+pub struct InterfaceDescription<'a> {
+    /// The byte order of its numbers and options.
+    pub byte_order: ByteOrder,
+    /// What each packet of the interface begins with.
+    pub link_type: LinkType,
+    /// The length in bytes to which longer packets were cut when they were captured; 0 if they weren't.
+    pub snap_len: u32,
+    /// The bytes of the options.
+    pub options: &'a [u8],
+}
+
+impl<'a> InterfaceDescription<'a> {
+    /// Reads the body of a block of type [`PcapngBlock::INTERFACE_DESCRIPTION`](crate::ether_pcap::PcapngBlock::INTERFACE_DESCRIPTION).
+    ///
+    /// # Errors
+    ///
+    /// `BodyError::Len` if the body has fewer than 8 bytes: `required_len` is 8, `len` the body's length.
+    #[inline]
+    pub fn from_body(
+        byte_order: ByteOrder,
+        body: &'a [u8],
+    ) -> Result<InterfaceDescription<'a>, BodyError> {
+        if body.len() < 8 {
+            return Err(BodyError::Len {
+                required_len: 8,
+                len: body.len(),
+            });
+        }
+        Ok(InterfaceDescription {
+            byte_order,
+            link_type: LinkType(byte_order.u16_at(body, 0)),
+            snap_len: byte_order.u32_at(body, 4),
+            options: &body[8..],
+        })
+    }
+
+    /// The front of the block that describes the interface: its type and length, link type and snap length. The bytes of `options` follow,
+    /// whose number should be a multiple of 4, and then [`trailer_to_bytes`](Self::trailer_to_bytes).
+    ///
+    /// A block of more than [`PcapngBlock::MAX_LEN`] bytes is not read back; the length of one of 4 GiB or more is written modulo 2^32.
+    ///
+    /// ```
+    /// # use etherpeel::*;
+    /// # use etherpeel::ether_peel::*;
+    /// # use etherpeel::ether_sll2::*;
+    /// # use etherpeel::ether_packet::*;
+    /// # use etherpeel::ether_filter::*;
+    /// # use etherpeel::ether_pcap::*;
+    /// # use etherpeel::ether_pcap::pcapng::*;
+    /// let options = InterfaceDescription::nanosecond_options(ByteOrder::BigEndian);
+    /// let interface = InterfaceDescription {
+    ///     byte_order: ByteOrder::BigEndian,
+    ///     link_type: LinkType::ETHERNET,
+    ///     snap_len: 262_144,
+    ///     options: &options,
+    /// };
+    /// let header = [
+    ///     0x00, 0x00, 0x00, 0x01, 0x00, 0x00, 0x00, 0x20, 0x00, 0x01, 0x00, 0x00, 0x00, 0x04, 0x00, 0x00, //
+    /// ];
+    /// assert_eq!(interface.header_to_bytes(), header);
+    /// assert_eq!(interface.trailer_to_bytes(), [0x00, 0x00, 0x00, 0x20]);
+    /// ```
+    ///
+    /// <details><summary>Contract</summary>
+    ///
+    /// ```text
+    /// ensures value { let order = order_of self.now.byte_order in let i = interface_view self.now in
+    ///     result ≡ bytes_of order 4 1 ++ bytes_of order 4 (interface_block_len i) ++ interface_head order i }
+    /// ensures read_back { InterfaceIsRead (order_of self.now.byte_order) result (interface_view self.now) }
+    /// ```
+    ///
+    /// </details>
+    #[inline]
+    pub fn header_to_bytes(&self) -> [u8; 16] {
+        four_words(
+            word(self.byte_order, PcapngBlock::INTERFACE_DESCRIPTION),
+            len_word(self.byte_order, 20 + self.options.len()),
+            half_words(self.byte_order, self.link_type.0, 0),
+            word(self.byte_order, self.snap_len),
+        )
+    }
+
+    /// The end of the block that describes the interface: its length.
+    ///
+    /// <details><summary>Contract</summary>
+    ///
+    /// ```text
+    /// ensures { result ≡ bytes_of (order_of self.now.byte_order) 4 (interface_block_len (interface_view self.now)) }
+    /// ```
+    ///
+    /// </details>
+    #[inline]
+    pub fn trailer_to_bytes(&self) -> [u8; 4] {
+        len_word(self.byte_order, 20 + self.options.len())
+    }
+
+    /// The bytes of the option `if_tsresol` that gives nanoseconds, and of the end of options.
+    ///
+    /// <details><summary>Contract</summary>
+    ///
+    /// ```text
+    /// ensures value { result ≡ nanosecond_bytes (order_of byte_order) }
+    /// ensures read_back { HasOptions (order_of byte_order) result (record { code = 9; value = 9 ∷ [] } ∷ []) }
+    /// ```
+    ///
+    /// </details>
+    #[inline]
+    pub fn nanosecond_options(byte_order: ByteOrder) -> [u8; 12] {
+        three_words(
+            half_words(byte_order, TIME_RESOLUTION, 1),
+            [9, 0, 0, 0],
+            half_words(byte_order, 0, 0),
+        )
+    }
+
+    /// The value of the first option with a code. Options are read up to the end of options or to one that is cut.
+    ///
+    /// <details><summary>Contract</summary>
+    ///
+    /// ```text
+    /// ensures { (all : List OptionValue) → HasOptions (order_of self.now.byte_order) self.now.options.now all
+    ///     → MatchOption result (value_of code all ≡ None) (λ value. value_of code all ≡ Some value.now) }
+    /// ```
+    ///
+    /// </details>
+    #[inline]
+    pub fn option(&self, code: u16) -> Option<&'a [u8]> {
+        option_value(self.byte_order, self.options, code)
+    }
+
+    /// The number in the option `if_fcslen` of one byte: the length of the frame check sequence at the end of each packet, in bits by
+    /// the description. Wireshark reads and writes it in bytes.
+    ///
+    /// <details><summary>Contract</summary>
+    ///
+    /// ```text
+    /// ensures { (all : List OptionValue) → HasOptions (order_of self.now.byte_order) self.now.options.now all
+    ///     → result ≡ byte_of (value_of 13 all) }
+    /// ```
+    ///
+    /// </details>
+    #[inline]
+    pub fn fcs_len(&self) -> Option<u8> {
+        byte_option(self.byte_order, self.options, FCS_LEN)
+    }
+
+    /// The number in the option `if_tsresol` of one byte, which gives the unit of the times of packets. If it is below 128, a
+    /// second has as many units as ten to the power of this number; else as two to the power of its seven lower bits.
+    ///
+    /// <details><summary>Contract</summary>
+    ///
+    /// ```text
+    /// ensures { (all : List OptionValue) → HasOptions (order_of self.now.byte_order) self.now.options.now all
+    ///     → result ≡ byte_of (value_of 9 all) }
+    /// ```
+    ///
+    /// </details>
+    #[inline]
+    pub fn time_resolution(&self) -> Option<u8> {
+        byte_option(self.byte_order, self.options, TIME_RESOLUTION)
+    }
+
+    /// The number in the option `if_tsoffset` of eight bytes: the seconds that are added to the times of packets, whose 64 bits are a
+    /// signed number.
+    ///
+    /// <details><summary>Contract</summary>
+    ///
+    /// ```text
+    /// ensures { (all : List OptionValue) → HasOptions (order_of self.now.byte_order) self.now.options.now all
+    ///     → result ≡ number_of (order_of self.now.byte_order) 8 (value_of 14 all) }
+    /// ```
+    ///
+    /// </details>
+    #[inline]
+    pub fn time_offset(&self) -> Option<u64> {
+        u64_option(self.byte_order, self.options, TIME_OFFSET)
+    }
+}
+
+/// The number in the first option with a code, if its value is one byte.
+#[inline]
+fn byte_option(byte_order: ByteOrder, options: &[u8], code: u16) -> Option<u8> {
+    let Some(value) = option_value(byte_order, options, code) else {
+        return None;
+    };
+    if value.len() == 1 {
+        Some(value[0])
+    } else {
+        None
+    }
+}

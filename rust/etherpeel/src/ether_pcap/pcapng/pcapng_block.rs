@@ -1,0 +1,127 @@
+//! A block of a pcapng file.
+
+use crate::ether_pcap::{BlockError, ByteOrder};
+
+/// A view of a block of a pcapng file (draft-ietf-opsawg-pcapng, section 3.1). A file is a list of them; those of unknown types
+/// are to be skipped.
+///
+/// ```text
+///  0      4          8                  n - 4      n
+///  +------+----------+-- .. --+---------+----------+
+///  | type | length n |  body  | padding | length n |
+///  +------+----------+-- .. --+---------+----------+
+/// ```
+///
+/// The padding, if there is any, is part of `body`: where it begins depends on the type of the block.
+///
+/// ```
+/// # use etherpeel::*;
+/// # use etherpeel::ether_peel::*;
+/// # use etherpeel::ether_sll2::*;
+/// # use etherpeel::ether_packet::*;
+/// # use etherpeel::ether_filter::*;
+/// # use etherpeel::ether_pcap::*;
+/// # use etherpeel::ether_pcap::pcapng::*;
+/// # fn main() -> Result<(), Box<dyn std::error::Error>> {
+/// let bytes = [
+///     0x00, 0x00, 0x00, 0x03, 0x00, 0x00, 0x00, 0x10, 0x00, 0x00, 0x00, 0x00, 0x00, 0x00, 0x00, 0x10, //
+/// ];
+/// let block = PcapngBlock::from_slice(ByteOrder::BigEndian, &bytes)?;
+/// assert_eq!(block.block_type, PcapngBlock::SIMPLE_PACKET);
+/// assert_eq!(block.body, [0x00, 0x00, 0x00, 0x00].as_slice());
+/// assert_eq!(block.block_len(), 16);
+/// # Ok(())
+/// # }
+/// ```
+#[derive(Clone, Copy, PartialEq, Eq, Debug)]
+pub struct PcapngBlock<'a> {
+    /// What the body is.
+    pub block_type: u32,
+    /// The bytes between the two lengths, a multiple of 4.
+    pub body: &'a [u8],
+}
+
+impl<'a> PcapngBlock<'a> {
+    /// The type of a section header, with which each file begins.
+    pub const SECTION_HEADER: u32 = 0x0A0D_0D0A;
+
+    /// The type of an interface description.
+    pub const INTERFACE_DESCRIPTION: u32 = 1;
+
+    /// The type of a packet block, which is obsolete.
+    pub const PACKET: u32 = 2;
+
+    /// The type of a simple packet.
+    pub const SIMPLE_PACKET: u32 = 3;
+
+    /// The type of an enhanced packet.
+    pub const ENHANCED_PACKET: u32 = 6;
+
+    /// The length in bytes of a block with an empty body.
+    pub const MIN_LEN: usize = 12;
+
+    /// The greatest length in bytes of a block that is read, 16 MiB, the limit that libpcap starts with. It has room for every packet
+    /// that is read.
+    pub const MAX_LEN: u32 = 16_777_216;
+
+    /// The block at the front of a slice. The order of the bytes is that of the section.
+    ///
+    /// # Errors
+    ///
+    /// The first of these that holds:
+    ///
+    /// - `BlockError::Len`: the slice has fewer than 12 bytes. `required_len` is 12, `len` the slice's length.
+    /// - `BlockError::TotalLen`: the block's length, which the error names, is below 12 or above 16 MiB, or no multiple of 4.
+    /// - `BlockError::Len`: the slice is shorter than the block. `required_len` is the block's length, `len` the slice's.
+    /// - `BlockError::Trailer`: the block ends with another length than it begins with. The error names both.
+    #[inline]
+    pub fn from_slice(byte_order: ByteOrder, slice: &'a [u8]) -> Result<PcapngBlock<'a>, BlockError> {
+        if slice.len() < PcapngBlock::MIN_LEN {
+            return Err(BlockError::Len {
+                required_len: PcapngBlock::MIN_LEN,
+                len: slice.len(),
+            });
+        }
+        let total_len = byte_order.u32_at(slice, 4);
+        if !is_total_len(total_len) {
+            return Err(BlockError::TotalLen(total_len));
+        }
+        let end = total_len as usize;
+        if slice.len() < end {
+            return Err(BlockError::Len {
+                required_len: end,
+                len: slice.len(),
+            });
+        }
+        let trailer = byte_order.u32_at(slice, end - 4);
+        if trailer != total_len {
+            return Err(BlockError::Trailer { total_len, trailer });
+        }
+        Ok(PcapngBlock {
+            block_type: byte_order.u32_at(slice, 0),
+            body: &slice[8..end - 4],
+        })
+    }
+
+    /// The length of the block in bytes: the next block begins there.
+    ///
+    /// <details><summary>Contract</summary>
+    ///
+    /// ```text
+    /// ensures { result ≡ 12 + length self.now.body.now }
+    /// ```
+    ///
+    /// </details>
+    #[inline]
+    pub fn block_len(&self) -> usize {
+        PcapngBlock::MIN_LEN + self.body.len()
+    }
+}
+
+/// Tests that a block can have this length.
+#[inline]
+fn is_total_len(total_len: u32) -> bool {
+    total_len >= PcapngBlock::MIN_LEN as u32
+        && total_len % 4 == 0
+        && total_len <= PcapngBlock::MAX_LEN
+}

@@ -1,0 +1,99 @@
+//! The options at the end of a block of a pcapng file.
+
+use crate::ether_pcap::ByteOrder;
+
+/// A view of an option of a block: its code and its value, without the padding.
+#[derive(Clone, Copy)]
+pub(crate) struct PcapngOption<'a> {
+    pub code: u16,
+    pub value: &'a [u8],
+}
+
+impl<'a> PcapngOption<'a> {
+    /// The option at the front of a slice. Returns `None` if the slice begins with the end of the options, or ends within an option.
+    ///
+    /// <details><summary>Contract</summary>
+    ///
+    /// ```text
+    /// ensures { MatchOption result
+    ///     ((o : OptionValue) → BeginsOption (order_of byte_order) slice.now o → ⊥)
+    ///     (λ o. BeginsOption (order_of byte_order) slice.now (option_view o)) }
+    /// ```
+    ///
+    /// </details>
+    #[inline]
+    pub fn first(byte_order: ByteOrder, slice: &'a [u8]) -> Option<PcapngOption<'a>> {
+        if slice.len() < 4 {
+            return None;
+        }
+        let code = byte_order.u16_at(slice, 0);
+        if code == 0 {
+            return None;
+        }
+        let end = 4 + usize::from(byte_order.u16_at(slice, 2));
+        if slice.len() < end {
+            return None;
+        }
+        Some(PcapngOption {
+            code,
+            value: &slice[4..end],
+        })
+    }
+
+    /// The length of the option in bytes, with its padding.
+    ///
+    /// <details><summary>Contract</summary>
+    ///
+    /// ```text
+    /// ensures { result ≡ 4 + padded (length self.now.value.now) }
+    /// ```
+    ///
+    /// </details>
+    #[inline]
+    pub fn option_len(&self) -> usize {
+        4 + (self.value.len() + 3) / 4 * 4
+    }
+}
+
+/// The bytes from a place on, none if there are fewer.
+#[inline]
+pub(crate) fn bytes_from(bytes: &[u8], place: usize) -> &[u8] {
+    if bytes.len() < place {
+        &bytes[bytes.len()..]
+    } else {
+        &bytes[place..]
+    }
+}
+
+/// The value of the first option with a code.
+#[inline]
+pub(crate) fn option_value(byte_order: ByteOrder, options: &[u8], code: u16) -> Option<&[u8]> {
+    let mut rest = options;
+    while let Some(option) = PcapngOption::first(byte_order, rest) {
+        if option.code == code {
+            return Some(option.value);
+        }
+        rest = bytes_from(rest, option.option_len());
+    }
+    None
+}
+
+/// The number in the first option with a code, if its value is four bytes.
+#[inline]
+pub(crate) fn u32_option(byte_order: ByteOrder, options: &[u8], code: u16) -> Option<u32> {
+    match option_value(byte_order, options, code) {
+        Some([a, b, c, d]) => Some(byte_order.u32_of([*a, *b, *c, *d])),
+        _ => None,
+    }
+}
+
+/// The number in the first option with a code, if its value is eight bytes.
+#[inline]
+pub(crate) fn u64_option(byte_order: ByteOrder, options: &[u8], code: u16) -> Option<u64> {
+    match option_value(byte_order, options, code) {
+        Some([a, b, c, d, e, f, g, h]) => {
+            Some(byte_order.u64_of([*a, *b, *c, *d, *e, *f, *g, *h]))
+        }
+        _ => None,
+    }
+}

@@ -1,0 +1,85 @@
+//! Why a slice does not begin with a section header.
+
+use crate::ether_pcap::BlockError;
+use crate::ether_pcap::hex_digits::EightDigits;
+use core::error::Error;
+use core::fmt;
+
+/// Why a slice does not begin with the section header of a pcapng file.
+///
+/// ```
+/// # use etherpeel::*;
+/// # use etherpeel::ether_peel::*;
+/// # use etherpeel::ether_sll2::*;
+/// # use etherpeel::ether_packet::*;
+/// # use etherpeel::ether_filter::*;
+/// # use etherpeel::ether_pcap::*;
+/// # use etherpeel::ether_pcap::pcapng::*;
+/// assert_eq!(
+///     format!("{}", SectionError::Magic(0x1A2B_3C4E)).as_str(),
+///     "The byte-order magic 0x1A2B3C4E is not that of a pcapng file."
+/// );
+/// ```
+#[derive(Clone, Copy, PartialEq, Eq, Debug)]
+pub enum SectionError {
+    /// The slice is too short for a type, a length and a byte-order magic.
+    Len {
+        /// The length of the three, 12 bytes.
+        required_len: usize,
+        /// The length of the slice.
+        len: usize,
+    },
+    /// The type of the block, as a number whose first byte is the most significant one.
+    BlockType(u32),
+    /// The byte-order magic, as a number whose first byte is the most significant one.
+    Magic(u32),
+    /// The slice does not begin with a block.
+    Block(BlockError),
+    /// The body is too short for its fields.
+    Body {
+        /// The length of the fields, 16 bytes.
+        required_len: usize,
+        /// The length of the body.
+        len: usize,
+    },
+    /// The version of the format is neither 1.0 nor 1.2.
+    Version {
+        /// The number before the point.
+        major: u16,
+        /// The number after the point.
+        minor: u16,
+    },
+}
+
+impl fmt::Display for SectionError {
+    fn fmt(&self, f: &mut fmt::Formatter<'_>) -> fmt::Result {
+        match self {
+            SectionError::Len { required_len, len } => write!(
+                f,
+                "A section header needs {required_len} byte(s); only {len} are available."
+            ),
+            SectionError::BlockType(number) => {
+                let digits = EightDigits(*number);
+                write!(f, "A block of type 0x{digits} is no section header.")
+            }
+            SectionError::Magic(number) => {
+                let digits = EightDigits(*number);
+                write!(
+                    f,
+                    "The byte-order magic 0x{digits} is not that of a pcapng file."
+                )
+            }
+            SectionError::Block(error) => error.fmt(f),
+            SectionError::Body { required_len, len } => write!(
+                f,
+                "The body of a section header needs {required_len} byte(s); it has {len}."
+            ),
+            SectionError::Version { major, minor } => write!(
+                f,
+                "Version {major}.{minor} of the pcapng format is not supported."
+            ),
+        }
+    }
+}
+
+impl Error for SectionError {}

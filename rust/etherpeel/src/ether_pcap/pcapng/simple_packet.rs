@@ -1,0 +1,82 @@
+//! The body of a simple packet.
+
+use crate::ether_pcap::{BodyError, ByteOrder, PcapRecord};
+
+/// A view of the body of a simple packet (draft-ietf-opsawg-pcapng, section 4.4): a packet with no time, captured on the first
+/// interface of its section.
+///
+/// ```
+/// # use etherpeel::*;
+/// # use etherpeel::ether_peel::*;
+/// # use etherpeel::ether_sll2::*;
+/// # use etherpeel::ether_packet::*;
+/// # use etherpeel::ether_filter::*;
+/// # use etherpeel::ether_pcap::*;
+/// # use etherpeel::ether_pcap::pcapng::*;
+/// # fn main() -> Result<(), Box<dyn std::error::Error>> {
+/// let body = [0x00, 0x00, 0x00, 0x3C, 0xFF, 0xFF, 0x00, 0x00];
+/// let packet = SimplePacket::from_body(ByteOrder::BigEndian, 2, &body)?;
+/// assert_eq!(packet.original_len, 60);
+/// assert_eq!(packet.packet, [0xFF, 0xFF].as_slice());
+/// # Ok(())
+/// # }
+/// ```
+#[derive(Clone, Copy, PartialEq, Eq, Debug)]
+pub struct SimplePacket<'a> {
+    /// How many bytes the packet had before it was cut.
+    pub original_len: u32,
+    /// The bytes that were captured of the packet.
+    pub packet: &'a [u8],
+}
+
+impl<'a> SimplePacket<'a> {
+    /// Reads the body of a block of type [`PcapngBlock::SIMPLE_PACKET`](crate::ether_pcap::PcapngBlock::SIMPLE_PACKET), in a section whose first
+    /// interface has this snap length, 0 for none. It says how many bytes were captured: the packet's length if that is less.
+    ///
+    /// # Errors
+    ///
+    /// The first of these that holds:
+    ///
+    /// - `BodyError::Len`: the body has fewer than 4 bytes. `required_len` is 4, `len` the body's length.
+    /// - `BodyError::CapturedLen`: the number of captured bytes, which the error names, is above 262,144.
+    /// - `BodyError::Len`: the body ends within the packet. `required_len` is 4 more than the number of captured bytes.
+    #[inline]
+    pub fn from_body(
+        byte_order: ByteOrder,
+        snap_len: u32,
+        body: &'a [u8],
+    ) -> Result<SimplePacket<'a>, BodyError> {
+        if body.len() < 4 {
+            return Err(BodyError::Len {
+                required_len: 4,
+                len: body.len(),
+            });
+        }
+        let original_len = byte_order.u32_at(body, 0);
+        let captured_len = captured_len(snap_len, original_len);
+        if captured_len > PcapRecord::MAX_CAPTURED_LEN {
+            return Err(BodyError::CapturedLen(captured_len));
+        }
+        let end = 4 + captured_len as usize;
+        if body.len() < end {
+            return Err(BodyError::Len {
+                required_len: end,
+                len: body.len(),
+            });
+        }
+        Ok(SimplePacket {
+            original_len,
+            packet: &body[4..end],
+        })
+    }
+}
+
+/// How many bytes of a packet are captured with a snap length, where 0 is none.
+#[inline]
+pub(crate) fn captured_len(snap_len: u32, original_len: u32) -> u32 {
+    if snap_len == 0 {
+        original_len
+    } else {
+        snap_len.min(original_len)
+    }
+}

@@ -1,0 +1,115 @@
+//! A walk that receives a frame piece by piece, and no byte that it did not ask for.
+
+use crate::ether_peel::{Feed, Peel, PeelError, PeelFault, Start};
+
+/// Walks through a frame as a reader of a stream does, which asks for exactly the bytes that the walk needs next.
+///
+/// It begins with no bytes. While the walk stops at a unit that needs more bytes, in a window that is open, and the frame has
+/// them, it is given as many as the unit needs at least. The walk goes on from that unit, so that the time is linear in the
+/// number of units.
+///
+/// Of an accepted frame without a frame check sequence it takes all units and no byte more: not the payload of the last
+/// header, unless a SecTag names its length. In a frame with a check sequence every window is closed, so that nothing is
+/// asked for.
+///
+/// ```
+/// # use etherpeel::*;
+/// # use etherpeel::ether_peel::*;
+/// let frame = [
+///     0xFF, 0xFF, 0xFF, 0xFF, 0xFF, 0xFF, 0x02, 0x00, 0x00, 0x00, 0x00, 0x01, 0x81, 0x00, // Ethernet II
+///     0xB1, 0x23, 0x08, 0x00, // VLAN
+///     0x45,
+/// ];
+/// let fed = feed(Start::Ethernet2, &frame);
+/// assert_eq!(fed.refusals, 2); // 14 bytes were asked for, then 18
+/// assert_eq!(fed.taken, 18);
+/// assert_eq!(fed.fault, None);
+/// ```
+///
+/// <details><summary>Contract</summary>
+///
+/// ```text
+/// ensures { IsFeed (start_of start) bytes.now result }
+/// ```
+///
+/// </details>
+#[inline]
+pub fn feed(start: Start, bytes: &[u8]) -> Feed {
+    fed(start, bytes, None)
+}
+
+/// Walks through a frame as [`feed`] does, but reads no more than `limit` VLAN tags and MACsec SecTags, as the walk of
+/// [`Peel::with_limit`] does.
+///
+/// So it asks for no byte of the tags that it does not read.
+///
+/// ```
+/// # use etherpeel::*;
+/// # use etherpeel::ether_peel::*;
+/// let frame = [
+///     0xFF, 0xFF, 0xFF, 0xFF, 0xFF, 0xFF, 0x02, 0x00, 0x00, 0x00, 0x00, 0x01, 0x81, 0x00, // Ethernet II
+///     0xB1, 0x23, 0x08, 0x00, // VLAN
+///     0x45,
+/// ];
+/// let fed = feed_limited(Start::Ethernet2, &frame, 0);
+/// assert_eq!(fed.refusals, 1);
+/// assert_eq!(fed.taken, 14);
+/// assert_eq!(fed.fault, None);
+/// ```
+///
+/// <details><summary>Contract</summary>
+///
+/// ```text
+/// ensures { IsFeed (limited_start start limit) bytes.now result }
+/// ```
+///
+/// </details>
+#[inline]
+pub fn feed_limited(start: Start, bytes: &[u8], limit: usize) -> Feed {
+    fed(start, bytes, Some(limit))
+}
+
+/// Feeds a walk with a limit on extensions or without.
+#[inline(always)]
+fn fed(start: Start, bytes: &[u8], limit: Option<usize>) -> Feed {
+    let mut peel = Peel::begin(start, &bytes[..0], limit);
+    let mut refusals = 0;
+    let mut taken = 0;
+    loop {
+        match peel.next() {
+            Some(Ok(_)) => (),
+            Some(Err(fault)) => match asked_of(&fault, bytes.len()) {
+                Some(length) => {
+                    peel.go_on(&bytes[..length]);
+                    refusals += 1;
+                    taken = length;
+                }
+                None => {
+                    return Feed {
+                        refusals,
+                        taken,
+                        fault: Some(fault),
+                    };
+                }
+            },
+            None => {
+                return Feed {
+                    refusals,
+                    taken,
+                    fault: None,
+                };
+            }
+        }
+    }
+}
+
+/// The length that a fault names, if it asks for more bytes and a frame of `len` bytes has them.
+#[inline(always)]
+fn asked_of(fault: &PeelFault, len: usize) -> Option<usize> {
+    match &fault.error {
+        PeelError::Len(error) if !fault.closed && error.required_len <= len - fault.offset => {
+            Some(fault.offset + error.required_len)
+        }
+        _ => None,
+    }
+}

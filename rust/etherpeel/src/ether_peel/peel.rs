@@ -1,0 +1,403 @@
+//! The walk through a frame.
+
+use crate::ether_peel::{PeelError, PeelFault, PeelUnit, RestKind, Start};
+use crate::err::LenError;
+use crate::{
+    ArpPacketSlice, EtherType, Ethernet2Slice, LenSource, LinuxSllProtocolType, LinuxSllSlice,
+    MacsecPayloadSlice, MacsecSlice, SingleVlanSlice, err,
+};
+
+/// An ether type that announces nothing.
+const UNANNOUNCED: EtherType = EtherType(0);
+
+/// The header that a walk begins with, until it was read.
+#[derive(Clone, Copy, Debug)]
+enum First {
+    Read,
+    Ethernet2,
+    Ethernet2Fcs,
+    LinuxSll,
+}
+
+/// A walk: the units of a frame, each in the payload of the one before it, and then the fault if there is one.
+///
+/// The units borrow the frame, and outlive the walk. A frame of `n` bytes has at most `n / 4` units.
+///
+/// ```
+/// # use etherpeel::*;
+/// # use etherpeel::ether_peel::*;
+/// let frame = [
+///     0xFF, 0xFF, 0xFF, 0xFF, 0xFF, 0xFF, 0x02, 0x00, 0x00, 0x00, 0x00, 0x01, 0x81, 0x00, // Ethernet II
+///     0xB1, 0x23, 0x08, 0x00, // VLAN
+///     0x45,
+/// ];
+/// let mut found = false;
+/// let mut peel = Peel::new(Start::Ethernet2, &frame);
+/// while let Some(Ok(unit)) = peel.next() {
+///     if let PeelUnit::Vlan(tag) = unit {
+///         found = true;
+///         assert_eq!(tag.vlan_identifier().value(), 0x123);
+///     }
+/// }
+/// assert!(found);
+/// assert_eq!(peel.offset(), 18);
+/// assert_eq!(peel.rest(), [0x45].as_slice());
+/// assert_eq!(peel.kind(), RestKind::EtherType(EtherType::IPV4));
+/// ```
+#[derive(Debug)]
+pub struct Peel<'a> {
+    frame: &'a [u8],
+    /// Where the window left to read begins and ends in the frame.
+    start: usize,
+    end: usize,
+    /// Whether bytes after the window would not belong to it.
+    is_closed: bool,
+    /// Whether the fault was returned.
+    is_over: bool,
+    /// What names the end of the window.
+    bound: LenSource,
+    first: First,
+    /// The ether type that announces the next unit, once the first header was read.
+    announced: EtherType,
+    /// What [`Peel::kind`] shows, which need not be an ether type.
+    kind: RestKind,
+    /// How many VLAN tags and SecTags may still be read, if that is limited.
+    limit: Option<usize>,
+}
+
+impl<'a> Peel<'a> {
+    /// A walk that has read nothing yet.
+    #[inline(always)]
+    pub fn new(start: Start, bytes: &'a [u8]) -> Peel<'a> {
+        Peel::begin(start, bytes, None)
+    }
+
+    /// A walk that has read nothing yet, and that reads no more than `limit` VLAN tags and MACsec SecTags.
+    ///
+    /// After these an ether type of a VLAN tag or of MACsec announces nothing: the walk ends there, with no fault, and
+    /// [`kind`](Self::kind) is that ether type. ARP packets and the header that the frame begins with don't count, but the
+    /// unit that [`Start::EtherType`] announces does.
+    ///
+    /// ```
+    /// # use etherpeel::*;
+    /// # use etherpeel::ether_peel::*;
+    /// let tags = [
+    ///     0x00, 0x01, 0x81, 0x00, // VLAN
+    ///     0x00, 0x02, 0x08, 0x00, // VLAN
+    ///     0x45,
+    /// ];
+    /// let mut peel = Peel::with_limit(Start::EtherType(EtherType::PROVIDER_BRIDGING), &tags, 1);
+    /// assert!(matches!(peel.next(), Some(Ok(PeelUnit::Vlan(_)))));
+    /// assert!(peel.next().is_none());
+    /// assert_eq!(peel.offset(), 4);
+    /// assert_eq!(peel.kind(), RestKind::EtherType(EtherType::VLAN_TAGGED_FRAME));
+    /// ```
+    #[inline(always)]
+    pub fn with_limit(start: Start, bytes: &'a [u8], limit: usize) -> Peel<'a> {
+        Peel::begin(start, bytes, Some(limit))
+    }
+
+    /// A walk that has read nothing yet, with a limit or without.
+    #[inline(always)]
+    pub(crate) fn begin(start: Start, bytes: &'a [u8], limit: Option<usize>) -> Peel<'a> {
+        let (first, announced, kind) = match start {
+            Start::Ethernet2 => (First::Ethernet2, UNANNOUNCED, RestKind::Start),
+            Start::Ethernet2Fcs => (First::Ethernet2Fcs, UNANNOUNCED, RestKind::Start),
+            Start::LinuxSll => (First::LinuxSll, UNANNOUNCED, RestKind::Start),
+            Start::EtherType(ether_type) => {
+                (First::Read, ether_type, RestKind::EtherType(ether_type))
+            }
+        };
+        Peel {
+            frame: bytes,
+            start: 0,
+            end: bytes.len(),
+            is_closed: matches!(start, Start::Ethernet2Fcs),
+            is_over: false,
+            bound: LenSource::Slice,
+            first,
+            announced,
+            kind,
+            limit,
+        }
+    }
+
+    /// The bytes of the window left to read: after a fault, of the window in which it came.
+    #[inline(always)]
+    pub fn rest(&self) -> &'a [u8] {
+        &self.frame[self.start..self.end]
+    }
+
+    /// Where the window left to read starts, in bytes from the start of the frame.
+    #[inline(always)]
+    pub fn offset(&self) -> usize {
+        self.start
+    }
+
+    /// What the window left to read is announced as: after a fault, what was expected there.
+    #[inline(always)]
+    pub fn kind(&self) -> RestKind {
+        self.kind
+    }
+
+    /// Whether the window left to read is closed: bytes that follow the frame would not belong to it.
+    #[inline(always)]
+    pub fn closed(&self) -> bool {
+        self.is_closed
+    }
+
+    /// What bounds the window left to read: the frame, or the short length of a SecTag around the window.
+    ///
+    /// A length error of the walk names it as the source of the length, unless the unit itself names its length. A frame check sequence
+    /// closes a window, but does not bound it.
+    #[inline(always)]
+    pub fn bound(&self) -> LenSource {
+        self.bound
+    }
+}
+
+impl<'a> Iterator for Peel<'a> {
+    type Item = Result<PeelUnit<'a>, PeelFault>;
+
+    /// The next unit, the fault that ends the walk, or `None` if nothing is left to read or the fault was returned.
+    #[inline(always)]
+    fn next(&mut self) -> Option<Result<PeelUnit<'a>, PeelFault>> {
+        if self.is_over {
+            return None;
+        }
+        match self.first {
+            First::Read => match permitted(self.limit, self.announced) {
+                EtherType::VLAN_TAGGED_FRAME
+                | EtherType::PROVIDER_BRIDGING
+                | EtherType::VLAN_DOUBLE_TAGGED_FRAME => self.vlan(),
+                EtherType::MACSEC => self.macsec(),
+                EtherType::ARP => self.arp(),
+                _ => None,
+            },
+            First::Ethernet2 => self.ethernet2(),
+            First::Ethernet2Fcs => self.ethernet2_fcs(),
+            First::LinuxSll => self.linux_sll(),
+        }
+    }
+}
+
+/// The steps of a walk that is not over, one for each kind of unit that can be announced.
+impl<'a> Peel<'a> {
+    /// Goes on after the fault, in a longer front of the frame.
+    #[inline(always)]
+    pub(crate) fn go_on(&mut self, bytes: &'a [u8]) {
+        self.frame = bytes;
+        self.end = bytes.len();
+        self.is_over = false;
+    }
+
+    /// Ends the walk at the unit that is announced.
+    #[inline(always)]
+    fn fault(&mut self, error: PeelError) -> Option<Result<PeelUnit<'a>, PeelFault>> {
+        self.is_over = true;
+        Some(Err(PeelFault {
+            offset: self.start,
+            error: bounded(error, self.bound),
+            closed: self.is_closed,
+        }))
+    }
+
+    /// Reads an Ethernet II frame.
+    #[inline(always)]
+    fn ethernet2(&mut self) -> Option<Result<PeelUnit<'a>, PeelFault>> {
+        let bytes = &self.frame[self.start..self.end];
+        match Ethernet2Slice::from_slice_without_fcs(bytes) {
+            Ok(slice) => {
+                let ether_type = slice.ether_type();
+                self.start += slice.header_len();
+                self.first = First::Read;
+                self.announced = ether_type;
+                self.kind = RestKind::EtherType(ether_type);
+                Some(Ok(PeelUnit::Ethernet2(slice)))
+            }
+            Err(error) => self.fault(PeelError::Len(error.add_offset(self.start))),
+        }
+    }
+
+    /// Reads an Ethernet II frame with a frame check sequence.
+    #[inline(always)]
+    fn ethernet2_fcs(&mut self) -> Option<Result<PeelUnit<'a>, PeelFault>> {
+        let bytes = &self.frame[self.start..self.end];
+        match Ethernet2Slice::from_slice_with_crc32_fcs(bytes) {
+            Ok(slice) => {
+                let ether_type = slice.ether_type();
+                self.start += slice.header_len();
+                self.end = self.start + slice.payload_slice().len();
+                self.first = First::Read;
+                self.announced = ether_type;
+                self.kind = RestKind::EtherType(ether_type);
+                Some(Ok(PeelUnit::Ethernet2(slice)))
+            }
+            Err(error) => self.fault(PeelError::Len(error.add_offset(self.start))),
+        }
+    }
+
+    /// Reads a packet of Linux cooked capture v1.
+    #[inline(always)]
+    fn linux_sll(&mut self) -> Option<Result<PeelUnit<'a>, PeelFault>> {
+        let bytes = &self.frame[self.start..self.end];
+        match LinuxSllSlice::from_slice(bytes) {
+            Ok(slice) => {
+                let (announced, kind) = announced_in(&slice);
+                self.start += slice.header_len();
+                self.first = First::Read;
+                self.announced = announced;
+                self.kind = kind;
+                Some(Ok(PeelUnit::LinuxSll(slice)))
+            }
+            Err(err::linux_sll::HeaderSliceError::Len(error)) => {
+                self.fault(PeelError::Len(error.add_offset(self.start)))
+            }
+            Err(err::linux_sll::HeaderSliceError::Content(error)) => {
+                self.fault(PeelError::LinuxSll(error))
+            }
+        }
+    }
+
+    /// Reads a VLAN tag.
+    #[inline(always)]
+    fn vlan(&mut self) -> Option<Result<PeelUnit<'a>, PeelFault>> {
+        let bytes = &self.frame[self.start..self.end];
+        match SingleVlanSlice::from_slice(bytes) {
+            Ok(slice) => {
+                let ether_type = slice.ether_type();
+                self.start += slice.header_len();
+                self.first = First::Read;
+                self.limit = lowered(self.limit);
+                self.announced = ether_type;
+                self.kind = RestKind::EtherType(ether_type);
+                Some(Ok(PeelUnit::Vlan(slice)))
+            }
+            Err(error) => self.fault(PeelError::Len(error.add_offset(self.start))),
+        }
+    }
+
+    /// Reads a MACsec SecTag and its payload.
+    #[inline(always)]
+    fn macsec(&mut self) -> Option<Result<PeelUnit<'a>, PeelFault>> {
+        let bytes = &self.frame[self.start..self.end];
+        match MacsecSlice::from_slice(bytes) {
+            Ok(slice) => {
+                let (announced, kind) = announced_after(slice.payload);
+                self.start += slice.header.header_len();
+                self.end = self.start + payload_bytes(slice.payload).len();
+                let known = slice.header.expected_payload_len();
+                self.is_closed |= known.is_some();
+                self.bound = bound_after(known, self.bound);
+                self.first = First::Read;
+                self.limit = lowered(self.limit);
+                self.announced = announced;
+                self.kind = kind;
+                Some(Ok(PeelUnit::Macsec(slice)))
+            }
+            Err(err::macsec::HeaderSliceError::Len(error)) => {
+                self.fault(PeelError::Len(error.add_offset(self.start)))
+            }
+            Err(err::macsec::HeaderSliceError::Content(error)) => {
+                self.fault(PeelError::Macsec(error))
+            }
+        }
+    }
+
+    /// Reads an ARP packet.
+    #[inline(always)]
+    fn arp(&mut self) -> Option<Result<PeelUnit<'a>, PeelFault>> {
+        let bytes = &self.frame[self.start..self.end];
+        match ArpPacketSlice::from_slice(bytes) {
+            Ok(slice) => {
+                self.start += slice.slice().len();
+                self.first = First::Read;
+                self.announced = UNANNOUNCED;
+                self.kind = RestKind::AfterArp;
+                Some(Ok(PeelUnit::Arp(slice)))
+            }
+            Err(error) => self.fault(PeelError::Len(error.add_offset(self.start))),
+        }
+    }
+}
+
+/// How many extensions may still be read after one more, if that is limited.
+#[inline(always)]
+fn lowered(limit: Option<usize>) -> Option<usize> {
+    match limit {
+        Some(left) => Some(left.saturating_sub(1)),
+        None => None,
+    }
+}
+
+/// The ether type, or one that announces nothing if it announces an extension and none may be read any more.
+#[inline(always)]
+fn permitted(limit: Option<usize>, ether_type: EtherType) -> EtherType {
+    match (limit, ether_type) {
+        (
+            Some(0),
+            EtherType::VLAN_TAGGED_FRAME
+            | EtherType::PROVIDER_BRIDGING
+            | EtherType::VLAN_DOUBLE_TAGGED_FRAME
+            | EtherType::MACSEC,
+        ) => UNANNOUNCED,
+        _ => ether_type,
+    }
+}
+
+/// The error, with the bound of the window in place of the slice that the unit was read from.
+#[inline(always)]
+fn bounded(error: PeelError, bound: LenSource) -> PeelError {
+    match error {
+        PeelError::Len(error) if matches!(error.len_source, LenSource::Slice) => {
+            PeelError::Len(LenError {
+                len_source: bound,
+                ..error
+            })
+        }
+        _ => error,
+    }
+}
+
+/// The ether type that announces the payload of a cooked capture, and what is shown of it.
+#[inline(always)]
+fn announced_in(packet: &LinuxSllSlice<'_>) -> (EtherType, RestKind) {
+    let protocol_type = packet.protocol_type();
+    match protocol_type {
+        LinuxSllProtocolType::EtherType(_) | LinuxSllProtocolType::LinuxNonstandardEtherType(_) => {
+            let ether_type = EtherType(u16::from(protocol_type));
+            (ether_type, RestKind::EtherType(ether_type))
+        }
+        _ => (UNANNOUNCED, RestKind::Sll(protocol_type)),
+    }
+}
+
+/// The ether type that announces the payload of a SecTag, and what is shown of it.
+#[inline(always)]
+fn announced_after(payload: MacsecPayloadSlice<'_>) -> (EtherType, RestKind) {
+    match payload {
+        MacsecPayloadSlice::Unmodified(payload) => (
+            payload.ether_type,
+            RestKind::EtherType(payload.ether_type),
+        ),
+        MacsecPayloadSlice::Modified(_) => (UNANNOUNCED, RestKind::Sealed),
+    }
+}
+
+/// The bound of the payload of a SecTag, whose length the tag names or not.
+#[inline(always)]
+fn bound_after(known: Option<usize>, bound: LenSource) -> LenSource {
+    match known {
+        Some(_) => LenSource::MacsecShortLength,
+        None => bound,
+    }
+}
+
+/// The bytes of a payload of a SecTag.
+#[inline(always)]
+fn payload_bytes<'a>(payload: MacsecPayloadSlice<'a>) -> &'a [u8] {
+    match payload {
+        MacsecPayloadSlice::Unmodified(payload) => payload.payload,
+        MacsecPayloadSlice::Modified(payload) => payload,
+    }
+}

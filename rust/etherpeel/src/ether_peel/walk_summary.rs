@@ -1,0 +1,17 @@
+//! The result of a whole walk.
+use crate::ether_peel::{PeelFault, RestKind};
+
+/// The result of the walk through a frame.
+#[derive(Clone, Copy, PartialEq, Eq, Debug)]
+pub struct Summary {
+    /// The number of units.
+    pub units: usize,
+    /// Where the window that is left starts, in bytes from the start of the frame.
+    pub rest_start: usize,
+    /// Where it ends.
+    pub rest_end: usize,
+    /// What it is announced as: after a fault, what was expected there.
+    pub kind: RestKind,
+    /// The unit that is refused, if one is.
+    pub fault: Option<PeelFault>,
+}

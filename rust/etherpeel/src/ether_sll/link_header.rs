@@ -1,0 +1,114 @@
+//! The header of a link of either kind, as a value.
+
+use crate::ether_sll::LinuxSllHeader;
+use crate::ether_tags::Ethernet2Header;
+
+/// A link header: of Linux cooked capture v1, or of an Ethernet II frame.
+///
+/// ```
+/// # use etherpeel::*;
+/// let mut link = LinkHeader::Ethernet2(Ethernet2Header::default());
+/// if let Some(header) = link.mut_ethernet2() {
+///     header.ether_type = EtherType::IPV4;
+/// }
+/// assert_eq!(link.header_len(), 14);
+/// assert_eq!(link.linux_sll(), None);
+/// ```
+#[derive(Clone, Copy, PartialEq, Eq, Debug)]
+pub enum LinkHeader {
+    /// A header of Linux cooked capture v1.
+    LinuxSll(LinuxSllHeader),
+    /// An Ethernet II header.
+    Ethernet2(Ethernet2Header),
+}
+
+impl LinkHeader {
+    /// The Ethernet II header; `None` of cooked capture.
+    ///
+    /// <details><summary>Contract</summary>
+    ///
+    /// ```text
+    /// ensures { result ≡ ethernet2_header self }
+    /// ```
+    ///
+    /// </details>
+    #[inline]
+    pub fn ethernet2(self) -> Option<Ethernet2Header> {
+        match self {
+            LinkHeader::Ethernet2(frame) => Some(frame),
+            LinkHeader::LinuxSll(_) => None,
+        }
+    }
+
+    /// The Ethernet II header, lent for writing; `None` of cooked capture.
+    ///
+    /// <details><summary>Contract</summary>
+    ///
+    /// ```text
+    /// ensures* writes_back { sem 𝓛 (LendsEthernet2 self.entry result) }
+    /// ensures value { option_copied_mut result ≡ ethernet2_header self.old }
+    /// ```
+    ///
+    /// </details>
+    #[inline]
+    pub fn mut_ethernet2(&mut self) -> Option<&mut Ethernet2Header> {
+        if let LinkHeader::Ethernet2(header) = self {
+            Some(header)
+        } else {
+            None
+        }
+    }
+
+    /// The header of cooked capture; `None` of an Ethernet II header.
+    ///
+    /// <details><summary>Contract</summary>
+    ///
+    /// ```text
+    /// ensures { result ≡ linux_sll_header self }
+    /// ```
+    ///
+    /// </details>
+    #[inline]
+    pub fn linux_sll(self) -> Option<LinuxSllHeader> {
+        match self {
+            LinkHeader::LinuxSll(capture) => Some(capture),
+            LinkHeader::Ethernet2(_) => None,
+        }
+    }
+
+    /// The header of cooked capture, lent for writing; `None` of an Ethernet II header.
+    ///
+    /// <details><summary>Contract</summary>
+    ///
+    /// ```text
+    /// ensures* writes_back { sem 𝓛 (LendsLinuxSll self.entry result) }
+    /// ensures value { option_copied_mut result ≡ linux_sll_header self.old }
+    /// ```
+    ///
+    /// </details>
+    #[inline]
+    pub fn mut_linux_sll(&mut self) -> Option<&mut LinuxSllHeader> {
+        if let LinkHeader::LinuxSll(header) = self {
+            Some(header)
+        } else {
+            None
+        }
+    }
+
+    /// The length of the header in bytes: 14 of Ethernet II, 16 of cooked capture.
+    ///
+    /// <details><summary>Contract</summary>
+    ///
+    /// ```text
+    /// ensures { result ≡ link_header_len self.now }
+    /// ```
+    ///
+    /// </details>
+    #[inline]
+    pub fn header_len(&self) -> usize {
+        match self {
+            LinkHeader::LinuxSll(_) => LinuxSllHeader::LEN,
+            LinkHeader::Ethernet2(_) => Ethernet2Header::LEN,
+        }
+    }
+}

@@ -1,0 +1,195 @@
+//! A view of a header of Linux cooked capture.
+
+use crate::ether_sll::{LinuxSllHeader, linux_sll_fields};
+use crate::ether_base::err::linux_sll::HeaderSliceError;
+use crate::ether_base::{ArpHardwareId, LinuxSllPacketType, LinuxSllProtocolType};
+
+/// A view of a header of Linux cooked capture v1 (LINKTYPE_LINUX_SLL), which borrows its 16 bytes from a packet
+/// ([`LinuxSllHeader`] has a picture of them). Packet type and hardware type are supported.
+///
+/// Two views are equal if their bytes are, wherever these are.
+///
+/// ```
+/// # use etherpeel::*;
+/// # fn main() -> Result<(), Box<dyn std::error::Error>> {
+/// let bytes = [0, 4, 0, 1, 0, 6, 2, 0, 0, 0, 0, 1, 0, 0, 0x08, 0x00, 0x45];
+/// let header = LinuxSllHeaderSlice::from_slice(&bytes)?;
+/// assert_eq!(header.packet_type(), LinuxSllPacketType::OUTGOING);
+/// assert_eq!(header.arp_hardware_type(), ArpHardwareId::ETHERNET);
+/// assert_eq!(header.sender_address(), [2, 0, 0, 0, 0, 1].as_slice());
+/// assert_eq!(
+///     header.protocol_type(),
+///     LinuxSllProtocolType::EtherType(EtherType::IPV4)
+/// );
+/// assert_eq!(header.slice(), &bytes[..16]);
+/// # Ok(())
+/// # }
+/// ```
+#[derive(Debug)]
+pub struct LinuxSllHeaderSlice<'a> {
+    slice: &'a [u8],
+}
+
+impl<'a> LinuxSllHeaderSlice<'a> {
+    /// The header at the front of a slice. The bytes after it are not part of the view.
+    ///
+    /// # Errors
+    ///
+    /// The first of these that holds:
+    ///
+    /// - `HeaderSliceError::Len`: the slice has fewer than 16 bytes. `required_len` is 16, `len` the slice's length,
+    ///   `len_source` is `LenSource::Slice`, `layer` is `Layer::LinuxSllHeader` and `layer_start_offset` is 0.
+    /// - `HeaderSliceError::Content` with `HeaderError::UnsupportedPacketTypeField`: the packet type, which the error names,
+    ///   is above 7.
+    /// - `HeaderSliceError::Content` with `HeaderError::UnsupportedArpHardwareId`: the meaning of protocol numbers is not
+    ///   known for the hardware type, which the error names.
+    ///
+    /// <details><summary>Contract</summary>
+    ///
+    /// ```text
+    /// ensures bytes { IfOk result (λ h. h ≡ slice_range slice.now 0 16) }
+    /// ensures accepted { IfOk result (λ h. Accepts sources.Slice slice.now kinds.LinuxSll) }
+    /// ensures value { IfOk result (λ h. Means slice.now (headers.LinuxSll (linux_sll_of h))) }
+    /// ensures refused { IfErr result (IsRefusedSll slice.now) }
+    /// ensures short { IfErr result (λ e. OnLen e (λ _. length slice.now < 16)) }
+    /// ```
+    ///
+    /// </details>
+    #[inline]
+    pub fn from_slice(slice: &'a [u8]) -> Result<LinuxSllHeaderSlice<'a>, HeaderSliceError> {
+        linux_sll_fields::require_header(slice)?;
+        Ok(LinuxSllHeaderSlice {
+            slice: &slice[..LinuxSllHeader::LEN],
+        })
+    }
+
+    /// The 16 bytes of the header.
+    ///
+    /// <details><summary>Contract</summary>
+    ///
+    /// ```text
+    /// ensures bytes { result.now ≡ self.now }
+    /// ensures len { length result.now ≡ 16 }
+    /// ```
+    ///
+    /// </details>
+    #[inline]
+    pub fn slice(&self) -> &'a [u8] {
+        self.slice
+    }
+
+    /// The packet type: who sent the packet to whom.
+    ///
+    /// <details><summary>Contract</summary>
+    ///
+    /// ```text
+    /// ensures { result ≡ (linux_sll_of self.now).packet_type }
+    /// ```
+    ///
+    /// </details>
+    #[inline]
+    pub fn packet_type(&self) -> LinuxSllPacketType {
+        linux_sll_fields::packet_type(self.slice)
+    }
+
+    /// The hardware type (ARPHRD_) of the device that the packet was seen on.
+    ///
+    /// <details><summary>Contract</summary>
+    ///
+    /// ```text
+    /// ensures { result.0 ≡ (linux_sll_of self.now).hardware_type }
+    /// ```
+    ///
+    /// </details>
+    #[inline]
+    pub fn arp_hardware_type(&self) -> ArpHardwareId {
+        linux_sll_fields::arp_hardware_type(self.slice)
+    }
+
+    /// The length of the sender's address in bytes, as the header gives it. It may exceed the 8 bytes that have room.
+    ///
+    /// <details><summary>Contract</summary>
+    ///
+    /// ```text
+    /// ensures { result ≡ (linux_sll_of self.now).address_len }
+    /// ```
+    ///
+    /// </details>
+    #[inline]
+    pub fn sender_address_valid_length(&self) -> u16 {
+        linux_sll_fields::sender_address_valid_length(self.slice)
+    }
+
+    /// All 8 bytes of the address field, those after the sender's address included.
+    ///
+    /// <details><summary>Contract</summary>
+    ///
+    /// ```text
+    /// ensures { result ≡ spelled 8 (linux_sll_of self.now).address }
+    /// ```
+    ///
+    /// </details>
+    #[inline]
+    pub fn sender_address_full(&self) -> [u8; 8] {
+        linux_sll_fields::sender_address_full(self.slice)
+    }
+
+    /// The sender's address, or its first 8 bytes if it is longer.
+    ///
+    /// <details><summary>Contract</summary>
+    ///
+    /// ```text
+    /// ensures { result.now ≡ valid_address self.now }
+    /// ```
+    ///
+    /// </details>
+    #[inline]
+    pub fn sender_address(&self) -> &'a [u8] {
+        linux_sll_fields::sender_address(self.slice)
+    }
+
+    /// The protocol of what follows the header. The hardware type decides which variant its number has.
+    ///
+    /// <details><summary>Contract</summary>
+    ///
+    /// ```text
+    /// ensures { result ≡ protocol_type_of_header self.now }
+    /// ```
+    ///
+    /// </details>
+    #[inline]
+    pub fn protocol_type(&self) -> LinuxSllProtocolType {
+        linux_sll_fields::protocol_type(self.slice)
+    }
+
+    /// The header as a value.
+    ///
+    /// <details><summary>Contract</summary>
+    ///
+    /// ```text
+    /// ensures view { linux_sll_view result ≡ linux_sll_of self.now }
+    /// ensures protocol { result.protocol_type ≡ protocol_type_of_header self.now }
+    /// ```
+    ///
+    /// </details>
+    #[inline]
+    pub fn to_header(&self) -> LinuxSllHeader {
+        linux_sll_fields::header(self.slice)
+    }
+}
+
+impl<'a> Clone for LinuxSllHeaderSlice<'a> {
+    #[inline]
+    fn clone(&self) -> Self {
+        LinuxSllHeaderSlice { slice: self.slice }
+    }
+}
+
+impl<'a> PartialEq for LinuxSllHeaderSlice<'a> {
+    #[inline]
+    fn eq(&self, other: &LinuxSllHeaderSlice<'a>) -> bool {
+        self.slice == other.slice
+    }
+}
+
+impl<'a> Eq for LinuxSllHeaderSlice<'a> {}

@@ -1,0 +1,267 @@
+//! The fields of a header of Linux cooked capture v2 (LINKTYPE_LINUX_SLL2) in bytes that begin with one: protocol (2 bytes),
+//! reserved (2 bytes), interface index (4 bytes), ARPHRD_ type (2 bytes), packet type and length of the sender's address
+//! (1 byte each), and the sender's address (8 bytes), in this order.
+
+use crate::ether_sll2::{LinuxSll2Error, LinuxSll2Header};
+use crate::ether_base::big_endian::{u16_of, u32_of};
+use crate::ether_base::{
+    ArpHardwareId, EtherType, LinuxNonstandardEtherType, LinuxSllPacketType, LinuxSllProtocolType,
+};
+use core::ops::Range;
+
+/// The bytes of the protocol.
+const PROTOCOL: Range<usize> = 0..2;
+
+/// The bytes of the interface index.
+const INTERFACE_INDEX: Range<usize> = 4..8;
+
+/// The bytes of the ARPHRD_ type.
+const HARDWARE_TYPE: Range<usize> = 8..10;
+
+/// The byte of the packet type.
+const PACKET_TYPE: usize = 10;
+
+/// The byte of the length of the sender's address.
+const ADDRESS_LENGTH: usize = 11;
+
+/// The bytes of the sender's address.
+const ADDRESS: Range<usize> = 12..20;
+
+/// Tests that a slice begins with a header whose packet type is supported.
+///
+/// <details><summary>Contract</summary>
+///
+/// ```text
+/// ensures holds { IfOk result (λ _. HoldsLinuxSll2 slice.now) }
+/// ensures refused { IfErr result (IsRefused slice.now) }
+/// ensures short { IfErr result (IsShort slice.now) }
+/// ```
+///
+/// </details>
+#[inline]
+pub fn require_header(slice: &[u8]) -> Result<(), LinuxSll2Error> {
+    if slice.len() < LinuxSll2Header::LEN {
+        return Err(LinuxSll2Error::Len {
+            required_len: LinuxSll2Header::LEN,
+            len: slice.len(),
+        });
+    }
+    require_packet_type(slice)
+}
+
+/// Tests that the packet type is supported.
+///
+/// <details><summary>Contract</summary>
+///
+/// The caller has to meet each `requires`: else the call may panic, or return something else.
+///
+/// ```text
+/// requires { 20 ≤ length bytes.now }
+/// ensures holds { IfOk result (λ _. HoldsLinuxSll2 bytes.now) }
+/// ensures refused { IfErr result (IsRefused bytes.now) }
+/// ensures short { IfErr result (IsShort bytes.now) }
+/// ```
+///
+/// </details>
+#[inline]
+pub fn require_packet_type(bytes: &[u8]) -> Result<(), LinuxSll2Error> {
+    let number = byte_at(bytes, PACKET_TYPE);
+    match LinuxSllPacketType::try_from(u16::from(number)) {
+        Ok(_) => Ok(()),
+        Err(_) => Err(LinuxSll2Error::PacketType(number)),
+    }
+}
+
+/// The protocol type, in the variant that the hardware type gives it.
+#[inline(always)]
+pub fn protocol_type(bytes: &[u8]) -> LinuxSllProtocolType {
+    protocol_type_on(arp_hardware_type(bytes), u16_at(bytes, PROTOCOL))
+}
+
+/// The index of the interface.
+///
+/// <details><summary>Contract</summary>
+///
+/// The caller has to meet each `requires`: else the call may panic, or return something else.
+///
+/// ```text
+/// requires { 20 ≤ length bytes.now }
+/// ensures { result ≡ (linux_sll2_of bytes.now).interface_index }
+/// ```
+///
+/// </details>
+#[inline]
+pub fn interface_index(bytes: &[u8]) -> u32 {
+    u32_at(bytes, INTERFACE_INDEX)
+}
+
+/// The ARPHRD_ type of the device.
+///
+/// <details><summary>Contract</summary>
+///
+/// The caller has to meet each `requires`: else the call may panic, or return something else.
+///
+/// ```text
+/// requires { 20 ≤ length bytes.now }
+/// ensures { result.0 ≡ (linux_sll2_of bytes.now).hardware_type }
+/// ```
+///
+/// </details>
+#[inline]
+pub fn arp_hardware_type(bytes: &[u8]) -> ArpHardwareId {
+    ArpHardwareId(u16_at(bytes, HARDWARE_TYPE))
+}
+
+/// The packet type.
+#[inline(always)]
+pub fn packet_type(bytes: &[u8]) -> LinuxSllPacketType {
+    match LinuxSllPacketType::try_from(u16::from(byte_at(bytes, PACKET_TYPE))) {
+        Ok(packet_type) => packet_type,
+        Err(_) => unreachable!(),
+    }
+}
+
+/// The length of the sender's address in bytes, which may be more than there is room for.
+///
+/// <details><summary>Contract</summary>
+///
+/// The caller has to meet each `requires`: else the call may panic, or return something else.
+///
+/// ```text
+/// requires { 20 ≤ length bytes.now }
+/// ensures { result ≡ (linux_sll2_of bytes.now).address_len }
+/// ```
+///
+/// </details>
+#[inline]
+pub fn sender_address_valid_length(bytes: &[u8]) -> u8 {
+    byte_at(bytes, ADDRESS_LENGTH)
+}
+
+/// The 8 bytes of the sender's address, used or not.
+///
+/// <details><summary>Contract</summary>
+///
+/// The caller has to meet each `requires`: else the call may panic, or return something else.
+///
+/// ```text
+/// requires { 20 ≤ length bytes.now }
+/// ensures { result ≡ spelled 8 (linux_sll2_of bytes.now).address }
+/// ```
+///
+/// </details>
+#[inline]
+pub fn sender_address_full(bytes: &[u8]) -> [u8; 8] {
+    address(bytes)
+}
+
+/// As many bytes of the sender's address as its length says, at most 8.
+///
+/// <details><summary>Contract</summary>
+///
+/// The caller has to meet each `requires`: else the call may panic, or return something else.
+///
+/// ```text
+/// requires { 20 ≤ length bytes.now }
+/// ensures { result.now ≡ valid_address bytes.now }
+/// ```
+///
+/// </details>
+#[inline]
+pub fn sender_address(bytes: &[u8]) -> &[u8] {
+    let valid = sender_address_valid_length(bytes);
+    let len = if valid < 8 { usize::from(valid) } else { 8 };
+    &bytes[ADDRESS.start..ADDRESS.start + len]
+}
+
+/// All fields.
+///
+/// <details><summary>Contract</summary>
+///
+/// The caller has to meet each `requires`: else the call may panic, or return something else.
+///
+/// ```text
+/// requires { HoldsLinuxSll2 bytes.now }
+/// ensures view { linux_sll2_view result ≡ linux_sll2_of bytes.now }
+/// ensures address { result.sender_address ≡ slice_range bytes.now 12 20 }
+/// ensures protocol { result.protocol_type ≡ protocol_of_header bytes.now }
+/// ensures bytes { IsBytes bytes.now }
+/// ```
+///
+/// </details>
+#[inline]
+pub fn header(bytes: &[u8]) -> LinuxSll2Header {
+    LinuxSll2Header {
+        protocol_type: protocol_type(bytes),
+        interface_index: interface_index(bytes),
+        arp_hrd_type: arp_hardware_type(bytes),
+        packet_type: packet_type(bytes),
+        sender_address_valid_length: sender_address_valid_length(bytes),
+        sender_address: address(bytes),
+    }
+}
+
+/// What a protocol number means on a link of a hardware type.
+#[inline]
+fn protocol_type_on(hardware: ArpHardwareId, number: u16) -> LinuxSllProtocolType {
+    match hardware {
+        ArpHardwareId::NETLINK => LinuxSllProtocolType::NetlinkProtocolType(number),
+        ArpHardwareId::IPGRE => {
+            LinuxSllProtocolType::GenericRoutingEncapsulationProtocolType(number)
+        }
+        ArpHardwareId::IEEE80211_RADIOTAP => LinuxSllProtocolType::Ignored(number),
+        ArpHardwareId::FRAD => LinuxSllProtocolType::Ignored(number),
+        _ => on_ethernet(number),
+    }
+}
+
+/// What a protocol number means on Ethernet.
+#[inline]
+fn on_ethernet(number: u16) -> LinuxSllProtocolType {
+    match LinuxNonstandardEtherType::try_from(number) {
+        Ok(ether_type) => LinuxSllProtocolType::LinuxNonstandardEtherType(ether_type),
+        Err(()) => LinuxSllProtocolType::EtherType(EtherType(number)),
+    }
+}
+
+/// The 8 bytes of the sender's address in their order on the wire.
+#[inline]
+fn address(bytes: &[u8]) -> [u8; 8] {
+    let (b, at) = (bytes, ADDRESS.start);
+    [
+        b[at],
+        b[at + 1],
+        b[at + 2],
+        b[at + 3],
+        b[at + 4],
+        b[at + 5],
+        b[at + 6],
+        b[at + 7],
+    ]
+}
+
+/// The number in a field of one byte.
+#[inline]
+fn byte_at(bytes: &[u8], at: usize) -> u8 {
+    bytes[at]
+}
+
+/// The number in a field of two bytes.
+#[inline]
+fn u16_at(bytes: &[u8], field: Range<usize>) -> u16 {
+    let at = field.start;
+    u16_of([bytes[at], bytes[at + 1]])
+}
+
+/// The number in a field of four bytes.
+#[inline]
+fn u32_at(bytes: &[u8], field: Range<usize>) -> u32 {
+    u32_of(four_at(bytes, field))
+}
+
+/// The four bytes of a field.
+#[inline]
+fn four_at(bytes: &[u8], field: Range<usize>) -> [u8; 4] {
+    let at = field.start;
+    [bytes[at], bytes[at + 1], bytes[at + 2], bytes[at + 3]]
+}

@@ -1,0 +1,210 @@
+//! A view of a header of Linux cooked capture v2.
+
+use crate::ether_sll2::{LinuxSll2Error, LinuxSll2Header, linux_sll2_fields};
+use crate::ether_base::{ArpHardwareId, LinuxSllPacketType, LinuxSllProtocolType};
+
+/// A view of a header of Linux cooked capture v2 (LINKTYPE_LINUX_SLL2), which borrows its 20 bytes from a packet
+/// ([`LinuxSll2Header`] has a picture of them). The packet type is supported.
+///
+/// Two views are equal if their bytes are, the reserved ones included, wherever these are.
+///
+/// ```
+/// # use etherpeel::*;
+/// # use etherpeel::ether_peel::*;
+/// # use etherpeel::ether_sll2::*;
+/// # fn main() -> Result<(), Box<dyn std::error::Error>> {
+/// let bytes = [
+///     0x81, 0x00, 0x00, 0x00, 0x00, 0x00, 0x00, 0x03, 0x00, 0x01, 0x04, 0x06, // up to the address length
+///     0x02, 0x00, 0x00, 0x00, 0x00, 0x01, 0x00, 0x00, // sender's address
+///     0xB1, 0x23, 0x08, 0x00, // VLAN
+///     0x45,
+/// ];
+/// let header = LinuxSll2HeaderSlice::from_slice(&bytes)?;
+/// assert_eq!(header.interface_index(), 3);
+/// assert_eq!(header.packet_type(), LinuxSllPacketType::OUTGOING);
+/// assert_eq!(header.sender_address(), [2, 0, 0, 0, 0, 1].as_slice());
+/// assert_eq!(header.slice(), &bytes[..20]);
+/// # Ok(())
+/// # }
+/// ```
+#[derive(Debug)]
+pub struct LinuxSll2HeaderSlice<'a> {
+    slice: &'a [u8],
+}
+
+impl<'a> LinuxSll2HeaderSlice<'a> {
+    /// The header at the front of a slice. The bytes after it are not part of the view.
+    ///
+    /// # Errors
+    ///
+    /// The first of these that holds:
+    ///
+    /// - `LinuxSll2Error::Len`: the slice has fewer than 20 bytes. `required_len` is 20, `len` the slice's length.
+    /// - `LinuxSll2Error::PacketType`: the packet type, which the error names, is above 7.
+    ///
+    /// No hardware type is refused.
+    ///
+    /// <details><summary>Contract</summary>
+    ///
+    /// ```text
+    /// ensures bytes { IfOk result (λ h. h ≡ slice_range slice.now 0 20) }
+    /// ensures accepted { IfOk result (λ h. AcceptsLinuxSll2 slice.now) }
+    /// ensures value { IfOk result (λ h. BeginsLinuxSll2 slice.now (linux_sll2_of h)) }
+    /// ensures refused { IfErr result (IsRefused slice.now) }
+    /// ensures short { IfErr result (IsShort slice.now) }
+    /// ```
+    ///
+    /// </details>
+    #[inline]
+    pub fn from_slice(slice: &'a [u8]) -> Result<LinuxSll2HeaderSlice<'a>, LinuxSll2Error> {
+        linux_sll2_fields::require_header(slice)?;
+        Ok(LinuxSll2HeaderSlice {
+            slice: &slice[..LinuxSll2Header::LEN],
+        })
+    }
+
+    /// The 20 bytes of the header.
+    ///
+    /// <details><summary>Contract</summary>
+    ///
+    /// ```text
+    /// ensures bytes { result.now ≡ self.now }
+    /// ensures len { length result.now ≡ 20 }
+    /// ```
+    ///
+    /// </details>
+    #[inline]
+    pub fn slice(&self) -> &'a [u8] {
+        self.slice
+    }
+
+    /// The protocol of what follows the header. The hardware type decides which variant its number has.
+    ///
+    /// <details><summary>Contract</summary>
+    ///
+    /// ```text
+    /// ensures { result ≡ protocol_of_header self.now }
+    /// ```
+    ///
+    /// </details>
+    #[inline]
+    pub fn protocol_type(&self) -> LinuxSllProtocolType {
+        linux_sll2_fields::protocol_type(self.slice)
+    }
+
+    /// The index of the interface that the packet was seen on, as the capturing machine numbers its interfaces.
+    ///
+    /// <details><summary>Contract</summary>
+    ///
+    /// ```text
+    /// ensures { result ≡ (linux_sll2_of self.now).interface_index }
+    /// ```
+    ///
+    /// </details>
+    #[inline]
+    pub fn interface_index(&self) -> u32 {
+        linux_sll2_fields::interface_index(self.slice)
+    }
+
+    /// The hardware type (ARPHRD_) of that interface.
+    ///
+    /// <details><summary>Contract</summary>
+    ///
+    /// ```text
+    /// ensures { result.0 ≡ (linux_sll2_of self.now).hardware_type }
+    /// ```
+    ///
+    /// </details>
+    #[inline]
+    pub fn arp_hardware_type(&self) -> ArpHardwareId {
+        linux_sll2_fields::arp_hardware_type(self.slice)
+    }
+
+    /// The packet type: who sent the packet to whom.
+    ///
+    /// <details><summary>Contract</summary>
+    ///
+    /// ```text
+    /// ensures { result ≡ (linux_sll2_of self.now).packet_type }
+    /// ```
+    ///
+    /// </details>
+    #[inline]
+    pub fn packet_type(&self) -> LinuxSllPacketType {
+        linux_sll2_fields::packet_type(self.slice)
+    }
+
+    /// The length of the sender's address in bytes, as the header gives it. May exceed 8, though the field holds only 8
+    /// bytes.
+    ///
+    /// <details><summary>Contract</summary>
+    ///
+    /// ```text
+    /// ensures { result ≡ (linux_sll2_of self.now).address_len }
+    /// ```
+    ///
+    /// </details>
+    #[inline]
+    pub fn sender_address_valid_length(&self) -> u8 {
+        linux_sll2_fields::sender_address_valid_length(self.slice)
+    }
+
+    /// All 8 bytes of the address field, those after the sender's address included.
+    ///
+    /// <details><summary>Contract</summary>
+    ///
+    /// ```text
+    /// ensures { result ≡ spelled 8 (linux_sll2_of self.now).address }
+    /// ```
+    ///
+    /// </details>
+    #[inline]
+    pub fn sender_address_full(&self) -> [u8; 8] {
+        linux_sll2_fields::sender_address_full(self.slice)
+    }
+
+    /// The sender's address, or its first 8 bytes if it is longer.
+    ///
+    /// <details><summary>Contract</summary>
+    ///
+    /// ```text
+    /// ensures { result.now ≡ valid_address self.now }
+    /// ```
+    ///
+    /// </details>
+    #[inline]
+    pub fn sender_address(&self) -> &'a [u8] {
+        linux_sll2_fields::sender_address(self.slice)
+    }
+
+    /// The header as a value.
+    ///
+    /// <details><summary>Contract</summary>
+    ///
+    /// ```text
+    /// ensures view { linux_sll2_view result ≡ linux_sll2_of self.now }
+    /// ensures protocol { result.protocol_type ≡ protocol_of_header self.now }
+    /// ```
+    ///
+    /// </details>
+    #[inline]
+    pub fn to_header(&self) -> LinuxSll2Header {
+        linux_sll2_fields::header(self.slice)
+    }
+}
+
+impl<'a> Clone for LinuxSll2HeaderSlice<'a> {
+    #[inline]
+    fn clone(&self) -> Self {
+        LinuxSll2HeaderSlice { slice: self.slice }
+    }
+}
+
+impl<'a> PartialEq for LinuxSll2HeaderSlice<'a> {
+    #[inline]
+    fn eq(&self, other: &LinuxSll2HeaderSlice<'a>) -> bool {
+        self.slice == other.slice
+    }
+}
+
+impl<'a> Eq for LinuxSll2HeaderSlice<'a> {}

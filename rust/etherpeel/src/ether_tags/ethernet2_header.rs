@@ -1,0 +1,188 @@
+//! The Ethernet II header as a value.
+
+use crate::ether_tags::{Ethernet2HeaderSlice, ethernet2_fields};
+use crate::ether_base::err::{Layer, LenError, SliceWriteSpaceError};
+use crate::ether_base::{EtherType, write_front};
+
+/// The header of an Ethernet II frame (IEEE 802.3, 3.1.1), 14 bytes on the wire:
+///
+/// ```text
+/// byte 0             6             12     14
+///      +-------------+-------------+------+
+///      | destination |   source    | type |
+///      +-------------+-------------+------+
+/// ```
+///
+/// Where a frame carries a length in the place of the type, which is below 0x0600 (802.3, 3.2.6), `ether_type` is that
+/// length: it is passed through unchanged.
+///
+/// ```
+/// # use etherpeel::*;
+/// let header = Ethernet2Header {
+///     source: [2, 0, 0, 0, 0, 1],
+///     destination: [0xFF; 6],
+///     ether_type: EtherType::IPV4,
+/// };
+/// let bytes = [255, 255, 255, 255, 255, 255, 2, 0, 0, 0, 0, 1, 0x08, 0x00];
+/// assert_eq!(header.to_bytes(), bytes);
+/// assert_eq!(Ethernet2Header::from_bytes(bytes), header);
+/// ```
+#[derive(Clone, Copy, PartialEq, Eq, Debug, Default)]
+pub struct Ethernet2Header {
+    /// The source MAC address.
+    pub source: [u8; 6],
+    /// The destination MAC address.
+    pub destination: [u8; 6],
+    /// The protocol of what follows the header, or the length of an IEEE 802.3 frame.
+    pub ether_type: EtherType,
+}
+
+impl Ethernet2Header {
+    /// The length of the header in bytes.
+    pub const LEN: usize = 14;
+
+    /// The same as [`Ethernet2Header::LEN`], under its older name.
+    pub const SERIALIZED_SIZE: usize = 14;
+
+    /// The header at the front of a slice, and the rest of the slice.
+    ///
+    /// # Errors
+    ///
+    /// The slice has fewer than 14 bytes: `required_len` is 14, `len` the slice's length, `len_source` is
+    /// `LenSource::Slice`, `layer` is [`Layer::Ethernet2Header`] and `layer_start_offset` is 0.
+    ///
+    /// <details><summary>Contract</summary>
+    ///
+    /// ```text
+    /// ensures accepted { IfOk result (λ answer. Accepts sources.Slice slice.now kinds.Ethernet2) }
+    /// ensures fields { IfOk result (λ answer. answer.0 ≡ ethernet2_header_of slice.now) }
+    /// ensures value { IfOk result
+    ///     (λ answer. Means slice.now (headers.Ethernet2 (ethernet2_view answer.0))) }
+    /// ensures rest { IfOk result
+    ///     (λ answer. answer.1.now ≡ slice_range slice.now 14 (length slice.now)) }
+    /// ensures refused { IfErr result (IsRefusedLen slice.now kinds.Ethernet2) }
+    /// ensures short { OnErr result (length slice.now < 14) }
+    /// ```
+    ///
+    /// </details>
+    #[inline]
+    pub fn from_slice(slice: &[u8]) -> Result<(Ethernet2Header, &[u8]), LenError> {
+        let header = Ethernet2HeaderSlice::from_slice(slice)?.to_header();
+        Ok((header, &slice[Ethernet2Header::LEN..]))
+    }
+
+    /// The same as [`Ethernet2Header::from_slice`], under its older name.
+    ///
+    /// <details><summary>Contract</summary>
+    ///
+    /// ```text
+    /// ensures accepted { IfOk result (λ answer. Accepts sources.Slice slice.now kinds.Ethernet2) }
+    /// ensures fields { IfOk result (λ answer. answer.0 ≡ ethernet2_header_of slice.now) }
+    /// ensures value { IfOk result
+    ///     (λ answer. Means slice.now (headers.Ethernet2 (ethernet2_view answer.0))) }
+    /// ensures rest { IfOk result
+    ///     (λ answer. answer.1.now ≡ slice_range slice.now 14 (length slice.now)) }
+    /// ensures refused { IfErr result (IsRefusedLen slice.now kinds.Ethernet2) }
+    /// ensures short { OnErr result (length slice.now < 14) }
+    /// ```
+    ///
+    /// </details>
+    #[inline]
+    pub fn read_from_slice(slice: &[u8]) -> Result<(Ethernet2Header, &[u8]), LenError> {
+        Ethernet2Header::from_slice(slice)
+    }
+
+    /// The header in 14 bytes. Any 14 bytes are one.
+    ///
+    /// <details><summary>Contract</summary>
+    ///
+    /// ```text
+    /// ensures fields { result ≡ ethernet2_header_of bytes }
+    /// ensures value { IsEthernet2 bytes (ethernet2_view result) }
+    /// ensures inverse { ethernet2_bytes (ethernet2_view result) ≡ bytes }
+    /// ```
+    ///
+    /// </details>
+    #[inline]
+    pub fn from_bytes(bytes: [u8; 14]) -> Ethernet2Header {
+        ethernet2_fields::header(&bytes)
+    }
+
+    /// The length of the header in bytes, which is [`Ethernet2Header::LEN`].
+    ///
+    /// <details><summary>Contract</summary>
+    ///
+    /// ```text
+    /// ensures { result ≡ 14 }
+    /// ```
+    ///
+    /// </details>
+    #[inline]
+    pub fn header_len(&self) -> usize {
+        Ethernet2Header::LEN
+    }
+
+    /// The bytes of the header on the wire.
+    ///
+    /// <details><summary>Contract</summary>
+    ///
+    /// ```text
+    /// ensures value { result ≡ ethernet2_bytes (ethernet2_view self.now) }
+    /// ensures len { length result ≡ 14 }
+    /// ensures fits { FitsEthernet2 (ethernet2_view self.now) }
+    /// ensures inverse { (e : Ethernet2Value)
+    ///     → IsEthernet2 result e → e ≡ ethernet2_view self.now }
+    /// ensures accepted { (more : List ℕ)
+    ///     → Accepts sources.Slice (result ++ more) kinds.Ethernet2 }
+    /// ensures read_back { (more : List ℕ) → ethernet2_header_of (result ++ more) ≡ self.now }
+    /// ensures same { ethernet2_header_of result ≡ self.now }
+    /// ```
+    ///
+    /// </details>
+    #[inline]
+    pub fn to_bytes(&self) -> [u8; 14] {
+        joined(&self.destination, &self.source, self.ether_type.0)
+    }
+
+    /// Writes the header to the front of a slice, and lends the rest of the slice for writing.
+    ///
+    /// # Errors
+    ///
+    /// The slice has fewer than 14 bytes, and stays as it was: `required_len` is 14, `len` the slice's length, `layer` is
+    /// [`Layer::Ethernet2Header`] and `layer_start_offset` is 0.
+    ///
+    /// <details><summary>Contract</summary>
+    ///
+    /// ```text
+    /// ensures* writes_back { sem 𝓛
+    ///     (LendsRest (ethernet2_bytes (ethernet2_view self.now)) slice.entry result) }
+    /// ensures answers { AnswersRest 14 Layer.Ethernet2Header slice.old result }
+    /// ```
+    ///
+    /// </details>
+    #[inline]
+    pub fn write_to_slice<'a>(
+        &self,
+        slice: &'a mut [u8],
+    ) -> Result<&'a mut [u8], SliceWriteSpaceError> {
+        let whole = self.put(slice);
+        write_front::rest_from(whole, Ethernet2Header::LEN, Layer::Ethernet2Header)
+    }
+
+    /// Writes the header to the front of a slice that has room for it, and hands the whole slice back.
+    #[inline]
+    fn put<'a>(&self, slice: &'a mut [u8]) -> &'a mut [u8] {
+        write_front::put(self.to_bytes(), slice)
+    }
+}
+
+/// Two addresses and a number, one after the other.
+#[inline]
+fn joined(destination: &[u8], source: &[u8], ether_type: u16) -> [u8; 14] {
+    let d = destination;
+    let s = source;
+    let t = ether_type.to_be_bytes();
+    [
+        d[0], d[1], d[2], d[3], d[4], d[5], s[0], s[1], s[2], s[3], s[4], s[5], t[0], t[1],
+    ]
+}

@@ -1,0 +1,271 @@
+//! A MACsec SecTag as a value.
+
+use crate::ether_tags::{MacsecHeaderSlice, MacsecPType, macsec_fields};
+use arrayvec::ArrayVec;
+use crate::ether_base::big_endian::{bytes_of_u16, bytes_of_u32, bytes_of_u64};
+use crate::ether_base::err::macsec::HeaderSliceError;
+use crate::ether_base::{EtherType, MacsecAn, MacsecShortLen};
+
+/// A MACsec SecTag (IEEE 802.1AE, 9.3), 6 to 16 bytes on the wire.
+///
+/// The standard counts the MACsec ether type 0x88E5 as the first two bytes of a SecTag. It is the `ether_type` of the
+/// layer before here, and the tag begins after it. The ether type of the payload counts as the tag's end if it can
+/// be read, which is so if the bits E and C are clear:
+///
+/// ```text
+/// byte 0        1              2                6                     6 or 14
+///      +--------+--------------+----------------+---------------------+-----------------+
+///      | TCI,AN | short length | packet number  | SCI, if SC is set   | next ether type |
+///      +--------+--------------+----------------+---------------------+-----------------+
+///        1 byte   1 byte         4 bytes          8 bytes               2 bytes
+///
+/// bit of byte 0    7   6    5    4     3   2   1 0
+///                +---+----+----+-----+---+---+-----+
+///                | V | ES | SC | SCB | E | C | AN  |
+///                +---+----+----+-----+---+---+-----+
+/// ```
+///
+/// The version bit V is 0 in each tag. The short length has the lower 6 bits of byte 1; the upper 2 are reserved, ignored
+/// when a tag is read and written as 0.
+///
+/// In IEEE 802.1AE a short length ends at 47 (9.7). Those of 48 to 63 are accepted too and name that many bytes, and
+/// [`MacsecHeader::set_payload_len`] writes them.
+///
+/// Public fields are not checked against each other.
+///
+/// ```
+/// # use etherpeel::*;
+/// # fn main() -> Result<(), Box<dyn std::error::Error>> {
+/// let mut tag = MacsecHeader {
+///     ptype: MacsecPType::Unmodified(EtherType::IPV4),
+///     endstation_id: false,
+///     scb: false,
+///     an: MacsecAn::try_new(2)?,
+///     short_len: MacsecShortLen::ZERO,
+///     packet_nr: 7,
+///     sci: None,
+/// };
+/// tag.set_payload_len(40);
+/// assert_eq!(tag.short_len.value(), 42);
+///
+/// let bytes = tag.to_bytes();
+/// assert_eq!(
+///     bytes.as_slice(),
+///     [0x02, 42, 0, 0, 0, 7, 0x08, 0x00].as_slice()
+/// );
+/// assert_eq!(MacsecHeader::from_slice(bytes.as_slice()), Ok(tag));
+/// # Ok(())
+/// # }
+/// ```
+#[derive(Clone, Copy, PartialEq, Eq, Debug)]
+pub struct MacsecHeader {
+    /// Whether the payload is encrypted and changed (bits E and C), and its ether type if it is neither.
+    pub ptype: MacsecPType,
+    /// The end station bit (ES): the SCI is made of the frame's source address, and is left out.
+    pub endstation_id: bool,
+    /// The single copy broadcast bit (SCB), of a passive optical network.
+    pub scb: bool,
+    /// The association number (AN, 9.6).
+    pub an: MacsecAn,
+    /// The short length (SL, 9.7): the number of bytes after the SCI up to the integrity check value, with the next
+    /// ether type. 0 names no length.
+    pub short_len: MacsecShortLen,
+    /// The packet number (PN, 9.8).
+    pub packet_nr: u32,
+    /// The secure channel identifier (SCI, 9.9), if the tag has one (bit SC).
+    pub sci: Option<u64>,
+}
+
+impl MacsecHeader {
+    /// The length in bytes of the shortest tag, with neither SCI nor next ether type.
+    pub const MIN_LEN: usize = 6;
+
+    /// The length in bytes of the longest tag, with both.
+    pub const MAX_LEN: usize = 16;
+
+    /// The tag at the front of a slice.
+    ///
+    /// # Errors
+    ///
+    /// As [`MacsecHeaderSlice::from_slice`].
+    ///
+    /// <details><summary>Contract</summary>
+    ///
+    /// ```text
+    /// ensures accepted { IfOk result (λ h. AcceptsHeader sources.Slice slice.now kinds.Macsec) }
+    /// ensures value { IfOk result (λ h. Means slice.now (headers.Macsec (sec_tag_view h))) }
+    /// ensures refused { IfErr result (IsRefusedTag slice.now) }
+    /// ensures short { IfErr result (λ e. OnLen e (λ n. length slice.now < n.required_len)) }
+    /// ```
+    ///
+    /// </details>
+    #[inline]
+    pub fn from_slice(slice: &[u8]) -> Result<MacsecHeader, HeaderSliceError> {
+        Ok(MacsecHeaderSlice::from_slice(slice)?.to_header())
+    }
+
+    /// Whether the payload is encrypted: bit E.
+    ///
+    /// <details><summary>Contract</summary>
+    ///
+    /// ```text
+    /// ensures { bit result ≡ encrypted_of (payload_type_view self.now.ptype) }
+    /// ```
+    ///
+    /// </details>
+    #[inline]
+    pub fn encrypted(&self) -> bool {
+        matches!(
+            self.ptype,
+            MacsecPType::Encrypted | MacsecPType::EncryptedUnmodified
+        )
+    }
+
+    /// Whether the payload is changed: bit C.
+    ///
+    /// <details><summary>Contract</summary>
+    ///
+    /// ```text
+    /// ensures { bit result ≡ changed_of (payload_type_view self.now.ptype) }
+    /// ```
+    ///
+    /// </details>
+    #[inline]
+    pub fn userdata_changed(&self) -> bool {
+        matches!(self.ptype, MacsecPType::Encrypted | MacsecPType::Modified)
+    }
+
+    /// The ether type of the payload; `None` if the payload is encrypted or changed.
+    ///
+    /// <details><summary>Contract</summary>
+    ///
+    /// ```text
+    /// ensures { number_of result ≡ readable_type (payload_type_view self.now.ptype) }
+    /// ```
+    ///
+    /// </details>
+    #[inline]
+    pub fn next_ether_type(&self) -> Option<EtherType> {
+        match self.ptype {
+            MacsecPType::Unmodified(ether_type) => Some(ether_type),
+            _ => None,
+        }
+    }
+
+    /// The length of the tag in bytes, with the next ether type: [`MacsecHeader::MIN_LEN`] to
+    /// [`MacsecHeader::MAX_LEN`].
+    ///
+    /// <details><summary>Contract</summary>
+    ///
+    /// ```text
+    /// ensures value { result ≡ sec_tag_len (header_front self.now) }
+    /// ensures bound { result ≤ 16 }
+    /// ```
+    ///
+    /// </details>
+    #[inline]
+    pub fn header_len(&self) -> usize {
+        macsec_fields::tag_len(self.sci.is_some(), self.next_ether_type().is_some())
+    }
+
+    /// The length of the payload in bytes that the short length names, without the next ether type. `None` if the short
+    /// length is 0, which names none, or 1 though it counts the 2 bytes of a next ether type.
+    ///
+    /// <details><summary>Contract</summary>
+    ///
+    /// ```text
+    /// ensures { result ≡ known_payload_len (header_front self.now) }
+    /// ```
+    ///
+    /// </details>
+    #[inline]
+    pub fn expected_payload_len(&self) -> Option<usize> {
+        macsec_fields::payload_len(self.short_len, self.next_ether_type().is_some())
+    }
+
+    /// Sets the short length to name a payload of `payload_len` bytes, or to 0, which names none, if there is no room.
+    ///
+    /// There is room for 63 bytes, which is more than the 47 of IEEE 802.1AE. A next ether type takes 2 of them, so up to
+    /// 61 bytes of payload are named then. No short length names an encrypted or changed payload of 0 bytes.
+    ///
+    /// <details><summary>Contract</summary>
+    ///
+    /// ```text
+    /// ensures short_len { self.new.short_len
+    ///     ≡ short_len_for (payload_type_view self.old.ptype) payload_len }
+    /// ensures named { known_payload_len (header_front self.new)
+    ///     ≡ (if nat_eq self.new.short_len 0 then None else Some payload_len) }
+    /// ensures others { self.new ≡ record self.old { short_len = self.new.short_len } }
+    /// ```
+    ///
+    /// </details>
+    #[inline]
+    pub fn set_payload_len(&mut self, payload_len: usize) {
+        self.short_len = match self.ptype {
+            MacsecPType::Unmodified(_) if payload_len <= MacsecShortLen::MAX_USIZE - 2 => {
+                MacsecShortLen::from_len(payload_len + 2)
+            }
+            MacsecPType::Unmodified(_) => MacsecShortLen::ZERO,
+            _ => MacsecShortLen::from_len(payload_len),
+        };
+    }
+
+    /// The bytes of the tag on the wire, [`MacsecHeader::header_len`] of them.
+    ///
+    /// They are read back as this tag, but for a short length of 1 with a next ether type, which is refused when read.
+    ///
+    /// <details><summary>Contract</summary>
+    ///
+    /// ```text
+    /// ensures value { result.items ≡ sec_tag_bytes (sec_tag_view self.now) }
+    /// ensures len { length result.items ≡ sec_tag_len (header_front self.now) }
+    /// ensures fits { FitsSecTag (sec_tag_view self.now) }
+    /// ensures read { (more : List ℕ)
+    ///     → Means (result.items ++ more) (headers.Macsec (sec_tag_view self.now)) }
+    /// ensures read_back { (more : List ℕ) (h : MacsecHeader)
+    ///     → Means (result.items ++ more) (headers.Macsec (sec_tag_view h)) → h ≡ self.now }
+    /// ensures accepted { (more : List ℕ) → (IsTooShort (header_front self.now) → ⊥)
+    ///     → AcceptsHeader sources.Slice (result.items ++ more) kinds.Macsec }
+    /// ensures refused { (more : List ℕ) → IsTooShort (header_front self.now)
+    ///     → RefusesHeader sources.Slice (result.items ++ more) kinds.Macsec InvalidShortLen }
+    /// ```
+    ///
+    /// </details>
+    #[inline]
+    pub fn to_bytes(&self) -> ArrayVec<u8, 16> {
+        self.spelled()
+    }
+
+    /// The bytes of the tag, whose numbers have room in them.
+    #[inline]
+    fn spelled(&self) -> ArrayVec<u8, 16> {
+        let mut bytes = ArrayVec::new();
+        append(&mut bytes, bytes_of_u16(self.front()));
+        append(&mut bytes, bytes_of_u32(self.packet_nr));
+        if let Some(sci) = self.sci {
+            append(&mut bytes, bytes_of_u64(sci));
+        }
+        if let Some(ether_type) = self.next_ether_type() {
+            append(&mut bytes, bytes_of_u16(ether_type.0));
+        }
+        bytes
+    }
+
+    /// The first two bytes as one number, version and reserved bits 0.
+    #[inline]
+    fn front(&self) -> u16 {
+        0x4000 * u16::from(self.endstation_id)
+            + 0x2000 * u16::from(self.sci.is_some())
+            + 0x1000 * u16::from(self.scb)
+            + 0x0800 * u16::from(self.encrypted())
+            + 0x0400 * u16::from(self.userdata_changed())
+            + 0x0100 * u16::from(self.an.value())
+            + u16::from(self.short_len.value())
+    }
+}
+
+/// Appends the bytes of a number.
+#[inline]
+fn append<const N: usize>(tag: &mut ArrayVec<u8, 16>, number: [u8; N]) {
+    tag.try_extend_from_slice(&number).unwrap();
+}

@@ -1,0 +1,176 @@
+//! The fields of a VLAN tag in bytes that begin with one: the tag control information (IEEE 802.1Q, 9.6), which is 3 bits
+//! priority code point, 1 bit drop eligible indicator and 12 bits VLAN identifier, and the ether type of what follows.
+
+use crate::ether_tags::SingleVlanHeader;
+use crate::ether_tags::number_at::u16_at;
+use crate::ether_base::{EtherType, VlanId, VlanPcp};
+use core::ops::Range;
+
+/// The bytes of the tag control information.
+const TCI: Range<usize> = 0..2;
+
+/// The bytes of the ether type of what follows.
+const ETHER_TYPE: Range<usize> = 2..4;
+
+/// The priority code point.
+///
+/// <details><summary>Contract</summary>
+///
+/// The caller has to meet each `requires`: else the call may panic, or return something else.
+///
+/// ```text
+/// requires { 4 ≤ length bytes.now }
+/// ensures { result ≡ (vlan_of bytes.now).pcp }
+/// ```
+///
+/// </details>
+#[inline]
+pub fn priority_code_point(bytes: &[u8]) -> VlanPcp {
+    pcp_of(tag_control(bytes))
+}
+
+/// The drop eligible indicator.
+///
+/// <details><summary>Contract</summary>
+///
+/// The caller has to meet each `requires`: else the call may panic, or return something else.
+///
+/// ```text
+/// requires { 4 ≤ length bytes.now }
+/// ensures { bit result ≡ (vlan_of bytes.now).dei }
+/// ```
+///
+/// </details>
+#[inline]
+pub fn drop_eligible_indicator(bytes: &[u8]) -> bool {
+    dei_of(tag_control(bytes))
+}
+
+/// The VLAN identifier.
+///
+/// <details><summary>Contract</summary>
+///
+/// The caller has to meet each `requires`: else the call may panic, or return something else.
+///
+/// ```text
+/// requires { 4 ≤ length bytes.now }
+/// ensures { result ≡ (vlan_of bytes.now).vid }
+/// ```
+///
+/// </details>
+#[inline]
+pub fn vlan_identifier(bytes: &[u8]) -> VlanId {
+    vid_of(tag_control(bytes))
+}
+
+/// The ether type of what follows the tag.
+///
+/// <details><summary>Contract</summary>
+///
+/// The caller has to meet each `requires`: else the call may panic, or return something else.
+///
+/// ```text
+/// requires { 4 ≤ length bytes.now }
+/// ensures { result.0 ≡ (vlan_of bytes.now).ether_type }
+/// ```
+///
+/// </details>
+#[inline]
+pub fn ether_type(bytes: &[u8]) -> EtherType {
+    EtherType(u16_at(bytes, ETHER_TYPE))
+}
+
+/// All fields. The tag control information is read once: read three times, it is taken apart byte by byte.
+///
+/// <details><summary>Contract</summary>
+///
+/// The caller has to meet each `requires`: else the call may panic, or return something else.
+///
+/// ```text
+/// requires { 4 ≤ length bytes.now }
+/// ensures value { vlan_view result ≡ vlan_of bytes.now }
+/// ensures bytes { IsBytes bytes.now }
+/// ```
+///
+/// </details>
+#[inline]
+pub fn header(bytes: &[u8]) -> SingleVlanHeader {
+    let control = tag_control(bytes);
+    SingleVlanHeader {
+        pcp: pcp_of(control),
+        drop_eligible_indicator: dei_of(control),
+        vlan_id: vid_of(control),
+        ether_type: ether_type(bytes),
+    }
+}
+
+/// The bytes of a tag as an array, which is compared in one piece.
+///
+/// <details><summary>Contract</summary>
+///
+/// The caller has to meet each `requires`: else the call may panic, or return something else.
+///
+/// ```text
+/// requires { length bytes.now ≡ 4 }
+/// ensures { result ≡ bytes.now }
+/// ```
+///
+/// </details>
+#[inline]
+pub fn tag(bytes: &[u8]) -> [u8; 4] {
+    [bytes[0], bytes[1], bytes[2], bytes[3]]
+}
+
+/// The tag control information of three fields.
+///
+/// <details><summary>Contract</summary>
+///
+/// ```text
+/// ensures sum { result ≡ pcp * 2 ^ 13 + bit drop_eligible * 2 ^ 12 + vlan_id }
+/// ensures pcp { pcp < 8 }
+/// ensures vid { vlan_id < 4096 }
+/// ```
+///
+/// </details>
+#[inline]
+pub fn tag_control_of(pcp: VlanPcp, drop_eligible: bool, vlan_id: VlanId) -> u16 {
+    u16::from(pcp.value()) << 13 | (u16::from(drop_eligible) << 12 | vlan_id.value())
+}
+
+/// The tag control information and an ether type as one number.
+///
+/// <details><summary>Contract</summary>
+///
+/// ```text
+/// ensures { result ≡ control * 2 ^ 16 + ether_type }
+/// ```
+///
+/// </details>
+#[inline]
+pub fn joined(control: u16, ether_type: u16) -> u32 {
+    u32::from(control) << 16 | u32::from(ether_type)
+}
+
+/// The priority code point in a tag control information.
+#[inline]
+fn pcp_of(control: u16) -> VlanPcp {
+    VlanPcp::try_new((control >> 13) as u8).unwrap()
+}
+
+/// The drop eligible indicator in a tag control information.
+#[inline]
+fn dei_of(control: u16) -> bool {
+    control >> 12 & 1 == 1
+}
+
+/// The VLAN identifier in a tag control information.
+#[inline]
+fn vid_of(control: u16) -> VlanId {
+    VlanId::try_new(control & 0x0fff).unwrap()
+}
+
+/// The tag control information as one number.
+#[inline]
+fn tag_control(bytes: &[u8]) -> u16 {
+    u16_at(bytes, TCI)
+}

@@ -1,0 +1,61 @@
+#![doc = include_str!("../README.md")]
+#![no_std]
+#![forbid(unsafe_code)]
+
+//! # Headers and views
+//!
+//! The link layer of network packets: Ethernet II, VLAN tags (IEEE 802.1Q), MACsec SecTags (IEEE 802.1AE), Linux cooked
+//! capture v1 and ARP (RFC 826). No call allocates memory.
+//!
+//! Each format has up to three types. A `..Header` is a value with public fields, which is written by `to_bytes`. A
+//! `..HeaderSlice` is a view of the bytes of a header, and a `..Slice` one of a header and its payload: both borrow the
+//! packet, and read a field when it is asked for. `from_slice` makes any of the three from the front of a slice, or says
+//! in [`err`] why it can't.
+//!
+//! A frame is read header by header, each from the payload of the one before:
+//!
+//! ```
+//! # use etherpeel::*;
+//! # fn main() -> Result<(), Box<dyn std::error::Error>> {
+//! let frame = [
+//!     0xFF, 0xFF, 0xFF, 0xFF, 0xFF, 0xFF, 0x02, 0x00, 0x00, 0x00, 0x00, 0x01, 0x81, 0x00, // Ethernet II
+//!     0xB1, 0x23, 0x08, 0x00, // VLAN
+//! ];
+//! let ethernet = Ethernet2Slice::from_slice_without_fcs(&frame)?;
+//! assert_eq!(ethernet.ether_type(), ether_type::VLAN_TAGGED_FRAME);
+//!
+//! let vlan = SingleVlanSlice::from_slice(ethernet.payload_slice())?;
+//! assert_eq!(vlan.vlan_identifier(), VlanId::try_new(0x123)?);
+//! assert_eq!(vlan.ether_type(), ether_type::IPV4);
+//! # Ok(())
+//! # }
+//! ```
+
+#[doc(hidden)]
+pub mod ether_base;
+#[doc(hidden)]
+pub mod ether_tags;
+#[doc(hidden)]
+pub mod ether_sll;
+#[doc(hidden)]
+pub mod ether_arp;
+pub mod ether_peel;
+pub mod ether_sll2;
+pub mod ether_packet;
+pub mod ether_filter;
+pub mod ether_pcap;
+pub mod ether_content;
+
+pub use crate::ether_arp::{ArpEthIpv4Packet, ArpPacket, ArpPacketSlice};
+pub use crate::ether_base::{
+    ArpHardwareId, ArpOperation, EtherType, LenSource, LinuxNonstandardEtherType,
+    LinuxSllPacketType, LinuxSllProtocolType, MacsecAn, MacsecShortLen, VlanId, VlanPcp, err,
+    ether_type, write_front,
+};
+pub use crate::ether_sll::{LinkHeader, LinkSlice, LinuxSllHeader, LinuxSllHeaderSlice, LinuxSllSlice};
+pub use crate::ether_tags::{
+    DoubleVlanHeader, DoubleVlanSlice, EtherPayloadSlice, Ethernet2Header, Ethernet2HeaderSlice,
+    Ethernet2Slice, LinkExtHeader, LinkExtSlice, LinuxSllPayloadSlice, MacsecHeader,
+    MacsecHeaderSlice, MacsecPType, MacsecPayloadSlice, MacsecSlice, SingleVlanHeader,
+    SingleVlanHeaderSlice, SingleVlanSlice, VlanHeader, VlanSlice,
+};

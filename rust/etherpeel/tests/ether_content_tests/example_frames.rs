@@ -1,0 +1,5 @@
+//! A filter, a test of snap lengths and a generator, as examples of functions over `ether_packet`. No call allocates memory.
+
+pub mod arp_generator;
+pub mod snap_checker;
+pub mod vlan_filter;

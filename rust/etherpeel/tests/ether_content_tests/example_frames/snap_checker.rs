@@ -1,0 +1,42 @@
+//! A test of snap lengths, as an example of a function over `ether_packet`.
+
+use etherpeel::ether_packet::PacketSlice;
+use etherpeel::ether_peel::Start;
+
+/// Returns `true` if a capture with this snap length keeps all headers of a frame.
+///
+/// The headers are those of [`PacketSlice::from_slice`]. The capture holds the first `snap_len` bytes of the frame, or
+/// the whole frame if it is shorter. The payload whose length a SecTag names has to be kept too, since the tag is
+/// refused without it.
+///
+/// A capture of a frame with a frame check sequence has lost it. The headers are then kept if it is read as a frame
+/// without one.
+///
+/// # Examples
+///
+/// ```
+/// # use etherpeel::*;
+/// # use etherpeel::example_frames::snap_checker::*;
+/// let frame = [
+///     0xFF, 0xFF, 0xFF, 0xFF, 0xFF, 0xFF, 0x02, 0x00, 0x00, 0x00, 0x00, 0x01, 0x81, 0x00, // Ethernet II
+///     0xB1, 0x23, 0x08, 0x00, // VLAN
+///     0x45,
+/// ];
+/// assert!(keeps_all_headers(Start::Ethernet2, &frame, 18));
+/// assert!(!keeps_all_headers(Start::Ethernet2, &frame, 17));
+/// ```
+///
+/// <details><summary>Contract</summary>
+///
+/// ```text
+/// ensures same { has_fcs (packet_start start) ≡ false → (hs ks : List Header) (e f : Ending)
+///     → Walk (packet_start start) frame.now hs e
+///     → Walk (packet_start start) (take snap_len frame.now) ks f → IsTrue result ↔ (ks ≡ hs) }
+/// ensures reach { (hs : List Header) (e : Ending)
+///     → Walk (packet_start start) frame.now hs e → IsTrue result ↔ (reach 0 hs ≤ snap_len) }
+/// ```
+///
+/// </details>
+pub fn keeps_all_headers(start: Start, frame: &[u8], snap_len: usize) -> bool {
+    PacketSlice::from_slice(start, frame).min_snap_len() <= snap_len
+}

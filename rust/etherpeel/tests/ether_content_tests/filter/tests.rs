@@ -1,0 +1,5 @@
+//! Which packets match, where texts are refused, and the examples of the documentation.
+mod content;
+mod examples;
+mod matching;
+mod refusals;

@@ -1,0 +1,143 @@
+//! Packets that match, by what the words of an expression say.
+use etherpeel::ether_filter::{Filter, Packet};
+use etherpeel::ether_peel::Start;
+use etherpeel::EtherType;
+use crate::kit::Fail;
+
+/// ARP; VLAN 5, ARP; VLAN 7, ARP; VLAN 5, IPv4; IPv4; service tag 100, VLAN 5, IPv4. The ARP packets have 28 bytes.
+const FRAMES: [&[u8]; 6] = [
+    b"\xFF\xFF\xFF\xFF\xFF\xFF\x02\x00\x5E\x10\x00\x01\x08\x06\x00\x01\x08\x00\x06\x04\x00\x01\x02\x00\x5E\x10\x00\x01\xC0\x00\x02\x01\x00\x00\x00\x00\x00\x00\xC0\x00\x02\x02",
+    b"\xFF\xFF\xFF\xFF\xFF\xFF\x02\x00\x5E\x10\x00\x01\x81\x00\x00\x05\x08\x06\x00\x01\x08\x00\x06\x04\x00\x01\x02\x00\x5E\x10\x00\x01\xC0\x00\x02\x01\x00\x00\x00\x00\x00\x00\xC0\x00\x02\x02",
+    b"\xFF\xFF\xFF\xFF\xFF\xFF\x02\x00\x5E\x10\x00\x01\x81\x00\x00\x07\x08\x06\x00\x01\x08\x00\x06\x04\x00\x01\x02\x00\x5E\x10\x00\x01\xC0\x00\x02\x01\x00\x00\x00\x00\x00\x00\xC0\x00\x02\x02",
+    b"\x02\x00\x5E\x10\x00\x02\x02\x00\x5E\x10\x00\x01\x81\x00\xA0\x05\x08\x00\x45",
+    b"\x03\x00\x5E\x10\x00\x02\x02\x00\x5E\x10\x00\x01\x08\x00\x45",
+    b"\x02\x00\x5E\x10\x00\x02\x02\x00\x5E\x10\x00\x01\x88\xA8\x00\x64\x81\x00\x00\x05\x08\x00\x45",
+];
+
+/// How many bytes each packet had on the wire.
+const ORIGINAL_LENS: [u32; 6] = [60, 64, 64, 100, 15, 104];
+
+/// The numbers of the packets that match.
+fn matching(expression: &[u8]) -> Option<[bool; 6]> {
+    let Ok(filter) = Filter::parse(expression) else {
+        return None;
+    };
+    let mut found = [false; 6];
+    for (i, frame) in FRAMES.iter().enumerate() {
+        let packet = Packet {
+            start: Start::Ethernet2,
+            frame: *frame,
+            captured_len: 60,
+            original_len: ORIGINAL_LENS[i],
+        };
+        found[i] = filter.matches(&packet);
+    }
+    Some(found)
+}
+
+const Y: bool = true;
+
+const N: bool = false;
+
+/// An expression, and which of the packets match.
+#[rustfmt::skip]
+static MATCHING: [(&[u8], [bool; 6]); 24] = [
+    (b"vlan 5 or arp", [Y, Y, Y, Y, N, Y]),
+    (b"arp or vlan 5", [Y, Y, Y, Y, N, Y]),
+    (b"vlan 7 or vlan 5", [N, Y, Y, Y, N, Y]),
+    (b"vlan and arp", [N, Y, Y, N, N, N]),
+    (b"arp", [Y, Y, Y, N, N, N]),
+    (b"not vlan", [Y, N, N, N, Y, N]),
+    (b"!(vlan 5||arp)", [N, N, N, N, Y, N]),
+    (b"not not vlan 0x7", [N, N, Y, N, N, N]),
+    (b"outer vlan 5", [N, Y, N, Y, N, N]),
+    (b"outer vlan 100", [N, N, N, N, N, Y]),
+    (b"inner vlan 5", [N, N, N, N, N, Y]),
+    (b"inner vlan 100", [N, N, N, N, N, N]),
+    (b"ip", [N, N, N, Y, Y, Y]),
+    (b"ether proto 0x88a8", [N, N, N, N, N, Y]),
+    (b"ip6 or macsec or refused", [N, N, N, N, N, N]),
+    (b"ether src 02:00:5e:10:00:01", [Y, Y, Y, Y, Y, Y]),
+    (b"ether dst 02:00:5E:10:00:02", [N, N, N, Y, N, Y]),
+    (b"ether host 03:00:5e:10:00:02", [N, N, N, N, Y, N]),
+    (b"ether broadcast", [Y, Y, Y, N, N, N]),
+    (b"ether multicast", [Y, Y, Y, N, Y, N]),
+    (b"cut", [N, Y, Y, Y, N, Y]),
+    (b"less 64", [Y, Y, Y, N, Y, N]),
+    (b"greater 64", [N, Y, Y, Y, N, Y]),
+    (b"vlan 5 and (arp or ip) and not outer vlan 100", [N, Y, N, Y, N, N]),
+];
+
+#[test]
+fn of_six_packets() {
+    let rt = crate::kit::HostRuntime;
+    for &(expression, wanted) in &MATCHING {
+        assert!(matching(expression) == Some(wanted), "{expression:?}");
+    }
+}
+
+/// Four VLAN tags, 1 to 4, before IPv4.
+const FOUR_TAGS: &[u8] =
+    b"\x02\x00\x5E\x10\x00\x02\x02\x00\x5E\x10\x00\x01\x81\x00\x00\x01\x81\x00\x00\x02\x81\x00\x00\x03\x81\x00\x00\x04\x08\x00";
+
+/// VLAN 9 and no more of an ARP packet in a SecTag that leaves its payload readable.
+const IN_SEC_TAG: &[u8] =
+    b"\x02\x00\x5E\x10\x00\x02\x02\x00\x5E\x10\x00\x01\x88\xE5\x00\x00\x00\x00\x00\x01\x81\x00\x00\x09\x08\x06";
+
+/// The same in a SecTag that encrypts its payload.
+const ENCRYPTED: &[u8] =
+    b"\x02\x00\x5E\x10\x00\x02\x02\x00\x5E\x10\x00\x01\x88\xE5\x0C\x00\x00\x00\x00\x01\x81\x00\x00\x09\x08\x06";
+
+/// A broadcast of IPv6 in Linux cooked capture v1, from Ethernet.
+const COOKED: &[u8] = b"\x00\x01\x00\x01\x00\x06\xFF\xFF\xFF\xFF\xFF\xFF\x00\x00\x86\xDD\x60";
+
+/// Less than the fourth tag, and less than the cooked header.
+const FOUR_TAGS_CUT: &[u8] =
+    b"\x02\x00\x5E\x10\x00\x02\x02\x00\x5E\x10\x00\x01\x81\x00\x00\x01\x81\x00\x00\x02\x81\x00\x00\x03\x81\x00\x00\x04\x08";
+
+const COOKED_CUT: &[u8] = b"\x00\x01\x00\x01\x00\x06\xFF\xFF\xFF\xFF\xFF\xFF\x00\x00\x86";
+
+const ETH: Start = Start::Ethernet2;
+
+const FCS: Start = Start::Ethernet2Fcs;
+
+const SLL: Start = Start::LinuxSll;
+
+const TAG: Start = Start::EtherType(EtherType::VLAN_TAGGED_FRAME);
+
+/// A start, a frame, an expression, and whether they match.
+#[rustfmt::skip]
+static OTHER: [(Start, &[u8], &[u8], bool); 16] = [
+    (ETH, FOUR_TAGS, b"outer vlan 1 and inner vlan 4", true),
+    (ETH, FOUR_TAGS, b"vlan 3 and vlan 2", true),
+    (ETH, FOUR_TAGS, b"inner vlan 2 or inner vlan 3", false),
+    (ETH, FOUR_TAGS_CUT, b"refused and vlan 3", true),
+    (ETH, FOUR_TAGS_CUT, b"vlan 4 or ip", false),
+    (ETH, IN_SEC_TAG, b"macsec and vlan 9 and arp", true),
+    (ETH, IN_SEC_TAG, b"refused", true),
+    (ETH, ENCRYPTED, b"macsec", true),
+    (ETH, ENCRYPTED, b"vlan or arp or refused", false),
+    (SLL, COOKED, b"ip6", true),
+    (SLL, COOKED, b"ether broadcast or ether src ff:ff:ff:ff:ff:ff", false),
+    (SLL, COOKED_CUT, b"refused", true),
+    (TAG, b"\x00\x05\x08\x00\x45", b"vlan 5 and ip", true),
+    (TAG, b"\x00", b"ether proto 0x8100 and refused", true),
+    (TAG, b"\x00", b"vlan", false),
+    (FCS, FOUR_TAGS, b"vlan 3 and refused", true),
+];
+
+#[test]
+fn of_other_packets() -> Result<(), Fail> {
+    let rt = crate::kit::HostRuntime;
+    for &(start, frame, expression, wanted) in &OTHER {
+        let packet = Packet {
+            start,
+            frame,
+            captured_len: frame.len(),
+            original_len: 60,
+        };
+        let filter = Filter::parse(expression).ok().ok_or("an expression")?;
+        assert!(filter.matches(&packet) == wanted, "{expression:?}");
+    }
+    Ok(())
+}

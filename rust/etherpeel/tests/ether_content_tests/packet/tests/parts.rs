@@ -1,0 +1,135 @@
+//! Packets that are read, and written with their headers as they are, or as another list.
+use super::frames::{INTEGRITY, TWICE_TAGGED_ARP_REQUEST};
+use super::{equal, put};
+use etherpeel::ether_packet::{PacketBuilder, PacketContent, PacketSlice};
+use etherpeel::ether_peel::Start;
+use etherpeel::EtherType;
+use etherpeel::err::{Layer, SliceWriteSpaceError};
+use crate::kit::Abort;
+
+/// Two bytes of a packet on the loopback device, whose protocol number is kept: netlink, of hardware type 824.
+const NETLINK: [u8; 18] = [
+    0, 4, 0x03, 0x38, 0, 0, 0, 0, 0, 0, 0, 0, 0, 0, 0, 0x10, 0x11, 0x22,
+];
+
+/// An Ethernet II header, a SecTag with both reserved bits that names 6 bytes of secured data, these from the ether type on, and 2 bytes
+/// of an integrity check value.
+const NAMED: [u8; 28] = [
+    0xFF, 0xFF, 0xFF, 0xFF, 0xFF, 0xFF, 2, 0, 0, 0, 0, 1, 0x88, 0xE5, // Ethernet II
+    0x00, 0xC6, 0, 0, 0, 1, 0x08, 0x00, // SecTag
+    0x45, 0x11, 0x22, 0x33, 0xEE, 0xEE,
+];
+
+/// [`NAMED`] without the reserved bits, up to the integrity check value.
+const NAMED_AGAIN: &[u8] = &[
+    0xFF, 0xFF, 0xFF, 0xFF, 0xFF, 0xFF, 2, 0, 0, 0, 0, 1, 0x88, 0xE5, // Ethernet II
+    0x00, 0x06, 0, 0, 0, 1, 0x08, 0x00, // SecTag
+    0x45, 0x11, 0x22, 0x33,
+];
+
+/// A start, the first bytes of a frame, and the first bytes of a list that are written.
+type Row = (
+    &'static str,
+    Start,
+    &'static [u8],
+    usize,
+    &'static [u8],
+    usize,
+);
+
+#[rustfmt::skip]
+static ROWS: [Row; 5] = [
+    ("two tags", Start::Ethernet2, &TWICE_TAGGED_ARP_REQUEST, 50, &TWICE_TAGGED_ARP_REQUEST, 50),
+    ("up to the integrity check value", Start::Ethernet2, &NAMED, 28, NAMED_AGAIN, 26),
+    ("the example of IEEE 802.1AE", Start::Ethernet2, &INTEGRITY, 86, &INTEGRITY, 70),
+    ("without the check sequence", Start::Ethernet2Fcs, &TWICE_TAGGED_ARP_REQUEST, 20, &TWICE_TAGGED_ARP_REQUEST, 16),
+    ("netlink", Start::LinuxSll, &NETLINK, 18, &NETLINK, 18),
+];
+
+/// Writes the parts of a packet unchanged to a target that holds 0xAA, and compares the front of it.
+fn goes_back(rt: &impl Abort, name: &str, start: Start, frame: &[u8], wanted: &[u8]) {
+    let (mut target, mut after) = ([0xAA; 96], [0xAA; 96]);
+    put(&mut after, 0, wanted);
+    let Some(parts) = PacketSlice::from_slice(start, frame).to_parts() else {
+        panic!("{name}: no link");
+    };
+    let written = parts.builder().write_unchanged(&mut target);
+    equal(rt, name, &(written, target), &(Ok(wanted.len()), after));
+}
+
+#[test]
+fn written_as_they_were_read() {
+    let rt = crate::kit::HostRuntime;
+    for &(name, start, frame, len, wanted, written_len) in &ROWS {
+        let wanted = wanted.get(..written_len).unwrap_or(&[]);
+        goes_back(&rt, name, start, frame.get(..len).unwrap_or(&[]), wanted);
+    }
+}
+
+#[test]
+fn written_as_another_list() {
+    let rt = crate::kit::HostRuntime;
+    let packet = PacketSlice::from_slice(Start::Ethernet2, &TWICE_TAGGED_ARP_REQUEST);
+    let Some(parts) = packet.to_parts() else {
+        panic!("no link");
+    };
+    let exts = parts.link_exts();
+    let (count, ether_type) = (exts.len(), parts.ether_type);
+    let outer = PacketBuilder {
+        link_exts: exts.get(1..).unwrap_or(&[]),
+        ..parts.builder()
+    };
+    let mut target = [0; 46];
+    let written = outer.write(&mut target);
+    equal(
+        &rt,
+        "the customer tag",
+        &(count, ether_type, written, &target[..12], &target[14..]),
+        &(
+            2,
+            EtherType(0),
+            Ok(46),
+            &TWICE_TAGGED_ARP_REQUEST[..12],
+            &TWICE_TAGGED_ARP_REQUEST[18..],
+        ),
+    );
+}
+
+#[test]
+fn without_a_link() {
+    let rt = crate::kit::HostRuntime;
+    let tag = [0x00, 0x64, 0x08, 0x00];
+    let start = Start::EtherType(EtherType::VLAN_TAGGED_FRAME);
+    let parts = PacketSlice::from_slice(start, &tag).to_parts();
+    let cut = PacketSlice::from_slice(Start::Ethernet2, &tag).to_parts();
+    equal(
+        &rt,
+        "a tag, and a cut header",
+        &[parts.is_none(), cut.is_none()],
+        &[true; 2],
+    );
+}
+
+#[test]
+fn without_room() {
+    let rt = crate::kit::HostRuntime;
+    let Some(parts) = PacketSlice::from_slice(Start::LinuxSll, &NETLINK).to_parts() else {
+        panic!("no link");
+    };
+    let mut target = [0xAA; 17];
+    let error = SliceWriteSpaceError {
+        required_len: 18,
+        len: 17,
+        layer: Layer::EtherPayload,
+        layer_start_offset: 0,
+    };
+    let builder = parts.builder();
+    let is_payload = matches!(builder.content, PacketContent::Payload(_, [0x11, 0x22]));
+    let refused = builder.write_unchanged(&mut target);
+    equal(
+        &rt,
+        "a byte less",
+        &(is_payload, refused, target),
+        &(true, Err(error), [0xAA; 17]),
+    );
+}

@@ -1,0 +1,2 @@
+//! Tests of `ether_pcap`, and what callers learn of the derived traits of its types.
+mod tests;

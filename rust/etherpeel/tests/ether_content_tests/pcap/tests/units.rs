@@ -1,0 +1,104 @@
+//! Whole files of both formats, read one unit at a time.
+use super::captures::{BIG_MICROSECONDS, BIG_SLL, LITTLE_FCS, LITTLE_NANOSECONDS};
+use super::equal;
+use super::pcapng_captures::{BIG, LITTLE};
+use arrayvec::ArrayVec;
+use etherpeel::ether_pcap::{
+    CaptureInterface, CaptureReader, CaptureUnit, CapturedPacket, LinkType, Timestamp,
+};
+use crate::kit::Fail;
+
+/// The length of a unit, and the seconds, nanoseconds, original length and place of its packet.
+type Shown = (usize, Option<(Option<(u64, u32)>, u32, usize, usize)>);
+
+/// The packet of a unit as it is shown, in a file with one interface of this link type.
+fn packet<'a>(
+    shown: &Shown,
+    link_type: LinkType,
+    fcs_len: Option<u8>,
+    interface: Option<u32>,
+    file: &'a [u8],
+) -> Option<CapturedPacket<'a>> {
+    let Some((time, original_len, start, end)) = shown.1 else {
+        return None;
+    };
+    let time = match time {
+        Some((seconds, nanoseconds)) => Some(Timestamp {
+            seconds,
+            nanoseconds,
+        }),
+        None => None,
+    };
+    Some(CapturedPacket {
+        time,
+        interface,
+        original_len,
+        link_type,
+        fcs_len,
+        packet: file.get(start..end).unwrap_or(&[]),
+    })
+}
+
+/// Both files of pcapng: their interface counts nanoseconds, and has a frame check sequence of no bytes.
+const BLOCKS: &[Shown] = &[
+    (28, None),
+    (40, None),
+    (16, None),
+    (48, Some((Some((1_700_000_000, 123_456_789)), 60, 112, 128))),
+    (56, Some((None, 42, 144, 183))),
+];
+
+/// A file with its link type, the length of its frame check sequence and the number of its interface, and its units.
+type Row = (
+    &'static str,
+    &'static [u8],
+    LinkType,
+    Option<u8>,
+    Option<u32>,
+    &'static [Shown],
+);
+
+#[rustfmt::skip]
+static FILES: [Row; 6] = [
+    ("microseconds", &BIG_MICROSECONDS, LinkType::ETHERNET, None, None, &[
+        (24, None),
+        (58, Some((Some((1_700_000_000, 123_456_000)), 60, 40, 82))),
+        (32, Some((Some((1_700_000_001, 5_000)), 16, 98, 114))),
+    ]),
+    ("nanoseconds", &LITTLE_NANOSECONDS, LinkType::ETHERNET, None, None, &[
+        (24, None),
+        (58, Some((Some((1_700_000_000, 123_456_789)), 60, 40, 82))),
+        (32, Some((Some((1_700_000_001, 5)), 16, 98, 114))),
+    ]),
+    ("a frame check sequence", &LITTLE_FCS, LinkType::ETHERNET, Some(4), None, &[
+        (24, None),
+        (36, Some((Some((1, 2_000)), 20, 40, 60))),
+    ]),
+    ("cooked captures", &BIG_SLL, LinkType::LINUX_SLL, None, None, &[
+        (24, None),
+        (33, Some((Some((4_294_967_295, 999_999_999)), 17, 40, 57))),
+    ]),
+    ("blocks", &BIG, LinkType::ETHERNET, Some(0), Some(0), BLOCKS),
+    ("blocks, least significant byte first", &LITTLE, LinkType::ETHERNET, Some(0), Some(0), BLOCKS),
+];
+
+#[test]
+fn of_whole_files() -> Result<(), Fail> {
+    let rt = crate::kit::HostRuntime;
+    for &(name, file, link_type, fcs_len, interface, units) in &FILES {
+        let mut reader = CaptureReader::new(ArrayVec::<CaptureInterface, 4>::new());
+        let mut place = 0;
+        for shown in units {
+            let has_begun = reader.has_begun();
+            let found = reader.read(file.get(place..).unwrap_or(&[]))?;
+            let wanted = CaptureUnit {
+                len: shown.0,
+                packet: packet(shown, link_type, fcs_len, interface, file),
+            };
+            equal(&rt, name, &(has_begun, &found), &(place > 0, &wanted));
+            place = place.saturating_add(found.len);
+        }
+        equal(&rt, name, &(reader.has_begun(), place), &(true, file.len()));
+    }
+    Ok(())
+}

@@ -1,0 +1,251 @@
+//! Ethernet II headers and frames.
+use super::{equal, ipv4};
+use crate::test_frames::{ARP_REQUEST, FRAME, SPANNING_TREE};
+use etherpeel::err::{Layer, SliceWriteSpaceError};
+use etherpeel::{
+    EtherType, Ethernet2Header, Ethernet2HeaderSlice, Ethernet2Slice, SingleVlanSlice, VlanId,
+    ether_type,
+};
+use crate::kit::Abort;
+use crate::kit::Fail;
+
+/// The header of [`FRAME`].
+const HEADER: Ethernet2Header = Ethernet2Header {
+    source: [2, 0, 0, 0, 0, 1],
+    destination: [0xFF; 6],
+    ether_type: EtherType::IPV4,
+};
+
+const LAYER: Layer = Layer::Ethernet2Header;
+
+#[test]
+fn the_example_of_the_facade() -> Result<(), Fail> {
+    let rt = crate::kit::HostRuntime;
+    let frame = [
+        0xFF, 0xFF, 0xFF, 0xFF, 0xFF, 0xFF, 0x02, 0x00, 0x00, 0x00, 0x00, 0x01, 0x81, 0x00, // Ethernet II
+        0xB1, 0x23, 0x08, 0x00, // VLAN
+    ];
+    let ethernet = Ethernet2Slice::from_slice_without_fcs(&frame)?;
+    let vlan = SingleVlanSlice::from_slice(ethernet.payload_slice())?;
+    equal(
+        &rt,
+        "a frame, header by header",
+        &(
+            ethernet.ether_type(),
+            vlan.vlan_identifier(),
+            vlan.ether_type(),
+        ),
+        &(
+            ether_type::VLAN_TAGGED_FRAME,
+            VlanId::try_new(0x123)?,
+            ether_type::IPV4,
+        ),
+    );
+    Ok(())
+}
+
+/// A frame, and its header.
+static FRAMES: [(&str, &[u8], Ethernet2Header); 3] = [
+    ("the example", &FRAME, HEADER),
+    (
+        "a captured header",
+        &ARP_REQUEST,
+        Ethernet2Header {
+            source: [0x02, 0x00, 0x5E, 0x10, 0x00, 0x01],
+            destination: [0xFF; 6],
+            ether_type: EtherType::ARP,
+        },
+    ),
+    (
+        "a length in the place of the type",
+        &SPANNING_TREE,
+        Ethernet2Header {
+            source: [0x02, 0x00, 0x5E, 0x10, 0x00, 0x01],
+            destination: [0x01, 0x80, 0xC2, 0x00, 0x00, 0x00],
+            ether_type: EtherType(38),
+        },
+    ),
+];
+
+#[test]
+fn headers() {
+    let rt = crate::kit::HostRuntime;
+    for &(name, frame, header) in &FRAMES {
+        let bytes = header.to_bytes();
+        let wanted = (header, frame.get(14..).unwrap_or(&[]));
+        equal(
+            &rt,
+            name,
+            &(
+                Ethernet2Header::from_slice(frame),
+                Ethernet2Header::read_from_slice(frame).ok(),
+                Some(bytes.as_slice()),
+                Ethernet2Header::from_bytes(bytes),
+            ),
+            &(Ok(wanted), Some(wanted), frame.get(..14), header),
+        );
+    }
+    equal(
+        &rt,
+        "lengths and the default",
+        &(
+            HEADER.header_len(),
+            Ethernet2Header::LEN,
+            Ethernet2Header::SERIALIZED_SIZE,
+            Ethernet2Header::default().to_bytes(),
+        ),
+        &(14, 14, 14, [0; 14]),
+    );
+}
+
+#[test]
+fn slices_that_are_too_short() {
+    let rt = crate::kit::HostRuntime;
+    let bytes = &FRAME[..13];
+    equal(
+        &rt,
+        "thirteen bytes, and seventeen before a check sequence",
+        &(
+            [
+                Ethernet2Header::from_slice(bytes),
+                Ethernet2Header::read_from_slice(bytes),
+            ],
+            Ethernet2HeaderSlice::from_slice(bytes).err(),
+            [
+                Ethernet2Slice::from_slice_without_fcs(bytes).err(),
+                Ethernet2Slice::from_slice_with_crc32_fcs(&FRAME[..17]).err(),
+            ],
+        ),
+        &(
+            [
+                Err(cut_short!(14, 13, LAYER)),
+                Err(cut_short!(14, 13, LAYER)),
+            ],
+            Some(cut_short!(14, 13, LAYER)),
+            [
+                Some(cut_short!(14, 13, LAYER)),
+                Some(cut_short!(18, 17, LAYER)),
+            ],
+        ),
+    );
+}
+
+#[test]
+fn written_to_slices() -> Result<(), Fail> {
+    let rt = crate::kit::HostRuntime;
+    let mut target = [0x55; 20];
+    let rest = HEADER.write_to_slice(&mut target)?;
+    let len = rest.len();
+    if let Some(first) = rest.first_mut() {
+        *first = 0xAA;
+    }
+    equal(
+        &rt,
+        "the front, and the rest lent",
+        &(len, &target[..14], &target[14..]),
+        &(6, &FRAME[..14], &[0xAA, 0x55, 0x55, 0x55, 0x55, 0x55]),
+    );
+    let mut target = [0x55; 13];
+    let refused = SliceWriteSpaceError {
+        required_len: 14,
+        len: 13,
+        layer: LAYER,
+        layer_start_offset: 0,
+    };
+    let error = HEADER.write_to_slice(&mut target).err();
+    equal(
+        &rt,
+        "thirteen bytes",
+        &(error, target),
+        &(Some(refused), [0x55; 13]),
+    );
+    Ok(())
+}
+
+#[test]
+fn views_of_headers() -> Result<(), Fail> {
+    let rt = crate::kit::HostRuntime;
+    let view = Ethernet2HeaderSlice::from_slice(&FRAME)?;
+    equal(
+        &rt,
+        "a header",
+        &(
+            view.destination(),
+            view.source(),
+            view.ether_type(),
+            view.slice(),
+            view.to_header(),
+        ),
+        &(
+            [0xFF; 6],
+            [2, 0, 0, 0, 0, 1],
+            EtherType::IPV4,
+            &FRAME[..14],
+            HEADER,
+        ),
+    );
+    Ok(())
+}
+
+/// The view of [`FRAME`] with this payload and check sequence.
+fn is_frame(
+    rt: &impl Abort,
+    name: &str,
+    view: &Ethernet2Slice<'_>,
+    payload: &[u8],
+    fcs: Option<[u8; 4]>,
+) {
+    equal(
+        rt,
+        name,
+        &(
+            (view.slice(), view.header_slice(), view.payload_slice()),
+            (view.header_len(), view.fcs(), view.payload()),
+            (view.destination(), view.source(), view.ether_type()),
+            view.to_header(),
+        ),
+        &(
+            (FRAME.as_slice(), &FRAME[..14], payload),
+            (14, fcs, ipv4(payload)),
+            ([0xFF; 6], [2, 0, 0, 0, 0, 1], EtherType::IPV4),
+            HEADER,
+        ),
+    );
+}
+
+#[test]
+fn views_of_frames() -> Result<(), Fail> {
+    let rt = crate::kit::HostRuntime;
+    let with = Ethernet2Slice::from_slice_with_crc32_fcs(&FRAME)?;
+    let without = Ethernet2Slice::from_slice_without_fcs(&FRAME)?;
+    let fcs = Some([0x11, 0x22, 0x33, 0x44]);
+    is_frame(&rt, "with a check sequence", &with, &[], fcs);
+    is_frame(&rt, "without one", &without, &FRAME[14..], None);
+    let payload = Ethernet2Slice::from_slice_without_fcs(&SPANNING_TREE)?.payload();
+    equal(
+        &rt,
+        "a length in the place of the type",
+        &(payload.ether_type, payload.payload),
+        &(EtherType(38), &SPANNING_TREE[14..]),
+    );
+    Ok(())
+}
+
+#[test]
+fn shown_by_debug() -> Result<(), Fail> {
+    let rt = crate::kit::HostRuntime;
+    let header = Ethernet2HeaderSlice::from_slice(&FRAME)?;
+    let with = Ethernet2Slice::from_slice_with_crc32_fcs(&FRAME)?;
+    let without = Ethernet2Slice::from_slice_without_fcs(&FRAME)?;
+    let shown = format!("{:?}", (HEADER, header, with, without));
+    equal(
+        &rt,
+        "a header, its view and two frames",
+        &shown.as_str(),
+        &"(Ethernet2Header { source: [2, 0, 0, 0, 0, 1], destination: [255, 255, 255, 255, 255, 255], ether_type: 0x0800 (Internet Protocol version 4 (IPv4)) }, \
+Ethernet2HeaderSlice { slice: [255, 255, 255, 255, 255, 255, 2, 0, 0, 0, 0, 1, 8, 0] }, \
+Ethernet2Slice { header: Ethernet2Header { source: [2, 0, 0, 0, 0, 1], destination: [255, 255, 255, 255, 255, 255], ether_type: 0x0800 (Internet Protocol version 4 (IPv4)) }, payload: EtherPayloadSlice { ether_type: 0x0800 (Internet Protocol version 4 (IPv4)), len_source: Slice, payload: [] }, fcs: Some([17, 34, 51, 68]) }, \
+Ethernet2Slice { header: Ethernet2Header { source: [2, 0, 0, 0, 0, 1], destination: [255, 255, 255, 255, 255, 255], ether_type: 0x0800 (Internet Protocol version 4 (IPv4)) }, payload: EtherPayloadSlice { ether_type: 0x0800 (Internet Protocol version 4 (IPv4)), len_source: Slice, payload: [17, 34, 51, 68] }, fcs: None })",
+    );
+    Ok(())
+}
