@@ -90,17 +90,18 @@ def imports_of(crate, path, texts):
     return [NAME, *(f"{NAME}::{name}" for name in below), *around]
 
 
-def erase(text, crate, names, imports=()):
-    """The text of a source without its proofs."""
+def erase(text, crate, own, imports=()):
+    """The text of a source without its proofs; `own` are the names of all sources."""
     tokens = lex(text)
+    in_example = check.Names(own, "example")
     for token in tokens:
         begin = token.line - token.before.count("\n")
         module = "" if crate == FACADE else crate
-        token.before = docs.documentation(token.before, begin, module, imports, names)
+        token.before = docs.documentation(token.before, begin, module, imports, in_example)
     for rule in rules.RULES if crate in LIBRARIES else testing.RULES:
         rule(tokens)
     rules.paths(tokens, crate, library_path if crate in LIBRARIES else test_path)
-    check.check(tokens, names)
+    check.check(tokens, check.Names(own, "library" if crate in LIBRARIES else "test"))
     return joined(tokens)
 
 
@@ -126,15 +127,15 @@ def rooted(crate, text):
     return "\n".join([*lines[:end], TEST_ROOT + modules, *lines[end + 1:]])
 
 
-def made(crates, known_too, tests):
+def made(crates, known_too):
     """The files that are made of crates, each with its path in the result; what is refused has None for its path."""
     texts = {crate: dict(sources(crate)) for crate in crates}
     own = check.names_in(text for files in texts.values() for text in files.values())
-    names = check.Names(own | known_too | {*LIBRARIES, *EXAMPLES, NAME}, tests)
+    own |= known_too | {*LIBRARIES, *EXAMPLES, NAME}
     for crate, files in texts.items():
         for path, text in files.items():
             try:
-                erased = erase(text, crate, names, imports_of(crate, path, files))
+                erased = erase(text, crate, own, imports_of(crate, path, files))
                 is_root = path == "lib.rt" and crate in [FACADE, *TESTS]
                 yield place(crate, path), rooted(crate, erased) if is_root else erased
             except Refused as refused:
@@ -143,10 +144,10 @@ def made(crates, known_too, tests):
 
 def result():
     """The files of the result, or SystemExit with all that was refused."""
-    found = list(made(LIBRARIES, set(), False))
+    found = list(made(LIBRARIES, set()))
     known = check.names_in(text for crate in LIBRARIES for _, text in sources(crate))
     for test, examples in TESTS.items():
-        found += made([test, *examples], known, True)
+        found += made([test, *examples], known)
     if refused := [text for path, text in found if path is None]:
         sys.exit("\n".join(refused))
     return dict(found)

@@ -1,4 +1,6 @@
 """What is left over when the rules are done has to be known, token by token."""
+import re
+
 from . import known
 from .tokens import CLOSING, Refused, closing, lex, opening
 
@@ -51,22 +53,25 @@ def variants(tokens, i):
 
 
 class Names:
-    """What a file may use: the names of the sources, and what is known."""
+    """What may be used in the library, an example or a test: the names of the sources, and what is known."""
 
-    def __init__(self, own, tests=False):
+    def __init__(self, own, where):
+        tests = where == "test"
         self.words = {"rt", "macro_rules"} if tests else set()
+        self.marks = known.MARKS | ({"$"} if tests else set())
         self.own = own | known.NAMES | (known.TEST_NAMES if tests else set())
         self.paths = known.PATHS | (known.TEST_PATHS if tests else set())
         self.heads = {path.split("::")[0] for path in self.paths} | known.TYPES
         self.methods = known.METHODS | own | (known.TEST_METHODS if tests else set())
-        self.macros = {**known.MACROS, **(dict.fromkeys(own, "") if tests else {})}
+        self.macros = {**known.MACROS, **(known.EXAMPLE_MACROS if where != "library" else {})}
+        self.macros |= dict.fromkeys(own, "") if tests else {}
 
     def check_path(self, segments, line):
         path = "::".join(segments)
         if segments[0] in self.heads:
             if path not in self.paths:
                 raise Refused(line, f"an unknown path {path}")
-        elif not segments[0] in self.own | {"crate", "self", "Self", "super"}:
+        elif not segments[0] in self.own | known.HEADS:
             raise Refused(line, f"an unknown path {path}")
         elif unknown := [s for s in segments[1:] if s not in self.own | known.GIVEN | {"self", "super"}]:
             raise Refused(line, f"an unknown path {path}: {unknown[0]} is declared nowhere")
@@ -116,9 +121,13 @@ def check_word(tokens, i, names):
     word = token.text
     if word in known.REFUSED - names.words - names.own:
         raise Refused(token.line, f"the word {word}")
-    if word in known.KEYWORDS or before in ("::", "fn", "'") or before == "." and after not in ("(", "::"):
-        if word == "fn" and tokens[i + 1].kind != "word":
-            raise Refused(token.line, "the type of a function")
+    if word == "fn" and tokens[i + 1].kind != "word":
+        raise Refused(token.line, "the type of a function")
+    if after == "::" and before not in ("::", ".") and word not in known.KEYWORDS - known.HEADS:
+        for segments in path_at(tokens, i)[0]:
+            names.check_path(segments, token.line)
+    elif word in known.KEYWORDS or before in ("::", "fn") or before == "." and after not in ("(", "::"):
+        pass
     elif after == "!" and tokens[i + 2].text in ("(", "[", "{"):
         start = names.macros.get(word)
         call = "".join(t.text for t in tokens[i + 2:i + 6])
@@ -127,9 +136,6 @@ def check_word(tokens, i, names):
     elif before == ".":
         if word not in names.methods:
             raise Refused(token.line, f"an unknown method {word}")
-    elif after == "::":
-        for segments in path_at(tokens, i)[0]:
-            names.check_path(segments, token.line)
     elif (word[0].isupper() or after == "(") and word not in names.own:
         raise Refused(token.line, f"an unknown name {word}")
 
@@ -152,38 +158,64 @@ def check_range(tokens, i):
             j += 1
 
 
+def check_number(tokens, i):
+    """Refuses what is no whole number, of a type that is known. The field of a tuple is one, too."""
+    has_point = tokens[i + 1].text == "." and tokens[i + 2].kind == "number" and tokens[i - 1].text != "."
+    if not re.fullmatch(known.NUMBER, tokens[i].text) or has_point:
+        raise Refused(tokens[i].line, f"the number {tokens[i].text}")
+
+
+def follows_path(tokens, i):
+    """Whether the `::` at `i` follows a name, or the types that a path passes."""
+    j, depth = i - 1, 0
+    while j > 0 and (depth or tokens[j].text == ">"):
+        depth += (tokens[j].text == ">") - (tokens[j].text == "<")
+        j -= 1
+        if not depth:
+            return tokens[j].text == "::"
+    return tokens[i - 1].kind == "word" and tokens[i - 1].text not in known.KEYWORDS - known.HEADS
+
+
 def check_attribute(tokens, i):
+    """Refuses an attribute that is not known, and returns the place after it."""
     end = closing(tokens, i + 1) if tokens[i + 1].text == "[" else i + 1
     text = "".join(t.text for t in tokens[i:end + 1])
     if not text.startswith("#[derive(") and text not in known.ATTRIBUTES:
         raise Refused(tokens[i].line, f"the attribute {text}")
+    return end + 1
+
+
+def check_mark(tokens, i, names):
+    token = tokens[i]
+    if token.text not in names.marks:
+        raise Refused(token.line, f"the mark {token.text}")
+    if token.text in ("..", "..="):
+        check_range(tokens, i)
+    if token.text == "::" and not follows_path(tokens, i):
+        raise Refused(token.line, "a path that does not begin with a name")
 
 
 def check(tokens, names):
     """Refuses what is not known."""
-    for i, token in enumerate(tokens[:-1]):
+    i = 0
+    while i < len(tokens) - 1:
+        token = tokens[i]
         if token.kind in ("ghost", "clause"):
             raise Refused(token.line, f"a {token.kind} that no rule deletes: {token.text[:60]}")
-        if token.kind == "mark" and token.text not in known.MARKS:
-            raise Refused(token.line, f"the mark {token.text}")
         if token.text == "pub" and tokens[i + 1].text == "(" and tokens[i + 2].text != "crate":
             raise Refused(token.line, "a visibility other than pub and pub(crate)")
+        if token.kind in ("string", "char") and tokens[i - 1].kind == "word" and not token.before:
+            raise Refused(token.line, f"a literal that begins with {tokens[i - 1].text}")
         if token.text == "#":
-            check_attribute(tokens, i)
-        elif token.text in ("..", "..="):
-            check_range(tokens, i)
-        elif token.text == "::" and (i == 0 or tokens[i - 1].kind != "word" and tokens[i - 1].text != ">"):
-            raise Refused(token.line, "a path that begins with ::")
-        elif token.kind == "word" and not inside_attribute(tokens, i):
+            i = check_attribute(tokens, i)
+            continue
+        if token.kind == "mark":
+            check_mark(tokens, i, names)
+        elif token.kind == "number":
+            check_number(tokens, i)
+        elif token.kind == "word":
             check_word(tokens, i, names)
-
-
-def inside_attribute(tokens, i):
-    """Whether the word at `i` stands in an attribute, which is checked whole."""
-    j = i
-    while j > 0 and tokens[j].text not in (";", "{", "}", "#"):
-        j -= 1
-    return tokens[j].text == "#" and tokens[j + 1].text == "[" and closing(tokens, j + 1) > i
+        i += 1
 
 
 def names_in(texts):

@@ -4,6 +4,8 @@ KEYWORDS = set(
     """as break const crate else enum false fn for if impl in let loop match mod mut pub return self Self static struct
     super trait true type use while""".split()
 )
+# Those with which a path may begin.
+HEADS = set("crate self Self super".split())
 # Keywords of either language, and types that no source uses: floating point, and numbers with a sign.
 REFUSED = set(
     """abstract async await become box do dyn extern final gen macro macro_rules move override priv ref try typeof union
@@ -11,12 +13,13 @@ REFUSED = set(
     i8 i16 i32 i64 i128 isize f32 f64""".split()
 )
 TYPES = set("u8 u16 u32 u64 u128 usize bool str char".split())
-MARKS = set(", ( ) :: { } : ; . & [ ] < > = => -> # + ! .. ..= * | ? - % / $ @".split())
+MARKS = set(", ( ) :: { } : ; . & [ ] < > = => -> # + ! .. ..= * | ? - % /".split())
+# A number with the type that may follow it.
+NUMBER = r"(?:0x[0-9A-Fa-f_]+|0b[01_]+|[0-9][0-9_]*)(?:u8|u16|u32|u64|u128|usize)?"
 
-# A macro, and how its call begins. Those that tests declare are known there, too.
-MACROS = {
-    "matches": "(", "unreachable": "()", "write": "(f,", "assert": "(", "assert_eq": "(", "panic": "(", "format": "(",
-}
+# A macro, and how its call begins; those of examples and tests; those that tests declare are known there, too.
+MACROS = {"matches": "(", "unreachable": "()", "write": "(f,"}
+EXAMPLE_MACROS = {"assert": "(", "assert_eq": "(", "panic": "(", "format": "("}
 ATTRIBUTES = ["#[inline]", "#[inline(always)]", "#[inline(never)]", "#[rustfmt::skip]", "#[test]"]
 DERIVES = set("Clone Copy PartialEq Eq PartialOrd Ord Hash Debug Default".split())
 
@@ -44,7 +47,7 @@ METHODS = set(
 )
 
 # What tests use besides: they have std, and `tests/kit` of the result stands in for the runtime.
-TEST_NAMES = set("Vec Fail Abort HostRuntime AllocError Global DefaultHasher Ordering drop".split())
+TEST_NAMES = set("kit Vec Fail Abort HostRuntime AllocError Global DefaultHasher Ordering drop".split())
 TEST_PATHS = set(
     """std::cmp::Ordering std::error::Error std::fmt std::hash::DefaultHasher std::hash::Hash std::hash::Hasher
     std::net::Ipv4Addr std::ops::Range Vec::new usize::saturating_add u8::from DefaultHasher::new

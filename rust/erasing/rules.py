@@ -45,17 +45,17 @@ def enclosing(tokens, i):
     return j
 
 
-def contract(clauses, lead):
-    """The clauses of a function as lines of its documentation, in a block that is folded."""
+def contract(clauses, lead, follows):
+    """The clauses of a function as lines of its documentation, in a block that is folded, after other lines or none."""
     lines = []
     for clause in clauses:
         first, *more = clause.text.split("\n")
         margin = len(indent(clause))
-        lines += [first, *(line[margin:] if not line[:margin].strip() else line.lstrip() for line in more)]
+        lines += [first, *(line.lstrip() if line[:margin].strip() else line[margin:] for line in more)]
     needs = any(clause.text.startswith("requires") for clause in clauses)
     said = ["", "The caller has to meet each `requires`: else the call may panic, or return something else."] * needs
-    block = ["", "<details><summary>Contract</summary>", *said, "", "```text", *lines, "```", "", "</details>"]
-    return "".join(f"/// {line}".rstrip() + f"\n{lead}" for line in block)
+    block = ["<details><summary>Contract</summary>", *said, "", "```text", *lines, "```", "", "</details>"]
+    return "".join(f"/// {line}".rstrip() + f"\n{lead}" for line in [""] * follows + block)
 
 
 def contracts(tokens):
@@ -70,7 +70,8 @@ def contracts(tokens):
         start = item_start(tokens, i)
         tokens[end].before = " " if tokens[end].text == "{" else ""
         if is_public(tokens, start):
-            tokens[start].before += contract(clauses, indent(tokens[start]))
+            follows = "///" in tokens[start].before.rpartition("\n\n")[2]
+            tokens[start].before += contract(clauses, indent(tokens[start]), follows)
         tokens[i:end] = [t for t in tokens[i:end] if t.kind != "clause"]
         tidy(tokens, head_end(tokens, i) + 1)
 
@@ -131,12 +132,6 @@ def clones(tokens):
         cut(tokens, i, end)
 
 
-def proved_constants(tokens):
-    """What is proved of a constant is asserted when the result is compiled."""
-    for i, end in places(tokens, "const _: () = prove!("):
-        respell(tokens, i, end, "const _: () = assert!(")
-
-
 def inline_hints(tokens):
     """`#[inline]` stands before each function with a body but `fmt`. Rattle compiles all crates as one module, and so
     inlines across crates; cargo does so only where this says it may. It changes no result."""
@@ -163,6 +158,5 @@ def paths(tokens, crate, spelled):
 
 
 RULES = [
-    *(ghost_items, models, laws, contracts, tactics, layout_skips, dropping, formatters, clones),
-    *(proved_constants, inline_hints),
+    *(ghost_items, models, laws, contracts, tactics, layout_skips, dropping, formatters, clones, inline_hints),
 ]

@@ -36,7 +36,7 @@ def ghost_end(text, at, ends, line):
             depth += 1
         elif m[0] in ("}", ")"):
             if depth == 0:
-                return m.start()
+                return at + len(text[at:m.start()].rstrip())
             depth -= 1
         if depth == 0 and m[0] in ends:
             return m.end()
@@ -95,10 +95,13 @@ def opening(tokens, i):
 
 def places(tokens, pattern):
     """Each pair of places (from, after) where the tokens of `pattern` stand, from the last to the first."""
-    wanted = [t.text for t in lex(pattern)[:-1]]
-    for i in range(len(tokens) - len(wanted), -1, -1):
-        if [t.text for t in tokens[i:i + len(wanted)]] == wanted:
-            yield i, i + len(wanted)
+    first, *others = [t.text for t in lex(pattern)[:-1]]
+    for i in range(len(tokens) - 1, -1, -1):
+        if i >= len(tokens) or tokens[i].text != first:  # what follows a place may have been deleted meanwhile
+            continue
+        end = i + 1 + len(others)
+        if [t.text for t in tokens[i + 1:end]] == others:
+            yield i, end
 
 
 def head_end(tokens, i):
@@ -147,7 +150,8 @@ def cut(tokens, start, end):
     lines = tokens[start].before.split("\n")[:-1]
     while lines and re.match(r" *//(?!!)", lines[-1]):
         lines.pop()
-    tokens[end].before = "\n".join(lines) + tokens[end].before
+    after = tokens[end].before
+    tokens[end].before = "\n".join(lines) + after if lines or start else after.lstrip("\n")
     del tokens[start:end]
     tidy(tokens, start)
 

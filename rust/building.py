@@ -1,0 +1,48 @@
+"""Runs cargo over the crate. If Debian's packages have its dependency, cargo takes it from there, without a network."""
+import os
+import re
+import shutil
+import subprocess
+
+HERE = os.path.dirname(os.path.abspath(__file__))
+CRATE = os.path.join(HERE, "etherpeel")
+REGISTRY = "/usr/share/cargo/registry"  # of Debian's packages librust-..-dev
+OLDEST = (1, 85)
+
+
+def debian():
+    """The words that make cargo take its crates from Debian's folder, if there is one that has them."""
+    if not os.path.isdir(REGISTRY) or not any(name.startswith("arrayvec-0.7") for name in os.listdir(REGISTRY)):
+        return []
+    source = 'source.crates-io.replace-with="debian"', f'source.debian.directory="{REGISTRY}"'
+    return ["--offline", *(word for it in source for word in ("--config", it))]
+
+
+def cargo(*words, folder=CRATE, **environment):
+    """What cargo printed, and its status."""
+    name, *others = words
+    at = others.index("--") if "--" in others else len(others)
+    said = ["cargo", name, *others[:at], *debian(), *others[at:]]
+    given = {**os.environ, "CARGO_TERM_COLOR": "never", **environment}
+    ran = subprocess.run(said, cwd=folder, env=given, stdin=subprocess.DEVNULL, capture_output=True, errors="replace")
+    return ran.stdout + ran.stderr, ran.returncode
+
+
+def missing():
+    """Why the crate can't be built here, or None."""
+    if shutil.which("cargo") is None:
+        return "cargo was not found"
+    told, _ = cargo_version()
+    if told < OLDEST:
+        return f"cargo {told[0]}.{told[1]} is older than {OLDEST[0]}.{OLDEST[1]}"
+    text, status = cargo("fetch")
+    return f"cargo finds no arrayvec: {text.strip().splitlines()[-1]}" if status else None
+
+
+def cargo_version():
+    text = subprocess.run(["cargo", "--version"], stdout=subprocess.PIPE, text=True, check=True).stdout
+    return tuple(int(it) for it in re.search(r"(\d+)\.(\d+)", text).groups()), text
+
+
+def has_clippy():
+    return subprocess.run(["cargo", "clippy", "--version"], capture_output=True).returncode == 0

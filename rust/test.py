@@ -1,0 +1,112 @@
+"""Tests the crate that is made of the proved sources, and the script that makes it.
+
+    python3 rust/test.py
+
+The script refuses each source of cases/refused.txt, and makes of each source of cases/taken.txt what stands there.
+What is committed is what it makes. With cargo the crate is built, its tests and examples are run, and lints and
+documentation have no warning. What is left out is said, and why. The last line is 'N passed, M failed'.
+"""
+import os
+import re
+import sys
+
+sys.dont_write_bytecode = True
+import building  # noqa: E402
+import erase  # noqa: E402
+from erasing import check  # noqa: E402
+from erasing.tokens import Refused, lex  # noqa: E402
+
+HERE = os.path.dirname(os.path.abspath(__file__))
+
+
+def cases(name):
+    """Each case of a file: its name, the crate that its source would be of, the source, and what is wanted of it."""
+    with open(os.path.join(HERE, "cases", name), encoding="utf-8") as file:
+        text = file.read()
+    for block in text.split("=== ")[1:]:
+        title, rest = block.split("\n", 1)
+        source, wanted = rest.split("--- ", 1)
+        crate = re.search(r" \((\w+)\)$", title)
+        yield title, crate[1] if crate else "ether_tags", source, wanted.removeprefix("becomes\n")
+
+
+def outcome(source, crate):
+    """What the script makes of a source, or the line and the text of its refusal."""
+    own = {*erase.LIBRARIES, *erase.EXAMPLES, erase.NAME}
+    try:
+        own |= check.declared(lex(source))
+    except Refused:
+        pass  # then it is refused below
+    try:
+        return erase.erase(source, crate, own, [erase.NAME])
+    except Refused as refused:
+        return f"{refused.line}: {refused.what}\n"
+
+
+def case_failures():
+    """For each case None, or what is wrong."""
+    for name in ("refused.txt", "taken.txt"):
+        for title, crate, source, wanted in cases(name):
+            found = outcome(source, crate)
+            yield None if found == wanted else f"{name}: {title}:\n{found}wanted:\n{wanted}"
+
+
+def committed_failures():
+    """For each file of the result None, or what is wrong with the committed one."""
+    files = erase.result()
+    for path, text in files.items():
+        try:
+            with open(os.path.join(building.CRATE, path), encoding="utf-8") as file:
+                same = file.read() == text
+        except FileNotFoundError:
+            same = False
+        yield None if same else f"{path} is not what rust/erase.py makes of the sources: run it, and commit the result"
+    for path in erase.stale(building.CRATE, files):
+        yield f"{path} is not made of a source"
+
+
+def steps():
+    """The calls of cargo, each with the lints and the words for it."""
+    yield "build", ["build"], {}
+    yield "test", ["test"], {}
+    if building.has_clippy():
+        yield "clippy", ["clippy", "--all-targets", "--", "-D", "warnings"], {}
+    else:
+        print("left out: the lints, since cargo has no clippy")
+    yield "doc", ["doc", "--no-deps"], {"RUSTDOCFLAGS": "-D warnings"}
+    yield "package", ["package", "--allow-dirty", "--no-metadata"], {}
+
+
+def cargo_counts():
+    """How many passed and failed with cargo: each test, and each other call."""
+    passed = failed = 0
+    for name, words, environment in steps():
+        text, status = building.cargo(*words, **environment)
+        counts = re.findall(r"^test result: \w+\. (\d+) passed; (\d+) failed", text, re.M)
+        well, ill = sum(int(it[0]) for it in counts), sum(int(it[1]) for it in counts)
+        wrong = bool(status or re.search(r"^warning", text, re.M))
+        if wrong:
+            print(text[-4000:])
+        said = f", {well} tests passed, {ill} failed" if counts else ""
+        print(f"cargo {name}: {'failed' if wrong else 'passed'}{said}", flush=True)
+        passed, failed = passed + well + (not wrong), failed + ill + wrong
+    return passed, failed
+
+
+def main():
+    passed = failed = 0
+    for wrong in (*case_failures(), *committed_failures()):
+        passed, failed = passed + (wrong is None), failed + (wrong is not None)
+        if wrong:
+            print(wrong)
+    if why := building.missing():
+        print(f"left out: what cargo does with the crate, since {why}")
+    else:
+        well, ill = cargo_counts()
+        passed, failed = passed + well, failed + ill
+    print(f"{passed} passed, {failed} failed")
+    return 1 if failed else 0
+
+
+if __name__ == "__main__":
+    sys.exit(main())
