@@ -13,6 +13,7 @@ import sys
 sys.dont_write_bytecode = True
 import building  # noqa: E402
 import erase  # noqa: E402
+import examples  # noqa: E402
 from erasing import check  # noqa: E402
 from erasing.tokens import Refused, lex  # noqa: E402
 
@@ -93,17 +94,23 @@ def cargo_counts():
     return passed, failed
 
 
-def main():
+def count(failures):
+    """How many passed and failed; what is wrong is printed."""
     passed = failed = 0
-    for wrong in (*case_failures(), *committed_failures()):
+    for wrong in failures:
         passed, failed = passed + (wrong is None), failed + (wrong is not None)
         if wrong:
             print(wrong)
+    return passed, failed
+
+
+def main():
+    counts = [count(case_failures()), count(committed_failures())]
     if why := building.missing():
         print(f"left out: what cargo does with the crate, since {why}")
     else:
-        well, ill = cargo_counts()
-        passed, failed = passed + well, failed + ill
+        counts += [cargo_counts(), count(examples.failures())]
+    passed, failed = (sum(it) for it in zip(*counts))
     print(f"{passed} passed, {failed} failed")
     return 1 if failed else 0
 
