@@ -3,8 +3,9 @@
     python3 rust/test.py
 
 The script refuses each source of cases/refused.txt, and makes of each source of cases/taken.txt what stands there.
-What is committed is what it makes. With cargo the crate is built, its tests and examples are run, and lints and
-documentation have no warning. What is left out is said, and why. The last line is 'N passed, M failed'.
+What is committed is what it makes. With cargo the crate is built, its tests and examples are run, lints and
+documentation have no warning, and drawn frames are compared with a second walk (drawn.py). What is left out is said,
+and why. The last line is 'N passed, M failed'.
 """
 import os
 import re
@@ -12,6 +13,7 @@ import sys
 
 sys.dont_write_bytecode = True
 import building  # noqa: E402
+import drawn  # noqa: E402
 import erase  # noqa: E402
 import examples  # noqa: E402
 from erasing import check  # noqa: E402
@@ -109,7 +111,7 @@ def main():
     if why := building.missing():
         print(f"left out: what cargo does with the crate, since {why}")
     else:
-        counts += [cargo_counts(), count(examples.failures())]
+        counts += [cargo_counts(), count(examples.failures()), count(drawn.failures(drawn.COUNT, drawn.built()))]
     passed, failed = (sum(it) for it in zip(*counts))
     print(f"{passed} passed, {failed} failed")
     return 1 if failed else 0
