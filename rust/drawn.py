@@ -39,7 +39,7 @@ def announced(draw, ether_type, depth):
 
 
 def sec_tag(draw, depth):
-    """A SecTag and its payload: now and then a version bit that is refused; a short length that is 0, right or drawn."""
+    """A SecTag and its payload: now and then a refused version bit; a short length that is 0, right or drawn."""
     control = draw.randrange(128) & draw.choice((0x73, 0x7F)) | (0x80 if draw.random() < 0.03 else 0)
     payload = draw.randbytes(draw.randrange(48)) if control & 0x0C else typed(draw, depth)
     right = len(payload) if len(payload) < 64 else 0
@@ -133,7 +133,7 @@ def placed(walker):
 
 
 def packet(start, ether_type, frame):
-    """The identifiers of a packet, a digit for each tag, the least cut, and the frame with tags replaced by the same."""
+    """The identifiers of a packet, a digit for each tag, the least cut, and the frame with each tag written again."""
     walker = walk(start, ether_type, frame, 3)
     tags = [it for it in walker.units if it[0] in (3, 4)]
     ids = "".join(f"{it[5][0]} " for it in tags if it[0] == 3)
