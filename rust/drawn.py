@@ -155,12 +155,24 @@ def tagged(start, frame, tpid, vid):
     return f"{int(has_room)} {pushed.hex()} 1 {4095 - vid} {frame.hex()}"
 
 
-def completed(walker, told):
-    """Whether a completion is told where there is one: at least what is missing, for one more unit and no fault."""
-    fault = walker.fault
-    if named_len(walker) is None or fault[5] in (2, 5) or fault[5] == 4 and fault[2] < 6:
-        return told == ""
-    return told.split(" ")[1:] == ["1", "1"] and int(told.split(" ")[0]) >= fault[3]
+def completed(walker):
+    """The bytes that complete the unit in which a frame is cut, the one more unit, and no fault then; or nothing."""
+    if named_len(walker) is None:
+        return ""
+    at, _, have, _, _, layer, *_ = walker.fault
+    front = walker.frame[at:] + bytes(16)
+    if layer in (2, 5) or layer == 4 and have < 6:
+        return ""
+    if layer == 4:
+        typed, sci = 2 * (front[0] & 0x0C == 0), 8 * (front[0] & 0x20 != 0)
+        header_len = 6 + sci + typed
+        total, type_at = header_len + max(front[1] % 64 - typed, 0), header_len - 2 if typed else None
+    else:
+        total, type_at = {1: (14, 12), 3: (4, 2), 6: (8 + 2 * front[4] + 2 * front[5], None)}[layer]
+    fill = bytearray(total - have)
+    if type_at is not None and have == type_at + 1 and front[type_at] in (0x81, 0x91):
+        fill[0] = 1  # or the ether type would announce a VLAN tag
+    return f"{fill.hex()} 1 1"
 
 
 def wrong(line, told):
@@ -179,8 +191,8 @@ def wrong(line, told):
     found = of_packet.rsplit(" ", 2)
     if found[0] != ids or least is not None and found[1] != str(least) or found[2] != same:
         return f"a packet {ids} {least} {same}"
-    if not completed(short, fill):
-        return f"a completion of {short.fault}"
+    if fill != completed(short):
+        return f"a completion {completed(short)}"
     wanted = tagged(start, frame, tpid, vid) if start != 4 else ""
     return None if tags == wanted else f"tags {wanted}"
 

@@ -5,6 +5,7 @@ import tempfile
 
 from building import CRATE
 
+TOP = os.path.dirname(os.path.dirname(CRATE))
 ADDRESSES = "ffffffffffff 3aeeb62ff6d7"
 TAGGED, UNTAGGED = f"{ADDRESSES} 8100 b123 0800 4500", f"{ADDRESSES} 0800 4500"
 TWICE, CUT = f"{ADDRESSES} 88a8 0005 8100 0007 0806", f"{ADDRESSES} 8100 b1"
@@ -35,6 +36,11 @@ def failures():
         path, copy = os.path.join(folder, "f.pcap"), os.path.join(folder, "copy.pcap")
         with open(path, "wb") as file:
             file.write(capture(TAGGED, UNTAGGED, TWICE, CUT))
+        with open(os.path.join(CRATE, "examples", "walk.rs"), encoding="utf-8") as source:
+            program = source.read().split("\n", 1)[1]
+        with open(os.path.join(TOP, "README.md"), encoding="utf-8") as page:
+            told = f"```rust\n{program}```\n\nprint `{run('walk').strip()}`.\n" in page.read()
+        yield None if told else "README.md does not have the example walk, or what it prints"
         headers = run("headers", given=f"{TAGGED.replace(' ', '')}\n{CUT.replace(' ', '')}\n").split("\n")
         wanted = [
             f"{LINK}{C_TAG} }}",

@@ -45,7 +45,7 @@ fn told(summary: &Summary, out: &mut String) {
     fault(summary.fault.as_ref(), out);
 }
 
-/// How many more units the cut frame has with its completion, and whether that is accepted.
+/// A completion, how many more units the cut frame has with it, and whether that is accepted.
 fn completed(d: &Drawn, fill: Option<&[u8]>, out: &mut String) {
     if let Some(fill) = fill {
         let whole = [&d.frame[..d.cut], fill].concat();
@@ -53,7 +53,7 @@ fn completed(d: &Drawn, fill: Option<&[u8]>, out: &mut String) {
             None => (summary(d.start, &d.frame[..d.cut]), summary(d.start, &whole)),
             Some(n) => (summary_limited(d.start, &d.frame[..d.cut], n), summary_limited(d.start, &whole, n)),
         };
-        let _ = write!(out, "{} {} {}", fill.len(), after.units - before.units, u8::from(after.fault.is_none()));
+        let _ = write!(out, "{} {} {}", digits(fill), after.units - before.units, u8::from(after.fault.is_none()));
     }
     out.push('|');
 }

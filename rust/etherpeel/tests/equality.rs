@@ -1,0 +1,64 @@
+//! Views are equal if the bytes that they compare are. Written by hand, for `rust/faults.py`: in the sources a proof
+//! says it.
+#![allow(clippy::clone_on_copy)]
+use etherpeel::ether_sll2::{LinuxSll2HeaderSlice, LinuxSll2Slice};
+use etherpeel::*;
+
+const ETHERNET2: [u8; 20] = [
+    0xFF, 0xFF, 0xFF, 0xFF, 0xFF, 0xFF, 2, 0, 0, 0, 0, 1, 0x08, 0x00, 1, 2, 3, 4, 5, 6,
+];
+const VLAN: [u8; 6] = [0xB1, 0x23, 0x08, 0x00, 1, 2];
+const MACSEC: [u8; 18] = [0x20, 0, 0, 0, 0, 7, 1, 2, 3, 4, 5, 6, 7, 8, 0x08, 0x00, 1, 2];
+const COOKED: [u8; 18] = [0, 4, 0, 1, 0, 6, 2, 0, 0, 0, 0, 1, 0, 0, 0x08, 0x00, 1, 2];
+const COOKED2: [u8; 22] = [0x08, 0, 0, 0, 0, 0, 0, 2, 0, 1, 4, 6, 2, 0, 0, 0, 0, 1, 0, 0, 1, 2];
+const ARP: [u8; 30] = [
+    0, 1, 8, 0, 6, 4, 0, 1, 2, 0, 0, 0, 0, 1, 10, 0, 0, 1, 0, 0, 0, 0, 0, 0, 10, 0, 0, 2, 0, 0,
+];
+
+/// A view of the bytes is equal to its clone, and to that of other bytes unless one of the first `$len` differs.
+macro_rules! compares {
+    ($len:expr, $bytes:expr, $read:path) => {
+        let (bytes, same) = ($bytes, $bytes);
+        let view = $read(&bytes).unwrap();
+        assert!(view == view.clone() && view.clone() == $read(&same).unwrap());
+        for (at, bit) in (0..bytes.len()).flat_map(|at| (0..8).map(move |bit| (at, bit))) {
+            let mut other = bytes;
+            other[at] ^= 1 << bit;
+            if let Ok(changed) = $read(&other) {
+                assert_eq!(view == changed, at >= $len, "byte {at}, bit {bit}");
+            }
+        }
+    };
+}
+
+#[test]
+fn views_of_headers() {
+    compares!(14, ETHERNET2, Ethernet2HeaderSlice::from_slice);
+    compares!(4, VLAN, SingleVlanHeaderSlice::from_slice);
+    compares!(16, MACSEC, MacsecHeaderSlice::from_slice);
+    compares!(16, COOKED, LinuxSllHeaderSlice::from_slice);
+    compares!(20, COOKED2, LinuxSll2HeaderSlice::from_slice);
+    compares!(28, ARP, ArpPacketSlice::from_slice);
+}
+
+#[test]
+fn views_with_payloads() {
+    compares!(20, ETHERNET2, Ethernet2Slice::from_slice_without_fcs);
+    compares!(20, ETHERNET2, Ethernet2Slice::from_slice_with_crc32_fcs);
+    compares!(6, VLAN, SingleVlanSlice::from_slice);
+    compares!(18, MACSEC, MacsecSlice::from_slice);
+    compares!(18, COOKED, LinuxSllSlice::from_slice);
+    compares!(22, COOKED2, LinuxSll2Slice::from_slice);
+    let with = Ethernet2Slice::from_slice_with_crc32_fcs(&ETHERNET2).unwrap();
+    assert!(with != Ethernet2Slice::from_slice_without_fcs(&ETHERNET2).unwrap());
+}
+
+#[test]
+fn values() {
+    compares!(14, ETHERNET2, ethernet2);
+    compares!(28, ARP, ArpPacket::from_slice);
+}
+
+fn ethernet2(bytes: &[u8]) -> Result<Ethernet2Header, err::LenError> {
+    Ethernet2Header::from_slice(bytes).map(|(header, _)| header)
+}

@@ -1,0 +1,128 @@
+"""Plants faults into the crate, one at a time, and says which of them its tests catch.
+
+    python3 rust/faults.py [COUNT]
+
+draws COUNT faults that compile, 60 if it is left out, from a fixed seed: a number, an operator, a Boolean, an order of
+bytes or a statement is another one, or is gone. Of each copy it runs the tests and examples, and compares 20,000 drawn
+frames (drawn.py). A fault that is not caught is printed; those of `SAME` change nothing, for the reason that stands
+there. The last line is 'N passed, M failed'. It takes some ten minutes, and is not a part of the gate.
+"""
+import concurrent.futures
+import os
+import random
+import re
+import shutil
+import sys
+import tempfile
+
+sys.dont_write_bytecode = True
+import building  # noqa: E402
+import drawn  # noqa: E402
+
+COUNT, FRAMES, WORKERS = 60, 20_000, 2
+SKIPPED = re.compile(r'//[^\n]*|"(?:\\.|[^"\\])*"|#!?\[[^\]]*\]|^ *(?:pub )?(?:use|mod) [^;]*;', re.M | re.S)
+CHANGES = [
+    (r" \+ ", " - "), (r" - ", " + "), (r" \* ", " + "), (r" < ", " <= "), (r" <= ", " < "), (r" > ", " >= "),
+    (r" >= ", " > "), (r" == ", " != "), (r" != ", " == "), (r" && ", " || "), (r" \|\| ", " && "),
+    (r"\btrue\b", "false"), (r"\bfalse\b", "true"), (r"_be_bytes\b", "_le_bytes"), (r"\bis_some\b", "is_none"),
+    (r"\bmin\(", "max("), (r"!(?=[a-z])", ""),
+    (r"\b[0-9]+\b", lambda m: str(int(m[0]) + 1)), (r"\b0x[0-9A-F]{2,4}\b", lambda m: f"{int(m[0], 16) ^ 1:#x}"),
+    (r"\n +(?:self\.)?\w+ [+|]?= [^;{}]*;", ""),
+]
+# Faults that change nothing that can be seen: the file, the line as it is then, and why.
+ENDS = "a number is read by where its place begins"
+SAME = {
+    ("src/ether_sll/linux_sll_fields.rs", "const HARDWARE_TYPE: Range<usize> = 2..5;"): ENDS,
+    ("src/ether_tags/macsec_fields.rs", "MacsecPType::Unmodified(EtherType(u16_at(bytes, at..at + 3)))"): ENDS,
+}
+
+
+def places(path, text):
+    """Each fault of a file: where it begins and ends, and what is there then."""
+    masked = SKIPPED.sub(lambda m: re.sub(r"[^\n]", "\0", m[0]), text)
+    for pattern, change in CHANGES:
+        for m in re.finditer(pattern, masked):
+            new = change(m) if callable(change) else change
+            if "\0" not in m[0]:
+                yield path, m.start(), m.end(), new
+
+
+def all_places():
+    for folder, _, names in sorted(os.walk(os.path.join(building.CRATE, "src"))):
+        for name in sorted(names):
+            path = os.path.relpath(os.path.join(folder, name), building.CRATE)
+            with open(os.path.join(folder, name), encoding="utf-8") as file:
+                yield from places(path, file.read())
+
+
+def planted(fault, folder):
+    """Writes a copy of the crate with the fault, and returns the line as it was and as it is then."""
+    path, begin, end, new = fault
+    for part in ("src", "tests", "examples"):
+        shutil.copytree(os.path.join(building.CRATE, part), os.path.join(folder, "etherpeel", part), dirs_exist_ok=True)
+    for name in ("Cargo.toml", "README.md"):
+        shutil.copy(os.path.join(building.CRATE, name), os.path.join(folder, "etherpeel"))
+    shutil.copytree(os.path.join(drawn.FOLDER, "src"), os.path.join(folder, "drawn", "src"), dirs_exist_ok=True)
+    shutil.copy(os.path.join(drawn.FOLDER, "Cargo.toml"), os.path.join(folder, "drawn"))
+    with open(os.path.join(building.CRATE, path), encoding="utf-8") as file:
+        text = file.read()
+    changed = text[:begin] + new + text[end:]
+    with open(os.path.join(folder, "etherpeel", path), "w", encoding="utf-8") as file:
+        file.write(changed)
+    at = text.rfind("\n", 0, begin + 1) + 1 if not new else text.rfind("\n", 0, begin) + 1
+    return text[at:].split("\n", 1)[0].strip(), changed[at:].split("\n", 1)[0].strip()
+
+
+def outcome(folder):
+    """What becomes of a copy: it does not compile, is caught, or is not."""
+    crate = os.path.join(folder, "etherpeel")
+    if building.cargo("build", "--tests", folder=crate)[1]:
+        return "does not compile"
+    if building.cargo("test", "--no-fail-fast", folder=crate, RUST_TEST_THREADS="2")[1]:
+        return "caught by the tests"
+    if building.cargo("build", "--release", folder=os.path.join(folder, "drawn"))[1]:
+        return "does not compile"
+    told = list(drawn.failures(FRAMES, os.path.join(folder, "drawn", "target", "release", "drawn")))
+    return "not caught" if told.count(None) == len(told) else "caught by drawn frames"
+
+
+def work(faults, folder, wanted):
+    """Plants one fault after the other until as many as wanted compile."""
+    found = []
+    for fault in faults:
+        before, after = planted(fault, folder)
+        told = outcome(folder)
+        if told != "does not compile":
+            found.append((fault[0], before, after, told))
+            print(f"{fault[0]}: {before}  =>  {after}: {told}", flush=True)
+        with open(os.path.join(building.CRATE, fault[0]), encoding="utf-8") as file:
+            text = file.read()
+        with open(os.path.join(folder, "etherpeel", fault[0]), "w", encoding="utf-8") as file:
+            file.write(text)
+        if len(found) == wanted:
+            break
+    return found
+
+
+def main():
+    count = int(sys.argv[1]) if len(sys.argv) > 1 else COUNT
+    faults = list(all_places())
+    random.Random(1).shuffle(faults)
+    with tempfile.TemporaryDirectory() as folder, concurrent.futures.ThreadPoolExecutor(WORKERS) as pool:
+        folders = [os.path.join(folder, str(i)) for i in range(WORKERS)]
+        for it in folders:
+            os.makedirs(os.path.join(it, "etherpeel"))
+            os.makedirs(os.path.join(it, "drawn"))
+        parts = [pool.submit(work, faults[i::WORKERS], folders[i], count // WORKERS) for i in range(WORKERS)]
+        found = [it for part in parts for it in part.result()]
+    missed = [it for it in found if it[3] == "not caught" and (it[0], it[2]) not in SAME]
+    same = sum(it[3] == "not caught" for it in found) - len(missed)
+    for path, before, after, _ in missed:
+        print(f"not caught: {path}: {before}  =>  {after}")
+    print(f"{len(faults)} places; of {len(found)} faults {same} change nothing")
+    print(f"{len(found) - len(missed)} passed, {len(missed)} failed")
+    return 1 if missed else 0
+
+
+if __name__ == "__main__":
+    sys.exit(main())
