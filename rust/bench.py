@@ -3,10 +3,10 @@
     python3 rust/bench.py [FOLDER]
 
 erases the loops of bench/calls and bench/walk by the rules of erase.py, compiles them over the crate (`--release`,
-x86-64-v2), and calls them from the C programs of bench/calls and bench/walk. Of the calls it prints the instructions for
-each frame and the ratio to those of the original crate (bench/calls/rows.txt); a star marks ratios above 1.2; the last
-line of the table has the geometric mean. Of the walks it prints instructions for each frame and the ratio to C by hand.
-It works in FOLDER, or a folder that is deleted. Needs cargo, gcc and valgrind.
+x86-64-v2), and calls them from the C programs there. Of the calls it prints the instructions for each frame and the
+ratio to those of the original crate (bench/calls/rows.txt); a star marks ratios above 1.2; the last line of the table
+has the geometric mean. Of the walks it prints instructions for each frame and the ratio to C by hand. It works in
+FOLDER, or in a folder that is deleted. Needs cargo, gcc and valgrind.
 """
 import math
 import os
