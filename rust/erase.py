@@ -18,10 +18,12 @@ HERE = os.path.dirname(os.path.abspath(__file__))
 CRATES = os.path.join(os.path.dirname(HERE), "crates")
 NAME = "etherpeel"
 FACADE = "etherparse"  # the root of the result
-INNER = ["ether_base", "ether_tags", "ether_sll", "ether_arp"]  # hidden modules: the facade has their public names
+# A module without documentation: the facade has its names, but for numbers that tests and programs use.
+HIDDEN = ["ether_base"]
+PRIVATE = ["ether_tags", "ether_sll", "ether_arp"]  # private modules: the facade has their public names
 # Public modules.
 OUTER = ["ether_peel", "ether_sll2", "ether_packet", "ether_filter", "ether_pcap", "ether_content"]
-LIBRARIES = [*INNER, FACADE, *OUTER]
+LIBRARIES = [*HIDDEN, *PRIVATE, FACADE, *OUTER]
 # The crates of tests, each with the examples that it tests.
 TESTS = {"etherparse_tests": [], "ether_content_tests": ["example_frames", "example_learning_switch"]}
 EXAMPLES = [example for examples in TESTS.values() for example in examples]
@@ -121,8 +123,8 @@ def rooted(crate, text):
     lines = text.split("\n")
     end = next(i for i, line in enumerate(lines) if not line.startswith("//!"))
     if crate == FACADE:
-        modules = [f"#[doc(hidden)]\npub mod {name};" for name in INNER] + [f"pub mod {name};" for name in OUTER]
-        return ROOT + "\n".join([*lines[:end], "", *modules, *lines[end:]])
+        modules = [f"#[doc(hidden)]\npub mod {name};" for name in HIDDEN] + [f"mod {name};" for name in PRIVATE]
+        return ROOT + "\n".join([*lines[:end], "", *modules, *(f"pub mod {name};" for name in OUTER), *lines[end:]])
     modules = "".join(f"mod {name};\n" for name in TESTS[crate])
     return "\n".join([*lines[:end], TEST_ROOT + modules, *lines[end + 1:]])
 

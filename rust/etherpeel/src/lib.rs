@@ -33,12 +33,9 @@
 
 #[doc(hidden)]
 pub mod ether_base;
-#[doc(hidden)]
-pub mod ether_tags;
-#[doc(hidden)]
-pub mod ether_sll;
-#[doc(hidden)]
-pub mod ether_arp;
+mod ether_tags;
+mod ether_sll;
+mod ether_arp;
 pub mod ether_peel;
 pub mod ether_sll2;
 pub mod ether_packet;
