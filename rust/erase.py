@@ -28,7 +28,7 @@ LIBRARIES = [*HIDDEN, *PRIVATE, FACADE, *OUTER]
 TESTS = {"etherparse_tests": [], "ether_content_tests": ["example_frames", "example_learning_switch"]}
 EXAMPLES = [example for examples in TESTS.values() for example in examples]
 # Modules that are left out: laws, what is proved and never run, and the tests of a crate that is not in the result.
-LEFT_OUT = {"laws", "derived_traits", "text"}
+LEFT_OUT, LEFT_OUT_OF_TESTS = {"laws"}, {"laws", "derived_traits", "text"}
 
 ROOT = """#![doc = include_str!("../README.md")]
 #![no_std]
@@ -49,10 +49,10 @@ mod kit;
 
 def sources(crate):
     """Each source of a crate that is not left out: its path below `src`, and its text."""
-    top = os.path.join(CRATES, crate, "src")
+    top, left_out = os.path.join(CRATES, crate, "src"), LEFT_OUT_OF_TESTS if crate in TESTS else LEFT_OUT
     for folder, _, names in sorted(os.walk(top)):
         for path in (os.path.relpath(os.path.join(folder, name), top) for name in sorted(names)):
-            if not LEFT_OUT & set(path[:-3].split("/")):
+            if not left_out & set(path[:-3].split("/")):
                 with open(os.path.join(top, path), encoding="utf-8") as file:
                     yield path, file.read()
 
@@ -151,7 +151,7 @@ def result():
     for test, examples in TESTS.items():
         found += made([test, *examples], known)
     if refused := [text for path, text in found if path is None]:
-        sys.exit("\n".join(refused))
+        sys.exit("\n".join([*refused, "rust/erasing/known.py has what is known"]))
     return dict(found)
 
 

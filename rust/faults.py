@@ -31,9 +31,15 @@ CHANGES = [
 ]
 # Faults that change nothing that can be seen: the file, the line as it is then, and why.
 ENDS = "a number is read by where its place begins"
+LENGTHS = "the lengths of a SecTag depend on its first two bytes"
+ZEROS = "0, 0, 0, 0, 0, 0, 0, 0, 0, 0, 0, 0, 0, 0"
+FRONT = f"let front = [first, second, {ZEROS}];"
 SAME = {
     ("src/ether_sll/linux_sll_fields.rs", "const HARDWARE_TYPE: Range<usize> = 2..5;"): ENDS,
+    ("src/ether_sll2/linux_sll2_fields.rs", "const PROTOCOL: Range<usize> = 0..3;"): ENDS,
     ("src/ether_tags/macsec_fields.rs", "MacsecPType::Unmodified(EtherType(u16_at(bytes, at..at + 3)))"): ENDS,
+    ("src/ether_peel/completing.rs", FRONT.replace(ZEROS, "0, 0, 0, 0, 0, 0, 0, 1, 0, 0, 0, 0, 0, 0")): LENGTHS,
+    ("src/ether_peel/completing.rs", FRONT.replace(ZEROS, "0, 0, 1, 0, 0, 0, 0, 0, 0, 0, 0, 0, 0, 0")): LENGTHS,
 }
 
 

@@ -123,6 +123,8 @@ def check_word(tokens, i, names):
         raise Refused(token.line, f"the word {word}")
     if word == "fn" and tokens[i + 1].kind != "word":
         raise Refused(token.line, "the type of a function")
+    if word == "let" and before in ("if", "while", "&"):
+        check_let(tokens, i)
     if after == "::" and before not in ("::", ".") and word not in known.KEYWORDS - known.HEADS:
         for segments in path_at(tokens, i)[0]:
             names.check_path(segments, token.line)
@@ -138,6 +140,16 @@ def check_word(tokens, i, names):
             raise Refused(token.line, f"an unknown method {word}")
     elif (word[0].isupper() or after == "(") and word not in names.own:
         raise Refused(token.line, f"an unknown name {word}")
+
+
+def check_let(tokens, i):
+    """Refuses an `if let` or `while let` with a further condition, which needs Rust 1.88."""
+    j = i - (tokens[i - 1].text == "&")
+    while tokens[j].text not in ("{", ";"):
+        follows_value = tokens[j - 1].kind != "mark" or tokens[j - 1].text in (")", "]", "&")
+        if tokens[j].text == "&" and follows_value and "&" in (tokens[j - 1].text, tokens[j + 1].text):
+            raise Refused(tokens[i].line, "a let with a further condition")
+        j = closing(tokens, j) + 1 if tokens[j].text in ("(", "[") else j + 1
 
 
 def check_range(tokens, i):
