@@ -30,7 +30,7 @@ def runtimes(tokens):
 def assumes(tokens):
     """Whether an example uses a name of `ASSUMED` that it does not declare."""
     let = {tokens[i + 1 + (tokens[i + 1].text == "mut")].text for i, t in enumerate(tokens[:-1]) if t.text == "let"}
-    used = {t.text for i, t in enumerate(tokens[:-1]) if tokens[i - 1].text == "&" or tokens[i + 1].text == "("}
+    used = {t.text for i, t in enumerate(tokens) if t.kind == "word" and tokens[i - 1].text not in (".", "let", "mut")}
     return bool(used & (ASSUMED - let))
 
 

@@ -4,11 +4,15 @@ use crate::ether_tags::{DoubleVlanSlice, EtherPayloadSlice, SingleVlanSlice, Vla
 
 /// A view of one VLAN tag or two, and of the payload of the last one.
 ///
-/// ```ignore
+/// ```
+/// # use etherpeel::*;
+/// # fn main() -> Result<(), Box<dyn std::error::Error>> {
 /// let bytes = [0xB1, 0x23, 0x08, 0x00, 0x45];
 /// let tags = VlanSlice::SingleVlan(SingleVlanSlice::from_slice(&bytes)?);
 /// assert_eq!(tags.to_header().next_header(), EtherType::IPV4);
 /// assert_eq!(tags.payload().payload, [0x45].as_slice());
+/// # Ok(())
+/// # }
 /// ```
 #[derive(Clone, PartialEq, Eq, Debug)]
 pub enum VlanSlice<'a> {
