@@ -53,7 +53,7 @@ def contract(clauses, lead, follows):
         margin = len(indent(clause))
         lines += [first, *(line.lstrip() if line[:margin].strip() else line[margin:] for line in more)]
     needs = any(clause.text.startswith("requires") for clause in clauses)
-    said = ["", "The caller has to meet each `requires`: else the call may panic, or return something else."] * needs
+    said = ["", "The caller must meet each `requires`; otherwise the call may panic or return something else."] * needs
     block = ["<details><summary>Contract</summary>", *said, "", "```text", *lines, "```", "", "</details>"]
     return "".join(f"/// {line}".rstrip() + f"\n{lead}" for line in [""] * follows + block)
 

@@ -9,7 +9,7 @@ const ROOM: [u8; 510] = [0; 510];
 ///
 /// <details><summary>Contract</summary>
 ///
-/// The caller has to meet each `requires`: else the call may panic, or return something else.
+/// The caller must meet each `requires`; otherwise the call may panic or return something else.
 ///
 /// ```text
 /// requires { length bytes.old.items + length part.now ≤ N }
@@ -28,7 +28,7 @@ pub fn append<const N: usize>(bytes: &mut ArrayVec<u8, N>, part: &[u8]) {
 ///
 /// <details><summary>Contract</summary>
 ///
-/// The caller has to meet each `requires`: else the call may panic, or return something else.
+/// The caller must meet each `requires`; otherwise the call may panic or return something else.
 ///
 /// ```text
 /// requires there { start + 2 * size + between ≤ length addrs.old.items }

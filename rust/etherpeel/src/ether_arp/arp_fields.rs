@@ -65,7 +65,7 @@ fn packet_len(packet: &[u8]) -> usize {
 ///
 /// <details><summary>Contract</summary>
 ///
-/// The caller has to meet each `requires`: else the call may panic, or return something else.
+/// The caller must meet each `requires`; otherwise the call may panic or return something else.
 ///
 /// ```text
 /// requires { 8 ≤ length packet.now }
@@ -82,7 +82,7 @@ pub fn hw_addr_type(packet: &[u8]) -> ArpHardwareId {
 ///
 /// <details><summary>Contract</summary>
 ///
-/// The caller has to meet each `requires`: else the call may panic, or return something else.
+/// The caller must meet each `requires`; otherwise the call may panic or return something else.
 ///
 /// ```text
 /// requires { 8 ≤ length packet.now }
@@ -99,7 +99,7 @@ pub fn proto_addr_type(packet: &[u8]) -> EtherType {
 ///
 /// <details><summary>Contract</summary>
 ///
-/// The caller has to meet each `requires`: else the call may panic, or return something else.
+/// The caller must meet each `requires`; otherwise the call may panic or return something else.
 ///
 /// ```text
 /// requires { 8 ≤ length packet.now }
@@ -116,7 +116,7 @@ pub fn hw_addr_size(packet: &[u8]) -> u8 {
 ///
 /// <details><summary>Contract</summary>
 ///
-/// The caller has to meet each `requires`: else the call may panic, or return something else.
+/// The caller must meet each `requires`; otherwise the call may panic or return something else.
 ///
 /// ```text
 /// requires { 8 ≤ length packet.now }
@@ -133,7 +133,7 @@ pub fn proto_addr_size(packet: &[u8]) -> u8 {
 ///
 /// <details><summary>Contract</summary>
 ///
-/// The caller has to meet each `requires`: else the call may panic, or return something else.
+/// The caller must meet each `requires`; otherwise the call may panic or return something else.
 ///
 /// ```text
 /// requires { 8 ≤ length packet.now }
@@ -150,7 +150,7 @@ pub fn operation(packet: &[u8]) -> ArpOperation {
 ///
 /// <details><summary>Contract</summary>
 ///
-/// The caller has to meet each `requires`: else the call may panic, or return something else.
+/// The caller must meet each `requires`; otherwise the call may panic or return something else.
 ///
 /// ```text
 /// requires { BeginsWithArp packet.now }
@@ -170,7 +170,7 @@ pub fn sender_hw_addr(packet: &[u8]) -> &[u8] {
 ///
 /// <details><summary>Contract</summary>
 ///
-/// The caller has to meet each `requires`: else the call may panic, or return something else.
+/// The caller must meet each `requires`; otherwise the call may panic or return something else.
 ///
 /// ```text
 /// requires { BeginsWithArp packet.now }
@@ -190,7 +190,7 @@ pub fn sender_protocol_addr(packet: &[u8]) -> &[u8] {
 ///
 /// <details><summary>Contract</summary>
 ///
-/// The caller has to meet each `requires`: else the call may panic, or return something else.
+/// The caller must meet each `requires`; otherwise the call may panic or return something else.
 ///
 /// ```text
 /// requires { BeginsWithArp packet.now }
@@ -211,7 +211,7 @@ pub fn target_hw_addr(packet: &[u8]) -> &[u8] {
 ///
 /// <details><summary>Contract</summary>
 ///
-/// The caller has to meet each `requires`: else the call may panic, or return something else.
+/// The caller must meet each `requires`; otherwise the call may panic or return something else.
 ///
 /// ```text
 /// requires { BeginsWithArp packet.now }
@@ -232,7 +232,7 @@ pub fn target_protocol_addr(packet: &[u8]) -> &[u8] {
 ///
 /// <details><summary>Contract</summary>
 ///
-/// The caller has to meet each `requires`: else the call may panic, or return something else.
+/// The caller must meet each `requires`; otherwise the call may panic or return something else.
 ///
 /// ```text
 /// requires { HoldsArp packet.now }

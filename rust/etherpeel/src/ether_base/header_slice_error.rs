@@ -22,7 +22,7 @@ impl<E> HeaderSliceError<E> {
     ///
     /// <details><summary>Contract</summary>
     ///
-    /// The caller has to meet each `requires`: else the call may panic, or return something else.
+    /// The caller must meet each `requires`; otherwise the call may panic or return something else.
     ///
     /// ```text
     /// requires { FitsMoved offset self }

@@ -58,7 +58,7 @@ impl Reading {
     ///
     /// <details><summary>Contract</summary>
     ///
-    /// The caller has to meet each `requires`: else the call may panic, or return something else.
+    /// The caller must meet each `requires`; otherwise the call may panic or return something else.
     ///
     /// ```text
     /// requires { size_of (state_of self.old) < MAX_WORDS }
@@ -181,7 +181,7 @@ impl Reading {
     ///
     /// <details><summary>Contract</summary>
     ///
-    /// The caller has to meet each `requires`: else the call may panic, or return something else.
+    /// The caller must meet each `requires`; otherwise the call may panic or return something else.
     ///
     /// ```text
     /// requires { size_of (state_of self) ≤ MAX_WORDS }

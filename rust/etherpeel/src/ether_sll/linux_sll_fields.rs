@@ -55,7 +55,7 @@ pub fn require_header(slice: &[u8]) -> Result<(), HeaderSliceError> {
 ///
 /// <details><summary>Contract</summary>
 ///
-/// The caller has to meet each `requires`: else the call may panic, or return something else.
+/// The caller must meet each `requires`; otherwise the call may panic or return something else.
 ///
 /// ```text
 /// requires { 16 ≤ length bytes.now }
@@ -84,7 +84,7 @@ pub fn packet_type(bytes: &[u8]) -> LinuxSllPacketType {
 ///
 /// <details><summary>Contract</summary>
 ///
-/// The caller has to meet each `requires`: else the call may panic, or return something else.
+/// The caller must meet each `requires`; otherwise the call may panic or return something else.
 ///
 /// ```text
 /// requires { 16 ≤ length bytes.now }
@@ -101,7 +101,7 @@ pub fn arp_hardware_type(bytes: &[u8]) -> ArpHardwareId {
 ///
 /// <details><summary>Contract</summary>
 ///
-/// The caller has to meet each `requires`: else the call may panic, or return something else.
+/// The caller must meet each `requires`; otherwise the call may panic or return something else.
 ///
 /// ```text
 /// requires { 16 ≤ length bytes.now }
@@ -118,7 +118,7 @@ pub fn sender_address_valid_length(bytes: &[u8]) -> u16 {
 ///
 /// <details><summary>Contract</summary>
 ///
-/// The caller has to meet each `requires`: else the call may panic, or return something else.
+/// The caller must meet each `requires`; otherwise the call may panic or return something else.
 ///
 /// ```text
 /// requires { 16 ≤ length bytes.now }
@@ -135,7 +135,7 @@ pub fn sender_address_full(bytes: &[u8]) -> [u8; 8] {
 ///
 /// <details><summary>Contract</summary>
 ///
-/// The caller has to meet each `requires`: else the call may panic, or return something else.
+/// The caller must meet each `requires`; otherwise the call may panic or return something else.
 ///
 /// ```text
 /// requires { 16 ≤ length bytes.now }
@@ -163,7 +163,7 @@ pub fn protocol_type(bytes: &[u8]) -> LinuxSllProtocolType {
 ///
 /// <details><summary>Contract</summary>
 ///
-/// The caller has to meet each `requires`: else the call may panic, or return something else.
+/// The caller must meet each `requires`; otherwise the call may panic or return something else.
 ///
 /// ```text
 /// requires { HoldsLinuxSll bytes.now }

@@ -53,7 +53,7 @@ pub fn require_header(slice: &[u8]) -> Result<(), LinuxSll2Error> {
 ///
 /// <details><summary>Contract</summary>
 ///
-/// The caller has to meet each `requires`: else the call may panic, or return something else.
+/// The caller must meet each `requires`; otherwise the call may panic or return something else.
 ///
 /// ```text
 /// requires { 20 ≤ length bytes.now }
@@ -82,7 +82,7 @@ pub fn protocol_type(bytes: &[u8]) -> LinuxSllProtocolType {
 ///
 /// <details><summary>Contract</summary>
 ///
-/// The caller has to meet each `requires`: else the call may panic, or return something else.
+/// The caller must meet each `requires`; otherwise the call may panic or return something else.
 ///
 /// ```text
 /// requires { 20 ≤ length bytes.now }
@@ -99,7 +99,7 @@ pub fn interface_index(bytes: &[u8]) -> u32 {
 ///
 /// <details><summary>Contract</summary>
 ///
-/// The caller has to meet each `requires`: else the call may panic, or return something else.
+/// The caller must meet each `requires`; otherwise the call may panic or return something else.
 ///
 /// ```text
 /// requires { 20 ≤ length bytes.now }
@@ -125,7 +125,7 @@ pub fn packet_type(bytes: &[u8]) -> LinuxSllPacketType {
 ///
 /// <details><summary>Contract</summary>
 ///
-/// The caller has to meet each `requires`: else the call may panic, or return something else.
+/// The caller must meet each `requires`; otherwise the call may panic or return something else.
 ///
 /// ```text
 /// requires { 20 ≤ length bytes.now }
@@ -142,7 +142,7 @@ pub fn sender_address_valid_length(bytes: &[u8]) -> u8 {
 ///
 /// <details><summary>Contract</summary>
 ///
-/// The caller has to meet each `requires`: else the call may panic, or return something else.
+/// The caller must meet each `requires`; otherwise the call may panic or return something else.
 ///
 /// ```text
 /// requires { 20 ≤ length bytes.now }
@@ -159,7 +159,7 @@ pub fn sender_address_full(bytes: &[u8]) -> [u8; 8] {
 ///
 /// <details><summary>Contract</summary>
 ///
-/// The caller has to meet each `requires`: else the call may panic, or return something else.
+/// The caller must meet each `requires`; otherwise the call may panic or return something else.
 ///
 /// ```text
 /// requires { 20 ≤ length bytes.now }
@@ -178,7 +178,7 @@ pub fn sender_address(bytes: &[u8]) -> &[u8] {
 ///
 /// <details><summary>Contract</summary>
 ///
-/// The caller has to meet each `requires`: else the call may panic, or return something else.
+/// The caller must meet each `requires`; otherwise the call may panic or return something else.
 ///
 /// ```text
 /// requires { HoldsLinuxSll2 bytes.now }

@@ -19,7 +19,7 @@ const ETHER_TYPE: Range<usize> = 12..14;
 ///
 /// <details><summary>Contract</summary>
 ///
-/// The caller has to meet each `requires`: else the call may panic, or return something else.
+/// The caller must meet each `requires`; otherwise the call may panic or return something else.
 ///
 /// ```text
 /// requires { 14 ≤ length bytes.now }
@@ -36,7 +36,7 @@ pub fn destination(bytes: &[u8]) -> [u8; 6] {
 ///
 /// <details><summary>Contract</summary>
 ///
-/// The caller has to meet each `requires`: else the call may panic, or return something else.
+/// The caller must meet each `requires`; otherwise the call may panic or return something else.
 ///
 /// ```text
 /// requires { 14 ≤ length bytes.now }
@@ -53,7 +53,7 @@ pub fn source(bytes: &[u8]) -> [u8; 6] {
 ///
 /// <details><summary>Contract</summary>
 ///
-/// The caller has to meet each `requires`: else the call may panic, or return something else.
+/// The caller must meet each `requires`; otherwise the call may panic or return something else.
 ///
 /// ```text
 /// requires { 14 ≤ length bytes.now }
@@ -70,7 +70,7 @@ pub fn ether_type(bytes: &[u8]) -> EtherType {
 ///
 /// <details><summary>Contract</summary>
 ///
-/// The caller has to meet each `requires`: else the call may panic, or return something else.
+/// The caller must meet each `requires`; otherwise the call may panic or return something else.
 ///
 /// ```text
 /// requires { 14 ≤ length bytes.now }
@@ -93,7 +93,7 @@ pub fn header(bytes: &[u8]) -> Ethernet2Header {
 ///
 /// <details><summary>Contract</summary>
 ///
-/// The caller has to meet each `requires`: else the call may panic, or return something else.
+/// The caller must meet each `requires`; otherwise the call may panic or return something else.
 ///
 /// ```text
 /// requires first { length a.now ≡ 14 }

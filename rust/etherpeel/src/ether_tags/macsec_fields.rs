@@ -42,7 +42,7 @@ const C: u32 = 2;
 ///
 /// <details><summary>Contract</summary>
 ///
-/// The caller has to meet each `requires`: else the call may panic, or return something else.
+/// The caller must meet each `requires`; otherwise the call may panic or return something else.
 ///
 /// ```text
 /// requires { 2 ≤ length bytes.now }
@@ -59,7 +59,7 @@ pub fn tci_an(bytes: &[u8]) -> u8 {
 ///
 /// <details><summary>Contract</summary>
 ///
-/// The caller has to meet each `requires`: else the call may panic, or return something else.
+/// The caller must meet each `requires`; otherwise the call may panic or return something else.
 ///
 /// ```text
 /// requires { 2 ≤ length bytes.now }
@@ -76,7 +76,7 @@ pub fn has_version_one(bytes: &[u8]) -> bool {
 ///
 /// <details><summary>Contract</summary>
 ///
-/// The caller has to meet each `requires`: else the call may panic, or return something else.
+/// The caller must meet each `requires`; otherwise the call may panic or return something else.
 ///
 /// ```text
 /// requires { 2 ≤ length bytes.now }
@@ -93,7 +93,7 @@ pub fn endstation_id(bytes: &[u8]) -> bool {
 ///
 /// <details><summary>Contract</summary>
 ///
-/// The caller has to meet each `requires`: else the call may panic, or return something else.
+/// The caller must meet each `requires`; otherwise the call may panic or return something else.
 ///
 /// ```text
 /// requires { 2 ≤ length bytes.now }
@@ -110,7 +110,7 @@ pub fn sci_present(bytes: &[u8]) -> bool {
 ///
 /// <details><summary>Contract</summary>
 ///
-/// The caller has to meet each `requires`: else the call may panic, or return something else.
+/// The caller must meet each `requires`; otherwise the call may panic or return something else.
 ///
 /// ```text
 /// requires { 2 ≤ length bytes.now }
@@ -127,7 +127,7 @@ pub fn tci_scb(bytes: &[u8]) -> bool {
 ///
 /// <details><summary>Contract</summary>
 ///
-/// The caller has to meet each `requires`: else the call may panic, or return something else.
+/// The caller must meet each `requires`; otherwise the call may panic or return something else.
 ///
 /// ```text
 /// requires { 2 ≤ length bytes.now }
@@ -144,7 +144,7 @@ pub fn encrypted(bytes: &[u8]) -> bool {
 ///
 /// <details><summary>Contract</summary>
 ///
-/// The caller has to meet each `requires`: else the call may panic, or return something else.
+/// The caller must meet each `requires`; otherwise the call may panic or return something else.
 ///
 /// ```text
 /// requires { 2 ≤ length bytes.now }
@@ -161,7 +161,7 @@ pub fn userdata_changed(bytes: &[u8]) -> bool {
 ///
 /// <details><summary>Contract</summary>
 ///
-/// The caller has to meet each `requires`: else the call may panic, or return something else.
+/// The caller must meet each `requires`; otherwise the call may panic or return something else.
 ///
 /// ```text
 /// requires { 2 ≤ length bytes.now }
@@ -178,7 +178,7 @@ pub fn association_number(bytes: &[u8]) -> MacsecAn {
 ///
 /// <details><summary>Contract</summary>
 ///
-/// The caller has to meet each `requires`: else the call may panic, or return something else.
+/// The caller must meet each `requires`; otherwise the call may panic or return something else.
 ///
 /// ```text
 /// requires { 2 ≤ length bytes.now }
@@ -195,7 +195,7 @@ pub fn short_len(bytes: &[u8]) -> MacsecShortLen {
 ///
 /// <details><summary>Contract</summary>
 ///
-/// The caller has to meet each `requires`: else the call may panic, or return something else.
+/// The caller must meet each `requires`; otherwise the call may panic or return something else.
 ///
 /// ```text
 /// requires { 6 ≤ length bytes.now }
@@ -212,7 +212,7 @@ pub fn packet_nr(bytes: &[u8]) -> u32 {
 ///
 /// <details><summary>Contract</summary>
 ///
-/// The caller has to meet each `requires`: else the call may panic, or return something else.
+/// The caller must meet each `requires`; otherwise the call may panic or return something else.
 ///
 /// ```text
 /// requires { sec_tag_len (sec_tag_front_in bytes.now) ≤ length bytes.now }
@@ -234,7 +234,7 @@ pub fn sci(bytes: &[u8]) -> Option<u64> {
 ///
 /// <details><summary>Contract</summary>
 ///
-/// The caller has to meet each `requires`: else the call may panic, or return something else.
+/// The caller must meet each `requires`; otherwise the call may panic or return something else.
 ///
 /// ```text
 /// requires { length bytes.now ≡ sec_tag_len (sec_tag_front_in bytes.now) }
@@ -259,7 +259,7 @@ pub fn ptype(bytes: &[u8]) -> MacsecPType {
 ///
 /// <details><summary>Contract</summary>
 ///
-/// The caller has to meet each `requires`: else the call may panic, or return something else.
+/// The caller must meet each `requires`; otherwise the call may panic or return something else.
 ///
 /// ```text
 /// requires { 2 ≤ length bytes.now }
@@ -276,7 +276,7 @@ pub fn is_unmodified(bytes: &[u8]) -> bool {
 ///
 /// <details><summary>Contract</summary>
 ///
-/// The caller has to meet each `requires`: else the call may panic, or return something else.
+/// The caller must meet each `requires`; otherwise the call may panic or return something else.
 ///
 /// ```text
 /// requires { 2 ≤ length bytes.now }
@@ -293,7 +293,7 @@ pub fn is_too_short(bytes: &[u8]) -> bool {
 ///
 /// <details><summary>Contract</summary>
 ///
-/// The caller has to meet each `requires`: else the call may panic, or return something else.
+/// The caller must meet each `requires`; otherwise the call may panic or return something else.
 ///
 /// ```text
 /// requires { 2 ≤ length bytes.now }
@@ -310,7 +310,7 @@ pub fn header_len(bytes: &[u8]) -> usize {
 ///
 /// <details><summary>Contract</summary>
 ///
-/// The caller has to meet each `requires`: else the call may panic, or return something else.
+/// The caller must meet each `requires`; otherwise the call may panic or return something else.
 ///
 /// ```text
 /// requires { 2 ≤ length bytes.now }

@@ -7,7 +7,7 @@ use core::ops::Range;
 ///
 /// <details><summary>Contract</summary>
 ///
-/// The caller has to meet each `requires`: else the call may panic, or return something else.
+/// The caller must meet each `requires`; otherwise the call may panic or return something else.
 ///
 /// ```text
 /// requires width { field.end ≡ field.start + 2 }
@@ -26,7 +26,7 @@ pub fn u16_at(bytes: &[u8], field: Range<usize>) -> u16 {
 ///
 /// <details><summary>Contract</summary>
 ///
-/// The caller has to meet each `requires`: else the call may panic, or return something else.
+/// The caller must meet each `requires`; otherwise the call may panic or return something else.
 ///
 /// ```text
 /// requires width { field.end ≡ field.start + 4 }
@@ -44,7 +44,7 @@ pub fn u32_at(bytes: &[u8], field: Range<usize>) -> u32 {
 ///
 /// <details><summary>Contract</summary>
 ///
-/// The caller has to meet each `requires`: else the call may panic, or return something else.
+/// The caller must meet each `requires`; otherwise the call may panic or return something else.
 ///
 /// ```text
 /// requires width { field.end ≡ field.start + 8 }

@@ -16,7 +16,7 @@ const ETHER_TYPE: Range<usize> = 2..4;
 ///
 /// <details><summary>Contract</summary>
 ///
-/// The caller has to meet each `requires`: else the call may panic, or return something else.
+/// The caller must meet each `requires`; otherwise the call may panic or return something else.
 ///
 /// ```text
 /// requires { 4 ≤ length bytes.now }
@@ -33,7 +33,7 @@ pub fn priority_code_point(bytes: &[u8]) -> VlanPcp {
 ///
 /// <details><summary>Contract</summary>
 ///
-/// The caller has to meet each `requires`: else the call may panic, or return something else.
+/// The caller must meet each `requires`; otherwise the call may panic or return something else.
 ///
 /// ```text
 /// requires { 4 ≤ length bytes.now }
@@ -50,7 +50,7 @@ pub fn drop_eligible_indicator(bytes: &[u8]) -> bool {
 ///
 /// <details><summary>Contract</summary>
 ///
-/// The caller has to meet each `requires`: else the call may panic, or return something else.
+/// The caller must meet each `requires`; otherwise the call may panic or return something else.
 ///
 /// ```text
 /// requires { 4 ≤ length bytes.now }
@@ -67,7 +67,7 @@ pub fn vlan_identifier(bytes: &[u8]) -> VlanId {
 ///
 /// <details><summary>Contract</summary>
 ///
-/// The caller has to meet each `requires`: else the call may panic, or return something else.
+/// The caller must meet each `requires`; otherwise the call may panic or return something else.
 ///
 /// ```text
 /// requires { 4 ≤ length bytes.now }
@@ -84,7 +84,7 @@ pub fn ether_type(bytes: &[u8]) -> EtherType {
 ///
 /// <details><summary>Contract</summary>
 ///
-/// The caller has to meet each `requires`: else the call may panic, or return something else.
+/// The caller must meet each `requires`; otherwise the call may panic or return something else.
 ///
 /// ```text
 /// requires { 4 ≤ length bytes.now }
@@ -108,7 +108,7 @@ pub fn header(bytes: &[u8]) -> SingleVlanHeader {
 ///
 /// <details><summary>Contract</summary>
 ///
-/// The caller has to meet each `requires`: else the call may panic, or return something else.
+/// The caller must meet each `requires`; otherwise the call may panic or return something else.
 ///
 /// ```text
 /// requires { length bytes.now ≡ 4 }

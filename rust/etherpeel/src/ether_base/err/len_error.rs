@@ -41,7 +41,7 @@ impl LenError {
     ///
     /// <details><summary>Contract</summary>
     ///
-    /// The caller has to meet each `requires`: else the call may panic, or return something else.
+    /// The caller must meet each `requires`; otherwise the call may panic or return something else.
     ///
     /// ```text
     /// requires { self.layer_start_offset + offset < 2 ^ 64 }
