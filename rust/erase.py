@@ -3,9 +3,9 @@
 
     python3 rust/erase.py [FOLDER]
 
-reads `crates/*/src` and writes `src` and `tests` of the crate in FOLDER, or of `rust/etherpeel`. Each rule deletes, or
-respells one exact form (`erasing/rules.py`). What is not known (`erasing/known.py`) is refused with its file and line,
-and then nothing is written.
+reads `crates/*/src` and writes `src` and `tests` of the crate in FOLDER, or of `rust/etherpeel`, and a copy of the
+file NOTICE. Each rule deletes, or respells one exact form (`erasing/rules.py`). What is not known
+(`erasing/known.py`) is refused with its file and line, and then nothing is written.
 """
 import os
 import sys
@@ -152,7 +152,8 @@ def result():
         found += made([test, *examples], known)
     if refused := [text for path, text in found if path is None]:
         sys.exit("\n".join([*refused, "rust/erasing/known.py has what is known"]))
-    return dict(found)
+    with open(os.path.join(os.path.dirname(HERE), "NOTICE"), encoding="utf-8") as file:
+        return {**dict(found), "NOTICE": file.read()}
 
 
 def stale(folder, files):
@@ -170,7 +171,7 @@ def main():
     for path in list(stale(folder, files)):
         os.remove(os.path.join(folder, path))
     for path, text in files.items():
-        os.makedirs(os.path.dirname(os.path.join(folder, path)), exist_ok=True)
+        os.makedirs(os.path.dirname(os.path.join(folder, path)) or ".", exist_ok=True)
         with open(os.path.join(folder, path), "w", encoding="utf-8") as file:
             file.write(text)
     print(f"{len(files)} files, {sum(text.count(chr(10)) for text in files.values())} lines")
