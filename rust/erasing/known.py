@@ -42,8 +42,8 @@ GIVEN = set("default from try_from".split())
 METHODS = set(
     """and_then as_mut_slice as_ref as_slice as_str clear clone contains copied copy_from_slice copy_within debug_struct
     field finish first_chunk first_chunk_mut fmt get hash is_empty is_err is_full is_none is_ok is_some iter last_chunk
-    len map max min next ok or overflowing_add pop pow push rev saturating_sub split_first split_last then_some
-    to_be_bytes to_digit to_le_bytes truncate try_extend_from_slice unwrap unwrap_or write_str""".split()
+    len map max min next ok or overflowing_add pop pow push rev saturating_add saturating_sub split_first split_last
+    then_some to_be_bytes to_digit to_le_bytes truncate try_extend_from_slice unwrap unwrap_or write_str""".split()
 )
 
 # What tests use besides: they have std, and `tests/kit` of the result stands in for the runtime.
@@ -54,6 +54,6 @@ TEST_PATHS = set(
     Ordering::Less Ordering::Equal Ordering::Greater""".split()
 )
 TEST_METHODS = set(
-    """all alloc any count enumerate err find first_mut get_mut into iter_mut last map_err ok_or saturating_add
-    skip split_at split_at_mut starts_with zip""".split()
+    """all alloc any count enumerate err find first_mut get_mut into iter_mut last map_err ok_or skip split_at
+    split_at_mut starts_with zip""".split()
 )

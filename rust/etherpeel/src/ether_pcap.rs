@@ -11,7 +11,7 @@ mod words;
 pub use byte_order::ByteOrder;
 pub use capture::{
     CaptureError, CaptureFault, CaptureInterface, CapturePackets, CaptureReader, CaptureUnit,
-    CapturedPacket, EditedUnit, InterfaceTable, Timestamp,
+    CapturedPacket, CopiedUnit, CopyMode, EditedUnit, InterfaceTable, Timestamp,
 };
 pub use classic::{
     FileHeader, FileHeaderError, PcapRecord, PcapRecords, RecordError, RecordFault,

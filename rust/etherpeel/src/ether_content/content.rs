@@ -22,6 +22,7 @@ const FCS_LEN: usize = 4;
 ///     interface: None,
 ///     original_len: 60,
 ///     link_type: LinkType::ETHERNET,
+///     snap_len: 262_144,
 ///     fcs_len: None,
 ///     packet: &[0xFF; 14],
 /// };
@@ -132,6 +133,7 @@ fn has_fcs(packet: &CapturedPacket<'_>) -> bool {
 ///     interface: None,
 ///     original_len: 18,
 ///     link_type: LinkType::ETHERNET,
+///     snap_len: 262_144,
 ///     fcs_len: Some(4),
 ///     packet: &[0xFF; 16],
 /// };

@@ -32,6 +32,25 @@ pub enum PacketEdit {
     },
 }
 
+impl PacketEdit {
+    /// How many bytes a packet has more at most: by so many [`CopyMode::Changed`](crate::ether_pcap::CopyMode::Changed) raises snap lengths.
+    ///
+    /// <details><summary>Contract</summary>
+    ///
+    /// ```text
+    /// ensures { result ≡ growth (edit_view self) }
+    /// ```
+    ///
+    /// </details>
+    #[inline]
+    pub fn growth(self) -> u32 {
+        match self {
+            PacketEdit::PushVlan { .. } => 4,
+            _ => 0,
+        }
+    }
+}
+
 /// A packet that was edited.
 #[derive(Clone, Copy, PartialEq, Eq, Debug)]
 pub struct EditedPacket {
@@ -65,6 +84,7 @@ const FREE: usize = 4;
 ///     interface: None,
 ///     original_len: 60,
 ///     link_type: LinkType::ETHERNET,
+///     snap_len: 262_144,
 ///     fcs_len: None,
 ///     packet: &[
 ///         0xFF, 0xFF, 0xFF, 0xFF, 0xFF, 0xFF, 0x02, 0x00, 0x00, 0x00, 0x00, 0x01, 0x81, 0x00, // Ethernet II

@@ -24,6 +24,7 @@ use crate::ether_sll2::{LinuxSll2Header, LinuxSll2Slice};
 ///     interface: None,
 ///     original_len: 60,
 ///     link_type: LinkType::ETHERNET,
+///     snap_len: 262_144,
 ///     fcs_len: None,
 ///     packet: &[
 ///         0xFF, 0xFF, 0xFF, 0xFF, 0xFF, 0xFF, 0x02, 0x00, 0x00, 0x00, 0x00, 0x01, 0x81, 0x00, // Ethernet II

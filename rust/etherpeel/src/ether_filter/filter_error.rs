@@ -39,6 +39,8 @@ pub enum FilterErrorKind {
     ExpectedOperand,
     /// `and`, `or`, `)` or the end of the text is expected.
     ExpectedOperator,
+    /// An identifier up to 4095 is expected after `vlan`, or what may come after an operand.
+    ExpectedVlanIdOrOperator,
     /// `vlan` is expected.
     ExpectedVlan,
     /// `proto`, `src`, `dst`, `host`, `broadcast` or `multicast` is expected.
@@ -65,6 +67,9 @@ impl fmt::Display for FilterErrorKind {
             }
             FilterErrorKind::ExpectedOperator => {
                 f.write_str("expected `and`, `or`, `)` or the end.")
+            }
+            FilterErrorKind::ExpectedVlanIdOrOperator => {
+                f.write_str("expected a number up to 4095, `and`, `or`, `)` or the end.")
             }
             FilterErrorKind::ExpectedVlan => f.write_str("expected `vlan`."),
             FilterErrorKind::ExpectedEtherWord => f.write_str(

@@ -86,10 +86,11 @@ impl Reading {
                 Token::Number(_) => {
                     self.step(next_step(Awaited::Number(Numbered::VlanId), token))
                 }
-                _ => {
+                Token::Join(_) | Token::Close => {
                     self.complete(Primitive::Vlan);
                     self.take_operator(token)
                 }
+                _ => Err(FilterErrorKind::ExpectedVlanIdOrOperator),
             },
             awaited => self.step(next_step(awaited, token)),
         }

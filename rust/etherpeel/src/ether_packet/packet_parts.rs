@@ -5,8 +5,8 @@ use crate::{ArpPacket, EtherType, LinkExtHeader, LinkHeader};
 /// The headers of a packet that was read, as values that can be changed and written, and what follows them.
 ///
 /// [`PacketSlice::to_parts`] makes them, and [`builder`](Self::builder) takes them on. Written by
-/// [`PacketBuilder::write_unchanged`], they give the front of the frame again, but for the two reserved bits of each SecTag;
-/// by [`PacketBuilder::write`], each header announces what follows it.
+/// [`PacketBuilder::write_unchanged`], they give the front of the frame again, but for the two reserved bits of each SecTag, up
+/// to the end of the last window; by [`PacketBuilder::write`], each header announces what follows it.
 ///
 /// ```
 /// # use etherpeel::*;

@@ -8,9 +8,11 @@ impl<'a, 'b> PacketBuilder<'a, 'b> {
     /// Writes the packet with its headers as they are to the front of a target, and returns its length. The bytes after it
     /// stay as they were.
     ///
-    /// Where [`write`](Self::write) sets ether types and short lengths by what follows, this sets nothing: so the parts of a
-    /// packet that was read give its bytes again, with a SecTag whose short length leaves out an integrity check value, and
-    /// with a cooked capture of any link. What the headers announce, and whether a walk finds it, is up to the caller.
+    /// Where [`write`](Self::write) sets ether types and short lengths by what follows, this sets nothing. So the parts of a
+    /// packet that was read give the front of its frame again, also of a cooked capture of any link. What follows the last
+    /// window is no part of them, and is not written: the integrity check value after the payload of a SecTag with a short
+    /// length, the padding after an ARP packet, and a frame check sequence. What the headers announce, and whether a walk
+    /// finds it, is up to the caller.
     ///
     /// # Errors
     ///

@@ -11,7 +11,7 @@ mod pcapng_block;
 mod pcapng_option;
 mod section_error;
 mod section_header;
-mod simple_packet;
+pub(crate) mod simple_packet;
 
 pub use block_error::BlockError;
 pub use body_error::BodyError;

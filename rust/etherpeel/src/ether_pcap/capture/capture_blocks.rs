@@ -88,6 +88,7 @@ fn simple_packet<'a>(
         interface: Some(0),
         original_len: packet.original_len,
         link_type: interface.link_type,
+        snap_len: interface.snap_len,
         fcs_len: interface.fcs_len,
         packet: packet.packet,
     })
@@ -113,6 +114,7 @@ fn enhanced_packet<'a>(
         interface: Some(packet.interface),
         original_len: packet.original_len,
         link_type: interface.link_type,
+        snap_len: interface.snap_len,
         fcs_len: first_of(packet.fcs_len(byte_order), interface.fcs_len),
         packet: packet.packet,
     })

@@ -1,10 +1,11 @@
 //! A reader of capture files of either format, one unit at a time.
 
 use crate::ether_pcap::capture::capture_blocks::read_block;
+use crate::ether_pcap::capture::copying::{changed_block, changed_header, changed_section, keeps_block};
 use crate::ether_pcap::capture::editing::{edited_block, edited_record};
 use crate::ether_pcap::{
-    ByteOrder, CaptureError, CaptureUnit, CapturedPacket, EditedUnit, FileHeader, InterfaceTable,
-    PcapRecord, PcapngBlock, SectionHeader, Timestamp,
+    ByteOrder, CaptureError, CaptureUnit, CapturedPacket, CopiedUnit, CopyMode, EditedUnit,
+    FileHeader, InterfaceTable, PcapRecord, PcapngBlock, SectionHeader, Timestamp,
 };
 
 /// What was read of a file.
@@ -166,6 +167,90 @@ impl<T: InterfaceTable> CaptureReader<T> {
         }
     }
 
+    /// What a copy has of a unit without a packet.
+    ///
+    /// `unit` has exactly the bytes of the unit that this reader read last. A copy that is another capture has the snap length of a file
+    /// header or an interface description raised, so that it is still a bound for packets to which an edit adds bytes. A section header
+    /// gives no length of its section, and a custom block of type [`PcapngBlock::UNCOPIED_CUSTOM`] is left out.
+    ///
+    /// ```
+    /// # use etherpeel::*;
+    /// # use etherpeel::ether_peel::*;
+    /// # use etherpeel::ether_sll2::*;
+    /// # use etherpeel::ether_packet::*;
+    /// # use etherpeel::ether_filter::*;
+    /// # use etherpeel::ether_pcap::*;
+    /// # use etherpeel::ether_pcap::capture::*;
+    /// # use arrayvec::ArrayVec;
+    /// # fn main() -> Result<(), Box<dyn std::error::Error>> {
+    /// let file = [
+    ///     0xA1, 0xB2, 0xC3, 0xD4, 0x00, 0x02, 0x00, 0x04, 0x00, 0x00, 0x00, 0x00, // file header
+    ///     0x00, 0x00, 0x00, 0x00, 0x00, 0x00, 0x00, 0x60, 0x00, 0x00, 0x00, 0x01, //
+    /// ];
+    /// let mut reader = CaptureReader::new(ArrayVec::<CaptureInterface, 16>::new());
+    /// let header_len = reader.read(&file)?.len;
+    /// let copied = reader.copy_unit(CopyMode::Changed { raise: 4 }, &file[..header_len]);
+    /// let wanted = CopiedUnit::SnapLen {
+    ///     front: &file[..16],
+    ///     snap_len: [0x00, 0x00, 0x00, 0x64],
+    ///     rest: &file[20..],
+    /// };
+    /// assert_eq!(copied, wanted);
+    /// # Ok(())
+    /// # }
+    /// ```
+    ///
+    /// <details><summary>Contract</summary>
+    ///
+    /// ```text
+    /// ensures { (x : Expectation) → Begins unit.now x (length unit.now) None self.now
+    ///     → copied_bytes result ≡ other_unit (copy_mode_view mode) self.now unit.now }
+    /// ```
+    ///
+    /// </details>
+    #[inline]
+    pub fn copy_unit<'a>(&self, mode: CopyMode, unit: &'a [u8]) -> CopiedUnit<'a> {
+        match mode {
+            CopyMode::Exact => CopiedUnit::Same(unit),
+            CopyMode::Changed { raise } => self.changed_unit(raise, unit),
+        }
+    }
+
+    /// The unit in a copy that is another capture.
+    #[inline]
+    fn changed_unit<'a>(&self, raise: u32, unit: &'a [u8]) -> CopiedUnit<'a> {
+        match self.progress {
+            Progress::Nothing => CopiedUnit::Same(unit),
+            Progress::Classic(header) => changed_header(&header, raise, unit),
+            Progress::Section(_) if begins_section(unit) => changed_section(unit),
+            Progress::Section(byte_order) => changed_block(byte_order, raise, unit),
+        }
+    }
+
+    /// Tests that a copy can have the unit of a packet that is not edited.
+    ///
+    /// `unit` has exactly the bytes of the unit that this reader read last, and `packet` is its packet. A simple packet has as many bytes as
+    /// the snap length allows. So one that was cut would have more where that is raised, and there is no unit for it.
+    ///
+    /// <details><summary>Contract</summary>
+    ///
+    /// ```text
+    /// ensures { Begins unit.now self.now (length unit.now) (Some (captured_packet_view packet.now)) self.now
+    ///     → packet_unit (copy_mode_view mode) self.now (captured_packet_view packet.now) unit.now
+    ///     ≡ (if result then Some unit.now else None) }
+    /// ```
+    ///
+    /// </details>
+    #[inline]
+    pub fn copies_packet(&self, mode: CopyMode, unit: &[u8], packet: &CapturedPacket<'_>) -> bool {
+        match (mode, self.progress) {
+            (CopyMode::Changed { raise }, Progress::Section(byte_order)) => {
+                keeps_block(byte_order, raise, unit, packet)
+            }
+            _ => true,
+        }
+    }
+
     /// The unit at the front of a slice.
     #[inline(always)]
     fn read_unit<'a>(&mut self, bytes: &'a [u8]) -> Result<CaptureUnit<'a>, CaptureError> {
@@ -219,6 +304,7 @@ fn read_record<'a>(header: &FileHeader, bytes: &'a [u8]) -> Result<CaptureUnit<'
             interface: None,
             original_len: record.original_len,
             link_type: header.link_type,
+            snap_len: header.snap_len,
             fcs_len: header.fcs_len,
             packet: record.packet,
         }),

@@ -13,6 +13,9 @@ pub struct CapturedPacket<'a> {
     pub original_len: u32,
     /// What the packet begins with.
     pub link_type: LinkType,
+    /// How many bytes of a packet are captured at most, as the file header or the description of the interface says; 0 if there is no limit. A
+    /// file may break it: then `packet` is longer.
+    pub snap_len: u32,
     /// The length in bytes of the frame check sequence at the end of the packet before it was cut, if the packet's flags, its
     /// interface or the header of a classic file gives it.
     pub fcs_len: Option<u8>,

@@ -57,6 +57,9 @@ impl<'a> PcapngBlock<'a> {
     /// The type of an enhanced packet.
     pub const ENHANCED_PACKET: u32 = 6;
 
+    /// The type of a custom block that a program leaves out of a capture that it changes.
+    pub const UNCOPIED_CUSTOM: u32 = 0x4000_0BAD;
+
     /// The length in bytes of a block with an empty body.
     pub const MIN_LEN: usize = 12;
 

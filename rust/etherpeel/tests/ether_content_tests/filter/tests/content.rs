@@ -24,6 +24,7 @@ fn packet(
         interface: None,
         original_len,
         link_type: LinkType(link_type),
+        snap_len: 262_144,
         fcs_len,
         packet,
     }

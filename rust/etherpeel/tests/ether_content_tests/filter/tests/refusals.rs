@@ -12,7 +12,7 @@ fn refusal(text: &[u8]) -> Option<(usize, FilterErrorKind)> {
 
 /// A text, and where and why it is refused.
 #[rustfmt::skip]
-static TEXTS: [(&[u8], usize, FilterErrorKind); 26] = [
+static TEXTS: [(&[u8], usize, FilterErrorKind); 28] = [
     (b"", 0, FilterErrorKind::ExpectedOperand),
     (b"  ", 2, FilterErrorKind::ExpectedOperand),
     (b"arp and", 7, FilterErrorKind::ExpectedOperand),
@@ -20,7 +20,9 @@ static TEXTS: [(&[u8], usize, FilterErrorKind); 26] = [
     (b"arp foo", 4, FilterErrorKind::ExpectedOperator),
     (b"foo", 0, FilterErrorKind::ExpectedOperand),
     (b"vlan 4096", 5, FilterErrorKind::ExpectedNumber(4095)),
-    (b"vlan 010", 5, FilterErrorKind::ExpectedOperator),
+    (b"vlan 010", 5, FilterErrorKind::ExpectedVlanIdOrOperator),
+    (b"vlan abc", 5, FilterErrorKind::ExpectedVlanIdOrOperator),
+    (b"arp or vlan not 5", 12, FilterErrorKind::ExpectedVlanIdOrOperator),
     (b"vlan 5 6", 7, FilterErrorKind::ExpectedOperator),
     (b"outer arp", 6, FilterErrorKind::ExpectedVlan),
     (b"inner vlan", 10, FilterErrorKind::ExpectedNumber(4095)),

@@ -27,6 +27,16 @@ const NAMED_AGAIN: &[u8] = &[
     0x45, 0x11, 0x22, 0x33,
 ];
 
+/// An ARP request, padded to the least length of a frame without its check sequence (IEEE 802.3, 4.4.2).
+const PADDED_ARP_REQUEST: [u8; 60] = [
+    0xFF, 0xFF, 0xFF, 0xFF, 0xFF, 0xFF, 0x02, 0x00, 0x00, 0x00, 0x00, 0x01, 0x08, 0x06, // Ethernet II
+    0x00, 0x01, 0x08, 0x00, 0x06, 0x04, 0x00, 0x01, 0x02, 0x00, 0x00, 0x00, 0x00, 0x01, 0xC0, 0x00,
+    0x02, 0x01, // ARP
+    0x00, 0x00, 0x00, 0x00, 0x00, 0x00, 0xC0, 0x00, 0x02, 0x02, //
+    0x00, 0x00, 0x00, 0x00, 0x00, 0x00, 0x00, 0x00, 0x00, 0x00, 0x00, 0x00, 0x00, 0x00, 0x00, 0x00,
+    0x00, 0x00, // padding
+];
+
 /// A start, the first bytes of a frame, and the first bytes of a list that are written.
 type Row = (
     &'static str,
@@ -38,11 +48,12 @@ type Row = (
 );
 
 #[rustfmt::skip]
-static ROWS: [Row; 5] = [
+static ROWS: [Row; 6] = [
     ("two tags", Start::Ethernet2, &TWICE_TAGGED_ARP_REQUEST, 50, &TWICE_TAGGED_ARP_REQUEST, 50),
     ("up to the integrity check value", Start::Ethernet2, &NAMED, 28, NAMED_AGAIN, 26),
     ("the example of IEEE 802.1AE", Start::Ethernet2, &INTEGRITY, 86, &INTEGRITY, 70),
     ("without the check sequence", Start::Ethernet2Fcs, &TWICE_TAGGED_ARP_REQUEST, 20, &TWICE_TAGGED_ARP_REQUEST, 16),
+    ("without the padding", Start::Ethernet2, &PADDED_ARP_REQUEST, 60, &PADDED_ARP_REQUEST, 42),
     ("netlink", Start::LinuxSll, &NETLINK, 18, &NETLINK, 18),
 ];
 

@@ -3,8 +3,8 @@ use super::equal;
 use arrayvec::ArrayVec;
 use etherpeel::ether_pcap::{
     ByteOrder, CaptureError, CaptureInterface, CaptureReader, CaptureUnit, CapturedPacket,
-    EditedUnit, EnhancedPacket, FileHeader, InterfaceDescription, LinkType, PcapRecord,
-    PcapRecords, PcapngBlock, RecordError, SectionHeader, SimplePacket, Timestamp,
+    CopiedUnit, CopyMode, EditedUnit, EnhancedPacket, FileHeader, InterfaceDescription, LinkType,
+    PcapRecord, PcapRecords, PcapngBlock, RecordError, SectionHeader, SimplePacket, Timestamp,
     TimestampResolution,
 };
 use crate::kit::Fail;
@@ -207,6 +207,7 @@ fn of_a_reader() -> Result<(), Fail> {
         interface: None,
         original_len: 1,
         link_type: LinkType::ETHERNET,
+        snap_len: 65_535,
         fcs_len: None,
         packet: &[0xFF],
     };
@@ -258,6 +259,25 @@ fn of_an_edited_packet() -> Result<(), Fail> {
         &(header_len, record_len, found),
         &(24, 19, Some(wanted)),
     );
+    Ok(())
+}
+
+#[test]
+fn of_a_copied_header() -> Result<(), Fail> {
+    let rt = crate::kit::HostRuntime;
+    let file = [
+        0xA1, 0xB2, 0xC3, 0xD4, 0x00, 0x02, 0x00, 0x04, 0x00, 0x00, 0x00, 0x00, // file header
+        0x00, 0x00, 0x00, 0x00, 0x00, 0x00, 0x00, 0x60, 0x00, 0x00, 0x00, 0x01, //
+    ];
+    let mut reader = CaptureReader::new(ArrayVec::<CaptureInterface, 16>::new());
+    let header_len = reader.read(&file)?.len;
+    let copied = reader.copy_unit(CopyMode::Changed { raise: 4 }, &file);
+    let wanted = CopiedUnit::SnapLen {
+        front: &file[..16],
+        snap_len: [0x00, 0x00, 0x00, 0x64],
+        rest: &file[20..],
+    };
+    equal(&rt, "a file header", &(header_len, copied), &(24, wanted));
     Ok(())
 }
 

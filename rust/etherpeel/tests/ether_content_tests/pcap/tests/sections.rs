@@ -66,20 +66,31 @@ fn reader_at(file: &[u8; 508], number: usize) -> Result<Reader, Fail> {
     Ok(reader)
 }
 
-/// The number of a unit, and the nanoseconds, original length, link type, length of a frame check sequence and place of its packet.
+/// The number of a unit, and the nanoseconds, original length, link type, snap length, length of a frame check sequence and place of its packet.
 #[rustfmt::skip]
-static PACKETS: [(&str, usize, u32, Option<u32>, u32, LinkType, Option<u8>, usize, usize); 5] = [
-    ("the second interface", 3, 1, Some(123_456_789), 60, LinkType::LINUX_SLL, None, 128, 145),
-    ("the first interface", 4, 0, Some(123_456_000), 16, LinkType::ETHERNET, Some(4), 180, 196),
-    ("powers of two", 9, 0, Some(333_007_812), 16, LinkType::ETHERNET, None, 356, 372),
-    ("whole seconds", 10, 1, Some(0), 16, LinkType::ETHERNET, None, 404, 420),
-    ("a simple packet", 12, 0, None, 16, LinkType::ETHERNET, None, 488, 504),
+static PACKETS: [(&str, usize, u32, Option<u32>, u32, LinkType, u32, Option<u8>, usize, usize); 5] = [
+    ("the second interface", 3, 1, Some(123_456_789), 60, LinkType::LINUX_SLL, 17, None, 128, 145),
+    ("the first interface", 4, 0, Some(123_456_000), 16, LinkType::ETHERNET, 0, Some(4), 180, 196),
+    ("powers of two", 9, 0, Some(333_007_812), 16, LinkType::ETHERNET, 0, None, 356, 372),
+    ("whole seconds", 10, 1, Some(0), 16, LinkType::ETHERNET, 0, None, 404, 420),
+    ("a simple packet", 12, 0, None, 16, LinkType::ETHERNET, 0, None, 488, 504),
 ];
 
 #[test]
 fn packets_of_both_sections() -> Result<(), Fail> {
     let rt = crate::kit::HostRuntime;
-    for &(name, number, interface, time, original_len, link_type, fcs_len, start, end) in &PACKETS {
+    for &(
+        name,
+        number,
+        interface,
+        time,
+        original_len,
+        link_type,
+        snap_len,
+        fcs_len,
+        start,
+        end,
+    ) in &PACKETS {
         let mut reader = reader_at(&SECTIONS, number)?;
         let unit = reader.read(&SECTIONS[PLACES[number.min(13)].min(508)..])?;
         let packet = CapturedPacket {
@@ -90,6 +101,7 @@ fn packets_of_both_sections() -> Result<(), Fail> {
             interface: Some(interface),
             original_len,
             link_type,
+            snap_len,
             fcs_len,
             packet: SECTIONS.get(start..end).unwrap_or(&[]),
         };

@@ -15,6 +15,7 @@ type Shown = (usize, Option<(Option<(u64, u32)>, u32, usize, usize)>);
 fn packet<'a>(
     shown: &Shown,
     link_type: LinkType,
+    snap_len: u32,
     fcs_len: Option<u8>,
     interface: Option<u32>,
     file: &'a [u8],
@@ -34,6 +35,7 @@ fn packet<'a>(
         interface,
         original_len,
         link_type,
+        snap_len,
         fcs_len,
         packet: file.get(start..end).unwrap_or(&[]),
     })
@@ -48,11 +50,12 @@ const BLOCKS: &[Shown] = &[
     (56, Some((None, 42, 144, 183))),
 ];
 
-/// A file with its link type, the length of its frame check sequence and the number of its interface, and its units.
+/// A file with its link type, its snap length, the length of its frame check sequence and the number of its interface, and its units.
 type Row = (
     &'static str,
     &'static [u8],
     LinkType,
+    u32,
     Option<u8>,
     Option<u32>,
     &'static [Shown],
@@ -60,32 +63,32 @@ type Row = (
 
 #[rustfmt::skip]
 static FILES: [Row; 6] = [
-    ("microseconds", &BIG_MICROSECONDS, LinkType::ETHERNET, None, None, &[
+    ("microseconds", &BIG_MICROSECONDS, LinkType::ETHERNET, 65_535, None, None, &[
         (24, None),
         (58, Some((Some((1_700_000_000, 123_456_000)), 60, 40, 82))),
         (32, Some((Some((1_700_000_001, 5_000)), 16, 98, 114))),
     ]),
-    ("nanoseconds", &LITTLE_NANOSECONDS, LinkType::ETHERNET, None, None, &[
+    ("nanoseconds", &LITTLE_NANOSECONDS, LinkType::ETHERNET, 262_144, None, None, &[
         (24, None),
         (58, Some((Some((1_700_000_000, 123_456_789)), 60, 40, 82))),
         (32, Some((Some((1_700_000_001, 5)), 16, 98, 114))),
     ]),
-    ("a frame check sequence", &LITTLE_FCS, LinkType::ETHERNET, Some(4), None, &[
+    ("a frame check sequence", &LITTLE_FCS, LinkType::ETHERNET, 256, Some(4), None, &[
         (24, None),
         (36, Some((Some((1, 2_000)), 20, 40, 60))),
     ]),
-    ("cooked captures", &BIG_SLL, LinkType::LINUX_SLL, None, None, &[
+    ("cooked captures", &BIG_SLL, LinkType::LINUX_SLL, 96, None, None, &[
         (24, None),
         (33, Some((Some((4_294_967_295, 999_999_999)), 17, 40, 57))),
     ]),
-    ("blocks", &BIG, LinkType::ETHERNET, Some(0), Some(0), BLOCKS),
-    ("blocks, least significant byte first", &LITTLE, LinkType::ETHERNET, Some(0), Some(0), BLOCKS),
+    ("blocks", &BIG, LinkType::ETHERNET, 39, Some(0), Some(0), BLOCKS),
+    ("blocks, least significant byte first", &LITTLE, LinkType::ETHERNET, 39, Some(0), Some(0), BLOCKS),
 ];
 
 #[test]
 fn of_whole_files() -> Result<(), Fail> {
     let rt = crate::kit::HostRuntime;
-    for &(name, file, link_type, fcs_len, interface, units) in &FILES {
+    for &(name, file, link_type, snap_len, fcs_len, interface, units) in &FILES {
         let mut reader = CaptureReader::new(ArrayVec::<CaptureInterface, 4>::new());
         let mut place = 0;
         for shown in units {
@@ -93,7 +96,7 @@ fn of_whole_files() -> Result<(), Fail> {
             let found = reader.read(file.get(place..).unwrap_or(&[]))?;
             let wanted = CaptureUnit {
                 len: shown.0,
-                packet: packet(shown, link_type, fcs_len, interface, file),
+                packet: packet(shown, link_type, snap_len, fcs_len, interface, file),
             };
             equal(&rt, name, &(has_begun, &found), &(place > 0, &wanted));
             place = place.saturating_add(found.len);

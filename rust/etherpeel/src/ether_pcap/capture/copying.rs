@@ -1,0 +1,84 @@
+//! Units of a copy that is another capture.
+
+use crate::ether_pcap::pcapng::simple_packet::captured_len;
+use crate::ether_pcap::words::word;
+use crate::ether_pcap::{ByteOrder, CapturedPacket, CopiedUnit, FileHeader, PcapngBlock};
+
+/// The file header with a snap length that is raised.
+#[inline]
+pub(crate) fn changed_header<'a>(header: &FileHeader, raise: u32, unit: &'a [u8]) -> CopiedUnit<'a> {
+    if unit.len() < FileHeader::LEN {
+        return CopiedUnit::Same(unit);
+    }
+    let snap_len = raised_len(raise, header.snap_len);
+    with_snap_len(header.byte_order, 16, snap_len, unit)
+}
+
+/// A section header that gives no length of its section.
+#[inline]
+pub(crate) fn changed_section<'a>(unit: &'a [u8]) -> CopiedUnit<'a> {
+    if unit.len() < 24 {
+        return CopiedUnit::Same(unit);
+    }
+    CopiedUnit::SectionLen {
+        front: &unit[..16],
+        rest: &unit[24..],
+    }
+}
+
+/// A block that is neither a section header nor a packet.
+#[inline]
+pub(crate) fn changed_block<'a>(order: ByteOrder, raise: u32, block: &'a [u8]) -> CopiedUnit<'a> {
+    if block.len() < 4 {
+        return CopiedUnit::Same(block);
+    }
+    match order.u32_at(block, 0) {
+        PcapngBlock::INTERFACE_DESCRIPTION => changed_interface(order, raise, block),
+        PcapngBlock::UNCOPIED_CUSTOM => CopiedUnit::LeftOut,
+        _ => CopiedUnit::Same(block),
+    }
+}
+
+/// An interface description with a snap length that is raised.
+#[inline]
+fn changed_interface<'a>(order: ByteOrder, raise: u32, block: &'a [u8]) -> CopiedUnit<'a> {
+    if block.len() < 16 {
+        return CopiedUnit::Same(block);
+    }
+    let snap_len = raised_len(raise, order.u32_at(block, 12));
+    with_snap_len(order, 12, snap_len, block)
+}
+
+/// Tests that the block of a packet is still that packet where snap lengths are raised.
+#[inline]
+pub(crate) fn keeps_block(
+    order: ByteOrder,
+    raise: u32,
+    block: &[u8],
+    packet: &CapturedPacket<'_>,
+) -> bool {
+    if block.len() < 4 || order.u32_at(block, 0) != PcapngBlock::SIMPLE_PACKET {
+        return true;
+    }
+    let snap_len = raised_len(raise, packet.snap_len);
+    captured_len(snap_len, packet.original_len) as usize == packet.packet.len()
+}
+
+/// A unit with another snap length at a place.
+#[inline]
+fn with_snap_len<'a>(order: ByteOrder, at: usize, snap_len: u32, unit: &'a [u8]) -> CopiedUnit<'a> {
+    CopiedUnit::SnapLen {
+        front: &unit[..at],
+        snap_len: word(order, snap_len),
+        rest: &unit[at + 4..],
+    }
+}
+
+/// A snap length that is raised, 0 for none.
+#[inline]
+fn raised_len(raise: u32, snap_len: u32) -> u32 {
+    if snap_len == 0 {
+        return 0;
+    }
+    snap_len.saturating_add(raise)
+}
