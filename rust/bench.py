@@ -23,6 +23,7 @@ from erasing.tokens import joined, lex  # noqa: E402
 
 TOP = os.path.dirname(building.HERE)
 SETS = ["mixed", "Ethernet II alone", "one to three VLAN tags", "one or two SecTags", "ARP", "cut short", "500 tags"]
+FRAMES, LONG_FRAMES = 4096, 64  # of each set, and of the last
 MANIFEST = """[package]
 name = "bench"
 version = "0.1.0"
@@ -145,7 +146,8 @@ def walks(folder):
         for call, name in enumerate(names):
             words = ["--tool=callgrind", "--callgrind-out-file=/dev/null", f"--toggle-collect={name}"]
             _, told = run("valgrind", *words, program, str(at), str(call))
-            counts.append(int(re.search(r"Collected : (\d+)", told)[1]) / 4096)
+            collected = int(re.search(r"Collected : (\d+)", told)[1])
+            counts.append(collected / (FRAMES if at + 1 < len(SETS) else LONG_FRAMES))
         walk, limited, summary, hand, hand_summary, feed = counts
         ratios = f"{walk / hand:6.2f} {summary / hand_summary:13.2f} {limited / walk:6.2f} {feed / walk:6.2f}"
         print(f"{frames:24} {walk:8.1f} {ratios}")
