@@ -24,6 +24,7 @@ COMMANDS = {
     "crates": ["rt", "ci"],
     "tool": [sys.executable, "tests/ether_tool.py", "crates/ether_tool/out/ether_tool"],
     "captures": [sys.executable, "tests/ether_capture.py", "crates/ether_capture/out/ether_capture"],
+    "other programs": [sys.executable, "tests/other_programs.py", "crates/ether_capture/out/ether_capture"],
     "examples": [sys.executable, "tests/examples.py", *(f"crates/{name}/out/{name}" for name in ("example_switch", "example_vlan_rewriter"))],
     "C": ["sh", "c/test.sh", "proved"],
     "page": [sys.executable, "page/test.py", "--proved"],

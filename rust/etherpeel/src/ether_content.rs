@@ -2,11 +2,13 @@
 //! of a packet. No call allocates memory.
 
 mod content;
+mod cooked;
 mod editing;
 mod headers;
 mod selecting;
 
 pub use content::{Content, is_cut, without_fcs};
+pub use cooked::CookedHeader;
 pub use editing::{EditedPacket, NoRoom, PacketEdit, edit_packet};
 pub use headers::headers_len;
 pub use selecting::selects;

@@ -1,5 +1,6 @@
 //! What is walked of a captured packet.
 
+use crate::ether_content::cooked::{CookedHeader, cooked_header};
 use crate::ether_pcap::{CapturedPacket, LinkType};
 use crate::ether_peel::Start;
 use crate::ether_sll2::LinuxSll2Slice;
@@ -33,6 +34,9 @@ const FCS_LEN: usize = 4;
 pub enum Content<'a> {
     /// A frame, with what it begins with. It has a frame check sequence only if that says so.
     Frame(Start, &'a [u8]),
+    /// A packet of Linux cooked capture v1 whose hardware type, other than that of Ethernet, gives protocol numbers no meaning of their own:
+    /// its header, and its payload, which is walked by the protocol as an ether type.
+    LinuxSll(CookedHeader, &'a [u8]),
     /// A packet of Linux cooked capture v2.
     LinuxSll2(&'a [u8]),
     /// Nothing: the walk knows no such link type.
@@ -53,7 +57,7 @@ impl<'a> Content<'a> {
             return Content::Frame(Start::Ethernet2, without_fcs(packet));
         }
         if packet.link_type == LinkType::LINUX_SLL {
-            return Content::Frame(Start::LinuxSll, without_fcs(packet));
+            return cooked_content(without_fcs(packet));
         }
         if packet.link_type == LinkType::LINUX_SLL2 {
             return Content::LinuxSll2(without_fcs(packet));
@@ -67,8 +71,8 @@ impl<'a> Content<'a> {
         matches!(self, Content::Unknown)
     }
 
-    /// The frame, with what it begins with. Of cooked capture v2 that is the payload, if the header can be read and an ether type
-    /// announces it.
+    /// The frame, with what it begins with. Of a packet of cooked capture v1 that is no frame it is the payload, and of v2 too, if the
+    /// header can be read and an ether type announces it.
     ///
     /// <details><summary>Contract</summary>
     ///
@@ -82,9 +86,21 @@ impl<'a> Content<'a> {
     pub fn frame(self) -> Option<(Start, &'a [u8])> {
         match self {
             Content::Frame(start, bytes) => Some((start, bytes)),
+            Content::LinuxSll(header, payload) => {
+                Some((Start::EtherType(header.protocol), payload))
+            }
             Content::LinuxSll2(bytes) => payload_of(bytes),
             Content::Unknown => None,
         }
+    }
+}
+
+/// What is walked of a packet of cooked capture v1.
+#[inline]
+fn cooked_content(bytes: &[u8]) -> Content<'_> {
+    match cooked_header(bytes) {
+        Some(header) => Content::LinuxSll(header, &bytes[CookedHeader::LEN..]),
+        None => Content::Frame(Start::LinuxSll, bytes),
     }
 }
 

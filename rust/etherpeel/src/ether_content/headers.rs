@@ -1,6 +1,7 @@
 //! How many bytes of a captured packet its headers take.
 
 use crate::ether_content::content::{Content, payload_of};
+use crate::ether_content::cooked::CookedHeader;
 use crate::ether_packet::min_snap_len;
 use crate::ether_pcap::CapturedPacket;
 use crate::ether_peel::Start;
@@ -46,6 +47,9 @@ use crate::ether_sll2::{LinuxSll2Header, LinuxSll2Slice};
 pub fn headers_len(packet: &CapturedPacket<'_>) -> usize {
     match Content::of(packet) {
         Content::Frame(start, frame) => frame_len(start, frame),
+        Content::LinuxSll(header, payload) => {
+            CookedHeader::LEN + frame_len(Start::EtherType(header.protocol), payload)
+        }
         Content::LinuxSll2(bytes) => linux_sll2_len(bytes),
         Content::Unknown => 0,
     }

@@ -4,7 +4,7 @@ use etherpeel::ether_content::{Content, NoRoom, PacketEdit, edit_packet, headers
 use etherpeel::ether_filter::Filter;
 use etherpeel::ether_pcap::{CapturedPacket, LinkType};
 use etherpeel::ether_peel::Start;
-use etherpeel::{EtherType, VlanId};
+use etherpeel::{ArpHardwareId, EtherType, VlanId};
 use crate::kit::Fail;
 
 /// An ARP packet that cooked capture v2 announces, without its own bytes (LINKTYPE_LINUX_SLL2).
@@ -30,6 +30,12 @@ fn packet(
     }
 }
 
+/// Two bytes of IPv4 after a header of cooked capture v1 on the loopback device, hardware type 772 (LINKTYPE_LINUX_SLL).
+const LOOPBACK: [u8; 18] = [
+    0x00, 0x00, 0x03, 0x04, 0x00, 0x06, 0x00, 0x00, 0x00, 0x00, 0x00, 0x00, 0x00, 0x00, 0x08, 0x00,
+    0x45, 0x00,
+];
+
 const BYTES: [u8; 18] = [0xFF; 18];
 
 /// A link type, the length of a check sequence, the original length, the bytes, and the frame that they hold.
@@ -43,13 +49,14 @@ type Framed = (
 );
 
 #[rustfmt::skip]
-static FRAMES: [Framed; 8] = [
+static FRAMES: [Framed; 9] = [
     ("Ethernet", 1, None, 18, &BYTES, Some((Start::Ethernet2, 18))),
     ("with its check sequence", 1, Some(4), 18, &BYTES, Some((Start::Ethernet2Fcs, 18))),
     ("cut within it", 1, Some(4), 20, &BYTES, Some((Start::Ethernet2, 16))),
     ("cut before it", 1, Some(4), 60, &BYTES, Some((Start::Ethernet2, 18))),
     ("of two bytes", 1, Some(2), 18, &BYTES, Some((Start::Ethernet2, 16))),
     ("cooked capture v1", 113, None, 18, &BYTES, Some((Start::LinuxSll, 18))),
+    ("the loopback device", 113, None, 18, &LOOPBACK, Some((Start::EtherType(EtherType::IPV4), 2))),
     ("raw IP", 101, None, 18, &BYTES, None),
     ("ARP in cooked capture v2", 276, None, 20, &LINUX_SLL2, Some((Start::EtherType(EtherType::ARP), 0))),
 ];
@@ -79,6 +86,27 @@ fn of_content() {
     );
 }
 
+#[test]
+fn of_cooked_header() {
+    let rt = crate::kit::HostRuntime;
+    let found = match Content::of(&packet(113, None, 18, &LOOPBACK)) {
+        Content::LinuxSll(header, payload) => {
+            Some((header.hardware_type, header.protocol, payload))
+        }
+        _ => None,
+    };
+    equal(
+        &rt,
+        "the example",
+        &found,
+        &Some((
+            ArpHardwareId::LOOPBACK,
+            EtherType::IPV4,
+            [0x45, 0x00].as_slice(),
+        )),
+    );
+}
+
 /// An Ethernet II header, VLAN 291 and two bytes of IPv4.
 const TAGGED: [u8; 20] = [
     0xFF, 0xFF, 0xFF, 0xFF, 0xFF, 0xFF, 0x02, 0x00, 0x00, 0x00, 0x00, 0x01, 0x81, 0x00, 0xB1, 0x23,
@@ -100,10 +128,11 @@ fn of_selects() -> Result<(), Fail> {
 
 /// A link type, the length of a check sequence, the original length, the bytes, and how many of them are headers.
 #[rustfmt::skip]
-static HEADERS: [(&str, u16, Option<u8>, u32, &[u8], usize); 6] = [
+static HEADERS: [(&str, u16, Option<u8>, u32, &[u8], usize); 7] = [
     ("a tag and a payload", 1, None, 60, &TAGGED, 18),
     ("a tag cut short", 1, None, 60, &TAGGED_CUT, 14),
     ("a check sequence", 1, Some(4), 18, &BYTES, 14),
+    ("the loopback device", 113, None, 18, &LOOPBACK, 16),
     ("cooked capture v2 without its ARP packet", 276, None, 60, &LINUX_SLL2, 20),
     ("cooked capture v2 cut short", 276, None, 60, &BYTES, 0),
     ("raw IP", 101, None, 60, &TAGGED, 0),

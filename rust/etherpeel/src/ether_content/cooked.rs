@@ -1,0 +1,116 @@
+//! The header of Linux cooked capture v1 (LINKTYPE_LINUX_SLL) on a link other than Ethernet whose hardware type gives protocol numbers no
+//! meaning of their own. Packet type, ARPHRD_ type, length of the sender's address (2 bytes each), sender's address (8 bytes) and protocol
+//! (2 bytes) stand in this order.
+
+use crate::ether_base::big_endian::u16_of;
+use crate::{ArpHardwareId, EtherType, LinuxSllPacketType, LinuxSllProtocolType};
+use core::ops::Range;
+
+/// The bytes of the packet type.
+const PACKET_TYPE: Range<usize> = 0..2;
+
+/// The bytes of the ARPHRD_ type.
+const HARDWARE_TYPE: Range<usize> = 2..4;
+
+/// The bytes of the length of the sender's address.
+const ADDRESS_LENGTH: Range<usize> = 4..6;
+
+/// The bytes of the sender's address.
+const ADDRESS: Range<usize> = 6..14;
+
+/// The bytes of the protocol.
+const PROTOCOL: Range<usize> = 14..16;
+
+/// The header of a packet of Linux cooked capture v1 (LINKTYPE_LINUX_SLL) whose hardware type, other than that of Ethernet, gives protocol
+/// numbers no meaning of their own, as 772 of the loopback device. The walk refuses such a header; its protocol is taken for an ether type.
+///
+/// ```ignore
+/// let packet = CapturedPacket {
+///     time: None,
+///     interface: None,
+///     original_len: 18,
+///     link_type: LinkType::LINUX_SLL,
+///     snap_len: 262_144,
+///     fcs_len: None,
+///     packet: &[
+///         0x00, 0x00, 0x03, 0x04, 0x00, 0x06, // packet type 0, hardware type 772, six bytes of an address
+///         0x00, 0x00, 0x00, 0x00, 0x00, 0x00, 0x00, 0x00, 0x08, 0x00, // the address, and the protocol
+///         0x45, 0x00,
+///     ],
+/// };
+/// if let Content::LinuxSll(header, payload) = Content::of(&packet) {
+///     assert_eq!(header.hardware_type, ArpHardwareId::LOOPBACK);
+///     assert_eq!(header.protocol, EtherType::IPV4);
+///     assert_eq!(payload, [0x45, 0x00].as_slice());
+/// }
+/// ```
+#[derive(Clone, Copy, PartialEq, Eq, Debug)]
+pub struct CookedHeader {
+    /// How the packet was sent: the number of a [`LinuxSllPacketType`], 0 to 7.
+    pub packet_type: u16,
+    /// The ARPHRD_ type of the device.
+    pub hardware_type: ArpHardwareId,
+    /// The length of the sender's address in bytes, which may be more than there is room for.
+    pub address_len: u16,
+    /// The 8 bytes of the sender's address, used or not.
+    pub address: [u8; 8],
+    /// The protocol, which is taken for an ether type. Below 0x0600 it is none.
+    pub protocol: EtherType,
+}
+
+impl CookedHeader {
+    /// The length of the header in bytes.
+    pub const LEN: usize = 16;
+}
+
+/// The header at the front of a packet of cooked capture v1. Returns `None` if the packet is a frame.
+#[inline]
+pub(crate) fn cooked_header(bytes: &[u8]) -> Option<CookedHeader> {
+    if bytes.len() < CookedHeader::LEN {
+        return None;
+    }
+    let packet_type = u16_at(bytes, PACKET_TYPE);
+    if packet_type > LinuxSllPacketType::MAX_VAL {
+        return None;
+    }
+    let hardware_type = ArpHardwareId(u16_at(bytes, HARDWARE_TYPE));
+    if is_supported(hardware_type) {
+        return None;
+    }
+    Some(CookedHeader {
+        packet_type,
+        hardware_type,
+        address_len: u16_at(bytes, ADDRESS_LENGTH),
+        address: address(bytes),
+        protocol: EtherType(u16_at(bytes, PROTOCOL)),
+    })
+}
+
+/// Whether a hardware type is that of Ethernet, or gives protocol numbers a meaning of their own.
+#[inline]
+fn is_supported(hardware_type: ArpHardwareId) -> bool {
+    LinuxSllProtocolType::try_from((hardware_type, 0)).is_ok()
+}
+
+/// The 8 bytes of the sender's address in their order on the wire.
+#[inline]
+fn address(bytes: &[u8]) -> [u8; 8] {
+    let (b, at) = (bytes, ADDRESS.start);
+    [
+        b[at],
+        b[at + 1],
+        b[at + 2],
+        b[at + 3],
+        b[at + 4],
+        b[at + 5],
+        b[at + 6],
+        b[at + 7],
+    ]
+}
+
+/// The number in a field of two bytes.
+#[inline]
+fn u16_at(bytes: &[u8], field: Range<usize>) -> u16 {
+    let at = field.start;
+    u16_of([bytes[at], bytes[at + 1]])
+}
