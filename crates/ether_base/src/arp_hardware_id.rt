@@ -450,6 +450,6 @@ impl From<ArpHardwareId> for u16 {
 
 impl fmt::Debug for ArpHardwareId {
     fn fmt<W: fmt::Write>(&self, f: &mut fmt::Formatter<W>) -> fmt::Result {
-        write!(f, "{}", ShownArpHardwareId(*self))
+        fmt::Display::fmt(&ShownArpHardwareId(*self), f)
     }
 }

@@ -91,6 +91,6 @@ impl From<EtherType> for u16 {
 
 impl fmt::Debug for EtherType {
     fn fmt<W: fmt::Write>(&self, f: &mut fmt::Formatter<W>) -> fmt::Result {
-        write!(f, "{}", ShownEtherType(*self))
+        fmt::Display::fmt(&ShownEtherType(*self), f)
     }
 }

@@ -51,10 +51,10 @@ enum First {
 /// ```
 #[derive(Debug, Drop)]
 pub struct Peel<'a> {
-    frame: &'a [u8],
-    /// Where the window left to read begins and ends in the frame.
+    /// The window left to read.
+    rest: &'a [u8],
+    /// Where it begins in the frame.
     start: usize,
-    end: usize,
     /// Whether bytes after the window would not belong to it.
     is_closed: bool,
     /// Whether the fault was returned.
@@ -71,14 +71,14 @@ pub struct Peel<'a> {
 }
 
 impl<'a> Model for Peel<'a> {
-    ghost use Rattle.std.specs.Prelude.{◌≤◌, length, slice_range};
+    ghost use Rattle.std.specs.Prelude.{◌+◌, ◌^◌, ◌<◌, length};
     ghost use Rattle.ether_peel.specs.Walker.State.{State, expected_of, Announces, IsShown};
 
     ghost Value = { State };
 
-    ghost view = { λ a. record { rest = slice_range a.frame.now a.start a.end; offset = a.start; closed = a.is_closed; bound = a.bound; expected = record { next = expected_of a.first a.kind; limit = a.limit }; over = a.is_over } };
+    ghost view = { λ a. record { rest = a.rest.now; offset = a.start; closed = a.is_closed; bound = a.bound; expected = record { next = expected_of a.first a.kind; limit = a.limit }; over = a.is_over } };
 
-    ghost invariant = { λ a. (a.start ≤ a.end) × (a.end ≤ length a.frame.now) × Announces a.first a.announced.0 a.kind × IsShown a.first a.kind };
+    ghost invariant = { λ a. (a.start + length a.rest.now < 2 ^ 64) × Announces a.first a.announced.0 a.kind × IsShown a.first a.kind };
 }
 
 impl<'a> Peel<'a> {
@@ -134,9 +134,8 @@ impl<'a> Peel<'a> {
             }
         };
         Peel {
-            frame: bytes,
+            rest: bytes,
             start: 0,
-            end: bytes.len(),
             is_closed: matches!(start, Start::Ethernet2Fcs),
             is_over: false,
             bound: LenSource::Slice,
@@ -152,7 +151,7 @@ impl<'a> Peel<'a> {
     pub fn rest(&self) -> &'a [u8]
         ensures { result.now ≡ self.now.rest }
     {
-        &self.frame[self.start..self.end]
+        self.rest
     }
 
     /// Where the window left to read starts, in bytes from the start of the frame.
@@ -240,8 +239,7 @@ impl<'a> Peel<'a> {
           over = false;
         } }
     {
-        self.frame = bytes;
-        self.end = bytes.len();
+        self.rest = &bytes[self.start..];
         self.is_over = false;
     }
 
@@ -268,11 +266,11 @@ impl<'a> Peel<'a> {
         ensures gives { Gives self.old result self.new }
         ensures nearer { IsNearer self.old result self.new }
     {
-        let bytes = &self.frame[self.start..self.end];
-        match Ethernet2Slice::from_slice_without_fcs(bytes) {
+        match Ethernet2Slice::from_slice_without_fcs(self.rest) {
             Ok(slice) => {
                 let ether_type = slice.ether_type();
                 self.start += slice.header_len();
+                self.rest = slice.payload_slice();
                 self.first = First::Read;
                 self.announced = ether_type;
                 self.kind = RestKind::EtherType(ether_type);
@@ -290,12 +288,11 @@ impl<'a> Peel<'a> {
         ensures gives { Gives self.old result self.new }
         ensures nearer { IsNearer self.old result self.new }
     {
-        let bytes = &self.frame[self.start..self.end];
-        match Ethernet2Slice::from_slice_with_crc32_fcs(bytes) {
+        match Ethernet2Slice::from_slice_with_crc32_fcs(self.rest) {
             Ok(slice) => {
                 let ether_type = slice.ether_type();
                 self.start += slice.header_len();
-                self.end = self.start + slice.payload_slice().len();
+                self.rest = slice.payload_slice();
                 self.first = First::Read;
                 self.announced = ether_type;
                 self.kind = RestKind::EtherType(ether_type);
@@ -313,11 +310,11 @@ impl<'a> Peel<'a> {
         ensures gives { Gives self.old result self.new }
         ensures nearer { IsNearer self.old result self.new }
     {
-        let bytes = &self.frame[self.start..self.end];
-        match LinuxSllSlice::from_slice(bytes) {
+        match LinuxSllSlice::from_slice(self.rest) {
             Ok(slice) => {
                 let (announced, kind) = announced_in(&slice);
                 self.start += slice.header_len();
+                self.rest = slice.payload_slice();
                 self.first = First::Read;
                 self.announced = announced;
                 self.kind = kind;
@@ -340,11 +337,11 @@ impl<'a> Peel<'a> {
         ensures gives { Gives self.old result self.new }
         ensures nearer { IsNearer self.old result self.new }
     {
-        let bytes = &self.frame[self.start..self.end];
-        match SingleVlanSlice::from_slice(bytes) {
+        match SingleVlanSlice::from_slice(self.rest) {
             Ok(slice) => {
                 let ether_type = slice.ether_type();
                 self.start += slice.header_len();
+                self.rest = slice.payload_slice();
                 self.first = First::Read;
                 self.limit = lowered(self.limit);
                 self.announced = ether_type;
@@ -363,12 +360,11 @@ impl<'a> Peel<'a> {
         ensures gives { Gives self.old result self.new }
         ensures nearer { IsNearer self.old result self.new }
     {
-        let bytes = &self.frame[self.start..self.end];
-        match MacsecSlice::from_slice(bytes) {
+        match MacsecSlice::from_slice(self.rest) {
             Ok(slice) => {
                 let (announced, kind) = announced_after(slice.payload);
                 self.start += slice.header.header_len();
-                self.end = self.start + payload_bytes(slice.payload).len();
+                self.rest = payload_bytes(slice.payload);
                 let known = slice.header.expected_payload_len();
                 self.is_closed |= known.is_some();
                 self.bound = bound_after(known, self.bound);
@@ -395,10 +391,11 @@ impl<'a> Peel<'a> {
         ensures gives { Gives self.old result self.new }
         ensures nearer { IsNearer self.old result self.new }
     {
-        let bytes = &self.frame[self.start..self.end];
-        match ArpPacketSlice::from_slice(bytes) {
+        match ArpPacketSlice::from_slice(self.rest) {
             Ok(slice) => {
-                self.start += slice.slice().len();
+                let len = slice.slice().len();
+                self.start += len;
+                self.rest = &self.rest[len..];
                 self.first = First::Read;
                 self.announced = UNANNOUNCED;
                 self.kind = RestKind::AfterArp;

@@ -11,8 +11,7 @@ pub fn u16_at(bytes: &[u8], field: Range<usize>) -> u16
     requires within { field.end ≤ length bytes.now }
     ensures { result ≡ number (slice_range bytes.now field.start field.end) }
 {
-    let at = field.start;
-    u16_of([bytes[at], bytes[at + 1]])
+    u16_of(chunk_at(bytes, field.start))
 }
 
 /// The number in a field of four bytes.
@@ -21,7 +20,7 @@ pub fn u32_at(bytes: &[u8], field: Range<usize>) -> u32
     requires within { field.end ≤ length bytes.now }
     ensures { result ≡ number (slice_range bytes.now field.start field.end) }
 {
-    u32_of(four_at(bytes, field))
+    u32_of(chunk_at(bytes, field.start))
 }
 
 /// The number in a field of eight bytes.
@@ -30,34 +29,16 @@ pub fn u64_at(bytes: &[u8], field: Range<usize>) -> u64
     requires within { field.end ≤ length bytes.now }
     ensures { result ≡ number (slice_range bytes.now field.start field.end) }
 {
-    u64_of(eight_at(bytes, field))
+    u64_of(chunk_at(bytes, field.start))
 }
 
-/// The four bytes of a field.
-fn four_at(bytes: &[u8], field: Range<usize>) -> [u8; 4]
-    requires width { field.end ≡ field.start + 4 }
-    requires within { field.end ≤ length bytes.now }
-    ensures { result ≡ slice_range bytes.now field.start field.end }
+/// The bytes from a place on. Whether they are there is tested once.
+fn chunk_at<const N: usize>(bytes: &[u8], at: usize) -> [u8; N]
+    requires { at + N ≤ length bytes.now }
+    ensures { result ≡ slice_range bytes.now at (at + N) }
 {
-    let at = field.start;
-    [bytes[at], bytes[at + 1], bytes[at + 2], bytes[at + 3]]
-}
-
-/// The eight bytes of a field.
-fn eight_at(bytes: &[u8], field: Range<usize>) -> [u8; 8]
-    requires width { field.end ≡ field.start + 8 }
-    requires within { field.end ≤ length bytes.now }
-    ensures { result ≡ slice_range bytes.now field.start field.end }
-{
-    let at = field.start;
-    [
-        bytes[at],
-        bytes[at + 1],
-        bytes[at + 2],
-        bytes[at + 3],
-        bytes[at + 4],
-        bytes[at + 5],
-        bytes[at + 6],
-        bytes[at + 7],
-    ]
+    match bytes[at..at + N].first_chunk::<N>() {
+        Some(chunk) => *chunk,
+        None => unreachable!(),
+    }
 }

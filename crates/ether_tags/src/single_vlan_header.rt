@@ -11,7 +11,6 @@ ghost use Rattle.ether_tags.specs.Vlan.{vlan_view};
 
 use crate::SingleVlanHeaderSlice;
 use crate::vlan_fields::{self, tag_control_of};
-use ether_base::big_endian::bytes_of_u32;
 use ether_base::err::LenError;
 use ether_base::{EtherType, VlanId, VlanPcp};
 
@@ -124,6 +123,6 @@ impl SingleVlanHeader {
         ensures same { (h : SingleVlanHeader) → IsVlan result (vlan_view h) → h ≡ self.now }
     {
         let control = tag_control_of(self.pcp, self.drop_eligible_indicator, self.vlan_id);
-        bytes_of_u32(vlan_fields::joined(control, self.ether_type.0))
+        vlan_fields::bytes_of(control, self.ether_type.0)
     }
 }

@@ -1,12 +1,13 @@
 //! The fields of a VLAN tag in bytes that begin with one: the tag control information (IEEE 802.1Q, 9.6), which is 3 bits
 //! priority code point, 1 bit drop eligible indicator and 12 bits VLAN identifier, and the ether type of what follows.
 ghost use Rattle.std.specs.Prelude.{◌≡◌, ◌/◌, ◌%◌, ◌^◌, ◌+◌, ◌*◌, ◌<◌, ◌≤◌, length, slice_range};
-ghost use Rattle.ether_base.specs.Bytes.{IsBytes, bit, number};
+ghost use Rattle.ether_base.specs.Bytes.{IsBytes, bit, number, spelled};
 ghost use Rattle.ether_base.specs.Formats.Vlan.{vlan_of};
 ghost use Rattle.ether_tags.specs.Vlan.{vlan_view};
 
 use crate::SingleVlanHeader;
 use crate::number_at::u16_at;
+use ether_base::big_endian::bytes_of_u16;
 use ether_base::{EtherType, VlanId, VlanPcp};
 use std::ops::Range;
 
@@ -80,11 +81,13 @@ pub fn tag_control_of(pcp: VlanPcp, drop_eligible: bool, vlan_id: VlanId) -> u16
     u16::from(pcp.value()) << 13 | (u16::from(drop_eligible) << 12 | vlan_id.value())
 }
 
-/// The tag control information and an ether type as one number.
-pub fn joined(control: u16, ether_type: u16) -> u32
-    ensures { result ≡ control * 2 ^ 16 + ether_type }
+/// The bytes of a tag with this tag control information and this ether type.
+pub fn bytes_of(control: u16, ether_type: u16) -> [u8; 4]
+    ensures { result ≡ spelled 4 (control * 2 ^ 16 + ether_type) }
 {
-    u32::from(control) << 16 | u32::from(ether_type)
+    let high = bytes_of_u16(control);
+    let low = bytes_of_u16(ether_type);
+    [high[0], high[1], low[0], low[1]]
 }
 
 /// The priority code point in a tag control information.

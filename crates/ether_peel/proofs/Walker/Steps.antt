@@ -70,7 +70,7 @@ after_capture_is hardware n = after_either (hardware == 1) hardware n
 -- what the fields of a walker show
 abbrev pub shown : Inside → State
 shown a = record {
-  rest = slice_range a.frame.now a.start a.end;
+  rest = a.rest.now;
   offset = a.start;
   closed = a.is_closed;
   bound = a.bound;
@@ -229,25 +229,6 @@ own_window s = record { start = 0; finish = length s.rest; closed = s.closed; bo
 abbrev pub own_payload : State → Header → Window
 own_payload s h = payload_from (header_len h) (trailer_len h) (payload_len h) (own_window s)
 
--- a part of the window left to read, by its places in the whole frame
-pub moved_part : (frame : List ℕ) (i j start end : ℕ) (u : Window) → u.start ≤ u.finish → i + u.finish ≤ j
-    → start ≡ i + u.start → end ≡ i + u.finish → slice_range frame start end ≡ within (slice_range frame i j) u
-moved_part frame i j start end u ordered inside at to =
-    ap (λ (x : ℕ). slice_range frame x end) at ∙ ap (slice_range frame (i + u.start)) to
-    ∙ sym (part_of_part frame i j u.start u.finish ordered inside)
-
--- all of it after a header
-pub plain_part : (frame : List ℕ) (i j n k : ℕ) (closed : Bool) → i ≤ j → j ≤ length frame
-    → n ≤ length (slice_range frame i j) → k ≡ n
-    → slice_range frame (i + k) j
-    ≡ within (slice_range frame i j)
-    (record { start = n; finish = length (slice_range frame i j) - 0; closed = closed; bound = sources.Slice })
-plain_part frame i j n k closed ordered inside whole is =
-    let long = length-part frame i j inside in
-    moved_part frame i j (i + k) j
-    (record { start = n; finish = length (slice_range frame i j) - 0; closed = closed; bound = sources.Slice })
-    (omega arith) (omega arith) (omega arith) (omega arith)
-
 -- the unit that is announced was read, and t is the walk after it
 pub record IsReadBy (s : State) (u : PeelUnit) (t : State) : Type 0 where
   pub going : s.over ≡ false
@@ -353,8 +334,8 @@ gives_unit s t u r = record {
   next = λ going list w hs e f. next_unit list w s t u hs e r f;
 }
 
--- a header that names no length was read at the start of these bytes, n bytes long
-pub record IsReadPlain (bytes : List ℕ) (x : Expectation) (n : ℕ) (u : PeelUnit) (next : Next)
+-- a header that names no length was read at the start of these bytes, n bytes long, and what follows it is left
+pub record IsReadPlain (bytes rest : List ℕ) (x : Expectation) (n : ℕ) (u : PeelUnit) (next : Next)
     (limit : Option ℕ) : Type 0 where
   pub header : Header
   pub no_len : payload_len header ≡ None
@@ -362,15 +343,16 @@ pub record IsReadPlain (bytes : List ℕ) (x : Expectation) (n : ℕ) (u : PeelU
   pub announced : announced x ≡ Some (kind_of header)
   pub accepted : Accepts sources.Slice bytes (kind_of header)
   pub means : Means bytes header
-  pub shows : (rest : List ℕ) → ShowsUnit bytes rest header u
+  pub shows : ShowsUnit bytes rest header u
   pub len : n ≡ header_len header
+  pub rest_is : rest ≡ slice_range bytes (header_len header) (length bytes)
   pub next_is : next ≡ next_after header
   pub limit_is : limit ≡ lowered (is_extension (kind_of header)) x.limit
 
 -- the walk goes on after it, in the same window
-abbrev pub after_plain : Inside → ℕ → Next → Option ℕ → State
-after_plain a n next limit = record {
-  rest = slice_range a.frame.now (a.start + n) a.end;
+abbrev pub after_plain : Inside → List ℕ → ℕ → Next → Option ℕ → State
+after_plain a rest n next limit = record {
+  rest = rest;
   offset = a.start + n;
   closed = a.is_closed;
   bound = a.bound;
@@ -378,31 +360,30 @@ after_plain a n next limit = record {
   over = a.is_over;
 }
 
-pub gives_plain : (a : Inside) (s : State) (n : ℕ) (u : PeelUnit) (next : Next) (limit : Option ℕ) → shown a ≡ s
-    → s.over ≡ false → a.start ≤ a.end → a.end ≤ length a.frame.now
-    → IsReadPlain (slice_range a.frame.now a.start a.end) s.expected n u next limit
-    → Gives s (Some (Ok u)) (after_plain a n next limit)
-gives_plain a s n u next limit is going ordered inside r =
-    let bytes = slice_range a.frame.now a.start a.end in
+pub gives_plain : (a : Inside) (s : State) (rest : List ℕ) (n : ℕ) (u : PeelUnit) (next : Next) (limit : Option ℕ)
+    → shown a ≡ s → s.over ≡ false → IsReadPlain a.rest.now rest s.expected n u next limit
+    → Gives s (Some (Ok u)) (after_plain a rest n next limit)
+gives_plain a s rest n u next limit is going r =
+    let bytes = a.rest.now in
     let h = r.header in
     let over = ap (λ (z : State). z.over) is ∙ going in
-    let rest = slice_range a.frame.now (a.start + n) a.end in
-    let part = plain_part a.frame.now a.start a.end (header_len h) n a.is_closed ordered inside r.means.whole r.len in
-    let own : within bytes (own_payload (shown a) h) ≡ slice_range bytes (header_len h) (length bytes - 0) =
+    let all : length bytes - 0 ≡ length bytes = omega arith in
+    let own : within bytes (own_payload (shown a) h) ≡ slice_range bytes (header_len h) (length bytes) =
     ap
     (λ (o : Option ℕ).
     slice_range bytes (header_len h) (payload_finish (header_len h) (trailer_len h) (length bytes) o))
     r.no_len
-    ∙ ap (λ (k : ℕ). slice_range bytes (header_len h) (length bytes - k)) r.no_trailer in
-    subst (λ (z : State). Gives z (Some (Ok u)) (after_plain a n next limit)) is
-    (gives_unit (shown a) (after_plain a n next limit) u (record {
+    ∙ ap (λ (k : ℕ). slice_range bytes (header_len h) (length bytes - k)) r.no_trailer
+    ∙ ap (slice_range bytes (header_len h)) all in
+    subst (λ (z : State). Gives z (Some (Ok u)) (after_plain a rest n next limit)) is
+    (gives_unit (shown a) (after_plain a rest n next limit) u (record {
       going = over;
       header = h;
       announced = ap (λ (z : State). announced z.expected) is ∙ r.announced;
       accepted = r.accepted;
       means = r.means;
-      shows = r.shows rest;
-      rest = part ∙ sym own;
+      shows = r.shows;
+      rest = r.rest_is ∙ sym own;
       offset = ap (λ (k : ℕ). a.start + k) r.len;
       closed = ap (payload_closed a.is_closed) (sym r.no_len);
       bound = ap (payload_bound a.bound) (sym r.no_len);

@@ -9,21 +9,17 @@ use Rattle.etherparse.specs.Types.MacsecPayloadSlice.TheVariants as kept
 use Rattle.etherparse.specs.Bytes.{number}
 use Rattle.etherparse.specs.Macsec.{PayloadType, SecTagFront, FitsSecTagFront, ether_type_len, sec_tag_len, known_payload_len, sec_tag_front_of, sec_tag_front_in, payload_type_for, sec_tag_of, readable_type, payload_end, payload_source, payload_in, tag_bytes, HoldsTyped, HoldsPayload, SecTagValue}
 use Rattle.etherparse.specs.Macsec as payloads
-use Rattle.etherparse.specs.Types.LenSource.TheVariants as sources
-use Rattle.etherparse.specs.Kind as kinds
-use Rattle.etherparse.specs.Refusal.{Accepts}
-use Rattle.etherparse.specs.Header.{header_len, payload_len, Means}
+use Rattle.etherparse.specs.Header.{header_len, payload_len}
 use Rattle.etherparse.specs.Header as headers
 use Rattle.etherparse.specs.Arp.{arp_len, arp_front_in, arp_of}
-use Rattle.etherparse.proofs.SubLists.{length-part, length-part-is, part_of_front}
-use Rattle.etherparse.proofs.Means.{same_front, unit_fits}
+use Rattle.etherparse.proofs.SubLists.{length-part-is, part_of_front}
+use Rattle.etherparse.proofs.Means.{same_front}
 use Rattle.etherparse.proofs.MacsecFields.{sec_tag_front_part}
 use Rattle.etherparse.proofs.Reading.{arp_front_of_part, arp_front_back}
-use Rattle.ether_peel.proofs.Grammar.Windows.{payload_finish, payload_closed, finish_inside}
+use Rattle.ether_peel.proofs.Grammar.Windows.{payload_finish, payload_closed}
 use Rattle.ether_peel.specs.Walker.Next.{ShowsMacsec}
 use Rattle.ether_peel.specs.Grammar.Expectation.{EtherType, after_payload}
 use Rattle.ether_peel.specs.Walker.Reading.{after_sec_tag, sec_tag_payload}
-use Rattle.ether_peel.proofs.Walker.Steps.{moved_part}
 
 -- ---- SecTags
 
@@ -167,26 +163,6 @@ tag_read bytes m n part payload len whole =
       expected = after_typed t.payload_type m.payload _ _ type;
       known = ap known_payload_len taken.front ∙ sym taken.known;
     }
-
--- the payload that was read, by its places in the whole frame
-pub tag_payload_part : (frame : List ℕ) (i j : ℕ) (m : MacsecSlice) (n k : ℕ) (t : SecTagValue) → i ≤ j
-    → j ≤ length frame → Accepts sources.Slice (slice_range frame i j) kinds.Macsec
-    → Means (slice_range frame i j) (headers.Macsec t)
-    → IsTagRead (slice_range frame i j) m n t → k ≡ length (sec_tag_payload m.payload)
-    → slice_range frame (i + n) (i + n + k) ≡ sec_tag_payload m.payload
-tag_payload_part frame i j m n k t ordered inside accepted means read is =
-    let bytes = slice_range frame i j in
-    let h = headers.Macsec t in
-    let finish = payload_finish (header_len h) 0 (length bytes) (payload_len h) in
-    let within =
-    finish_inside (payload_len h) (header_len h) (length bytes) (unit_fits sources.Slice bytes h accepted means) in
-    let long = length-part frame i j inside in
-    let len = ap length read.rest ∙ length-part bytes (header_len h) finish within.1 in
-    let at = read.len in
-    moved_part frame i j (i + n) (i + n + k)
-    (record { start = header_len h; finish = finish; closed = false; bound = sources.Slice }) within.0 (omega arith)
-    (omega arith) (omega arith)
-    ∙ sym read.rest
 
 -- the mark of the payload's window
 pub marked : (closed : Bool) (o : Option ℕ) → (closed || is_some o) ≡ payload_closed closed o

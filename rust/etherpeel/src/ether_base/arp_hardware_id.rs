@@ -446,6 +446,6 @@ impl From<ArpHardwareId> for u16 {
 
 impl fmt::Debug for ArpHardwareId {
     fn fmt(&self, f: &mut fmt::Formatter<'_>) -> fmt::Result {
-        write!(f, "{}", ShownArpHardwareId(*self))
+        fmt::Display::fmt(&ShownArpHardwareId(*self), f)
     }
 }

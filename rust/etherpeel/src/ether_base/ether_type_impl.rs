@@ -85,6 +85,6 @@ impl From<EtherType> for u16 {
 
 impl fmt::Debug for EtherType {
     fn fmt(&self, f: &mut fmt::Formatter<'_>) -> fmt::Result {
-        write!(f, "{}", ShownEtherType(*self))
+        fmt::Display::fmt(&ShownEtherType(*self), f)
     }
 }

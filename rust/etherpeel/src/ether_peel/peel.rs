@@ -46,10 +46,10 @@ enum First {
 /// ```
 #[derive(Debug)]
 pub struct Peel<'a> {
-    frame: &'a [u8],
-    /// Where the window left to read begins and ends in the frame.
+    /// The window left to read.
+    rest: &'a [u8],
+    /// Where it begins in the frame.
     start: usize,
-    end: usize,
     /// Whether bytes after the window would not belong to it.
     is_closed: bool,
     /// Whether the fault was returned.
@@ -109,9 +109,8 @@ impl<'a> Peel<'a> {
             }
         };
         Peel {
-            frame: bytes,
+            rest: bytes,
             start: 0,
-            end: bytes.len(),
             is_closed: matches!(start, Start::Ethernet2Fcs),
             is_over: false,
             bound: LenSource::Slice,
@@ -125,7 +124,7 @@ impl<'a> Peel<'a> {
     /// The bytes of the window left to read: after a fault, of the window in which it came.
     #[inline(always)]
     pub fn rest(&self) -> &'a [u8] {
-        &self.frame[self.start..self.end]
+        self.rest
     }
 
     /// Where the window left to read starts, in bytes from the start of the frame.
@@ -186,8 +185,7 @@ impl<'a> Peel<'a> {
     /// Goes on after the fault, in a longer front of the frame.
     #[inline(always)]
     pub(crate) fn go_on(&mut self, bytes: &'a [u8]) {
-        self.frame = bytes;
-        self.end = bytes.len();
+        self.rest = &bytes[self.start..];
         self.is_over = false;
     }
 
@@ -205,11 +203,11 @@ impl<'a> Peel<'a> {
     /// Reads an Ethernet II frame.
     #[inline(always)]
     fn ethernet2(&mut self) -> Option<Result<PeelUnit<'a>, PeelFault>> {
-        let bytes = &self.frame[self.start..self.end];
-        match Ethernet2Slice::from_slice_without_fcs(bytes) {
+        match Ethernet2Slice::from_slice_without_fcs(self.rest) {
             Ok(slice) => {
                 let ether_type = slice.ether_type();
                 self.start += slice.header_len();
+                self.rest = slice.payload_slice();
                 self.first = First::Read;
                 self.announced = ether_type;
                 self.kind = RestKind::EtherType(ether_type);
@@ -222,12 +220,11 @@ impl<'a> Peel<'a> {
     /// Reads an Ethernet II frame with a frame check sequence.
     #[inline(always)]
     fn ethernet2_fcs(&mut self) -> Option<Result<PeelUnit<'a>, PeelFault>> {
-        let bytes = &self.frame[self.start..self.end];
-        match Ethernet2Slice::from_slice_with_crc32_fcs(bytes) {
+        match Ethernet2Slice::from_slice_with_crc32_fcs(self.rest) {
             Ok(slice) => {
                 let ether_type = slice.ether_type();
                 self.start += slice.header_len();
-                self.end = self.start + slice.payload_slice().len();
+                self.rest = slice.payload_slice();
                 self.first = First::Read;
                 self.announced = ether_type;
                 self.kind = RestKind::EtherType(ether_type);
@@ -240,11 +237,11 @@ impl<'a> Peel<'a> {
     /// Reads a packet of Linux cooked capture v1.
     #[inline(always)]
     fn linux_sll(&mut self) -> Option<Result<PeelUnit<'a>, PeelFault>> {
-        let bytes = &self.frame[self.start..self.end];
-        match LinuxSllSlice::from_slice(bytes) {
+        match LinuxSllSlice::from_slice(self.rest) {
             Ok(slice) => {
                 let (announced, kind) = announced_in(&slice);
                 self.start += slice.header_len();
+                self.rest = slice.payload_slice();
                 self.first = First::Read;
                 self.announced = announced;
                 self.kind = kind;
@@ -262,11 +259,11 @@ impl<'a> Peel<'a> {
     /// Reads a VLAN tag.
     #[inline(always)]
     fn vlan(&mut self) -> Option<Result<PeelUnit<'a>, PeelFault>> {
-        let bytes = &self.frame[self.start..self.end];
-        match SingleVlanSlice::from_slice(bytes) {
+        match SingleVlanSlice::from_slice(self.rest) {
             Ok(slice) => {
                 let ether_type = slice.ether_type();
                 self.start += slice.header_len();
+                self.rest = slice.payload_slice();
                 self.first = First::Read;
                 self.limit = lowered(self.limit);
                 self.announced = ether_type;
@@ -280,12 +277,11 @@ impl<'a> Peel<'a> {
     /// Reads a MACsec SecTag and its payload.
     #[inline(always)]
     fn macsec(&mut self) -> Option<Result<PeelUnit<'a>, PeelFault>> {
-        let bytes = &self.frame[self.start..self.end];
-        match MacsecSlice::from_slice(bytes) {
+        match MacsecSlice::from_slice(self.rest) {
             Ok(slice) => {
                 let (announced, kind) = announced_after(slice.payload);
                 self.start += slice.header.header_len();
-                self.end = self.start + payload_bytes(slice.payload).len();
+                self.rest = payload_bytes(slice.payload);
                 let known = slice.header.expected_payload_len();
                 self.is_closed |= known.is_some();
                 self.bound = bound_after(known, self.bound);
@@ -307,10 +303,11 @@ impl<'a> Peel<'a> {
     /// Reads an ARP packet.
     #[inline(always)]
     fn arp(&mut self) -> Option<Result<PeelUnit<'a>, PeelFault>> {
-        let bytes = &self.frame[self.start..self.end];
-        match ArpPacketSlice::from_slice(bytes) {
+        match ArpPacketSlice::from_slice(self.rest) {
             Ok(slice) => {
-                self.start += slice.slice().len();
+                let len = slice.slice().len();
+                self.start += len;
+                self.rest = &self.rest[len..];
                 self.first = First::Read;
                 self.announced = UNANNOUNCED;
                 self.kind = RestKind::AfterArp;

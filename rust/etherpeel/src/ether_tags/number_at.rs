@@ -18,8 +18,7 @@ use core::ops::Range;
 /// </details>
 #[inline]
 pub fn u16_at(bytes: &[u8], field: Range<usize>) -> u16 {
-    let at = field.start;
-    u16_of([bytes[at], bytes[at + 1]])
+    u16_of(chunk_at(bytes, field.start))
 }
 
 /// The number in a field of four bytes.
@@ -37,7 +36,7 @@ pub fn u16_at(bytes: &[u8], field: Range<usize>) -> u16 {
 /// </details>
 #[inline]
 pub fn u32_at(bytes: &[u8], field: Range<usize>) -> u32 {
-    u32_of(four_at(bytes, field))
+    u32_of(chunk_at(bytes, field.start))
 }
 
 /// The number in a field of eight bytes.
@@ -55,28 +54,14 @@ pub fn u32_at(bytes: &[u8], field: Range<usize>) -> u32 {
 /// </details>
 #[inline]
 pub fn u64_at(bytes: &[u8], field: Range<usize>) -> u64 {
-    u64_of(eight_at(bytes, field))
+    u64_of(chunk_at(bytes, field.start))
 }
 
-/// The four bytes of a field.
+/// The bytes from a place on. Whether they are there is tested once.
 #[inline]
-fn four_at(bytes: &[u8], field: Range<usize>) -> [u8; 4] {
-    let at = field.start;
-    [bytes[at], bytes[at + 1], bytes[at + 2], bytes[at + 3]]
-}
-
-/// The eight bytes of a field.
-#[inline]
-fn eight_at(bytes: &[u8], field: Range<usize>) -> [u8; 8] {
-    let at = field.start;
-    [
-        bytes[at],
-        bytes[at + 1],
-        bytes[at + 2],
-        bytes[at + 3],
-        bytes[at + 4],
-        bytes[at + 5],
-        bytes[at + 6],
-        bytes[at + 7],
-    ]
+fn chunk_at<const N: usize>(bytes: &[u8], at: usize) -> [u8; N] {
+    match bytes[at..at + N].first_chunk::<N>() {
+        Some(chunk) => *chunk,
+        None => unreachable!(),
+    }
 }

@@ -2,7 +2,6 @@
 
 use crate::ether_tags::SingleVlanHeaderSlice;
 use crate::ether_tags::vlan_fields::{self, tag_control_of};
-use crate::ether_base::big_endian::bytes_of_u32;
 use crate::ether_base::err::LenError;
 use crate::ether_base::{EtherType, VlanId, VlanPcp};
 
@@ -154,6 +153,6 @@ impl SingleVlanHeader {
     #[inline]
     pub fn to_bytes(&self) -> [u8; 4] {
         let control = tag_control_of(self.pcp, self.drop_eligible_indicator, self.vlan_id);
-        bytes_of_u32(vlan_fields::joined(control, self.ether_type.0))
+        vlan_fields::bytes_of(control, self.ether_type.0)
     }
 }

@@ -3,6 +3,7 @@
 
 use crate::ether_tags::SingleVlanHeader;
 use crate::ether_tags::number_at::u16_at;
+use crate::ether_base::big_endian::bytes_of_u16;
 use crate::ether_base::{EtherType, VlanId, VlanPcp};
 use core::ops::Range;
 
@@ -137,18 +138,20 @@ pub fn tag_control_of(pcp: VlanPcp, drop_eligible: bool, vlan_id: VlanId) -> u16
     u16::from(pcp.value()) << 13 | (u16::from(drop_eligible) << 12 | vlan_id.value())
 }
 
-/// The tag control information and an ether type as one number.
+/// The bytes of a tag with this tag control information and this ether type.
 ///
 /// <details><summary>Contract</summary>
 ///
 /// ```text
-/// ensures { result ≡ control * 2 ^ 16 + ether_type }
+/// ensures { result ≡ spelled 4 (control * 2 ^ 16 + ether_type) }
 /// ```
 ///
 /// </details>
 #[inline]
-pub fn joined(control: u16, ether_type: u16) -> u32 {
-    u32::from(control) << 16 | u32::from(ether_type)
+pub fn bytes_of(control: u16, ether_type: u16) -> [u8; 4] {
+    let high = bytes_of_u16(control);
+    let low = bytes_of_u16(ether_type);
+    [high[0], high[1], low[0], low[1]]
 }
 
 /// The priority code point in a tag control information.

@@ -1,4 +1,5 @@
-use Rattle.std.proofs.Common.{◌≡◌, refl, sym, subst, arith, rules}
+use Rattle.std.proofs.Common.{◌≡◌, length, refl, sym, subst, arith, rules}
+use Rattle.etherparse.proofs.SubLists.{part_all}
 use Rattle.ether_peel.specs.Grammar.Expectation.{Expectation}
 use Rattle.ether_peel.specs.Grammar.Stack.{whole, Stack}
 use Rattle.ether_peel.specs.Walker.Start.{start_with}
@@ -20,7 +21,7 @@ returns-clause-walk c =
       walk = s.2;
       faces = record {
         inside = record { ordered = omega arith; inside = omega arith };
-        rest = refl;
+        rest = sym (part_all list (length list) (omega arith));
         offset = refl;
         closed = search rules;
         bound = search rules;

@@ -1,4 +1,4 @@
-use Rattle.std.proofs.Common.{refl, ap, subst, ◌∙◌}
+use Rattle.std.proofs.Common.{length, refl, ap, subst, ◌∙◌}
 use Rattle.std.specs.Prelude.{slice_range}
 use Rattle.etherparse.specs.LinuxSll.{linux_sll_of, IsRefusedSll}
 use Rattle.etherparse.specs.Header as headers
@@ -11,10 +11,10 @@ use Rattle.ether_peel.proofs.peel.Peel.linux_sll.Goals as goal
 pub fault-requires : goal.fault-requires
 fault-requires c =
     let refused =
-    subst (IsRefusedSll (slice_range c.self.inside.frame.now c.self.inside.start c.self.inside.end))
+    subst (IsRefusedSll c.self.inside.rest.now)
     c.in-Err-Len.field-0-is c.in-Err-Len.ensures.refused in
     refused_len c.args.self.now kinds.LinuxSll
-    (slice_range c.self.inside.frame.now c.self.inside.start c.self.inside.end) c.fault.inside.start
+    c.self.inside.rest.now c.fault.inside.start
     c.in-Err-Len.error c.add_offset.result c.requires.going c.requires.announced
     (ap (λ (s : State). s.rest) c.self.view_is) (ap (λ (s : State). s.offset) c.fault.view_is) refused
     c.add_offset.ensures
@@ -22,24 +22,25 @@ fault-requires c =
 pub fault-requires-in-Err-Content : goal.fault-requires-in-Err-Content
 fault-requires-in-Err-Content c =
     let refused =
-    subst (IsRefusedSll (slice_range c.self.inside.frame.now c.self.inside.start c.self.inside.end))
+    subst (IsRefusedSll c.self.inside.rest.now)
     c.in-Err-Content.field-0-is c.in-Err-Content.ensures.refused in
-    refused_linux_sll c.args.self.now (slice_range c.self.inside.frame.now c.self.inside.start c.self.inside.end)
+    refused_linux_sll c.args.self.now c.self.inside.rest.now
     c.in-Err-Content.error c.requires.going c.requires.announced (ap (λ (s : State). s.rest) c.self.view_is) refused
 
 pub returns-in-Ok-clause-gives : goal.returns-in-Ok-clause-gives
 returns-in-Ok-clause-gives c =
-    gives_plain c.self.inside c.args.self.now c.header_len.result (units.LinuxSll c.in-Ok.slice)
-    (shown_of c.announced_in-kind.result.1) c.self.inside.limit c.self.view_is c.requires.going c.self.invariant.0
-    c.self.invariant.1 (record {
+    gives_plain c.self.inside c.args.self.now c.payload_slice-self-inside.result.now c.header_len.result
+    (units.LinuxSll c.in-Ok.slice) (shown_of c.announced_in-kind.result.1) c.self.inside.limit c.self.view_is
+    c.requires.going (record {
       header = headers.LinuxSll (linux_sll_of c.in-Ok.slice);
       no_len = refl;
       no_trailer = refl;
       announced = c.requires.announced;
       accepted = c.in-Ok.ensures.accepted;
       means = c.in-Ok.ensures.value;
-      shows = λ rest. ap units.LinuxSll c.in-Ok.ensures.bytes;
+      shows = ap units.LinuxSll c.in-Ok.ensures.bytes;
       len = c.header_len.ensures;
+      rest_is = c.payload_slice-self-inside.ensures ∙ ap (λ l. slice_range l 16 (length l)) c.in-Ok.ensures.bytes;
       next_is =
           c.announced_in-kind.ensures.expected
           ∙ after_capture_is (linux_sll_of c.in-Ok.slice).hardware_type (linux_sll_of c.in-Ok.slice).protocol;

@@ -1,4 +1,4 @@
-use Rattle.std.proofs.Common.{◌≡◌, ℕ, List, ◌++◌, ◌<◌, refl, sym, ap, subst, ◌∙◌, arith}
+use Rattle.std.proofs.Common.{◌≡◌, ℕ, List, ◌*◌, ◌+◌, ◌^◌, ◌++◌, ◌<◌, refl, sym, ap, subst, ◌∙◌, arith}
 use Rattle.std.proofs.lemmas.List.{length-append}
 use Rattle.std.proofs.lemmas.Grind.{common_steps}
 use Rattle.ether_base.specs.Formats.Vlan.{FitsVlan, IsVlan, vlan_bytes, vlan_number}
@@ -18,14 +18,13 @@ pub returns : goal.returns
 returns c =
     let h = c.args.self.now in
     let v = vlan_view h in
-    let bytes = c.bytes_of_u32.result in
+    let bytes = c.bytes_of.result in
     let k = c.tag_control_of-control.ensures in
     let two : bit h.drop_eligible_indicator < 2 = grind (arith, common_steps) in
     let fits : FitsVlan v = record { pcp = k.pcp; dei = two; vid = k.vid; ether_type = omega arith } in
     let sum = k.sum in
-    let joined = c.joined.ensures in
-    let n : c.joined.result ≡ vlan_number v = omega arith in
-    let value : bytes ≡ vlan_bytes v = c.bytes_of_u32.ensures ∙ ap (spelled 4) n in
+    let n : c.tag_control_of-control.result * 2 ^ 16 + h.ether_type.0 ≡ vlan_number v = omega arith in
+    let value : bytes ≡ vlan_bytes v = c.bytes_of.ensures ∙ ap (spelled 4) n in
     let is_tag : IsVlan bytes v =
     subst (λ (l : List ℕ). IsVlan l v) (sym value) (spells-header_bytes (headers.Vlan v) fits) in
     let means : (more : List ℕ) → Means (bytes ++ more) (headers.Vlan v) =
