@@ -148,17 +148,6 @@ pub fn target_protocol_addr(packet: &[u8]) -> &[u8]
     &packet[start..start + protocol]
 }
 
-/// The four addresses, if nothing follows them.
-pub fn addrs(packet: &[u8]) -> &[u8]
-    requires { HoldsArp packet.now }
-    ensures addrs { result.now ≡ drop 8 packet.now }
-    ensures len { length result.now
-        ≡ 2 * (arp_front_in packet.now).hardware_size
-        + 2 * (arp_front_in packet.now).protocol_size }
-{
-    &packet[FRONT_LEN..]
-}
-
 /// The number in a field of two bytes.
 fn u16_at(packet: &[u8], field: Range<usize>) -> u16
     requires width { field.end ≡ field.start + 2 }

@@ -52,14 +52,14 @@ pub struct ArpPacket {
     pub proto_addr_type: EtherType,
     /// The operation: a request, a reply or another.
     pub operation: ArpOperation,
-    hw_addr_size: u8,
-    protocol_addr_size: u8,
-    /// The addresses as they are on the wire: the sender's, hardware before protocol, then the target's.
-    addrs: ArrayVec<u8, 1020>,
+    sender_hw_addr: ArrayVec<u8, 255>,
+    sender_protocol_addr: ArrayVec<u8, 255>,
+    target_hw_addr: ArrayVec<u8, 255>,
+    target_protocol_addr: ArrayVec<u8, 255>,
 }
 
 impl Model for ArpPacket {
-    ghost use Rattle.std.specs.Prelude.{◌≡◌, ◌+◌, ◌*◌, length, slice_range};
+    ghost use Rattle.std.specs.Prelude.{◌≡◌, length};
     ghost use Rattle.ether_base.specs.Formats.Arp.{ArpValue};
     ghost use Rattle.ether_base.specs.Bytes.{IsBytes};
 
@@ -69,13 +69,13 @@ impl Model for ArpPacket {
       hardware_type = a.hw_addr_type.0;
       protocol_type = a.proto_addr_type.0;
       operation = a.operation.0;
-      sender_hardware = slice_range a.addrs.items 0 a.hw_addr_size;
-      sender_protocol = slice_range a.addrs.items a.hw_addr_size (a.hw_addr_size + a.protocol_addr_size);
-      target_hardware = slice_range a.addrs.items (a.hw_addr_size + a.protocol_addr_size) (2 * a.hw_addr_size + a.protocol_addr_size);
-      target_protocol = slice_range a.addrs.items (2 * a.hw_addr_size + a.protocol_addr_size) (2 * a.hw_addr_size + 2 * a.protocol_addr_size);
+      sender_hardware = a.sender_hw_addr.items;
+      sender_protocol = a.sender_protocol_addr.items;
+      target_hardware = a.target_hw_addr.items;
+      target_protocol = a.target_protocol_addr.items;
     } };
 
-    ghost invariant = { λ a. (length a.addrs.items ≡ 2 * a.hw_addr_size + 2 * a.protocol_addr_size) × IsBytes a.addrs.items };
+    ghost invariant = { λ a. (length a.target_hw_addr.items ≡ length a.sender_hw_addr.items) × (length a.target_protocol_addr.items ≡ length a.sender_protocol_addr.items) × IsBytes a.sender_hw_addr.items × IsBytes a.sender_protocol_addr.items × IsBytes a.target_hw_addr.items × IsBytes a.target_protocol_addr.items };
 }
 
 impl ArpPacket {
@@ -163,50 +163,14 @@ impl ArpPacket {
           target_protocol = target_protocol_addr.now;
         } }
     {
-        let mut addrs = ArrayVec::new();
-        arp_addrs::append(&mut addrs, sender_hw_addr);
-        arp_addrs::append(&mut addrs, sender_protocol_addr);
-        arp_addrs::append(&mut addrs, target_hw_addr);
-        arp_addrs::append(&mut addrs, target_protocol_addr);
         ArpPacket {
             hw_addr_type,
             proto_addr_type,
             operation,
-            hw_addr_size: sender_hw_addr.len() as u8,
-            protocol_addr_size: sender_protocol_addr.len() as u8,
-            addrs,
-        }
-    }
-
-    /// The packet of addresses that already follow one another.
-    pub(crate) fn packed(
-        hw_addr_type: ArpHardwareId,
-        proto_addr_type: EtherType,
-        operation: ArpOperation,
-        hw_addr_size: u8,
-        protocol_addr_size: u8,
-        addrs: &[u8],
-    ) -> ArpPacket
-        requires { length addrs.now ≡ 2 * hw_addr_size + 2 * protocol_addr_size }
-        ensures { let h = hw_addr_size in let p = protocol_addr_size in result ≡ record {
-          hardware_type = hw_addr_type.0;
-          protocol_type = proto_addr_type.0;
-          operation = operation.0;
-          sender_hardware = slice_range addrs.now 0 h;
-          sender_protocol = slice_range addrs.now h (h + p);
-          target_hardware = slice_range addrs.now (h + p) (2 * h + p);
-          target_protocol = slice_range addrs.now (2 * h + p) (2 * h + 2 * p);
-        } }
-    {
-        let mut list = ArrayVec::new();
-        arp_addrs::append(&mut list, addrs);
-        ArpPacket {
-            hw_addr_type,
-            proto_addr_type,
-            operation,
-            hw_addr_size,
-            protocol_addr_size,
-            addrs: list,
+            sender_hw_addr: arp_addrs::address(sender_hw_addr),
+            sender_protocol_addr: arp_addrs::address(sender_protocol_addr),
+            target_hw_addr: arp_addrs::address(target_hw_addr),
+            target_protocol_addr: arp_addrs::address(target_protocol_addr),
         }
     }
 
@@ -225,7 +189,7 @@ impl ArpPacket {
         ensures sender { result ≡ length self.now.sender_hardware }
         ensures target { result ≡ length self.now.target_hardware }
     {
-        self.hw_addr_size
+        self.sender_hw_addr.len() as u8
     }
 
     /// The size of a protocol address in bytes.
@@ -233,40 +197,35 @@ impl ArpPacket {
         ensures sender { result ≡ length self.now.sender_protocol }
         ensures target { result ≡ length self.now.target_protocol }
     {
-        self.protocol_addr_size
+        self.sender_protocol_addr.len() as u8
     }
 
     /// The hardware address of the sender.
     pub fn sender_hw_addr(&self) -> &[u8]
         ensures { result.now ≡ self.now.sender_hardware }
     {
-        &self.addrs[..usize::from(self.hw_addr_size)]
+        self.sender_hw_addr.as_slice()
     }
 
     /// The protocol address of the sender.
     pub fn sender_protocol_addr(&self) -> &[u8]
         ensures { result.now ≡ self.now.sender_protocol }
     {
-        let start = usize::from(self.hw_addr_size);
-        &self.addrs[start..start + usize::from(self.protocol_addr_size)]
+        self.sender_protocol_addr.as_slice()
     }
 
     /// The hardware address of the target, which a request does not know.
     pub fn target_hw_addr(&self) -> &[u8]
         ensures { result.now ≡ self.now.target_hardware }
     {
-        let hardware = usize::from(self.hw_addr_size);
-        let start = hardware + usize::from(self.protocol_addr_size);
-        &self.addrs[start..start + hardware]
+        self.target_hw_addr.as_slice()
     }
 
     /// The protocol address of the target.
     pub fn target_protocol_addr(&self) -> &[u8]
         ensures { result.now ≡ self.now.target_protocol }
     {
-        let hardware = usize::from(self.hw_addr_size);
-        let start = hardware + usize::from(self.protocol_addr_size) + hardware;
-        &self.addrs[start..]
+        self.target_protocol_addr.as_slice()
     }
 
     /// Replaces both hardware addresses, and with them their size.
@@ -293,17 +252,8 @@ impl ArpPacket {
         if len > MAX_ADDR_LEN {
             return Err(ArpHwAddrError::LenTooBig(len));
         }
-        let hardware = usize::from(self.hw_addr_size);
-        let protocol = usize::from(self.protocol_addr_size);
-        arp_addrs::replace_both(
-            &mut self.addrs,
-            0,
-            hardware,
-            protocol,
-            sender_hw_addr,
-            target_hw_addr,
-        );
-        self.hw_addr_size = len as u8;
+        arp_addrs::replace(&mut self.sender_hw_addr, sender_hw_addr);
+        arp_addrs::replace(&mut self.target_hw_addr, target_hw_addr);
         Ok(())
     }
 
@@ -331,17 +281,8 @@ impl ArpPacket {
         if len > MAX_ADDR_LEN {
             return Err(ArpProtoAddrError::LenTooBig(len));
         }
-        let hardware = usize::from(self.hw_addr_size);
-        let protocol = usize::from(self.protocol_addr_size);
-        arp_addrs::replace_both(
-            &mut self.addrs,
-            hardware,
-            protocol,
-            hardware,
-            sender_protocol_addr,
-            target_protocol_addr,
-        );
-        self.protocol_addr_size = len as u8;
+        arp_addrs::replace(&mut self.sender_protocol_addr, sender_protocol_addr);
+        arp_addrs::replace(&mut self.target_protocol_addr, target_protocol_addr);
         Ok(())
     }
 
@@ -368,14 +309,16 @@ impl ArpPacket {
     }
 
     /// The bytes of the packet, whose numbers have room in them.
-    #[tactic(auto, using(crate::proofs::Packed::joined_after))]
     fn spelled(&self) -> ArrayVec<u8, 1028>
         ensures value { result.items ≡ arp_bytes self.now }
         ensures fits { FitsArp self.now }
     {
         let mut bytes = ArrayVec::new();
         arp_addrs::append(&mut bytes, &self.front());
-        arp_addrs::append(&mut bytes, self.addrs.as_slice());
+        arp_addrs::append(&mut bytes, self.sender_hw_addr());
+        arp_addrs::append(&mut bytes, self.sender_protocol_addr());
+        arp_addrs::append(&mut bytes, self.target_hw_addr());
+        arp_addrs::append(&mut bytes, self.target_protocol_addr());
         bytes
     }
 
@@ -387,21 +330,10 @@ impl ArpPacket {
         arp_front::front_bytes(
             self.hw_addr_type.0,
             self.proto_addr_type.0,
-            self.hw_addr_size,
-            self.protocol_addr_size,
+            self.hw_addr_size(),
+            self.protocol_addr_size(),
             self.operation.0,
         )
-    }
-
-    /// Whether another packet has the same four addresses. Equal lists are of one length, so that the sizes of the hardware
-    /// addresses decide those of the protocol addresses.
-    fn has_same_addrs(&self, other: &ArpPacket) -> bool
-        ensures { result ≡ eq_of_both (on (λ a. a.sender_hardware) (pointwise ◌==◌))
-            (eq_of_both (on (λ a. a.sender_protocol) (pointwise ◌==◌))
-            (eq_of_both (on (λ a. a.target_hardware) (pointwise ◌==◌))
-            (on (λ a. a.target_protocol) (pointwise ◌==◌)))) self.now other.now }
-    {
-        self.hw_addr_size == other.hw_addr_size && self.addrs == other.addrs
     }
 
     /// The packet as one of Ethernet and IPv4.
@@ -475,9 +407,10 @@ impl Clone for ArpPacket {
             hw_addr_type: self.hw_addr_type,
             proto_addr_type: self.proto_addr_type,
             operation: self.operation,
-            hw_addr_size: self.hw_addr_size,
-            protocol_addr_size: self.protocol_addr_size,
-            addrs: self.addrs.clone()?,
+            sender_hw_addr: self.sender_hw_addr.clone()?,
+            sender_protocol_addr: self.sender_protocol_addr.clone()?,
+            target_hw_addr: self.target_hw_addr.clone()?,
+            target_protocol_addr: self.target_protocol_addr.clone()?,
         })
     }
 }
@@ -491,7 +424,10 @@ impl PartialEq for ArpPacket {
         self.hw_addr_type == other.hw_addr_type
             && self.proto_addr_type == other.proto_addr_type
             && self.operation == other.operation
-            && self.has_same_addrs(other)
+            && self.sender_hw_addr == other.sender_hw_addr
+            && self.sender_protocol_addr == other.sender_protocol_addr
+            && self.target_hw_addr == other.target_hw_addr
+            && self.target_protocol_addr == other.target_protocol_addr
     }
 }
 

@@ -228,26 +228,6 @@ pub fn target_protocol_addr(packet: &[u8]) -> &[u8] {
     &packet[start..start + protocol]
 }
 
-/// The four addresses, if nothing follows them.
-///
-/// <details><summary>Contract</summary>
-///
-/// The caller must meet each `requires`; otherwise the call may panic or return something else.
-///
-/// ```text
-/// requires { HoldsArp packet.now }
-/// ensures addrs { result.now ≡ drop 8 packet.now }
-/// ensures len { length result.now
-///     ≡ 2 * (arp_front_in packet.now).hardware_size
-///     + 2 * (arp_front_in packet.now).protocol_size }
-/// ```
-///
-/// </details>
-#[inline]
-pub fn addrs(packet: &[u8]) -> &[u8] {
-    &packet[FRONT_LEN..]
-}
-
 /// The number in a field of two bytes.
 #[inline]
 fn u16_at(packet: &[u8], field: Range<usize>) -> u16 {

@@ -33,10 +33,10 @@ pub struct ArpPacket {
     pub proto_addr_type: EtherType,
     /// The operation: a request, a reply or another.
     pub operation: ArpOperation,
-    hw_addr_size: u8,
-    protocol_addr_size: u8,
-    /// The addresses as they are on the wire: the sender's, hardware before protocol, then the target's.
-    addrs: ArrayVec<u8, 1020>,
+    sender_hw_addr: ArrayVec<u8, 255>,
+    sender_protocol_addr: ArrayVec<u8, 255>,
+    target_hw_addr: ArrayVec<u8, 255>,
+    target_protocol_addr: ArrayVec<u8, 255>,
 }
 
 impl ArpPacket {
@@ -99,40 +99,14 @@ impl ArpPacket {
         target_hw_addr: &[u8],
         target_protocol_addr: &[u8],
     ) -> ArpPacket {
-        let mut addrs = ArrayVec::new();
-        arp_addrs::append(&mut addrs, sender_hw_addr);
-        arp_addrs::append(&mut addrs, sender_protocol_addr);
-        arp_addrs::append(&mut addrs, target_hw_addr);
-        arp_addrs::append(&mut addrs, target_protocol_addr);
         ArpPacket {
             hw_addr_type,
             proto_addr_type,
             operation,
-            hw_addr_size: sender_hw_addr.len() as u8,
-            protocol_addr_size: sender_protocol_addr.len() as u8,
-            addrs,
-        }
-    }
-
-    /// The packet of addresses that already follow one another.
-    #[inline]
-    pub(crate) fn packed(
-        hw_addr_type: ArpHardwareId,
-        proto_addr_type: EtherType,
-        operation: ArpOperation,
-        hw_addr_size: u8,
-        protocol_addr_size: u8,
-        addrs: &[u8],
-    ) -> ArpPacket {
-        let mut list = ArrayVec::new();
-        arp_addrs::append(&mut list, addrs);
-        ArpPacket {
-            hw_addr_type,
-            proto_addr_type,
-            operation,
-            hw_addr_size,
-            protocol_addr_size,
-            addrs: list,
+            sender_hw_addr: arp_addrs::address(sender_hw_addr),
+            sender_protocol_addr: arp_addrs::address(sender_protocol_addr),
+            target_hw_addr: arp_addrs::address(target_hw_addr),
+            target_protocol_addr: arp_addrs::address(target_protocol_addr),
         }
     }
 
@@ -165,7 +139,7 @@ impl ArpPacket {
     /// </details>
     #[inline]
     pub fn hw_addr_size(&self) -> u8 {
-        self.hw_addr_size
+        self.sender_hw_addr.len() as u8
     }
 
     /// The size of a protocol address in bytes.
@@ -180,7 +154,7 @@ impl ArpPacket {
     /// </details>
     #[inline]
     pub fn protocol_addr_size(&self) -> u8 {
-        self.protocol_addr_size
+        self.sender_protocol_addr.len() as u8
     }
 
     /// The hardware address of the sender.
@@ -194,7 +168,7 @@ impl ArpPacket {
     /// </details>
     #[inline]
     pub fn sender_hw_addr(&self) -> &[u8] {
-        &self.addrs[..usize::from(self.hw_addr_size)]
+        self.sender_hw_addr.as_slice()
     }
 
     /// The protocol address of the sender.
@@ -208,8 +182,7 @@ impl ArpPacket {
     /// </details>
     #[inline]
     pub fn sender_protocol_addr(&self) -> &[u8] {
-        let start = usize::from(self.hw_addr_size);
-        &self.addrs[start..start + usize::from(self.protocol_addr_size)]
+        self.sender_protocol_addr.as_slice()
     }
 
     /// The hardware address of the target, which a request does not know.
@@ -223,9 +196,7 @@ impl ArpPacket {
     /// </details>
     #[inline]
     pub fn target_hw_addr(&self) -> &[u8] {
-        let hardware = usize::from(self.hw_addr_size);
-        let start = hardware + usize::from(self.protocol_addr_size);
-        &self.addrs[start..start + hardware]
+        self.target_hw_addr.as_slice()
     }
 
     /// The protocol address of the target.
@@ -239,9 +210,7 @@ impl ArpPacket {
     /// </details>
     #[inline]
     pub fn target_protocol_addr(&self) -> &[u8] {
-        let hardware = usize::from(self.hw_addr_size);
-        let start = hardware + usize::from(self.protocol_addr_size) + hardware;
-        &self.addrs[start..]
+        self.target_protocol_addr.as_slice()
     }
 
     /// Replaces both hardware addresses, and with them their size.
@@ -260,17 +229,8 @@ impl ArpPacket {
         if len > MAX_ADDR_LEN {
             return Err(ArpHwAddrError::LenTooBig(len));
         }
-        let hardware = usize::from(self.hw_addr_size);
-        let protocol = usize::from(self.protocol_addr_size);
-        arp_addrs::replace_both(
-            &mut self.addrs,
-            0,
-            hardware,
-            protocol,
-            sender_hw_addr,
-            target_hw_addr,
-        );
-        self.hw_addr_size = len as u8;
+        arp_addrs::replace(&mut self.sender_hw_addr, sender_hw_addr);
+        arp_addrs::replace(&mut self.target_hw_addr, target_hw_addr);
         Ok(())
     }
 
@@ -290,17 +250,8 @@ impl ArpPacket {
         if len > MAX_ADDR_LEN {
             return Err(ArpProtoAddrError::LenTooBig(len));
         }
-        let hardware = usize::from(self.hw_addr_size);
-        let protocol = usize::from(self.protocol_addr_size);
-        arp_addrs::replace_both(
-            &mut self.addrs,
-            hardware,
-            protocol,
-            hardware,
-            sender_protocol_addr,
-            target_protocol_addr,
-        );
-        self.protocol_addr_size = len as u8;
+        arp_addrs::replace(&mut self.sender_protocol_addr, sender_protocol_addr);
+        arp_addrs::replace(&mut self.target_protocol_addr, target_protocol_addr);
         Ok(())
     }
 
@@ -345,7 +296,10 @@ impl ArpPacket {
     fn spelled(&self) -> ArrayVec<u8, 1028> {
         let mut bytes = ArrayVec::new();
         arp_addrs::append(&mut bytes, &self.front());
-        arp_addrs::append(&mut bytes, self.addrs.as_slice());
+        arp_addrs::append(&mut bytes, self.sender_hw_addr());
+        arp_addrs::append(&mut bytes, self.sender_protocol_addr());
+        arp_addrs::append(&mut bytes, self.target_hw_addr());
+        arp_addrs::append(&mut bytes, self.target_protocol_addr());
         bytes
     }
 
@@ -355,17 +309,10 @@ impl ArpPacket {
         arp_front::front_bytes(
             self.hw_addr_type.0,
             self.proto_addr_type.0,
-            self.hw_addr_size,
-            self.protocol_addr_size,
+            self.hw_addr_size(),
+            self.protocol_addr_size(),
             self.operation.0,
         )
-    }
-
-    /// Whether another packet has the same four addresses. Equal lists are of one length, so that the sizes of the hardware
-    /// addresses decide those of the protocol addresses.
-    #[inline]
-    fn has_same_addrs(&self, other: &ArpPacket) -> bool {
-        self.hw_addr_size == other.hw_addr_size && self.addrs == other.addrs
     }
 
     /// The packet as one of Ethernet and IPv4.
@@ -426,9 +373,10 @@ impl Clone for ArpPacket {
             hw_addr_type: self.hw_addr_type,
             proto_addr_type: self.proto_addr_type,
             operation: self.operation,
-            hw_addr_size: self.hw_addr_size,
-            protocol_addr_size: self.protocol_addr_size,
-            addrs: self.addrs.clone(),
+            sender_hw_addr: self.sender_hw_addr.clone(),
+            sender_protocol_addr: self.sender_protocol_addr.clone(),
+            target_hw_addr: self.target_hw_addr.clone(),
+            target_protocol_addr: self.target_protocol_addr.clone(),
         }
     }
 }
@@ -439,7 +387,10 @@ impl PartialEq for ArpPacket {
         self.hw_addr_type == other.hw_addr_type
             && self.proto_addr_type == other.proto_addr_type
             && self.operation == other.operation
-            && self.has_same_addrs(other)
+            && self.sender_hw_addr == other.sender_hw_addr
+            && self.sender_protocol_addr == other.sender_protocol_addr
+            && self.target_hw_addr == other.target_hw_addr
+            && self.target_protocol_addr == other.target_protocol_addr
     }
 }
 

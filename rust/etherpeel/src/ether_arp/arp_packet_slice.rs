@@ -200,13 +200,14 @@ impl<'a> ArpPacketSlice<'a> {
     #[inline]
     pub fn to_packet(&self) -> ArpPacket {
         let bytes = self.slice;
-        ArpPacket::packed(
+        ArpPacket::holding(
             arp_fields::hw_addr_type(bytes),
             arp_fields::proto_addr_type(bytes),
             arp_fields::operation(bytes),
-            arp_fields::hw_addr_size(bytes),
-            arp_fields::proto_addr_size(bytes),
-            arp_fields::addrs(bytes),
+            arp_fields::sender_hw_addr(bytes),
+            arp_fields::sender_protocol_addr(bytes),
+            arp_fields::target_hw_addr(bytes),
+            arp_fields::target_protocol_addr(bytes),
         )
     }
 }
