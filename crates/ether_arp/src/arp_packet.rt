@@ -360,30 +360,23 @@ impl ArpPacket {
         }
         Ok(ArpEthIpv4Packet {
             operation: self.operation,
-            sender_mac: six(self.sender_hw_addr()),
-            sender_ipv4: four(self.sender_protocol_addr()),
-            target_mac: six(self.target_hw_addr()),
-            target_ipv4: four(self.target_protocol_addr()),
+            sender_mac: array(self.sender_hw_addr()),
+            sender_ipv4: array(self.sender_protocol_addr()),
+            target_mac: array(self.target_hw_addr()),
+            target_ipv4: array(self.target_protocol_addr()),
         })
     }
 }
 
-/// An address of six bytes.
-fn six(address: &[u8]) -> [u8; 6]
-    requires { length address.now ≡ 6 }
+/// An address as an array, by one test of its length.
+fn array<const N: usize>(address: &[u8]) -> [u8; N]
+    requires { length address.now ≡ N }
     ensures { result ≡ address.now }
 {
-    [
-        address[0], address[1], address[2], address[3], address[4], address[5],
-    ]
-}
-
-/// An address of four bytes.
-fn four(address: &[u8]) -> [u8; 4]
-    requires { length address.now ≡ 4 }
-    ensures { result ≡ address.now }
-{
-    [address[0], address[1], address[2], address[3]]
+    match address.first_chunk::<N>() {
+        Some(array) => *array,
+        None => unreachable!(),
+    }
 }
 
 impl From<ArpEthIpv4Packet> for ArpPacket {

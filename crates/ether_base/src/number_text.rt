@@ -34,10 +34,10 @@ impl fmt::Display for ShownEtherType {
     ghost output = { λ shown. Some (shown_ether_type shown.0.0) };
 
     fn fmt<W: fmt::Write>(&self, f: &mut fmt::Formatter<W>) -> fmt::Result {
-        let digits = HexNumber(self.0.0);
+        let number = self.0.0;
         match self.0.name() {
-            Some(description) => write!(f, "{digits} ({description})"),
-            None => write!(f, "{digits}"),
+            Some(description) => write!(f, "0x{number:04X} ({description})"),
+            None => write!(f, "0x{number:04X}"),
         }
     }
 }

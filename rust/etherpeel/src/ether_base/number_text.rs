@@ -27,10 +27,10 @@ pub(crate) struct ShownEtherType(pub EtherType);
 
 impl fmt::Display for ShownEtherType {
     fn fmt(&self, f: &mut fmt::Formatter<'_>) -> fmt::Result {
-        let digits = HexNumber(self.0.0);
+        let number = self.0.0;
         match self.0.name() {
-            Some(description) => write!(f, "{digits} ({description})"),
-            None => write!(f, "{digits}"),
+            Some(description) => write!(f, "0x{number:04X} ({description})"),
+            None => write!(f, "0x{number:04X}"),
         }
     }
 }
