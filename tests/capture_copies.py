@@ -290,7 +290,7 @@ def long_copy_in_pieces(program):
     before = resource.getrusage(resource.RUSAGE_CHILDREN)
     found = copied_in_pieces(program, ["--write"], large, 4096)
     after = resource.getrusage(resource.RUSAGE_CHILDREN)
-    return [("a block of 15 MiB in pieces of 4 KiB", (found, after.ru_utime - before.ru_utime < 3), ((large, "", 0), True))]
+    return [("a block of 15 MiB in pieces of 4 KiB", (found, after.ru_utime - before.ru_utime < 1), ((large, "", 0), True))]
 
 
 def copies_that_fail(program):
