@@ -5,7 +5,6 @@ use Rattle.std.proofs.lemmas.Bool.{ne_eqb, eqb-false, eqb-true, eq-eqb}
 use Rattle.std.proofs.lemmas.List.{append_assoc, append-nil}
 use Rattle.ether_filter.specs.declared.node.Node.{Node}
 use Rattle.ether_filter.specs.declared.token.Token.{Token}
-use Rattle.ether_filter.specs.declared.filter.TheConstants.{MAX_WORDS}
 use Rattle.ether_filter.specs.declared.filter_error.FilterError.{FilterError}
 use Rattle.ether_filter.specs.declared.filter_error.FilterErrorKind.{FilterErrorKind}
 use Rattle.ether_filter.specs.declared.filter_error.FilterErrorKind.TheVariants as kinds
@@ -15,7 +14,7 @@ use Rattle.ether_filter.specs.Grammar.{IsExpression}
 use Rattle.ether_filter.specs.Words.{Word}
 use Rattle.ether_filter.specs.Tokens.{token_of}
 use Rattle.ether_filter.specs.Reading.{State, Outcome, begun, taken, ended, placed, going_on, read_from, read_text}
-use Rattle.ether_filter.specs.Texts.{words_of, tokens_of, IsExpressionOf}
+use Rattle.ether_filter.specs.Texts.{words_of, tokens_of, IsExpressionOf, most_words}
 use Rattle.ether_filter.specs.Refusals.{Begins, Fits, Lacks, Refuses, RefusesText, TextsMeanOne}
 use Rattle.ether_filter.specs.Refusals as rows
 use Rattle.ether_filter.proofs.ReadingLemmas.{going, all_from, expression_read}
@@ -59,7 +58,7 @@ going_refused (Err kind) at rest error A is goes stops = stops kind refl
     (let same : error ≡ record { offset = at; kind = kind } = cc in same)
 
 refuses_from : (front ws : List Word) (s : State) (count end : ℕ) (error : FilterError) → Reaches (tokens_of front) s
-    → count ≡ length front → count ≤ MAX_WORDS
+    → count ≡ length front → count ≤ most_words
     → read_from s count ws end ≡ Err error → Refuses (front ++ ws) end error
 refuses_from front [] s count end error reaches len le is =
     let told = placed_err end (ended s) error is in
@@ -68,14 +67,14 @@ refuses_from front [] s count end error reaches len le is =
     (subst (Lacks (tokens_of front) None) (sym (ended_kind s told.0 told.1))
     (reached_lacks (tokens_of front) s None reaches)) in
     rw (append-nil front, told.2) row
-refuses_from front (w ∷ ws) s count end error reaches len le is = elim (decided (nat_eq count MAX_WORDS)) [
+refuses_from front (w ∷ ws) s count end error reaches len le is = elim (decided (nat_eq count most_words)) [
   | inl full ↦ (let told = rw full at is in
       let same : error ≡ record { offset = w.at; kind = kinds.TooLong } = cc in
-      rw same (rows.long front ws w refl (sym len ∙ eqb-true count MAX_WORDS full)
+      rw same (rows.long front ws w refl (sym len ∙ eqb-true count most_words full)
       (reached_begins (tokens_of front) s reaches)))
   | inr below ↦ (let told = rw below at is in
       let t = token_of w.bytes in
-      let few : count ≢ MAX_WORDS = eqb-false count MAX_WORDS below in
+      let few : count ≢ most_words = eqb-false count most_words below in
       going_refused (taken s t) w.at (λ u. read_from u (count + 1) ws end) error (Refuses (front ++ w ∷ ws) end error)
       told
       (λ u now rest. subst (λ (l : List Word). Refuses l end error) (append_assoc front (w ∷ []) ws)
@@ -95,20 +94,20 @@ text_refused text error is = refuses_from [] (words_of text) begun 0 (length tex
 -- ---- what is in the table is told
 
 skipped : (front us : List Word) (s t : State) (count end : ℕ) → run s (tokens_of front) ≡ Ok t
-    → count + length front ≤ MAX_WORDS
+    → count + length front ≤ most_words
     → read_from s count (front ++ us) end ≡ read_from t (count + length front) us end
 skipped [] us s t count end is le = let same : s ≡ t = cc in let all : count + 0 ≡ count = omega arith
     in rw (same, all) refl
 skipped (w ∷ front) us s t count end is le =
-    let few : count ≢ MAX_WORDS = omega arith in
+    let few : count ≢ most_words = omega arith in
     let next = going_ok (taken s (token_of w.bytes)) (λ u. run u (tokens_of front)) t is in
     let rest : run next.0 (tokens_of front)
     ≡ Ok t = sym (ap (λ (o : Outcome). going o (λ u. run u (tokens_of front))) next.1) ∙ is in
     let len : count + length (w ∷ front) ≡ count + 1 + length front = omega arith in
-    rw (ne_eqb count MAX_WORDS few, next.1, len) (skipped front us next.0 t (count + 1) end rest (omega arith))
+    rw (ne_eqb count most_words few, next.1, len) (skipped front us next.0 t (count + 1) end rest (omega arith))
 
 skipped_text : (ws front us : List Word) (s : State) (end : ℕ) → ws ≡ front ++ us → Reaches (tokens_of front) s
-    → length front ≤ MAX_WORDS → read_from begun 0 ws end ≡ read_from s (length front) us end
+    → length front ≤ most_words → read_from begun 0 ws end ≡ read_from s (length front) us end
 skipped_text ws front us s end is reaches le =
     let none : 0 + length front ≡ length front = omega arith in
     rw is (skipped front us begun s 0 end reaches (omega arith) ∙ ap (λ (n : ℕ). read_from s n us end) none)
@@ -137,9 +136,9 @@ refused ws end error (rows.word front rest w kind is lt begins none lacks) =
     let reaches = begins_reached (tokens_of front) begins in
     let s = reaches.0 in
     let t = token_of w.bytes in
-    let few : length front ≢ MAX_WORDS = omega arith in
+    let few : length front ≢ most_words = omega arith in
     skipped_text ws front (w ∷ rest) s end is reaches.1 (omega arith)
-    ∙ rw (ne_eqb (length front) MAX_WORDS few)
+    ∙ rw (ne_eqb (length front) most_words few)
     (stopped (taken s t) w.at (λ u. read_from u (length front + 1) rest end) kind
     (λ u now. none (taken_fits (tokens_of front) s u t reaches.1 now))
     (λ k now. taken_kind s t k now ∙ sym (row_kind (tokens_of front) s (Some t) kind reaches.1 lacks)))
@@ -153,7 +152,7 @@ refused ws end error (rows.ending kind le begins none lacks) =
 refused ws end error (rows.long front rest w is len begins) =
     let reaches = begins_reached (tokens_of front) begins in
     skipped_text ws front (w ∷ rest) reaches.0 end is reaches.1 (omega (arith, len))
-    ∙ rw (eq-eqb (length front) MAX_WORDS len) refl
+    ∙ rw (eq-eqb (length front) most_words len) refl
 
 refused_text : (text : List ℕ) (error : FilterError) → RefusesText text error → read_text text ≡ Err error
 refused_text text error row = refused (words_of text) (length text) error row

@@ -3,7 +3,6 @@ use Rattle.std.proofs.Common.{◌≡◌, ℕ, ◌+◌, ◌≤◌, ◌≢◌, Lis
 use Rattle.std.specs.Prelude.{Result, Ok, Err, nat_eq}
 use Rattle.std.proofs.lemmas.Bool.{ne_eqb, eqb-false}
 use Rattle.ether_filter.specs.declared.node.Node.{Node}
-use Rattle.ether_filter.specs.declared.filter.TheConstants.{MAX_WORDS}
 use Rattle.ether_filter.specs.declared.filter_error.FilterError.{FilterError}
 use Rattle.ether_filter.specs.declared.filter_error.FilterErrorKind.{FilterErrorKind}
 use Rattle.ether_filter.specs.Expressions.{Expression}
@@ -11,17 +10,17 @@ use Rattle.ether_filter.specs.Postfix.{postfix, expression_of, expression_of-pos
 use Rattle.ether_filter.specs.Words.{Word}
 use Rattle.ether_filter.specs.Tokens.{token_of}
 use Rattle.ether_filter.specs.Reading.{State, Outcome, begun, taken, ended, placed, going_on, read_from, read_text}
-use Rattle.ether_filter.specs.Texts.{words_of, tokens_of, IsExpressionOf}
+use Rattle.ether_filter.specs.Texts.{words_of, tokens_of, IsExpressionOf, most_words}
 use Rattle.ether_filter.proofs.ReadingLemmas.{going, all_from, expression_read}
 use Rattle.ether_filter.proofs.Sound.{Found, decided, all_was, begun_was_read}
 
-pub word_read : (s u : State) (count end : ℕ) (w : Word) (ws us : List Word) → ws ≡ w ∷ us → nat_eq count MAX_WORDS
+pub word_read : (s u : State) (count end : ℕ) (w : Word) (ws us : List Word) → ws ≡ w ∷ us → nat_eq count most_words
     ≡ false → taken s (token_of w.bytes) ≡ Ok u
     → read_from s count ws end ≡ read_from u (count + 1) us end
 word_read s u count end w ws us words below is = rw (words, below, is) refl
 
 pub word_refused : (s : State) (count end : ℕ) (w : Word) (ws us : List Word) (kind : FilterErrorKind) → ws ≡ w ∷ us
-    → nat_eq count MAX_WORDS ≡ false → taken s (token_of w.bytes) ≡ Err kind
+    → nat_eq count most_words ≡ false → taken s (token_of w.bytes) ≡ Err kind
     → read_from s count ws end ≡ Err (record { offset = w.at; kind = kind })
 word_refused s count end w ws us kind words below is = rw (words, below, is) refl
 
@@ -29,13 +28,13 @@ word_refused s count end w ws us kind words below is = rw (words, below, is) ref
 
 -- as many words as may be, and all of them are read
 record IsRead (s : State) (count : ℕ) (ws : List Word) (ns : List Node) : Type 0 where
-  few : count + length ws ≤ MAX_WORDS
+  few : count + length ws ≤ most_words
   is : all_from s (tokens_of ws) ≡ Ok ns
 
 going_read : (o : Outcome) (at count : ℕ) (ws : List Word) (end : ℕ) (ns : List Node)
     → going_on o at (λ t. read_from t (count + 1) ws end) ≡ Ok ns
     → ((t : State) → read_from t (count + 1) ws end ≡ Ok ns → IsRead t (count + 1) ws ns)
-    → (count + 1 + length ws ≤ MAX_WORDS) × (going o (λ u. all_from u (tokens_of ws)) ≡ Ok ns)
+    → (count + 1 + length ws ≤ most_words) × (going o (λ u. all_from u (tokens_of ws)) ≡ Ok ns)
 going_read (Ok t) at count ws end ns is rest = let r = rest t is in (r.few, r.is)
 going_read (Err kind) at count ws end ns is rest = absurd cc
 
@@ -43,13 +42,13 @@ placed_ok : (at : ℕ) (r : Result (List Node) FilterErrorKind) (ns : List Node)
 placed_ok at (Ok ms) ns is = let same : ms ≡ ns = cc in ap (λ (l : List Node). Ok l) same
 placed_ok at (Err kind) ns is = absurd cc
 
-is_read : (s : State) (count : ℕ) (ws : List Word) (end : ℕ) (ns : List Node) → count ≤ MAX_WORDS
+is_read : (s : State) (count : ℕ) (ws : List Word) (end : ℕ) (ns : List Node) → count ≤ most_words
     → read_from s count ws end ≡ Ok ns → IsRead s count ws ns
 is_read s count [] end ns le is = record { few = omega arith; is = placed_ok end (ended s) ns is }
-is_read s count (w ∷ ws) end ns le is = elim (decided (nat_eq count MAX_WORDS)) [
+is_read s count (w ∷ ws) end ns le is = elim (decided (nat_eq count most_words)) [
   | inl full ↦ absurd (let long = rw full at is in cc)
   | inr below ↦ (let going_is = rw below at is in
-      let not : count ≢ MAX_WORDS = eqb-false count MAX_WORDS below in
+      let not : count ≢ most_words = eqb-false count most_words below in
       let r = going_read (taken s (token_of w.bytes)) w.at count ws end ns going_is
       (λ t read. is_read t (count + 1) ws end ns (omega arith) read) in
       record { few = omega (arith, r.0); is = r.1 })
@@ -73,12 +72,12 @@ going_back : (o : Outcome) (at count : ℕ) (ws : List Word) (end : ℕ) (ns : L
 going_back (Ok t) at count ws end ns is rest = rest t is
 going_back (Err kind) at count ws end ns is rest = absurd cc
 
-reads : (s : State) (count : ℕ) (ws : List Word) (end : ℕ) (ns : List Node) → count + length ws ≤ MAX_WORDS
+reads : (s : State) (count : ℕ) (ws : List Word) (end : ℕ) (ns : List Node) → count + length ws ≤ most_words
     → all_from s (tokens_of ws) ≡ Ok ns → read_from s count ws end ≡ Ok ns
 reads s count [] end ns le is = ap (placed end) is
 reads s count (w ∷ ws) end ns le is =
-    let not : count ≢ MAX_WORDS = omega arith in
-    rw (ne_eqb count MAX_WORDS not)
+    let not : count ≢ most_words = omega arith in
+    rw (ne_eqb count most_words not)
     (going_back (taken s (token_of w.bytes)) w.at count ws end ns is
     (λ t all. reads t (count + 1) ws end ns (omega arith) all))
 

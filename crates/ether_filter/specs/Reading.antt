@@ -19,7 +19,7 @@ use Rattle.ether_filter.specs.declared.awaited.Step.TheVariants.{Done, More, Fai
 use Rattle.ether_filter.specs.declared.reading.Pending.{Pending}
 use Rattle.ether_filter.specs.declared.reading.Pending.TheVariants as pendings
 use Rattle.ether_filter.specs.declared.reading.Reading.{Reading}
-use Rattle.ether_filter.specs.declared.filter.TheConstants.{MAX_WORDS}
+use Rattle.ether_filter.specs.Texts.{most_words}
 use Rattle.ether_filter.specs.Words.{Word, words_from}
 use Rattle.ether_filter.specs.Tokens.{token_of}
 use Rattle.ether_filter.specs.Steps.{first_step, next_step, kind_of}
@@ -131,7 +131,7 @@ going_on (Err kind) at rest = Err (record { offset = at; kind = kind })
 abbrev pub read_from : State → (count : ℕ) → List Word → (end : ℕ) → Result (List Node) FilterError
 read_from s count [] end = placed end (ended s)
 read_from s count (w ∷ ws) end =
-    if nat_eq count MAX_WORDS then Err (record { offset = w.at; kind = kinds.TooLong })
+    if nat_eq count most_words then Err (record { offset = w.at; kind = kinds.TooLong })
     else going_on (taken s (token_of w.bytes)) w.at (λ t. read_from t (count + 1) ws end)
 
 abbrev pub read_text : List ℕ → Result (List Node) FilterError

@@ -3,7 +3,6 @@ use Rattle.std.specs.Prelude.{◌≡◌, ◌⊎◌, ℕ, ◌+◌, ◌<◌, ◌�
 use Rattle.ether_filter.specs.declared.node.Operator.{Operator}
 use Rattle.ether_filter.specs.declared.token.Token.{Token}
 use Rattle.ether_filter.specs.declared.token.Token.TheVariants as tokens
-use Rattle.ether_filter.specs.declared.filter.TheConstants.{MAX_WORDS}
 use Rattle.ether_filter.specs.declared.filter_error.FilterError.{FilterError}
 use Rattle.ether_filter.specs.declared.filter_error.FilterErrorKind.{FilterErrorKind}
 use Rattle.ether_filter.specs.declared.filter_error.FilterErrorKind.TheVariants as kinds
@@ -11,7 +10,7 @@ use Rattle.ether_filter.specs.Words.{Word}
 use Rattle.ether_filter.specs.Tokens.{token_of}
 use Rattle.ether_filter.specs.Expressions.{Expression}
 use Rattle.ether_filter.specs.Grammar.{IsExpression}
-use Rattle.ether_filter.specs.Texts.{words_of, tokens_of, IsExpressionOf}
+use Rattle.ether_filter.specs.Texts.{words_of, tokens_of, IsExpressionOf, most_words}
 
 -- words that an expression begins with
 pub record Begins (ts : List Token) : Type 0 where
@@ -54,15 +53,15 @@ pub data Lacks (ts : List Token) : Option Token → FilterErrorKind → Type 0 w
 -- the rows, for the words of a text that ends at a place
 pub data Refuses (ws : List Word) (end : ℕ) : FilterError → Type 0 where
   -- the first word that fits nothing
-  word : (front rest : List Word) (w : Word) (kind : FilterErrorKind) → ws ≡ front ++ w ∷ rest → length front < MAX_WORDS
+  word : (front rest : List Word) (w : Word) (kind : FilterErrorKind) → ws ≡ front ++ w ∷ rest → length front < most_words
       → Begins (tokens_of front) → (Fits (tokens_of front) (token_of w.bytes) → ⊥) → Lacks (tokens_of front) (Some (token_of w.bytes)) kind
       → Refuses ws end (record { offset = w.at; kind = kind })
   -- the end, if more words would have to come
-  ending : (kind : FilterErrorKind) → length ws ≤ MAX_WORDS
+  ending : (kind : FilterErrorKind) → length ws ≤ most_words
       → Begins (tokens_of ws) → ((x : Expression) → IsExpression (tokens_of ws) x → ⊥) → Lacks (tokens_of ws) None kind
       → Refuses ws end (record { offset = end; kind = kind })
   -- the first word of too many, if all before it fit
-  long : (front rest : List Word) (w : Word) → ws ≡ front ++ w ∷ rest → length front ≡ MAX_WORDS → Begins (tokens_of front)
+  long : (front rest : List Word) (w : Word) → ws ≡ front ++ w ∷ rest → length front ≡ most_words → Begins (tokens_of front)
       → Refuses ws end (record { offset = w.at; kind = kinds.TooLong })
 
 abbrev pub RefusesText : List ℕ → FilterError → Type 0

@@ -17,7 +17,9 @@ use Rattle.etherparse.specs.Link.{link_header_len}
 use Rattle.ether_packet.specs.declared.packet_builder.PacketContent.{PacketContent}
 use Rattle.ether_packet.specs.declared.packet_builder.PacketContent.TheVariants as contents
 use Rattle.ether_packet.specs.declared.packet_builder.PacketBuilder.{PacketBuilder}
-use Rattle.ether_packet.specs.Builder.{link_header, content_headers, content_payload, content_len, packet_len, AllReadable, IsSealedAt}
+use Rattle.ether_packet.specs.Builder.{link_header, content_headers, content_payload, content_len, inner_headers, packet_len, AllReadable, IsEthernet, IsOtherLink, IsSealedAt, AcceptsPacket}
+use Rattle.ether_packet.specs.Builder as rows
+use Rattle.ether_packet.specs.declared.build_error.BuildError.{BuildError}
 
 -- ---- one extension more
 
@@ -141,6 +143,17 @@ unread_last (x ∷ y ∷ front) h g later chain sealed = unread_last (y ∷ fron
 -- nothing is sealed where all that others follow can be read
 pub chain_unsealed : (hs : List Header) (i : ℕ) → IsChain hs → IsSealedAt hs i → ⊥
 chain_unsealed hs i chain s = unread_last s.front s.sealed s.follows s.later (subst IsChain s.split chain) s.unreadable
+
+no_other_link : (link : LinkHeader) (e : BuildError) → IsOtherLink link e → IsEthernet link → ⊥
+no_other_link (links.LinuxSll h) e other ethernet = other.1 ethernet
+no_other_link (links.Ethernet2 h) e other ethernet = other
+
+-- no row holds of a packet of Ethernet whose headers can all be followed, and that fits
+pub accepts_packet : (p : PacketBuilder) (target : List ℕ) → IsEthernet p.link → IsChain (inner_headers p)
+    → packet_len p ≤ length target → AcceptsPacket p target
+accepts_packet p target ethernet chain fits e (rows.hardware_type f other) = no_other_link p.link f other ethernet
+accepts_packet p target ethernet chain fits e (rows.sealed i link s) = chain_unsealed (inner_headers p) i chain s
+accepts_packet p target ethernet chain fits e (rows.space f link followed r) = let short = r.short in omega arith
 
 -- ---- lengths
 

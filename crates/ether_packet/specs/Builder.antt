@@ -107,6 +107,10 @@ pub data RefusesPacket (p : PacketBuilder) (target : List ℕ) : BuildError → 
   sealed : (i : ℕ) → IsEthernet p.link → IsSealedAt (inner_headers p) i → RefusesPacket p target (errors.Sealed i)
   space : (e : SliceWriteSpaceError) → IsEthernet p.link → IsChain (inner_headers p) → IsRefusedSpace (packet_len p) layers.EtherPayload target e → RefusesPacket p target (errors.Space e)
 
+-- no row holds
+abbrev pub AcceptsPacket : (p : PacketBuilder) (target : List ℕ) → Type 0
+AcceptsPacket p target = (e : BuildError) → RefusesPacket p target e → ⊥
+
 -- the target is too short, and nothing else is refused
 abbrev pub RefusesSpace : (p : PacketBuilder) (target : List ℕ) → BuildError → Type 0
 RefusesSpace p target (errors.Space e) = IsRefusedSpace (packet_len p) layers.EtherPayload target e

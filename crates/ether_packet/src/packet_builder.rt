@@ -7,7 +7,7 @@ ghost use Rattle.etherparse.specs.Header.{Header, FitsHeader, header_bytes, head
 ghost use Rattle.etherparse.specs.Macsec.{sec_tag_view};
 ghost use Rattle.etherparse.specs.Arp.{arp_bytes};
 ghost use Rattle.ether_packet.specs.Building.{vlan_type as vlan_type_of, own_type, type_of, before as header_before, named_before, is_readable, IsChain, AllFit};
-ghost use Rattle.ether_packet.specs.Builder.{link_header, content_headers, content_type, content_bytes, content_len as content_len_of, inner_headers, packet_len, IsEthernet, IsOtherLink, HasPacketType, IsSealedAt, IsWritten, RefusesPacket, RefusesSpace};
+ghost use Rattle.ether_packet.specs.Builder.{link_header, content_headers, content_type, content_bytes, content_len as content_len_of, inner_headers, packet_len, IsEthernet, IsOtherLink, HasPacketType, IsSealedAt, IsWritten, RefusesPacket, AcceptsPacket, RefusesSpace};
 
 use crate::BuildError;
 use crate::typed_link::announces_vlan;
@@ -97,6 +97,7 @@ impl<'a, 'b> PacketBuilder<'a, 'b> {
         ensures refused { IfErr result (RefusesPacket self.now target.old) }
         ensures space { IsEthernet self.now.link → IsChain (inner_headers self.now)
             → IfErr result (RefusesSpace self.now target.old) }
+        ensures accepted { OnOk result (AcceptsPacket self.now target.old) }
         ensures kept { OnErr result (target.new ≡ target.old) }
     {
         if let Some(hardware_type) = other_link(&self.link) {

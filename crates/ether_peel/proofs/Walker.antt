@@ -8,6 +8,7 @@ pub mod SameValues
 pub mod Limits
 pub mod Summarizing
 pub mod WritingBack
+pub mod Items
 pub mod MainClauses
 pub mod Feeding
 pub mod TagFront

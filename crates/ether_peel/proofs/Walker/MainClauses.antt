@@ -10,12 +10,13 @@ use Rattle.ether_peel.specs.Grammar.Window.{within}
 use Rattle.ether_peel.specs.Grammar.Expectation.{Expectation}
 use Rattle.ether_peel.specs.Grammar.Stack.{Ending, last_window, whole, Walk}
 use Rattle.ether_peel.specs.Grammar.Cleared.{cleared}
-use Rattle.ether_peel.specs.Walker.Next.{Faces, FacesWalk}
+use Rattle.ether_peel.specs.Walker.Next.{Faces, FacesWalk, begun}
 use Rattle.ether_peel.specs.Walker.Summary.{IsSummary}
 use Rattle.ether_peel.specs.Walker.WriteBack.{WritesBack, RefusesBack}
 use Rattle.ether_peel.specs.Walker.MainTheorem.{HoldsHeaders, MainTheorem}
 use Rattle.ether_peel.specs.declared.laws.Findings.{Findings}
 use Rattle.ether_peel.proofs.Grammar.Cuts.{cuts_keep}
+use Rattle.ether_peel.proofs.Walker.Items.{items_are}
 
 held : (start : Expectation) (list old new : List ℕ) (hs : List Header) (e : Ending)
     → ((ks : List Header) (f : Ending) → Walk start list ks f → (ks ≡ hs) × (f ≡ e))
@@ -36,18 +37,23 @@ held start list old new hs e one (Err error) w refused kept =
     (subst (λ f. IsRefusedSpace (last_window f).finish layers.EtherPayload old error) same.1 refused.refused, kept)
 
 pub main_clauses : (start : Expectation) (list old new : List ℕ) (found : Findings) → IsBytes list
-    → FacesWalk start list found.walk → IsSummary start list found.summary
+    → found.walk ≡ begun start list → FacesWalk start list found.walk → IsSummary start list found.summary
     → IfOk found.written (λ end. WritesBack start list end old new) → IfErr found.written (RefusesBack start list old)
     → IfErr found.written (λ _. new ≡ old) → MainTheorem start list old new found
-main_clauses start list old new found ok faced sum wrote refused kept =
+main_clauses start list old new found ok begins faced sum wrote refused kept =
     let same = sum.one faced.headers faced.ending faced.walk in
+    let faces =
+    subst (λ hs. Faces list (whole start list) found.walk hs sum.ending) same.0
+    (subst (λ e. Faces list (whole start list) found.walk faced.headers e) same.1 faced.faces) in
     record {
       headers = sum.headers;
       ending = sum.ending;
       walk = sum.walk;
       one = sum.one;
-      walker = subst (λ hs. Faces list (whole start list) found.walk hs sum.ending) same.0
-          (subst (λ e. Faces list (whole start list) found.walk faced.headers e) same.1 faced.faces);
+      begins = begins;
+      walker = faces;
+      items = λ items y.
+          items_are list (whole start list) found.walk sum.headers sum.ending items (ap (λ s. s.over) begins) faces y;
       summary = sum.is;
       written = held start list old new sum.headers sum.ending sum.one found.written wrote refused kept;
       cuts = λ no_fcs. cuts_keep start list sum.headers sum.ending ok no_fcs sum.walk;

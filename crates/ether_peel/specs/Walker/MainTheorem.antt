@@ -10,9 +10,11 @@ use Rattle.ether_peel.specs.Grammar.Stack.{Ending, last_window, whole, Walk}
 use Rattle.ether_peel.specs.Grammar.Cuts.{KeepsCuts}
 use Rattle.ether_peel.specs.Grammar.Extensions.{KeepsExtensions}
 use Rattle.ether_peel.specs.Grammar.Cleared.{cleared}
-use Rattle.ether_peel.specs.Walker.Next.{Faces}
+use Rattle.ether_peel.specs.Walker.Next.{Faces, begun, Yields, AreItems}
 use Rattle.ether_peel.specs.Walker.Summary.{summary_of}
 use Rattle.ether_peel.specs.declared.laws.Findings.{Findings}
+use Rattle.ether_peel.specs.declared.peel_unit.PeelUnit.{PeelUnit}
+use Rattle.ether_peel.specs.declared.peel_fault.PeelFault.{PeelFault}
 
 -- what was written to a target that held old, and now holds new: the headers of a walk and its last window, or nothing
 abbrev pub HoldsHeaders : (list : List ℕ) → List Header → Ending → (old new : List ℕ) → Result ℕ SliceWriteSpaceError → Type 0
@@ -28,8 +30,11 @@ pub record MainTheorem (start : Expectation) (list old new : List ℕ) (found : 
   pub ending : Ending
   pub walk : Walk start list headers ending
   pub one : (hs : List Header) (e : Ending) → Walk start list hs e → (hs ≡ headers) × (e ≡ ending)
-  -- "the walk finds exactly the headers and windows of the wire grammar": a new walk faces them, and each call gives the next (Gives)
+  -- "the walk finds exactly the headers and windows of the wire grammar": a walk that has read nothing faces them, each call gives the
+  -- next (Gives), and all that it gives are their units and then the fault
+  pub begins : found.walk ≡ begun start list
   pub walker : Faces list (whole start list) found.walk headers ending
+  pub items : (items : List (Result PeelUnit PeelFault)) → Yields found.walk items → AreItems list (whole start list) headers ending items
   -- "or its first breach with cause and offset": the fault of the ending, with the number of headers and the last window
   pub summary : found.summary ≡ summary_of headers ending
   -- "headers written back before the rest give the list's front but for two reserved bits per MACsec tag"

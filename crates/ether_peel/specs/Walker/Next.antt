@@ -65,6 +65,21 @@ pub record Gives (s : State) (result : Option (Result PeelUnit PeelFault)) (t : 
   pub over : s.over ≡ true → (result ≡ None) × (t ≡ s)
   pub next : s.over ≡ false → (list : List ℕ) (w : Window) (hs : List Header) (e : Ending) → Faces list w s hs e → GivesNext list w hs e s result t
 
+-- The items of a walker from a state on: what each call gives after the one before it, until a call gives nothing.
+pub data Yields : State → List (Result PeelUnit PeelFault) → Type 0 where
+  nothing : (s t : State) → Gives s None t → Yields s []
+  item : (s t : State) (first : Result PeelUnit PeelFault) (others : List (Result PeelUnit PeelFault))
+      → Gives s (Some first) t → Yields t others → Yields s (first ∷ others)
+
+-- The items of these headers and this ending, each once and in order: the view of each header's unit, of the bytes of its window and
+-- of its payload's; after them the fault, if it ends so.
+abbrev pub AreItems : List ℕ → Window → List Header → Ending → List (Result PeelUnit PeelFault) → Type 0
+AreItems list w [] (Accepted v y) items = items ≡ []
+AreItems list w [] (Fault v y r) items = items ≡ Err (fault_in w r) ∷ []
+AreItems list w (h ∷ hs) e items =
+    (u : PeelUnit) × (others : List (Result PeelUnit PeelFault)) × (items ≡ Ok u ∷ others)
+    × ShowsUnit (within list w) (within list (payload w h)) h u × AreItems list (payload w h) hs e others
+
 -- of k bytes at most k / 4 units and a fault are still to come, and nothing after the fault
 abbrev pub items_left : State → Count
 items_left s = at_most (if s.over then 0 else length s.rest / 4 + 1)

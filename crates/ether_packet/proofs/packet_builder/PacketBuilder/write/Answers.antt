@@ -1,8 +1,8 @@
-use Rattle.std.proofs.Common.{ℕ, length, refl, subst}
+use Rattle.std.proofs.Common.{ℕ, length, refl, subst, arith}
 use Rattle.etherparse.specs.Types.Layer.TheVariants as layers
 use Rattle.etherparse.specs.WriteFront.{IsRefusedSpace}
 use Rattle.ether_packet.specs.Builder.{hardware_type, sealed, space, inner_headers}
-use Rattle.ether_packet.proofs.Chains.{chain_unsealed}
+use Rattle.ether_packet.proofs.Chains.{accepts_packet, chain_unsealed}
 use Rattle.ether_packet.proofs.packet_builder.PacketBuilder.write.Goals as goal
 
 pub returns-in-Some-clause-refused : goal.returns-in-Some-clause-refused
@@ -30,3 +30,10 @@ returns-then-len-required_len-clause-refused c =
     }))
     c.in-Ok.ensures.len
     (record { short = c.if-len-required_len.true; error = refl }))
+
+pub returns-clause-accepted : goal.returns-clause-accepted
+returns-clause-accepted c =
+    let ends = c.write_whole.ensures.ends in
+    let room = c.write_whole.ensures.room in
+    accepts_packet c.args.self.now c.args.target.now (c.in_default.ensures.none refl) c.in-Ok.ensures.chain
+    (omega arith)
