@@ -221,7 +221,7 @@ impl ArpPacket {
     }
 
     /// The size of a hardware address in bytes.
-    pub fn hw_addr_size(&self) -> u8
+    pub const fn hw_addr_size(&self) -> u8
         ensures sender { result ≡ length self.now.sender_hardware }
         ensures target { result ≡ length self.now.target_hardware }
     {
@@ -229,7 +229,7 @@ impl ArpPacket {
     }
 
     /// The size of a protocol address in bytes.
-    pub fn protocol_addr_size(&self) -> u8
+    pub const fn protocol_addr_size(&self) -> u8
         ensures sender { result ≡ length self.now.sender_protocol }
         ensures target { result ≡ length self.now.target_protocol }
     {

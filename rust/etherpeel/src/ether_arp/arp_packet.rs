@@ -164,7 +164,7 @@ impl ArpPacket {
     ///
     /// </details>
     #[inline]
-    pub fn hw_addr_size(&self) -> u8 {
+    pub const fn hw_addr_size(&self) -> u8 {
         self.hw_addr_size
     }
 
@@ -179,7 +179,7 @@ impl ArpPacket {
     ///
     /// </details>
     #[inline]
-    pub fn protocol_addr_size(&self) -> u8 {
+    pub const fn protocol_addr_size(&self) -> u8 {
         self.protocol_addr_size
     }
 
