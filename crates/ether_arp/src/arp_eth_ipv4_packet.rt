@@ -25,7 +25,7 @@ use std::net::Ipv4Addr;
 ///     target_ipv4: [10, 0, 0, 2],
 /// };
 /// let read = ArpPacket::from_slice(&request.to_bytes())?;
-/// assert_eq!(read.try_eth_ipv4(), Ok(request));
+/// assert_eq!(rt; read.try_eth_ipv4(), Ok(request));
 /// ```
 #[derive(Clone, Copy, PartialEq, Eq, Hash, Debug)]
 pub struct ArpEthIpv4Packet {
