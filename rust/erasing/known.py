@@ -40,10 +40,11 @@ PATHS = set(
 # Last segments that a derive or a trait of Rust gives to a type of the sources.
 GIVEN = set("default from try_from".split())
 METHODS = set(
-    """and_then as_mut_slice as_ref as_slice as_str clear clone contains copied copy_from_slice copy_within debug_struct
-    field finish first_chunk first_chunk_mut fmt get hash is_empty is_err is_full is_none is_ok is_some iter last_chunk
-    len map max min next ok or overflowing_add pop pow push rev saturating_add saturating_sub split_first split_last
-    then_some to_be_bytes to_digit to_le_bytes truncate try_extend_from_slice unwrap unwrap_or write_str""".split()
+    """and_then as_mut_slice as_ref as_slice as_str clear clone contains copied copy_from_slice copy_within
+    debug_struct div_ceil field finish first_chunk first_chunk_mut fmt get hash is_empty is_err is_full is_none
+    is_ok is_some iter last_chunk len map max min next ok or overflowing_add pop pow push rev saturating_add
+    saturating_sub split_first split_last then_some to_be_bytes to_digit to_le_bytes truncate try_extend_from_slice
+    unwrap unwrap_or write_str""".split()
 )
 
 # What tests use besides: they have std, and `tests/kit` of the result stands in for the runtime.
