@@ -48,10 +48,10 @@ METHODS = set(
 )
 
 # What tests use besides: they have std, and `tests/kit` of the result stands in for the runtime.
-TEST_NAMES = set("kit Vec Fail Abort HostRuntime AllocError Global DefaultHasher Ordering drop".split())
+TEST_NAMES = set("kit Fail Abort HostRuntime AllocError AllocGlobal DefaultHasher Ordering drop".split())
 TEST_PATHS = set(
     """std::cmp::Ordering std::error::Error std::fmt std::hash::DefaultHasher std::hash::Hash std::hash::Hasher
-    std::net::Ipv4Addr std::ops::Range Vec::new usize::saturating_add u8::from DefaultHasher::new
+    std::net::Ipv4Addr std::ops::Range usize::saturating_add u8::from DefaultHasher::new
     Ordering::Less Ordering::Equal Ordering::Greater""".split()
 )
 TEST_METHODS = set(
