@@ -6,9 +6,6 @@ from .rules import clones
 from .tokens import Refused, closing, joined, lex
 
 LINE = re.compile(r"( *)(//[/!])(?: (.*)|)$")
-# An example is shown and not run if it uses one of these without declaring it: bytes that its text describes, and a
-# function whose error is not an `Error`, so that `?` can't pass it on.
-ASSUMED = set("request reply payload edit_packet".split())
 
 
 def runtimes(tokens):
@@ -27,27 +24,18 @@ def runtimes(tokens):
             del tokens[i + 2:i + 9]
 
 
-def assumes(tokens):
-    """Whether an example uses a name of `ASSUMED` that it does not declare."""
-    let = {tokens[i + 1 + (tokens[i + 1].text == "mut")].text for i, t in enumerate(tokens[:-1]) if t.text == "let"}
-    used = {t.text for i, t in enumerate(tokens) if t.kind == "word" and tokens[i - 1].text not in (".", "let", "mut")}
-    return bool(used & (ASSUMED - let))
-
-
 def example(code, line, imports, names):
-    """What follows the fence of an example, and its lines. It imports all public names, and `?` passes on any error."""
+    """The lines of an example. It imports all public names, and `?` passes on any error."""
     tokens = lex("\n".join(code), line)
     runtimes(tokens)
     clones(tokens)
     check(tokens, names)
     body = joined(tokens).split("\n")
-    if assumes(tokens):
-        return "ignore", body
     head = [f"# use {path}::*;" for path in imports]
     head += ["# use arrayvec::ArrayVec;"] * any(t.text == "ArrayVec" for t in tokens)
     if any(t.text in ("?", "return") for t in tokens):
-        return "", [*head, "# fn main() -> Result<(), Box<dyn std::error::Error>> {", *body, "# Ok(())", "# }"]
-    return "", [*head, *body]
+        return [*head, "# fn main() -> Result<(), Box<dyn std::error::Error>> {", *body, "# Ok(())", "# }"]
+    return [*head, *body]
 
 
 def link_paths(text, module):
@@ -64,8 +52,7 @@ def documentation(before, line, module, imports, names):
         rest = m[3] or "" if m else ""
         if m and rest.startswith("```"):
             if fence == "```":
-                kind, lines = example(code, line + at - len(code), imports, names)
-                out[-1] += kind
+                lines = example(code, line + at - len(code), imports, names)
                 out += [f"{m[1]}{m[2]} {it}".rstrip() for it in lines]
             fence, code = (rest, []) if fence is None else (None, [])
             if fence not in (None, "```", "```text"):

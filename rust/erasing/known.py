@@ -40,17 +40,18 @@ PATHS = set(
 # Last segments that a derive or a trait of Rust gives to a type of the sources.
 GIVEN = set("default from try_from".split())
 METHODS = set(
-    """and_then as_mut_slice as_ref as_slice as_str clear clone contains copied copy_from_slice copy_within debug_struct
-    field finish first_chunk first_chunk_mut fmt get hash is_empty is_err is_full is_none is_ok is_some iter last_chunk
-    len map max min next ok or overflowing_add pop pow push rev saturating_add saturating_sub split_first split_last
-    then_some to_be_bytes to_digit to_le_bytes truncate try_extend_from_slice unwrap unwrap_or write_str""".split()
+    """and_then as_mut_slice as_ref as_slice as_str clear clone contains copied copy_from_slice copy_within
+    debug_struct div_ceil field finish first_chunk first_chunk_mut fmt get hash is_empty is_err is_full is_none
+    is_ok is_some iter last_chunk len map max min next ok or overflowing_add pop pow push rev saturating_add
+    saturating_sub split_first split_last then_some to_be_bytes to_digit to_le_bytes truncate try_extend_from_slice
+    unwrap unwrap_or write_str""".split()
 )
 
 # What tests use besides: they have std, and `tests/kit` of the result stands in for the runtime.
-TEST_NAMES = set("kit Vec Fail Abort HostRuntime AllocError Global DefaultHasher Ordering drop".split())
+TEST_NAMES = set("kit Fail Abort HostRuntime AllocError AllocGlobal DefaultHasher Ordering drop".split())
 TEST_PATHS = set(
     """std::cmp::Ordering std::error::Error std::fmt std::hash::DefaultHasher std::hash::Hash std::hash::Hasher
-    std::net::Ipv4Addr std::ops::Range Vec::new usize::saturating_add u8::from DefaultHasher::new
+    std::net::Ipv4Addr std::ops::Range usize::saturating_add u8::from DefaultHasher::new
     Ordering::Less Ordering::Equal Ordering::Greater""".split()
 )
 TEST_METHODS = set(

@@ -1,7 +1,7 @@
-"""The rules for the tests of the libraries, which are passed a runtime and may allocate."""
+"""The rules for the tests of the libraries, which are passed a runtime."""
 from .docs import runtimes
 from .rules import clones, contracts, dropping, formatters, ghost_items, layout_skips, laws, models, tactics
-from .tokens import Refused, closing, cut, drop, item_start, places, respell
+from .tokens import Refused, cut, drop, item_start, places, respell
 
 
 def left_out(tokens):
@@ -36,24 +36,7 @@ def kit_names(tokens):
             respell(tokens, i, end, "use crate::kit::")
 
 
-def allocating(tokens):
-    """A text or a list is passed an allocator, and its growth returns a `Result`."""
-    for i, end in places(tokens, "!(in alloc;"):
-        last = closing(tokens, i + 1)
-        if tokens[last + 1].text != "?":
-            raise Refused(tokens[i].line, "a text whose Result is not passed on by ?")
-        del tokens[last + 1]
-        tokens[end].before = tokens[end].before.lstrip(" ")
-        del tokens[i + 2:end]
-    for i, end in places(tokens, "Vec::new(alloc)"):
-        respell(tokens, i, end, "Vec::new()")
-    for i, end in places(tokens, ".push("):
-        last = closing(tokens, end - 1)
-        if tokens[last + 1].text == "?":
-            del tokens[last + 1]
-
-
 RULES = [
-    *(ghost_items, models, laws, contracts, left_out, test_modules, test_functions, kit_names, runtimes, allocating),
+    *(ghost_items, models, laws, contracts, left_out, test_modules, test_functions, kit_names, runtimes),
     *(tactics, layout_skips, dropping, formatters, clones),
 ]

@@ -25,7 +25,7 @@ use std::net::Ipv4Addr;
 ///     target_ipv4: [10, 0, 0, 2],
 /// };
 /// let read = ArpPacket::from_slice(&request.to_bytes())?;
-/// assert_eq!(read.try_eth_ipv4(), Ok(request));
+/// assert_eq!(rt; read.try_eth_ipv4(), Ok(request));
 /// ```
 #[derive(Clone, Copy, PartialEq, Eq, Hash, Debug)]
 pub struct ArpEthIpv4Packet {
@@ -46,7 +46,7 @@ impl ArpEthIpv4Packet {
     pub const LEN: usize = 28;
 
     /// The IPv4 address of the sender.
-    pub fn sender_ipv4_addr(&self) -> Ipv4Addr
+    pub const fn sender_ipv4_addr(&self) -> Ipv4Addr
         ensures { ipv4_octets result ≡ self.now.sender_ipv4 }
     {
         let [a, b, c, d] = self.sender_ipv4;
@@ -54,7 +54,7 @@ impl ArpEthIpv4Packet {
     }
 
     /// The IPv4 address of the target.
-    pub fn target_ipv4_addr(&self) -> Ipv4Addr
+    pub const fn target_ipv4_addr(&self) -> Ipv4Addr
         ensures { ipv4_octets result ≡ self.now.target_ipv4 }
     {
         let [a, b, c, d] = self.target_ipv4;
@@ -62,7 +62,7 @@ impl ArpEthIpv4Packet {
     }
 
     /// The packet as it is on the wire, numbers in network byte order.
-    pub fn to_bytes(&self) -> [u8; 28]
+    pub const fn to_bytes(&self) -> [u8; 28]
         ensures value { result ≡ eth_ipv4_bytes self.now }
         ensures packet { result ≡ arp_bytes (eth_ipv4_view self.now) }
         ensures len { length result ≡ 28 }
@@ -104,7 +104,7 @@ impl ArpEthIpv4Packet {
 }
 
 /// Eight bytes and four addresses, one after the other.
-fn joined(
+const fn joined(
     front: [u8; 8],
     sender_mac: [u8; 6],
     sender_ipv4: [u8; 4],

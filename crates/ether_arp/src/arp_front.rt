@@ -4,7 +4,7 @@ ghost use Rattle.ether_base.specs.Formats.Arp.{ArpFront, FitsArpFront, arp_front
 ghost use Rattle.ether_base.specs.Bytes.{spelled};
 
 /// The bytes before the addresses.
-pub fn front_bytes(
+pub const fn front_bytes(
     hw_addr_type: u16,
     proto_addr_type: u16,
     hw_addr_size: u8,

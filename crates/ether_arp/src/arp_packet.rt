@@ -38,11 +38,23 @@ const MAX_ADDR_LEN: usize = 255;
 /// The answer to a request for 10.0.0.2:
 ///
 /// ```
+/// let request = [
+///     0, 1, 8, 0, 6, 4, // Ethernet and IPv4, whose addresses have 6 and 4 bytes
+///     0, 1, // a request
+///     2, 0, 0, 0, 0, 1, 10, 0, 0, 1, // the sender's addresses
+///     0, 0, 0, 0, 0, 0, 10, 0, 0, 2, // the target's
+/// ];
+/// let reply = [
+///     0, 1, 8, 0, 6, 4, // as in the request
+///     0, 2, // a reply
+///     2, 0, 0, 0, 0, 2, 10, 0, 0, 2, // the sender's addresses
+///     2, 0, 0, 0, 0, 1, 10, 0, 0, 1, // the target's
+/// ];
 /// let mut packet = ArpPacket::from_slice(&request)?;
 /// packet.operation = ArpOperation::REPLY;
 /// packet.set_hw_addrs(&[2, 0, 0, 0, 0, 2], &[2, 0, 0, 0, 0, 1])?;
 /// packet.set_protocol_addrs(&[10, 0, 0, 2], &[10, 0, 0, 1])?;
-/// assert_eq!(packet.to_bytes().as_slice(), &reply);
+/// assert_eq!(rt; packet.to_bytes().as_slice(), &reply);
 /// ```
 #[derive(Drop)]
 pub struct ArpPacket {
@@ -185,7 +197,7 @@ impl ArpPacket {
     }
 
     /// The size of a hardware address in bytes.
-    pub fn hw_addr_size(&self) -> u8
+    pub const fn hw_addr_size(&self) -> u8
         ensures sender { result ≡ length self.now.sender_hardware }
         ensures target { result ≡ length self.now.target_hardware }
     {
@@ -193,7 +205,7 @@ impl ArpPacket {
     }
 
     /// The size of a protocol address in bytes.
-    pub fn protocol_addr_size(&self) -> u8
+    pub const fn protocol_addr_size(&self) -> u8
         ensures sender { result ≡ length self.now.sender_protocol }
         ensures target { result ≡ length self.now.target_protocol }
     {

@@ -23,10 +23,17 @@ use std::marker::Model;
 /// Two views are equal if their bytes are. A request in a short Ethernet frame that is filled up:
 ///
 /// ```
-/// let packet = ArpPacketSlice::from_slice(&payload)?; // 28 bytes of the packet and 18 of padding
-/// assert_eq!(packet.operation(), ArpOperation::REQUEST);
-/// assert_eq!(packet.target_protocol_addr(), [10, 0, 0, 2].as_slice());
-/// assert_eq!(packet.slice().len(), 28);
+/// let payload = [
+///     0, 1, 8, 0, 6, 4, // Ethernet and IPv4, whose addresses have 6 and 4 bytes
+///     0, 1, // a request
+///     2, 0, 0, 0, 0, 1, 10, 0, 0, 1, // the sender's addresses
+///     0, 0, 0, 0, 0, 0, 10, 0, 0, 2, // the target's
+///     0, 0, 0, 0, 0, 0, 0, 0, 0, 0, 0, 0, 0, 0, 0, 0, 0, 0, // padding
+/// ];
+/// let packet = ArpPacketSlice::from_slice(&payload)?;
+/// assert_eq!(rt; packet.operation(), ArpOperation::REQUEST);
+/// assert_eq!(rt; packet.target_protocol_addr(), [10, 0, 0, 2].as_slice());
+/// assert_eq!(rt; packet.slice().len(), 28);
 /// ```
 #[derive(Debug, Drop)]
 pub struct ArpPacketSlice<'a> {

@@ -18,10 +18,10 @@ pub enum HeaderSliceError<E> {
     Content(E),
 }
 
-impl<E> HeaderSliceError<E> {
+impl<E: Copy> HeaderSliceError<E> {
     /// The error with the header's start moved by `offset` bytes: for a caller that passed on the tail of a slice, and
     /// reports places in the whole. An error of the contents names no place, and stays as it is.
-    pub fn add_slice_offset(self, offset: usize) -> HeaderSliceError<E>
+    pub const fn add_slice_offset(self, offset: usize) -> HeaderSliceError<E>
         requires { FitsMoved offset self }
         ensures { result ≡ moved offset self }
     {

@@ -36,7 +36,7 @@ impl MacsecAn {
     pub const MAX_U8: u8 = 0b0000_0011;
 
     /// The association number `value`, refused above [`MacsecAn::MAX_U8`].
-    pub fn try_new(value: u8) -> Result<MacsecAn, ValueTooBigError<u8>>
+    pub const fn try_new(value: u8) -> Result<MacsecAn, ValueTooBigError<u8>>
         ensures variant { IsOk result ↔ (value ≤ 3) }
         ensures ok { IfOk result (λ an. an ≡ value) }
         ensures err { IfErr result (λ e. e ≡ too_big value 3 ValueType.MacsecAn) }
@@ -53,7 +53,7 @@ impl MacsecAn {
     }
 
     /// The number of the association number.
-    pub fn value(self) -> u8
+    pub const fn value(self) -> u8
         ensures value { result ≡ self }
         ensures bound { result ≤ 3 }
     {

@@ -42,7 +42,7 @@ impl MacsecShortLen {
     pub const MAX_USIZE: usize = 0b0011_1111;
 
     /// The short length `value`, refused above [`MacsecShortLen::MAX_U8`].
-    pub fn try_from_u8(value: u8) -> Result<MacsecShortLen, ValueTooBigError<u8>>
+    pub const fn try_from_u8(value: u8) -> Result<MacsecShortLen, ValueTooBigError<u8>>
         ensures variant { IsOk result ↔ (value ≤ 63) }
         ensures ok { IfOk result (λ short_len. short_len ≡ value) }
         ensures err { IfErr result (λ e. e ≡ too_big value 63 ValueType.MacsecShortLen) }
@@ -72,7 +72,7 @@ impl MacsecShortLen {
     }
 
     /// The short length as a number.
-    pub fn value(self) -> u8
+    pub const fn value(self) -> u8
         ensures value { result ≡ self }
         ensures bound { result ≤ 63 }
     {

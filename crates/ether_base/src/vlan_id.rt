@@ -36,7 +36,7 @@ impl VlanId {
     pub const MAX_U16: u16 = 0b0000_1111_1111_1111;
 
     /// The VLAN identifier `value`, refused above [`VlanId::MAX_U16`].
-    pub fn try_new(value: u16) -> Result<VlanId, ValueTooBigError<u16>>
+    pub const fn try_new(value: u16) -> Result<VlanId, ValueTooBigError<u16>>
         ensures variant { IsOk result ↔ (value ≤ 4095) }
         ensures ok { IfOk result (λ id. id ≡ value) }
         ensures err { IfErr result (λ e. e ≡ too_big value 4095 ValueType.VlanId) }
@@ -53,7 +53,7 @@ impl VlanId {
     }
 
     /// The VLAN identifier as a number.
-    pub fn value(self) -> u16
+    pub const fn value(self) -> u16
         ensures value { result ≡ self }
         ensures bound { result ≤ 4095 }
     {

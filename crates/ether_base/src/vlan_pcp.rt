@@ -36,7 +36,7 @@ impl VlanPcp {
     pub const MAX_U8: u8 = 0b0000_0111;
 
     /// The priority code point `value`, refused above [`VlanPcp::MAX_U8`].
-    pub fn try_new(value: u8) -> Result<VlanPcp, ValueTooBigError<u8>>
+    pub const fn try_new(value: u8) -> Result<VlanPcp, ValueTooBigError<u8>>
         ensures variant { IsOk result ↔ (value ≤ 7) }
         ensures ok { IfOk result (λ pcp. pcp ≡ value) }
         ensures err { IfErr result (λ e. e ≡ too_big value 7 ValueType.VlanPcp) }
@@ -53,7 +53,7 @@ impl VlanPcp {
     }
 
     /// The priority code point as a number.
-    pub fn value(self) -> u8
+    pub const fn value(self) -> u8
         ensures value { result ≡ self }
         ensures bound { result ≤ 7 }
     {

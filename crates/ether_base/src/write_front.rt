@@ -6,7 +6,7 @@ ghost use Rattle.ether_base.specs.WriteFront.{AnswersRest, LendsRest};
 use crate::err::{Layer, SliceWriteSpaceError};
 
 /// Writes the bytes to the front of a slice, and returns the whole slice. A slice that is too short stays as it was.
-pub fn put<'a, const N: usize>(bytes: [u8; N], slice: &'a mut [u8]) -> &'a mut [u8]
+pub fn put<const N: usize>(bytes: [u8; N], slice: &mut [u8]) -> &mut [u8]
     ensures same_reference { result.ghost_name ≡ slice.entry.ghost_name }
     ensures wrote { N ≤ length slice.old → result.now ≡ bytes.entry ++ drop N slice.old }
     ensures kept { length slice.old < N → result.now ≡ slice.old }

@@ -4,3 +4,4 @@ pub mod Selecting
 pub mod Editing
 pub mod EditingViews
 pub mod Headers
+pub mod Texts

@@ -1,5 +1,5 @@
 //! What a captured packet is edited to.
-ghost use Rattle.std.specs.Prelude.{◌≡◌, ◌+◌, ◌<◌, ◌≤◌, length, take, slice_range, IfOk, IfSome, OnOk, OnErr};
+ghost use Rattle.std.specs.Prelude.{◌≡◌, ◌+◌, ◌<◌, ◌≤◌, length, take, slice_range, IfOk, IfSome, OnOk, OnErr, Some};
 ghost use Rattle.std.specs.Option.{option_map};
 ghost use Rattle.ether_peel.specs.Walker.Start.{next_of};
 ghost use Rattle.ether_pcap.specs.CaptureViews.{captured_packet_view};
@@ -7,6 +7,7 @@ ghost use Rattle.ether_content.specs.Content.{content_of};
 ghost use Rattle.ether_content.specs.Content as contents;
 ghost use Rattle.ether_content.specs.Editing.{CutToHeaders, PopVlan, PushVlan, SetVlan, Edits, growth};
 ghost use Rattle.ether_content.specs.EditingViews.{edit_view, edited_view};
+ghost use Rattle.ether_content.specs.Texts.{no_room_text};
 
 use crate::content::Content;
 use crate::headers::headers_len;
@@ -14,6 +15,8 @@ use ether_packet::{pop_vlan, push_vlan, replace_vlan_id};
 use ether_pcap::CapturedPacket;
 use ether_peel::Start;
 use etherparse::{EtherType, SingleVlanHeader, VlanId, VlanPcp};
+use std::error::Error;
+use std::fmt;
 
 /// An edit of captured packets.
 #[derive(Clone, Copy, PartialEq, Eq, Debug)]
@@ -66,6 +69,16 @@ pub struct EditedPacket {
 /// A buffer has too few bytes for a packet that is to be edited.
 #[derive(Clone, Copy, PartialEq, Eq, Debug)]
 pub struct NoRoom;
+
+impl fmt::Display for NoRoom {
+    ghost output = { λ _. Some no_room_text };
+
+    fn fmt<W: fmt::Write>(&self, f: &mut fmt::Formatter<W>) -> fmt::Result {
+        f.write_str("The buffer has no room for the packet and four bytes more.")
+    }
+}
+
+impl Error for NoRoom {}
 
 /// How many bytes a buffer has to have more than a packet that is edited in it.
 const FREE: usize = 4;

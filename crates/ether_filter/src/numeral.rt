@@ -67,10 +67,8 @@ fn digits_of(digits: &[u8], radix: u32) -> Option<u64>
     }
     let mut number = 0;
     for digit in digits {
-        let Some(digit) = char::from(*digit).to_digit(radix) else {
-            return None;
-        };
-        number = appended(number, radix, digit);
+        let value = char::from(*digit).to_digit(radix)?;
+        number = appended(number, radix, value);
     }
     Some(number)
 }

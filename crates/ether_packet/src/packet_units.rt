@@ -200,9 +200,7 @@ impl<'a> PacketUnits<'a> {
         ensures { MatchOption result (has_link (map header_of self.now.units) ≡ false)
             (λ p. HaveHeaders p (map header_of self.now.units) × (p.ether_type ≡ ether_type) × (p.rest.now ≡ rest.now)) }
     {
-        let Some(link) = link_header(self.link, self.frame) else {
-            return None;
-        };
+        let link = link_header(self.link, self.frame)?;
         Some(PacketParts {
             link,
             tags: [self.ext_header(0), self.ext_header(1), self.ext_header(2)],

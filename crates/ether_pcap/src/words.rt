@@ -1,6 +1,7 @@
 //! Numbers of a pcapng file as bytes, one after the other.
-ghost use Rattle.std.specs.Prelude.{◌≡◌, ◌++◌};
+ghost use Rattle.std.specs.Prelude.{◌≡◌, ◌++◌, ◌<◌, ◌^◌};
 ghost use Rattle.ether_pcap.specs.Numbers.{number_in};
+ghost use Rattle.ether_pcap.specs.Options.{padded};
 ghost use Rattle.ether_pcap.specs.Writing.{bytes_of};
 ghost use Rattle.ether_pcap.specs.Views.{order_of};
 
@@ -14,11 +15,19 @@ pub(crate) fn word(order: ByteOrder, number: u32) -> [u8; 4]
     order.bytes_of_u32(number)
 }
 
+/// A number of bytes, filled up to a multiple of 4.
+pub(crate) fn padded_len(len: usize) -> usize
+    requires { len < 2 ^ 63 }
+    ensures { result ≡ padded len }
+{
+    len.div_ceil(4) * 4
+}
+
 /// The bytes of a length, modulo 2^32.
 pub(crate) fn len_word(order: ByteOrder, len: usize) -> [u8; 4]
     ensures { result ≡ bytes_of (order_of order) 4 len }
 {
-    word(order, (len % 0x1_0000_0000) as u32)
+    word(order, (len as u64 % 0x1_0000_0000) as u32)
 }
 
 /// The bytes of a number of 16 bits.

@@ -161,7 +161,7 @@ impl<'a> LinuxSllSlice<'a> {
     }
 
     /// The length of the header in bytes, which is [`LinuxSllHeader::LEN`].
-    pub fn header_len(&self) -> usize
+    pub const fn header_len(&self) -> usize
         ensures { result ≡ 16 }
     {
         LinuxSllHeader::LEN

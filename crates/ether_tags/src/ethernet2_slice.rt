@@ -187,7 +187,7 @@ impl<'a> Ethernet2Slice<'a> {
     }
 
     /// The length of the header in bytes, which is [`Ethernet2Header::LEN`].
-    pub fn header_len(&self) -> usize
+    pub const fn header_len(&self) -> usize
         ensures { result ≡ 14 }
     {
         Ethernet2Header::LEN

@@ -145,7 +145,7 @@ impl<'a> SingleVlanSlice<'a> {
     }
 
     /// The length of the tag in bytes, which is [`SingleVlanHeader::LEN`].
-    pub fn header_len(&self) -> usize
+    pub const fn header_len(&self) -> usize
         ensures { result ≡ 4 }
     {
         SingleVlanHeader::LEN

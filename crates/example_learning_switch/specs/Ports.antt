@@ -27,7 +27,7 @@ is_member Trunk vid = true
 -- whether a frame that came from a port is to go to another by a decision
 abbrev pub includes : Decision → (from to : ℕ) → Bool
 includes (decisions.Port n) from to = nat_eq to n
-includes decisions.Drop from to = false
+includes decisions.Discard from to = false
 includes decisions.Flood from to = if nat_eq to from then false else true
 
 -- a tag with nothing but an identifier

@@ -3,7 +3,7 @@ use Rattle.std.specs.Prelude.{◌≡◌, ℕ, List, [], ◌∷◌, ◌++◌, len
 use Rattle.std.specs.List.{list_any, find}
 use Rattle.etherparse.specs.Header.{Header}
 use Rattle.example_learning_switch.specs.declared.decision.Decision.{Decision}
-use Rattle.example_learning_switch.specs.declared.decision.Decision.TheVariants.{Port, Drop, Flood}
+use Rattle.example_learning_switch.specs.declared.decision.Decision.TheVariants.{Port, Discard, Flood}
 use Rattle.example_learning_switch.specs.declared.entry.Entry.{Entry}
 use Rattle.example_learning_switch.specs.declared.port.Port.{Port as SwitchPort}
 use Rattle.example_learning_switch.specs.declared.stations.Stations.{Stations}
@@ -54,7 +54,7 @@ port_in entries s = option_map (λ e. e.port) (find (λ e. nat_eq e.station s) e
 -- where a frame from a port goes, by the port of its destination
 abbrev pub toward : ℕ → Option ℕ → Decision
 toward port None = Flood
-toward port (Some n) = if nat_eq n port then Drop else Port n
+toward port (Some n) = if nat_eq n port then Discard else Port n
 
 -- where the newest frame goes, by what is known from all frames with it
 abbrev pub decision : Taken → List Taken → Decision

@@ -16,7 +16,7 @@ pub enum Decision {
     /// To one port.
     Port(u16),
     /// Nowhere: its destination is on the port that it came from.
-    Drop,
+    Discard,
     /// To all ports but the one that it came from.
     Flood,
 }
@@ -104,7 +104,7 @@ impl Decision {
     {
         match self {
             Decision::Port(number) => to == number,
-            Decision::Drop => false,
+            Decision::Discard => false,
             Decision::Flood => to != from,
         }
     }

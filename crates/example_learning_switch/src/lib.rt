@@ -115,7 +115,7 @@ impl Switch {
         }
         match entry::port_of(self.entries.as_slice(), destination) {
             None => Decision::Flood,
-            Some(known) if known == port => Decision::Drop,
+            Some(known) if known == port => Decision::Discard,
             Some(known) => Decision::Port(known),
         }
     }

@@ -38,7 +38,7 @@ pub struct LenError {
 impl LenError {
     /// The error with the layer's start moved by `offset` bytes: for a caller that passed on the tail of a slice, and
     /// reports places in the whole.
-    pub fn add_offset(self, offset: usize) -> LenError
+    pub const fn add_offset(self, offset: usize) -> LenError
         requires { self.layer_start_offset + offset < 2 ^ 64 }
         ensures { result ≡ record self { layer_start_offset = self.layer_start_offset + offset } }
     {

@@ -1,15 +1,14 @@
 //! Units whose packet is edited.
-ghost use Rattle.std.specs.Prelude.{◌≡◌, ℕ, ◌+◌, ◌-◌, ◌<◌, ◌≤◌, List, ◌++◌, length, slice_range, Some, IfSome};
+ghost use Rattle.std.specs.Prelude.{◌≡◌, ℕ, ◌+◌, ◌-◌, ◌≤◌, List, ◌++◌, length, slice_range, Some, IfSome};
 ghost use Rattle.std.specs.Option.{option_map};
 ghost use Rattle.ether_pcap.specs.Block.{IsTotalLen};
 ghost use Rattle.ether_pcap.specs.Bodies.{EnhancedPacketValue, IsEnhancedPacket};
 ghost use Rattle.ether_pcap.specs.Writing.{bytes_of};
-ghost use Rattle.ether_pcap.specs.Options.{padded};
 ghost use Rattle.ether_pcap.specs.Capture.{PacketValue, CaptureInterfaceValue, Begins, Records, Blocks, EnhancedPacket as Enhanced};
 ghost use Rattle.ether_pcap.specs.Editing.{unit_with, edited_block as block_with, unit_bytes, padding_of};
 ghost use Rattle.ether_pcap.specs.Views.{order_of, file_header_view};
 
-use crate::words::{four_words, len_word, seven_words, word};
+use crate::words::{four_words, len_word, padded_len, seven_words, word};
 use crate::{ByteOrder, EditedUnit, FileHeader, PcapRecord, PcapngBlock};
 
 /// The record of a packet with other captured bytes and another original length.
@@ -134,12 +133,4 @@ fn word_at(bytes: &[u8], at: usize) -> [u8; 4]
     ensures { result ≡ slice_range bytes.now at (at + 4) }
 {
     [bytes[at], bytes[at + 1], bytes[at + 2], bytes[at + 3]]
-}
-
-/// A number of bytes, filled up to a multiple of 4.
-fn padded_len(len: usize) -> usize
-    requires { len < 4294967296 }
-    ensures { result ≡ padded len }
-{
-    (len + 3) / 4 * 4
 }

@@ -173,9 +173,7 @@ impl<'a> InterfaceDescription<'a> {
 fn byte_option(byte_order: ByteOrder, options: &[u8], code: u16) -> Option<u8>
     ensures { (all : List OptionValue) → HasOptions (order_of byte_order) options.now all → result ≡ byte_of (value_of code all) }
 {
-    let Some(value) = option_value(byte_order, options, code) else {
-        return None;
-    };
+    let value = option_value(byte_order, options, code)?;
     if value.len() == 1 {
         Some(value[0])
     } else {

@@ -5,6 +5,7 @@ ghost use Rattle.ether_pcap.specs.Views.{order_of};
 ghost use Rattle.ether_pcap.specs.PcapngViews.{option_view};
 
 use crate::ByteOrder;
+use crate::words::padded_len;
 
 /// A view of an option of a block: its code and its value, without the padding.
 #[derive(Clone, Copy)]
@@ -41,7 +42,7 @@ impl<'a> PcapngOption<'a> {
     pub fn option_len(&self) -> usize
         ensures { result ≡ 4 + padded (length self.now.value.now) }
     {
-        4 + (self.value.len() + 3) / 4 * 4
+        4 + padded_len(self.value.len())
     }
 }
 

@@ -7,7 +7,7 @@ use etherparse::err::{
 use etherparse::{
     ArpHardwareId, ArpOperation, EtherType, LenSource, MacsecAn, MacsecShortLen, VlanId, VlanPcp,
 };
-use std::alloc::{AllocError, Global};
+use std::alloc::{AllocError, AllocGlobal};
 use std::error::Error;
 use std::fmt;
 use std::hash::Hash;
@@ -24,12 +24,11 @@ const SHORT: LenError = LenError {
 
 /// The text of an error, by `Display`.
 fn reads(
-    rt: &impl Abort,
-    alloc: Global,
+    rt: &(impl Abort + AllocGlobal),
     error: &impl fmt::Display,
     text: &str,
 ) -> Result<(), AllocError> {
-    let shown = format!(in alloc; "{error}")?;
+    let shown = format!(in rt.alloc(); "{error}")?;
     equal(rt, text, &shown.as_str(), &text);
     Ok(())
 }
@@ -54,7 +53,7 @@ static LENGTHS: [(LenError, &str); 2] = [
 #[test]
 fn of_lengths(rt: HostRuntime) -> Result<(), Fail> {
     for (error, text) in &LENGTHS {
-        reads(&rt, rt.alloc(), error, text)?;
+        reads(&rt, error, text)?;
     }
     let early = LenError {
         layer_start_offset: 4,
@@ -98,7 +97,7 @@ static TARGETS: [(SliceWriteSpaceError, &str); 2] = [
 #[test]
 fn of_targets(rt: HostRuntime) -> Result<(), Fail> {
     for (error, text) in &TARGETS {
-        reads(&rt, rt.alloc(), error, text)?;
+        reads(&rt, error, text)?;
     }
     Ok(())
 }
@@ -148,12 +147,7 @@ static CAPTURES: [(linux_sll::HeaderSliceError, usize, &str); 3] = [
 #[test]
 fn of_cooked_captures(rt: HostRuntime) -> Result<(), Fail> {
     for (error, offset, text) in &CAPTURES {
-        reads(
-            &rt,
-            rt.alloc(),
-            &error.clone()?.add_slice_offset(*offset),
-            text,
-        )?;
+        reads(&rt, &error.clone()?.add_slice_offset(*offset), text)?;
     }
     Ok(())
 }
@@ -181,12 +175,7 @@ static SEC_TAGS: [(macsec::HeaderSliceError, usize, &str); 3] = [
 #[test]
 fn of_sec_tags(rt: HostRuntime) -> Result<(), Fail> {
     for (error, offset, text) in &SEC_TAGS {
-        reads(
-            &rt,
-            rt.alloc(),
-            &error.clone()?.add_slice_offset(*offset),
-            text,
-        )?;
+        reads(&rt, &error.clone()?.add_slice_offset(*offset), text)?;
     }
     Ok(())
 }
@@ -214,10 +203,10 @@ static NEW_PACKETS: [(ArpNewError, &str); 4] = [
 #[test]
 fn of_new_arp_packets(rt: HostRuntime) -> Result<(), Fail> {
     for (error, text) in &NEW_PACKETS {
-        reads(&rt, rt.alloc(), error, text)?;
+        reads(&rt, error, text)?;
         match error {
-            ArpNewError::HwAddr(error) => reads(&rt, rt.alloc(), error, text)?,
-            ArpNewError::ProtoAddr(error) => reads(&rt, rt.alloc(), error, text)?,
+            ArpNewError::HwAddr(error) => reads(&rt, error, text)?,
+            ArpNewError::ProtoAddr(error) => reads(&rt, error, text)?,
         }
     }
     Ok(())
@@ -245,7 +234,7 @@ static OTHER_PACKETS: [(ArpEthIpv4FromError, &str); 4] = [
 #[test]
 fn of_other_arp_packets(rt: HostRuntime) -> Result<(), Fail> {
     for (error, text) in &OTHER_PACKETS {
-        reads(&rt, rt.alloc(), error, text)?;
+        reads(&rt, error, text)?;
     }
     Ok(())
 }

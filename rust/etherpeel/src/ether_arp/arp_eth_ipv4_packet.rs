@@ -53,7 +53,7 @@ impl ArpEthIpv4Packet {
     ///
     /// </details>
     #[inline]
-    pub fn sender_ipv4_addr(&self) -> Ipv4Addr {
+    pub const fn sender_ipv4_addr(&self) -> Ipv4Addr {
         let [a, b, c, d] = self.sender_ipv4;
         Ipv4Addr::new(a, b, c, d)
     }
@@ -68,7 +68,7 @@ impl ArpEthIpv4Packet {
     ///
     /// </details>
     #[inline]
-    pub fn target_ipv4_addr(&self) -> Ipv4Addr {
+    pub const fn target_ipv4_addr(&self) -> Ipv4Addr {
         let [a, b, c, d] = self.target_ipv4;
         Ipv4Addr::new(a, b, c, d)
     }
@@ -86,7 +86,7 @@ impl ArpEthIpv4Packet {
     ///
     /// </details>
     #[inline]
-    pub fn to_bytes(&self) -> [u8; 28] {
+    pub const fn to_bytes(&self) -> [u8; 28] {
         let front = arp_front::front_bytes(
             ArpHardwareId::ETHERNET.0,
             EtherType::IPV4.0,
@@ -131,7 +131,7 @@ impl ArpEthIpv4Packet {
 
 /// Eight bytes and four addresses, one after the other.
 #[inline]
-fn joined(
+const fn joined(
     front: [u8; 8],
     sender_mac: [u8; 6],
     sender_ipv4: [u8; 4],

@@ -17,7 +17,7 @@
 ///
 /// </details>
 #[inline]
-pub fn front_bytes(
+pub const fn front_bytes(
     hw_addr_type: u16,
     proto_addr_type: u16,
     hw_addr_size: u8,

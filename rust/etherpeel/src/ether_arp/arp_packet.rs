@@ -19,12 +19,28 @@ const MAX_ADDR_LEN: usize = 255;
 ///
 /// The answer to a request for 10.0.0.2:
 ///
-/// ```ignore
+/// ```
+/// # use etherpeel::*;
+/// # fn main() -> Result<(), Box<dyn std::error::Error>> {
+/// let request = [
+///     0, 1, 8, 0, 6, 4, // Ethernet and IPv4, whose addresses have 6 and 4 bytes
+///     0, 1, // a request
+///     2, 0, 0, 0, 0, 1, 10, 0, 0, 1, // the sender's addresses
+///     0, 0, 0, 0, 0, 0, 10, 0, 0, 2, // the target's
+/// ];
+/// let reply = [
+///     0, 1, 8, 0, 6, 4, // as in the request
+///     0, 2, // a reply
+///     2, 0, 0, 0, 0, 2, 10, 0, 0, 2, // the sender's addresses
+///     2, 0, 0, 0, 0, 1, 10, 0, 0, 1, // the target's
+/// ];
 /// let mut packet = ArpPacket::from_slice(&request)?;
 /// packet.operation = ArpOperation::REPLY;
 /// packet.set_hw_addrs(&[2, 0, 0, 0, 0, 2], &[2, 0, 0, 0, 0, 1])?;
 /// packet.set_protocol_addrs(&[10, 0, 0, 2], &[10, 0, 0, 1])?;
 /// assert_eq!(packet.to_bytes().as_slice(), &reply);
+/// # Ok(())
+/// # }
 /// ```
 pub struct ArpPacket {
     /// What kind of link the hardware addresses belong to.
@@ -33,10 +49,10 @@ pub struct ArpPacket {
     pub proto_addr_type: EtherType,
     /// The operation: a request, a reply or another.
     pub operation: ArpOperation,
-    sender_hw_addr: ArrayVec<u8, 255>,
-    sender_protocol_addr: ArrayVec<u8, 255>,
-    target_hw_addr: ArrayVec<u8, 255>,
-    target_protocol_addr: ArrayVec<u8, 255>,
+    hw_addr_size: u8,
+    protocol_addr_size: u8,
+    /// The addresses as they are on the wire: the sender's, hardware before protocol, then the target's.
+    addrs: ArrayVec<u8, 1020>,
 }
 
 impl ArpPacket {
@@ -99,14 +115,40 @@ impl ArpPacket {
         target_hw_addr: &[u8],
         target_protocol_addr: &[u8],
     ) -> ArpPacket {
+        let mut addrs = ArrayVec::new();
+        arp_addrs::append(&mut addrs, sender_hw_addr);
+        arp_addrs::append(&mut addrs, sender_protocol_addr);
+        arp_addrs::append(&mut addrs, target_hw_addr);
+        arp_addrs::append(&mut addrs, target_protocol_addr);
         ArpPacket {
             hw_addr_type,
             proto_addr_type,
             operation,
-            sender_hw_addr: arp_addrs::address(sender_hw_addr),
-            sender_protocol_addr: arp_addrs::address(sender_protocol_addr),
-            target_hw_addr: arp_addrs::address(target_hw_addr),
-            target_protocol_addr: arp_addrs::address(target_protocol_addr),
+            hw_addr_size: sender_hw_addr.len() as u8,
+            protocol_addr_size: sender_protocol_addr.len() as u8,
+            addrs,
+        }
+    }
+
+    /// The packet of addresses that already follow one another.
+    #[inline]
+    pub(crate) fn packed(
+        hw_addr_type: ArpHardwareId,
+        proto_addr_type: EtherType,
+        operation: ArpOperation,
+        hw_addr_size: u8,
+        protocol_addr_size: u8,
+        addrs: &[u8],
+    ) -> ArpPacket {
+        let mut list = ArrayVec::new();
+        arp_addrs::append(&mut list, addrs);
+        ArpPacket {
+            hw_addr_type,
+            proto_addr_type,
+            operation,
+            hw_addr_size,
+            protocol_addr_size,
+            addrs: list,
         }
     }
 
@@ -138,8 +180,8 @@ impl ArpPacket {
     ///
     /// </details>
     #[inline]
-    pub fn hw_addr_size(&self) -> u8 {
-        self.sender_hw_addr.len() as u8
+    pub const fn hw_addr_size(&self) -> u8 {
+        self.hw_addr_size
     }
 
     /// The size of a protocol address in bytes.
@@ -153,8 +195,8 @@ impl ArpPacket {
     ///
     /// </details>
     #[inline]
-    pub fn protocol_addr_size(&self) -> u8 {
-        self.sender_protocol_addr.len() as u8
+    pub const fn protocol_addr_size(&self) -> u8 {
+        self.protocol_addr_size
     }
 
     /// The hardware address of the sender.
@@ -168,7 +210,7 @@ impl ArpPacket {
     /// </details>
     #[inline]
     pub fn sender_hw_addr(&self) -> &[u8] {
-        self.sender_hw_addr.as_slice()
+        &self.addrs[..usize::from(self.hw_addr_size)]
     }
 
     /// The protocol address of the sender.
@@ -182,7 +224,8 @@ impl ArpPacket {
     /// </details>
     #[inline]
     pub fn sender_protocol_addr(&self) -> &[u8] {
-        self.sender_protocol_addr.as_slice()
+        let start = usize::from(self.hw_addr_size);
+        &self.addrs[start..start + usize::from(self.protocol_addr_size)]
     }
 
     /// The hardware address of the target, which a request does not know.
@@ -196,7 +239,9 @@ impl ArpPacket {
     /// </details>
     #[inline]
     pub fn target_hw_addr(&self) -> &[u8] {
-        self.target_hw_addr.as_slice()
+        let hardware = usize::from(self.hw_addr_size);
+        let start = hardware + usize::from(self.protocol_addr_size);
+        &self.addrs[start..start + hardware]
     }
 
     /// The protocol address of the target.
@@ -210,7 +255,9 @@ impl ArpPacket {
     /// </details>
     #[inline]
     pub fn target_protocol_addr(&self) -> &[u8] {
-        self.target_protocol_addr.as_slice()
+        let hardware = usize::from(self.hw_addr_size);
+        let start = hardware + usize::from(self.protocol_addr_size) + hardware;
+        &self.addrs[start..]
     }
 
     /// Replaces both hardware addresses, and with them their size.
@@ -229,8 +276,17 @@ impl ArpPacket {
         if len > MAX_ADDR_LEN {
             return Err(ArpHwAddrError::LenTooBig(len));
         }
-        arp_addrs::replace(&mut self.sender_hw_addr, sender_hw_addr);
-        arp_addrs::replace(&mut self.target_hw_addr, target_hw_addr);
+        let hardware = usize::from(self.hw_addr_size);
+        let protocol = usize::from(self.protocol_addr_size);
+        arp_addrs::replace_both(
+            &mut self.addrs,
+            0,
+            hardware,
+            protocol,
+            sender_hw_addr,
+            target_hw_addr,
+        );
+        self.hw_addr_size = len as u8;
         Ok(())
     }
 
@@ -250,8 +306,17 @@ impl ArpPacket {
         if len > MAX_ADDR_LEN {
             return Err(ArpProtoAddrError::LenTooBig(len));
         }
-        arp_addrs::replace(&mut self.sender_protocol_addr, sender_protocol_addr);
-        arp_addrs::replace(&mut self.target_protocol_addr, target_protocol_addr);
+        let hardware = usize::from(self.hw_addr_size);
+        let protocol = usize::from(self.protocol_addr_size);
+        arp_addrs::replace_both(
+            &mut self.addrs,
+            hardware,
+            protocol,
+            hardware,
+            sender_protocol_addr,
+            target_protocol_addr,
+        );
+        self.protocol_addr_size = len as u8;
         Ok(())
     }
 
@@ -296,10 +361,7 @@ impl ArpPacket {
     fn spelled(&self) -> ArrayVec<u8, 1028> {
         let mut bytes = ArrayVec::new();
         arp_addrs::append(&mut bytes, &self.front());
-        arp_addrs::append(&mut bytes, self.sender_hw_addr());
-        arp_addrs::append(&mut bytes, self.sender_protocol_addr());
-        arp_addrs::append(&mut bytes, self.target_hw_addr());
-        arp_addrs::append(&mut bytes, self.target_protocol_addr());
+        arp_addrs::append(&mut bytes, self.addrs.as_slice());
         bytes
     }
 
@@ -309,10 +371,17 @@ impl ArpPacket {
         arp_front::front_bytes(
             self.hw_addr_type.0,
             self.proto_addr_type.0,
-            self.hw_addr_size(),
-            self.protocol_addr_size(),
+            self.hw_addr_size,
+            self.protocol_addr_size,
             self.operation.0,
         )
+    }
+
+    /// Whether another packet has the same four addresses. Equal lists are of one length, so that the sizes of the hardware
+    /// addresses decide those of the protocol addresses.
+    #[inline]
+    fn has_same_addrs(&self, other: &ArpPacket) -> bool {
+        self.hw_addr_size == other.hw_addr_size && self.addrs == other.addrs
     }
 
     /// The packet as one of Ethernet and IPv4.
@@ -337,21 +406,26 @@ impl ArpPacket {
         }
         Ok(ArpEthIpv4Packet {
             operation: self.operation,
-            sender_mac: array(self.sender_hw_addr()),
-            sender_ipv4: array(self.sender_protocol_addr()),
-            target_mac: array(self.target_hw_addr()),
-            target_ipv4: array(self.target_protocol_addr()),
+            sender_mac: six(self.sender_hw_addr()),
+            sender_ipv4: four(self.sender_protocol_addr()),
+            target_mac: six(self.target_hw_addr()),
+            target_ipv4: four(self.target_protocol_addr()),
         })
     }
 }
 
-/// An address as an array, by one test of its length.
+/// An address of six bytes.
 #[inline]
-fn array<const N: usize>(address: &[u8]) -> [u8; N] {
-    match address.first_chunk::<N>() {
-        Some(array) => *array,
-        None => unreachable!(),
-    }
+fn six(address: &[u8]) -> [u8; 6] {
+    [
+        address[0], address[1], address[2], address[3], address[4], address[5],
+    ]
+}
+
+/// An address of four bytes.
+#[inline]
+fn four(address: &[u8]) -> [u8; 4] {
+    [address[0], address[1], address[2], address[3]]
 }
 
 impl From<ArpEthIpv4Packet> for ArpPacket {
@@ -368,10 +442,9 @@ impl Clone for ArpPacket {
             hw_addr_type: self.hw_addr_type,
             proto_addr_type: self.proto_addr_type,
             operation: self.operation,
-            sender_hw_addr: self.sender_hw_addr.clone(),
-            sender_protocol_addr: self.sender_protocol_addr.clone(),
-            target_hw_addr: self.target_hw_addr.clone(),
-            target_protocol_addr: self.target_protocol_addr.clone(),
+            hw_addr_size: self.hw_addr_size,
+            protocol_addr_size: self.protocol_addr_size,
+            addrs: self.addrs.clone(),
         }
     }
 }
@@ -382,10 +455,7 @@ impl PartialEq for ArpPacket {
         self.hw_addr_type == other.hw_addr_type
             && self.proto_addr_type == other.proto_addr_type
             && self.operation == other.operation
-            && self.sender_hw_addr == other.sender_hw_addr
-            && self.sender_protocol_addr == other.sender_protocol_addr
-            && self.target_hw_addr == other.target_hw_addr
-            && self.target_protocol_addr == other.target_protocol_addr
+            && self.has_same_addrs(other)
     }
 }
 

@@ -16,7 +16,7 @@ pub enum HeaderSliceError<E> {
     Content(E),
 }
 
-impl<E> HeaderSliceError<E> {
+impl<E: Copy> HeaderSliceError<E> {
     /// The error with the header's start moved by `offset` bytes: for a caller that passed on the tail of a slice, and
     /// reports places in the whole. An error of the contents names no place, and stays as it is.
     ///
@@ -31,7 +31,7 @@ impl<E> HeaderSliceError<E> {
     ///
     /// </details>
     #[inline]
-    pub fn add_slice_offset(self, offset: usize) -> HeaderSliceError<E> {
+    pub const fn add_slice_offset(self, offset: usize) -> HeaderSliceError<E> {
         match self {
             HeaderSliceError::Len(error) => HeaderSliceError::Len(error.add_offset(offset)),
             HeaderSliceError::Content(error) => HeaderSliceError::Content(error),

@@ -36,7 +36,7 @@ impl MacsecAn {
     ///
     /// </details>
     #[inline]
-    pub fn try_new(value: u8) -> Result<MacsecAn, ValueTooBigError<u8>> {
+    pub const fn try_new(value: u8) -> Result<MacsecAn, ValueTooBigError<u8>> {
         if value <= MacsecAn::MAX_U8 {
             Ok(MacsecAn(value))
         } else {
@@ -59,7 +59,7 @@ impl MacsecAn {
     ///
     /// </details>
     #[inline]
-    pub fn value(self) -> u8 {
+    pub const fn value(self) -> u8 {
         self.0
     }
 }

@@ -42,7 +42,7 @@ impl MacsecShortLen {
     ///
     /// </details>
     #[inline]
-    pub fn try_from_u8(value: u8) -> Result<MacsecShortLen, ValueTooBigError<u8>> {
+    pub const fn try_from_u8(value: u8) -> Result<MacsecShortLen, ValueTooBigError<u8>> {
         if value <= MacsecShortLen::MAX_U8 {
             Ok(MacsecShortLen(value))
         } else {
@@ -85,7 +85,7 @@ impl MacsecShortLen {
     ///
     /// </details>
     #[inline]
-    pub fn value(self) -> u8 {
+    pub const fn value(self) -> u8 {
         self.0
     }
 }

@@ -36,7 +36,7 @@ impl VlanId {
     ///
     /// </details>
     #[inline]
-    pub fn try_new(value: u16) -> Result<VlanId, ValueTooBigError<u16>> {
+    pub const fn try_new(value: u16) -> Result<VlanId, ValueTooBigError<u16>> {
         if value <= VlanId::MAX_U16 {
             Ok(VlanId(value))
         } else {
@@ -59,7 +59,7 @@ impl VlanId {
     ///
     /// </details>
     #[inline]
-    pub fn value(self) -> u16 {
+    pub const fn value(self) -> u16 {
         self.0
     }
 }

@@ -36,7 +36,7 @@ impl VlanPcp {
     ///
     /// </details>
     #[inline]
-    pub fn try_new(value: u8) -> Result<VlanPcp, ValueTooBigError<u8>> {
+    pub const fn try_new(value: u8) -> Result<VlanPcp, ValueTooBigError<u8>> {
         if value <= VlanPcp::MAX_U8 {
             Ok(VlanPcp(value))
         } else {
@@ -59,7 +59,7 @@ impl VlanPcp {
     ///
     /// </details>
     #[inline]
-    pub fn value(self) -> u8 {
+    pub const fn value(self) -> u8 {
         self.0
     }
 }

@@ -14,7 +14,7 @@ use crate::ether_base::err::{Layer, SliceWriteSpaceError};
 ///
 /// </details>
 #[inline]
-pub fn put<'a, const N: usize>(bytes: [u8; N], slice: &'a mut [u8]) -> &'a mut [u8] {
+pub fn put<const N: usize>(bytes: [u8; N], slice: &mut [u8]) -> &mut [u8] {
     if let Some(front) = slice.first_chunk_mut::<N>() {
         *front = bytes;
     }

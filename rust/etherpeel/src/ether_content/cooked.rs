@@ -24,7 +24,14 @@ const PROTOCOL: Range<usize> = 14..16;
 /// The header of a packet of Linux cooked capture v1 (LINKTYPE_LINUX_SLL) whose hardware type, other than that of Ethernet, gives protocol
 /// numbers no meaning of their own, as 772 of the loopback device. The walk refuses such a header; its protocol is taken for an ether type.
 ///
-/// ```ignore
+/// ```
+/// # use etherpeel::*;
+/// # use etherpeel::ether_peel::*;
+/// # use etherpeel::ether_sll2::*;
+/// # use etherpeel::ether_packet::*;
+/// # use etherpeel::ether_filter::*;
+/// # use etherpeel::ether_pcap::*;
+/// # use etherpeel::ether_content::*;
 /// let packet = CapturedPacket {
 ///     time: None,
 ///     interface: None,

@@ -6,6 +6,8 @@ use crate::ether_packet::{pop_vlan, push_vlan, replace_vlan_id};
 use crate::ether_pcap::CapturedPacket;
 use crate::ether_peel::Start;
 use crate::{EtherType, SingleVlanHeader, VlanId, VlanPcp};
+use core::error::Error;
+use core::fmt;
 
 /// An edit of captured packets.
 #[derive(Clone, Copy, PartialEq, Eq, Debug)]
@@ -66,6 +68,14 @@ pub struct EditedPacket {
 #[derive(Clone, Copy, PartialEq, Eq, Debug)]
 pub struct NoRoom;
 
+impl fmt::Display for NoRoom {
+    fn fmt(&self, f: &mut fmt::Formatter<'_>) -> fmt::Result {
+        f.write_str("The buffer has no room for the packet and four bytes more.")
+    }
+}
+
+impl Error for NoRoom {}
+
 /// How many bytes a buffer has to have more than a packet that is edited in it.
 const FREE: usize = 4;
 
@@ -78,7 +88,15 @@ const FREE: usize = 4;
 ///
 /// The buffer has fewer than four bytes more than were captured of the packet.
 ///
-/// ```ignore
+/// ```
+/// # use etherpeel::*;
+/// # use etherpeel::ether_peel::*;
+/// # use etherpeel::ether_sll2::*;
+/// # use etherpeel::ether_packet::*;
+/// # use etherpeel::ether_filter::*;
+/// # use etherpeel::ether_pcap::*;
+/// # use etherpeel::ether_content::*;
+/// # fn main() -> Result<(), Box<dyn std::error::Error>> {
 /// let packet = CapturedPacket {
 ///     time: None,
 ///     interface: None,
@@ -99,6 +117,8 @@ const FREE: usize = 4;
 ///     0xFF, 0xFF, 0xFF, 0xFF, 0xFF, 0xFF, 0x02, 0x00, 0x00, 0x00, 0x00, 0x01, 0x08, 0x00, // Ethernet II
 ///     0x45, 0x00,
 /// ]);
+/// # Ok(())
+/// # }
 /// ```
 ///
 /// <details><summary>Contract</summary>

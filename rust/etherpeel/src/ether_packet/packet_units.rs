@@ -152,9 +152,7 @@ impl<'a> PacketUnits<'a> {
     /// </details>
     #[inline]
     pub fn to_parts(&self, ether_type: EtherType, rest: &'a [u8]) -> Option<PacketParts<'a>> {
-        let Some(link) = link_header(self.link, self.frame) else {
-            return None;
-        };
+        let link = link_header(self.link, self.frame)?;
         Some(PacketParts {
             link,
             tags: [self.ext_header(0), self.ext_header(1), self.ext_header(2)],

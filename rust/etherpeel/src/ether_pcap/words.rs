@@ -8,10 +8,16 @@ pub(crate) fn word(order: ByteOrder, number: u32) -> [u8; 4] {
     order.bytes_of_u32(number)
 }
 
+/// A number of bytes, filled up to a multiple of 4.
+#[inline]
+pub(crate) fn padded_len(len: usize) -> usize {
+    len.div_ceil(4) * 4
+}
+
 /// The bytes of a length, modulo 2^32.
 #[inline]
 pub(crate) fn len_word(order: ByteOrder, len: usize) -> [u8; 4] {
-    word(order, (len % 0x1_0000_0000) as u32)
+    word(order, (len as u64 % 0x1_0000_0000) as u32)
 }
 
 /// The bytes of a number of 16 bits.

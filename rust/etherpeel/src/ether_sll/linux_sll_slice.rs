@@ -213,7 +213,7 @@ impl<'a> LinuxSllSlice<'a> {
     ///
     /// </details>
     #[inline]
-    pub fn header_len(&self) -> usize {
+    pub const fn header_len(&self) -> usize {
         LinuxSllHeader::LEN
     }
 }

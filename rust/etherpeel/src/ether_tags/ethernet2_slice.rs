@@ -249,7 +249,7 @@ impl<'a> Ethernet2Slice<'a> {
     ///
     /// </details>
     #[inline]
-    pub fn header_len(&self) -> usize {
+    pub const fn header_len(&self) -> usize {
         Ethernet2Header::LEN
     }
 }

@@ -202,7 +202,7 @@ impl<'a> SingleVlanSlice<'a> {
     ///
     /// </details>
     #[inline]
-    pub fn header_len(&self) -> usize {
+    pub const fn header_len(&self) -> usize {
         SingleVlanHeader::LEN
     }
 }

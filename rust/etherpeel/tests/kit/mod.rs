@@ -13,14 +13,10 @@ impl Abort for HostRuntime {}
 
 impl<T: Abort> Abort for &T {}
 
-/// The allocator.
-pub struct Global;
+/// What a text takes in the sources.
+pub trait AllocGlobal {}
 
-impl HostRuntime {
-    pub fn alloc(&self) -> Global {
-        Global
-    }
-}
+impl AllocGlobal for HostRuntime {}
 
 /// What a call that allocates may return in the sources.
 #[derive(Clone, Copy, PartialEq, Eq, Debug)]

@@ -5,6 +5,7 @@ use ether_filter::Filter;
 use ether_pcap::{CapturedPacket, LinkType};
 use ether_peel::Start;
 use etherparse::{ArpHardwareId, EtherType, VlanId};
+use std::alloc::AllocError;
 use std::test::Fail;
 
 /// An ARP packet that cooked capture v2 announces, without its own bytes (LINKTYPE_LINUX_SLL2).
@@ -201,5 +202,13 @@ fn of_edits(rt: HostRuntime) -> Result<(), Fail> {
         &unedited,
         &[Ok(None), Err(NoRoom)],
     );
+    Ok(())
+}
+
+#[test]
+fn the_text_of_no_room(rt: HostRuntime) -> Result<(), AllocError> {
+    let text = "The buffer has no room for the packet and four bytes more.";
+    let shown = format!(in rt.alloc(); "{}", NoRoom)?;
+    equal(&rt, "no room", &shown.as_str(), &text);
     Ok(())
 }

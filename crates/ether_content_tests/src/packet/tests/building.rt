@@ -7,7 +7,7 @@ use etherparse::{
     ArpHardwareId, ArpPacket, EtherType, Ethernet2Header, LinkExtHeader, LinkHeader,
     LinuxSllHeader, SingleVlanHeader,
 };
-use std::alloc::{AllocError, Global};
+use std::alloc::AllocError;
 use std::process::Abort;
 use std::test::Fail;
 
@@ -146,10 +146,11 @@ fn link(bytes: &[u8]) -> Result<LinkHeader, Fail> {
     }
 }
 
-fn exts(alloc: Global, list: &[&[u8]]) -> Result<Vec<LinkExtHeader>, Fail> {
-    let mut headers = Vec::new(alloc);
-    for bytes in list {
-        headers.push(ext(bytes)?)?;
+/// Up to three VLAN tags or SecTags, and others behind them.
+fn exts(list: &[&[u8]]) -> Result<[LinkExtHeader; 3], Fail> {
+    let mut headers = [LinkExtHeader::Vlan(SingleVlanHeader::default()); 3];
+    for (header, bytes) in headers.iter_mut().zip(list) {
+        *header = ext(bytes)?;
     }
     Ok(headers)
 }
@@ -178,10 +179,10 @@ fn written_to_targets(rt: HostRuntime) -> Result<(), Fail> {
             Some((ether_type, payload)) => PacketContent::Payload(ether_type, payload),
             None => PacketContent::Arp(&arp),
         };
-        let link_exts = exts(rt.alloc(), row.exts)?;
+        let link_exts = exts(row.exts)?;
         let packet = PacketBuilder {
             link: link(row.link)?,
-            link_exts: link_exts.as_slice(),
+            link_exts: link_exts.get(..row.exts.len()).ok_or("three headers")?,
             content,
         };
         writes(&rt, row, &packet);

@@ -4,19 +4,18 @@ use ether_pcap::{
     BlockError, BodyError, CaptureError, CaptureFault, FileHeaderError, RecordError, RecordFault,
     SectionError,
 };
-use std::alloc::{AllocError, Global};
+use std::alloc::{AllocError, AllocGlobal};
 use std::fmt;
 use std::process::Abort;
 use std::test::Fail;
 
 /// The text of an error, by `Display`.
 fn reads(
-    rt: &impl Abort,
-    alloc: Global,
+    rt: &(impl Abort + AllocGlobal),
     error: &impl fmt::Display,
     text: &str,
 ) -> Result<(), AllocError> {
-    let shown = format!(in alloc; "{error}")?;
+    let shown = format!(in rt.alloc(); "{error}")?;
     equal(rt, text, &shown.as_str(), &text);
     Ok(())
 }
@@ -59,7 +58,7 @@ static FILE_HEADERS: [(FileHeaderError, &str, &str); 5] = [
 #[test]
 fn of_file_headers(rt: HostRuntime) -> Result<(), Fail> {
     for (error, text, debug) in &FILE_HEADERS {
-        reads(&rt, rt.alloc(), error, text)?;
+        reads(&rt, error, text)?;
         let shown = format!(in rt.alloc(); "{error:?}")?;
         equal(&rt, debug, &shown.as_str(), debug);
     }
@@ -90,7 +89,7 @@ static RECORDS: [(RecordFault, &str); 2] = [
 #[test]
 fn of_records(rt: HostRuntime) -> Result<(), Fail> {
     for (fault, text) in &RECORDS {
-        reads(&rt, rt.alloc(), fault, text)?;
+        reads(&rt, fault, text)?;
     }
     Ok(())
 }
@@ -134,7 +133,7 @@ static SECTION_HEADERS: [(SectionError, &str); 6] = [
 #[test]
 fn of_section_headers(rt: HostRuntime) -> Result<(), Fail> {
     for (error, text) in &SECTION_HEADERS {
-        reads(&rt, rt.alloc(), error, text)?;
+        reads(&rt, error, text)?;
     }
     Ok(())
 }
@@ -164,7 +163,7 @@ static CAPTURES: [(CaptureError, &str); 4] = [
 #[test]
 fn of_captures(rt: HostRuntime) -> Result<(), Fail> {
     for (error, text) in &CAPTURES {
-        reads(&rt, rt.alloc(), error, text)?;
+        reads(&rt, error, text)?;
     }
     let fault = CaptureFault {
         offset: 24,
@@ -172,6 +171,6 @@ fn of_captures(rt: HostRuntime) -> Result<(), Fail> {
     };
     let text =
         "At byte 24: A packet of a pcapng file names interface 3, which its section does not describe.";
-    reads(&rt, rt.alloc(), &fault, text)?;
+    reads(&rt, &fault, text)?;
     Ok(())
 }

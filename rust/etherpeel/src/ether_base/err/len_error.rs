@@ -50,7 +50,7 @@ impl LenError {
     ///
     /// </details>
     #[inline]
-    pub fn add_offset(self, offset: usize) -> LenError {
+    pub const fn add_offset(self, offset: usize) -> LenError {
         LenError {
             layer_start_offset: self.layer_start_offset + offset,
             ..self

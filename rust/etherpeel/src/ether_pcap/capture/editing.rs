@@ -1,6 +1,6 @@
 //! Units whose packet is edited.
 
-use crate::ether_pcap::words::{four_words, len_word, seven_words, word};
+use crate::ether_pcap::words::{four_words, len_word, padded_len, seven_words, word};
 use crate::ether_pcap::{ByteOrder, EditedUnit, FileHeader, PcapRecord, PcapngBlock};
 
 /// The record of a packet with other captured bytes and another original length.
@@ -102,10 +102,4 @@ fn block_header(
 #[inline]
 fn word_at(bytes: &[u8], at: usize) -> [u8; 4] {
     [bytes[at], bytes[at + 1], bytes[at + 2], bytes[at + 3]]
-}
-
-/// A number of bytes, filled up to a multiple of 4.
-#[inline]
-fn padded_len(len: usize) -> usize {
-    (len + 3) / 4 * 4
 }

@@ -174,7 +174,7 @@ impl<'a> PcapRecord<'a> {
         joined(
             byte_order.bytes_of_u32(self.seconds),
             byte_order.bytes_of_u32(self.fraction),
-            byte_order.bytes_of_u32((self.packet.len() % 0x1_0000_0000) as u32),
+            byte_order.bytes_of_u32((self.packet.len() as u64 % 0x1_0000_0000) as u32),
             byte_order.bytes_of_u32(self.original_len),
         )
     }

@@ -1,7 +1,7 @@
 //! The body of an enhanced packet.
 
 use crate::ether_pcap::pcapng::pcapng_option::{bytes_from, u32_option};
-use crate::ether_pcap::words::{four_words, len_word, seven_words, word};
+use crate::ether_pcap::words::{four_words, len_word, padded_len, seven_words, word};
 use crate::ether_pcap::{BodyError, ByteOrder, PcapRecord, PcapngBlock};
 
 /// The code of the option with flags, `epb_flags` of an enhanced packet and `pack_flags` of the obsolete packet block.
@@ -110,15 +110,15 @@ impl<'a> EnhancedPacket<'a> {
     /// </details>
     #[inline]
     pub fn padding_len(&self) -> usize {
-        (self.packet.len() + 3) / 4 * 4 - self.packet.len()
+        padded_len(self.packet.len()) - self.packet.len()
     }
 
     /// The length of the block, modulo 2^32.
     #[inline]
     fn block_len(&self) -> u32 {
-        let padded_len = (self.packet.len() + 3) / 4 * 4;
-        ((32 + padded_len % 0x1_0000_0000 + self.options.len() % 0x1_0000_0000)
-            % 0x1_0000_0000) as u32
+        let packet_len = padded_len(self.packet.len()) as u64 % 0x1_0000_0000;
+        let options_len = self.options.len() as u64 % 0x1_0000_0000;
+        ((32 + packet_len + options_len) % 0x1_0000_0000) as u32
     }
 
     /// The front of an enhanced packet block: its type and length, interface, time, captured and original length. The bytes of `packet`
@@ -241,7 +241,7 @@ pub(crate) fn packet_of_body<'a>(
         time: upper * 0x1_0000_0000 + lower,
         original_len: byte_order.u32_at(body, 16),
         packet: &body[20..end],
-        options: bytes_from(body, 20 + (captured_len as usize + 3) / 4 * 4),
+        options: bytes_from(body, 20 + padded_len(captured_len as usize)),
     })
 }
 

@@ -227,9 +227,7 @@ impl<'a> InterfaceDescription<'a> {
 /// The number in the first option with a code, if its value is one byte.
 #[inline]
 fn byte_option(byte_order: ByteOrder, options: &[u8], code: u16) -> Option<u8> {
-    let Some(value) = option_value(byte_order, options, code) else {
-        return None;
-    };
+    let value = option_value(byte_order, options, code)?;
     if value.len() == 1 {
         Some(value[0])
     } else {

@@ -1,6 +1,7 @@
 //! The options at the end of a block of a pcapng file.
 
 use crate::ether_pcap::ByteOrder;
+use crate::ether_pcap::words::padded_len;
 
 /// A view of an option of a block: its code and its value, without the padding.
 #[derive(Clone, Copy)]
@@ -51,7 +52,7 @@ impl<'a> PcapngOption<'a> {
     /// </details>
     #[inline]
     pub fn option_len(&self) -> usize {
-        4 + (self.value.len() + 3) / 4 * 4
+        4 + padded_len(self.value.len())
     }
 }
 

@@ -10,7 +10,7 @@ pub enum Decision {
     /// To one port.
     Port(u16),
     /// Nowhere: its destination is on the port that it came from.
-    Drop,
+    Discard,
     /// To all ports but the one that it came from.
     Flood,
 }
@@ -101,7 +101,7 @@ impl Decision {
     fn includes(self, from: u16, to: u16) -> bool {
         match self {
             Decision::Port(number) => to == number,
-            Decision::Drop => false,
+            Decision::Discard => false,
             Decision::Flood => to != from,
         }
     }

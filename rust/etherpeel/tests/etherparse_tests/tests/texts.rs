@@ -7,7 +7,7 @@ use etherpeel::err::{
 use etherpeel::{
     ArpHardwareId, ArpOperation, EtherType, LenSource, MacsecAn, MacsecShortLen, VlanId, VlanPcp,
 };
-use crate::kit::{AllocError, Global};
+use crate::kit::{AllocError, AllocGlobal};
 use std::error::Error;
 use std::fmt;
 use std::hash::Hash;
@@ -24,8 +24,7 @@ const SHORT: LenError = LenError {
 
 /// The text of an error, by `Display`.
 fn reads(
-    rt: &impl Abort,
-    alloc: Global,
+    rt: &(impl Abort + AllocGlobal),
     error: &impl fmt::Display,
     text: &str,
 ) -> Result<(), AllocError> {
@@ -55,7 +54,7 @@ static LENGTHS: [(LenError, &str); 2] = [
 fn of_lengths() -> Result<(), Fail> {
     let rt = crate::kit::HostRuntime;
     for (error, text) in &LENGTHS {
-        reads(&rt, rt.alloc(), error, text)?;
+        reads(&rt, error, text)?;
     }
     let early = LenError {
         layer_start_offset: 4,
@@ -100,7 +99,7 @@ static TARGETS: [(SliceWriteSpaceError, &str); 2] = [
 fn of_targets() -> Result<(), Fail> {
     let rt = crate::kit::HostRuntime;
     for (error, text) in &TARGETS {
-        reads(&rt, rt.alloc(), error, text)?;
+        reads(&rt, error, text)?;
     }
     Ok(())
 }
@@ -151,12 +150,7 @@ static CAPTURES: [(linux_sll::HeaderSliceError, usize, &str); 3] = [
 fn of_cooked_captures() -> Result<(), Fail> {
     let rt = crate::kit::HostRuntime;
     for (error, offset, text) in &CAPTURES {
-        reads(
-            &rt,
-            rt.alloc(),
-            &error.clone().add_slice_offset(*offset),
-            text,
-        )?;
+        reads(&rt, &error.clone().add_slice_offset(*offset), text)?;
     }
     Ok(())
 }
@@ -185,12 +179,7 @@ static SEC_TAGS: [(macsec::HeaderSliceError, usize, &str); 3] = [
 fn of_sec_tags() -> Result<(), Fail> {
     let rt = crate::kit::HostRuntime;
     for (error, offset, text) in &SEC_TAGS {
-        reads(
-            &rt,
-            rt.alloc(),
-            &error.clone().add_slice_offset(*offset),
-            text,
-        )?;
+        reads(&rt, &error.clone().add_slice_offset(*offset), text)?;
     }
     Ok(())
 }
@@ -219,10 +208,10 @@ static NEW_PACKETS: [(ArpNewError, &str); 4] = [
 fn of_new_arp_packets() -> Result<(), Fail> {
     let rt = crate::kit::HostRuntime;
     for (error, text) in &NEW_PACKETS {
-        reads(&rt, rt.alloc(), error, text)?;
+        reads(&rt, error, text)?;
         match error {
-            ArpNewError::HwAddr(error) => reads(&rt, rt.alloc(), error, text)?,
-            ArpNewError::ProtoAddr(error) => reads(&rt, rt.alloc(), error, text)?,
+            ArpNewError::HwAddr(error) => reads(&rt, error, text)?,
+            ArpNewError::ProtoAddr(error) => reads(&rt, error, text)?,
         }
     }
     Ok(())
@@ -251,7 +240,7 @@ static OTHER_PACKETS: [(ArpEthIpv4FromError, &str); 4] = [
 fn of_other_arp_packets() -> Result<(), Fail> {
     let rt = crate::kit::HostRuntime;
     for (error, text) in &OTHER_PACKETS {
-        reads(&rt, rt.alloc(), error, text)?;
+        reads(&rt, error, text)?;
     }
     Ok(())
 }

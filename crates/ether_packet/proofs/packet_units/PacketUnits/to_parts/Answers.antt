@@ -7,16 +7,19 @@ use Rattle.ether_packet.specs.ReplacingLink.{has_link}
 use Rattle.ether_packet.proofs.Parts.{three_values, shape, without_link}
 use Rattle.ether_packet.proofs.packet_units.PacketUnits.to_parts.Goals as goal
 
-pub returns-in_default : goal.returns-in_default
-returns-in_default c =
+pub returns-in_err-link : goal.returns-in_err-link
+returns-in_err-link c =
     let a = c.self.inside in
+    rw c.from_residual.ensures
+    (
     ap (λ (r : Read). has_link (map header_of r.units)) (sym c.self.view_is)
-    ∙ without_link a.frame.now a.link a.exts a.arp c.in_default.ensures
+    ∙ without_link a.frame.now a.link a.exts a.arp c.in_err-link.ensures
+    )
 
 pub returns : goal.returns
 returns c =
     let a = c.self.inside in
-    let (u, is, is_link) = c.in-Some.ensures in
+    let (u, is, is_link) = c.in_ok-link.ensures in
     let us = c.args.self.now.units in
     let x = c.ext_header.result in
     let y = c.ext_header-2.result in

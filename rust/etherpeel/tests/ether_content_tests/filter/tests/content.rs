@@ -5,6 +5,7 @@ use etherpeel::ether_filter::Filter;
 use etherpeel::ether_pcap::{CapturedPacket, LinkType};
 use etherpeel::ether_peel::Start;
 use etherpeel::{ArpHardwareId, EtherType, VlanId};
+use crate::kit::AllocError;
 use crate::kit::Fail;
 
 /// An ARP packet that cooked capture v2 announces, without its own bytes (LINKTYPE_LINUX_SLL2).
@@ -207,5 +208,14 @@ fn of_edits() -> Result<(), Fail> {
         &unedited,
         &[Ok(None), Err(NoRoom)],
     );
+    Ok(())
+}
+
+#[test]
+fn the_text_of_no_room() -> Result<(), AllocError> {
+    let rt = crate::kit::HostRuntime;
+    let text = "The buffer has no room for the packet and four bytes more.";
+    let shown = format!("{}", NoRoom);
+    equal(&rt, "no room", &shown.as_str(), &text);
     Ok(())
 }

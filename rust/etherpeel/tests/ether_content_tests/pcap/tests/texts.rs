@@ -4,15 +4,14 @@ use etherpeel::ether_pcap::{
     BlockError, BodyError, CaptureError, CaptureFault, FileHeaderError, RecordError, RecordFault,
     SectionError,
 };
-use crate::kit::{AllocError, Global};
+use crate::kit::{AllocError, AllocGlobal};
 use std::fmt;
 use crate::kit::Abort;
 use crate::kit::Fail;
 
 /// The text of an error, by `Display`.
 fn reads(
-    rt: &impl Abort,
-    alloc: Global,
+    rt: &(impl Abort + AllocGlobal),
     error: &impl fmt::Display,
     text: &str,
 ) -> Result<(), AllocError> {
@@ -60,7 +59,7 @@ static FILE_HEADERS: [(FileHeaderError, &str, &str); 5] = [
 fn of_file_headers() -> Result<(), Fail> {
     let rt = crate::kit::HostRuntime;
     for (error, text, debug) in &FILE_HEADERS {
-        reads(&rt, rt.alloc(), error, text)?;
+        reads(&rt, error, text)?;
         let shown = format!("{error:?}");
         equal(&rt, debug, &shown.as_str(), debug);
     }
@@ -92,7 +91,7 @@ static RECORDS: [(RecordFault, &str); 2] = [
 fn of_records() -> Result<(), Fail> {
     let rt = crate::kit::HostRuntime;
     for (fault, text) in &RECORDS {
-        reads(&rt, rt.alloc(), fault, text)?;
+        reads(&rt, fault, text)?;
     }
     Ok(())
 }
@@ -137,7 +136,7 @@ static SECTION_HEADERS: [(SectionError, &str); 6] = [
 fn of_section_headers() -> Result<(), Fail> {
     let rt = crate::kit::HostRuntime;
     for (error, text) in &SECTION_HEADERS {
-        reads(&rt, rt.alloc(), error, text)?;
+        reads(&rt, error, text)?;
     }
     Ok(())
 }
@@ -168,7 +167,7 @@ static CAPTURES: [(CaptureError, &str); 4] = [
 fn of_captures() -> Result<(), Fail> {
     let rt = crate::kit::HostRuntime;
     for (error, text) in &CAPTURES {
-        reads(&rt, rt.alloc(), error, text)?;
+        reads(&rt, error, text)?;
     }
     let fault = CaptureFault {
         offset: 24,
@@ -176,6 +175,6 @@ fn of_captures() -> Result<(), Fail> {
     };
     let text =
         "At byte 24: A packet of a pcapng file names interface 3, which its section does not describe.";
-    reads(&rt, rt.alloc(), &fault, text)?;
+    reads(&rt, &fault, text)?;
     Ok(())
 }
