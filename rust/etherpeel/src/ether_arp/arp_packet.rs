@@ -49,10 +49,10 @@ pub struct ArpPacket {
     pub proto_addr_type: EtherType,
     /// The operation: a request, a reply or another.
     pub operation: ArpOperation,
-    hw_addr_size: u8,
-    protocol_addr_size: u8,
-    /// The addresses as they are on the wire: the sender's, hardware before protocol, then the target's.
-    addrs: ArrayVec<u8, 1020>,
+    sender_hw_addr: ArrayVec<u8, 255>,
+    sender_protocol_addr: ArrayVec<u8, 255>,
+    target_hw_addr: ArrayVec<u8, 255>,
+    target_protocol_addr: ArrayVec<u8, 255>,
 }
 
 impl ArpPacket {
@@ -115,40 +115,14 @@ impl ArpPacket {
         target_hw_addr: &[u8],
         target_protocol_addr: &[u8],
     ) -> ArpPacket {
-        let mut addrs = ArrayVec::new();
-        arp_addrs::append(&mut addrs, sender_hw_addr);
-        arp_addrs::append(&mut addrs, sender_protocol_addr);
-        arp_addrs::append(&mut addrs, target_hw_addr);
-        arp_addrs::append(&mut addrs, target_protocol_addr);
         ArpPacket {
             hw_addr_type,
             proto_addr_type,
             operation,
-            hw_addr_size: sender_hw_addr.len() as u8,
-            protocol_addr_size: sender_protocol_addr.len() as u8,
-            addrs,
-        }
-    }
-
-    /// The packet of addresses that already follow one another.
-    #[inline]
-    pub(crate) fn packed(
-        hw_addr_type: ArpHardwareId,
-        proto_addr_type: EtherType,
-        operation: ArpOperation,
-        hw_addr_size: u8,
-        protocol_addr_size: u8,
-        addrs: &[u8],
-    ) -> ArpPacket {
-        let mut list = ArrayVec::new();
-        arp_addrs::append(&mut list, addrs);
-        ArpPacket {
-            hw_addr_type,
-            proto_addr_type,
-            operation,
-            hw_addr_size,
-            protocol_addr_size,
-            addrs: list,
+            sender_hw_addr: arp_addrs::address(sender_hw_addr),
+            sender_protocol_addr: arp_addrs::address(sender_protocol_addr),
+            target_hw_addr: arp_addrs::address(target_hw_addr),
+            target_protocol_addr: arp_addrs::address(target_protocol_addr),
         }
     }
 
@@ -181,7 +155,7 @@ impl ArpPacket {
     /// </details>
     #[inline]
     pub const fn hw_addr_size(&self) -> u8 {
-        self.hw_addr_size
+        self.sender_hw_addr.len() as u8
     }
 
     /// The size of a protocol address in bytes.
@@ -196,7 +170,7 @@ impl ArpPacket {
     /// </details>
     #[inline]
     pub const fn protocol_addr_size(&self) -> u8 {
-        self.protocol_addr_size
+        self.sender_protocol_addr.len() as u8
     }
 
     /// The hardware address of the sender.
@@ -210,7 +184,7 @@ impl ArpPacket {
     /// </details>
     #[inline]
     pub fn sender_hw_addr(&self) -> &[u8] {
-        &self.addrs[..usize::from(self.hw_addr_size)]
+        self.sender_hw_addr.as_slice()
     }
 
     /// The protocol address of the sender.
@@ -224,8 +198,7 @@ impl ArpPacket {
     /// </details>
     #[inline]
     pub fn sender_protocol_addr(&self) -> &[u8] {
-        let start = usize::from(self.hw_addr_size);
-        &self.addrs[start..start + usize::from(self.protocol_addr_size)]
+        self.sender_protocol_addr.as_slice()
     }
 
     /// The hardware address of the target, which a request does not know.
@@ -239,9 +212,7 @@ impl ArpPacket {
     /// </details>
     #[inline]
     pub fn target_hw_addr(&self) -> &[u8] {
-        let hardware = usize::from(self.hw_addr_size);
-        let start = hardware + usize::from(self.protocol_addr_size);
-        &self.addrs[start..start + hardware]
+        self.target_hw_addr.as_slice()
     }
 
     /// The protocol address of the target.
@@ -255,9 +226,7 @@ impl ArpPacket {
     /// </details>
     #[inline]
     pub fn target_protocol_addr(&self) -> &[u8] {
-        let hardware = usize::from(self.hw_addr_size);
-        let start = hardware + usize::from(self.protocol_addr_size) + hardware;
-        &self.addrs[start..]
+        self.target_protocol_addr.as_slice()
     }
 
     /// Replaces both hardware addresses, and with them their size.
@@ -276,17 +245,8 @@ impl ArpPacket {
         if len > MAX_ADDR_LEN {
             return Err(ArpHwAddrError::LenTooBig(len));
         }
-        let hardware = usize::from(self.hw_addr_size);
-        let protocol = usize::from(self.protocol_addr_size);
-        arp_addrs::replace_both(
-            &mut self.addrs,
-            0,
-            hardware,
-            protocol,
-            sender_hw_addr,
-            target_hw_addr,
-        );
-        self.hw_addr_size = len as u8;
+        arp_addrs::replace(&mut self.sender_hw_addr, sender_hw_addr);
+        arp_addrs::replace(&mut self.target_hw_addr, target_hw_addr);
         Ok(())
     }
 
@@ -306,17 +266,8 @@ impl ArpPacket {
         if len > MAX_ADDR_LEN {
             return Err(ArpProtoAddrError::LenTooBig(len));
         }
-        let hardware = usize::from(self.hw_addr_size);
-        let protocol = usize::from(self.protocol_addr_size);
-        arp_addrs::replace_both(
-            &mut self.addrs,
-            hardware,
-            protocol,
-            hardware,
-            sender_protocol_addr,
-            target_protocol_addr,
-        );
-        self.protocol_addr_size = len as u8;
+        arp_addrs::replace(&mut self.sender_protocol_addr, sender_protocol_addr);
+        arp_addrs::replace(&mut self.target_protocol_addr, target_protocol_addr);
         Ok(())
     }
 
@@ -361,7 +312,10 @@ impl ArpPacket {
     fn spelled(&self) -> ArrayVec<u8, 1028> {
         let mut bytes = ArrayVec::new();
         arp_addrs::append(&mut bytes, &self.front());
-        arp_addrs::append(&mut bytes, self.addrs.as_slice());
+        arp_addrs::append(&mut bytes, self.sender_hw_addr());
+        arp_addrs::append(&mut bytes, self.sender_protocol_addr());
+        arp_addrs::append(&mut bytes, self.target_hw_addr());
+        arp_addrs::append(&mut bytes, self.target_protocol_addr());
         bytes
     }
 
@@ -371,17 +325,10 @@ impl ArpPacket {
         arp_front::front_bytes(
             self.hw_addr_type.0,
             self.proto_addr_type.0,
-            self.hw_addr_size,
-            self.protocol_addr_size,
+            self.hw_addr_size(),
+            self.protocol_addr_size(),
             self.operation.0,
         )
-    }
-
-    /// Whether another packet has the same four addresses. Equal lists are of one length, so that the sizes of the hardware
-    /// addresses decide those of the protocol addresses.
-    #[inline]
-    fn has_same_addrs(&self, other: &ArpPacket) -> bool {
-        self.hw_addr_size == other.hw_addr_size && self.addrs == other.addrs
     }
 
     /// The packet as one of Ethernet and IPv4.
@@ -406,26 +353,21 @@ impl ArpPacket {
         }
         Ok(ArpEthIpv4Packet {
             operation: self.operation,
-            sender_mac: six(self.sender_hw_addr()),
-            sender_ipv4: four(self.sender_protocol_addr()),
-            target_mac: six(self.target_hw_addr()),
-            target_ipv4: four(self.target_protocol_addr()),
+            sender_mac: array(self.sender_hw_addr()),
+            sender_ipv4: array(self.sender_protocol_addr()),
+            target_mac: array(self.target_hw_addr()),
+            target_ipv4: array(self.target_protocol_addr()),
         })
     }
 }
 
-/// An address of six bytes.
+/// An address as an array, by one test of its length.
 #[inline]
-fn six(address: &[u8]) -> [u8; 6] {
-    [
-        address[0], address[1], address[2], address[3], address[4], address[5],
-    ]
-}
-
-/// An address of four bytes.
-#[inline]
-fn four(address: &[u8]) -> [u8; 4] {
-    [address[0], address[1], address[2], address[3]]
+fn array<const N: usize>(address: &[u8]) -> [u8; N] {
+    match address.first_chunk::<N>() {
+        Some(array) => *array,
+        None => unreachable!(),
+    }
 }
 
 impl From<ArpEthIpv4Packet> for ArpPacket {
@@ -442,9 +384,10 @@ impl Clone for ArpPacket {
             hw_addr_type: self.hw_addr_type,
             proto_addr_type: self.proto_addr_type,
             operation: self.operation,
-            hw_addr_size: self.hw_addr_size,
-            protocol_addr_size: self.protocol_addr_size,
-            addrs: self.addrs.clone(),
+            sender_hw_addr: self.sender_hw_addr.clone(),
+            sender_protocol_addr: self.sender_protocol_addr.clone(),
+            target_hw_addr: self.target_hw_addr.clone(),
+            target_protocol_addr: self.target_protocol_addr.clone(),
         }
     }
 }
@@ -455,7 +398,10 @@ impl PartialEq for ArpPacket {
         self.hw_addr_type == other.hw_addr_type
             && self.proto_addr_type == other.proto_addr_type
             && self.operation == other.operation
-            && self.has_same_addrs(other)
+            && self.sender_hw_addr == other.sender_hw_addr
+            && self.sender_protocol_addr == other.sender_protocol_addr
+            && self.target_hw_addr == other.target_hw_addr
+            && self.target_protocol_addr == other.target_protocol_addr
     }
 }
 

@@ -102,6 +102,7 @@ impl<'a, 'b> PacketBuilder<'a, 'b> {
     /// ensures refused { IfErr result (RefusesPacket self.now target.old) }
     /// ensures space { IsEthernet self.now.link → IsChain (inner_headers self.now)
     ///     → IfErr result (RefusesSpace self.now target.old) }
+    /// ensures accepted { OnOk result (AcceptsPacket self.now target.old) }
     /// ensures kept { OnErr result (target.new ≡ target.old) }
     /// ```
     ///
