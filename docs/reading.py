@@ -116,7 +116,7 @@ ORDER = {
     "The main theorem": """
         ether_base: Bytes Formats/Ethernet2 Formats/Vlan Formats/Macsec Formats/LinuxSll Formats/Arp Formats/Header WriteFront
         ether_peel: Grammar/Stack Grammar/Endings Grammar/Places Grammar/Cuts Grammar/Extensions Grammar/Cleared Walker/Summary
-        ether_peel: Walker/MainTheorem
+        ether_peel: Walker/Next Walker/MainTheorem
     """,
     "The calls of the walk": """
         ether_base: Bytes
