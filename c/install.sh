@@ -1,6 +1,6 @@
 #!/bin/sh
 # install.sh PREFIX: the header, the static and the shared library, the file for pkg-config and the manual page, for all programs that
-# look below PREFIX. `rt lib` in crates/ether_c comes before it. CC names another C compiler than cc, DESTDIR a folder to put it all into.
+# look below PREFIX. archive.sh says which library it is. CC names another C compiler than cc, DESTDIR a folder to put it all into.
 set -eu
 if [ $# -ne 1 ]; then
     echo "usage: install.sh PREFIX" >&2
@@ -11,11 +11,7 @@ case $1 in
 *) prefix=$PWD/${1%/} ;;
 esac
 here=$(cd "$(dirname "$0")" && pwd)
-archive=${ETHERPEEL_LIBRARY:-$here/../crates/ether_c/out/libether_c.a}
-if [ ! -f "$archive" ]; then
-    echo "install.sh: $archive is missing: run 'rt lib' in crates/ether_c first" >&2
-    exit 1
-fi
+archive=$(sh "$here/archive.sh")
 to=${DESTDIR:-}$prefix
 install -D -m 644 "$here/etherpeel.h" "$to/include/etherpeel.h"
 install -D -m 644 "$archive" "$to/lib/libetherpeel.a"

@@ -3,11 +3,24 @@
 # them, and from Python. Builds the tool, and compares its lines with those that calls from C give. The last line is
 # 'N passed, M failed'. CC, CXX and PYTHON name other programs; what needs one that is not there is left out, and a line says so. Without
 # a C compiler the clang of the kit links the shared library for Python. With the word `proved` both stand on what `rt ci` has just proved
-# and left in the crates' out/, so that nothing below the library is proved once more.
+# and left in the crates' out/, so that nothing below the library is proved once more. With the word `cargo`, or where there is no `rt`,
+# the library is the one that cargo builds.
 set -eu
 cd "$(dirname "$0")"
 export PYTHONDONTWRITEBYTECODE=1
-library=../crates/ether_c/out/libether_c.a
+with=${1:-}
+if ! command -v rt > /dev/null; then with=cargo; fi
+if [ "$with" = cargo ]; then
+    library=../rust/etherpeel_c/target/release/libetherpeel_c.a
+    if ! python3 ../rust/building.py; then
+        echo "left out: the library that cargo builds"
+        echo "0 passed, 0 failed"
+        exit
+    fi
+    echo "the library that cargo builds"
+else
+    library=../crates/ether_c/out/libether_c.a
+fi
 work=$(mktemp -d)
 trap 'rm -rf "$work"' EXIT
 
@@ -25,12 +38,16 @@ compiler_of() {
 }
 
 # the clang of the kit is in its toolchain, next to the page that `rt doc` names; it has no headers of its own, but links
-toolchain=$(dirname "$(rt doc)")/toolchain
-kit_clang=$work/kit-clang
-kit_linker=$work/kit-linker
-printf '#!/bin/sh\nexec %s -isystem %s "$@"\n' "$toolchain/bin/clang" "$PWD/tests/freestanding" > "$kit_clang"
-printf '#!/bin/sh\nexec %s -nostdlib -fuse-ld=lld "$@" %s\n' "$toolchain/bin/clang" "$toolchain/lib/libgcc.a" > "$kit_linker"
-chmod +x "$kit_clang" "$kit_linker"
+kit_clang=
+kit_linker=cc
+if [ "$with" != cargo ]; then
+    toolchain=$(dirname "$(rt doc)")/toolchain
+    kit_clang=$work/kit-clang
+    kit_linker=$work/kit-linker
+    printf '#!/bin/sh\nexec %s -isystem %s "$@"\n' "$toolchain/bin/clang" "$PWD/tests/freestanding" > "$kit_clang"
+    printf '#!/bin/sh\nexec %s -nostdlib -fuse-ld=lld "$@" %s\n' "$toolchain/bin/clang" "$toolchain/lib/libgcc.a" > "$kit_linker"
+    chmod +x "$kit_clang" "$kit_linker"
+fi
 cc=$(compiler_of c "${CC:-}" gcc cc clang "$kit_clang")
 cxx=$(compiler_of c++ "${CXX:-}" g++ c++ clang++ "$cc")
 python=${PYTHON:-python3}
@@ -47,7 +64,9 @@ if [ -z "$cc$python" ]; then
     exit
 fi
 
-if [ "${1:-}" = proved ]; then
+if [ "$with" = cargo ]; then
+    build="sh ../rust/etherpeel_c/build.sh"
+elif [ "$with" = proved ]; then
     build="${python:-python3} library.py"
 else
     build="cd ../crates/ether_c && rt lib"
@@ -118,7 +137,7 @@ callers_in_c() {
         done
     done
     run "The header with others" sh tests/beside.sh "$cc" "$cxx" "$library" "$work"
-    run "The shared library" sh tests/shared.sh "$cc" "$library" "$work/libetherpeel.so.3" "$work"
+    run "The shared library" sh tests/shared.sh "$cc" "$library" "$work/libetherpeel.so.3" "$work" $with
 }
 
 callers_in_python() {
@@ -146,7 +165,11 @@ if [ -n "$cc" ] && [ -n "$python" ]; then
     run "The VLANs of captures" "$python" tests/vlan_examples.py "$work/vlans" "$work/package" $dask
     run "The recipe for dask" "$python" tests/recipes.py "$cc" "$PWD/$library" "$work/recipes"
     run "docs/C.md" "$python" tests/page.py "$cc" "$PWD/$library" "$work/page"
-    run "The lines of the tool" sh tests/lines.sh "$cc" "$library" "$python" "$work"
+    if [ -x ../crates/ether_tool/out/ether_tool ]; then
+        run "The lines of the tool" sh tests/lines.sh "$cc" "$library" "$python" "$work"
+    else
+        echo "left out: the lines of the tool, since crates/ether_tool was not built"
+    fi
 fi
 
 awk '{ passed += $1; failed += $3 } END { printf "%d passed, %d failed\n", passed, failed; exit failed > 0 }' "$work/counts"

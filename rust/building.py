@@ -1,11 +1,17 @@
-"""Runs cargo over the crate. If Debian's packages have its dependency, cargo takes it from there, without a network."""
+"""Runs cargo over the crates. If Debian's packages have their dependency, cargo takes it from there, without a network.
+
+    python3 rust/building.py
+
+says why they can't be built here, if they can't.
+"""
 import os
 import re
 import shutil
 import subprocess
+import sys
 
 HERE = os.path.dirname(os.path.abspath(__file__))
-CRATE = os.path.join(HERE, "etherpeel")
+CRATE, CALLS = os.path.join(HERE, "etherpeel"), os.path.join(HERE, "etherpeel_c")
 REGISTRY = "/usr/share/cargo/registry"  # of Debian's packages librust-..-dev
 OLDEST = (1, 85)
 
@@ -46,3 +52,7 @@ def cargo_version():
 
 def has_clippy():
     return subprocess.run(["cargo", "clippy", "--version"], capture_output=True).returncode == 0
+
+
+if __name__ == "__main__":
+    sys.exit(missing())

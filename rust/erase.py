@@ -3,20 +3,21 @@
 
     python3 rust/erase.py [FOLDER]
 
-reads `crates/*/src` and writes `src` and `tests` of the crate in FOLDER, or of `rust/etherpeel`, and a copy of the
-file NOTICE. Each rule deletes, or respells one exact form (`erasing/rules.py`). What is not known
-(`erasing/known.py`) is refused with its file and line, and then nothing is written.
+reads `crates/*/src` and writes `etherpeel`, the libraries with their tests, and `etherpeel_c`, the calls for C, below
+FOLDER or beside the script. Each rule deletes, or respells one exact form (`erasing/rules.py`, `calls.py`). What is not
+known (`erasing/known.py`) is refused with its file and line, and then nothing is written.
 """
 import os
 import sys
 
 sys.dont_write_bytecode = True
-from erasing import check, docs, rules, testing  # noqa: E402
+from erasing import calls, check, docs, rules, testing  # noqa: E402
 from erasing.tokens import Refused, joined, lex  # noqa: E402
 
 HERE = os.path.dirname(os.path.abspath(__file__))
 CRATES = os.path.join(os.path.dirname(HERE), "crates")
 NAME = "etherpeel"
+CALLS, CALLS_NAME = "ether_c", "etherpeel_c"
 FACADE = "etherparse"  # the root of the result
 # A module without documentation: the facade has its names, but for numbers that tests and programs use.
 HIDDEN = ["ether_base"]
@@ -36,6 +37,12 @@ ROOT = """#![doc = include_str!("../README.md")]
 
 //! # Headers and views
 //!
+"""
+CALLS_ROOT = """
+#![no_std]
+
+#[path = "../by_hand.rs"]
+mod by_hand;
 """
 TEST_ROOT = """
 // Assertions no longer take the runtime, what is left out no longer uses what others have, and the forms are those of
@@ -64,6 +71,11 @@ def library_path(crate, word):
     if word in LIBRARIES:
         return "crate" if word == FACADE else f"crate::{word}"
     return "core" if word == "std" else None
+
+
+def calls_path(crate, word):
+    """The same in the calls for C."""
+    return {"std": "core", FACADE: NAME}.get(word) or (f"{NAME}::{word}" if word in LIBRARIES else None)
 
 
 def test_path(crate, word):
@@ -100,22 +112,36 @@ def erase(text, crate, own, imports=()):
         begin = token.line - token.before.count("\n")
         module = "" if crate == FACADE else crate
         token.before = docs.documentation(token.before, begin, module, imports, in_example)
-    for rule in rules.RULES if crate in LIBRARIES else testing.RULES:
+    kind, own_rules, last_rules, spelled = kind_of(crate)
+    for rule in own_rules:
         rule(tokens)
-    rules.paths(tokens, crate, library_path if crate in LIBRARIES else test_path)
-    check.check(tokens, check.Names(own, "library" if crate in LIBRARIES else "test"))
+    rules.paths(tokens, crate, spelled)
+    check.check(tokens, check.Names(own, kind))
+    for rule in last_rules:
+        rule(tokens)
     return joined(tokens)
+
+
+def kind_of(crate):
+    """What a crate is made as: its kind, the rules before the check and after it, and how its paths are spelled."""
+    if crate in LIBRARIES:
+        return "library", rules.RULES, [], library_path
+    if crate == CALLS:
+        return "calls", calls.RULES, calls.LAST, calls_path
+    return "test", testing.RULES, [], test_path
 
 
 def place(crate, path):
     """The path of a source in the result."""
     stem = path[:-3] if path != "lib.rt" else ""
+    if crate == CALLS:
+        return f"{CALLS_NAME}/src/{stem or 'lib'}.rs"
     if crate == FACADE:
-        return "src/lib.rs"
+        return f"{NAME}/src/lib.rs"
     if crate in TESTS:
-        return f"tests/{crate}/{stem or 'main'}.rs"
+        return f"{NAME}/tests/{crate}/{stem or 'main'}.rs"
     above = "src" if crate in LIBRARIES else "tests/" + next(test for test in TESTS if crate in TESTS[test])
-    return f"{above}/{crate}/{stem}.rs" if stem else f"{above}/{crate}.rs"
+    return f"{NAME}/{above}/{crate}/{stem}.rs" if stem else f"{NAME}/{above}/{crate}.rs"
 
 
 def rooted(crate, text):
@@ -125,6 +151,8 @@ def rooted(crate, text):
     if crate == FACADE:
         modules = [f"#[doc(hidden)]\npub mod {name};" for name in HIDDEN] + [f"mod {name};" for name in PRIVATE]
         return ROOT + "\n".join([*lines[:end], "", *modules, *(f"pub mod {name};" for name in OUTER), *lines[end:]])
+    if crate == CALLS:
+        return "\n".join([*lines[:end], CALLS_ROOT, *lines[end + 1:]])
     modules = "".join(f"mod {name};\n" for name in TESTS[crate])
     return "\n".join([*lines[:end], TEST_ROOT + modules, *lines[end + 1:]])
 
@@ -138,7 +166,7 @@ def made(crates, known_too):
         for path, text in files.items():
             try:
                 erased = erase(text, crate, own, imports_of(crate, path, files))
-                is_root = path == "lib.rt" and crate in [FACADE, *TESTS]
+                is_root = path == "lib.rt" and crate in [FACADE, CALLS, *TESTS]
                 yield place(crate, path), rooted(crate, erased) if is_root else erased
             except Refused as refused:
                 yield None, f"crates/{crate}/src/{path}:{refused.line}: {refused.what}"
@@ -148,17 +176,19 @@ def result():
     """The files of the result, or SystemExit with all that was refused."""
     found = list(made(LIBRARIES, set()))
     known = check.names_in(text for crate in LIBRARIES for _, text in sources(crate))
+    found += made([CALLS], known)
     for test, examples in TESTS.items():
         found += made([test, *examples], known)
     if refused := [text for path, text in found if path is None]:
         sys.exit("\n".join([*refused, "rust/erasing/known.py has what is known"]))
     with open(os.path.join(os.path.dirname(HERE), "NOTICE"), encoding="utf-8") as file:
-        return {**dict(found), "NOTICE": file.read()}
+        notice = file.read()
+    return {**dict(found), **{f"{name}/NOTICE": notice for name in (NAME, CALLS_NAME)}}
 
 
 def stale(folder, files):
     """The Rust files in the folders of the result that are not made, but for those by hand."""
-    for top in ("src", *(f"tests/{test}" for test in TESTS)):
+    for top in (f"{NAME}/src", f"{CALLS_NAME}/src", *(f"{NAME}/tests/{test}" for test in TESTS)):
         for at, _, names in os.walk(os.path.join(folder, top)):
             for name in names:
                 if (path := os.path.relpath(os.path.join(at, name), folder)) not in files:
@@ -166,7 +196,7 @@ def stale(folder, files):
 
 
 def main():
-    folder = sys.argv[1] if len(sys.argv) > 1 else os.path.join(HERE, NAME)
+    folder = sys.argv[1] if len(sys.argv) > 1 else HERE
     files = result()
     for path in list(stale(folder, files)):
         os.remove(os.path.join(folder, path))

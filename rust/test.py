@@ -59,39 +59,40 @@ def committed_failures():
     files = erase.result()
     for path, text in files.items():
         try:
-            with open(os.path.join(building.CRATE, path), encoding="utf-8") as file:
+            with open(os.path.join(HERE, path), encoding="utf-8") as file:
                 same = file.read() == text
         except FileNotFoundError:
             same = False
         yield None if same else f"{path} is not what rust/erase.py makes of the sources: run it, and commit the result"
-    for path in erase.stale(building.CRATE, files):
+    for path in erase.stale(HERE, files):
         yield f"{path} is not made of a source"
 
 
 def steps():
-    """The calls of cargo, each with the lints and the words for it."""
-    yield "build", ["build"], {}
-    yield "test", ["test"], {}
-    if building.has_clippy():
-        yield "clippy", ["clippy", "--all-targets", "--", "-D", "warnings"], {}
-    else:
-        print("left out: the lints, since cargo has no clippy")
-    yield "doc", ["doc", "--no-deps"], {"RUSTDOCFLAGS": "-D warnings"}
-    yield "package", ["package", "--allow-dirty", "--no-metadata"], {}
+    """The calls of cargo: the folder, the words and the environment of each. `c/test.sh` tests the calls for C."""
+    yield building.CRATE, ["build"], {}
+    yield building.CRATE, ["test"], {}
+    for folder, targets in (building.CRATE, ["--all-targets"]), (building.CALLS, []):
+        if building.has_clippy():
+            yield folder, ["clippy", *targets, "--", "-D", "warnings"], {}
+        else:
+            print("left out: the lints, since cargo has no clippy")
+        yield folder, ["doc", "--no-deps"], {"RUSTDOCFLAGS": "-D warnings"}
+    yield building.CRATE, ["package", "--allow-dirty", "--no-metadata"], {}
 
 
 def cargo_counts():
     """How many passed and failed with cargo: each test, and each other call."""
     passed = failed = 0
-    for name, words, environment in steps():
-        text, status = building.cargo(*words, **environment)
+    for folder, words, environment in steps():
+        text, status = building.cargo(*words, folder=folder, **environment)
         counts = re.findall(r"^test result: \w+\. (\d+) passed; (\d+) failed", text, re.M)
         well, ill = sum(int(it[0]) for it in counts), sum(int(it[1]) for it in counts)
         wrong = bool(status or re.search(r"^warning", text, re.M))
         if wrong:
             print(text[-4000:])
         said = f", {well} tests passed, {ill} failed" if counts else ""
-        print(f"cargo {name}: {'failed' if wrong else 'passed'}{said}", flush=True)
+        print(f"{os.path.basename(folder)}: cargo {words[0]}: {'failed' if wrong else 'passed'}{said}", flush=True)
         passed, failed = passed + well + (not wrong), failed + ill + wrong
     return passed, failed
 

@@ -27,6 +27,7 @@ COMMANDS = {
     "other programs": [sys.executable, "tests/other_programs.py", "crates/ether_capture/out/ether_capture"],
     "examples": [sys.executable, "tests/examples.py", *(f"crates/{name}/out/{name}" for name in ("example_switch", "example_vlan_rewriter"))],
     "C": ["sh", "c/test.sh", "proved"],
+    "C by cargo": ["sh", "c/test.sh", "cargo"],
     "page": [sys.executable, "page/test.py", "--proved"],
 }
 PARTS = ["proof", "with tests", "wrong bodies"]

@@ -1,7 +1,7 @@
-"""Builds the wheel of the package: its files and the shared library, linked from libether_c.a by c/link.sh.
+"""Builds the wheel of the package: its files and the shared library, linked by c/link.sh from the archive that
+c/archive.sh names.
 
-pip calls it, as pyproject.toml says. ETHERPEEL_LIBRARY names another libether_c.a than the one that `rt lib` leaves in
-crates/ether_c/out, CC another C compiler than cc.
+pip calls it, as pyproject.toml says. CC names another C compiler than cc.
 """
 import base64
 import hashlib
@@ -29,9 +29,7 @@ Tag: {TAG}
 
 def shared_library(folder):
     """Links the shared library, and returns its bytes."""
-    archive = os.environ.get("ETHERPEEL_LIBRARY", f"{os.path.dirname(C)}/crates/ether_c/out/libether_c.a")
-    if not os.path.exists(archive):
-        raise SystemExit(f"{archive} is missing: run `rt lib` in crates/ether_c first")
+    archive = subprocess.run(["sh", f"{C}/archive.sh"], stdout=subprocess.PIPE, text=True, check=True).stdout.strip()
     path = os.path.join(folder, "libetherpeel.so.3")
     subprocess.run(["sh", f"{C}/link.sh", os.environ.get("CC", "cc"), archive, path], check=True)
     with open(path, "rb") as file:

@@ -1,6 +1,6 @@
 # The shared library exports what the header declares and nothing else, under its name, and the libraries need what docs/C.md says; and
-# the header is refused elsewhere than on Linux on x86-64: shared.sh CC LIBRARY SHARED FOLDER
-cc=$1 library=$2 shared=$3 work=$4
+# the header is refused elsewhere than on Linux on x86-64: shared.sh CC LIBRARY SHARED FOLDER [cargo]
+cc=$1 library=$2 shared=$3 work=$4 with=${5:-}
 passed=0 failed=0
 check() {
     if [ "$2" = "$3" ]; then
@@ -15,8 +15,13 @@ if command -v nm > "$work/shared.log" && command -v readelf > "$work/shared.log"
     exported=$(nm -D --defined-only "$shared" | awk '$2 != "A" { sub(/@.*/, "", $3); print $3 }' | sort)
     check "exported names" "$exported" "$declared"
     check "soname" "$(readelf -d "$shared" | sed -n 's/.*SONAME.*\[\(.*\)\]/\1/p')" libetherpeel.so.3
-    check "names that the static one needs" "$(nm -u "$library" | awk '$1 == "U" { printf "%s ", $2 }')" '__udivti3 memcpy memmove memset '
-    check "names that the shared one needs" "$(nm -D -u "$shared" | awk '$1 == "U" { sub(/@.*/, "", $2); printf "%s ", $2 }')" 'memcpy memmove memset '
+    needed=$(nm -D -u "$shared" | awk '$1 == "U" { sub(/@.*/, "", $2); printf "%s ", $2 }')
+    if [ "$with" = cargo ]; then
+        check "names that the shared one needs" "$needed" 'abort memcpy memset '
+    else
+        check "names that the shared one needs" "$needed" 'memcpy memmove memset '
+        check "names that the static one needs" "$(nm -u "$library" | awk '$1 == "U" { printf "%s ", $2 }')" '__udivti3 memcpy memmove memset '
+    fi
 else
     echo "left out: the names that the shared library exports, since nm and readelf were not found"
 fi

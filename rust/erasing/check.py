@@ -53,17 +53,20 @@ def variants(tokens, i):
 
 
 class Names:
-    """What may be used in the library, an example or a test: the names of the sources, and what is known."""
+    """What may be used in the library, the calls for C, an example or a test: the names of the sources, and what is
+    known."""
 
     def __init__(self, own, where):
-        tests = where == "test"
-        self.words = {"rt", "macro_rules"} if tests else set()
+        tests, calls = where == "test", where == "calls"
+        self.words = {"rt", "macro_rules"} if tests else {"extern"} if calls else set()
+        self.attributes = known.ATTRIBUTES + (known.CALL_ATTRIBUTES if calls else [])
         self.marks = known.MARKS | ({"$"} if tests else set())
-        self.own = own | known.NAMES | (known.TEST_NAMES if tests else set())
-        self.paths = known.PATHS | (known.TEST_PATHS if tests else set())
+        self.own = own | known.NAMES | (known.TEST_NAMES if tests else known.CALL_NAMES if calls else set())
+        self.paths = known.PATHS | (known.TEST_PATHS if tests else known.CALL_PATHS if calls else set())
         self.heads = {path.split("::")[0] for path in self.paths} | known.TYPES
-        self.methods = known.METHODS | own | (known.TEST_METHODS if tests else set())
-        self.macros = {**known.MACROS, **(known.EXAMPLE_MACROS if where != "library" else {})}
+        self.methods = known.METHODS | own | (known.TEST_METHODS if tests else known.CALL_METHODS if calls else set())
+        self.macros = {**known.MACROS, **(known.EXAMPLE_MACROS if tests or where == "example" else {})}
+        self.macros |= known.CALL_MACROS if calls else {}
         self.macros |= dict.fromkeys(own, "") if tests else {}
 
     def check_path(self, segments, line):
@@ -188,11 +191,11 @@ def follows_path(tokens, i):
     return tokens[i - 1].kind == "word" and tokens[i - 1].text not in known.KEYWORDS - known.HEADS
 
 
-def check_attribute(tokens, i):
+def check_attribute(tokens, i, names):
     """Refuses an attribute that is not known, and returns the place after it."""
     end = closing(tokens, i + 1) if tokens[i + 1].text == "[" else i + 1
     text = "".join(t.text for t in tokens[i:end + 1])
-    if not text.startswith("#[derive(") and text not in known.ATTRIBUTES:
+    if not text.startswith("#[derive(") and text not in names.attributes:
         raise Refused(tokens[i].line, f"the attribute {text}")
     return end + 1
 
@@ -219,7 +222,7 @@ def check(tokens, names):
         if token.kind in ("string", "char") and tokens[i - 1].kind == "word" and not token.before:
             raise Refused(token.line, f"a literal that begins with {tokens[i - 1].text}")
         if token.text == "#":
-            i = check_attribute(tokens, i)
+            i = check_attribute(tokens, i, names)
             continue
         if token.kind == "mark":
             check_mark(tokens, i, names)

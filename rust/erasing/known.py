@@ -58,3 +58,10 @@ TEST_METHODS = set(
     """all alloc any count enumerate err find first_mut get_mut into iter_mut last map_err ok_or skip split_at
     split_at_mut starts_with zip""".split()
 )
+
+# What the calls for C use besides.
+CALL_ATTRIBUTES = ["#[repr(C)]", "#[unsafe(no_mangle)]"]
+CALL_MACROS = {"assert": "(size_of", "write": "(text,"}
+CALL_NAMES = set("ArrayString size_of".split())
+CALL_PATHS = set("arrayvec::ArrayString ArrayString::new u8::from".split())
+CALL_METHODS = set("as_bytes enumerate split_at wrapping_add wrapping_mul".split())

@@ -28,10 +28,10 @@ def laws(tokens):
         cut(tokens, item_start(tokens, i), end)
 
 
-def is_public(tokens, start):
-    """Whether a function is `pub`, or one of a trait that is."""
-    if tokens[start].text == "pub":
-        return tokens[start + 1].text != "("
+def is_public(tokens, start, i):
+    """Whether the function at `i`, which begins at `start`, is `pub`, or one of a trait that is."""
+    if visible := [k for k in range(start, i) if tokens[k].text == "pub"]:
+        return tokens[visible[0] + 1].text != "("
     brace = enclosing(tokens, start)
     head = [t.text for t in tokens[max(0, brace - 8):brace]]
     return "trait" in head and head[head.index("trait") - 1] == "pub"
@@ -69,7 +69,7 @@ def contracts(tokens):
             continue
         start = item_start(tokens, i)
         tokens[end].before = " " if tokens[end].text == "{" else ""
-        if is_public(tokens, start):
+        if is_public(tokens, start, i):
             follows = "///" in tokens[start].before.rpartition("\n\n")[2]
             tokens[start].before += contract(clauses, indent(tokens[start]), follows)
         tokens[i:end] = [t for t in tokens[i:end] if t.kind != "clause"]

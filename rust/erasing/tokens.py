@@ -119,6 +119,8 @@ def item_start(tokens, i):
         before = tokens[i - 1]
         if before.text in ("pub", "const"):
             i -= 1
+        elif before.kind == "string" and tokens[i - 2].text == "extern":
+            i -= 2
         elif before.text == ")" and tokens[opening(tokens, i - 1) - 1].text == "pub":
             i = opening(tokens, i - 1) - 1
         elif before.text == "]" and tokens[opening(tokens, i - 1) - 1].text == "#":

@@ -1,4 +1,3 @@
-pub mod Missing
 pub mod UnitsGiven
 pub mod CapturedGiven
 pub mod Addresses

@@ -1,6 +1,5 @@
 //! A unit that is refused, as a struct of C.
 ghost use Rattle.std.specs.Prelude.{◌≡◌, ◌-◌, if◌then◌else◌};
-ghost use Rattle.ether_peel.specs.declared.peel_error.PeelError.TheVariants as errors;
 ghost use Rattle.ether_c.specs.Found.{c_fault, c_end};
 
 use crate::numbers;
@@ -84,7 +83,7 @@ impl EtherFault {
                 kind: 1,
                 required_len: error.required_len,
                 len: error.len,
-                missing: missing(fault, error),
+                missing: missing(fault.closed, error),
                 layer: numbers::layer(error.layer),
                 len_source: numbers::len_source(error.len_source),
                 ..placed
@@ -108,10 +107,12 @@ impl EtherFault {
 /// The minimum number of further bytes that a unit needs that is refused for its length, 0 if more
 /// bytes would not help.
 #[inline(always)]
-#[tactic(auto, using(crate::proofs::Missing::missing_is))]
-fn missing(fault: &PeelFault, error: &LenError) -> usize
-    requires { fault.now.error ≡ errors.Len error.now }
-    ensures { result ≡ (if fault.now.closed then 0 else error.now.required_len - error.now.len) }
+fn missing(is_closed: bool, error: &LenError) -> usize
+    ensures { result ≡ (if is_closed then 0 else error.now.required_len - error.now.len) }
 {
-    fault.missing().unwrap_or(0)
+    if is_closed {
+        0
+    } else {
+        error.required_len.saturating_sub(error.len)
+    }
 }

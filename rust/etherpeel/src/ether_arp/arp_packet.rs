@@ -63,6 +63,24 @@ impl ArpPacket {
     ///
     /// Refused are, in this order: hardware addresses of two lengths, protocol addresses of two lengths, hardware
     /// addresses of more than 255 bytes, protocol addresses of more than 255 bytes.
+    ///
+    /// <details><summary>Contract</summary>
+    ///
+    /// ```text
+    /// ensures answers { AnswersAddrs (length sender_hw_addr.now) (length sender_protocol_addr.now)
+    ///     (length target_hw_addr.now) (length target_protocol_addr.now) result }
+    /// ensures holds { IfOk result (λ p. p ≡ record {
+    ///   hardware_type = hw_addr_type.0;
+    ///   protocol_type = proto_addr_type.0;
+    ///   operation = operation.0;
+    ///   sender_hardware = sender_hw_addr.now;
+    ///   sender_protocol = sender_protocol_addr.now;
+    ///   target_hardware = target_hw_addr.now;
+    ///   target_protocol = target_protocol_addr.now;
+    /// }) }
+    /// ```
+    ///
+    /// </details>
     #[inline]
     pub fn new(
         hw_addr_type: ArpHardwareId,
@@ -232,6 +250,20 @@ impl ArpPacket {
     /// Replaces both hardware addresses, and with them their size.
     ///
     /// Refused are addresses of two lengths, then addresses of more than 255 bytes. The packet is then as it was.
+    ///
+    /// <details><summary>Contract</summary>
+    ///
+    /// ```text
+    /// ensures answers { AnswersHwAddrs (length sender_hw_addr.now)
+    ///     (length target_hw_addr.now) result }
+    /// ensures set { OnOk result (self.new ≡ record self.old {
+    ///   sender_hardware = sender_hw_addr.now;
+    ///   target_hardware = target_hw_addr.now;
+    /// }) }
+    /// ensures unchanged { OnErr result (self.new ≡ self.old) }
+    /// ```
+    ///
+    /// </details>
     #[inline]
     pub fn set_hw_addrs(
         &mut self,
@@ -253,6 +285,20 @@ impl ArpPacket {
     /// Replaces both protocol addresses, and with them their size.
     ///
     /// Refused are addresses of two lengths, then addresses of more than 255 bytes. The packet is then as it was.
+    ///
+    /// <details><summary>Contract</summary>
+    ///
+    /// ```text
+    /// ensures answers { AnswersProtoAddrs (length sender_protocol_addr.now)
+    ///     (length target_protocol_addr.now) result }
+    /// ensures set { OnOk result (self.new ≡ record self.old {
+    ///   sender_protocol = sender_protocol_addr.now;
+    ///   target_protocol = target_protocol_addr.now;
+    /// }) }
+    /// ensures unchanged { OnErr result (self.new ≡ self.old) }
+    /// ```
+    ///
+    /// </details>
     #[inline]
     pub fn set_protocol_addrs(
         &mut self,
@@ -335,6 +381,14 @@ impl ArpPacket {
     ///
     /// Refused are, in this order: another hardware type than Ethernet's, another protocol type than that of IPv4,
     /// hardware addresses that have not 6 bytes, protocol addresses that have not 4.
+    ///
+    /// <details><summary>Contract</summary>
+    ///
+    /// ```text
+    /// ensures { AnswersEthIpv4 self.now result }
+    /// ```
+    ///
+    /// </details>
     #[inline]
     pub fn try_eth_ipv4(&self) -> Result<ArpEthIpv4Packet, ArpEthIpv4FromError> {
         if self.hw_addr_type != ArpHardwareId::ETHERNET {

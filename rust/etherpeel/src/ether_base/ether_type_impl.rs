@@ -49,6 +49,14 @@ impl EtherType {
     pub const VLAN_DOUBLE_TAGGED_FRAME: EtherType = ether_type::VLAN_DOUBLE_TAGGED_FRAME;
 
     /// The description of the ether type, if it is one of the constants.
+    ///
+    /// <details><summary>Contract</summary>
+    ///
+    /// ```text
+    /// ensures { option_copied result ≡ ether_type_description self.now.0 }
+    /// ```
+    ///
+    /// </details>
     #[inline]
     pub fn name(&self) -> Option<&'static str> {
         match *self {

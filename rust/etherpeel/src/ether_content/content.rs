@@ -48,6 +48,14 @@ impl<'a> Content<'a> {
     ///
     /// A frame check sequence whose length the capture gives is left out. Only one of four bytes, of an Ethernet frame that was not
     /// cut, stays.
+    ///
+    /// <details><summary>Contract</summary>
+    ///
+    /// ```text
+    /// ensures { content_view result ≡ content_of (captured_packet_view packet.now) }
+    /// ```
+    ///
+    /// </details>
     #[inline(always)]
     pub fn of(packet: &CapturedPacket<'a>) -> Content<'a> {
         if packet.link_type == LinkType::ETHERNET {
@@ -66,6 +74,14 @@ impl<'a> Content<'a> {
     }
 
     /// Returns `true` if nothing is walked.
+    ///
+    /// <details><summary>Contract</summary>
+    ///
+    /// ```text
+    /// ensures { result ≡ is_unknown (content_view self.entry) }
+    /// ```
+    ///
+    /// </details>
     #[inline(always)]
     pub fn is_unknown(self) -> bool {
         matches!(self, Content::Unknown)
@@ -117,6 +133,14 @@ pub(crate) fn payload_of(bytes: &[u8]) -> Option<(Start, &[u8])> {
 }
 
 /// Returns `true` if bytes of the packet were not captured.
+///
+/// <details><summary>Contract</summary>
+///
+/// ```text
+/// ensures { result ≡ is_cut (captured_packet_view packet.now) }
+/// ```
+///
+/// </details>
 #[inline(always)]
 pub fn is_cut(packet: &CapturedPacket<'_>) -> bool {
     packet.packet.len() < packet.original_len as usize

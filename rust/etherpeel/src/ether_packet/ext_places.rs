@@ -43,6 +43,14 @@ pub(crate) struct ExtPlaces<'a> {
 
 impl<'a> ExtPlaces<'a> {
     /// No tags.
+    ///
+    /// <details><summary>Contract</summary>
+    ///
+    /// ```text
+    /// ensures { result ≡ [] }
+    /// ```
+    ///
+    /// </details>
     #[inline(always)]
     pub fn new() -> ExtPlaces<'a> {
         ExtPlaces {
@@ -53,6 +61,17 @@ impl<'a> ExtPlaces<'a> {
     }
 
     /// Adds a tag after the others.
+    ///
+    /// <details><summary>Contract</summary>
+    ///
+    /// The caller must meet each `requires`; otherwise the call may panic or return something else.
+    ///
+    /// ```text
+    /// requires { length self.old < 3 }
+    /// ensures { self.new ≡ self.old ++ tag.entry ∷ [] }
+    /// ```
+    ///
+    /// </details>
     #[inline(always)]
     pub fn push(&mut self, tag: ExtPlace<'a>) {
         match self.len() {
@@ -63,6 +82,14 @@ impl<'a> ExtPlaces<'a> {
     }
 
     /// The tag at an index.
+    ///
+    /// <details><summary>Contract</summary>
+    ///
+    /// ```text
+    /// ensures { result ≡ slice_get self.now index }
+    /// ```
+    ///
+    /// </details>
     #[inline(always)]
     pub fn get(&self, index: usize) -> Option<ExtPlace<'a>> {
         match index {
@@ -74,6 +101,15 @@ impl<'a> ExtPlaces<'a> {
     }
 
     /// How many tags there are.
+    ///
+    /// <details><summary>Contract</summary>
+    ///
+    /// ```text
+    /// ensures value { result ≡ length self.now }
+    /// ensures most { length self.now ≤ 3 }
+    /// ```
+    ///
+    /// </details>
     #[inline(always)]
     pub fn len(&self) -> usize {
         match (&self.first, &self.second, &self.third) {

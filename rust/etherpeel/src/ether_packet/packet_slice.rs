@@ -61,6 +61,15 @@ impl<'a> PacketSlice<'a> {
     ///
     /// A frame that is refused is no error here: the headers before the fault are there, and `fault` says why the next
     /// one is refused.
+    ///
+    /// <details><summary>Contract</summary>
+    ///
+    /// ```text
+    /// ensures packet { IsPacket (packet_start start) bytes.now result }
+    /// ensures front { IsFrontOfUnlimited start bytes.now link_exts_cap }
+    /// ```
+    ///
+    /// </details>
     #[inline(always)]
     pub fn from_slice(start: Start, bytes: &'a [u8]) -> PacketSlice<'a> {
         let mut peel = Peel::with_limit(start, bytes, LINK_EXTS_CAP);
@@ -96,18 +105,43 @@ impl<'a> PacketSlice<'a> {
     /// The header that the frame begins with, of Ethernet II or Linux cooked capture v1, and its payload.
     ///
     /// `None` if the header is refused, or if the frame begins with what an ether type announces.
+    ///
+    /// <details><summary>Contract</summary>
+    ///
+    /// ```text
+    /// ensures { result ≡ link_of self.now.read.units }
+    /// ```
+    ///
+    /// </details>
     #[inline(always)]
     pub fn link(&self) -> Option<LinkSlice<'a>> {
         self.read.link()
     }
 
     /// The number of VLAN tags and SecTags.
+    ///
+    /// <details><summary>Contract</summary>
+    ///
+    /// ```text
+    /// ensures value { result ≡ length (exts_of self.now.read.units) }
+    /// ensures most { result ≤ link_exts_cap }
+    /// ```
+    ///
+    /// </details>
     #[inline(always)]
     pub fn link_ext_count(&self) -> usize {
         self.read.ext_count()
     }
 
     /// The VLAN tag or SecTag at an index, counted from the outermost one; `None` if there are not so many.
+    ///
+    /// <details><summary>Contract</summary>
+    ///
+    /// ```text
+    /// ensures { ViewsExtIf (slice_get (exts_of self.now.read.units) index) result }
+    /// ```
+    ///
+    /// </details>
     #[inline(always)]
     pub fn link_ext(&self, index: usize) -> Option<PacketExt<'a>> {
         self.read.ext(index)
@@ -149,12 +183,28 @@ impl<'a> PacketSlice<'a> {
     }
 
     /// The ARP packet, without what follows it.
+    ///
+    /// <details><summary>Contract</summary>
+    ///
+    /// ```text
+    /// ensures { result ≡ arp_view self.now.read.units }
+    /// ```
+    ///
+    /// </details>
     #[inline(always)]
     pub fn arp(&self) -> Option<ArpPacketSlice<'a>> {
         self.read.arp()
     }
 
     /// Where the ARP packet starts, in bytes from the start of the frame.
+    ///
+    /// <details><summary>Contract</summary>
+    ///
+    /// ```text
+    /// ensures { result ≡ arp_offset self.now.read.units }
+    /// ```
+    ///
+    /// </details>
     #[inline(always)]
     pub fn arp_offset(&self) -> Option<usize> {
         self.read.arp_offset()

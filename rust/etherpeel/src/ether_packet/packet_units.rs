@@ -29,6 +29,14 @@ pub(crate) struct PacketUnits<'a> {
 
 impl<'a> PacketUnits<'a> {
     /// No headers.
+    ///
+    /// <details><summary>Contract</summary>
+    ///
+    /// ```text
+    /// ensures { result ≡ record { frame = frame.now; units = [] } }
+    /// ```
+    ///
+    /// </details>
     #[inline(always)]
     pub fn new(frame: &'a [u8]) -> PacketUnits<'a> {
         PacketUnits {
@@ -40,6 +48,18 @@ impl<'a> PacketUnits<'a> {
     }
 
     /// Adds a header that was read in a window.
+    ///
+    /// <details><summary>Contract</summary>
+    ///
+    /// The caller must meet each `requires`; otherwise the call may panic or return something else.
+    ///
+    /// ```text
+    /// requires fits { HasPlace self.old unit.now place }
+    /// requires readable { IsReadable (kind_read unit.now) place }
+    /// ensures { self.new ≡ read_with self.old (kind_read unit.now) place.entry }
+    /// ```
+    ///
+    /// </details>
     #[inline(always)]
     pub fn add(&mut self, unit: &PeelUnit<'a>, place: FrameWindow<'a>) {
         match unit {
@@ -58,6 +78,14 @@ impl<'a> PacketUnits<'a> {
     }
 
     /// The link's header with its payload.
+    ///
+    /// <details><summary>Contract</summary>
+    ///
+    /// ```text
+    /// ensures { result ≡ link_of self.now.units }
+    /// ```
+    ///
+    /// </details>
     #[inline(always)]
     pub fn link(&self) -> Option<LinkSlice<'a>> {
         match self.link {
@@ -69,12 +97,29 @@ impl<'a> PacketUnits<'a> {
     }
 
     /// How many VLAN tags and SecTags there are.
+    ///
+    /// <details><summary>Contract</summary>
+    ///
+    /// ```text
+    /// ensures value { result ≡ length (exts_of self.now.units) }
+    /// ensures most { result ≤ 3 }
+    /// ```
+    ///
+    /// </details>
     #[inline(always)]
     pub fn ext_count(&self) -> usize {
         self.exts.len()
     }
 
     /// The VLAN tag or SecTag at an index. A branch for each index takes fewer instructions than one that selects the place.
+    ///
+    /// <details><summary>Contract</summary>
+    ///
+    /// ```text
+    /// ensures { ViewsExtIf (slice_get (exts_of self.now.units) index) result }
+    /// ```
+    ///
+    /// </details>
     #[inline(always)]
     pub fn ext(&self, index: usize) -> Option<PacketExt<'a>> {
         match index {
@@ -95,6 +140,14 @@ impl<'a> PacketUnits<'a> {
     }
 
     /// The VLAN tag or SecTag at an index, if it is a VLAN tag.
+    ///
+    /// <details><summary>Contract</summary>
+    ///
+    /// ```text
+    /// ensures { result ≡ option_and_then vlan_of_unit (slice_get (exts_of self.now.units) index) }
+    /// ```
+    ///
+    /// </details>
     #[inline(always)]
     pub fn tag(&self, index: usize) -> Option<SingleVlanSlice<'a>> {
         match self.ext(index) {
@@ -109,6 +162,15 @@ impl<'a> PacketUnits<'a> {
     }
 
     /// The VLAN tag or SecTag at an index, if it is a SecTag.
+    ///
+    /// <details><summary>Contract</summary>
+    ///
+    /// ```text
+    /// ensures { ViewsSecTagIf (option_and_then macsec_of_unit (slice_get (exts_of self.now.units) index))
+    ///     result }
+    /// ```
+    ///
+    /// </details>
     #[inline(always)]
     pub fn sec_tag(&self, index: usize) -> Option<MacsecSlice<'a>> {
         match self.ext(index) {
@@ -123,6 +185,14 @@ impl<'a> PacketUnits<'a> {
     }
 
     /// The ARP packet.
+    ///
+    /// <details><summary>Contract</summary>
+    ///
+    /// ```text
+    /// ensures { result ≡ arp_view self.now.units }
+    /// ```
+    ///
+    /// </details>
     #[inline(always)]
     pub fn arp(&self) -> Option<ArpPacketSlice<'a>> {
         match self.arp {
@@ -132,6 +202,14 @@ impl<'a> PacketUnits<'a> {
     }
 
     /// Where the ARP packet starts.
+    ///
+    /// <details><summary>Contract</summary>
+    ///
+    /// ```text
+    /// ensures { result ≡ arp_offset self.now.units }
+    /// ```
+    ///
+    /// </details>
     #[inline(always)]
     pub fn arp_offset(&self) -> Option<usize> {
         match self.arp {

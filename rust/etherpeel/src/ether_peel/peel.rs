@@ -67,6 +67,15 @@ pub struct Peel<'a> {
 
 impl<'a> Peel<'a> {
     /// A walk that has read nothing yet.
+    ///
+    /// <details><summary>Contract</summary>
+    ///
+    /// ```text
+    /// ensures state { result ≡ begun (start_of start) bytes.now }
+    /// ensures walk { FacesWalk (start_of start) bytes.now result }
+    /// ```
+    ///
+    /// </details>
     #[inline(always)]
     pub fn new(start: Start, bytes: &'a [u8]) -> Peel<'a> {
         Peel::begin(start, bytes, None)
@@ -92,6 +101,15 @@ impl<'a> Peel<'a> {
     /// assert_eq!(peel.offset(), 4);
     /// assert_eq!(peel.kind(), RestKind::EtherType(EtherType::VLAN_TAGGED_FRAME));
     /// ```
+    ///
+    /// <details><summary>Contract</summary>
+    ///
+    /// ```text
+    /// ensures state { result ≡ begun (limited_start start limit) bytes.now }
+    /// ensures walk { FacesWalk (limited_start start limit) bytes.now result }
+    /// ```
+    ///
+    /// </details>
     #[inline(always)]
     pub fn with_limit(start: Start, bytes: &'a [u8], limit: usize) -> Peel<'a> {
         Peel::begin(start, bytes, Some(limit))
@@ -122,24 +140,57 @@ impl<'a> Peel<'a> {
     }
 
     /// The bytes of the window left to read: after a fault, of the window in which it came.
+    ///
+    /// <details><summary>Contract</summary>
+    ///
+    /// ```text
+    /// ensures { result.now ≡ self.now.rest }
+    /// ```
+    ///
+    /// </details>
     #[inline(always)]
     pub fn rest(&self) -> &'a [u8] {
         self.rest
     }
 
     /// Where the window left to read starts, in bytes from the start of the frame.
+    ///
+    /// <details><summary>Contract</summary>
+    ///
+    /// ```text
+    /// ensures value { result ≡ self.now.offset }
+    /// ensures fits { self.now.offset + length self.now.rest < 2 ^ 64 }
+    /// ```
+    ///
+    /// </details>
     #[inline(always)]
     pub fn offset(&self) -> usize {
         self.start
     }
 
     /// What the window left to read is announced as: after a fault, what was expected there.
+    ///
+    /// <details><summary>Contract</summary>
+    ///
+    /// ```text
+    /// ensures { result ≡ kind_shown self.now.expected }
+    /// ```
+    ///
+    /// </details>
     #[inline(always)]
     pub fn kind(&self) -> RestKind {
         self.kind
     }
 
     /// Whether the window left to read is closed: bytes that follow the frame would not belong to it.
+    ///
+    /// <details><summary>Contract</summary>
+    ///
+    /// ```text
+    /// ensures { result ≡ self.now.closed }
+    /// ```
+    ///
+    /// </details>
     #[inline(always)]
     pub fn closed(&self) -> bool {
         self.is_closed
@@ -149,6 +200,14 @@ impl<'a> Peel<'a> {
     ///
     /// A length error of the walk names it as the source of the length, unless the unit itself names its length. A frame check sequence
     /// closes a window, but does not bound it.
+    ///
+    /// <details><summary>Contract</summary>
+    ///
+    /// ```text
+    /// ensures { result ≡ self.now.bound }
+    /// ```
+    ///
+    /// </details>
     #[inline(always)]
     pub fn bound(&self) -> LenSource {
         self.bound

@@ -18,6 +18,14 @@ use crate::ether_peel::{Peel, PeelFault, Start, Summary};
 /// assert_eq!(found.kind, RestKind::EtherType(EtherType::IPV4));
 /// assert_eq!(found.fault, None);
 /// ```
+///
+/// <details><summary>Contract</summary>
+///
+/// ```text
+/// ensures { IsSummary (start_of start) bytes.now result }
+/// ```
+///
+/// </details>
 #[inline(always)]
 pub fn summary(start: Start, bytes: &[u8]) -> Summary {
     summarized(start, bytes, None)
@@ -41,6 +49,16 @@ pub fn summary(start: Start, bytes: &[u8]) -> Summary {
 /// assert_eq!(found.kind, RestKind::EtherType(EtherType::VLAN_TAGGED_FRAME));
 /// assert_eq!(found.fault, None);
 /// ```
+///
+/// <details><summary>Contract</summary>
+///
+/// ```text
+/// ensures summary { IsSummary (limited_start start limit) bytes.now result }
+/// ensures front { IsFrontOfUnlimited start bytes.now limit }
+/// ensures spare { length bytes.now / 4 < limit → IsSummary (start_of start) bytes.now result }
+/// ```
+///
+/// </details>
 #[inline(always)]
 pub fn summary_limited(start: Start, bytes: &[u8], limit: usize) -> Summary {
     summarized(start, bytes, Some(limit))
@@ -79,6 +97,17 @@ pub(crate) fn summarized(start: Start, bytes: &[u8], limit: Option<usize>) -> Su
 /// assert_eq!(found.units, 1);
 /// assert_eq!(found.fault.as_ref().and_then(|fault| fault.missing()), Some(2));
 /// ```
+///
+/// <details><summary>Contract</summary>
+///
+/// The caller must meet each `requires`; otherwise the call may panic or return something else.
+///
+/// ```text
+/// requires { n ≤ length bytes.now }
+/// ensures { IsCutSummary (start_of start) bytes.now n result }
+/// ```
+///
+/// </details>
 #[inline(always)]
 pub fn snap(start: Start, bytes: &[u8], n: usize) -> Summary {
     snapped(start, bytes, n, None)
@@ -99,6 +128,17 @@ pub fn snap(start: Start, bytes: &[u8], n: usize) -> Summary {
 /// let found = snap_limited(Start::Ethernet2, &frame, 16, 1);
 /// assert_eq!(found.fault.as_ref().and_then(|fault| fault.missing()), Some(2));
 /// ```
+///
+/// <details><summary>Contract</summary>
+///
+/// The caller must meet each `requires`; otherwise the call may panic or return something else.
+///
+/// ```text
+/// requires { n ≤ length bytes.now }
+/// ensures { IsCutSummary (limited_start start limit) bytes.now n result }
+/// ```
+///
+/// </details>
 #[inline(always)]
 pub fn snap_limited(start: Start, bytes: &[u8], n: usize, limit: usize) -> Summary {
     snapped(start, bytes, n, Some(limit))

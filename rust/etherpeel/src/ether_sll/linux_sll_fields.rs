@@ -72,6 +72,17 @@ pub fn require_content(bytes: &[u8]) -> Result<(), HeaderError> {
 }
 
 /// The packet type.
+///
+/// <details><summary>Contract</summary>
+///
+/// The caller must meet each `requires`; otherwise the call may panic or return something else.
+///
+/// ```text
+/// requires { HoldsLinuxSll bytes.now }
+/// ensures { result ≡ (linux_sll_of bytes.now).packet_type }
+/// ```
+///
+/// </details>
 #[inline(always)]
 pub fn packet_type(bytes: &[u8]) -> LinuxSllPacketType {
     match LinuxSllPacketType::try_from(packet_number(bytes)) {
@@ -151,6 +162,17 @@ pub fn sender_address(bytes: &[u8]) -> &[u8] {
 }
 
 /// The protocol type, in the variant that the hardware type gives it.
+///
+/// <details><summary>Contract</summary>
+///
+/// The caller must meet each `requires`; otherwise the call may panic or return something else.
+///
+/// ```text
+/// requires { HoldsLinuxSll bytes.now }
+/// ensures { result ≡ protocol_type_of_header bytes.now }
+/// ```
+///
+/// </details>
 #[inline(always)]
 pub fn protocol_type(bytes: &[u8]) -> LinuxSllProtocolType {
     match LinuxSllProtocolType::try_from((arp_hardware_type(bytes), protocol_number(bytes))) {

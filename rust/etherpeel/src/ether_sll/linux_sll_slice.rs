@@ -73,6 +73,14 @@ impl<'a> LinuxSllSlice<'a> {
     }
 
     /// The packet type: who sent the packet to whom.
+    ///
+    /// <details><summary>Contract</summary>
+    ///
+    /// ```text
+    /// ensures { result ≡ (linux_sll_of self.now).packet_type }
+    /// ```
+    ///
+    /// </details>
     #[inline(always)]
     pub fn packet_type(&self) -> LinuxSllPacketType {
         linux_sll_fields::packet_type(self.slice)
@@ -135,6 +143,14 @@ impl<'a> LinuxSllSlice<'a> {
     }
 
     /// The protocol of the payload. The hardware type decides which variant its number has.
+    ///
+    /// <details><summary>Contract</summary>
+    ///
+    /// ```text
+    /// ensures { result ≡ protocol_type_of_header self.now }
+    /// ```
+    ///
+    /// </details>
     #[inline(always)]
     pub fn protocol_type(&self) -> LinuxSllProtocolType {
         linux_sll_fields::protocol_type(self.slice)

@@ -73,6 +73,17 @@ pub fn require_packet_type(bytes: &[u8]) -> Result<(), LinuxSll2Error> {
 }
 
 /// The protocol type, in the variant that the hardware type gives it.
+///
+/// <details><summary>Contract</summary>
+///
+/// The caller must meet each `requires`; otherwise the call may panic or return something else.
+///
+/// ```text
+/// requires { 20 ≤ length bytes.now }
+/// ensures { result ≡ protocol_of_header bytes.now }
+/// ```
+///
+/// </details>
 #[inline(always)]
 pub fn protocol_type(bytes: &[u8]) -> LinuxSllProtocolType {
     protocol_type_on(arp_hardware_type(bytes), u16_at(bytes, PROTOCOL))
@@ -113,6 +124,17 @@ pub fn arp_hardware_type(bytes: &[u8]) -> ArpHardwareId {
 }
 
 /// The packet type.
+///
+/// <details><summary>Contract</summary>
+///
+/// The caller must meet each `requires`; otherwise the call may panic or return something else.
+///
+/// ```text
+/// requires { HoldsLinuxSll2 bytes.now }
+/// ensures { result ≡ (linux_sll2_of bytes.now).packet_type }
+/// ```
+///
+/// </details>
 #[inline(always)]
 pub fn packet_type(bytes: &[u8]) -> LinuxSllPacketType {
     match LinuxSllPacketType::try_from(u16::from(byte_at(bytes, PACKET_TYPE))) {

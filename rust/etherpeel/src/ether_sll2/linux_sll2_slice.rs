@@ -80,6 +80,14 @@ impl<'a> LinuxSll2Slice<'a> {
     }
 
     /// The protocol of the payload. The hardware type decides which variant its number has.
+    ///
+    /// <details><summary>Contract</summary>
+    ///
+    /// ```text
+    /// ensures { result ≡ protocol_of_header self.now }
+    /// ```
+    ///
+    /// </details>
     #[inline(always)]
     pub fn protocol_type(&self) -> LinuxSllProtocolType {
         linux_sll2_fields::protocol_type(self.slice)
@@ -114,6 +122,14 @@ impl<'a> LinuxSll2Slice<'a> {
     }
 
     /// The packet type: who sent the packet to whom.
+    ///
+    /// <details><summary>Contract</summary>
+    ///
+    /// ```text
+    /// ensures { result ≡ (linux_sll2_of self.now).packet_type }
+    /// ```
+    ///
+    /// </details>
     #[inline(always)]
     pub fn packet_type(&self) -> LinuxSllPacketType {
         linux_sll2_fields::packet_type(self.slice)

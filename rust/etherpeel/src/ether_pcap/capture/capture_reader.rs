@@ -105,6 +105,21 @@ impl<T: InterfaceTable> CaptureReader<T> {
     ///
     /// The reader is as it was then. If the slice ends within the unit, [`CaptureError::required_len`] says how many bytes it needs at
     /// least, more than the slice has: the unit can be read again with so many. Otherwise, the file can't be read on.
+    ///
+    /// <details><summary>Contract</summary>
+    ///
+    /// ```text
+    /// ensures unit { IfOk result (λ u. Begins bytes.now
+    ///     self.old u.len (option_map captured_packet_view u.packet) self.new) }
+    /// ensures refused { IfErr result (λ e. Refuses bytes.now self.old (capture_refusal_view e)) }
+    /// ensures same { OnErr result (self.new ≡ self.old) }
+    /// ensures within { IfOk result (λ u. u.len ≤ length bytes.now) }
+    /// ensures some { IfOk result (λ u. 0 < u.len) }
+    /// ensures short { IfErr result (λ e. (n : ℕ)
+    ///     → required_len (capture_refusal_view e) ≡ Some n → length bytes.now < n) }
+    /// ```
+    ///
+    /// </details>
     #[inline(always)]
     pub fn read<'a>(&mut self, bytes: &'a [u8]) -> Result<CaptureUnit<'a>, CaptureError> {
         self.read_unit(bytes)
@@ -147,6 +162,16 @@ impl<T: InterfaceTable> CaptureReader<T> {
     /// # Ok(())
     /// # }
     /// ```
+    ///
+    /// <details><summary>Contract</summary>
+    ///
+    /// ```text
+    /// ensures edited { EditsUnit self.now unit.now (record { original_len = original_len; packet = packet.now }) result }
+    /// ensures packet { HasEditedPacket self.now unit.now (record { original_len = original_len; packet = packet.now }) result }
+    /// ensures padding { IfSome result (λ u. padding_of u ≤ 3) }
+    /// ```
+    ///
+    /// </details>
     #[inline]
     pub fn edit_unit<'a>(
         &self,

@@ -65,6 +65,15 @@ impl FileHeader {
     /// - `FileHeaderError::Len`: the slice has fewer than 24 bytes. `required_len` is 24, `len` the slice's length.
     /// - `FileHeaderError::Magic`: the first four bytes are neither 0xA1B2C3D4 nor 0xA1B23C4D, in either byte order.
     /// - `FileHeaderError::Version`: the version, which the error names, is not 2.4.
+    ///
+    /// <details><summary>Contract</summary>
+    ///
+    /// ```text
+    /// ensures header { IfOk result (λ h. IsFileHeader slice.now (file_header_view h)) }
+    /// ensures refused { IfErr result (λ e. RefusesFile slice.now (file_refusal_view e)) }
+    /// ```
+    ///
+    /// </details>
     #[inline]
     pub fn from_slice(slice: &[u8]) -> Result<FileHeader, FileHeaderError> {
         if slice.len() < FileHeader::LEN {

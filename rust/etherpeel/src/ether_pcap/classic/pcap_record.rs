@@ -72,6 +72,15 @@ impl<'a> PcapRecord<'a> {
     /// - `RecordError::CapturedLen`: the number of captured bytes, which the error names, is above 262,144.
     /// - `RecordError::Len`: the slice ends within the packet. `required_len` is the length of the whole record, `len` that of
     ///   the slice.
+    ///
+    /// <details><summary>Contract</summary>
+    ///
+    /// ```text
+    /// ensures record { IfOk result (λ r. BeginsRecord (order_of file.now.byte_order) slice.now (record_view r)) }
+    /// ensures refused { IfErr result (λ e. RefusesRecord (order_of file.now.byte_order) slice.now (record_refusal_view e)) }
+    /// ```
+    ///
+    /// </details>
     #[inline]
     pub fn from_slice(file: &FileHeader, slice: &'a [u8]) -> Result<PcapRecord<'a>, RecordError> {
         let order = file.byte_order;

@@ -62,6 +62,16 @@ impl<'a> InterfaceDescription<'a> {
     /// # Errors
     ///
     /// `BodyError::Len` if the body has fewer than 8 bytes: `required_len` is 8, `len` the body's length.
+    ///
+    /// <details><summary>Contract</summary>
+    ///
+    /// ```text
+    /// ensures order { IfOk result (λ i. i.byte_order ≡ byte_order) }
+    /// ensures interface { IfOk result (λ i. IsInterface (order_of byte_order) body.now (interface_view i)) }
+    /// ensures refused { IfErr result (λ e. RefusesInterface body.now (body_refusal_view e)) }
+    /// ```
+    ///
+    /// </details>
     #[inline]
     pub fn from_body(
         byte_order: ByteOrder,

@@ -77,6 +77,15 @@ impl<'a> PcapngBlock<'a> {
     /// - `BlockError::TotalLen`: the block's length, which the error names, is below 12 or above 16 MiB, or no multiple of 4.
     /// - `BlockError::Len`: the slice is shorter than the block. `required_len` is the block's length, `len` the slice's.
     /// - `BlockError::Trailer`: the block ends with another length than it begins with. The error names both.
+    ///
+    /// <details><summary>Contract</summary>
+    ///
+    /// ```text
+    /// ensures block { IfOk result (λ b. BeginsBlock (order_of byte_order) slice.now (block_view b)) }
+    /// ensures refused { IfErr result (λ e. RefusesBlock (order_of byte_order) slice.now (block_refusal_view e)) }
+    /// ```
+    ///
+    /// </details>
     #[inline]
     pub fn from_slice(byte_order: ByteOrder, slice: &'a [u8]) -> Result<PcapngBlock<'a>, BlockError> {
         if slice.len() < PcapngBlock::MIN_LEN {

@@ -40,6 +40,15 @@ impl<'a> SimplePacket<'a> {
     /// - `BodyError::Len`: the body has fewer than 4 bytes. `required_len` is 4, `len` the body's length.
     /// - `BodyError::CapturedLen`: the number of captured bytes, which the error names, is above 262,144.
     /// - `BodyError::Len`: the body ends within the packet. `required_len` is 4 more than the number of captured bytes.
+    ///
+    /// <details><summary>Contract</summary>
+    ///
+    /// ```text
+    /// ensures packet { IfOk result (λ p. IsSimplePacket (order_of byte_order) snap_len body.now (simple_packet_view p)) }
+    /// ensures refused { IfErr result (λ e. RefusesSimplePacket (order_of byte_order) snap_len body.now (body_refusal_view e)) }
+    /// ```
+    ///
+    /// </details>
     #[inline]
     pub fn from_body(
         byte_order: ByteOrder,

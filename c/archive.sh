@@ -1,0 +1,19 @@
+#!/bin/sh
+# Prints the path of the static library: of ETHERPEEL_LIBRARY, else of the one that `rt lib` made in crates/ether_c, else, where there is
+# no kit, of the one that cargo makes without the proofs. Which one it is goes to standard error.
+set -eu
+here=$(cd "$(dirname "$0")" && pwd)
+proved=$here/../crates/ether_c/out/libether_c.a
+if [ -n "${ETHERPEEL_LIBRARY:-}" ]; then
+    made=$ETHERPEEL_LIBRARY
+elif [ -f "$proved" ] || command -v rt > /dev/null; then
+    made=$proved
+else
+    made=$(sh "$here/../rust/etherpeel_c/build.sh")
+fi
+if [ ! -f "$made" ]; then
+    echo "$made is missing: run 'rt lib' in crates/ether_c first" >&2
+    exit 1
+fi
+echo "the library is $made" >&2
+echo "$made"

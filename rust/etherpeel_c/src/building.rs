@@ -1,0 +1,143 @@
+//! Packets that are built.
+
+use crate::EtherUnit;
+use crate::numbers::{BAD_KIND, DONE, NO_ROOM, OTHER_LINK, SEALED, TOO_MANY_TAGS};
+use etherpeel::ether_packet::{BuildError, PacketBuilder, PacketContent};
+use etherpeel::{ArpPacket, EtherType, LinkExtHeader, LinkHeader, SingleVlanHeader};
+
+/// The most VLAN tags and SecTags of a packet.
+const MAX_TAGS: usize = 8;
+
+/// The kind of a unit that is an ARP packet.
+const ARP_KIND: u32 = 5;
+
+/// Why units are those of no packet: what the call returns, and the index of the unit.
+type Refusal = (u32, usize);
+
+/// The parts of a packet, but for its tags.
+struct PacketParts {
+    link: LinkHeader,
+    /// How many tags there are.
+    tags: usize,
+    arp: Option<ArpPacket>,
+}
+
+/// Writes a packet of the headers of units and a payload to the front of a target. If the last unit is
+/// an ARP packet, its addresses are in the payload.
+///
+/// <details><summary>Contract</summary>
+///
+/// ```text
+/// ensures { GivesBuild units.now ether_type payload.now target.old target.new len.new result }
+/// ```
+///
+/// </details>
+#[unsafe(no_mangle)]
+pub unsafe extern "C" fn etherpeel_build(
+    units: *const EtherUnit,
+    units_len: usize,
+    ether_type: u16,
+    payload: *const u8,
+    payload_len: usize,
+    target: *mut u8,
+    target_len: usize,
+    len: &mut usize,
+) -> u32 {
+    let units = unsafe { crate::by_hand::shared(units, units_len) };
+    let payload = unsafe { crate::by_hand::shared(payload, payload_len) };
+    let target = unsafe { crate::by_hand::mutable(target, target_len) };
+    let mut tags = [LinkExtHeader::Vlan(SingleVlanHeader::default()); MAX_TAGS];
+    let (status, given) = match parts(units, payload, &mut tags) {
+        Ok(parts) => {
+            let packet = PacketBuilder {
+                link: parts.link,
+                link_exts: &tags[..parts.tags],
+                content: content(&parts.arp, ether_type, payload),
+            };
+            write(&packet, target)
+        }
+        Err(refusal) => refusal,
+    };
+    *len = given;
+    status
+}
+
+/// The parts of a packet that units are, with the tags in an array.
+fn parts(
+    units: &[EtherUnit],
+    bytes: &[u8],
+    tags: &mut [LinkExtHeader; MAX_TAGS],
+) -> Result<PacketParts, Refusal> {
+    let Some((first, inner)) = units.split_first() else {
+        return Err((BAD_KIND, 0));
+    };
+    let link = match first.to_link() {
+        Ok(link) => link,
+        Err(status) => return Err((status, 0)),
+    };
+    let (outer, last) = inner.split_at(tag_count(inner));
+    if let Err(refusal) = put_tags(outer, tags) {
+        return Err(refusal);
+    }
+    match passed_arp(last, bytes) {
+        Ok(arp) => Ok(PacketParts {
+            link,
+            tags: outer.len(),
+            arp,
+        }),
+        Err(status) => Err((status, outer.len() + 1)),
+    }
+}
+
+/// How many units there are before an ARP packet at the end.
+fn tag_count(units: &[EtherUnit]) -> usize {
+    match units.split_last() {
+        Some((last, front)) if last.kind == ARP_KIND => front.len(),
+        _ => units.len(),
+    }
+}
+
+/// Writes the tags that units are to an array.
+fn put_tags(units: &[EtherUnit], tags: &mut [LinkExtHeader; MAX_TAGS]) -> Result<(), Refusal> {
+    for (i, unit) in units.iter().enumerate() {
+        let tag = match unit.to_link_ext() {
+            Ok(tag) => tag,
+            Err(status) => return Err((status, i + 1)),
+        };
+        if i >= MAX_TAGS {
+            return Err((TOO_MANY_TAGS, MAX_TAGS + 1));
+        }
+        tags[i] = tag;
+    }
+    Ok(())
+}
+
+/// The ARP packet that a unit is, if there is one.
+fn passed_arp(units: &[EtherUnit], bytes: &[u8]) -> Result<Option<ArpPacket>, u32> {
+    match units.first() {
+        None => Ok(None),
+        Some(unit) => match unit.to_arp(bytes) {
+            Ok(packet) => Ok(Some(packet)),
+            Err(status) => Err(status),
+        },
+    }
+}
+
+/// An ARP_KIND packet if there is one, and else a payload.
+fn content<'a>(arp: &'a Option<ArpPacket>, ether_type: u16, payload: &'a [u8]) -> PacketContent<'a> {
+    match arp {
+        Some(packet) => PacketContent::Arp(packet),
+        None => PacketContent::Payload(EtherType(ether_type), payload),
+    }
+}
+
+/// Writes a packet. Returns the status of the call, and the length of the packet; without room the length that it needs,
+/// after a sealed SecTag the index of that plus 1, else 0.
+fn write(packet: &PacketBuilder<'_, '_>, target: &mut [u8]) -> (u32, usize) {
+    match packet.write(target) {
+        Ok(end) => (DONE, end),
+        Err(BuildError::HardwareType(_)) => (OTHER_LINK, 0),
+        Err(BuildError::Sealed(index)) => (SEALED, index + 1),
+        Err(BuildError::Space(error)) => (NO_ROOM, error.required_len),
+    }
+}

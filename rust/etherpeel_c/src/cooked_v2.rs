@@ -1,0 +1,67 @@
+//! Packets of Linux cooked capture v2.
+
+use crate::field_putting::put_table;
+use crate::numbers::{BAD_PACKET_TYPE, DONE, SHORT};
+use crate::{EtherField, EtherLinuxSll2, field_place};
+use etherpeel::ether_sll2::{LinuxSll2Error, LinuxSll2Slice};
+
+/// The header of a packet of Linux cooked capture v2, and what the walk of its payload starts with.
+///
+/// <details><summary>Contract</summary>
+///
+/// ```text
+/// ensures { GivesLinuxSll2 bytes.now header.new result }
+/// ```
+///
+/// </details>
+#[unsafe(no_mangle)]
+pub unsafe extern "C" fn etherpeel_linux_sll2(bytes: *const u8, bytes_len: usize, header: &mut EtherLinuxSll2) -> u32 {
+    let bytes = unsafe { crate::by_hand::shared(bytes, bytes_len) };
+    match LinuxSll2Slice::from_slice(bytes) {
+        Ok(packet) => {
+            *header = EtherLinuxSll2::of(&packet);
+            DONE
+        }
+        Err(error) => {
+            *header = EtherLinuxSll2::of_refusal(&error);
+            refusal_status(&error)
+        }
+    }
+}
+
+/// The fields of the header of a packet of Linux cooked capture v2, as many as the array has room for,
+/// and how many there are.
+///
+/// <details><summary>Contract</summary>
+///
+/// ```text
+/// ensures { GivesLinuxSll2Fields bytes.now fields.old fields.new count.old count.new result }
+/// ```
+///
+/// </details>
+#[unsafe(no_mangle)]
+pub unsafe extern "C" fn etherpeel_linux_sll2_fields(
+    bytes: *const u8,
+    bytes_len: usize,
+    fields: *mut EtherField,
+    fields_len: usize,
+    count: &mut usize,
+) -> u32 {
+    let bytes = unsafe { crate::by_hand::shared(bytes, bytes_len) };
+    let fields = unsafe { crate::by_hand::mutable(fields, fields_len) };
+    match LinuxSll2Slice::from_slice(bytes) {
+        Ok(_) => {
+            *count = put_table(bytes, 0, 0, &field_place::linux_sll2(), fields, 0);
+            DONE
+        }
+        Err(error) => refusal_status(&error),
+    }
+}
+
+/// The status for bytes that are refused.
+fn refusal_status(error: &LinuxSll2Error) -> u32 {
+    match error {
+        LinuxSll2Error::Len { .. } => SHORT,
+        LinuxSll2Error::PacketType(_) => BAD_PACKET_TYPE,
+    }
+}

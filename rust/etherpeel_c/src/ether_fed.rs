@@ -1,0 +1,33 @@
+//! The result of feeding a walk, as a struct of C.
+
+use crate::EtherFault;
+use etherpeel::ether_peel::Feed;
+
+/// The result of feeding a walk: `etherpeel_fed` in C.
+///
+/// Each bit pattern is a value, so that C may pass memory that it has not written to.
+#[repr(C)]
+#[derive(Clone, Copy)]
+pub struct EtherFed {
+    /// How often the walk asked for more bytes and was given them.
+    pub refusals: usize,
+    /// How many bytes it was given in all.
+    pub taken: usize,
+    /// The fault of the walk of these bytes, if it has one.
+    pub fault: EtherFault,
+}
+
+// as c/etherpeel.h lays it out
+const _: () = assert!(size_of::<EtherFed>() == 72);
+
+impl EtherFed {
+    /// The result of feeding a walk.
+    #[inline(always)]
+    pub(crate) fn of(fed: &Feed) -> EtherFed {
+        EtherFed {
+            refusals: fed.refusals,
+            taken: fed.taken,
+            fault: EtherFault::of_end(&fed.fault),
+        }
+    }
+}

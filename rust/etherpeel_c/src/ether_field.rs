@@ -1,0 +1,38 @@
+//! A field of a header, as a struct of C.
+
+use crate::field_place::FieldPlace;
+use crate::field_value::field_value;
+
+/// A field of a header: `etherpeel_field` in C.
+///
+/// Each bit pattern is a value, so that C may pass memory that it has not written to.
+#[repr(C)]
+#[derive(Clone, Copy)]
+pub struct EtherField {
+    /// Where the field begins, in bits from the start of the frame.
+    pub bit_offset: usize,
+    /// How many bits it has.
+    pub bit_len: usize,
+    /// The number that its bits are, the first one the most significant; 0 if it has more than 64.
+    pub value: u64,
+    /// The index of its unit.
+    pub unit: u32,
+    /// Its name: a number of `enum etherpeel_field_name` in C.
+    pub name: u32,
+}
+
+// as c/etherpeel.h lays it out
+const _: () = assert!(size_of::<EtherField>() == 32);
+
+impl EtherField {
+    /// The field at a place of what begins at a byte, of the unit with an index.
+    pub(crate) fn of(bytes: &[u8], unit: usize, start: usize, place: FieldPlace) -> EtherField {
+        EtherField {
+            bit_offset: start.wrapping_mul(8).wrapping_add(place.first),
+            bit_len: place.len,
+            value: field_value(bytes, start + place.first / 8, place.first % 8, place.len),
+            unit: (unit % 0x1_0000_0000) as u32,
+            name: place.name,
+        }
+    }
+}

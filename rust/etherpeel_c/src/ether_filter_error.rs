@@ -1,0 +1,59 @@
+//! Why a text is no expression of a filter, as a struct of C.
+
+use etherpeel::ether_filter::{FilterError, FilterErrorKind};
+
+/// Why a text is no expression of a filter, and where: `etherpeel_filter_error` in C.
+///
+/// Each bit pattern is a value, so that C may pass memory that it has not written to.
+#[repr(C)]
+#[derive(Clone, Copy)]
+pub struct EtherFilterError {
+    /// Where the first word that fits nothing begins, in bytes; the length of the text if words are
+    /// missing at its end.
+    pub offset: usize,
+    /// 1 a primitive, 2 an operator, 3 `vlan`, 4 a word after `ether`, 5 an address, 6 a number is
+    /// expected; 7 mixed operators, 8 nothing is open, 9 something is not closed, 10 too many words.
+    pub kind: u32,
+    /// The greatest number that is expected, of kind 6.
+    pub greatest: u32,
+}
+
+// as c/etherpeel.h lays it out
+const _: () = assert!(size_of::<EtherFilterError>() == 16);
+
+impl EtherFilterError {
+    /// Why a text is no expression.
+    pub(crate) fn of(error: &FilterError) -> EtherFilterError {
+        EtherFilterError {
+            offset: error.offset,
+            kind: kind_number(error.kind),
+            greatest: greatest_expected(error.kind),
+        }
+    }
+}
+
+/// The number of what is expected, or of why a word does not fit.
+fn kind_number(kind: FilterErrorKind) -> u32 {
+    match kind {
+        FilterErrorKind::ExpectedOperand => 1,
+        FilterErrorKind::ExpectedOperator => 2,
+        FilterErrorKind::ExpectedVlan => 3,
+        FilterErrorKind::ExpectedEtherWord => 4,
+        FilterErrorKind::ExpectedAddress => 5,
+        FilterErrorKind::ExpectedNumber(_) => 6,
+        FilterErrorKind::MixedOperators => 7,
+        FilterErrorKind::Unopened => 8,
+        FilterErrorKind::Unclosed => 9,
+        FilterErrorKind::TooLong => 10,
+        FilterErrorKind::ExpectedVlanIdOrOperator => 11,
+    }
+}
+
+/// The greatest number that is expected, 0 if none is.
+fn greatest_expected(kind: FilterErrorKind) -> u32 {
+    match kind {
+        FilterErrorKind::ExpectedNumber(most) => most,
+        FilterErrorKind::ExpectedVlanIdOrOperator => 4095,
+        _ => 0,
+    }
+}

@@ -1,0 +1,87 @@
+//! A header of Linux cooked capture v2, as a struct of C.
+
+use etherpeel::ether_peel::Start;
+use etherpeel::ether_sll2::{LinuxSll2Error, LinuxSll2Header, LinuxSll2Slice};
+
+/// A header of Linux cooked capture v2: `etherpeel_linux_sll2_header` in C.
+///
+/// Each bit pattern is a value, so that C may pass memory that it has not written to.
+#[repr(C)]
+#[derive(Clone, Copy)]
+pub struct EtherLinuxSll2 {
+    /// Where the payload starts, in bytes from the start of the header.
+    pub payload_start: usize,
+    /// The index of the interface that the packet was seen on.
+    pub interface_index: u32,
+    /// What the payload begins with: 4 what its ether type announces, 0 if it has none.
+    pub start: u32,
+    /// The protocol number of the payload, read according to the hardware type.
+    pub protocol: u16,
+    /// The ether type of the payload, 0 if it has none.
+    pub ether_type: u16,
+    /// The ARPHRD number of the interface.
+    pub hardware_type: u16,
+    /// Who sent the packet, and to whom: 0 to 7.
+    pub packet_type: u8,
+    /// The length of the sender's address, which may exceed 8.
+    pub address_len: u8,
+    /// The sender's address, truncated to 8 bytes or padded.
+    pub address: [u8; 8],
+}
+
+// as c/etherpeel.h lays it out
+const _: () = assert!(size_of::<EtherLinuxSll2>() == 32);
+
+impl EtherLinuxSll2 {
+    const NONE: EtherLinuxSll2 = EtherLinuxSll2 {
+        payload_start: 0,
+        interface_index: 0,
+        start: 0,
+        protocol: 0,
+        ether_type: 0,
+        hardware_type: 0,
+        packet_type: 0,
+        address_len: 0,
+        address: [0; 8],
+    };
+
+    /// The header of a packet.
+    pub(crate) fn of(packet: &LinuxSll2Slice<'_>) -> EtherLinuxSll2 {
+        let (start, ether_type) = start_of(packet);
+        EtherLinuxSll2 {
+            payload_start: LinuxSll2Header::LEN,
+            interface_index: packet.interface_index(),
+            start,
+            protocol: u16::from(packet.to_header().protocol_type),
+            ether_type,
+            hardware_type: packet.arp_hardware_type().0,
+            packet_type: packet_type_of(packet.header_slice()),
+            address_len: packet.sender_address_valid_length(),
+            address: packet.sender_address_full(),
+        }
+    }
+
+    /// Why there is no header: the packet type that is not supported, or nothing if bytes are missing.
+    pub(crate) fn of_refusal(error: &LinuxSll2Error) -> EtherLinuxSll2 {
+        match error {
+            LinuxSll2Error::Len { .. } => EtherLinuxSll2::NONE,
+            LinuxSll2Error::PacketType(packet_type) => EtherLinuxSll2 {
+                packet_type: *packet_type,
+                ..EtherLinuxSll2::NONE
+            },
+        }
+    }
+}
+
+/// What the payload begins with, by number, and its ether type.
+fn start_of(packet: &LinuxSll2Slice<'_>) -> (u32, u16) {
+    match packet.start() {
+        Some(Start::EtherType(ether_type)) => (4, ether_type.0),
+        _ => (0, 0),
+    }
+}
+
+/// The number of the packet type.
+fn packet_type_of(header: &[u8]) -> u8 {
+    header[10]
+}

@@ -1,0 +1,56 @@
+//! Why a header is not replaced, as a struct of C.
+
+use crate::numbers::{DIFFERS, NO_ARP, NO_LINK, NO_TAG};
+use etherpeel::ether_packet::{Difference, ReplaceError};
+
+/// Why a header is not replaced, in addition to the status: `etherpeel_replace_error` in C.
+///
+/// Each bit pattern is a value, so that C may pass memory that it has not written to.
+#[repr(C)]
+#[derive(Clone, Copy)]
+pub struct EtherReplaceError {
+    /// How many VLAN tags and SecTags the frame has, if there is none at the index; else 0.
+    pub tags: usize,
+    /// What the header says otherwise than the one in the frame, by number; 0 if it says the same.
+    pub difference: u32,
+}
+
+// as c/etherpeel.h lays it out
+const _: () = assert!(size_of::<EtherReplaceError>() == 16);
+
+impl EtherReplaceError {
+    /// Why a header is not replaced.
+    pub(crate) fn of(error: &ReplaceError) -> EtherReplaceError {
+        let (tags, difference) = match error {
+            ReplaceError::NoLink | ReplaceError::NoArp => (0, 0),
+            ReplaceError::NoLinkExt(count) => (usize::from(*count), 0),
+            ReplaceError::SaysOther(difference) => (0, difference_number(*difference)),
+        };
+        EtherReplaceError { tags, difference }
+    }
+}
+
+/// The number of the reason why a header is not replaced.
+pub(crate) fn status(error: &ReplaceError) -> u32 {
+    match error {
+        ReplaceError::NoLink => NO_LINK,
+        ReplaceError::NoLinkExt(_) => NO_TAG,
+        ReplaceError::NoArp => NO_ARP,
+        ReplaceError::SaysOther(_) => DIFFERS,
+    }
+}
+
+/// The number of what a header says otherwise.
+fn difference_number(difference: Difference) -> u32 {
+    match difference {
+        Difference::Kind => 1,
+        Difference::EtherType => 2,
+        Difference::HardwareType => 3,
+        Difference::ProtocolType => 4,
+        Difference::PayloadType => 5,
+        Difference::ShortLen => 6,
+        Difference::Sci => 7,
+        Difference::HwAddrLen => 8,
+        Difference::ProtocolAddrLen => 9,
+    }
+}

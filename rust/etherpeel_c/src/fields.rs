@@ -1,0 +1,118 @@
+//! The fields of the headers of a frame in an array.
+
+use crate::field_putting::put_table;
+use crate::numbers::{DONE, UNKNOWN_START, start_of};
+use crate::{EtherField, field_place};
+use etherpeel::ether_peel::{Peel, PeelUnit, Start};
+
+/// The fields of the headers of a frame, as many as the array has room for, and how many there are in
+/// all. An address of length 0 is a field of 0 bits.
+///
+/// <details><summary>Contract</summary>
+///
+/// ```text
+/// ensures unknown { IsUnknown start ether_type
+///     → IsRefused result ((fields.new ≡ fields.old) × (count.new ≡ count.old)) }
+/// ensures given { OfStart start ether_type
+///     (λ s. GivesFields (start_meant s) bytes.now fields.old fields.new result count.new) }
+/// ```
+///
+/// </details>
+#[unsafe(no_mangle)]
+pub unsafe extern "C" fn etherpeel_fields(
+    start: u32,
+    ether_type: u16,
+    bytes: *const u8,
+    bytes_len: usize,
+    fields: *mut EtherField,
+    fields_len: usize,
+    count: &mut usize,
+) -> u32 {
+    let bytes = unsafe { crate::by_hand::shared(bytes, bytes_len) };
+    let fields = unsafe { crate::by_hand::mutable(fields, fields_len) };
+    let Some(start) = start_of(start, ether_type) else {
+        return UNKNOWN_START;
+    };
+    *count = fields_walked(start, bytes, fields);
+    DONE
+}
+
+/// Which unit it is, where it starts and where its payload ends.
+#[derive(Clone, Copy)]
+struct NumberedUnit {
+    index: usize,
+    start: usize,
+    payload_end: usize,
+}
+
+/// The fields of the units of a walk, and how many there are in all.
+fn fields_walked(start: Start, bytes: &[u8], fields: &mut [EtherField]) -> usize {
+    let mut peel = Peel::new(start, bytes);
+    let mut count = 0;
+    let mut index = 0;
+    loop {
+        let start = peel.offset();
+        match peel.next() {
+            Some(Ok(unit)) => {
+                let place = NumberedUnit {
+                    index,
+                    start,
+                    payload_end: peel.offset() + peel.rest().len(),
+                };
+                count = put_unit(bytes, &unit, place, fields, count);
+                index += 1;
+            }
+            Some(Err(_)) => return count,
+            None => return count,
+        }
+    }
+}
+
+/// Writes the fields of a unit from a place of the array on, and returns the place after them.
+fn put_unit(
+    bytes: &[u8],
+    unit: &PeelUnit<'_>,
+    place: NumberedUnit,
+    fields: &mut [EtherField],
+    at: usize,
+) -> usize {
+    let next = put_header(bytes, unit, place, fields, at);
+    match unit {
+        PeelUnit::Ethernet2(frame) if frame.fcs().is_some() => put_table(
+            bytes,
+            place.index,
+            place.payload_end,
+            &field_place::check_sequence(),
+            fields,
+            next,
+        ),
+        _ => next,
+    }
+}
+
+/// Writes the fields of a unit's header.
+fn put_header(
+    bytes: &[u8],
+    unit: &PeelUnit<'_>,
+    place: NumberedUnit,
+    fields: &mut [EtherField],
+    at: usize,
+) -> usize {
+    let NumberedUnit { index, start, .. } = place;
+    match unit {
+        PeelUnit::Ethernet2(_) => {
+            put_table(bytes, index, start, &field_place::ethernet2(), fields, at)
+        }
+        PeelUnit::LinuxSll(_) => {
+            put_table(bytes, index, start, &field_place::linux_sll(), fields, at)
+        }
+        PeelUnit::Vlan(_) => put_table(bytes, index, start, &field_place::vlan(), fields, at),
+        PeelUnit::Macsec(packet) => {
+            let table = field_place::macsec(&packet.header);
+            put_table(bytes, index, start, table.as_slice(), fields, at)
+        }
+        PeelUnit::Arp(packet) => {
+            put_table(bytes, index, start, &field_place::arp(packet), fields, at)
+        }
+    }
+}

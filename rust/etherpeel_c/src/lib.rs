@@ -1,0 +1,67 @@
+//! The walk through the link-layer headers of a frame, their fields, packets, capture files and filters,
+//! for callers in C. `c/etherpeel.h` declares and documents the calls, and `docs/C.md` says how a
+//! program is built with them.
+//!
+//! Each export calls the crates below, and its contract says what those calls say; the fields of
+//! headers are given here, by tables (`specs/FieldTables.antt`). Each struct that is passed has a file of
+//! its own, and `specs/` says each of its fields. Enumerations are passed as numbers
+//! (`specs/Numbers.antt`), and a start that has no number is refused. No call allocates memory or keeps
+//! a pointer.
+
+#![no_std]
+
+#[path = "../by_hand.rs"]
+mod by_hand;
+
+pub mod building;
+pub mod capture_fault_text;
+pub mod captured_frame;
+pub mod capturing;
+pub mod completing;
+pub mod cooked_v2;
+mod ether_captured;
+mod ether_fault;
+mod ether_fed;
+mod ether_field;
+mod ether_filter_error;
+mod ether_found;
+mod ether_frame;
+mod ether_headers;
+mod ether_linux_sll2;
+mod ether_replace_error;
+mod ether_unit;
+pub mod fault_text;
+pub mod feeding;
+mod field_place;
+mod field_putting;
+mod field_value;
+pub mod fields;
+pub mod filter_error_text;
+pub mod library;
+pub mod link_types;
+pub mod missing_bytes;
+mod numbers;
+mod passed;
+pub mod popping;
+pub mod pushing;
+mod putting;
+pub mod reading_packet;
+pub mod replacing;
+pub mod selecting;
+pub mod setting;
+pub mod summarizing;
+pub mod walking;
+pub mod writing_back;
+
+pub use capturing::EtherCaptureEnd;
+pub use ether_captured::EtherCaptured;
+pub use ether_fault::EtherFault;
+pub use ether_fed::EtherFed;
+pub use ether_field::EtherField;
+pub use ether_filter_error::EtherFilterError;
+pub use ether_found::EtherFound;
+pub use ether_frame::EtherFrame;
+pub use ether_headers::EtherHeaders;
+pub use ether_linux_sll2::EtherLinuxSll2;
+pub use ether_replace_error::EtherReplaceError;
+pub use ether_unit::{EtherArp, EtherEthernet2, EtherLinuxSll, EtherMacsec, EtherUnit, EtherVlan};

@@ -1,0 +1,54 @@
+//! What a program can ask of the library that it runs with, so that the two fit.
+
+use crate::{
+    EtherArp, EtherCaptureEnd, EtherCaptured, EtherEthernet2, EtherFault, EtherFed, EtherField,
+    EtherFilterError, EtherFound, EtherFrame, EtherHeaders, EtherLinuxSll, EtherLinuxSll2,
+    EtherMacsec, EtherReplaceError, EtherUnit, EtherVlan,
+};
+
+/// The version of the library: 0x10000 times the first number, 0x100 times the second, and the third.
+///
+/// <details><summary>Contract</summary>
+///
+/// ```text
+/// ensures { result ≡ version_number 3 0 0 }
+/// ```
+///
+/// </details>
+#[unsafe(no_mangle)]
+pub extern "C" fn etherpeel_version() -> u32 {
+    0x03_00_00
+}
+
+/// The size in bytes of the struct with a number, 0 if none has it.
+///
+/// <details><summary>Contract</summary>
+///
+/// ```text
+/// ensures { result ≡ struct_size number }
+/// ```
+///
+/// </details>
+#[unsafe(no_mangle)]
+pub extern "C" fn etherpeel_sizeof(number: u32) -> usize {
+    match number {
+        1 => size_of::<EtherFault>(),
+        2 => size_of::<EtherFound>(),
+        3 => size_of::<EtherFed>(),
+        4 => size_of::<EtherEthernet2>(),
+        5 => size_of::<EtherLinuxSll>(),
+        6 => size_of::<EtherVlan>(),
+        7 => size_of::<EtherMacsec>(),
+        8 => size_of::<EtherArp>(),
+        9 => size_of::<EtherUnit>(),
+        10 => size_of::<EtherHeaders>(),
+        11 => size_of::<EtherCaptured<'_>>(),
+        12 => size_of::<EtherCaptureEnd>(),
+        13 => size_of::<EtherFilterError>(),
+        14 => size_of::<EtherFrame<'_>>(),
+        15 => size_of::<EtherField>(),
+        16 => size_of::<EtherLinuxSll2>(),
+        17 => size_of::<EtherReplaceError>(),
+        _ => 0,
+    }
+}

@@ -1,0 +1,134 @@
+//! The numbers that stand for enumerations in C.
+
+use etherpeel::ether_packet::TagError;
+use etherpeel::ether_peel::{RestKind, Start};
+use etherpeel::err::Layer;
+use etherpeel::{EtherType, LenSource, LinuxSllProtocolType};
+
+/// The call has done its work.
+pub(crate) const DONE: u32 = 0;
+
+/// No start has the number that was passed, and nothing was written.
+pub(crate) const UNKNOWN_START: u32 = 1;
+
+/// The target is too short, and was not written to.
+pub(crate) const NO_ROOM: u32 = 2;
+
+/// A text can't be made, and nothing was written.
+pub(crate) const NO_TEXT: u32 = 3;
+
+/// The frame does not begin with the header of a link.
+pub(crate) const NO_LINK: u32 = 5;
+
+/// The header of cooked capture is of another link than Ethernet.
+pub(crate) const OTHER_LINK: u32 = 6;
+
+/// There is no VLAN tag or SecTag at the index.
+pub(crate) const NO_TAG: u32 = 7;
+
+/// A number does not fit its field, and nothing was written.
+pub(crate) const BAD_FIELD: u32 = 11;
+
+/// The bytes end within a unit of a capture file.
+pub(crate) const SHORT: u32 = 12;
+
+/// A capture file can't be read on.
+pub(crate) const BAD_CAPTURE: u32 = 13;
+
+/// The text of a filter is no expression.
+pub(crate) const BAD_FILTER: u32 = 14;
+
+/// The packet type of a header of Linux cooked capture v2 is above 7.
+pub(crate) const BAD_PACKET_TYPE: u32 = 15;
+
+/// The frame has no ARP packet.
+pub(crate) const NO_ARP: u32 = 16;
+
+/// The header says something else about what follows it than the one in the frame.
+pub(crate) const DIFFERS: u32 = 17;
+
+/// The call takes no unit of this kind.
+pub(crate) const BAD_KIND: u32 = 18;
+
+/// There are more VLAN tags and SecTags than a packet may have.
+pub(crate) const TOO_MANY_TAGS: u32 = 19;
+
+/// A header follows a SecTag whose payload is encrypted or changed.
+pub(crate) const SEALED: u32 = 20;
+
+/// The start with a number, if there is one. Only the fourth has the ether type.
+#[inline(always)]
+pub(crate) fn start_of(number: u32, ether_type: u16) -> Option<Start> {
+    match number {
+        1 => Some(Start::Ethernet2),
+        2 => Some(Start::Ethernet2Fcs),
+        3 => Some(Start::LinuxSll),
+        4 => Some(Start::EtherType(EtherType(ether_type))),
+        _ => None,
+    }
+}
+
+/// The number of what is left of a frame.
+#[inline(always)]
+pub(crate) fn rest_kind(kind: RestKind) -> u32 {
+    match kind {
+        RestKind::Start => 0,
+        RestKind::EtherType(_)
+        | RestKind::Sll(LinuxSllProtocolType::EtherType(_))
+        | RestKind::Sll(LinuxSllProtocolType::LinuxNonstandardEtherType(_)) => 1,
+        RestKind::Sll(LinuxSllProtocolType::NetlinkProtocolType(_)) => 2,
+        RestKind::Sll(LinuxSllProtocolType::GenericRoutingEncapsulationProtocolType(_)) => 3,
+        RestKind::Sll(LinuxSllProtocolType::Ignored(_)) => 4,
+        RestKind::Sealed => 5,
+        RestKind::AfterArp => 6,
+    }
+}
+
+/// The ether type or protocol number of what is left of a frame, 0 if it has none.
+#[inline(always)]
+pub(crate) fn rest_protocol(kind: RestKind) -> u16 {
+    match kind {
+        RestKind::EtherType(ether_type) => ether_type.0,
+        RestKind::Sll(protocol) => u16::from(protocol),
+        RestKind::Start | RestKind::Sealed | RestKind::AfterArp => 0,
+    }
+}
+
+/// The number of a layer that a walk names, 0 for any other.
+#[inline(always)]
+pub(crate) fn layer(layer: Layer) -> u32 {
+    match layer {
+        Layer::Ethernet2Header => 1,
+        Layer::LinuxSllHeader => 2,
+        Layer::VlanHeader => 3,
+        Layer::MacsecHeader => 4,
+        Layer::MacsecPacket => 5,
+        Layer::Arp => 6,
+        _ => 0,
+    }
+}
+
+/// The number of a source of a length that a walk names, 0 for any other.
+#[inline(always)]
+pub(crate) fn len_source(source: LenSource) -> u32 {
+    match source {
+        LenSource::Slice => 1,
+        LenSource::MacsecShortLength => 2,
+        LenSource::ArpAddrLengths => 3,
+        _ => 0,
+    }
+}
+
+/// The number of the reason why a VLAN tag is not taken off, put in or changed.
+pub(crate) fn tag_error(error: &TagError) -> u32 {
+    match error {
+        TagError::NoRoom => NO_ROOM,
+        TagError::Tpid(_) => 4,
+        TagError::NoLink => NO_LINK,
+        TagError::HardwareType(_) => OTHER_LINK,
+        TagError::NoLinkExt(_) => NO_TAG,
+        TagError::NoVlan => 8,
+        TagError::CutVlan => 9,
+        TagError::Unannounced => 10,
+    }
+}

@@ -1,0 +1,43 @@
+//! All headers of a packet in one call.
+
+use crate::EtherHeaders;
+use crate::ether_headers::vlan_ids;
+use crate::numbers::{DONE, UNKNOWN_START, start_of};
+use crate::walking::walked;
+use etherpeel::ether_packet::PacketSlice;
+use etherpeel::ether_peel::summary_limited;
+
+/// The headers of a packet with no more than three VLAN tags and SecTags, what is left after them,
+/// and what is asked of a packet.
+///
+/// <details><summary>Contract</summary>
+///
+/// ```text
+/// ensures unknown { IsUnknown start ether_type → IsRefused result (headers.new ≡ headers.old) }
+/// ensures given { OfStart start ether_type
+///     (λ s. GivesPacket s bytes.now headers.old.units headers.new result) }
+/// ```
+///
+/// </details>
+#[unsafe(no_mangle)]
+pub unsafe extern "C" fn etherpeel_packet(
+    start: u32,
+    ether_type: u16,
+    bytes: *const u8,
+    bytes_len: usize,
+    headers: &mut EtherHeaders,
+) -> u32 {
+    let bytes = unsafe { crate::by_hand::shared(bytes, bytes_len) };
+    let Some(start) = start_of(start, ether_type) else {
+        return UNKNOWN_START;
+    };
+    let packet = PacketSlice::from_slice(start, bytes);
+    let ids = packet.vlan_ids();
+    headers.vlan_ids = vlan_ids(&ids);
+    headers.vlan_count = ids.len() as u16;
+    headers.min_snap_len = packet.min_snap_len();
+    let limit = PacketSlice::LINK_EXTS_CAP;
+    headers.found.set(&summary_limited(start, bytes, limit));
+    walked(start, bytes, Some(limit), &mut headers.units);
+    DONE
+}

@@ -1,0 +1,60 @@
+//! The packets that a filter selects.
+
+use crate::numbers::{BAD_FILTER, DONE, NO_ROOM};
+use crate::{EtherCaptured, EtherFilterError};
+use etherpeel::ether_content::selects;
+use etherpeel::ether_filter::Filter;
+
+/// Writes for each packet 1 if a filter's expression holds of it, else 0.
+///
+/// A packet of Linux cooked capture v2 is asked by its payload. One whose link type the walk does not
+/// know is never selected.
+///
+/// <details><summary>Contract</summary>
+///
+/// ```text
+/// ensures { GivesSelection expression.now packets.now matches.old matches.new error.old error.new result }
+/// ```
+///
+/// </details>
+#[unsafe(no_mangle)]
+pub unsafe extern "C" fn etherpeel_select(
+    expression: *const u8,
+    expression_len: usize,
+    packets: *const EtherCaptured<'_>,
+    packets_len: usize,
+    matches: *mut u8,
+    matches_len: usize,
+    error: &mut EtherFilterError,
+) -> u32 {
+    let expression = unsafe { crate::by_hand::shared(expression, expression_len) };
+    let packets = unsafe { crate::by_hand::shared(packets, packets_len) };
+    let matches = unsafe { crate::by_hand::mutable(matches, matches_len) };
+    match Filter::parse(expression) {
+        Ok(filter) => put_marks(&filter, packets, matches),
+        Err(refusal) => {
+            *error = EtherFilterError::of(&refusal);
+            BAD_FILTER
+        }
+    }
+}
+
+/// Writes the mark of each packet to the front of an array if it has room for all of them.
+fn put_marks(filter: &Filter, packets: &[EtherCaptured<'_>], matches: &mut [u8]) -> u32 {
+    if matches.len() < packets.len() {
+        return NO_ROOM;
+    }
+    for (at, packet) in packets.iter().enumerate() {
+        matches[at] = mark(filter, packet);
+    }
+    DONE
+}
+
+/// 1 if a filter selects a packet, else 0.
+fn mark(filter: &Filter, packet: &EtherCaptured<'_>) -> u8 {
+    if selects(filter, &packet.to_packet()) {
+        1
+    } else {
+        0
+    }
+}

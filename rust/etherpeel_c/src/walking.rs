@@ -1,0 +1,116 @@
+//! The units of a frame in an array.
+
+use crate::EtherUnit;
+use crate::ether_unit::UnitPlace;
+use crate::numbers::{DONE, UNKNOWN_START, start_of};
+use etherpeel::ether_peel::{Peel, Start};
+
+/// The units of a frame, as many as the array has room for, and how many there are in all.
+///
+/// <details><summary>Contract</summary>
+///
+/// ```text
+/// ensures unknown { IsUnknown start ether_type
+///     → IsRefused result ((units.new ≡ units.old) × (count.new ≡ count.old)) }
+/// ensures given { OfStart start ether_type
+///     (λ s. GivesWalk (start_meant s) bytes.now units.old units.new result count.new) }
+/// ```
+///
+/// </details>
+#[unsafe(no_mangle)]
+pub unsafe extern "C" fn etherpeel_walk(
+    start: u32,
+    ether_type: u16,
+    bytes: *const u8,
+    bytes_len: usize,
+    units: *mut EtherUnit,
+    units_len: usize,
+    count: &mut usize,
+) -> u32 {
+    let bytes = unsafe { crate::by_hand::shared(bytes, bytes_len) };
+    let units = unsafe { crate::by_hand::mutable(units, units_len) };
+    let Some(start) = start_of(start, ether_type) else {
+        return UNKNOWN_START;
+    };
+    *count = walked(start, bytes, None, units);
+    DONE
+}
+
+/// The units of the walk that reads no more than `limit` VLAN tags and MACsec SecTags, as many as
+/// the array has room for, and how many there are in all.
+///
+/// <details><summary>Contract</summary>
+///
+/// ```text
+/// ensures unknown { IsUnknown start ether_type
+///     → IsRefused result ((units.new ≡ units.old) × (count.new ≡ count.old)) }
+/// ensures given { OfStart start ether_type
+///     (λ s. GivesWalk (limited_start s limit) bytes.now units.old units.new result count.new) }
+/// ```
+///
+/// </details>
+#[unsafe(no_mangle)]
+pub unsafe extern "C" fn etherpeel_walk_limited(
+    start: u32,
+    ether_type: u16,
+    bytes: *const u8,
+    bytes_len: usize,
+    limit: usize,
+    units: *mut EtherUnit,
+    units_len: usize,
+    count: &mut usize,
+) -> u32 {
+    let bytes = unsafe { crate::by_hand::shared(bytes, bytes_len) };
+    let units = unsafe { crate::by_hand::mutable(units, units_len) };
+    let Some(start) = start_of(start, ether_type) else {
+        return UNKNOWN_START;
+    };
+    *count = walked(start, bytes, Some(limit), units);
+    DONE
+}
+
+/// The units of a walk with a limit on extensions or without, and how many there are in all.
+#[inline(always)]
+pub(crate) fn walked(
+    start: Start,
+    bytes: &[u8],
+    limit: Option<usize>,
+    units: &mut [EtherUnit],
+) -> usize {
+    let mut peel = begun_walk(start, bytes, limit);
+    let mut count = 0;
+    loop {
+        let offset = peel.offset();
+        match peel.next() {
+            Some(Ok(unit)) => {
+                let place = UnitPlace {
+                    offset,
+                    payload_start: peel.offset(),
+                    payload_end: peel.offset() + peel.rest().len(),
+                    closed: peel.closed(),
+                };
+                put(units, count, EtherUnit::of(&unit, place));
+                count += 1;
+            }
+            Some(Err(_)) => return count,
+            None => return count,
+        }
+    }
+}
+
+/// A walk that has read nothing yet, with a limit on extensions or without.
+#[inline(always)]
+fn begun_walk<'a>(start: Start, bytes: &'a [u8], limit: Option<usize>) -> Peel<'a> {
+    match limit {
+        Some(limit) => Peel::with_limit(start, bytes, limit),
+        None => Peel::new(start, bytes),
+    }
+}
+
+/// Writes a unit to its place, if the array has it.
+#[inline(always)]
+fn put(units: &mut [EtherUnit], at: usize, unit: EtherUnit) {
+    if at < units.len() {
+        units[at] = unit;
+    }
+}
