@@ -1,16 +1,3 @@
-pub mod InputBuffer
-pub mod Packets
-pub mod Task
-pub mod LinuxSll2Lines
-pub mod FrameLines
-pub mod Answering
-pub mod Copying
 pub mod Options
-pub mod Run
-pub mod Outcome
-pub mod Progress
 pub mod Program
-pub mod Tags
-pub mod Captures
-pub mod Counting
 pub mod Files

@@ -14,13 +14,13 @@ use Rattle.ether_filter.specs.Refusals.{RefusesText}
 use Rattle.ether_filter.specs.declared.filter_error.FilterError.{FilterError}
 use Rattle.ether_content.specs.Editing.{EditValue, CutToHeaders, PopVlan}
 use Rattle.ether_content.specs.EditingViews.{edit_view}
-use Rattle.ether_capture.specs.Tags.{IsTagEdit}
+use Rattle.ether_stream.specs.Tags.{IsTagEdit}
 use Rattle.ether_pcap.specs.CopiedUnits.{ModeValue, Exact, Changed}
-use Rattle.ether_capture.specs.Copying.{growth_if}
-use Rattle.ether_capture.specs.Task.{TaskValue, FormValue, Lines, Copy, task_view}
+use Rattle.ether_stream.specs.Copying.{growth_if}
+use Rattle.ether_stream.specs.Task.{TaskValue, FormValue, Lines, Copy, task_view}
 use Rattle.ether_capture.specs.declared.options.Asked.{Asked}
 use Rattle.ether_capture.specs.declared.options.Listing.{Listing}
-use Rattle.ether_capture.specs.declared.task.LineOptions.{LineOptions}
+use Rattle.ether_stream.specs.declared.task.LineOptions.{LineOptions}
 use Rattle.ether_capture.specs.declared.options.RequestError.{RequestError}
 use Rattle.ether_capture.specs.declared.options.RequestError.TheVariants as reasons
 use Rattle.ether_capture.specs.declared.options.Request.{Request}

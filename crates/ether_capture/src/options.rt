@@ -6,18 +6,17 @@ ghost use Rattle.clap.specs.Words.{all_of, app_of, first_of, found_of, rows_of, 
 ghost use Rattle.ether_content.specs.Editing.{EditValue};
 ghost use Rattle.ether_pcap.specs.CopiedUnits.{copy_mode_view};
 ghost use Rattle.ether_content.specs.EditingViews.{edit_view};
-ghost use Rattle.ether_capture.specs.Copying.{growth_if};
+ghost use Rattle.ether_stream.specs.Copying.{growth_if};
 ghost use Rattle.ether_capture.specs.Options.{Asks, IsCount, IsEdit, IsIfAny, IsLimit, IsOneEdit, IsRequestOf, IsSelection, KindNames, NamesRequest, RefusesAsked, RefusesKind, RefusesRows, RefusesSelection, RefusesWords, are_several, asked_view, capture_app, clashes, count_rule, file_rule, flag_rule, form_of, is_set, mode_of, option_rule, options_of, request_view};
-ghost use Rattle.ether_capture.specs.Tags.{IsTagEdit, tag_word};
-ghost use Rattle.ether_capture.specs.Task.{form_view};
+ghost use Rattle.ether_stream.specs.Tags.{IsTagEdit, tag_word};
+ghost use Rattle.ether_stream.specs.Task.{form_view};
 
-use crate::tags::{TagEdit, small_number, tag_edit_of};
-use crate::task::{Form, LineOptions, Task};
 use clap::error::ErrorKind;
 use clap::{Arg, ArgAction, ArgMatches, Command};
 use ether_content::PacketEdit;
 use ether_filter::{Filter, FilterError};
 use ether_pcap::CopyMode;
+use ether_stream::{Form, LineOptions, TagEdit, Task, small_number, tag_edit_of};
 use std::alloc::{AllocError, Global};
 use std::num::NonZeroUsize;
 
