@@ -154,13 +154,12 @@ ORDER = {
         ether_pcap: Capture
         ether_stream: Task Packets LinuxSll2Lines FrameLines Answering Copying
         ether_text: Run
-        ether_stream: Run
+        ether_stream: Run Tags Words
         ether_capture: Options
         ether_pcap: Texts PcapngTexts CaptureTexts
         ether_filter: ErrorTexts
         ether_stream: Outcome
         ether_capture: Files Program
-        ether_stream: Tags
     """,
     "C": """
         ether_c: Numbers Starts Found Units Walk

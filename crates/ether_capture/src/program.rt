@@ -1,9 +1,7 @@
 //! The program, over any arguments, files, reader and writer.
 ghost use Rattle.std.specs.Prelude.{◌≡◌, ◌⊎◌, Bool, IfErr, Some, map, string_bytes};
-ghost use Rattle.ether_text.specs.Run.{IsEndless};
 ghost use Rattle.ether_stream.specs.Outcome.{is_message, status_of_program};
 ghost use Rattle.ether_capture.specs.Program.{HasObeyed, HasRunFile, HasServed, PrintsApart, PrintsLast, arguments_of};
-ghost use Rattle.ether_stream.specs.Run.{HasRun, OnStreamFault};
 ghost use Rattle.ether_stream.specs.Task.{task_view};
 
 use crate::captures::Captures;

@@ -10,4 +10,5 @@ pub mod Outcome
 pub mod OpenFault
 pub mod Progress
 pub mod Tags
+pub mod Words
 pub mod Counting

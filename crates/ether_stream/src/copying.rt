@@ -2,7 +2,7 @@
 ghost use Rattle.std.specs.Prelude.{◌≡◌, ◌≤◌, IfSome, IfNone, IsTrue, IsFalse, length, Some, None, true};
 ghost use Rattle.std.specs.Option.{option_map};
 ghost use Rattle.ether_pcap.specs.CaptureViews.{captured_packet_view};
-ghost use Rattle.ether_pcap.specs.CopiedUnits.{copied_bytes, copy_mode_view, other_unit};
+ghost use Rattle.ether_pcap.specs.CopiedUnits.{copy_mode_view, other_unit};
 ghost use Rattle.ether_pcap.specs.Editing.{unit_bytes, padding_of};
 ghost use Rattle.ether_content.specs.EditingViews.{edit_view, edited_view};
 ghost use Rattle.ether_text.specs.OutputBuffer.{Takes};

@@ -22,6 +22,7 @@ pub mod run;
 mod section_table;
 mod tags;
 mod task;
+mod words;
 
 pub use buffers::Buffers;
 pub use counts::PacketCounts;
@@ -37,5 +38,5 @@ pub use outcome::{
     line_of_file, program_status, status_of, status_of_file,
 };
 pub use section_table::{MAX_INTERFACES, SectionTable};
-pub use tags::{TagEdit, small_number, tag_edit_of};
 pub use task::{Form, LineOptions, Task};
+pub use words::{Usage, count_of, edit_of_words, filter_of, limit_of};

@@ -12,7 +12,7 @@ use etherparse::{EtherType, VlanId};
 
 /// An edit that two numbers say, with a colon between them.
 #[derive(Clone, Copy)]
-pub enum TagEdit {
+pub(crate) enum TagEdit {
     /// A VLAN tag is put in: its TPID and its identifier.
     Push,
     /// A VLAN tag gets another identifier: the one that it has, and the one that it gets.
@@ -20,7 +20,7 @@ pub enum TagEdit {
 }
 
 /// The edit of a text.
-pub fn tag_edit_of(kind: TagEdit, text: &[u8]) -> Option<PacketEdit>
+pub(crate) fn tag_edit_of(kind: TagEdit, text: &[u8]) -> Option<PacketEdit>
     ensures some { IfSome result (λ edit. IsTagEdit (tag_word kind) text.now (edit_view edit)) }
     ensures none { IfNone result ((e : EditValue) → ¬ (IsTagEdit (tag_word kind) text.now e)) }
 {
@@ -82,7 +82,7 @@ fn pair_of(text: &[u8]) -> Option<(u32, u32)>
 }
 
 /// The number of a text, if it has no more than 32 bits.
-pub fn small_number(text: &[u8]) -> Option<u32>
+pub(crate) fn small_number(text: &[u8]) -> Option<u32>
     ensures some { IfSome result (λ number. number_in text.now ≡ Some (Some number)) }
     ensures none { IfNone result ((number : ℕ) → number_in text.now ≡ Some (Some number) → ⊥) }
 {
