@@ -1,3 +1,4 @@
+pub mod Captures
 pub mod Options
 pub mod Program
 pub mod Files

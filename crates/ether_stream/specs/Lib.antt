@@ -7,7 +7,6 @@ pub mod Answering
 pub mod Copying
 pub mod Run
 pub mod Outcome
-pub mod OpenFault
 pub mod Progress
 pub mod Tags
 pub mod Words
