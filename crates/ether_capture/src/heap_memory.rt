@@ -1,4 +1,5 @@
 //! Memory of the heap.
+ghost use Rattle.std.specs.Prelude.{◌≡◌, []};
 ghost use Rattle.std.specs.Vec.{with_items};
 ghost use Rattle.std.proofs.Common.{◌∙◌, sym};
 ghost use Rattle.std.proofs.lemmas.List.{with_items_is};
@@ -14,7 +15,9 @@ pub struct HeapMemory {
 
 impl HeapMemory {
     /// No memory yet.
-    pub fn new(alloc: Global) -> HeapMemory {
+    pub fn new(alloc: Global) -> HeapMemory
+        ensures { result.bytes.items ≡ [] }
+    {
         HeapMemory {
             bytes: Vec::new(alloc),
         }

@@ -1,7 +1,8 @@
-//! What is made of a capture: from a reader of it to a writer of the lines of its packets, or of a copy. No call allocates memory.
+//! What is made of a capture: from a reader of it to a writer of the lines of its packets, or of a copy. No call
+//! allocates memory.
 //!
-//! [`run::run`] reads a capture of the classic pcap format or of pcapng, and does what a [`Task`] says. Its [`Buffers`] are the caller's: bytes
-//! in memory that may [`Grow`], and a [`SectionTable`]. [`last_line`] says why a run stopped.
+//! [`run::run`] reads a capture of the classic pcap format or of pcapng, and does what a [`Task`] says. Its [`Buffers`]
+//! are the caller's: bytes in memory that may [`Grow`], and a [`SectionTable`]. A [`Reason`] says why a run stopped.
 #![tactic(auto)]
 
 mod buffers;

@@ -4,7 +4,8 @@ ghost use Rattle.std.specs.Borrow.{sem, Lends, Array, u8};
 
 use crate::NoMemory;
 
-/// Bytes in memory that grows, or refuses to. A program that allocates none may have an array of fixed size here, which always refuses.
+/// Bytes in memory that grows, or refuses to: memory of a heap, or an array of fixed size, which refuses what it has no
+/// room for.
 pub trait Grow: Drop {
     // All bytes that there are.
     ghost items: { Self → List ℕ };

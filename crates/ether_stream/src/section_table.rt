@@ -9,6 +9,7 @@ pub const MAX_INTERFACES: usize = 65_536;
 
 /// An [`InterfaceTable`] with room for [`MAX_INTERFACES`].
 pub trait SectionTable: InterfaceTable {
+    // Its room.
     ghost has_room: { Self.InterfaceTable.most ≡ 65536 };
 }
 

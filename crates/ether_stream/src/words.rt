@@ -16,7 +16,8 @@ use std::num::NonZeroUsize;
 #[derive(Clone, Copy, PartialEq, Eq, Debug)]
 pub struct Usage;
 
-/// The edit, if one at most is asked for: packets are cut, a VLAN tag is taken off, put in by a TPID and an identifier, or gets another identifier.
+/// The edit, if one at most is asked for: packets are cut, a VLAN tag is taken off, put in by a TPID and an identifier,
+/// or gets another identifier.
 pub fn edit_of_words(
     cuts: bool,
     pops: bool,
